@@ -1,0 +1,132 @@
+ghost use Rattle.std.specs.Prelude.{◌≡◌, ℕ, ◌+◌, ◌*◌, ◌^◌, ◌<◌, ◌≤◌, ◌==◌, List, length, replicate, IfOk, IsOkUnless};
+ghost use Rattle.seg_spec.specs.Bytes.{slice, put, byte, word, long, set_byte, set_word, set_long};
+
+use crate::fault::Fault;
+use std::alloc::Allocator;
+use std::marker::Model;
+
+/// A region of bytes of the host. Clauses see the list of its bytes. Positions and lengths are in bytes.
+#[derive(Drop)]
+pub struct Region<A: Allocator> {
+    data: Vec<u8, A>,
+}
+
+impl<A: Allocator> Model for Region<A> {
+    ghost Value = { List ℕ };
+
+    ghost view = { λ r. r.data.items };
+
+    ghost invariant = { λ r. length r.data.items ≤ 2 ^ 31 };
+}
+
+impl<A: Allocator> Region<A> {
+    /// A region of this many bytes, each 0.
+    pub fn new(alloc: A, len: u32) -> Result<Region<A>, Fault>
+        requires { len ≤ 2 ^ 31 }
+        ensures zeroed { IfOk result (λ r. r ≡ replicate len 0) }
+        ensures refused { IsOkUnless result Fault.Memory }
+    {
+        let data = Vec::from_elem(alloc, 0u8, len as usize)?;
+        Ok(Region { data })
+    }
+
+    pub fn len(&self) -> u32
+        ensures len { result ≡ length self.now }
+        ensures at_most { result ≤ 2 ^ 31 }
+    {
+        self.data.len() as u32
+    }
+
+    pub fn is_empty(&self) -> bool
+        ensures { result ≡ (length self.now == 0) }
+    {
+        self.data.is_empty()
+    }
+
+    /// The byte at a position.
+    pub fn get8(&self, at: usize) -> u8
+        requires { at + 1 ≤ length self.now }
+        ensures { result ≡ byte self.now at }
+    {
+        self.data[at]
+    }
+
+    /// The number that 4 bytes from a position on spell, the lowest first.
+    pub fn get32(&self, at: usize) -> u32
+        requires { at + 4 ≤ length self.now }
+        ensures { result ≡ word self.now at }
+    {
+        let data = &self.data;
+        u32::from_le_bytes([data[at], data[at + 1], data[at + 2], data[at + 3]])
+    }
+
+    /// The number that 8 bytes from a position on spell, the lowest first.
+    #[tactic(auto, using(crate::proofs::Numbers::long_read))]
+    pub fn get64(&self, at: usize) -> u64
+        requires { at + 8 ≤ length self.now }
+        ensures { result ≡ long self.now at }
+    {
+        let _ = &self.data;
+        u64::from(self.get32(at + 4)) * (1 << 32) + u64::from(self.get32(at))
+    }
+
+    pub fn put8(&mut self, at: usize, value: u8)
+        requires { at + 1 ≤ length self.old }
+        ensures bytes { self.new ≡ set_byte self.old at value }
+        ensures length { length self.new ≡ length self.old }
+    {
+        self.data[at] = value;
+    }
+
+    pub fn put32(&mut self, at: usize, value: u32)
+        requires { at + 4 ≤ length self.old }
+        ensures bytes { self.new ≡ set_word self.old at value }
+        ensures length { length self.new ≡ length self.old }
+    {
+        self.copy_in(at, &value.to_le_bytes());
+    }
+
+    pub fn put64(&mut self, at: usize, value: u64)
+        requires { at + 8 ≤ length self.old }
+        ensures bytes { self.new ≡ set_long self.old at value }
+        ensures length { length self.new ≡ length self.old }
+    {
+        self.copy_in(at, &value.to_le_bytes());
+    }
+
+    /// The `n` bytes from a position on.
+    pub fn slice(&self, at: usize, n: usize) -> &[u8]
+        requires { at + n ≤ length self.now }
+        ensures { result.now ≡ slice self.now at n }
+    {
+        &self.data[at..at + n]
+    }
+
+    /// Writes `bytes` from a position on.
+    pub fn copy_in(&mut self, at: usize, bytes: &[u8])
+        requires { at + length bytes.now ≤ length self.old }
+        ensures bytes { self.new ≡ put self.old at bytes.now }
+        ensures length { length self.new ≡ length self.old }
+    {
+        self.data[at..at + bytes.len()].copy_from_slice(bytes);
+    }
+
+    /// Copies the `n` bytes from `from` on to `to`. The two parts may overlap.
+    pub fn move_within(&mut self, from: usize, to: usize, n: usize)
+        requires source { from + n ≤ length self.old }
+        requires target { to + n ≤ length self.old }
+        ensures bytes { self.new ≡ put self.old to (slice self.old from n) }
+        ensures length { length self.new ≡ length self.old }
+    {
+        self.data.copy_within(from..from + n, to);
+    }
+
+    /// Writes `byte` to `n` bytes from a position on.
+    pub fn fill(&mut self, at: usize, n: usize, byte: u8)
+        requires { at + n ≤ length self.old }
+        ensures bytes { self.new ≡ put self.old at (replicate n byte) }
+        ensures length { length self.new ≡ length self.old }
+    {
+        self.data[at..at + n].fill(byte);
+    }
+}

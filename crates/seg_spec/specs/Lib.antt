@@ -1,0 +1,4 @@
+pub mod Bytes
+pub mod Pointer
+pub mod Window
+pub mod Types
