@@ -1,12 +1,12 @@
 -- The laws of numbers in bytes. Nothing above looks into `number` and `set_number`.
-use Rattle.std.proofs.Common.{◌≡◌, ℕ, zero, suc, ◌+◌, ◌-◌, ◌/◌, ◌^◌, ◌<◌, ◌≤◌, true, false, List, ◌++◌, length, take, drop, get_or, leb, eqb, cond, refl, sym, ap, ◌∙◌, subst, add_assoc, ◌⊎◌, inl, inr, arith, le-leb}
-use Rattle.std.proofs.lemmas.List.{length-append, length-take, length-drop, length-take-le, get_or-take, get_or-drop, get_or_append_left, get_or-append_right, take_at, drop_at, same_lists, get_or_default, ext_get_or}
+use Rattle.std.proofs.Common.{◌≡◌, ℕ, zero, suc, ◌+◌, ◌-◌, ◌/◌, ◌^◌, ◌<◌, ◌≤◌, true, false, List, ◌++◌, length, take, drop, min, get_or, leb, eqb, cond, refl, sym, ap, ◌∙◌, subst, add_assoc, ◌⊎◌, inl, inr, arith, le-leb}
+use Rattle.std.proofs.lemmas.List.{length-append, length-take, length-drop, length-take-le, get_or-take, get_or-drop, get_or_append_left, get_or-append_right, take_at, drop_at, take_min, drop_min, same_lists, get_or_default, ext_get_or}
 use Rattle.std.proofs.lemmas.Grind.{common_steps}
 use Rattle.std.proofs.lemmas.Bool.{cases_lt}
 use Rattle.std.proofs.lemmas.Bool.Decides.{nat_tests}
 use Rattle.seg_spec.specs.Bytes.{slice, put, spelled, spelling, number_of, number, set_number, Agrees}
 
-length-spelling : (w n : ℕ) → length (spelling w n) ≡ w
+pub length-spelling : (w n : ℕ) → length (spelling w n) ≡ w
 length-spelling zero n = refl
 length-spelling (suc w) n = ap suc (length-spelling w (n / 256))
 
@@ -251,3 +251,21 @@ drop-put bytes at xs n h =
     let long = length-put bytes at xs in
     same_numbers (drop n (put bytes at xs)) (drop n bytes) (simp (length-drop, long))
     (λ k small. get_or-drop n (put bytes at xs) k 0 ∙ put_outside bytes at xs (n + k) (inr (omega arith)) ∙ sym (get_or-drop n bytes k 0))
+
+-- a write of the whole part
+pub part-put_same : (bytes : List ℕ) (base n : ℕ) (xs : List ℕ) → length xs ≡ n → base + n ≤ length bytes → part (put bytes base xs) base n ≡ xs
+part-put_same bytes base n xs long h =
+    ap (λ bs. take n (drop base bs)) (put_in bytes base xs (omega arith))
+    ∙ ap (take n) (drop_at (take base bytes) (xs ++ drop (base + length xs) bytes) base (length-take-le base bytes (omega arith)))
+    ∙ take_at xs (drop (base + length xs) bytes) n long
+
+-- ---- a slice has as many bytes as there are
+
+pub slice-clamped : (bytes : List ℕ) (at n len : ℕ) → length bytes ≡ len → slice bytes (min at len) (min n (len - min at len)) ≡ slice bytes at n
+unfolding slice
+slice-clamped bytes at n len long =
+    let start : min at len ≡ min at (length bytes) = ap (min at) (sym long) in
+    let rest : len - min at len ≡ length (drop (min at (length bytes)) bytes) = omega (arith, length-drop (min at (length bytes)) bytes) in
+    (λ i. take (min n (rest i)) (drop (start i) bytes))
+    ∙ take_min n (drop (min at (length bytes)) bytes)
+    ∙ ap (take n) (drop_min at bytes)
