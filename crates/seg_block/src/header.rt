@@ -1,0 +1,56 @@
+ghost use Rattle.std.specs.Prelude.{◌≡◌, ◌-◌, ◌*◌};
+ghost use Rattle.seg_spec.specs.Heap.{units_at, is_live_at, units_before, tag_at, link_at};
+
+use seg_ptr::Window;
+use std::alloc::Allocator;
+
+/// The bytes of a unit, and of a block's header.
+pub const UNIT: u32 = 16;
+
+/// Where the heap begins.
+pub const HEAP_START: u32 = 704;
+
+/// The bit of the first word that says whether a block is live. The bits below count its units.
+const LIVE: u32 = 1 << 31;
+
+/// The units of the block at a position, its header counted in.
+pub fn units<A: Allocator>(w: &Window<A>, block: u32) -> u32
+    ensures { result ≡ units_at w.now.bytes block }
+{
+    w.get32(block as usize) % LIVE
+}
+
+/// Whether the block at a position is live.
+pub fn is_live<A: Allocator>(w: &Window<A>, block: u32) -> bool
+    ensures { result ≡ is_live_at w.now.bytes block }
+{
+    w.get32(block as usize) >= LIVE
+}
+
+/// The units of the block before, 0 for the first one, as the header at a position has them.
+pub fn units_before<A: Allocator>(w: &Window<A>, block: u32) -> u32
+    ensures { result ≡ units_before w.now.bytes block }
+{
+    w.get32(block as usize + 4)
+}
+
+/// The word that says what a block is ([`Tag::read`](crate::Tag::read)).
+pub fn tag_word<A: Allocator>(w: &Window<A>, block: u32) -> u32
+    ensures { result ≡ tag_at w.now.bytes block }
+{
+    w.get32(block as usize + 8)
+}
+
+/// What the block's link names.
+pub fn link<A: Allocator>(w: &Window<A>, block: u32) -> Option<u32>
+    ensures { result ≡ link_at w.now.bytes block }
+{
+    w.target(block as usize + 12)
+}
+
+/// The bytes of the block's payload.
+pub fn payload<A: Allocator>(w: &Window<A>, block: u32) -> u64
+    ensures { result ≡ 16 * units_at w.now.bytes block - 16 }
+{
+    (u64::from(UNIT) * u64::from(units(w, block))).saturating_sub(u64::from(UNIT))
+}

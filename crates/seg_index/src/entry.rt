@@ -1,0 +1,74 @@
+ghost use Rattle.std.specs.Prelude.{◌<◌, ◌^◌};
+
+use seg_block::{Kind, Tag, UNIT, tag_word};
+use seg_layout::{TypeId, TypeTable};
+use seg_ptr::Window;
+use std::alloc::Allocator;
+
+/// The index cell: a pointer to the entries, and behind it the number of names.
+pub const INDEX: u32 = 32;
+
+/// The bytes of an entry.
+pub const ENTRY: u32 = 8;
+
+/// An entry of the index.
+#[derive(Debug, Clone, Copy, PartialEq, Eq)]
+pub struct Entry {
+    /// The first payload byte of the named object's block, if the entry names one.
+    pub object: Option<u32>,
+    /// How many values the object has.
+    pub count: u16,
+    /// The bytes of its name.
+    pub name_len: u8,
+    /// The last byte, which is 0 in every image.
+    pub zero: u8,
+}
+
+impl Entry {
+    /// The entry at a position.
+    pub fn read<A: Allocator>(w: &Window<A>, at: usize) -> Entry {
+        let [low, high, name_len, zero] = w.get32(at.saturating_add(4)).to_le_bytes();
+        Entry {
+            object: w.target(at),
+            count: u16::from_le_bytes([low, high]),
+            name_len,
+            zero,
+        }
+    }
+
+    /// The type of the object, where its block is that of a named object.
+    pub fn type_id<A: Allocator>(&self, w: &Window<A>) -> Option<TypeId> {
+        let block = self.object?.checked_sub(UNIT)?;
+        match Tag::read(tag_word(w, block))? {
+            Tag {
+                kind: Kind::Named,
+                type_id,
+            } => Some(type_id),
+            _ => None,
+        }
+    }
+
+    /// The bytes of the object's values, where each has `size` bytes. The name stands behind them.
+    pub fn values_len(&self, size: u32) -> usize
+        ensures { result < 2 ^ 48 }
+    {
+        self.count as usize * size as usize
+    }
+
+    /// The name: empty where the entry names no object.
+    pub fn name<'a, A: Allocator>(&self, w: &'a Window<A>, types: &TypeTable) -> &'a [u8] {
+        let Some(object) = self.object else {
+            return &[];
+        };
+        let Some(type_id) = self.type_id(w) else {
+            return &[];
+        };
+        let values = self.values_len(types.size(type_id));
+        w.slice(object as usize + values, self.name_len as usize)
+    }
+}
+
+/// How many names there are.
+pub fn name_count<A: Allocator>(w: &Window<A>) -> u32 {
+    w.get32(INDEX as usize + 4)
+}
