@@ -1,9 +1,9 @@
 use crate::claims::Claims;
-use crate::header::{TYPES, UNIQUES, check_header};
+use crate::header::check_header;
 use crate::index::check_index;
 use crate::tiles::check_tiles;
 use seg_layout::{ENTRY, MAX_TYPES, Type, TypeId, TypeTable};
-use seg_ptr::Window;
+use seg_ptr::{Window, header};
 use seg_raw::Fault;
 use std::alloc::Allocator;
 
@@ -27,7 +27,7 @@ pub fn check<A: Allocator, B: Allocator>(alloc: B, w: &Window<A>) -> Result<Type
 
 /// The image's types. Those that aren't built yet are refused.
 fn read_types<A: Allocator>(w: &Window<A>) -> Result<TypeTable, Fault> {
-    let types = TypeTable::read(w.slice(TYPES as usize, ENTRY * MAX_TYPES))?;
+    let types = TypeTable::read(w.slice(header::TYPES, ENTRY * MAX_TYPES))?;
     for t in 0..MAX_TYPES as TypeId {
         match types.kind(t) {
             None | Some(Type::I64) => {}
@@ -39,21 +39,18 @@ fn read_types<A: Allocator>(w: &Window<A>) -> Result<TypeTable, Fault> {
 
 /// The free list. Free blocks aren't built yet, so it has none.
 fn check_free<A: Allocator, B: Allocator>(w: &Window<A>, claims: &Claims<B>) -> Result<(), Fault> {
-    if claims.has_free() || w.target(FREE_LIST as usize).is_some() {
-        return Err(Fault::BadFree(FREE_LIST));
+    if claims.has_free() || w.target(header::FREE).is_some() {
+        return Err(Fault::BadFree(header::FREE as u32));
     }
     Ok(())
 }
 
-/// The word that names the lowest free block.
-const FREE_LIST: u32 = 24;
-
 /// The words of unique objects. These aren't built yet, so each word is null.
 fn check_uniques<A: Allocator>(w: &Window<A>) -> Result<(), Fault> {
-    for t in 0..MAX_TYPES as u32 {
-        let word = UNIQUES + 4 * t;
-        if w.target(word as usize).is_some() {
-            return Err(Fault::BadPointer(word));
+    for t in 0..MAX_TYPES {
+        let word = header::UNIQUES + 4 * t;
+        if w.target(word).is_some() {
+            return Err(Fault::BadPointer(word as u32));
         }
     }
     Ok(())

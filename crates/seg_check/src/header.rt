@@ -1,18 +1,12 @@
 ghost use Rattle.std.specs.Prelude.{◌≤◌, length, OnOk};
 
 use seg_block::UNIT;
-use seg_ptr::{MAX_LEN, Window};
+use seg_ptr::{MAX_LEN, Window, header};
 use seg_raw::Fault;
 use std::alloc::Allocator;
 
 /// The fewest bytes that a segment has: the header and tables, and a block of two units.
 pub const MIN_LEN: u32 = 736;
-
-/// Where the type table begins, of 32 entries of 16 bytes.
-pub const TYPES: u32 = 64;
-
-/// Where the table of unique objects begins, of 32 pointers.
-pub const UNIQUES: u32 = 576;
 
 const VERSION: u32 = 1;
 
@@ -21,7 +15,7 @@ pub(crate) fn check_header<A: Allocator>(w: &Window<A>) -> Result<(), Fault>
     ensures { OnOk result (736 ≤ length w.now.bytes) }
 {
     let len = w.len();
-    let sized = len >= MIN_LEN && len <= MAX_LEN && len % UNIT == 0 && w.get32(12) == len / UNIT;
+    let sized = len >= MIN_LEN && len <= MAX_LEN && len % UNIT == 0 && w.get32(header::SIZE) == len / UNIT;
     if sized && has_known_words(w) {
         Ok(())
     } else {
@@ -34,8 +28,8 @@ pub(crate) fn check_header<A: Allocator>(w: &Window<A>) -> Result<(), Fault>
 fn has_known_words<A: Allocator>(w: &Window<A>) -> bool {
     w.slice(0, 8) == b"SEGIMAGE".as_slice()
         && w.get32(8) == VERSION
-        && w.get32(16) == 0
-        && w.get32(20) == 0
-        && w.get32(28) == 0
-        && w.slice(40, 24).iter().all(|byte| *byte == 0)
+        && w.get32(header::ALLOCATOR) == 0
+        && w.get32(header::INDEX_KIND) == 0
+        && w.get32(header::ZERO) == 0
+        && w.slice(header::RESERVED, header::TYPES - header::RESERVED).iter().all(|byte| *byte == 0)
 }

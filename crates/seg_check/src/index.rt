@@ -1,8 +1,8 @@
 use crate::claims::Claims;
 use seg_block::{Kind, Tag};
-use seg_index::{ENTRY, Entry, INDEX, name_count};
+use seg_index::{ENTRY, Entry, name_count};
 use seg_layout::TypeTable;
-use seg_ptr::Window;
+use seg_ptr::{Window, header};
 use seg_raw::Fault;
 use std::alloc::Allocator;
 
@@ -10,6 +10,9 @@ const BUFFER: Tag = Tag {
     kind: Kind::IndexBuffer,
     type_id: 0,
 };
+
+/// The word with the pointer to the entries.
+const INDEX: u32 = header::INDEX as u32;
 
 /// The most bytes of a name.
 const MAX_NAME: u8 = 63;
@@ -21,7 +24,7 @@ pub(crate) fn check_index<A: Allocator, B: Allocator>(
     claims: &mut Claims<B>,
 ) -> Result<(), Fault> {
     let count = name_count(w);
-    if count == 0 && w.target(INDEX as usize).is_none() {
+    if count == 0 && w.target(header::INDEX).is_none() {
         return Ok(());
     }
     let mut at = claims.claim(w, INDEX, BUFFER, u64::from(count) * u64::from(ENTRY))?;

@@ -8,4 +8,4 @@ mod index;
 mod tiles;
 
 pub use checker::check;
-pub use header::{MIN_LEN, TYPES, UNIQUES};
+pub use header::MIN_LEN;

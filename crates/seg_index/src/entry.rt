@@ -2,11 +2,8 @@ ghost use Rattle.std.specs.Prelude.{◌<◌, ◌^◌};
 
 use seg_block::{Kind, Tag, UNIT, tag_word};
 use seg_layout::{TypeId, TypeTable};
-use seg_ptr::Window;
+use seg_ptr::{Window, header};
 use std::alloc::Allocator;
-
-/// The index cell: a pointer to the entries, and behind it the number of names.
-pub const INDEX: u32 = 32;
 
 /// The bytes of an entry.
 pub const ENTRY: u32 = 8;
@@ -70,5 +67,5 @@ impl Entry {
 
 /// How many names there are.
 pub fn name_count<A: Allocator>(w: &Window<A>) -> u32 {
-    w.get32(INDEX as usize + 4)
+    w.get32(header::INDEX + 4)
 }

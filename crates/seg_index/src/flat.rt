@@ -1,6 +1,6 @@
-use crate::entry::{ENTRY, Entry, INDEX, name_count};
+use crate::entry::{ENTRY, Entry, name_count};
 use seg_layout::TypeTable;
-use seg_ptr::Window;
+use seg_ptr::{Window, header};
 use std::alloc::Allocator;
 use std::cmp::Ordering;
 
@@ -11,7 +11,7 @@ pub fn entry_at(entries: u32, k: u32) -> usize {
 
 /// The entry of a name, by a search in halves of the entries, which stand in order of their names.
 pub fn find<A: Allocator>(w: &Window<A>, types: &TypeTable, name: &[u8]) -> Option<Entry> {
-    let entries = w.target(INDEX as usize)?;
+    let entries = w.target(header::INDEX)?;
     let mut low = 0;
     let mut high = name_count(w);
     while low < high {

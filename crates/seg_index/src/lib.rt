@@ -4,5 +4,5 @@
 mod entry;
 mod flat;
 
-pub use entry::{ENTRY, Entry, INDEX, name_count};
+pub use entry::{ENTRY, Entry, name_count};
 pub use flat::{entry_at, find};

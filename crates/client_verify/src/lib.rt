@@ -1,0 +1,15 @@
+//! The verifier: which clients may run, and how many steps they take at most.
+#![tactic(auto)]
+
+mod reason;
+mod register;
+mod registers;
+mod rule;
+mod verified;
+mod verifier;
+
+pub use reason::Reason;
+pub use register::{Class, RegisterType};
+pub use registers::Registers;
+pub use rule::{After, Rule};
+pub use verified::{MOST_STEPS, Verified, verify};

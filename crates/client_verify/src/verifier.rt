@@ -1,0 +1,148 @@
+use crate::reason::Reason;
+use crate::registers::Registers;
+use crate::rule::Rule;
+use arrayvec::ArrayVec;
+use client_code::{DEPTH, Instruction, Place};
+use seg_layout::TypeTable;
+
+/// A part of the code that is open, and what its end needs.
+#[derive(Debug, Clone, Copy)]
+enum Part {
+    /// A success part. This is known where its else part begins.
+    Success { otherwise: Registers },
+    /// An else part. This is known where the success part ended, and these are that part's steps.
+    Else { success: Registers, steps: u64 },
+    /// The body of a loop of so many turns. This was known in front of it.
+    Body { before: Registers, turns: u64 },
+}
+
+/// An open part, and the steps of the code in front of it.
+#[derive(Debug, Clone, Copy)]
+struct Open {
+    part: Part,
+    steps: u64,
+}
+
+impl Default for Open {
+    fn default() -> Open {
+        Open {
+            part: Part::Success {
+                otherwise: Registers::default(),
+            },
+            steps: 0,
+        }
+    }
+}
+
+/// The verifier at a place of the code.
+#[derive(Drop)]
+pub struct Verifier<'a> {
+    types: &'a TypeTable,
+    registers: Registers,
+    // the steps of the innermost part so far, at most; the largest number where there are more
+    steps: u64,
+    parts: ArrayVec<Open, DEPTH>,
+}
+
+impl<'a> Verifier<'a> {
+    /// In front of the code.
+    pub fn new(types: &'a TypeTable) -> Verifier<'a> {
+        Verifier {
+            types,
+            registers: Registers::default(),
+            steps: 0,
+            parts: ArrayVec::new(),
+        }
+    }
+
+    /// The most steps of the code so far.
+    pub fn steps(&self) -> u64 {
+        self.steps
+    }
+
+    /// Goes past an instruction.
+    pub fn pass(&mut self, instruction: Instruction) -> Result<(), Reason> {
+        match instruction.operation.row().place {
+            Place::Plain => self.perform(instruction),
+            Place::Opener => self.open(instruction),
+            Place::Loop => self.enter(instruction),
+            Place::Else => self.turn(),
+            Place::End => self.close(),
+        }
+    }
+
+    fn perform(&mut self, instruction: Instruction) -> Result<(), Reason> {
+        self.registers = Rule::new(self.types, &self.registers, instruction)
+            .apply()?
+            .success;
+        self.steps = self.steps.saturating_add(1);
+        Ok(())
+    }
+
+    fn open(&mut self, instruction: Instruction) -> Result<(), Reason> {
+        let after = Rule::new(self.types, &self.registers, instruction).apply()?;
+        self.push(Part::Success {
+            otherwise: after.otherwise,
+        });
+        self.registers = after.success;
+        Ok(())
+    }
+
+    fn enter(&mut self, instruction: Instruction) -> Result<(), Reason> {
+        Rule::new(self.types, &self.registers, instruction).apply()?;
+        let turns = u64::from(instruction.number.unsigned_abs());
+        self.push(Part::Body {
+            before: self.registers,
+            turns,
+        });
+        Ok(())
+    }
+
+    /// Opens a part behind an instruction. There is room, since a client's nesting has a limit.
+    fn push(&mut self, part: Part) {
+        let steps = self.steps.saturating_add(1);
+        let _ = self.parts.try_push(Open { part, steps });
+        self.steps = 0;
+    }
+
+    /// From the success part to the else part.
+    fn turn(&mut self) -> Result<(), Reason> {
+        if let Some(
+            Open {
+                part: Part::Success { otherwise },
+                steps,
+            },
+        ) = self.parts.pop()
+        {
+            let part = Part::Else {
+                success: self.registers,
+                steps: self.steps,
+            };
+            let _ = self.parts.try_push(Open { part, steps });
+            self.registers = otherwise;
+            self.steps = 0;
+        }
+        Ok(())
+    }
+
+    /// Behind an `END`.
+    fn close(&mut self) -> Result<(), Reason> {
+        let Some(Open { part, steps }) = self.parts.pop() else {
+            return Ok(());
+        };
+        let inside = match part {
+            Part::Success { .. } => self.steps,
+            Part::Else { success, steps } => {
+                self.registers = success.joined(&self.registers)?;
+                self.steps.max(steps)
+            }
+            Part::Body { before, turns } => {
+                before.keeps(&self.registers)?;
+                self.registers = before;
+                turns.saturating_mul(self.steps.saturating_add(1))
+            }
+        };
+        self.steps = steps.saturating_add(inside);
+        Ok(())
+    }
+}

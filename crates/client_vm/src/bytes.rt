@@ -1,0 +1,133 @@
+ghost use Rattle.std.specs.Prelude.{◌≡◌, ◌↔◌, ◌≤◌, ◌<◌, ◌+◌, ◌*◌, ◌^◌, true, false, IfOk, IfErr, OnErr, OnOk, length, vec_len};
+
+use crate::interpreter::run;
+use crate::moves::{first_bad_move, is_place};
+use crate::report::{Ended, Outcome, Place, Refused, Report};
+use crate::sink::Sink;
+use client_code::parse;
+use client_verify::{Verified, verify};
+use seg_check::{MIN_LEN, check};
+use seg_layout::TypeTable;
+use seg_manager::Segment;
+use seg_ptr::{MAX_LEN, Window};
+use seg_raw::{Fault, Region};
+use std::alloc::Allocator;
+
+/// The most bytes of a region.
+const MAX_ROOM: u32 = 1 << 31;
+
+/// Checks an image, verifies the clients, runs one after the other on it, and gives the saved image.
+///
+/// Refused for the image's length, the place, a move, the image's first fault, or a client's, in this order; then nothing
+/// was written. All memory is taken before the first step. Each client makes the moves anew and reads the input that the
+/// ones before it left. After an output that failed no further client runs.
+pub fn run_bytes<A: Allocator + Copy, W: Sink>(
+    alloc: A,
+    image: &[u8],
+    clients: &[&[u8]],
+    input: &[u8],
+    place: &Place,
+    out: &mut W,
+) -> Result<Outcome<A>, Refused>
+    requires works { W.has_failed out.old ≡ false }
+    ensures refused { OnErr result (W.has_failed out.new ≡ false) }
+    ensures ended { IfOk result (λ o. (o.ended ≡ Ended.OutputFailed) ↔ (W.has_failed out.new ≡ true)) }
+{
+    let mut segment = open(alloc, image, place)?;
+    let programs = verify_all(alloc, clients, &segment.types)?;
+    let mut saved = Vec::from_slice(alloc, image)?;
+    let mut reports = Vec::with_capacity(alloc, clients.len())?;
+    run_all(
+        &mut segment,
+        programs.as_slice(),
+        input,
+        place,
+        out,
+        &mut reports,
+    );
+    let ended = if out.failed() {
+        Ended::OutputFailed
+    } else {
+        Ended::Done
+    };
+    copy(&mut saved, segment.window.slice(0, image.len()));
+    Ok(Outcome {
+        image: saved,
+        reports,
+        ended,
+    })
+}
+
+/// The segment of an image at its place in a new region.
+fn open<A: Allocator + Copy>(alloc: A, image: &[u8], place: &Place) -> Result<Segment<A>, Fault> {
+    let len = image_len(image)?;
+    if place.room > MAX_ROOM || !is_place(place.room, place.base, len) {
+        return Err(Fault::Misplaced);
+    }
+    if let Some(i) = first_bad_move(len, place.room, place.moves) {
+        return Err(Fault::BadMove(u32::try_from(i).unwrap_or(u32::MAX)));
+    }
+    let region = Region::new(alloc, place.room)?;
+    let mut window = Window::place(region, place.base, len).map_err(|_| Fault::Misplaced)?;
+    window.copy_in(0, image);
+    let types = check(alloc, &window)?;
+    Ok(Segment { window, types })
+}
+
+/// The length of an image, if it is one that a segment may have.
+fn image_len(image: &[u8]) -> Result<u32, Fault>
+    ensures { IfOk result (λ n. (n ≡ length image.now) × (n ≤ 2 ^ 30)) }
+{
+    match u32::try_from(image.len()) {
+        Ok(len) if (MIN_LEN..=MAX_LEN).contains(&len) && len % 16 == 0 => Ok(len),
+        _ => Err(Fault::BadHeader),
+    }
+}
+
+/// The clients, each verified against the types as the ones before extend them.
+fn verify_all<'a, A: Allocator + Copy>(
+    alloc: A,
+    clients: &[&'a [u8]],
+    types: &TypeTable,
+) -> Result<Vec<Verified<'a>, A>, Refused> {
+    let mut types = types.copy();
+    let mut programs = Vec::with_capacity(alloc, clients.len())?;
+    for (i, bytes) in clients.iter().enumerate() {
+        let refused = |fault| Refused {
+            client: Some(i),
+            fault,
+        };
+        let client = parse(bytes).map_err(refused)?;
+        let program = verify(client, &types).map_err(refused)?;
+        types = types.extends(program.types()).map_err(refused)?;
+        programs.push(program)?;
+    }
+    Ok(programs)
+}
+
+/// Runs the clients until the output fails, and adds the report of each that ran.
+fn run_all<A: Allocator, B: Allocator, W: Sink>(
+    segment: &mut Segment<A>,
+    programs: &[Verified],
+    input: &[u8],
+    place: &Place,
+    out: &mut W,
+    reports: &mut Vec<Report, B>,
+) {
+    let mut left = input;
+    for program in programs {
+        if out.failed() {
+            break;
+        }
+        let report = run(segment, program, left, place.moves, out);
+        left = left.get(report.read..).unwrap_or(&[]);
+        // there is room for it
+        let _ = reports.push(report);
+    }
+}
+
+/// Copies bytes to the front of others, as many as there are of both.
+fn copy<A: Allocator>(to: &mut Vec<u8, A>, from: &[u8]) {
+    let n = to.len().min(from.len());
+    to[..n].copy_from_slice(&from[..n]);
+}

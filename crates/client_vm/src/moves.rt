@@ -1,0 +1,44 @@
+ghost use Rattle.std.specs.Prelude.{◌≤◌, length};
+
+use crate::report::Move;
+use seg_ptr::Window;
+use std::alloc::Allocator;
+
+/// The first move that can't be made: its step isn't above the one before, or its base is none for the segment.
+pub(crate) fn first_bad_move(len: u32, room: u32, moves: &[Move]) -> Option<usize> {
+    let mut step = 0;
+    for (i, next) in moves.iter().enumerate() {
+        if next.step <= step || !is_place(room, next.base, len) {
+            return Some(i);
+        }
+        step = next.step;
+    }
+    None
+}
+
+/// Whether a segment of `len` bytes may lie at a base of a region of `room` bytes.
+pub(crate) fn is_place(room: u32, base: u32, len: u32) -> bool {
+    base % 16 == 0 && len <= room && base <= room - len
+}
+
+/// The moves that are still to be made.
+#[derive(Drop)]
+pub(crate) struct Moves<'a> {
+    rest: &'a [Move],
+}
+
+impl<'a> Moves<'a> {
+    pub(crate) fn new(moves: &'a [Move]) -> Moves<'a> {
+        Moves { rest: moves }
+    }
+
+    /// Makes the move that comes right before a step, if one does.
+    pub(crate) fn before<A: Allocator>(&mut self, step: u64, w: &mut Window<A>) {
+        if let Some((next, rest)) = self.rest.split_first() {
+            if next.step == step {
+                let _ = w.relocate(next.base);
+                self.rest = rest;
+            }
+        }
+    }
+}
