@@ -14,5 +14,6 @@ mod report;
 mod sink;
 
 pub use bytes::run_bytes;
+pub use output::{Stopped, write_all};
 pub use report::{Ended, Move, Outcome, Place, Refused, Report};
 pub use sink::{Sink, Through};
