@@ -140,6 +140,11 @@ impl<'a> Client<'a> {
         self.code + 8 * i
     }
 
+    /// The position behind the code, which is the file's length.
+    pub fn end(&self) -> u32 {
+        self.place_of(self.instructions)
+    }
+
     /// Tests each instruction where it stands, and that the file ends where the code does.
     fn check_code(&self, constants: &[Constant]) -> Result<(), Fault> {
         let mut nesting = Nesting::new();
@@ -152,7 +157,7 @@ impl<'a> Client<'a> {
                 return Err(Fault::BadCode(self.place_of(i)));
             }
         }
-        let end = self.place_of(self.instructions);
+        let end = self.end();
         if nesting.is_closed() && self.file.len() == end as usize {
             Ok(())
         } else {

@@ -1,14 +1,48 @@
 ghost use Rattle.std.specs.Prelude.{◌+◌, ◌^◌, ◌≤◌, IfSome};
 
-/// A constant of a client. It borrows its bytes from the client's file.
-#[derive(Debug, Clone, Copy, PartialEq, Eq)]
-pub enum Constant<'a> {
-    /// Any bytes, at most 255.
-    Text(&'a [u8]),
+/// What a constant is. The discriminant is the number that stands for it in a client file.
+#[derive(Debug, Clone, Copy, PartialEq, Eq, Default)]
+pub enum ConstantKind {
+    /// Any bytes.
+    #[default]
+    Text = 1,
     /// The name of an object.
-    Name(&'a [u8]),
+    Name,
     /// The front of the names of a family: `#` and a register's number in decimal follow it in each name.
-    Family(&'a [u8]),
+    Family,
+}
+
+impl ConstantKind {
+    /// The number that stands for the kind in a client file.
+    pub fn number(self) -> u8 {
+        self as u8
+    }
+
+    /// The kind of a number.
+    pub fn from_number(number: u8) -> Option<ConstantKind> {
+        match number {
+            1 => Some(ConstantKind::Text),
+            2 => Some(ConstantKind::Name),
+            3 => Some(ConstantKind::Family),
+            _ => None,
+        }
+    }
+
+    /// The word in front of the constant in the assembler text.
+    pub fn word(self) -> &'static str {
+        match self {
+            ConstantKind::Text => "text",
+            ConstantKind::Name => "name",
+            ConstantKind::Family => "family",
+        }
+    }
+}
+
+/// A constant of a client. It borrows its bytes.
+#[derive(Debug, Clone, Copy, PartialEq, Eq, Default)]
+pub struct Constant<'a> {
+    pub kind: ConstantKind,
+    pub bytes: &'a [u8],
 }
 
 fn is_name_byte(byte: u8) -> bool {
@@ -19,15 +53,8 @@ fn is_name(bytes: &[u8], longest: usize) -> bool {
     !bytes.is_empty() && bytes.len() <= longest && bytes.iter().all(|byte| is_name_byte(*byte))
 }
 
-/// The empty text.
-impl Default for Constant<'_> {
-    fn default() -> Self {
-        Constant::Text(&[])
-    }
-}
-
 impl<'a> Constant<'a> {
-    /// The constant whose spelling, a kind, a length and bytes, begins at a position, and the position behind it.
+    /// The constant whose spelling, a kind, a length and bytes, begins at a position of a file, and the position behind it.
     pub fn read(file: &'a [u8], at: u32) -> Option<(Constant<'a>, u32)>
         requires { at ≤ 2 ^ 31 }
         ensures { IfSome result (λ found. found.1 ≤ at + 257) }
@@ -35,50 +62,25 @@ impl<'a> Constant<'a> {
         let [kind, len, rest @ ..] = file.get(at as usize..)? else {
             return None;
         };
+        let kind = ConstantKind::from_number(*kind)?;
         let bytes = rest.get(..usize::from(*len))?;
-        let constant = Constant::of_kind(*kind, bytes).filter(Constant::is_valid)?;
+        let constant = Constant { kind, bytes };
+        if !constant.is_valid() {
+            return None;
+        }
         Some((constant, at + 2 + u32::from(*len)))
     }
 
-    fn of_kind(kind: u8, bytes: &'a [u8]) -> Option<Constant<'a>> {
-        match kind {
-            1 => Some(Constant::Text(bytes)),
-            2 => Some(Constant::Name(bytes)),
-            3 => Some(Constant::Family(bytes)),
-            _ => None,
-        }
-    }
-
-    fn is_valid(&self) -> bool {
-        match *self {
-            Constant::Text(bytes) => bytes.len() <= 255,
-            Constant::Name(bytes) => is_name(bytes, 63),
-            Constant::Family(bytes) => is_name(bytes, 42),
-        }
-    }
-
-    /// The number that stands for the kind in a client file.
-    pub fn kind(self) -> u8 {
-        match self {
-            Constant::Text(_) => 1,
-            Constant::Name(_) => 2,
-            Constant::Family(_) => 3,
-        }
-    }
-
-    /// The bytes of the text, the name or the front of a family's names.
-    pub fn bytes(self) -> &'a [u8] {
-        match self {
-            Constant::Text(bytes) | Constant::Name(bytes) | Constant::Family(bytes) => bytes,
+    fn is_valid(self) -> bool {
+        match self.kind {
+            ConstantKind::Text => true,
+            ConstantKind::Name => is_name(self.bytes, 63),
+            ConstantKind::Family => is_name(self.bytes, 42),
         }
     }
 
     /// Whether both name the same objects. Texts never do.
-    pub fn clashes(self, other: Constant<'a>) -> bool {
-        match (self, other) {
-            (Constant::Name(x), Constant::Name(y)) | (Constant::Family(x), Constant::Family(y)) => x
-                == y,
-            _ => false,
-        }
+    pub fn clashes(self, other: Constant) -> bool {
+        self.kind != ConstantKind::Text && self.kind == other.kind && self.bytes == other.bytes
     }
 }

@@ -1,4 +1,4 @@
-use crate::constant::Constant;
+use crate::constant::{Constant, ConstantKind};
 use crate::operation::Operation;
 use crate::table::{Number, Operand};
 use byteorder::{ByteOrder, LittleEndian};
@@ -97,31 +97,34 @@ impl Instruction {
             Number::Unused => self.number == 0,
             Number::Any => true,
             Number::Turns => 1 <= self.number && self.number <= TURNS,
-            Number::Type => 0 <= self.number
-                && self.number < 256
-                && usize::from(self.type_id()) < types,
-            Number::Text => 0 <= self.number
-                && self.number < 256
-                && matches!(self.constant_of(constants), Some(Constant::Text(_))),
-            Number::TypedName => {
-                0 <= self.number
-                    && self.number < 65536
-                    && usize::from(self.type_id()) < types
-                    && self.has_name(constants)
-            }
+            Number::Type => self.is_below(256) && self.has_type(types),
+            Number::Text => self.is_below(256)
+                && self.kind_in(constants) == Some(ConstantKind::Text),
+            Number::TypedName => self.is_below(65536)
+                && self.has_type(types)
+                && self.has_name(constants),
         }
     }
 
-    fn constant_of<'a>(self, constants: &[Constant<'a>]) -> Option<Constant<'a>> {
-        constants.get(usize::from(self.constant())).copied()
+    fn is_below(self, limit: i32) -> bool {
+        0 <= self.number && self.number < limit
+    }
+
+    fn has_type(self, types: usize) -> bool {
+        usize::from(self.type_id()) < types
+    }
+
+    /// The kind of the constant that the number names.
+    fn kind_in(self, constants: &[Constant]) -> Option<ConstantKind> {
+        Some(constants.get(usize::from(self.constant()))?.kind)
     }
 
     // the number of a family's name is in register b, and an exact name has none
     fn has_name(self, constants: &[Constant]) -> bool {
-        match self.constant_of(constants) {
-            Some(Constant::Name(_)) => self.b == Instruction::NONE,
-            Some(Constant::Family(_)) => self.b < REGISTERS,
-            Some(Constant::Text(_)) | None => false,
+        match self.kind_in(constants) {
+            Some(ConstantKind::Name) => self.b == Instruction::NONE,
+            Some(ConstantKind::Family) => self.b < REGISTERS,
+            Some(ConstantKind::Text) | None => false,
         }
     }
 }

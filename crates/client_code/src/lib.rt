@@ -1,17 +1,26 @@
 //! Clients: their files, their instructions, and their assembler text.
 #![tactic(auto)]
 
+mod assembler;
 mod client;
 mod constant;
+mod escape;
 mod instruction;
+mod item;
 mod nesting;
+mod numeral;
 mod operation;
+mod outline;
+mod printer;
 mod table;
 mod types;
+mod words;
 
+pub use assembler::assemble;
 pub use client::{Client, Constants, parse};
-pub use constant::Constant;
+pub use constant::{Constant, ConstantKind};
 pub use instruction::{Instruction, REGISTERS};
 pub use nesting::{DEPTH, Nesting};
 pub use operation::Operation;
+pub use printer::print;
 pub use table::{Ends, Gives, Kinds, Need, Number, Operand, Place, Row};

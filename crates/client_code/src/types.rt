@@ -1,13 +1,13 @@
 ghost use Rattle.std.specs.Prelude.{◌≡◌, ◌≤◌, IfSome, length};
 
-use seg_layout::TypeTable;
+use seg_layout::{MAX_TYPES, TypeTable};
 use seg_raw::Fault;
 
 /// The bytes of a type entry.
-pub const ENTRY: u32 = 16;
+pub const ENTRY: u32 = seg_layout::ENTRY as u32;
 
 /// The most types of a client.
-pub const MOST_TYPES: u32 = 32;
+pub const MOST_TYPES: u32 = MAX_TYPES as u32;
 
 /// Where the type entries begin in a client file.
 pub const TYPES_AT: u32 = 20;

@@ -1,5 +1,6 @@
 ghost use Rattle.std.specs.Prelude.{◌≡◌, ◌↔◌, ◌≤◌, ◌<◌, ◌+◌, ◌*◌, ◌^◌, true, false, IfOk, IfErr, OnErr, OnOk, length, vec_len};
 
+use crate::built::check_built;
 use crate::interpreter::run;
 use crate::moves::{first_bad_move, is_place};
 use crate::report::{Ended, Outcome, Place, Refused, Report};
@@ -98,6 +99,7 @@ fn verify_all<'a, A: Allocator + Copy>(
             fault,
         };
         let client = parse(bytes).map_err(refused)?;
+        check_built(&client).map_err(refused)?;
         let program = verify(client, &types).map_err(refused)?;
         types = types.extends(program.types()).map_err(refused)?;
         programs.push(program)?;

@@ -1,6 +1,7 @@
 //! Runs verified clients on a segment: from the bytes of an image and of clients to their output and the saved image.
 #![tactic(auto)]
 
+mod built;
 mod bytes;
 mod control;
 mod interpreter;

@@ -1,0 +1,6 @@
+mod clients;
+mod faults;
+mod files;
+mod images;
+mod rows;
+mod writers;

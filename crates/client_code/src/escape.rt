@@ -1,0 +1,48 @@
+ghost use Rattle.std.specs.Prelude.{◌<◌, length, IfSome};
+
+use arrayvec::ArrayVec;
+
+/// The most bytes of a constant.
+pub const LONGEST: usize = 255;
+
+/// The bytes of a constant.
+pub type Bytes = ArrayVec<u8, LONGEST>;
+
+/// Whether a byte of a text may stand for itself.
+pub fn is_plain(byte: u8) -> bool {
+    matches!(byte, b' '..=b'~') && byte != b'\\'
+}
+
+/// The value of a lower case hexadecimal digit.
+fn hex(digit: u8) -> Option<u8>
+    ensures { IfSome result (λ value. value < 16) }
+{
+    match digit {
+        b'0'..=b'9' => Some(digit - b'0'),
+        b'a'..=b'f' => Some(digit - b'a' + 10),
+        _ => None,
+    }
+}
+
+/// The first byte that a spelling of a text stands for, and the rest of the spelling.
+fn first(spelling: &[u8]) -> Option<(u8, &[u8])>
+    ensures { IfSome result (λ found. length found.1.now < length spelling.now) }
+{
+    match spelling {
+        [b'\\', high, low, rest @ ..] => Some((16 * hex(*high)? + hex(*low)?, rest)),
+        [byte, rest @ ..] if is_plain(*byte) => Some((*byte, rest)),
+        _ => None,
+    }
+}
+
+/// The bytes that a spelling of a text stands for, if they aren't too many.
+pub fn unescaped(spelling: &[u8]) -> Option<Bytes> {
+    let mut bytes = ArrayVec::new();
+    let mut rest = spelling;
+    while !rest.is_empty() {
+        let (byte, behind) = first(rest)?;
+        bytes.try_push(byte).ok()?;
+        rest = behind;
+    }
+    Some(bytes)
+}

@@ -1,0 +1,132 @@
+ghost use Rattle.std.specs.Prelude.{◌≤◌};
+
+use crate::constant::ConstantKind;
+use crate::escape::{Bytes, unescaped};
+use crate::instruction::{Instruction, REGISTERS};
+use crate::numeral::{index, signed};
+use crate::operation::Operation;
+use crate::table::{Number, Operand};
+use crate::words::Words;
+use arrayvec::ArrayVec;
+use seg_layout::{Fields, Type, TypeId};
+use std::alloc::{AllocError, Allocator};
+
+/// What a line of the assembler text says.
+#[derive(Debug, Drop)]
+pub enum Item {
+    Type(Type),
+    Constant(ConstantKind, Bytes),
+    Instruction(Instruction),
+}
+
+impl Item {
+    /// What a line says. `None` where no line of a client's text is so.
+    pub fn read(line: &[u8]) -> Option<Item> {
+        if let Some(spelling) = line.strip_prefix(b"text ") {
+            return Some(Item::Constant(ConstantKind::Text, unescaped(spelling)?));
+        }
+        let mut words = Words::new(line);
+        let item = match words.next()? {
+            b"type" => Item::Type(read_type(&mut words)?),
+            b"name" => Item::Constant(ConstantKind::Name, read_name(&mut words)?),
+            b"family" => Item::Constant(ConstantKind::Family, read_name(&mut words)?),
+            word => Item::Instruction(read_instruction(Operation::from_word(word)?, &mut words)?),
+        };
+        words.next().is_none().then_some(item)
+    }
+
+    /// The number of bytes that spell it in a client file.
+    pub fn len(&self) -> usize
+        ensures { result ≤ 257 }
+    {
+        match self {
+            Item::Type(kind) => kind.entry().len(),
+            Item::Constant(_, bytes) => 2 + bytes.len(),
+            Item::Instruction(_) => Instruction::SIZE,
+        }
+    }
+
+    /// Adds its bytes to a client file.
+    pub fn append<A: Allocator>(&self, file: &mut Vec<u8, A>) -> Result<(), AllocError> {
+        match self {
+            Item::Type(kind) => file.extend_from_slice(&kind.entry()),
+            Item::Constant(kind, bytes) => {
+                file.extend_from_slice(&[kind.number(), bytes.len() as u8])?;
+                file.extend_from_slice(bytes.as_slice())
+            }
+            Item::Instruction(instruction) => file.extend_from_slice(&instruction.encode()),
+        }
+    }
+}
+
+fn read_name(words: &mut Words) -> Option<Bytes> {
+    let mut name = ArrayVec::new();
+    name.try_extend_from_slice(words.next()?).ok()?;
+    Some(name)
+}
+
+fn read_type(words: &mut Words) -> Option<Type> {
+    match words.next()? {
+        b"i64" => Some(Type::I64),
+        b"str" => Some(Type::Str),
+        b"vec" => read_part(words).map(Type::Vec),
+        b"list" => read_part(words).map(Type::List),
+        b"flat_map" => read_part(words).map(Type::FlatMap),
+        b"map" => read_part(words).map(Type::Map),
+        b"own" => read_part(words).map(Type::Own),
+        b"struct" => read_fields(words).map(Type::Struct),
+        _ => None,
+    }
+}
+
+fn read_part(words: &mut Words) -> Option<TypeId> {
+    index(b't', words.next()?)
+}
+
+fn read_fields(words: &mut Words) -> Option<Fields> {
+    let mut fields: ArrayVec<TypeId, 8> = ArrayVec::new();
+    for word in words.by_ref() {
+        fields.try_push(index(b't', word)?).ok()?;
+    }
+    Fields::new(fields.as_slice())
+}
+
+fn read_instruction(operation: Operation, words: &mut Words) -> Option<Instruction> {
+    let row = operation.row();
+    Some(Instruction {
+        operation,
+        a: read_operand(row.a, words)?,
+        b: read_operand(row.b, words)?,
+        c: read_operand(row.c, words)?,
+        number: read_number(row.number, words)?,
+    })
+}
+
+fn read_operand(operand: Operand, words: &mut Words) -> Option<u8> {
+    match operand {
+        Operand::Unused => Some(0),
+        Operand::Register => read_register(words.next()?),
+        Operand::Optional => match words.next()? {
+            b"-" => Some(Instruction::NONE),
+            word => read_register(word),
+        },
+    }
+}
+
+fn read_register(word: &[u8]) -> Option<u8> {
+    index(b'r', word).filter(|register| *register < REGISTERS)
+}
+
+fn read_number(number: Number, words: &mut Words) -> Option<i32> {
+    match number {
+        Number::Unused => Some(0),
+        Number::Any | Number::Turns => signed(words.next()?),
+        Number::Type => index(b't', words.next()?).map(i32::from),
+        Number::Text => index(b'k', words.next()?).map(i32::from),
+        Number::TypedName => {
+            let type_id = index(b't', words.next()?)?;
+            let constant = index(b'k', words.next()?)?;
+            Some(i32::from_le_bytes([constant, type_id, 0, 0]))
+        }
+    }
+}

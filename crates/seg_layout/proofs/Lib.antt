@@ -1,0 +1,5 @@
+pub mod Tables
+pub mod Reading
+pub mod Extending
+pub mod Fielding
+pub mod Splitting

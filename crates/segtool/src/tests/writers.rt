@@ -1,0 +1,118 @@
+use crate::tests::clients::{INCREMENT, client};
+use crate::tests::files::{Stored, Taken, run, run_into};
+use crate::tests::images::{counter, counter_with};
+use client_vm::{Place, Refused, Through, run_bytes};
+use linked_list_allocator::LocalHeap;
+use seg_raw::Fault;
+use std::alloc::Global;
+use std::process::Abort;
+use std::test::Fail;
+
+fn files(alloc: Global) -> Result<Stored, Fail> {
+    let mut files = Stored::new(alloc);
+    files.add("image", counter(alloc)?.as_slice())?;
+    files.add("client", client(alloc, INCREMENT)?.as_slice())?;
+    Ok(files)
+}
+
+const RUN: [&str; 5] = ["segtool", "run", "image", "saved", "client"];
+
+/// The output fails at each byte in turn: what came before was taken, and the image is saved, with what the client
+/// did up to there.
+#[test]
+fn stops_at_a_failed_output(rt: HostRuntime) -> Result<(), Fail> {
+    let alloc = rt.alloc();
+    let saved = counter_with(alloc, &[(720, 42)])?;
+    for limit in 0..3usize {
+        let mut files = files(alloc)?;
+        let out = Taken::new(alloc, usize::MAX, limit);
+        let printed = run_into(alloc, RUN.as_slice(), &mut files, out);
+        assert_eq!(rt; printed.status, 3);
+        assert_eq!(rt; printed.err.as_slice(), b"file -\n".as_slice());
+        assert_eq!(rt; printed.out.as_slice(), b"42\n".get(..limit).unwrap_or(b""));
+        assert_eq!(rt; files.get("saved"), saved.as_slice());
+    }
+    Ok(())
+}
+
+#[test]
+fn writes_a_byte_at_a_time(rt: HostRuntime) -> Result<(), Fail> {
+    let alloc = rt.alloc();
+    let mut files = files(alloc)?;
+    let out = Taken::new(alloc, 1, usize::MAX);
+    let printed = run_into(alloc, RUN.as_slice(), &mut files, out);
+    assert_eq!(rt; printed.status, 0);
+    assert_eq!(rt; printed.out.as_slice(), b"42\n".as_slice());
+    Ok(())
+}
+
+/// Each read and the write fail in turn: the file is named, and nothing is written after a read that failed.
+#[test]
+fn tells_of_a_failed_file(rt: HostRuntime) -> Result<(), Fail> {
+    let alloc = rt.alloc();
+    for (read, line) in [(1, "file image\n"), (2, "file client\n")] {
+        let mut files = files(alloc)?;
+        files.failing_read = read;
+        let printed = run(alloc, RUN.as_slice(), &mut files);
+        assert_eq!(rt; printed.status, 3);
+        assert_eq!(rt; printed.err.as_slice(), line.as_bytes());
+        assert!(rt; printed.out.is_empty() && !files.has("saved"));
+    }
+    let mut files = files(alloc)?;
+    files.failing_write = 1;
+    let printed = run(alloc, RUN.as_slice(), &mut files);
+    assert_eq!(rt; printed.status, 3);
+    assert_eq!(rt; printed.err.as_slice(), b"file saved\n".as_slice());
+    assert_eq!(rt; printed.out.as_slice(), b"42\n".as_slice());
+    Ok(())
+}
+
+/// What a run within this many bytes of host memory gives: nothing but a refusal for memory before anything is
+/// written, or all.
+fn runs_within(rt: &(impl Abort + AllocGlobal), size: usize) -> Result<bool, Fail> {
+    let heap = LocalHeap::new(rt.alloc(), size)?;
+    let image = counter(rt.alloc())?;
+    let file = client(rt.alloc(), INCREMENT)?;
+    let clients = [file.as_slice()];
+    let place = Place {
+        room: 784,
+        base: 0,
+        moves: &[],
+    };
+    let mut out = Through::new(Vec::new(rt.alloc()));
+    let outcome = run_bytes(
+        &heap,
+        image.as_slice(),
+        clients.as_slice(),
+        b"",
+        &place,
+        &mut out,
+    );
+    let written = out.into_inner();
+    match outcome {
+        Ok(outcome) => {
+            assert_eq!(rt; written.as_slice(), b"42\n".as_slice());
+            assert_eq!(rt; outcome.image.len(), 784);
+            Ok(true)
+        }
+        Err(refused) => {
+            assert!(rt; refused == Refused::from(Fault::Memory));
+            assert!(rt; written.is_empty());
+            Ok(false)
+        }
+    }
+}
+
+/// Host memory from too little for the first request to enough for all, so that each is refused in turn.
+#[test]
+fn answers_memory_only_before_it_writes(rt: HostRuntime) -> Result<(), Fail> {
+    let mut refusals = 0usize;
+    for size in 1..256usize {
+        if runs_within(&rt, size * 16)? {
+            assert!(rt; refusals > 49);
+            return Ok(());
+        }
+        refusals = refusals.saturating_add(1);
+    }
+    Err(Fail::from("never ran"))
+}
