@@ -1,0 +1,8 @@
+//! The types of a segment: a table of at most 32 entries, named by their place in it.
+#![tactic(auto)]
+
+mod kind;
+mod table;
+
+pub use kind::{Cell, ENTRY, Fields, Type, TypeId};
+pub use table::{MAX_TYPES, TypeTable};
