@@ -1,5 +1,5 @@
-ghost use Rattle.std.specs.Prelude.{◌≡◌, ◌<◌, ◌≤◌, ℕ, List, length, slice_get, MatchOption};
-ghost use Rattle.seg_spec.specs.Types.{entry_bytes};
+ghost use Rattle.std.specs.Prelude.{◌≡◌, ◌≤◌, length, slice_get, MatchOption};
+ghost use Rattle.seg_spec.specs.Types.{Form, entry_bytes as entry_of, form_bytes};
 
 use std::marker::Model;
 
@@ -26,9 +26,12 @@ pub enum Type {
 }
 
 impl Type {
+    ghost use Rattle.seg_layout.specs.Forms.{form_of, HasFewFields};
+
     /// The type that an entry spells: its kind, the number of its parts, the parts, and zeros.
     pub(crate) fn from_entry(entry: &[u8]) -> Option<Type>
         requires { length entry.now ≡ 16 }
+        ensures { MatchOption result ((form : Form) → HasFewFields form → ¬ (entry.now ≡ form_bytes form)) (λ kind. (entry.now ≡ form_bytes (form_of kind)) × HasFewFields (form_of kind)) }
     {
         let kind = Type::picked(entry)?;
         if kind.entry().as_slice() == entry {
@@ -41,6 +44,7 @@ impl Type {
     /// The type that an entry spells, if it spells one.
     fn picked(entry: &[u8]) -> Option<Type>
         requires { length entry.now ≡ 16 }
+        ensures { (form : Form) → HasFewFields form → entry.now ≡ form_bytes form → MatchOption result ⊥ (λ kind. form_of kind ≡ form) }
     {
         let part = entry[2];
         match entry[0] {
@@ -60,7 +64,9 @@ impl Type {
     }
 
     /// Its entry in a table.
-    pub fn entry(&self) -> [u8; ENTRY] {
+    pub fn entry(&self) -> [u8; ENTRY]
+        ensures { result ≡ form_bytes (form_of self.now) }
+    {
         match self {
             Type::I64 => entry_bytes(1, &[]),
             Type::Str => entry_bytes(2, &[]),
@@ -77,6 +83,7 @@ impl Type {
 /// The entry of a kind with its parts.
 fn entry_bytes(kind: u8, parts: &[TypeId]) -> [u8; ENTRY]
     requires { length parts.now ≤ 8 }
+    ensures { result ≡ entry_of kind parts.now }
 {
     let mut entry = [0; ENTRY];
     entry[0] = kind;
