@@ -23,3 +23,7 @@ HasFewFields _ = ⊤
 
 abbrev pub cell_of : Cell → types.Cell
 cell_of cell = record { from = cell.from; type = cell.type_id }
+
+abbrev pub map_option : {X Y : Type 0} → (X → Y) → Option X → Option Y
+map_option f None = None
+map_option f (Some x) = Some (f x)

@@ -1,39 +1,15 @@
-ghost use Rattle.std.specs.Prelude.{◌≡◌, ◌<◌, ◌≤◌, ℕ, List, length, slice_get, MatchOption};
-ghost use Rattle.arrayvec.specs.ArrayVec.{array_vec_len};
+ghost use Rattle.std.specs.Prelude.{◌≡◌, ℕ, ◌<◌, ◌≤◌, ◌==◌, [], length};
+ghost use Rattle.seg_spec.specs.Types.{form_at, entry_at, size};
+ghost use Rattle.seg_layout.specs.Forms.{form_of, map_option};
 
+use crate::entry::{Entries, Entry, MAX_TYPES, Slot};
 use crate::kind::{Cell, ENTRY, Fields, Type, TypeId};
 use arrayvec::ArrayVec;
 use seg_raw::Fault;
-
-/// The most types that a segment has.
-pub const MAX_TYPES: usize = 32;
-
-/// The most bytes that a value has.
-const MAX_SIZE: u32 = 4096;
+use std::marker::Model;
 
 /// The most cells that a value has.
 const MAX_CELLS: usize = 512;
-
-/// The bytes of each cell, and of a value that is no struct.
-const CELL: u32 = 8;
-
-/// A type, and the bytes of its values.
-#[derive(Clone, Copy)]
-struct Entry {
-    kind: Type,
-    size: u32,
-}
-
-impl Default for Entry {
-    fn default() -> Entry {
-        Entry {
-            kind: Type::I64,
-            size: CELL,
-        }
-    }
-}
-
-type Entries = ArrayVec<Entry, MAX_TYPES>;
 
 /// The types of a segment, at most 32, without any memory of the host.
 #[derive(Drop)]
@@ -41,9 +17,23 @@ pub struct TypeTable {
     entries: Entries,
 }
 
+impl Model for TypeTable {
+    ghost use Rattle.std.specs.Prelude.{List};
+    ghost use Rattle.seg_spec.specs.Types.{Form};
+    ghost use Rattle.seg_layout.specs.Entries.{forms, AreEntries};
+
+    ghost Value = { List Form };
+
+    ghost view = { λ table. forms table.entries.items };
+
+    ghost invariant = { λ table. AreEntries table.entries.items };
+}
+
 impl TypeTable {
     /// A table with no types.
-    pub fn new() -> TypeTable {
+    pub fn new() -> TypeTable
+        ensures { result ≡ [] }
+    {
         TypeTable {
             entries: ArrayVec::new(),
         }
@@ -57,7 +47,7 @@ impl TypeTable {
             if bytes.len() <= ENTRY * index {
                 break;
             }
-            match read_entry(bytes, index, &entries) {
+            match Slot::read(bytes, index, &entries) {
                 Slot::Used(entry) => {
                     let _ = entries.try_push(entry);
                 }
@@ -68,23 +58,34 @@ impl TypeTable {
         Ok(TypeTable { entries })
     }
 
-    pub fn len(&self) -> usize {
+    pub fn len(&self) -> usize
+        ensures len { result ≡ length self.now }
+        ensures few { result ≤ 32 }
+    {
         self.entries.len()
     }
 
-    pub fn is_empty(&self) -> bool {
+    pub fn is_empty(&self) -> bool
+        ensures { result ≡ (length self.now == 0) }
+    {
         self.entries.is_empty()
     }
 
     /// What this type is, if the table has it.
-    pub fn kind(&self, t: TypeId) -> Option<Type> {
+    pub fn kind(&self, t: TypeId) -> Option<Type>
+        ensures { form_at self.now t ≡ map_option form_of result }
+    {
         let entry = self.entries.get(t as usize)?;
         Some(entry.kind)
     }
 
     /// The bytes of a value of this type: 8 where the table doesn't have it.
-    pub fn size(&self, t: TypeId) -> u32 {
-        size_at(&self.entries, t)
+    pub fn size(&self, t: TypeId) -> u32
+        ensures value { result ≡ size self.now t }
+        ensures some { 8 ≤ result }
+        ensures small { result ≤ 4096 }
+    {
+        Entry::size_at(&self.entries, t)
     }
 
     /// A field of this type, if it is a struct that has so many.
@@ -146,7 +147,9 @@ impl TypeTable {
     }
 
     /// The bytes of this type's entry: all zero where the table doesn't have it.
-    pub fn entry(&self, t: TypeId) -> [u8; 16] {
+    pub fn entry(&self, t: TypeId) -> [u8; 16]
+        ensures { result ≡ entry_at self.now t }
+    {
         match self.kind(t) {
             Some(kind) => kind.entry(),
             None => [0; ENTRY],
@@ -169,92 +172,14 @@ impl TypeTable {
     }
 
     /// The same table again.
-    pub fn copy(&self) -> TypeTable {
+    pub fn copy(&self) -> TypeTable
+        ensures { result ≡ self.now }
+    {
         let mut entries = ArrayVec::new();
-        for entry in &self.entries {
-            let _ = entries.try_push(*entry);
+        for entry in self.entries.as_slice() {
+            entries.push(*entry);
         }
         TypeTable { entries }
     }
 }
 
-/// What stands in an entry's place.
-enum Slot {
-    Used(Entry),
-    Unused,
-    Wrong,
-}
-
-/// The entry at an index, behind these.
-fn read_entry(bytes: &[u8], index: usize, before: &Entries) -> Slot
-    requires { index ≤ 32 }
-{
-    let Some(entry) = bytes.get(ENTRY * index..ENTRY * index + ENTRY) else {
-        return Slot::Wrong;
-    };
-    if index == MAX_TYPES {
-        return Slot::Wrong;
-    }
-    if entry.iter().all(|byte| *byte == 0) {
-        return Slot::Unused;
-    }
-    match Type::from_entry(entry) {
-        Some(kind) if before.len() == index && names_used(bytes, index, &kind) => {
-            sized(before, kind)
-        }
-        _ => Slot::Wrong,
-    }
-}
-
-/// The entry of a type whose fields are among these, unless its values are too large.
-fn sized(before: &Entries, kind: Type) -> Slot {
-    let size = size_of(before, &kind);
-    if size > MAX_SIZE {
-        return Slot::Wrong;
-    }
-    Slot::Used(Entry { kind, size })
-}
-
-/// Whether each part of the type at an index names a used entry, and a field an earlier one.
-fn names_used(bytes: &[u8], index: usize, kind: &Type) -> bool {
-    match kind {
-        Type::I64 | Type::Str => true,
-        Type::Vec(part)
-        | Type::List(part)
-        | Type::FlatMap(part)
-        | Type::Map(part)
-        | Type::Own(part) => is_used(bytes, *part),
-        Type::Struct(fields) => fields
-            .as_slice()
-            .iter()
-            .all(|field| (*field as usize) < index),
-    }
-}
-
-/// Whether the entry of this type has a kind.
-fn is_used(bytes: &[u8], t: TypeId) -> bool {
-    match bytes.get(ENTRY * t as usize) {
-        Some(kind) => *kind != 0,
-        None => false,
-    }
-}
-
-/// The bytes of a value of this type, where its fields are among these.
-fn size_of(before: &Entries, kind: &Type) -> u32 {
-    let Type::Struct(fields) = kind else {
-        return CELL;
-    };
-    let mut size = 0u32;
-    for field in fields.as_slice() {
-        size = size.saturating_add(size_at(before, *field));
-    }
-    size
-}
-
-/// The bytes of a value of the type at an index: 8 where there is none.
-fn size_at(entries: &Entries, t: TypeId) -> u32 {
-    match entries.get(t as usize) {
-        Some(entry) => entry.size,
-        None => CELL,
-    }
-}
