@@ -1,5 +1,5 @@
-ghost use Rattle.std.specs.Prelude.{◌≡◌, ℕ, ◌<◌, ◌≤◌, ◌==◌, [], length};
-ghost use Rattle.seg_spec.specs.Types.{form_at, entry_at, size};
+ghost use Rattle.std.specs.Prelude.{◌≡◌, ℕ, ◌<◌, ◌≤◌, ◌==◌, ◌↔◌, [], length, IsOk, IfOk, IfErr};
+ghost use Rattle.seg_spec.specs.Types.{IsTable, form_at, entry_at, size, Spells, IsWrong, IsFirstWrong};
 ghost use Rattle.seg_layout.specs.Forms.{form_of, map_option};
 
 use crate::entry::{Entries, Entry, MAX_TYPES, Slot};
@@ -41,16 +41,15 @@ impl TypeTable {
 
     /// The table whose entries of 16 bytes these are, the unused ones (all zero) last; else
     /// `BadType` with the first wrong entry. An entry that is cut is wrong, and so is a 33rd.
-    pub fn read(bytes: &[u8]) -> Result<TypeTable, Fault> {
+    pub fn read(bytes: &[u8]) -> Result<TypeTable, Fault>
+        ensures right { IsOk result ↔ ((k : ℕ) → IsWrong bytes.now k → ⊥) }
+        ensures table { IfOk result (λ table. IsTable table × Spells bytes.now table) }
+        ensures wrong { IfErr result (λ fault. (k : ℕ) × (fault ≡ Fault.BadType k) × IsFirstWrong bytes.now k) }
+    {
         let mut entries = ArrayVec::new();
-        for index in 0..=MAX_TYPES {
-            if bytes.len() <= ENTRY * index {
-                break;
-            }
+        for index in 0..bytes.len().div_ceil(ENTRY) {
             match Slot::read(bytes, index, &entries) {
-                Slot::Used(entry) => {
-                    let _ = entries.try_push(entry);
-                }
+                Slot::Used(entry) => entries.push(entry),
                 Slot::Unused => {}
                 Slot::Wrong => return Err(Fault::BadType(index as u32)),
             }
