@@ -1,2 +1,4 @@
 pub mod Tables
 pub mod Reading
+pub mod Extending
+pub mod Fielding

@@ -1,5 +1,5 @@
 -- The entries that a table keeps, and how reading adds one.
-use Rattle.std.proofs.Common.{◌≡◌, ℕ, ◌+◌, ◌<◌, ◌≤◌, List, [], ◌∷◌, ◌++◌, length, get_or, refl, sym, ap, ◌∙◌, subst, arith, Some}
+use Rattle.std.proofs.Common.{◌≡◌, ℕ, ◌+◌, ◌<◌, ◌≤◌, List, [], ◌∷◌, ◌++◌, length, get_or, refl, sym, ap, ◌∙◌, subst, arith, Some, sum_by}
 use Rattle.std.proofs.lemmas.List.{map-append, length-map}
 use Rattle.seg_spec.specs.Types.{Form, Table, form_at, size, size_by, size_of_form, built, IsForm, IsTable}
 use Rattle.seg_spec.proofs.TypesLaws.{size_by_of, size_large}
@@ -33,6 +33,10 @@ size_sized entries T e = ap (λ (ns : List ℕ). get_or ns T 8) e
 
 pub size_some : (entries : List Entry) (T : ℕ) → AreEntries entries → 8 ≤ size (forms entries) T
 size_some entries T h = size_large (forms entries) h.table T
+
+pub total_sized : (entries : List Entry) (table : Table) (fields : List ℕ) (n : ℕ) → AreSized entries → forms entries ≡ table → n ≡ sum_by (λ U. get_or (sizes entries) U 8) fields → n ≡ sum_by (size table) fields
+unfolding size
+total_sized entries table fields n sized is total = total ∙ ap (λ (ns : List ℕ). sum_by (λ U. get_or ns U 8) fields) sized ∙ ap (λ t. sum_by (size t) fields) is
 
 -- ---- reading
 

@@ -1,6 +1,6 @@
-ghost use Rattle.std.specs.Prelude.{◌≡◌, ℕ, ◌<◌, ◌≤◌, ◌==◌, ◌↔◌, [], length, IsOk, IfOk, IfErr};
-ghost use Rattle.seg_spec.specs.Types.{IsTable, form_at, entry_at, size, Spells, IsWrong, IsFirstWrong};
-ghost use Rattle.seg_layout.specs.Forms.{form_of, map_option};
+ghost use Rattle.std.specs.Prelude.{◌≡◌, ℕ, ◌<◌, ◌≤◌, ◌==◌, ◌↔◌, [], length, slice_get, IsOk, IfOk, IfErr};
+ghost use Rattle.seg_spec.specs.Types.{Agree, IsFirstDifference, longer, fields_of, IsTable, form_at, entry_at, size, Spells, IsWrong, IsFirstWrong};
+ghost use Rattle.seg_layout.specs.Forms.{cell_of, form_of, map_option};
 
 use crate::entry::{Entries, Entry, MAX_TYPES, Slot};
 use crate::kind::{Cell, ENTRY, Fields, Type, TypeId};
@@ -88,22 +88,17 @@ impl TypeTable {
     }
 
     /// A field of this type, if it is a struct that has so many.
-    pub fn field(&self, t: TypeId, index: u32) -> Option<Cell> {
+    pub fn field(&self, t: TypeId, index: u32) -> Option<Cell>
+        ensures { slice_get (fields_of self.now t) index ≡ map_option cell_of result }
+    {
         let kind = self.kind(t)?;
         let Type::Struct(fields) = kind else {
             return None;
         };
-        let mut from = 0u32;
-        for (i, field) in fields.as_slice().iter().enumerate() {
-            if i == index as usize {
-                return Some(Cell {
-                    from,
-                    type_id: *field,
-                });
-            }
-            from = from.saturating_add(self.size(*field));
-        }
-        None
+        let place = index as usize;
+        let type_id = fields.get(place)?;
+        let from = Entry::total(&self.entries, &fields.as_slice()[..place]);
+        Some(Cell { from, type_id })
     }
 
     /// The cells of a value of this type that hold pointers, which are all but those of i64, by
@@ -157,10 +152,15 @@ impl TypeTable {
 
     /// The longer of two tables that agree on the types that both have; else `TypeMismatch` with
     /// the first one that differs.
-    pub fn extends(&self, other: &TypeTable) -> Result<TypeTable, Fault> {
-        for (index, (mine, theirs)) in self.entries.iter().zip(other.entries.iter()).enumerate() {
-            if mine.kind != theirs.kind {
-                return Err(Fault::TypeMismatch((index % 32) as u32));
+    pub fn extends(&self, other: &TypeTable) -> Result<TypeTable, Fault>
+        ensures agree { IsOk result ↔ Agree self.now other.now }
+        ensures longer { IfOk result (λ table. table ≡ longer self.now other.now) }
+        ensures differs { IfErr result (λ fault. (k : ℕ) × (fault ≡ Fault.TypeMismatch k) × IsFirstDifference self.now other.now k) }
+    {
+        let (mine, theirs) = (self.entries.as_slice(), other.entries.as_slice());
+        for index in 0..mine.len().min(theirs.len()) {
+            if mine[index].kind.entry() != theirs[index].kind.entry() {
+                return Err(Fault::TypeMismatch(index as u32));
             }
         }
         if self.len() < other.len() {
