@@ -1,8 +1,8 @@
 -- A value that is split into its cells, part by part, the last part first.
 use Rattle.std.proofs.Common.{◌≡◌, ◌≢◌, ℕ, zero, suc, ◌+◌, ◌*◌, ◌<◌, ◌≤◌, List, [], ◌∷◌, ◌++◌, length, get_or, drop, Some, None, refl, sym, ap, ◌∙◌, subst, arith, sum_by, append_assoc, append-nil, map, reverse}
 use Rattle.std.specs.Prelude.{flat_map, slice_get, All}
-use Rattle.std.specs.List.{AllByRecursion}
-use Rattle.std.proofs.lemmas.List.{map-append, length-append, length-map, reverse-append, drop_more}
+use Rattle.std.specs.List.{AllByRecursion, refill}
+use Rattle.std.proofs.lemmas.List.{map-append, length-append, length-map, reverse-append, take_at}
 use Rattle.std.proofs.lemmas.List.Sums.{sum_by-cons, sum_by-append}
 use Rattle.std.proofs.lemmas.Grind.{flat_map-append}
 use Rattle.seg_spec.specs.Types as types
@@ -11,6 +11,8 @@ use Rattle.seg_spec.proofs.TypesLaws.{size-form, size_large}
 use Rattle.seg_spec.proofs.CellLaws.{leaves, leaves-struct, leaves-i64, leaves-one, leaves-none, IsOne, sum_fields, weight, fields_lighter}
 use Rattle.seg_layout.specs.Forms.{form_of, cell_of}
 use Rattle.seg_layout.specs.declared.kind.Cell.{Cell}
+use Rattle.seg_layout.specs.declared.kind.«Type».{«Type»}
+use Rattle.seg_layout.specs.declared.kind.«Type».TheVariants as kind
 
 abbrev pub cell_size : Table → types.Cell → ℕ
 cell_size table c = size table c.type
@@ -172,3 +174,77 @@ module _ (table : Table) (valid : IsTable table) (T : ℕ) where
           let product : size table c.type * suc c.type ≡ size table c.type * c.type + size table c.type = omega arith in
           let large = size_large table valid c.type in
           omega arith
+
+-- ---- one turn
+
+is_one : (table : Table) (valid : IsTable table) (t : «Type») → (t ≢ kind.I64) → ((fields : List ℕ) → t ≢ kind.Struct fields) → IsOne table valid (form_of t)
+is_one table valid kind.I64 a b = a refl
+is_one table valid kind.Str a b = tt
+is_one table valid (kind.Vec U) a b = tt
+is_one table valid (kind.List U) a b = tt
+is_one table valid (kind.FlatMap U) a b = tt
+is_one table valid (kind.Map U) a b = tt
+is_one table valid (kind.Own U) a b = tt
+is_one table valid (kind.Struct fields) a b = b fields refl
+
+module _ (table : Table) (valid : IsTable table) (T : ℕ) (pending rest : List Cell) (part : Cell) (found : List Cell) (popped : pending ≡ rest ++ part ∷ []) (h : IsSplit table T (map cell_of pending) (map cell_of found)) where
+  parts : map cell_of pending ≡ map cell_of rest ++ cell_of part ∷ []
+  parts = ap (map cell_of) popped ∙ map-append cell_of rest (part ∷ [])
+
+  now : IsSplit table T (map cell_of rest ++ cell_of part ∷ []) (map cell_of found)
+  now = subst (λ ps. IsSplit table T ps (map cell_of found)) parts h
+
+  pub turn_lighter : sum_by (cell_weight table) (map cell_of rest) < sum_by (cell_weight table) (map cell_of pending)
+  turn_lighter = let less = lighter_rest table valid T (map cell_of rest) (cell_of part) (map cell_of found) now in let same = ap (sum_by (cell_weight table)) parts in omega arith
+
+  pub turn_none : form_at table part.type_id ≡ None → IsSplit table T (map cell_of rest) (map cell_of found)
+  turn_none e = split_dropped table valid T (map cell_of rest) (cell_of part) (map cell_of found) now (leaves-none table part.from part.type_id e)
+
+  module _ (t : «Type») (form : form_at table part.type_id ≡ Some (form_of t)) where
+    pub turn_i64 : t ≡ kind.I64 → IsSplit table T (map cell_of rest) (map cell_of found)
+    turn_i64 e = split_dropped table valid T (map cell_of rest) (cell_of part) (map cell_of found) now (leaves-i64 table valid part.from part.type_id (form ∙ ap (λ k. Some (form_of k)) e))
+
+    pub turn_room : length found < 512
+    turn_room = let room = found_room table valid T (map cell_of rest) (cell_of part) (map cell_of found) now in let long = length-map found cell_of in omega arith
+
+    pub turn_found : (more : List Cell) → more ≡ found ++ part ∷ [] → (t ≢ kind.I64) → ((fields : List ℕ) → t ≢ kind.Struct fields) → IsSplit table T (map cell_of rest) (map cell_of more)
+    turn_found more e a b =
+        subst (λ fs. IsSplit table T (map cell_of rest) fs) (sym (ap (map cell_of) e ∙ map-append cell_of found (part ∷ [])))
+          (split_found table valid T (map cell_of rest) (cell_of part) (map cell_of found) now (leaves-one table valid part.from part.type_id (form_of t) form (is_one table valid t a b)))
+
+    module _ (fields : List ℕ) (struct : t ≡ kind.Struct fields) where
+      form_struct : form_at table part.type_id ≡ Some (Form.struct fields)
+      form_struct = form ∙ ap (λ k. Some (form_of k)) struct
+
+      pub turn_fits : part.from + sum_by (size table) fields ≤ 4096
+      turn_fits = fields_fit table valid T (map cell_of rest) (cell_of part) (map cell_of found) now fields form_struct
+
+      pub turn_fields_room : length rest + length fields ≤ 512
+      turn_fields_room = let room = fields_room table valid T (map cell_of rest) (cell_of part) (map cell_of found) now fields form_struct in let long = length-map rest cell_of in omega arith
+
+      module _ (more : List Cell) (pushed : map cell_of more ≡ map cell_of rest ++ fields_from table part.from fields) where
+        pub turn_opened : IsSplit table T (map cell_of more) (map cell_of found)
+        turn_opened = subst (λ ps. IsSplit table T ps (map cell_of found)) (sym pushed) (split_opened table valid T (map cell_of rest) (cell_of part) (map cell_of found) now fields form_struct)
+
+        pub turn_opened_lighter : sum_by (cell_weight table) (map cell_of more) < sum_by (cell_weight table) (map cell_of pending)
+        turn_opened_lighter =
+            let less = lighter_opened table valid T (map cell_of rest) (cell_of part) (map cell_of found) now fields form_struct in
+            let same = ap (sum_by (cell_weight table)) parts in
+            let new = ap (sum_by (cell_weight table)) pushed in
+            omega arith
+
+pub turns_begin : (table : Table) → IsTable table → (T : ℕ) (pending found : List Cell) → pending ≡ record { from = 0; type_id = T } ∷ [] → found ≡ [] → IsSplit table T (map cell_of pending) (map cell_of found)
+turns_begin table valid T pending found p f =
+    subst (λ (cs : List Cell). IsSplit table T (map cell_of cs) (map cell_of found)) (sym p) (subst (λ (cs : List Cell). IsSplit table T (record { from = 0; type = T } ∷ []) (map cell_of cs)) (sym f) (split_begins table valid T))
+
+map-backwards : (cs : List Cell) → map cell_of (reverse cs) ≡ reverse (map cell_of cs)
+map-backwards [] = refl
+map-backwards (c ∷ cs) =
+    ap (map cell_of) (reverse-append (c ∷ []) cs) ∙ map-append cell_of (reverse cs) (c ∷ []) ∙ ap (λ xs. xs ++ cell_of c ∷ []) (map-backwards cs) ∙ sym (reverse-append (cell_of c ∷ []) (map cell_of cs))
+
+pub turns_end : (table : Table) (T : ℕ) (pending found backwards : List Cell) → length pending ≡ 0 → backwards ≡ reverse found → IsSplit table T (map cell_of pending) (map cell_of found) → map cell_of backwards ≡ pointers table T
+turns_end table T [] found backwards e b h = ap (map cell_of) b ∙ map-backwards found ∙ h.split
+turns_end table T (c ∷ cs) found backwards e b h = absurd (omega arith)
+
+pub refill_whole : (n : ℕ) (xs ws : List Cell) → length ws ≡ n → refill n xs ws ≡ ws
+refill_whole n xs ws e = take_at ws (drop (length ws) xs) n e

@@ -1,5 +1,6 @@
-ghost use Rattle.std.specs.Prelude.{◌≡◌, ℕ, ◌<◌, ◌≤◌, ◌==◌, ◌↔◌, [], length, slice_get, IsOk, IfOk, IfErr};
-ghost use Rattle.seg_spec.specs.Types.{Agree, IsFirstDifference, longer, fields_of, IsTable, form_at, entry_at, size, Spells, IsWrong, IsFirstWrong};
+ghost use Rattle.std.specs.Prelude.{◌≡◌, ℕ, ◌<◌, ◌≤◌, ◌==◌, ◌↔◌, ◌+◌, ◌++◌, [], map, sum_by, length, slice_get, IsOk, IfOk, IfErr};
+ghost use Rattle.arrayvec.specs.ArrayVec.{array_vec_len};
+ghost use Rattle.seg_spec.specs.Types.{Agree, IsFirstDifference, longer, fields_of, fields_from, pointers, IsTable, form_at, entry_at, size, Spells, IsWrong, IsFirstWrong};
 ghost use Rattle.seg_layout.specs.Forms.{cell_of, form_of, map_option};
 
 use crate::entry::{Entries, Entry, MAX_TYPES, Slot};
@@ -103,40 +104,44 @@ impl TypeTable {
 
     /// The cells of a value of this type that hold pointers, which are all but those of i64, by
     /// ascending position.
-    pub fn pointers(&self, t: TypeId) -> ArrayVec<Cell, 512> {
+    pub fn pointers(&self, t: TypeId) -> ArrayVec<Cell, 512>
+        ensures { map cell_of result.items ≡ pointers self.now t }
+    {
+        let _ = &self.entries;
         let mut found = ArrayVec::new();
         let mut pending = ArrayVec::new();
         pending.push(Cell {
             from: 0,
             type_id: t,
         });
-        for _ in 0..0x20000 {
-            let Some(part) = pending.pop() else {
-                break;
-            };
+        while let Some(part) = pending.pop() {
             let Some(kind) = self.kind(part.type_id) else {
                 continue;
             };
             match kind {
                 Type::I64 => {}
-                Type::Struct(fields) => self.push_fields(&mut pending, part, fields),
-                _ => {
-                    let _ = found.try_push(part);
-                }
+                Type::Struct(fields) => self.push_fields(&mut pending, part.from, &fields),
+                _ => found.push(part),
             }
         }
+        // The last part of a value is looked at first.
+        found.reverse();
         found
     }
 
-    /// Adds the fields of a part that is a struct, the first one last.
-    fn push_fields(&self, pending: &mut ArrayVec<Cell, 512>, part: Cell, fields: Fields) {
-        let mut end = part.from.saturating_add(self.size(part.type_id));
-        for field in fields.as_slice().iter().rev() {
-            end = end.saturating_sub(self.size(*field));
-            let _ = pending.try_push(Cell {
-                from: end,
+    /// Adds the fields of a struct that begins at this distance.
+    fn push_fields(&self, pending: &mut ArrayVec<Cell, MAX_CELLS>, start: u32, fields: &Fields)
+        requires room { array_vec_len pending.old + length fields.now ≤ 512 }
+        requires fits { start + sum_by (size self.now) fields.now ≤ 4096 }
+        ensures { map cell_of pending.new.items ≡ map cell_of pending.old.items ++ fields_from self.now start fields.now }
+    {
+        let mut from = start;
+        for field in fields.as_slice() {
+            pending.push(Cell {
+                from,
                 type_id: *field,
             });
+            from += self.size(*field);
         }
     }
 
