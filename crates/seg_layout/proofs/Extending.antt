@@ -35,7 +35,7 @@ module _ (mine theirs : List Entry) (k : ℕ) (in_mine : k < length mine) (in_th
       let left = length-map mine (λ (e : Entry). form_of e.kind) in
       let right = length-map theirs (λ (e : Entry). form_of e.kind) in
       take_more_same (forms mine) (forms theirs) k (form_of x.kind) (omega arith) (omega arith) before
-        (get_or_forms mine k x ∙ ap (λ (e : Entry). form_of e.kind) (sym x_is) ∙ same ∙ ap (λ (e : Entry). form_of e.kind) y_is ∙ sym (get_or_forms theirs k y) ∙ ap (λ d. get_or (forms theirs) k d) (sym same))
+      (get_or_forms mine k x ∙ ap (λ (e : Entry). form_of e.kind) (sym x_is) ∙ same ∙ ap (λ (e : Entry). form_of e.kind) y_is ∙ sym (get_or_forms theirs k y) ∙ ap (λ d. get_or (forms theirs) k d) (sym same))
 
   pub first_difference : (old new : Table) → forms mine ≡ old → forms theirs ≡ new → (form_of x.kind ≡ form_of y.kind → ⊥) → IsFirstDifference old new k
   first_difference old new is_old is_new differ =

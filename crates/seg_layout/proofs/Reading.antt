@@ -51,10 +51,13 @@ module _ (bytes : List ℕ) (k : ℕ) (begun : 16 * k < length bytes) where
   past_limit h = (begun, λ right. absurd (let few = right.0 in omega arith))
 
   short : length (slice bytes (16 * k) 16) < 16 → IsWrong bytes k
-  short h = (begun, λ right. elim right.1 [
-    | inl zeros ↦ absurd (let n = ap length zeros in omega arith)
-    | inr entry ↦ absurd (let n = ap length (entry.1.spelled) in let large = form_bytes_large entry.0 in omega arith)
-  ])
+  short h = (
+    begun,
+    λ right. elim right.1 [
+      | inl zeros ↦ absurd (let n = ap length zeros in omega arith)
+      | inr entry ↦ absurd (let n = ap length (entry.1.spelled) in let large = form_bytes_large entry.0 in omega arith)
+    ],
+  )
 
   pub cut : length bytes < 16 * k + 16 → IsWrong bytes k
   unfolding slice
@@ -62,17 +65,23 @@ module _ (bytes : List ℕ) (k : ℕ) (begun : 16 * k < length bytes) where
 
   module _ (used : slice bytes (16 * k) 16 ≢ replicate 16 0) where
     pub no_form : ((form : Form) → HasFewFields form → slice bytes (16 * k) 16 ≢ form_bytes form) → IsWrong bytes k
-    no_form h = (begun, λ right. elim right.1 [
-      | inl zeros ↦ used zeros
-      | inr entry ↦ h entry.0 (few_fields bytes k entry.0 entry.1.names_used) entry.1.spelled
-    ])
+    no_form h = (
+      begun,
+      λ right. elim right.1 [
+        | inl zeros ↦ used zeros
+        | inr entry ↦ h entry.0 (few_fields bytes k entry.0 entry.1.names_used) entry.1.spelled
+      ],
+    )
 
     module _ (form : Form) (spelled : slice bytes (16 * k) 16 ≡ form_bytes form) where
       pub unnamed : (NamesUsed bytes k form → ⊥) → IsWrong bytes k
-      unnamed h = (begun, λ right. elim right.1 [
-        | inl zeros ↦ used zeros
-        | inr entry ↦ h (subst (NamesUsed bytes k) (one_form entry.0 form (sym (entry.1.spelled) ∙ spelled)) entry.1.names_used)
-      ])
+      unnamed h = (
+        begun,
+        λ right. elim right.1 [
+          | inl zeros ↦ used zeros
+          | inr entry ↦ h (subst (NamesUsed bytes k) (one_form entry.0 form (sym (entry.1.spelled) ∙ spelled)) entry.1.names_used)
+        ],
+      )
 
 -- ---- behind the entries of a table
 
@@ -105,10 +114,13 @@ module _ (bytes : List ℕ) (k : ℕ) (table : Table) (read : IsReadTo bytes k t
 
   module _ (begun : 16 * k < length bytes) where
     pub behind_unused : slice bytes (16 * k) 16 ≢ replicate 16 0 → length table < k → IsWrong bytes k
-    behind_unused used h = (begun, λ right. elim right.1 [
-      | inl zeros ↦ used zeros
-      | inr entry ↦ unused_behind (length table) (omega arith) h (entry.1.behind_used (length table) h)
-    ])
+    behind_unused used h = (
+      begun,
+      λ right. elim right.1 [
+        | inl zeros ↦ used zeros
+        | inr entry ↦ unused_behind (length table) (omega arith) h (entry.1.behind_used (length table) h)
+      ],
+    )
 
   module _ (full : length table ≡ k) where
     exact : take (16 * k) bytes ≡ flat
@@ -118,14 +130,17 @@ module _ (bytes : List ℕ) (k : ℕ) (table : Table) (read : IsReadTo bytes k t
         read.spelled ∙ ap (λ n. flat ++ replicate n 0) none ∙ append-nil flat
 
     pub large : 16 * k < length bytes → slice bytes (16 * k) 16 ≢ replicate 16 0 → (form : Form) → slice bytes (16 * k) 16 ≡ form_bytes form → 4096 < size_of_form table form → IsWrong bytes k
-    large begun used form spelled big = (begun, λ right. elim right.1 [
-      | inl zeros ↦ used zeros
-      | inr entry ↦
-          let small = entry.1.small table full exact in
-          let same : entry.0 ≡ form = one_form entry.0 form (sym (entry.1.spelled) ∙ spelled) in
-          let two : size_of_form table entry.0 ≡ size_of_form table form = ap (size_of_form table) same in
-          absurd (omega arith)
-    ])
+    large begun used form spelled big = (
+      begun,
+      λ right. elim right.1 [
+        | inl zeros ↦ used zeros
+        | inr entry ↦
+            let small = entry.1.small table full exact in
+            let same : entry.0 ≡ form = one_form entry.0 form (sym (entry.1.spelled) ∙ spelled) in
+            let two : size_of_form table entry.0 ≡ size_of_form table form = ap (size_of_form table) same in
+            absurd (omega arith)
+      ],
+    )
 
     pub is_entry : (form : Form) → slice bytes (16 * k) 16 ≡ form_bytes form → NamesUsed bytes k form → size_of_form table form ≤ 4096 → IsEntry bytes k form
     is_entry form spelled named small = record {
@@ -236,7 +251,7 @@ module _ (bytes : List ℕ) (k : ℕ) (table : Table) (read : IsReadTo bytes k t
           | inr new ↦ (
               let here : T ≡ k = omega (arith, new.0) in
               subst (λ (i : ℕ). NamesUsed bytes i found) (sym here) (subst (NamesUsed bytes k) (sym new.1) entry.names_used)
-            )
+              )
         ];
         small = size_push table form small read.small;
         right = right_more (limit, inr (form, entry));
@@ -267,7 +282,7 @@ module _ (bytes : List ℕ) (k : ℕ) (table : Table) (read : IsReadTo bytes k t
         let none = no_kind_at table (16 * k) (16 * U) (each_long bytes k table read) (omega arith) in
         let there = ap (λ xs. get_or xs (16 * U) 0) (sym all_read ∙ read.spelled) in
         absurd (omega arith)
-      )
+        )
   ]
 
   pub is_table : IsTable table

@@ -210,7 +210,7 @@ module _ (table : Table) (valid : IsTable table) (T : ℕ) (pending rest : List 
     pub turn_found : (more : List Cell) → more ≡ found ++ part ∷ [] → (t ≢ kind.I64) → ((fields : List ℕ) → t ≢ kind.Struct fields) → IsSplit table T (map cell_of rest) (map cell_of more)
     turn_found more e a b =
         subst (λ fs. IsSplit table T (map cell_of rest) fs) (sym (ap (map cell_of) e ∙ map-append cell_of found (part ∷ [])))
-          (split_found table valid T (map cell_of rest) (cell_of part) (map cell_of found) now (leaves-one table valid part.from part.type_id (form_of t) form (is_one table valid t a b)))
+        (split_found table valid T (map cell_of rest) (cell_of part) (map cell_of found) now (leaves-one table valid part.from part.type_id (form_of t) form (is_one table valid t a b)))
 
     module _ (fields : List ℕ) (struct : t ≡ kind.Struct fields) where
       form_struct : form_at table part.type_id ≡ Some (Form.struct fields)

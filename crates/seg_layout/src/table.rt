@@ -186,4 +186,3 @@ impl TypeTable {
         TypeTable { entries }
     }
 }
-

@@ -11,7 +11,7 @@ first c =
     let end = c.min-index-end.ensures in
     let differ : form_bytes (form_of c.index-mine-index.result.kind) ≡ form_bytes (form_of c.index-theirs-index.result.kind) → ⊥ = search rules in
     first_difference c.as_slice-mine.result.now c.as_slice-theirs.result.now c.loop-index.index (omega arith) (omega arith) c.index-mine-index.result c.index-theirs-index.result c.index-mine-index.is c.index-theirs-index.is c.loop-index.invariant
-      c.args.self.now c.args.other.now (ap forms c.as_slice-mine.ensures.value ∙ c.self.view_is) (ap forms c.as_slice-theirs.ensures.value ∙ c.other.view_is) (λ same. differ (ap form_bytes same))
+    c.args.self.now c.args.other.now (ap forms c.as_slice-mine.ensures.value ∙ c.self.view_is) (ap forms c.as_slice-theirs.ensures.value ∙ c.other.view_is) (λ same. differ (ap form_bytes same))
 
 pub returns-then-ne-clause-agree : goal.returns-then-ne-clause-agree
 returns-then-ne-clause-agree c = (λ never. cc, λ same. absurd (no_agreement c.args.self.now c.args.other.now c.loop-index.index (first c) same))

@@ -14,4 +14,4 @@ pub returns : goal.returns
 returns c =
     let sizes = total_sized c.self.inside.entries.items c.args.self.now (take c.args.index c.as_slice.result.now) c.total-from.result c.self.invariant.sized c.self.view_is c.total-from.ensures.total in
     field_at c.args.self.now c.args.t c.in-Struct.fields c.args.index c.in_ok-type_id.type_id c.total-from.result (c.in_ok-kind.ensures ∙ ap (λ kind. Some (form_of kind)) c.in-Struct.is) (sym c.in_ok-type_id.ensures)
-      (sizes ∙ ap (λ fields. sum_by (size c.args.self.now) (take c.args.index fields)) c.as_slice.ensures.types)
+    (sizes ∙ ap (λ fields. sum_by (size c.args.self.now) (take c.args.index fields)) c.as_slice.ensures.types)

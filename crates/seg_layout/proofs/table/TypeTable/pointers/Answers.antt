@@ -64,4 +64,4 @@ returns c =
     let empty : length c.loop-part.pending.items ≡ 0 = none_left (length c.loop-part.pending.items) (λ h. let never = some.1 h in cc) in
     let backwards : c.reverse.new.self ≡ reverse c.loop-part.found.items = c.reverse.ensures.after ∙ ap reverse c.deref_mut.ensures.value in
     turns_end c.args.self.now c.args.t c.loop-part.pending.items c.loop-part.found.items (refill (length c.loop-part.found.items) c.loop-part.found.items c.reverse.new.self) empty
-      (refill_whole (length c.loop-part.found.items) c.loop-part.found.items c.reverse.new.self (ap length backwards ∙ length-reverse c.loop-part.found.items) ∙ backwards) c.loop-part.invariant
+    (refill_whole (length c.loop-part.found.items) c.loop-part.found.items c.reverse.new.self (ap length backwards ∙ length-reverse c.loop-part.found.items) ∙ backwards) c.loop-part.invariant

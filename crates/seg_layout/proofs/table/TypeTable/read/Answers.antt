@@ -18,11 +18,11 @@ loop-index-preserved c =
       | in-Used w ↦ (
           let on = read_used c.args.bytes.now c.loop-index.index c.loop-index.entries.items c.match-read.entries.items w.in-Used.entry (ap (λ v. v.items) w.entries-is ∙ w.push.ensures.items) c.loop-index.invariant.read c.loop-index.invariant.sized w.in-Used.ensures w.in-Used.entry.small in
           record { read = on.0; sized = on.1 }
-        )
+          )
       | in-Unused w ↦ (
           let on = read_unused c.args.bytes.now c.loop-index.index c.loop-index.entries.items c.match-read.entries.items (ap (λ v. v.items) w.entries-is) c.loop-index.invariant.read c.loop-index.invariant.sized w.in-Unused.ensures in
           record { read = on.0; sized = on.1 }
-        )
+          )
     ]
 
 pub invariant_of-result : goal.invariant_of-result
