@@ -1,6 +1,6 @@
-ghost use Rattle.std.specs.Prelude.{◌≡◌, ℕ, ◌<◌, ◌≤◌, ◌==◌, ◌↔◌, ◌+◌, ◌++◌, [], map, sum_by, length, slice_get, IsOk, IfOk, IfErr};
+ghost use Rattle.std.specs.Prelude.{◌≡◌, ℕ, ◌<◌, ◌≤◌, ◌==◌, ◌↔◌, ◌%◌, ◌+◌, ◌++◌, [], map, sum_by, length, slice_get, IsOk, IfOk, IfErr};
 ghost use Rattle.arrayvec.specs.ArrayVec.{array_vec_len};
-ghost use Rattle.seg_spec.specs.Types.{Agree, IsFirstDifference, longer, fields_of, fields_from, pointers, IsTable, form_at, entry_at, size, Spells, IsWrong, IsFirstWrong};
+ghost use Rattle.seg_spec.specs.Types.{Table, Agree, IsFirstDifference, longer, fields_of, fields_from, pointers, IsTable, form_at, entry_at, size, Spells, IsWrong, IsFirstWrong};
 ghost use Rattle.seg_layout.specs.Forms.{cell_of, form_of, map_option};
 
 use crate::entry::{Entries, Entry, MAX_TYPES, Slot};
@@ -46,6 +46,7 @@ impl TypeTable {
         ensures right { IsOk result ↔ ((k : ℕ) → IsWrong bytes.now k → ⊥) }
         ensures table { IfOk result (λ table. IsTable table × Spells bytes.now table) }
         ensures wrong { IfErr result (λ fault. (k : ℕ) × (fault ≡ Fault.BadType k) × IsFirstWrong bytes.now k) }
+        ensures given { (table : Table) → IsTable table → Spells bytes.now table → length bytes.now % 16 ≡ 0 → length bytes.now ≤ 512 → result ≡ Ok table }
     {
         let mut entries = ArrayVec::new();
         for index in 0..bytes.len().div_ceil(ENTRY) {
@@ -107,6 +108,7 @@ impl TypeTable {
     pub fn pointers(&self, t: TypeId) -> ArrayVec<Cell, 512>
         ensures { map cell_of result.items ≡ pointers self.now t }
     {
+        // The sizes of a valid table bound what is found and pending.
         let _ = &self.entries;
         let mut found = ArrayVec::new();
         let mut pending = ArrayVec::new();

@@ -38,3 +38,6 @@ returns-clause-table c =
     let b = c.div_ceil-index-end.ensures in
     let ended : length c.args.bytes.now ≤ 16 * c.loop-index.index = omega arith in
     (is_table c.args.bytes.now c.loop-index.index (forms c.loop-index.entries.items) c.loop-index.invariant.read ended, is_spelled c.args.bytes.now c.loop-index.index (forms c.loop-index.entries.items) c.loop-index.invariant.read ended)
+
+pub returns-clause-given : goal.returns-clause-given
+returns-clause-given c = ?
