@@ -1,11 +1,6 @@
-<<<<<<< HEAD
-ghost use Rattle.std.specs.Prelude.{◌≡◌, ℕ, ◌<◌, ◌≤◌, ◌==◌, ◌↔◌, [], length, slice_get, IsOk, IfOk, IfErr};
-ghost use Rattle.seg_spec.specs.Types.{Agree, IsFirstDifference, longer, fields_of, IsTable, form_at, entry_at, size, Spells, IsWrong, IsFirstWrong};
-=======
 ghost use Rattle.std.specs.Prelude.{◌≡◌, ℕ, ◌<◌, ◌≤◌, ◌==◌, ◌↔◌, ◌%◌, ◌+◌, ◌++◌, [], map, sum_by, length, slice_get, IsOk, IfOk, IfErr};
 ghost use Rattle.arrayvec.specs.ArrayVec.{array_vec_len};
 ghost use Rattle.seg_spec.specs.Types.{Table, Agree, IsFirstDifference, longer, fields_of, fields_from, pointers, IsTable, form_at, entry_at, size, Spells, IsWrong, IsFirstWrong};
->>>>>>> a235e4f9a7ca667e53cc09b5fd7712823cc65288
 ghost use Rattle.seg_layout.specs.Forms.{cell_of, form_of, map_option};
 
 use crate::entry::{Entries, Entry, MAX_TYPES, Slot};
@@ -51,10 +46,7 @@ impl TypeTable {
         ensures right { IsOk result ↔ ((k : ℕ) → IsWrong bytes.now k → ⊥) }
         ensures table { IfOk result (λ table. IsTable table × Spells bytes.now table) }
         ensures wrong { IfErr result (λ fault. (k : ℕ) × (fault ≡ Fault.BadType k) × IsFirstWrong bytes.now k) }
-<<<<<<< HEAD
-=======
         ensures given { (table : Table) → IsTable table → Spells bytes.now table → length bytes.now % 16 ≡ 0 → length bytes.now ≤ 512 → result ≡ Ok table }
->>>>>>> a235e4f9a7ca667e53cc09b5fd7712823cc65288
     {
         let mut entries = ArrayVec::new();
         for index in 0..bytes.len().div_ceil(ENTRY) {
@@ -113,54 +105,23 @@ impl TypeTable {
 
     /// The cells of a value of this type that hold pointers, which are all but those of i64, by
     /// ascending position.
-<<<<<<< HEAD
-    pub fn pointers(&self, t: TypeId) -> ArrayVec<Cell, 512> {
-=======
     pub fn pointers(&self, t: TypeId) -> ArrayVec<Cell, 512>
         ensures { map cell_of result.items ≡ pointers self.now t }
     {
         // The sizes of a valid table bound what is found and pending.
         let _ = &self.entries;
->>>>>>> a235e4f9a7ca667e53cc09b5fd7712823cc65288
         let mut found = ArrayVec::new();
         let mut pending = ArrayVec::new();
         pending.push(Cell {
             from: 0,
             type_id: t,
         });
-<<<<<<< HEAD
-        for _ in 0..0x20000 {
-            let Some(part) = pending.pop() else {
-                break;
-            };
-=======
         while let Some(part) = pending.pop() {
->>>>>>> a235e4f9a7ca667e53cc09b5fd7712823cc65288
             let Some(kind) = self.kind(part.type_id) else {
                 continue;
             };
             match kind {
                 Type::I64 => {}
-<<<<<<< HEAD
-                Type::Struct(fields) => self.push_fields(&mut pending, part, fields),
-                _ => {
-                    let _ = found.try_push(part);
-                }
-            }
-        }
-        found
-    }
-
-    /// Adds the fields of a part that is a struct, the first one last.
-    fn push_fields(&self, pending: &mut ArrayVec<Cell, 512>, part: Cell, fields: Fields) {
-        let mut end = part.from.saturating_add(self.size(part.type_id));
-        for field in fields.as_slice().iter().rev() {
-            end = end.saturating_sub(self.size(*field));
-            let _ = pending.try_push(Cell {
-                from: end,
-                type_id: *field,
-            });
-=======
                 Type::Struct(fields) => self.push_fields(&mut pending, part.from, &fields),
                 _ => found.push(part),
             }
@@ -183,7 +144,6 @@ impl TypeTable {
                 type_id: *field,
             });
             from += self.size(*field);
->>>>>>> a235e4f9a7ca667e53cc09b5fd7712823cc65288
         }
     }
 
@@ -228,7 +188,3 @@ impl TypeTable {
         TypeTable { entries }
     }
 }
-<<<<<<< HEAD
-
-=======
->>>>>>> a235e4f9a7ca667e53cc09b5fd7712823cc65288

@@ -1,15 +1,4 @@
 -- The pointers in a value are those of its fields in turn.
-<<<<<<< HEAD
-use Rattle.std.proofs.Common.{◌≡◌, ℕ, zero, suc, ◌+◌, ◌*◌, ◌<◌, ◌≤◌, List, [], ◌∷◌, ◌++◌, length, get_or, Some, None, refl, sym, ap, ◌∙◌, subst, arith, add-zero, add_assoc, Bool, true, false, sum_by, cond}
-use Rattle.std.proofs.Math.Nat.{mul-le-mul_left}
-use Rattle.std.proofs.lemmas.List.Elements.{filter-append}
-use Rattle.std.specs.Prelude.{All, slice_get, filter, flat_map, map, Option}
-use Rattle.std.proofs.lemmas.List.{map-append, append_assoc, length-append, get_or_past}
-use Rattle.std.proofs.lemmas.List.Sums.{sum_by-cons}
-use Rattle.std.proofs.lemmas.List.Elements.{All-head, All-tail}
-use Rattle.seg_spec.specs.Types.{Form, Table, form_at, size, size_of_form, IsForm, IsTable, built, Cell, shifted, cells, cells_by, cells_of_fields, is_pointer, pointers, fields_from}
-use Rattle.seg_spec.proofs.TypesLaws.{built_at, size-form, size_large}
-=======
 use Rattle.std.proofs.Common.{◌≡◌, ℕ, zero, suc, ◌+◌, ◌*◌, ◌<◌, ◌≤◌, List, [], ◌∷◌, ◌++◌, length, get_or, Some, None, refl, sym, ap, ◌∙◌, arith, add-zero, add_assoc, Bool, true, false, sum_by, cond}
 use Rattle.std.proofs.Math.Nat.{mul-le-mul_left}
 use Rattle.std.proofs.lemmas.List.Elements.{filter-append}
@@ -19,7 +8,6 @@ use Rattle.std.proofs.lemmas.List.Sums.{sum_by-cons}
 use Rattle.std.proofs.lemmas.List.Elements.{All-head, All-tail}
 use Rattle.seg_spec.specs.Types.{Form, Table, form_at, size, IsForm, IsTable, built, Cell, shifted, cells, cells_by, cells_of_fields, is_pointer, pointers, fields_from}
 use Rattle.seg_spec.proofs.TypesLaws.{built_at}
->>>>>>> a235e4f9a7ca667e53cc09b5fd7712823cc65288
 use Rattle.seg_spec.proofs.EntryLaws.{length-built}
 
 cells_fields_agree : (table : Table) (xs ys : List (List Cell)) (k n : ℕ) (Us : List ℕ) → ((U : ℕ) → U < k → get_or xs U [] ≡ get_or ys U []) → All (λ U. U < k) Us → cells_of_fields table xs n Us ≡ cells_of_fields table ys n Us
@@ -152,14 +140,7 @@ fields_lighter table T [] h = omega arith
 fields_lighter table T (U ∷ Us) h =
     let low : suc U ≤ T = All-head (λ V. V < T) U Us h in
     both_lighter _ (size table U * suc U) (sum_by (weight table) Us) (size table U * T) (sum_by (size table) Us * T) _
-<<<<<<< HEAD
-      (sum_by-cons (weight table) U Us)
-      (mul-le-mul_left (size table U) low)
-      (fields_lighter table T Us (All-tail (λ V. V < T) U Us h))
-      (ap (λ n. n * T) (sum_by-cons (size table) U Us) ∙ times_sum (size table U) (sum_by (size table) Us) T)
-=======
     (sum_by-cons (weight table) U Us)
     (mul-le-mul_left (size table U) low)
     (fields_lighter table T Us (All-tail (λ V. V < T) U Us h))
     (ap (λ n. n * T) (sum_by-cons (size table) U Us) ∙ times_sum (size table U) (sum_by (size table) Us) T)
->>>>>>> a235e4f9a7ca667e53cc09b5fd7712823cc65288

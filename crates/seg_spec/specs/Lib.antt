@@ -2,4 +2,15 @@ pub mod Bytes
 pub mod Pointer
 pub mod Window
 pub mod Types
+pub mod Shapes
 pub mod Heap
+pub mod Value
+pub mod Block
+pub mod Reads
+pub mod Fresh
+pub mod Apart
+pub mod Index
+pub mod Sound
+pub mod Roots
+pub mod Demand
+pub mod Fixtures

@@ -1,0 +1,11 @@
+use Rattle.seg_spec.proofs.FreeLaws.{gaps-by_size, times-by_size, by_size-middle}
+use Rattle.seg_spec.proofs.heaps.each_gap_by_size.Goals as goal
+
+pub returns-clause-ordered : goal.returns-clause-ordered
+returns-clause-ordered c = λ bytes allocator heap. gaps-by_size bytes allocator heap
+
+pub returns-clause-once : goal.returns-clause-once
+returns-clause-once c = λ position gs. times-by_size position gs
+
+pub returns-clause-inserted : goal.returns-clause-inserted
+returns-clause-inserted c = λ before gap after. by_size-middle before gap after

@@ -1,0 +1,56 @@
+-- What is asked of the heap, in order, and what is given back.
+--     need n                              the units of a block for n payload bytes
+--     Ask                                 a request: the block that may grow, the preferred and the least units
+--     block_for n, growth old item n m    the request for a new block; that of a buffer of n items which is to hold m
+--     after_asks allocator bs end asks    the live blocks after requests that are all granted
+--     NoRoom allocator bs end asks        one of the requests gets nothing, after those before it were granted
+--     after_gives bs ats                  the live blocks after these were given back
+use Rattle.std.specs.Prelude.{◌≡◌, ℕ, ◌+◌, ◌-◌, ◌*◌, ◌/◌, max, nat_le, if◌then◌else◌, List, [], ◌∷◌, Option, Some, None, option_and_then}
+use Rattle.seg_spec.specs.Heap.{Span, room_at, Granted, same, fresh, after_give, after_request, after_request_at}
+
+abbrev pub need : ℕ → ℕ
+need n = max 2 (1 + (n + 15) / 16)
+
+pub record Ask : Type 0 where
+  pub old : Option ℕ
+  pub preferred : ℕ
+  pub limit : ℕ
+
+-- the request for a new block of so many units
+abbrev pub units_for : ℕ → Ask
+units_for u = record { old = None; preferred = u; limit = u }
+
+abbrev pub block_for : ℕ → Ask
+block_for n = units_for (need n)
+
+-- a buffer of items of some bytes each, which holds `count` items and is to hold `wanted`
+abbrev pub growth : Option ℕ → ℕ → ℕ → ℕ → Ask
+growth old item count wanted = record { old = old; preferred = need (max 4 (max (2 * count) wanted) * item); limit = need (wanted * item) }
+
+-- the growth, where a block of so many units doesn't hold the items that are wanted
+abbrev pub growth_if_needed : ℕ → Option ℕ → ℕ → ℕ → ℕ → List Ask
+growth_if_needed units old item count wanted = if nat_le (wanted * item) (16 * units - 16) then [] else growth old item count wanted ∷ []
+
+-- ---- requests on the live blocks of a heap that ends at a position
+
+abbrev pub after_request_of : ℕ → List Span → ℕ → Option ℕ → ℕ → ℕ → Option Granted
+after_request_of allocator bs end None preferred limit = after_request allocator bs end preferred limit
+after_request_of allocator bs end (Some at) preferred limit = after_request_at allocator bs end at (room_at bs at) preferred limit
+
+abbrev pub after_ask : ℕ → List Span → ℕ → Ask → Option Granted
+after_ask allocator bs end ask = after_request_of allocator bs end ask.old ask.preferred ask.limit
+
+abbrev pub blocks_then : Granted → List Span
+blocks_then (same bs) = bs
+blocks_then (fresh at bs) = bs
+
+abbrev pub after_asks : ℕ → List Span → ℕ → List Ask → Option (List Span)
+after_asks allocator bs end [] = Some bs
+after_asks allocator bs end (ask ∷ asks) = option_and_then (λ g. after_asks allocator (blocks_then g) end asks) (after_ask allocator bs end ask)
+
+abbrev pub NoRoom : ℕ → List Span → ℕ → List Ask → Type 0
+NoRoom allocator bs end asks = after_asks allocator bs end asks ≡ None
+
+abbrev pub after_gives : List Span → List ℕ → List Span
+after_gives bs [] = bs
+after_gives bs (at ∷ ats) = after_gives (after_give bs at) ats

@@ -1,0 +1,51 @@
+//! Laws of values, and of the places that hold them.
+
+ghost use Rattle.std.specs.Prelude.{◌≡◌, ℕ, ◌<◌, List, [], ◌++◌, length, All};
+ghost use Rattle.std.specs.List.{AllByRecursion};
+ghost use Rattle.seg_spec.specs.Bytes.{IsSame};
+ghost use Rattle.seg_spec.specs.Types.{Table, IsTable, size};
+ghost use Rattle.seg_spec.specs.Value.{Value, Has, default_of, Selector};
+ghost use Rattle.seg_spec.specs.Block.{KeepsBlock};
+ghost use Rattle.seg_spec.specs.Reads.{Place, Holds, Leads};
+ghost use Rattle.seg_spec.specs.Fresh.{IsFresh};
+ghost use Rattle.seg_spec.specs.Apart.{ComesApart};
+
+/// A place holds at most one value, and owns one list of blocks.
+pub fn one_value()
+    ensures { (bytes : List ℕ) (table : Table) (place : Place) (v w : Value) (xs ys : List ℕ) →
+        Holds bytes table place v xs → Holds bytes table place w ys → (v ≡ w) × (xs ≡ ys) }
+{}
+
+/// Where a place and the blocks that it owns are kept, it holds the same value.
+pub fn same_value()
+    ensures { (old new : List ℕ) (table : Table) (place : Place) (v : Value) (blocks : List ℕ) →
+        IsTable table → IsSame old new place.at (size table place.type) → AllByRecursion (KeepsBlock old new) blocks →
+        Holds old table place v blocks → Holds new table place v blocks }
+{}
+
+/// A value is what stands at a path and what is around it. Where what is around is kept, and the place there comes to
+/// hold another value, the whole changes by that value alone.
+pub fn changing()
+    ensures { (bytes : List ℕ) (table : Table) (place inner : Place) (path : List Selector) (v : Value) (blocks : List ℕ) →
+        IsTable table → Leads bytes table place path inner → Holds bytes table place v blocks →
+        ComesApart bytes table place path inner v blocks }
+{}
+
+/// A place whose cells are 0 or name nothing holds the default of its type.
+pub fn defaulting()
+    ensures { (bytes : List ℕ) (table : Table) (place : Place) →
+        IsTable table → place.type < length table → IsFresh bytes table place →
+        Holds bytes table place (default_of table place.type) [] }
+{}
+
+/// What a place of a type holds fits the type.
+pub fn fitting()
+    ensures { (bytes : List ℕ) (table : Table) (place : Place) (v : Value) (blocks : List ℕ) →
+        All (λ b. b < 256) bytes → Holds bytes table place v blocks → Has table place.type v }
+{}
+
+/// A value stays the same where types are added.
+pub fn more_types()
+    ensures { (bytes : List ℕ) (old more : Table) (place : Place) (v : Value) (blocks : List ℕ) →
+        IsTable old → Holds bytes old place v blocks → Holds bytes (old ++ more) place v blocks }
+{}
