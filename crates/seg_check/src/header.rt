@@ -15,7 +15,10 @@ pub(crate) fn check_header<A: Allocator>(w: &Window<A>) -> Result<(), Fault>
     ensures { OnOk result (736 ≤ length w.now.bytes) }
 {
     let len = w.len();
-    let sized = len >= MIN_LEN && len <= MAX_LEN && len % UNIT == 0 && w.get32(header::SIZE) == len / UNIT;
+    let sized = len >= MIN_LEN
+        && len <= MAX_LEN
+        && len % UNIT == 0
+        && w.get32(header::SIZE) == len / UNIT;
     if sized && has_known_words(w) {
         Ok(())
     } else {
@@ -31,5 +34,7 @@ fn has_known_words<A: Allocator>(w: &Window<A>) -> bool {
         && w.get32(header::ALLOCATOR) == 0
         && w.get32(header::INDEX_KIND) == 0
         && w.get32(header::ZERO) == 0
-        && w.slice(header::RESERVED, header::TYPES - header::RESERVED).iter().all(|byte| *byte == 0)
+        && w.slice(header::RESERVED, header::TYPES - header::RESERVED)
+            .iter()
+            .all(|byte| *byte == 0)
 }

@@ -83,7 +83,7 @@ impl<A: Allocator> Region<A> {
         ensures bytes { self.new ≡ set_word self.old at value }
         ensures length { length self.new ≡ length self.old }
     {
-        self.copy_in(at, &value.to_le_bytes());
+        self.copy_in(at, &u32::to_le_bytes(value));
     }
 
     pub fn put64(&mut self, at: usize, value: u64)
@@ -91,7 +91,7 @@ impl<A: Allocator> Region<A> {
         ensures bytes { self.new ≡ set_long self.old at value }
         ensures length { length self.new ≡ length self.old }
     {
-        self.copy_in(at, &value.to_le_bytes());
+        self.copy_in(at, &u64::to_le_bytes(value));
     }
 
     /// The `n` bytes from a position on.
