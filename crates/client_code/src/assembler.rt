@@ -1,6 +1,6 @@
-use crate::client::{MAGIC, VERSION, parse};
+use crate::client::parse;
 use crate::item::Item;
-use crate::outline::{Outline, is_skipped};
+use crate::outline::{header_of, is_skipped};
 use crate::types::TYPES_AT;
 use seg_raw::Fault;
 use std::alloc::{AllocError, Allocator};
@@ -22,19 +22,11 @@ pub fn assemble<A: Allocator>(alloc: A, text: &[u8]) -> Result<Vec<u8, A>, Fault
     }
 }
 
-/// Writes a file: the header of the text's outline, and what its lines say, up to the first that says nothing of a client.
+/// Writes a file: the header of its lines, and what its lines say, up to the first that says nothing of a client.
 fn write<A: Allocator>(file: &mut Vec<u8, A>, text: &[u8]) -> Result<(), AllocError> {
-    let outline = Outline::of(text);
-    file.extend_from_slice(MAGIC)?;
-    for word in [
-        VERSION,
-        outline.types,
-        outline.constants,
-        outline.instructions,
-    ] {
-        file.extend_from_slice(&word.to_le_bytes())?;
-    }
-    let mut left = outline.lines();
+    let header = header_of(text);
+    header.append(file)?;
+    let mut left = header.entries();
     for line in text.split(|byte| *byte == b'\n') {
         if is_skipped(line) {
             continue;

@@ -5,6 +5,7 @@ mod assembler;
 mod client;
 mod constant;
 mod escape;
+mod header;
 mod instruction;
 mod item;
 mod nesting;

@@ -1,8 +1,4 @@
-ghost use Rattle.std.specs.Prelude.{◌≤◌};
-ghost use Rattle.client_code.specs.declared.client.TheConstants.{MOST_CONSTANTS, MOST_INSTRUCTIONS};
-ghost use Rattle.client_code.specs.declared.types.TheConstants.{MOST_TYPES};
-
-use crate::client::{MOST_CONSTANTS, MOST_INSTRUCTIONS};
+use crate::header::{Header, MOST_CONSTANTS, MOST_INSTRUCTIONS};
 use crate::types::MOST_TYPES;
 use crate::words::Words;
 
@@ -25,53 +21,37 @@ impl Section {
     }
 }
 
-/// How many lines of each section a text has, up to the first line that stands behind a later section or is one too many.
-#[derive(Debug, Clone, Copy, PartialEq, Eq)]
-pub struct Outline {
-    pub types: u32,
-    pub constants: u32,
-    pub instructions: u32,
-    ghost limits: { (types ≤ MOST_TYPES) × (constants ≤ MOST_CONSTANTS) × (instructions ≤ MOST_INSTRUCTIONS) },
-}
-
 /// Whether a line of the text says nothing.
 pub fn is_skipped(line: &[u8]) -> bool {
     line.first() == Some(&b';') || line.iter().all(|byte| *byte == b' ')
 }
 
-impl Outline {
-    /// The outline of a text.
-    pub fn of(text: &[u8]) -> Outline {
-        let mut outline = Outline {
-            types: 0,
-            constants: 0,
-            instructions: 0,
-        };
-        for line in text.split(|byte| *byte == b'\n') {
-            if !is_skipped(line) && !outline.add(Section::of(line)) {
-                break;
-            }
+/// The header that counts the lines of a text, up to the first line that stands behind a later section or is one too many.
+pub fn header_of(text: &[u8]) -> Header {
+    let mut header = Header {
+        types: 0,
+        constants: 0,
+        instructions: 0,
+    };
+    for line in text.split(|byte| *byte == b'\n') {
+        if !is_skipped(line) && !add(&mut header, Section::of(line)) {
+            break;
         }
-        outline
     }
+    header
+}
 
-    /// Counts a line, if it may stand behind the others.
-    fn add(&mut self, section: Section) -> bool {
-        let is_first = self.instructions == 0;
-        match section {
-            Section::Types if is_first && self.constants == 0 && self.types < MOST_TYPES =>
-                self.types += 1,
-            Section::Constants if is_first && self.constants < MOST_CONSTANTS => self.constants +=
-                1,
-            Section::Instructions if self.instructions < MOST_INSTRUCTIONS => self.instructions +=
-                1,
-            _ => return false,
-        }
-        true
+/// Counts a line, if it may stand behind the others.
+fn add(header: &mut Header, section: Section) -> bool {
+    let is_code = header.instructions > 0;
+    match section {
+        Section::Types if !is_code && header.constants == 0 && header.types < MOST_TYPES =>
+            header.types += 1,
+        Section::Constants if !is_code && header.constants < MOST_CONSTANTS => header.constants +=
+            1,
+        Section::Instructions if header.instructions < MOST_INSTRUCTIONS => header.instructions +=
+            1,
+        _ => return false,
     }
-
-    /// The number of lines.
-    pub fn lines(&self) -> u32 {
-        self.types + self.constants + self.instructions
-    }
+    true
 }

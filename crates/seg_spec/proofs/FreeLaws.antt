@@ -1,9 +1,9 @@
 -- Gaps in order of size, as the tree of best fit has them.
-use Rattle.std.proofs.Common.{◌≡◌, ◌≢◌, ℕ, zero, suc, ◌+◌, ◌*◌, ◌<◌, ◌≤◌, ◌⊎◌, inl, inr, ⊎_elim, Bool, true, false, List, [], ◌∷◌, ◌++◌, length, map, cond, leb, ltb, eqb, Option, Some, None, refl, sym, ap, ◌∙◌, subst, arith}
+use Rattle.std.proofs.Common.{◌≡◌, ◌≢◌, ℕ, ◌+◌, ◌*◌, ◌<◌, ◌≤◌, ◌⊎◌, inl, inr, ⊎_elim, Bool, true, false, List, [], ◌∷◌, ◌++◌, length, cond, leb, Option, Some, None, refl, sym, ap, ◌∙◌, subst, arith}
 use Rattle.std.proofs.lemmas.Bool.{cases_lt, cases_eq}
 use Rattle.std.proofs.lemmas.Bool.Decides.{nat_tests}
 use Rattle.std.specs.List.{AllByRecursion}
-use Rattle.seg_spec.specs.Heap.{Span, Tile, span_of, tiles, Fill, live_of, free_of, live, gaps, IsHeap, heap_start, is_smaller, insert_by_size, by_size, first_fit, best_fit, smaller, AreBySize}
+use Rattle.seg_spec.specs.Heap.{Span, Tile, span_of, tiles, Fill, free_of, live, gaps, IsHeap, heap_start, is_smaller, insert_by_size, by_size, first_fit, best_fit, smaller, AreBySize}
 use Rattle.seg_spec.specs.Sound.{times, positions}
 use Rattle.seg_spec.proofs.Frame.{each_weaker}
 use Rattle.seg_spec.proofs.HeapFrame.{each_by_size}
@@ -169,7 +169,7 @@ first_large n k [] u x le b f =
 first_large n k (m ∷ ks) u x le b f =
     let next : k.units ≤ m.units = ⊎_elim (λ l. omega arith) (λ l. omega (arith, l.0)) (smaller_is k m b.0) in
     elim (leb u k.units) as (λ c. cond c (Some k) (first_fit (m ∷ ks) u) ≡ Some x → n ≤ x.units)
-        [ true ↦ (λ e. let s : k ≡ x = cc in subst (λ (y : Span). n ≤ y.units) s le) | false ↦ (λ e. first_large n m ks u x (omega arith) b.1 e) ] f
+    [ true ↦ (λ e. let s : k ≡ x = cc in subst (λ (y : Span). n ≤ y.units) s le) | false ↦ (λ e. first_large n m ks u x (omega arith) b.1 e) ] f
 
 smaller_first : (g : Span) (o : Option Span) → ((x : Span) → o ≡ Some x → g.units ≤ x.units) → smaller g o ≡ Some g
 smaller_first g None le = refl

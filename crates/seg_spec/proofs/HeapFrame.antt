@@ -1,16 +1,15 @@
 -- The heap stays in order where its headers and free structure are kept.
-use Rattle.std.proofs.Common.{◌≡◌, ℕ, zero, suc, ◌+◌, ◌-◌, ◌*◌, ◌%◌, ◌^◌, ◌≤◌, Bool, true, false, List, [], ◌∷◌, ◌++◌, length, map, cond, leb, Option, Some, None, refl, sym, ap, ◌∙◌, subst, arith}
+use Rattle.std.proofs.Common.{◌≡◌, ℕ, zero, suc, ◌+◌, ◌≤◌, true, false, List, [], ◌∷◌, length, map, cond, Option, None, refl, sym, ap, ◌∙◌, subst, arith}
 use Rattle.std.specs.List.{AllByRecursion}
 use Rattle.seg_spec.specs.Bytes.{word, IsSame}
 use Rattle.seg_spec.specs.Pointer.{target}
 use Rattle.seg_spec.specs.Types.{Table}
-use Rattle.seg_spec.specs.Shapes.{nodes_of}
-use Rattle.seg_spec.specs.Heap.{Span, Tile, span_of, units_at, is_live_at, tag_at, link_at, tiles, Fill, AreHeaders, live_of, free_of, live, gaps, gaps_of, Links, is_smaller, insert_by_size, by_size, IsFreeTree, HoldsGaps, IsHeap, heap_start, KeepsTiles}
+use Rattle.seg_spec.specs.Heap.{Span, Tile, span_of, link_at, tiles, AreHeaders, live_of, free_of, live, gaps, Links, is_smaller, insert_by_size, by_size, HoldsGaps, IsHeap, heap_start, KeepsTiles}
 use Rattle.seg_spec.specs.Block.{IsOwnable}
 use Rattle.seg_spec.proofs.SliceLaws.{IsSame-part}
 use Rattle.seg_spec.proofs.TileLaws.{tiles-unique, gaps_between-live_of}
 use Rattle.seg_spec.proofs.HeaderLaws.{IsHeader-same}
-use Rattle.seg_spec.proofs.Frame.{word-same, target-same, each_weaker, each_both, IsTree-same}
+use Rattle.seg_spec.proofs.Frame.{word-same, target-same, each_both, IsTree-same}
 
 -- ---- lists of spans
 

@@ -30,3 +30,6 @@ pub mod UniqueLaws
 pub mod TypesLaws
 pub mod EntryLaws
 pub mod CellLaws
+pub mod AddTypes
+pub mod PickLaws
+pub mod EveryImage

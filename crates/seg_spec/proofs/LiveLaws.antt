@@ -1,12 +1,12 @@
 -- Live blocks: where they lie, and how often each stands in a list.
-use Rattle.std.proofs.Common.{◌≡◌, ◌≢◌, ℕ, zero, suc, ◌+◌, ◌-◌, ◌*◌, ◌%◌, ◌≤◌, ◌⊎◌, inl, inr, ⊎_elim, Bool, true, false, List, [], ◌∷◌, ◌++◌, length, map, cond, eqb, refl, sym, ap, ◌∙◌, subst, arith}
+use Rattle.std.proofs.Common.{◌≡◌, ◌≢◌, ℕ, ◌+◌, ◌*◌, ◌%◌, ◌≤◌, ◌⊎◌, inl, inr, ⊎_elim, true, false, List, [], ◌∷◌, ◌++◌, length, cond, eqb, refl, sym, ap, ◌∙◌, subst, arith}
 use Rattle.std.specs.Prelude.{nat_lt}
 use Rattle.std.specs.List.{AllByRecursion}
 use Rattle.std.proofs.lemmas.Bool.Decides.{nat_tests}
 use Rattle.std.proofs.lemmas.Bool.{cases_eq}
 use Rattle.seg_spec.specs.Heap.{Tile, Span, span_of, units_at, is_live_at, tiles, Fill, AreHeaders, live_of, live, IsHeap, heap_start, with_block, without, resized}
 use Rattle.seg_spec.specs.Block.{block_end}
-use Rattle.seg_spec.specs.Apart.{Separate, RangeApart, BlocksApart}
+use Rattle.seg_spec.specs.Apart.{Separate, BlocksApart}
 use Rattle.seg_spec.specs.Sound.{times, SameBlocks, positions}
 use Rattle.seg_spec.proofs.TileLaws.{Fill-le}
 use Rattle.seg_spec.proofs.Frame.{each_weaker, each_both}

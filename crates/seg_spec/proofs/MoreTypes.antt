@@ -16,7 +16,7 @@ length-built : {X : Type 0} (step : ℕ → List X → Form → X) (before : Lis
 length-built step before [] = omega arith
 length-built step before (form ∷ old) = length-built step (before ++ step (length before) before form ∷ []) old ∙ (let e = length-append before (step (length before) before form ∷ []) in omega arith)
 
-form_extended : (old more : Table) (T : ℕ) (form : Form) → form_at old T ≡ Some form → form_at (old ++ more) T ≡ Some form
+pub form_extended : (old more : Table) (T : ℕ) (form : Form) → form_at old T ≡ Some form → form_at (old ++ more) T ≡ Some form
 form_extended [] more T form e = cc
 form_extended (f ∷ old) more zero form e = e
 form_extended (f ∷ old) more (suc T) form e = form_extended old more T form e
@@ -27,7 +27,7 @@ below_length (f ∷ old) zero form e = omega arith
 below_length (f ∷ old) (suc T) form e = let rest = below_length old T form e in omega arith
 
 module _ (old more : Table) where
-  size_extended : (U : ℕ) → U < length old → size old U ≡ size (old ++ more) U
+  pub size_extended : (U : ℕ) → U < length old → size old U ≡ size (old ++ more) U
   unfolding size
   size_extended U l =
       let len = length-built size_by [] old in

@@ -1,14 +1,14 @@
 -- Roots of an image may be replaced by others.
-use Rattle.std.proofs.Common.{◌≡◌, ℕ, zero, suc, ◌+◌, ◌*◌, ◌%◌, ◌<◌, ◌≤◌, List, [], ◌∷◌, ◌++◌, length, map, Option, Some, if◌then◌else◌, ◌==◌, refl, sym, ap, ◌∙◌, subst, arith}
+use Rattle.std.proofs.Common.{◌≡◌, ℕ, suc, ◌+◌, ◌≤◌, List, [], ◌∷◌, ◌++◌, length, map, Some, refl, sym, ap, ◌∙◌, subst, arith}
 use Rattle.std.specs.List.{AllByRecursion}
 use Rattle.std.proofs.lemmas.List.{append_assoc, append-nil}
 use Rattle.seg_spec.specs.Bytes.{word, IsSame}
-use Rattle.seg_spec.specs.Types.{Table, IsTable}
+use Rattle.seg_spec.specs.Types.{Table}
 use Rattle.seg_spec.specs.Value.{Value, Values, nil, cons, count}
 use Rattle.seg_spec.specs.Heap.{IsHeap, live}
 use Rattle.seg_spec.specs.Block.{IsOwnable, KeepsBlock}
-use Rattle.seg_spec.specs.Index.{Root, IsEntry, AreEntries, AreAscending, ListsNames, position_of, AreRising, ListsUniques}
-use Rattle.seg_spec.specs.Sound.{Picture, roots_of, IsPlain, HoldsRoot, HoldsRoots, holds_no_root, holds_more_roots, HasHeader, IsLaidOut, IsHeld, SameBlocks, positions}
+use Rattle.seg_spec.specs.Index.{Root, IsEntry, AreEntries, ListsNames, position_of, AreRising, ListsUniques}
+use Rattle.seg_spec.specs.Sound.{Picture, roots_of, IsPlain, HoldsRoot, HoldsRoots, holds_no_root, holds_more_roots, HasHeader, IsLaidOut, IsHeld}
 use Rattle.seg_spec.specs.Roots.{Listed, by_name, by_type, loose, roots_in, with_roots, RootsComeApart, HasFace, RootComesApart}
 use Rattle.seg_spec.proofs.SliceLaws.{IsSame-part}
 use Rattle.seg_spec.proofs.Frame.{word-same, each_left, each_right}

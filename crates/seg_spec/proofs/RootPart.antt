@@ -10,12 +10,12 @@ use Rattle.seg_spec.specs.Bytes.{IsSame}
 use Rattle.seg_spec.specs.Types.{Table, size, IsTable}
 use Rattle.seg_spec.specs.Value.{Label, Value, Values, nil, cons, count, nth, append, change_nth, Selector, put}
 use Rattle.seg_spec.specs.Heap.{units_at}
-use Rattle.seg_spec.specs.Block.{IsBlock, KeepsBlock, block_of, tag_of, IsInside}
+use Rattle.seg_spec.specs.Block.{IsBlock, KeepsBlock, block_of, IsInside}
 use Rattle.seg_spec.specs.Reads.{Place, items, fields, Holds, HoldsEach, Leads, Around, around_here, around_in}
 use Rattle.seg_spec.specs.Apart.{Separate, RangeApart, BlocksApart, KeepsBlockAround}
 use Rattle.seg_spec.specs.Index.{Root}
-use Rattle.seg_spec.specs.Sound.{kind_of, HoldsRoot, times}
-use Rattle.seg_spec.specs.Roots.{item_of, with_item, PartComesApart}
+use Rattle.seg_spec.specs.Sound.{HoldsRoot, times}
+use Rattle.seg_spec.specs.Roots.{item_of, PartComesApart}
 use Rattle.seg_spec.proofs.SizeLaws.{size_large}
 use Rattle.seg_spec.proofs.Frame.{SamePlace, each_left, each_right, each_weaker, each_both, HoldsEach-kept}
 use Rattle.seg_spec.proofs.Geometry.{In, in_left, in_right, Located, LocatedPlace, surround, InFields, fields_in, fields_split, IsBlock-headers}
@@ -231,7 +231,6 @@ count-change_nth None f vs = refl
 count-change_nth (Some i) f nil = refl
 count-change_nth (Some zero) f (cons v vs) = refl
 count-change_nth (Some (suc i)) f (cons v vs) = ap suc (count-change_nth (Some i) f vs)
-
 
 -- ---- the root
 

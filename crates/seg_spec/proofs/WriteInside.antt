@@ -1,10 +1,10 @@
 -- What a write inside the payload of one live block keeps: the heap, and all other live blocks.
-use Rattle.std.proofs.Common.{◌≡◌, ◌≢◌, ℕ, zero, suc, ◌+◌, ◌-◌, ◌*◌, ◌%◌, ◌≤◌, ◌⊎◌, inl, inr, ⊎_elim, Bool, true, false, List, [], ◌∷◌, ◌++◌, length, map, cond, refl, sym, ap, ◌∙◌, subst, arith}
+use Rattle.std.proofs.Common.{◌≡◌, ◌≢◌, ℕ, ◌+◌, ◌*◌, ◌%◌, ◌≤◌, ◌⊎◌, inl, inr, ⊎_elim, true, false, List, [], ◌∷◌, length, cond, refl, sym, ap, ◌∙◌, subst, arith}
 use Rattle.std.proofs.lemmas.Bool.{cases_eq, false≢true}
 use Rattle.std.specs.List.{AllByRecursion}
 use Rattle.seg_spec.specs.Bytes.{IsSame, ChangesOnly}
-use Rattle.seg_spec.specs.Heap.{Span, Tile, span_of, units_at, is_live_at, tiles, Fill, AreHeaders, live_of, free_of, live, gaps, IsHeap, heap_start, KeepsTiles}
-use Rattle.seg_spec.specs.Block.{IsInside, KeepsBlock, payload_size, block_end}
+use Rattle.seg_spec.specs.Heap.{Span, Tile, span_of, units_at, tiles, Fill, AreHeaders, live_of, free_of, live, gaps, IsHeap, heap_start, KeepsTiles}
+use Rattle.seg_spec.specs.Block.{IsInside, KeepsBlock, payload_size}
 use Rattle.seg_spec.specs.Apart.{Separate}
 use Rattle.seg_spec.specs.Sound.{times, positions}
 use Rattle.seg_spec.proofs.SliceLaws.{IsSame-part}

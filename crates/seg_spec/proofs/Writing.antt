@@ -1,13 +1,11 @@
 -- A write to a place anywhere inside a root of an image changes the value at its path and nothing else.
-use Rattle.std.proofs.Common.{◌≡◌, ◌≢◌, ℕ, zero, suc, ◌+◌, ◌*◌, ◌^◌, ◌<◌, ◌≤◌, ◌⊎◌, inl, inr, ⊎_elim, List, [], ◌∷◌, ◌++◌, length, Some, refl, sym, ap, ◌∙◌, subst, arith}
+use Rattle.std.proofs.Common.{◌≡◌, ◌≢◌, ℕ, ◌+◌, ◌^◌, ◌<◌, ◌≤◌, ◌⊎◌, List, [], ◌∷◌, ◌++◌, length, Some, refl, sym, ap, ◌∙◌, subst, arith}
 use Rattle.std.specs.List.{AllByRecursion}
-use Rattle.std.proofs.lemmas.Bool.{cases_eq}
-use Rattle.std.proofs.lemmas.List.{append_assoc}
-use Rattle.seg_spec.specs.Bytes.{word, signed, signed_long, set_long, spelling, set_number, put as put_bytes, IsSame, ChangesOnly}
-use Rattle.seg_spec.specs.Types.{Form, Table, form_at, size, IsTable}
+use Rattle.seg_spec.specs.Bytes.{word, signed, signed_long, set_long, spelling, set_number, IsSame, ChangesOnly}
+use Rattle.seg_spec.specs.Types.{Form, Table, form_at, size}
 use Rattle.seg_spec.specs.Value.{Value, Int, count, nil, Selector, put}
 use Rattle.seg_spec.specs.Heap.{live, units_at, IsHeap, KeepsTiles, heap_start}
-use Rattle.seg_spec.specs.Block.{KeepsBlock, KeepsHeader, block_end}
+use Rattle.seg_spec.specs.Block.{KeepsBlock, KeepsHeader}
 use Rattle.seg_spec.specs.Reads.{Place, Holds, holds, holds_none, Leads}
 use Rattle.seg_spec.specs.Apart.{BlocksApart, KeepsBlockAround}
 use Rattle.seg_spec.specs.Index.{Root}
@@ -20,7 +18,7 @@ use Rattle.seg_spec.proofs.Frame.{word-same, each_left, each_right, each_weaker,
 use Rattle.seg_spec.proofs.OneReading.{Holds-one}
 use Rattle.seg_spec.proofs.LiveLaws.{times-append, not_there, there, each_same, owned_apart, live-once, live-lie}
 use Rattle.seg_spec.proofs.HeapFrame.{IsHeap-kept, live-kept, IsOwnable-kept}
-use Rattle.seg_spec.proofs.WriteInside.{tiles_kept, low_kept, the_block, KeptBut, live_kept_but}
+use Rattle.seg_spec.proofs.WriteInside.{tiles_kept, low_kept, live_kept_but}
 use Rattle.seg_spec.proofs.PutLaw.{apart_append}
 use Rattle.seg_spec.proofs.RootPart.{count-change_nth, part_comes_apart}
 use Rattle.seg_spec.proofs.RootLaws.{root_comes_apart}

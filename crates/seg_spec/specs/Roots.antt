@@ -4,7 +4,7 @@
 --     RootsComeApart, RootComesApart   roots of an image, and how the whole changes with them
 --     item_of table root j             the place of item j
 --     PartComesApart                   a part of an item, and how the root changes with it
-use Rattle.std.specs.Prelude.{◌≡◌, ℕ, ◌+◌, ◌*◌, ◌≤◌, List, [], ◌∷◌, ◌++◌, length, Some}
+use Rattle.std.specs.Prelude.{◌≡◌, ℕ, ◌+◌, ◌*◌, ◌≤◌, List, ◌∷◌, ◌++◌, length, Some}
 use Rattle.std.specs.List.{AllByRecursion}
 use Rattle.seg_spec.specs.Bytes.{word, IsSame}
 use Rattle.seg_spec.specs.Types.{Table, size}

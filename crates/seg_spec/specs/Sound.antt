@@ -8,7 +8,7 @@ use Rattle.seg_spec.specs.Bytes.{word, slice}
 use Rattle.seg_spec.specs.Types.{Table, IsTable, HasTable, size}
 use Rattle.seg_spec.specs.Value.{Value, Values, nil, cons, count}
 use Rattle.seg_spec.specs.Heap.{Span, IsHeap, live}
-use Rattle.seg_spec.specs.Block.{IsBlock, block_of, Kind, tag_of, IsOwnable, KeepsBlock}
+use Rattle.seg_spec.specs.Block.{IsBlock, block_of, Kind, tag_of, IsOwnable}
 use Rattle.seg_spec.specs.Reads.{items, HoldsEach}
 use Rattle.seg_spec.specs.Index.{Root, ListsNames, ListsUniques}
 

@@ -1,9 +1,10 @@
 //! Laws of the heap.
 
-ghost use Rattle.std.specs.Prelude.{◌≡◌, ℕ, ◌≤◌, true, List, ◌∷◌, ◌++◌, length, Contains};
+ghost use Rattle.std.specs.Prelude.{◌≡◌, ℕ, ◌≤◌, true, List, ◌∷◌, ◌++◌, ◌<◌, length, Some, None, Contains};
+ghost use Rattle.std.specs.List.{AllByRecursion};
 ghost use Rattle.seg_spec.specs.Bytes.{IsSame};
 ghost use Rattle.seg_spec.specs.Types.{Table};
-ghost use Rattle.seg_spec.specs.Heap.{Span, Tile, Fill, AreHeaders, AreApart, tiles, live_of, free_of, live, gaps, gaps_between, IsHeap, heap_start, first_fit, best_fit, by_size, insert_by_size, AreBySize, with_block, without, resized, Keeps, KeepsTiles};
+ghost use Rattle.seg_spec.specs.Heap.{Span, Tile, Fill, AreHeaders, AreApart, tiles, live_of, free_of, live, gaps, gaps_between, IsHeap, heap_start, first_fit, best_fit, pick, IsLowest, IsSmallest, by_size, insert_by_size, AreBySize, with_block, without, resized, Keeps, KeepsTiles};
 ghost use Rattle.seg_spec.specs.Block.{KeepsBlock, IsOwnable};
 ghost use Rattle.seg_spec.specs.Sound.{times, positions};
 
@@ -35,6 +36,14 @@ pub fn each_gap_by_size()
     ensures once { (position : ℕ) (gs : List Span) → times position (positions (by_size gs)) ≡ times position (positions gs) }
     ensures inserted { (before : List Span) (gap : Span) (after : List Span) →
         by_size (before ++ gap ∷ after) ≡ insert_by_size gap (by_size (before ++ after)) }
+{}
+
+/// The gap that is picked is the lowest, or the smallest, that is large enough, and where there is none all are too small.
+pub fn picking()
+    ensures lowest { (gs : List Span) (units : ℕ) (gap : Span) → pick 0 gs units ≡ Some gap → IsLowest gs units gap }
+    ensures smallest { (gs : List Span) (units : ℕ) (gap : Span) → pick 1 gs units ≡ Some gap → IsSmallest gs units gap }
+    ensures no_lowest { (gs : List Span) (units : ℕ) → pick 0 gs units ≡ None → AllByRecursion (λ g. g.units < units) gs }
+    ensures no_smallest { (gs : List Span) (units : ℕ) → pick 1 gs units ≡ None → AllByRecursion (λ g. g.units < units) gs }
 {}
 
 /// The smallest gap that is large enough, the lowest among equals, is the first one in order of size.

@@ -1,9 +1,9 @@
 //! Laws of images.
 
-ghost use Rattle.std.specs.Prelude.{◌≡◌, ◌≢◌, ℕ, ◌^◌, ◌<◌, ◌≤◌, List, ◌∷◌, ◌++◌, Some, None};
-ghost use Rattle.seg_spec.specs.Bytes.{set_long, signed, ChangesOnly};
+ghost use Rattle.std.specs.Prelude.{◌≡◌, ◌≢◌, ℕ, ◌^◌, ◌<◌, ◌≤◌, List, ◌∷◌, ◌++◌, ◌-◌, length, Some, None};
+ghost use Rattle.seg_spec.specs.Bytes.{set_long, signed, IsSame, ChangesOnly};
 ghost use Rattle.seg_spec.specs.Pointer.{target};
-ghost use Rattle.seg_spec.specs.Types.{Form, Table, IsTable, form_at, size};
+ghost use Rattle.seg_spec.specs.Types.{Form, Table, IsTable, HasTable, form_at, size};
 ghost use Rattle.seg_spec.specs.Value.{Value, Int, count, Selector, put};
 ghost use Rattle.seg_spec.specs.Heap.{live};
 ghost use Rattle.seg_spec.specs.Reads.{Place, Holds, Leads};
@@ -86,4 +86,12 @@ pub fn unique_words()
         ((T : ℕ) → T < 32 → T ≢ root.type → target new (unique_word T) ≡ target old (unique_word T)) →
         ListsUniques old (before ++ root ∷ after) → target new (unique_word root.type) ≡ None →
         ListsUniques new (before ++ after) }
+{}
+
+/// An image whose table of types grows, and changes in nothing else, has the roots that it had.
+pub fn adding_types()
+    ensures { (old new : List ℕ) (picture : Picture) (more : Table) →
+        IsHeld old picture → length new ≡ length old → IsSame old new 0 64 → IsSame old new 576 (length old - 576) →
+        HasTable new 64 (picture.table ++ more) → IsTable (picture.table ++ more) →
+        IsHeld new (record picture { table = picture.table ++ more }) }
 {}

@@ -1,0 +1,85 @@
+ghost use Rattle.std.specs.Prelude.{◌≡◌, ◌≤◌, ◌+◌, ◌*◌, IfOk};
+ghost use Rattle.client_code.specs.declared.header.TheConstants.{MOST_CONSTANTS, MOST_INSTRUCTIONS};
+ghost use Rattle.client_code.specs.declared.types.TheConstants.{MOST_TYPES};
+
+use crate::types::{ENTRY, MOST_TYPES, TYPES_AT};
+use byteorder::{ByteOrder, LittleEndian};
+use seg_raw::Fault;
+use std::alloc::{AllocError, Allocator};
+
+/// The first bytes of a client file.
+const MAGIC: &[u8; 4] = b"SEGC";
+
+/// The version of the format.
+const VERSION: u32 = 1;
+
+/// The most constants of a client.
+pub const MOST_CONSTANTS: u32 = 256;
+
+/// The most instructions of a client.
+pub const MOST_INSTRUCTIONS: u32 = 4096;
+
+/// What the header of a client file says: how many types, constants and instructions follow.
+#[derive(Debug, Clone, Copy, PartialEq, Eq)]
+pub struct Header {
+    pub types: u32,
+    pub constants: u32,
+    pub instructions: u32,
+    ghost limits: { (types ≤ MOST_TYPES) × (constants ≤ MOST_CONSTANTS) × (instructions ≤ MOST_INSTRUCTIONS) },
+}
+
+fn word(file: &[u8], at: u32) -> Option<u32> {
+    let bytes = file.get(at as usize..at as usize + 4)?;
+    Some(LittleEndian::read_u32(bytes))
+}
+
+/// The word at a position, which is a number of entries.
+fn count(file: &[u8], at: u32, most: u32) -> Result<u32, Fault>
+    ensures { IfOk result (λ n. n ≤ most) }
+{
+    match word(file, at) {
+        Some(n) if n <= most => Ok(n),
+        _ => Err(Fault::BadCode(at)),
+    }
+}
+
+impl Header {
+    /// The header of a file, or the position of the first field that is wrong or cut.
+    pub fn read(file: &[u8]) -> Result<Header, Fault> {
+        if !file.starts_with(MAGIC) {
+            return Err(Fault::BadCode(0));
+        }
+        if word(file, 4) != Some(VERSION) {
+            return Err(Fault::BadCode(4));
+        }
+        let types = count(file, 8, MOST_TYPES)?;
+        let constants = count(file, 12, MOST_CONSTANTS)?;
+        let instructions = count(file, 16, MOST_INSTRUCTIONS)?;
+        Ok(Header {
+            types,
+            constants,
+            instructions,
+        })
+    }
+
+    /// Adds the header's bytes to a file.
+    pub fn append<A: Allocator>(&self, file: &mut Vec<u8, A>) -> Result<(), AllocError> {
+        file.extend_from_slice(MAGIC)?;
+        for word in [VERSION, self.types, self.constants, self.instructions] {
+            file.extend_from_slice(&word.to_le_bytes())?;
+        }
+        Ok(())
+    }
+
+    /// The number of types, constants and instructions together.
+    pub fn entries(&self) -> u32 {
+        self.types + self.constants + self.instructions
+    }
+
+    /// The position of the first constant, behind the type entries.
+    pub fn constants_at(&self) -> u32
+        ensures { result ≡ 20 + 16 * self.now.types }
+    {
+        TYPES_AT + ENTRY * self.types
+    }
+}

@@ -1,0 +1,19 @@
+//! Tests of the client language: files, assembler text, and the verifier.
+#![tactic(auto)]
+
+#[cfg(test)]
+mod ends;
+#[cfg(test)]
+mod every;
+#[cfg(test)]
+mod files;
+#[cfg(test)]
+mod increment;
+#[cfg(test)]
+mod operations;
+#[cfg(test)]
+mod programs;
+#[cfg(test)]
+mod support;
+#[cfg(test)]
+mod texts;

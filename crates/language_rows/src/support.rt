@@ -1,0 +1,72 @@
+use client_code::{assemble, parse};
+use client_verify::verify;
+use seg_layout::TypeTable;
+use seg_raw::Fault;
+use std::alloc::Global;
+use std::process::Abort;
+
+/// Types and constants of every kind: the tables' programs stand behind them.
+const FRONT: &[u8] = b"type i64
+type str
+type vec t0
+type list t0
+type flat_map t0
+type map t0
+type own t0
+type struct t0 t1 t6
+text hi
+name n
+family f
+name m
+";
+
+/// What the verifier answers for a text: the bound, or the fault.
+pub fn verdict(alloc: Global, text: &[u8]) -> Result<u64, Fault> {
+    let file = assemble(alloc, text)?;
+    let client = parse(file.as_slice())?;
+    Ok(verify(client, &TypeTable::new())?.bound())
+}
+
+/// The same for a program behind the front. `;` ends its lines too.
+pub fn verdict_behind_front(alloc: Global, program: &[u8]) -> Result<u64, Fault> {
+    let mut text = Vec::from_slice(alloc, FRONT)?;
+    for byte in program {
+        text.push(if *byte == b';' { b'\n' } else { *byte })
+            .map_err(std::alloc::AllocError::from)?;
+    }
+    verdict(alloc, text.as_slice())
+}
+
+/// The same for a program inside `FINDOR r0 - t k1`, whose instruction is number 0: r0 leads to a value of the type.
+pub fn verdict_with(alloc: Global, type_id: u8, program: &str) -> Result<u64, Fault> {
+    let text = format!(in alloc; "FINDOR r0 - t{type_id} k1;{program};ELSE;END")?;
+    verdict_behind_front(alloc, text.as_bytes())
+}
+
+/// A program that is accepted with this bound, inside the opener.
+pub type Accepted = (u8, &'static str, u64);
+
+/// A program that is rejected at this instruction for this reason, inside the opener.
+pub type Rejected = (u8, &'static str, u32, u8);
+
+pub fn check_accepted(rt: &(impl Abort + AllocGlobal), row: &Accepted) {
+    let (type_id, program, bound) = *row;
+    assert_eq!(rt;
+        verdict_with(rt.alloc(), type_id, program),
+        Ok(bound),
+        "t{type_id}: {program}"
+    );
+}
+
+pub fn check_rejected(rt: &(impl Abort + AllocGlobal), row: &Rejected) {
+    let (type_id, program, instruction, reason) = *row;
+    let rejected = Err(Fault::Rejected {
+        instruction,
+        reason,
+    });
+    assert_eq!(rt;
+        verdict_with(rt.alloc(), type_id, program),
+        rejected,
+        "t{type_id}: {program}"
+    );
+}

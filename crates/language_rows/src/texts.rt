@@ -1,0 +1,280 @@
+use client_code::{assemble, parse, print};
+use seg_raw::Fault;
+use std::alloc::{AllocError, Global};
+use std::process::Abort;
+use std::test::Fail;
+
+/// The canonical text of what a text spells.
+fn canonical(alloc: Global, text: &[u8]) -> Result<Vec<u8>, Fault> {
+    let file = assemble(alloc, text)?;
+    print(alloc, &parse(file.as_slice())?)
+}
+
+/// The same behind a front of one type and three constants.
+fn canonical_behind_front(alloc: Global, text: &str) -> Result<Vec<u8>, Fault> {
+    let text = format!(in alloc; "type i64\ntext hi\nname n\nfamily f\n{text}")?;
+    canonical(alloc, text.as_bytes())
+}
+
+fn check_canonical(rt: &(impl Abort + AllocGlobal), text: &[u8], wanted: &str) {
+    match canonical(rt.alloc(), text) {
+        Ok(found) => assert!(rt; found.as_slice() == wanted.as_bytes(), "{wanted}"),
+        Err(fault) => panic!(rt; "{fault} of {wanted}"),
+    }
+}
+
+fn check_wrong(rt: &(impl Abort + AllocGlobal), text: &[u8], line: u32) {
+    let found = assemble(rt.alloc(), text).err();
+    assert_eq!(rt; found, Some(Fault::BadLine(line)), "{text:?}");
+}
+
+static CANONICAL: [(&[u8], &str); 26] = [
+    (b"", ""),
+    (b"\n\n", ""),
+    (b"type i64", "type i64\n"),
+    (b"  type   vec   t1  \ntype i64", "type vec t1\ntype i64\n"),
+    (b"; a comment\n\n   \ntype i64\n;\n", "type i64\n"),
+    (
+        b"type i64\ntype struct t0 t0 t0 t0 t0 t0 t0 t0",
+        "type i64\ntype struct t0 t0 t0 t0 t0 t0 t0 t0\n",
+    ),
+    (
+        b"type own t0\ntype flat_map t2\ntype map t3\ntype list t0",
+        "type own t0\ntype flat_map t2\ntype map t3\ntype list t0\n",
+    ),
+    (b"text a\\62c", "text abc\n"),
+    (b"text ", "text \n"),
+    (b"text  x ", "text  x \n"),
+    (
+        b"text \\5c\\0a\\ff\\00;\\7f",
+        "text \\5c\\0a\\ff\\00;\\7f\n",
+    ),
+    (b"text \\20\\7e", "text  ~\n"),
+    (b"text x\ntext x", "text x\ntext x\n"),
+    (b"name ;text\nfamily ;text", "name ;text\nfamily ;text\n"),
+    (b"name !\"$~\n", "name !\"$~\n"),
+    (
+        b"name aaaaaaaaaabbbbbbbbbbccccccccccddddddddddeeeeeeeeeeffffffffffggg",
+        "name aaaaaaaaaabbbbbbbbbbccccccccccddddddddddeeeeeeeeeeffffffffffggg\n",
+    ),
+    (
+        b"family aaaaaaaaaabbbbbbbbbbccccccccccddddddddddee",
+        "family aaaaaaaaaabbbbbbbbbbccccccccccddddddddddee\n",
+    ),
+    (b"CONST r0 2147483647", "CONST r0 2147483647\n"),
+    (b"CONST r15 -2147483648", "CONST r15 -2147483648\n"),
+    (b"CONST r10 0\nCONST r9 -1", "CONST r10 0\nCONST r9 -1\n"),
+    (b"   CONST  r0   1  \n", "CONST r0 1\n"),
+    (b"WHILE r0 1000000000\nEND", "WHILE r0 1000000000\nEND\n"),
+    (
+        b"IF r0\nELSE\n IF r1 \n ELSE \n END \nEND",
+        "IF r0\nELSE\nIF r1\nELSE\nEND\nEND\n",
+    ),
+    (
+        b"WHILE r0 1\nWHILE r0 1\nWHILE r0 1\nWHILE r0 1\nWHILE r0 1\nWHILE r0 1\nWHILE r0 1\nIF r0\nELSE\nEND\nEND\nEND\nEND\nEND\nEND\nEND\nEND",
+        "WHILE r0 1\nWHILE r0 1\nWHILE r0 1\nWHILE r0 1\nWHILE r0 1\nWHILE r0 1\nWHILE r0 1\nIF r0\nELSE\nEND\nEND\nEND\nEND\nEND\nEND\nEND\nEND\n",
+    ),
+    (
+        b"type i64\nfamily p\nMAKE r0 r1 - t0 k0\nELSE\nEND",
+        "type i64\nfamily p\nMAKE r0 r1 - t0 k0\nELSE\nEND\n",
+    ),
+    (
+        b"type i64\nname p\nMAKE r0 - r1 t0 k0\nELSE\nEND",
+        "type i64\nname p\nMAKE r0 - r1 t0 k0\nELSE\nEND\n",
+    ),
+];
+
+#[test]
+fn canonical_texts(rt: HostRuntime) {
+    for (text, wanted) in &CANONICAL {
+        check_canonical(&rt, text, wanted);
+    }
+}
+
+static WRONG: [(&[u8], u32); 83] = [
+    // words and numbers
+    (b"ADD r1 r16 r2", 1),
+    (b"CONST r0 -0", 1),
+    (b"CONST r0 00", 1),
+    (b"CONST r0 01", 1),
+    (b"CONST r0 -01", 1),
+    (b"CONST r00 1", 1),
+    (b"CONST r01 1", 1),
+    (b"CONST r0 +1", 1),
+    (b"CONST r0 2147483648", 1),
+    (b"CONST r0 -2147483649", 1),
+    (b"CONST r0 99999999999", 1),
+    (b"CONST r0 - 1", 1),
+    (b"CONST r0 -", 1),
+    (b"CONST r0 1a", 1),
+    (b"CONST r0", 1),
+    (b"CONST r0 1 2", 1),
+    (b"CONST R0 1", 1),
+    (b"CONST r 1", 1),
+    (b"CONST - 1", 1),
+    (b"CONST 0 1", 1),
+    (b"const r0 1", 1),
+    (b"CONST r0 1\t", 1),
+    (b"CONST r0 1\r\n", 1),
+    (b"CONST r0 1 ; one", 1),
+    (b"CONST r256 1", 1),
+    (b"NOP", 1),
+    (b" ; no comment", 1),
+    (b"\t", 1),
+    (b"IF r0 r0\nELSE\nEND", 1),
+    // texts and names
+    (b"text", 1),
+    (b" text x", 1),
+    (b"text a\\", 1),
+    (b"text a\\5", 1),
+    (b"text \\5C", 1),
+    (b"text \\g0", 1),
+    (b"text \\0g", 1),
+    (b"text \x7f", 1),
+    (b"text \x1f", 1),
+    (b"text \xc3\xa9", 1),
+    (b"name", 1),
+    (b"name a b", 1),
+    (b"name a#b", 1),
+    (b"name \x7f", 1),
+    (
+        b"name aaaaaaaaaabbbbbbbbbbccccccccccddddddddddeeeeeeeeeeffffffffffgggg",
+        1,
+    ),
+    (b"family", 1),
+    (b"family #", 1),
+    (b"family aaaaaaaaaabbbbbbbbbbccccccccccddddddddddeee", 1),
+    (b"name x\ntext x\nfamily x\nname x", 4),
+    (b"family x\nfamily y\nfamily x", 3),
+    // types
+    (b"type", 1),
+    (b"type i65", 1),
+    (b"type i64 t0", 1),
+    (b"type vec", 1),
+    (b"type vec t0 t0", 1),
+    (b"type vec t1", 1),
+    (b"type vec t1\nname x\ntype i64", 1),
+    (b"type vec t1\ntype bad", 2),
+    (b"type vec t2\ntype bad", 1),
+    (b"type i64\ntype vec t00", 2),
+    (b"type i64\ntype vec t256", 2),
+    (b"type struct", 1),
+    (b"type struct t0", 1),
+    (b"type struct t1\ntype i64", 1),
+    (b"type i64\ntype struct t0 t0 t0 t0 t0 t0 t0 t0 t0", 2),
+    (
+        b"type i64\ntype struct t0 t0 t0 t0 t0 t0 t0 t0\ntype struct t1 t1 t1 t1 t1 t1 t1 t1\ntype struct t2 t2 t2 t2 t2 t2 t2 t2\ntype struct t3 t0",
+        5,
+    ),
+    // sections
+    (b"type i64\nname x\ntype str", 3),
+    (b"type i64\n\nCONST r0 1\n; x\nname x", 5),
+    (b"CONST r0 1\ntype i64", 2),
+    // parts
+    (b"ELSE", 1),
+    (b"END", 1),
+    (b"WHILE r0 1\nELSE\nEND", 2),
+    (b"IF r0\nEND", 2),
+    (b"IF r0\nELSE\nELSE\nEND", 3),
+    (b"WHILE r0 1\nEND\nEND", 3),
+    (b"WHILE r0 0\nEND", 1),
+    (b"WHILE r0 -1\nEND", 1),
+    (b"WHILE r0 1000000001\nEND", 1),
+    (b"IF r0", 2),
+    (b"IF r0\n", 2),
+    (b"IF r0\nELSE\n\n; x\n", 5),
+    (b"WHILE r0 1\nCONST r0 1", 3),
+    (
+        b"WHILE r0 1\nWHILE r0 1\nWHILE r0 1\nWHILE r0 1\nWHILE r0 1\nWHILE r0 1\nWHILE r0 1\nWHILE r0 1\nWHILE r0 1",
+        9,
+    ),
+    (
+        b"WHILE r0 1\nWHILE r0 1\nWHILE r0 1\nWHILE r0 1\nWHILE r0 1\nWHILE r0 1\nWHILE r0 1\nWHILE r0 1\nIF r0",
+        9,
+    ),
+];
+
+#[test]
+fn wrong_texts(rt: HostRuntime) {
+    for (text, line) in &WRONG {
+        check_wrong(&rt, text, *line);
+    }
+}
+
+// Lines behind `type i64`, `text hi`, `name n`, `family f`; the fifth line is the first of these.
+static WRONG_BEHIND_FRONT: [(&str, u32); 20] = [
+    ("FIND r0 - - t0 k2\nELSE\nEND", 5),
+    ("FIND r0 r1 - t0 k1\nELSE\nEND", 5),
+    ("FIND r0 - - t0 k0\nELSE\nEND", 5),
+    ("FIND r0 r1 - t0 k0\nELSE\nEND", 5),
+    ("FIND r0 - - t1 k1\nELSE\nEND", 5),
+    ("FIND r0 - - t0 k3\nELSE\nEND", 5),
+    ("FIND r0 - - t00 k1\nELSE\nEND", 5),
+    ("FIND r0 - - t0 k01\nELSE\nEND", 5),
+    ("FIND r0 - - t0\nELSE\nEND", 5),
+    ("FIND r0 - - k1 t0\nELSE\nEND", 5),
+    ("FIND - - - t0 k1\nELSE\nEND", 5),
+    ("FIND r0 - - t0 k1\nELSE\nKILL r0 - - t0 k1\nEND", 7),
+    ("KILL r0 - t0 k1\nKILL r0 r16 t0 k1", 6),
+    ("OUTC k0\nOUTC k1", 6),
+    ("OUTC k0\nOUTC k2", 6),
+    ("OUTC k0\nOUTC k3", 6),
+    ("NEW r0 t0\nELSE\nEND\nNEW r0 t1\nELSE\nEND", 8),
+    ("SETS r0 r1 k0\nELSE\nEND\nSETS r0 r1 k1\nELSE\nEND", 8),
+    ("FIELD r0 r1 0\nFIELD r0 r1 t0", 6),
+    ("PUT r0 r1\nPUT r0 -", 6),
+];
+
+#[test]
+fn wrong_operands(rt: HostRuntime) {
+    for (text, line) in &WRONG_BEHIND_FRONT {
+        let found = canonical_behind_front(rt.alloc(), text).err();
+        assert_eq!(rt; found, Some(Fault::BadLine(*line)), "{text}");
+    }
+}
+
+/// A text of so many lines: each is the front, its number from 0, and the back.
+fn lines(alloc: Global, count: u32, front: &str, back: &str) -> Result<String, AllocError> {
+    let mut text = String::new(alloc);
+    for i in 0..count {
+        write!(text, "{front}{i}{back}\n")?;
+    }
+    Ok(text)
+}
+
+/// The most lines of a kind are right, and one more is wrong at its own line.
+fn check_limit(
+    rt: &(impl Abort + AllocGlobal),
+    most: u32,
+    front: &str,
+    back: &str,
+) -> Result<(), AllocError> {
+    let right = lines(rt.alloc(), most, front, back)?;
+    check_canonical(rt, right.as_bytes(), right.as_str());
+    let wrong = lines(rt.alloc(), most.saturating_add(1), front, back)?;
+    check_wrong(rt, wrong.as_bytes(), most.saturating_add(1));
+    Ok(())
+}
+
+#[test]
+fn limits(rt: HostRuntime) -> Result<(), Fail> {
+    check_limit(&rt, 32, "type vec t", "")?;
+    check_limit(&rt, 256, "name n", "x")?;
+    check_limit(&rt, 256, "text ", "")?;
+    check_limit(&rt, 4096, "CONST r0 ", "")?;
+    Ok(())
+}
+
+#[test]
+fn the_longest_text(rt: HostRuntime) -> Result<(), Fail> {
+    let mut text = String::from_str(rt.alloc(), "text ")?;
+    for _ in 0..255 {
+        text.push_str("\\0a")?;
+    }
+    text.push_str("\n")?;
+    check_canonical(&rt, text.as_bytes(), text.as_str());
+    text.pop();
+    text.push_str("x\n")?;
+    check_wrong(&rt, text.as_bytes(), 1);
+    Ok(())
+}
