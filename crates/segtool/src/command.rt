@@ -1,19 +1,22 @@
 ghost use Rattle.std.specs.Prelude.{◌≡◌, false};
 
+use crate::clients::{assemble_file, print_file, verify_file};
 use crate::command_line::command_line;
 use crate::failure::{Failure, STANDARD_OUTPUT};
 use crate::files::Files;
+use crate::image::check_file;
 use crate::run::run;
 use clap::ArgMatches;
 use client_vm::{Sink, write_all};
-use seg_check::check;
-use seg_ptr::{MAX_LEN, Window};
-use seg_raw::{Fault, Region};
+use seg_raw::Fault;
 use std::alloc::{AllocError, Global};
 use std::convert::AsStr;
 
 /// The most bytes of an image.
 pub const MAX_IMAGE: u64 = 1 << 30;
+
+/// The most bytes of a client, of a text and of the input.
+pub const MAX_FILE: u64 = 1 << 20;
 
 /// Does what the words say, the program's name first, and answers the status: 0 success, 1 a fault of the library, 2 a wrong
 /// command line, 3 a file or an output that failed.
@@ -56,35 +59,11 @@ fn perform<'a, S: AsStr, F: Files, O: Sink>(
     match matches.subcommand() {
         Some(("run", arguments)) => run(alloc, arguments, files, out),
         Some(("check", arguments)) => check_file(alloc, arguments, files, out),
+        Some(("verify", arguments)) => verify_file(alloc, arguments, files, out),
+        Some(("asm", arguments)) => assemble_file(alloc, arguments, files),
+        Some(("print", arguments)) => print_file(alloc, arguments, files, out),
         _ => Ok(()),
     }
-}
-
-/// `check FILE`
-fn check_file<'a, F: Files, O: Sink>(
-    alloc: Global,
-    arguments: &ArgMatches<'a>,
-    files: &mut F,
-    out: &mut O,
-) -> Result<(), Failure<'a>>
-    requires works { O.has_failed out.old ≡ false }
-{
-    let name = word(arguments, "FILE");
-    let image = read(alloc, files, name, MAX_IMAGE)?;
-    let window = window_of(alloc, image.as_slice())?;
-    check(alloc, &window)?;
-    print(out, b"ok\n")
-}
-
-/// A window on the bytes of an image alone. Bytes that are too many or too few for a segment are no image.
-fn window_of(alloc: Global, image: &[u8]) -> Result<Window<Global>, Fault> {
-    let len = match u32::try_from(image.len()) {
-        Ok(len) if len <= MAX_LEN => len,
-        _ => return Err(Fault::BadHeader),
-    };
-    let mut window = Window::place(Region::new(alloc, len)?, 0, len).map_err(|_| Fault::BadHeader)?;
-    window.copy_in(0, image);
-    Ok(window)
 }
 
 /// The argument with this id, which the command line requires.
@@ -104,21 +83,36 @@ pub fn read<'a, F: Files>(
         .map_err(|fault| Failure::of_file(name, fault))
 }
 
-fn print<'a, O: Sink>(out: &mut O, text: &[u8]) -> Result<(), Failure<'a>>
+/// Prints a text.
+pub fn print<'a, O: Sink>(out: &mut O, text: &[u8]) -> Result<(), Failure<'a>>
     requires works { O.has_failed out.old ≡ false }
 {
     write_all(out, text).map_err(|_| Failure::File(STANDARD_OUTPUT))
 }
 
-/// Writes the line that says why a command failed.
+/// Writes the line that says why a command failed, and a wrong line of a text below it.
 fn report<E: Sink>(alloc: Global, failure: &Failure, err: &mut E) -> Result<(), AllocError>
     requires works { E.has_failed err.old ≡ false }
 {
-    let line = match failure {
+    let message = match failure {
         Failure::Words(error) => error.to_string(alloc)?,
         Failure::Refused(refused) => format!(in alloc; "{refused}\n")?,
+        Failure::BadLine { line, text } => bad_line(alloc, *line, text.as_slice())?,
         Failure::File(name) => format!(in alloc; "file {name}\n")?,
     };
-    let _ = write_all(err, line.as_bytes());
+    let _ = write_all(err, message.as_bytes());
     Ok(())
+}
+
+/// The fault of a wrong line, and the line itself, if the text has it.
+fn bad_line(alloc: Global, number: u32, text: &[u8]) -> Result<String, AllocError> {
+    let fault = Fault::BadLine(number);
+    let mut lines = text.split(|byte| *byte == b'\n');
+    match lines.nth((number as usize).saturating_sub(1)) {
+        Some(line) if !line.is_empty() => {
+            let line = String::from_utf8_lossy(alloc, line)?;
+            format!(in alloc; "{fault}\n{number}: {line}\n")
+        }
+        _ => format!(in alloc; "{fault}\n"),
+    }
 }

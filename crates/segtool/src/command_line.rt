@@ -9,7 +9,10 @@ pub fn command_line<'a>(alloc: Global) -> Result<Command<'a>, AllocError> {
         .subcommand_required(true)
         .arg_required_else_help(true)
         .subcommand(run_line(alloc)?)?
-        .subcommand(check_line(alloc)?)
+        .subcommand(check_line(alloc)?)?
+        .subcommand(verify_line(alloc)?)?
+        .subcommand(assemble_line(alloc)?)?
+        .subcommand(print_line(alloc)?)
 }
 
 fn file<'a>(alloc: Global, id: &'a str, help: &'a str) -> Arg<'a> {
@@ -54,4 +57,24 @@ fn check_line<'a>(alloc: Global) -> Result<Command<'a>, AllocError> {
     Command::new(alloc, "check")
         .about("Prints ok where a file is a sound image, else the first fault")
         .arg(file(alloc, "FILE", "The image"))
+}
+
+fn verify_line<'a>(alloc: Global) -> Result<Command<'a>, AllocError> {
+    Command::new(alloc, "verify")
+        .about("Prints how many steps a client takes at most on an image")
+        .arg(file(alloc, "FILE", "The image"))?
+        .arg(file(alloc, "CLIENT", "The client"))
+}
+
+fn assemble_line<'a>(alloc: Global) -> Result<Command<'a>, AllocError> {
+    Command::new(alloc, "asm")
+        .about("Assembles the text of a client")
+        .arg(file(alloc, "TEXT", "The text"))?
+        .arg(file(alloc, "OUT", "The file that the client is written to"))
+}
+
+fn print_line<'a>(alloc: Global) -> Result<Command<'a>, AllocError> {
+    Command::new(alloc, "print")
+        .about("Prints the text of a client")
+        .arg(file(alloc, "CLIENT", "The client"))
 }

@@ -1,11 +1,13 @@
 //! The program `segtool`: checks images of managed segments, and runs clients on them.
 #![tactic(auto)]
 
+mod clients;
 mod command;
 mod command_line;
 mod failure;
 mod files;
 mod host;
+mod image;
 mod run;
 #[cfg(test)]
 mod tests;

@@ -1,14 +1,11 @@
 ghost use Rattle.std.specs.Prelude.{◌≡◌, false};
 
-use crate::command::{MAX_IMAGE, read, word};
+use crate::command::{MAX_FILE, MAX_IMAGE, read, word};
 use crate::failure::{Failure, STANDARD_OUTPUT};
 use crate::files::Files;
 use clap::ArgMatches;
 use client_vm::{Ended, Place, Sink, run_bytes};
 use std::alloc::Global;
-
-/// The most bytes of a client, and of the input.
-const MAX_FILE: u64 = 1 << 20;
 
 /// `run IMAGE OUT CLIENT.. [--base N] [--room N] [--input FILE]`: runs the clients, and writes the saved image also where
 /// their output failed.
