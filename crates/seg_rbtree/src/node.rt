@@ -1,0 +1,70 @@
+use seg_ptr::Window;
+use std::alloc::Allocator;
+
+/// One of a node's two children.
+#[derive(Debug, Clone, Copy, PartialEq, Eq, Default)]
+pub(crate) enum Side {
+    #[default]
+    Left,
+    Right,
+}
+
+impl Side {
+    pub(crate) fn other(self) -> Side {
+        match self {
+            Side::Left => Side::Right,
+            Side::Right => Side::Left,
+        }
+    }
+}
+
+#[derive(Debug, Clone, Copy, PartialEq, Eq)]
+pub(crate) enum Colour {
+    Black = 0,
+    Red = 1,
+}
+
+/// The position of the pointer to a child.
+pub(crate) fn child_word(node: u32, side: Side) -> usize {
+    match side {
+        Side::Left => node as usize,
+        Side::Right => node as usize + 4,
+    }
+}
+
+pub(crate) fn child<A: Allocator>(w: &Window<A>, node: u32, side: Side) -> Option<u32> {
+    w.target(child_word(node, side))
+}
+
+pub(crate) fn set_child<A: Allocator>(
+    w: &mut Window<A>,
+    node: u32,
+    side: Side,
+    child: Option<u32>,
+) {
+    w.point(child_word(node, side), child);
+}
+
+/// The colour of a node. Where there is none it is black.
+pub(crate) fn colour_of<A: Allocator>(w: &Window<A>, node: Option<u32>) -> Colour {
+    match node {
+        Some(node) if w.get32(node as usize + 8) == Colour::Red as u32 => Colour::Red,
+        _ => Colour::Black,
+    }
+}
+
+pub(crate) fn is_red<A: Allocator>(w: &Window<A>, node: Option<u32>) -> bool {
+    colour_of(w, node) == Colour::Red
+}
+
+pub(crate) fn paint<A: Allocator>(w: &mut Window<A>, node: u32, colour: Colour) {
+    w.put32(node as usize + 8, colour as u32);
+}
+
+/// Makes a node a red one without children.
+pub(crate) fn init<A: Allocator>(w: &mut Window<A>, node: u32) {
+    set_child(w, node, Side::Left, None);
+    set_child(w, node, Side::Right, None);
+    paint(w, node, Colour::Red);
+    w.put32(node as usize + 12, 0);
+}
