@@ -1,10 +1,10 @@
-ghost use Rattle.std.specs.Prelude.{◌≡◌, ◌≤◌, ◌+◌, ◌*◌, ◌^◌, IfOk};
+ghost use Rattle.std.specs.Prelude.{◌≡◌, ◌≤◌, ◌<◌, ◌+◌, ◌*◌, ◌^◌, IfOk, IsSome};
 
 use crate::constant::Constant;
-use crate::header::{Header, MOST_CONSTANTS};
+use crate::header::{Header, MOST_CONSTANTS, MOST_INSTRUCTIONS};
 use crate::instruction::Instruction;
 use crate::nesting::Nesting;
-use crate::types::read_types;
+use crate::types::{MOST_TYPES, read_types};
 use arrayvec::ArrayVec;
 use seg_layout::TypeTable;
 use seg_raw::Fault;
@@ -59,7 +59,9 @@ impl<'a> Client<'a> {
     }
 
     /// The number of types.
-    pub fn type_count(&self) -> u32 {
+    pub fn type_count(&self) -> u32
+        ensures { result ≤ MOST_TYPES }
+    {
         self.header.types
     }
 
@@ -72,12 +74,16 @@ impl<'a> Client<'a> {
     }
 
     /// The number of instructions, `ELSE` and `END` among them.
-    pub fn instruction_count(&self) -> u32 {
+    pub fn instruction_count(&self) -> u32
+        ensures { result ≤ MOST_INSTRUCTIONS }
+    {
         self.header.instructions
     }
 
     /// An instruction, in constant time.
-    pub fn instruction(&self, i: u32) -> Option<Instruction> {
+    pub fn instruction(&self, i: u32) -> Option<Instruction>
+        ensures { IsSome result → i < self.now.header.instructions }
+    {
         if i >= self.header.instructions {
             return None;
         }

@@ -1,3 +1,6 @@
+ghost use Rattle.std.specs.Prelude.{◌≤◌};
+ghost use Rattle.client_verify.specs.declared.verified.TheConstants.{MOST_STEPS};
+
 use crate::verifier::Verifier;
 use client_code::Client;
 use seg_layout::TypeTable;
@@ -12,6 +15,7 @@ pub struct Verified<'a> {
     client: Client<'a>,
     types: TypeTable,
     bound: u64,
+    ghost within: { bound ≤ MOST_STEPS },
 }
 
 impl<'a> Verified<'a> {
@@ -26,7 +30,9 @@ impl<'a> Verified<'a> {
     }
 
     /// The steps that a run of the client takes at most.
-    pub fn bound(&self) -> u64 {
+    pub fn bound(&self) -> u64
+        ensures { result ≤ MOST_STEPS }
+    {
         self.bound
     }
 

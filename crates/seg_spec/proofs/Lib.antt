@@ -33,3 +33,8 @@ pub mod CellLaws
 pub mod AddTypes
 pub mod PickLaws
 pub mod EveryImage
+pub mod Found
+pub mod Around
+pub mod PartLaw
+pub mod Composing
+pub mod StretchLaws

@@ -9,7 +9,7 @@ use Rattle.seg_spec.specs.Heap.{IsHeap, live}
 use Rattle.seg_spec.specs.Block.{IsOwnable, KeepsBlock}
 use Rattle.seg_spec.specs.Index.{Root, IsEntry, AreEntries, ListsNames, position_of, AreRising, ListsUniques}
 use Rattle.seg_spec.specs.Sound.{Picture, roots_of, IsPlain, HoldsRoot, HoldsRoots, holds_no_root, holds_more_roots, HasHeader, IsLaidOut, IsHeld}
-use Rattle.seg_spec.specs.Roots.{Listed, by_name, by_type, loose, roots_in, with_roots, RootsComeApart, HasFace, RootComesApart}
+use Rattle.seg_spec.specs.Roots.{Listed, by_name, by_type, loose, roots_in, with_roots, roots_before, roots_after, RootsComeApart, HasFace, RootComesApart}
 use Rattle.seg_spec.proofs.SliceLaws.{IsSame-part}
 use Rattle.seg_spec.proofs.Frame.{word-same, each_left, each_right}
 use Rattle.seg_spec.proofs.RootFrame.{HoldsRoots-kept, ListsNames-kept, ListsUniques-kept}
@@ -46,23 +46,12 @@ module _ (bytes : List ℕ) (table : Table) where
   pub HoldsRoots-only : (root : Root) (blocks : List ℕ) → HoldsRoots bytes table (root ∷ []) blocks → HoldsRoot bytes table root blocks
   HoldsRoots-only root blocks (holds_more_roots {blocks = mine} h holds_no_root) = rw (append-nil mine) h
 
--- the roots around those of one list
-abbrev pub roots_before : Picture → Listed → List Root → List Root
-roots_before picture by_name before = before
-roots_before picture by_type before = picture.names ++ before
-roots_before picture loose before = picture.names ++ (picture.uniques ++ before)
-
-abbrev pub roots_after : Picture → Listed → List Root → List Root
-roots_after picture by_name after = after ++ (picture.uniques ++ picture.loose)
-roots_after picture by_type after = after ++ picture.loose
-roots_after picture loose after = after
-
-roots_with : (picture : Picture) (which : Listed) (before these after : List Root) → roots_of (with_roots picture which (before ++ (these ++ after))) ≡ roots_before picture which before ++ (these ++ roots_after picture which after)
+pub roots_with : (picture : Picture) (which : Listed) (before these after : List Root) → roots_of (with_roots picture which (before ++ (these ++ after))) ≡ roots_before picture which before ++ (these ++ roots_after picture which after)
 roots_with picture by_name before these after = simp append_assoc
 roots_with picture by_type before these after = simp append_assoc
 roots_with picture loose before these after = simp append_assoc
 
-roots_are : (picture : Picture) (which : Listed) (before these after : List Root) → roots_in picture which ≡ before ++ (these ++ after) → roots_of picture ≡ roots_before picture which before ++ (these ++ roots_after picture which after)
+pub roots_are : (picture : Picture) (which : Listed) (before these after : List Root) → roots_in picture which ≡ before ++ (these ++ after) → roots_of picture ≡ roots_before picture which before ++ (these ++ roots_after picture which after)
 roots_are picture by_name before these after e = ap (λ rs. rs ++ (picture.uniques ++ picture.loose)) e ∙ roots_with picture by_name before these after
 roots_are picture by_type before these after e = ap (λ rs. picture.names ++ (rs ++ picture.loose)) e ∙ roots_with picture by_type before these after
 roots_are picture loose before these after e = ap (λ rs. picture.names ++ (picture.uniques ++ rs)) e ∙ roots_with picture loose before these after
@@ -77,26 +66,24 @@ table_kept picture loose roots = refl
 regroup : (xs ys zs : List ℕ) → xs ++ (ys ++ zs) ≡ (xs ++ ys) ++ zs
 regroup xs ys zs = sym (append_assoc xs ys zs)
 
-pub roots_come_apart : (old : List ℕ) (picture : Picture) (held : IsHeld old picture) (which : Listed) (before gone after : List Root) → roots_in picture which ≡ before ++ (gone ++ after) → RootsComeApart old picture held which before gone after
-roots_come_apart old picture held which before gone after e =
-    let front = roots_before picture which before in
-    let back = roots_after picture which after in
-    let all : HoldsRoots old picture.table (front ++ (gone ++ back)) held.root_blocks = subst (λ rs. HoldsRoots old picture.table rs held.root_blocks) (roots_are picture which before gone after e) held.roots in
-    let s = HoldsRoots-split old picture.table front (gone ++ back) held.root_blocks all in
-    let t = HoldsRoots-split old picture.table gone back s.right s.rights in
+pub roots_come_apart : (old : List ℕ) (picture : Picture) (held : IsHeld old picture) (before gone after : List Root) → roots_of picture ≡ before ++ (gone ++ after) → RootsComeApart old picture held before gone after
+roots_come_apart old picture held before gone after e =
+    let all : HoldsRoots old picture.table (before ++ (gone ++ after)) held.root_blocks = subst (λ rs. HoldsRoots old picture.table rs held.root_blocks) e held.roots in
+    let s = HoldsRoots-split old picture.table before (gone ++ after) held.root_blocks all in
+    let t = HoldsRoots-split old picture.table gone after s.right s.rights in
     record {
       left = s.left;
       its = t.left;
       right = t.right;
       blocks_are = s.blocks_are ∙ ap (λ bs. s.left ++ bs) t.blocks_are;
       holds_them = t.lefts;
-      becomes = λ new come index_blocks others laid_out kept holds owners. record {
+      becomes = λ new other come index_blocks others table roots laid_out kept holds owners. record {
         index_blocks = index_blocks;
         laid_out = laid_out;
         root_blocks = s.left ++ (others ++ t.right);
         roots =
-            subst (λ tab. HoldsRoots new tab (roots_of (with_roots picture which (before ++ (come ++ after)))) (s.left ++ (others ++ t.right))) (sym (table_kept picture which (before ++ (come ++ after))))
-            (subst (λ rs. HoldsRoots new picture.table rs (s.left ++ (others ++ t.right))) (sym (roots_with picture which before come after))
+            subst (λ tab. HoldsRoots new tab (roots_of other) (s.left ++ (others ++ t.right))) (sym table)
+            (subst (λ rs. HoldsRoots new picture.table rs (s.left ++ (others ++ t.right))) (sym roots)
             (HoldsRoots-append new picture.table (HoldsRoots-kept old new picture.table held.laid_out.is_table s.lefts (each_left _ s.left t.right kept))
             (HoldsRoots-append new picture.table holds (HoldsRoots-kept old new picture.table held.laid_out.is_table t.rights (each_right _ s.left t.right kept)))));
         owners = owners;
@@ -239,7 +226,7 @@ IsLaidOut-faced bytes picture index_blocks loose before root other after e f l =
 
 pub root_comes_apart : (old : List ℕ) (picture : Picture) (held : IsHeld old picture) (which : Listed) (before : List Root) (root : Root) (after : List Root) → roots_in picture which ≡ before ++ root ∷ after → RootComesApart old picture held which before root after
 root_comes_apart old picture held which before root after e =
-    let s = roots_come_apart old picture held which before (root ∷ []) after e in
+    let s = roots_come_apart old picture held (roots_before picture which before) (root ∷ []) (roots_after picture which after) (roots_are picture which before (root ∷ []) after e) in
     record {
       left = s.left;
       its = s.its;
@@ -247,7 +234,7 @@ root_comes_apart old picture held which before root after e =
       blocks_are = s.blocks_are;
       holds_it = HoldsRoots-only old picture.table root s.its s.holds_them;
       becomes = λ new other others face len low high heap blocks kept holds owners.
-          s.becomes new (other ∷ []) held.index_blocks others
+          s.becomes new (with_roots picture which (before ++ other ∷ after)) (other ∷ []) held.index_blocks others (table_kept picture which (before ++ other ∷ after)) (roots_with picture which before (other ∷ []) after)
           (IsLaidOut-faced new picture held.index_blocks which before root other after e face
           (IsLaidOut-kept old new picture held.index_blocks held.laid_out len low high heap blocks (each_left _ held.index_blocks _ kept)))
           (each_right _ held.index_blocks _ kept) (HoldsRoots-one new picture.table holds) owners;

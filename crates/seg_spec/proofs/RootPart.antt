@@ -11,11 +11,12 @@ use Rattle.seg_spec.specs.Types.{Table, size, IsTable}
 use Rattle.seg_spec.specs.Value.{Label, Value, Values, nil, cons, count, nth, append, change_nth, Selector, put}
 use Rattle.seg_spec.specs.Heap.{units_at}
 use Rattle.seg_spec.specs.Block.{IsBlock, KeepsBlock, block_of, IsInside}
-use Rattle.seg_spec.specs.Reads.{Place, items, fields, Holds, HoldsEach, Leads, Around, around_here, around_in}
+use Rattle.seg_spec.specs.Reads.{Place, items, fields, Holds, HoldsEach, Leads}
 use Rattle.seg_spec.specs.Apart.{Separate, RangeApart, BlocksApart, KeepsBlockAround}
 use Rattle.seg_spec.specs.Index.{Root}
 use Rattle.seg_spec.specs.Sound.{HoldsRoot, times}
 use Rattle.seg_spec.specs.Roots.{item_of, PartComesApart}
+use Rattle.seg_spec.proofs.Around.{Around, around_here, around_in}
 use Rattle.seg_spec.proofs.SizeLaws.{size_large}
 use Rattle.seg_spec.proofs.Frame.{SamePlace, each_left, each_right, each_weaker, each_both, HoldsEach-kept}
 use Rattle.seg_spec.proofs.Geometry.{In, in_left, in_right, Located, LocatedPlace, surround, InFields, fields_in, fields_split, IsBlock-headers}

@@ -49,7 +49,7 @@ each_but P [] its r a = each_right P its r a
 each_but P (x ∷ l) its r a = (a.0, each_but P l its r a.1)
 
 -- a block of a part of a root's blocks is live, and nothing else owns it
-alone : (h : ℕ) (xs ib rb l its r pl pi pr : List ℕ) → SameBlocks xs (ib ++ rb) → rb ≡ l ++ (its ++ r) → its ≡ pl ++ (pi ++ pr) → 1 ≤ times h (pl ++ pr) → times h xs ≤ 1 → (1 ≤ times h xs) × (times h (ib ++ (l ++ r)) ≡ 0)
+pub alone : (h : ℕ) (xs ib rb l its r pl pi pr : List ℕ) → SameBlocks xs (ib ++ rb) → rb ≡ l ++ (its ++ r) → its ≡ pl ++ (pi ++ pr) → 1 ≤ times h (pl ++ pr) → times h xs ≤ 1 → (1 ≤ times h xs) × (times h (ib ++ (l ++ r)) ≡ 0)
 alone h xs ib rb l its r pl pi pr same rb_is its_is some once =
     let n0 = same h in
     let n1 = times-append h ib rb in
@@ -67,7 +67,7 @@ alone h xs ib rb l its r pl pi pr same rb_is its_is some once =
 regrouped : (ib l its r pl pi pr qi : List ℕ) → its ≡ pl ++ (pi ++ pr) → pi ≡ qi → ib ++ (l ++ ((pl ++ (qi ++ pr)) ++ r)) ≡ ib ++ (l ++ (its ++ r))
 regrouped ib l its r pl pi pr qi e f = rw (e, f) refl
 
-faced : (root : Root) (j : ℕ) (f : Value → Value) → HasFace root (with_item root j f)
+pub faced : (root : Root) (j : ℕ) (f : Value → Value) → HasFace root (with_item root j f)
 faced root j f = record { same_name = refl; same_at = refl; same_type = refl; same_count = count-change_nth (Some j) f root.values }
 
 module _ (old new : List ℕ) (at m : ℕ) (changes : ChangesOnly old new at m) (h : ℕ) where

@@ -8,9 +8,11 @@
 use Rattle.std.specs.Prelude.{◌≡◌, ℕ, ◌+◌, ◌-◌, ◌*◌, ◌/◌, max, nat_le, if◌then◌else◌, List, [], ◌∷◌, Option, Some, None, option_and_then}
 use Rattle.seg_spec.specs.Heap.{Span, room_at, Granted, same, fresh, after_give, after_request, after_request_at}
 
+-- the units of a block for n payload bytes: its header, and at least 2 in all
 abbrev pub need : ℕ → ℕ
 need n = max 2 (1 + (n + 15) / 16)
 
+-- a request: the block that may grow, if there is one, and the preferred and the least units
 pub record Ask : Type 0 where
   pub old : Option ℕ
   pub preferred : ℕ
@@ -20,6 +22,7 @@ pub record Ask : Type 0 where
 abbrev pub units_for : ℕ → Ask
 units_for u = record { old = None; preferred = u; limit = u }
 
+-- the request for a new block for n payload bytes
 abbrev pub block_for : ℕ → Ask
 block_for n = units_for (need n)
 
@@ -33,24 +36,30 @@ growth_if_needed units old item count wanted = if nat_le (wanted * item) (16 * u
 
 -- ---- requests on the live blocks of a heap that ends at a position
 
+-- what is granted, with or without a block that may grow
 abbrev pub after_request_of : ℕ → List Span → ℕ → Option ℕ → ℕ → ℕ → Option Granted
 after_request_of allocator bs end None preferred limit = after_request allocator bs end preferred limit
 after_request_of allocator bs end (Some at) preferred limit = after_request_at allocator bs end at (room_at bs at) preferred limit
 
+-- what is granted to one request
 abbrev pub after_ask : ℕ → List Span → ℕ → Ask → Option Granted
 after_ask allocator bs end ask = after_request_of allocator bs end ask.old ask.preferred ask.limit
 
+-- the live blocks then
 abbrev pub blocks_then : Granted → List Span
 blocks_then (same bs) = bs
 blocks_then (fresh at bs) = bs
 
+-- the live blocks after all requests, each on those that the ones before it leave; none where one gets nothing
 abbrev pub after_asks : ℕ → List Span → ℕ → List Ask → Option (List Span)
 after_asks allocator bs end [] = Some bs
 after_asks allocator bs end (ask ∷ asks) = option_and_then (λ g. after_asks allocator (blocks_then g) end asks) (after_ask allocator bs end ask)
 
+-- one of the requests gets nothing, after those before it were granted
 abbrev pub NoRoom : ℕ → List Span → ℕ → List Ask → Type 0
 NoRoom allocator bs end asks = after_asks allocator bs end asks ≡ None
 
+-- the live blocks after these were given back
 abbrev pub after_gives : List Span → List ℕ → List Span
 after_gives bs [] = bs
 after_gives bs (at ∷ ats) = after_gives (after_give bs at) ats

@@ -8,6 +8,7 @@ use Rattle.seg_spec.specs.Value.{Value, Values, Int, Text, Seq, Map, Full, Struc
 use Rattle.seg_spec.specs.Sound.{Picture}
 use Rattle.seg_spec.specs.Bytes.{spelling, put, set_byte, set_half, set_word}
 
+-- numbers of 32 bits, one behind the other
 abbrev pub words : List ℕ → List ℕ
 words [] = []
 words (n ∷ ns) = spelling 4 n ++ words ns
@@ -28,9 +29,11 @@ one_type kind = (kind ∷ replicate 511 0) ++ words (replicate 32 1)
 abbrev pub live_header : ℕ → ℕ → ℕ → List ℕ
 live_header units before tag = words ((2 ^ 31 + units) ∷ before ∷ tag ∷ 1 ∷ [])
 
+-- a type of every kind
 abbrev pub every_table : Table
 every_table = Form.i64 ∷ Form.str ∷ Form.vec 0 ∷ Form.list 0 ∷ Form.flat_map 0 ∷ Form.map 0 ∷ Form.own 0 ∷ Form.struct (0 ∷ 1 ∷ 2 ∷ 3 ∷ 4 ∷ 5 ∷ 6 ∷ []) ∷ []
 
+-- one number named x, which is 41
 unfoldable pub counter : List ℕ
 counter =
     header_bytes 49 0 0 1 720 1
@@ -42,6 +45,7 @@ counter =
     ++ words (back 32 ∷ [])
     ++ (1 ∷ 0 ∷ 1 ∷ 0 ∷ replicate 24 0)
 
+-- one text named s, which is "hi"
 unfoldable pub greeting : List ℕ
 greeting =
     header_bytes 51 0 0 1 720 1
@@ -108,10 +112,12 @@ every =
 
 -- ---- what they hold
 
+-- numbers as values
 abbrev pub many : List ℤ → Values
 many [] = nil
 many (k ∷ ks) = cons (Int k) (many ks)
 
+-- a value of every kind
 abbrev pub every_value : Value
 every_value = Struct (cons (Int (pos 5)) (cons (Text (codes "hi")) (cons (Seq (many (pos 1 ∷ pos 2 ∷ []))) (cons (Seq (many (pos 3 ∷ pos 4 ∷ [])))
     (cons (Map (negsuc 0 ∷ pos 2 ∷ []) (many (pos 10 ∷ pos 20 ∷ []))) (cons (Map (negsuc 4 ∷ pos 2 ∷ []) (many (pos 30 ∷ pos 40 ∷ []))) (cons (Full (Int (pos 9))) nil)))))))

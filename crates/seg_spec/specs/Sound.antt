@@ -22,6 +22,7 @@ pub record Picture : Type 0 where
   -- objects that something outside the image owns
   pub loose : List Root
 
+-- all roots: named, unique and loose
 abbrev pub roots_of : Picture → List Root
 roots_of picture = picture.names ++ (picture.uniques ++ picture.loose)
 
@@ -46,12 +47,14 @@ pub record HoldsRoot (bytes : List ℕ) (table : Table) (root : Root) (blocks : 
   pub values : HoldsEach bytes table (items table root.at root.type (count root.values)) root.values inside
   pub blocks_are : blocks ≡ block_of root.at ∷ inside
 
+-- each root holds its values, in turn, and owns these blocks
 pub data HoldsRoots (bytes : List ℕ) (table : Table) : List Root → List ℕ → Type 0 where
   holds_no_root : HoldsRoots bytes table [] []
   holds_more_roots : {root : Root} {roots : List Root} {blocks rest : List ℕ} → HoldsRoot bytes table root blocks → HoldsRoots bytes table roots rest → HoldsRoots bytes table (root ∷ roots) (blocks ++ rest)
 
 -- ---- the image
 
+-- the fixed words of an image, and its length
 pub record HasHeader (bytes : List ℕ) : Type 0 where
   pub not_small : 736 ≤ length bytes
   pub not_large : length bytes ≤ 2 ^ 30
@@ -88,6 +91,7 @@ SameBlocks xs ys = (h : ℕ) → times h xs ≡ times h ys
 abbrev pub positions : List Span → List ℕ
 positions bs = map (λ b. b.at) bs
 
+-- the bytes are a segment with these types and roots: laid out, each root with its values, each live block with one owner
 pub record IsHeld (bytes : List ℕ) (picture : Picture) : Type 0 where
   pub index_blocks : List ℕ
   pub laid_out : IsLaidOut bytes picture index_blocks
@@ -96,6 +100,7 @@ pub record IsHeld (bytes : List ℕ) (picture : Picture) : Type 0 where
   -- each live block has one owner
   pub owners : SameBlocks (positions (live bytes)) (index_blocks ++ root_blocks)
 
+-- the bytes are a segment that owns all its objects itself
 pub record IsSound (bytes : List ℕ) : Type 0 where
   pub picture : Picture
   pub held : IsHeld bytes picture

@@ -2,7 +2,7 @@
 
 ghost use Rattle.std.specs.Prelude.{◌≡◌, ℕ, List, [], ◌∷◌, map, Option, Some, None};
 ghost use Rattle.std.specs.Option.{option_map, option_and_then};
-ghost use Rattle.seg_spec.specs.Heap.{span, gaps_of, after_take, after_give, after_expand, after_shrink, after_extend, units_to_cut};
+ghost use Rattle.seg_spec.specs.Heap.{span, gaps_of, after_take, after_give, after_expand, after_shrink, after_extend, units_to_cut, after_request_at, same, fresh};
 ghost use Rattle.seg_spec.specs.Sound.{IsHeld, IsSound};
 ghost use Rattle.seg_spec.specs.Fixtures.{counter, greeting, empty, empty_tree, every, every_picture, counter_picture, greeting_picture, empty_picture, other_magic, other_size, linked, odd_kind, neighbours, lost_gap, red_root, no_items, named_as_unique, no_buffer, own_buffer, two_owners, no_owner};
 ghost use Rattle.seg_spec.specs.Demand.{need, units_for, growth, after_asks, after_gives, NoRoom};
@@ -36,6 +36,16 @@ pub fn expanding_and_shrinking()
     ensures unchanged { after_shrink (span 704 6 ∷ span 800 4 ∷ []) 960 704 6 5 ≡ span 704 6 ∷ span 800 4 ∷ [] }
     ensures shrunk { after_shrink (span 704 6 ∷ span 800 4 ∷ []) 960 704 6 4 ≡ span 704 4 ∷ span 800 4 ∷ [] }
     ensures gap { gaps_of (span 704 4 ∷ span 800 4 ∷ []) 960 ≡ span 768 2 ∷ span 864 6 ∷ [] }
+{}
+
+/// A block of 2 units with a gap of 3 behind it asks for more. It grows to what it prefers, else a gap further on is taken;
+/// else it grows to its limit, else the gap is taken for that; else there is none.
+pub fn requesting()
+    ensures grows { after_request_at 0 (span 704 2 ∷ span 784 2 ∷ []) 912 704 2 5 3 ≡ Some (same (span 704 5 ∷ span 784 2 ∷ [])) }
+    ensures takes { after_request_at 0 (span 704 2 ∷ span 784 2 ∷ []) 912 704 2 6 4 ≡ Some (fresh 816 (span 704 2 ∷ span 784 2 ∷ span 816 6 ∷ [])) }
+    ensures grows_to_limit { after_request_at 0 (span 704 2 ∷ span 784 2 ∷ []) 880 704 2 6 4 ≡ Some (same (span 704 5 ∷ span 784 2 ∷ [])) }
+    ensures takes_limit { after_request_at 0 (span 704 2 ∷ span 784 2 ∷ []) 912 704 2 7 6 ≡ Some (fresh 816 (span 704 2 ∷ span 784 2 ∷ span 816 6 ∷ [])) }
+    ensures none { after_request_at 0 (span 704 2 ∷ span 784 2 ∷ []) 912 704 2 9 8 ≡ None }
 {}
 
 /// A heap of blocks of 2 and 3 units grows by one unit, which goes to the last block, or by two, which become a gap. A gap

@@ -9,14 +9,31 @@ ghost use Rattle.seg_spec.specs.Heap.{live};
 ghost use Rattle.seg_spec.specs.Reads.{Place, Holds, Leads};
 ghost use Rattle.seg_spec.specs.Apart.{BlocksApart};
 ghost use Rattle.seg_spec.specs.Index.{Root, AreRising, unique_word, ListsUniques};
-ghost use Rattle.seg_spec.specs.Sound.{Picture, HoldsRoot, IsHeld, times, positions};
-ghost use Rattle.seg_spec.specs.Roots.{Listed, roots_in, with_roots, SamePicture, RootsComeApart, RootComesApart, item_of, with_item, PartComesApart};
+ghost use Rattle.seg_spec.specs.Sound.{Picture, roots_of, HoldsRoot, IsHeld, times, positions};
+ghost use Rattle.seg_spec.specs.Roots.{Listed, roots_in, with_roots, roots_before, roots_after, SamePicture, RootsComeApart, StretchesComeApart, RootComesApart, item_of, with_item, PartComesApart, ChangesPlace};
 
 /// Some roots of an image, named, unique or loose, and what is around them: where that is kept, others may stand in their
 /// place. So a root of any kind is added, removed or changed.
 pub fn replacing_roots()
-    ensures { (bytes : List ℕ) (picture : Picture) (held : IsHeld bytes picture) (which : Listed) (before gone after : List Root) →
-        roots_in picture which ≡ before ++ (gone ++ after) → RootsComeApart bytes picture held which before gone after }
+    ensures { (bytes : List ℕ) (picture : Picture) (held : IsHeld bytes picture) (before gone after : List Root) →
+        roots_of picture ≡ before ++ (gone ++ after) → RootsComeApart bytes picture held before gone after }
+{}
+
+/// The same for roots in two stretches at once. So an object moves from a value inside one root to the loose objects, or from
+/// these into a value.
+pub fn replacing_in_two_stretches()
+    ensures { (bytes : List ℕ) (picture : Picture) (held : IsHeld bytes picture) (before first between second after : List Root) →
+        roots_of picture ≡ before ++ (first ++ (between ++ (second ++ after))) →
+        StretchesComeApart bytes picture held before first between second after }
+{}
+
+/// Roots in one of the three lists stand among all roots with those of the lists before and behind.
+pub fn roots_among_all()
+    ensures these { (picture : Picture) (which : Listed) (before these after : List Root) →
+        roots_in picture which ≡ before ++ (these ++ after) →
+        roots_of picture ≡ roots_before picture which before ++ (these ++ roots_after picture which after) }
+    ensures others { (picture : Picture) (which : Listed) (before others after : List Root) →
+        roots_of (with_roots picture which (before ++ (others ++ after))) ≡ roots_before picture which before ++ (others ++ roots_after picture which after) }
 {}
 
 /// A root of an image, of any kind, and what is around it: where that is kept, and the heap is in order with one owner for
@@ -94,4 +111,15 @@ pub fn adding_types()
         IsHeld old picture → length new ≡ length old → IsSame old new 0 64 → IsSame old new 576 (length old - 576) →
         HasTable new 64 (picture.table ++ more) → IsTable (picture.table ++ more) →
         IsHeld new (record picture { table = picture.table ++ more }) }
+{}
+
+/// A call on a place anywhere inside a root of an image, of any kind, that changes the value and the blocks of that place and
+/// keeps all else, changes the image by the value at the place's path and nothing else.
+pub fn changing_place()
+    ensures { (old new : List ℕ) (picture : Picture) (held : IsHeld old picture) (which : Listed) (before : List Root) (root : Root) (after : List Root)
+        (j : ℕ) (path : List Selector) (inner : Place) (v w : Value) (blocks others : List ℕ) →
+        roots_in picture which ≡ before ++ root ∷ after → j < count root.values →
+        Leads old picture.table (item_of picture.table root j) path inner →
+        Holds old picture.table inner v blocks → ChangesPlace old new picture.table inner blocks w others →
+        IsHeld new (with_roots picture which (before ++ with_item root j (put path w) ∷ after)) }
 {}

@@ -1,12 +1,12 @@
 //! Laws of values, and of the places that hold them.
 
-ghost use Rattle.std.specs.Prelude.{◌≡◌, ℕ, ◌<◌, List, [], ◌++◌, length, All};
+ghost use Rattle.std.specs.Prelude.{◌≡◌, ℕ, ◌<◌, List, [], ◌++◌, length, Some, All};
 ghost use Rattle.std.specs.List.{AllByRecursion};
 ghost use Rattle.seg_spec.specs.Bytes.{IsSame};
 ghost use Rattle.seg_spec.specs.Types.{Table, IsTable, size};
-ghost use Rattle.seg_spec.specs.Value.{Value, Has, default_of, Selector};
+ghost use Rattle.seg_spec.specs.Value.{Value, Has, default_of, Selector, value_at};
 ghost use Rattle.seg_spec.specs.Block.{KeepsBlock};
-ghost use Rattle.seg_spec.specs.Reads.{Place, Holds, Leads};
+ghost use Rattle.seg_spec.specs.Reads.{Place, Holds, Leads, LeadsTo};
 ghost use Rattle.seg_spec.specs.Fresh.{IsFresh};
 ghost use Rattle.seg_spec.specs.Apart.{ComesApart};
 
@@ -29,6 +29,15 @@ pub fn changing()
     ensures { (bytes : List ℕ) (table : Table) (place inner : Place) (path : List Selector) (v : Value) (blocks : List ℕ) →
         IsTable table → Leads bytes table place path inner → Holds bytes table place v blocks →
         ComesApart bytes table place path inner v blocks }
+{}
+
+/// A path that leads to a value inside a value leads to a place that holds it. Where one path leads on from where another
+/// one leads to, so do both together.
+pub fn paths()
+    ensures found { (bytes : List ℕ) (table : Table) (place : Place) (path : List Selector) (v inner : Value) (blocks : List ℕ) →
+        Holds bytes table place v blocks → value_at v path ≡ Some inner → LeadsTo bytes table place path inner }
+    ensures joined { (bytes : List ℕ) (table : Table) (place middle inner : Place) (path more : List Selector) →
+        Leads bytes table place path middle → Leads bytes table middle more inner → Leads bytes table place (path ++ more) inner }
 {}
 
 /// A place whose cells are 0 or name nothing holds the default of its type.
