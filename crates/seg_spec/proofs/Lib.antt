@@ -38,3 +38,5 @@ pub mod Around
 pub mod PartLaw
 pub mod Composing
 pub mod StretchLaws
+pub mod WorkedCalls
+pub mod MoveLaw
