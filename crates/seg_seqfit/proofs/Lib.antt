@@ -1,4 +1,4 @@
-pub mod Search
+pub mod Walks
 pub mod LinkLaws
 pub mod Retile
 pub mod Taking

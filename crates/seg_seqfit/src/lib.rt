@@ -1,13 +1,8 @@
-// A library with one function.
+//! Sequential fit: an allocator whose free blocks form a list in ascending position.
 #![tactic(auto)]
 
-ghost use Rattle.std.specs.Prelude.{◌≡◌};
-ghost use Rattle.seg_seqfit.specs.Echo.{echo_of};
+mod free_list;
+mod search;
+mod seqfit;
 
-// The `ensures` clause is the contract: what `echo` returns is `echo_of` of its argument, a definition
-// in `specs/Echo.antt`, which a caller's clause can cite too.
-pub fn echo(x: usize) -> usize
-    ensures { result ≡ echo_of x }
-{
-    x
-}
+pub use seqfit::SeqFit;

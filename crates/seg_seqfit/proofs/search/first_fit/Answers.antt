@@ -1,6 +1,6 @@
 use Rattle.std.proofs.Common.{arith}
-use Rattle.seg_seqfit.proofs.Search.{searched_more, searched_found, searched_end, some_none}
-use Rattle.seg_seqfit.proofs.free_list.first_fit.Goals as goal
+use Rattle.seg_seqfit.proofs.Walks.{searched_more, searched_found, searched_end, some_none}
+use Rattle.seg_seqfit.proofs.search.first_fit.Goals as goal
 
 pub returns-then-block-need-clause-first : goal.returns-then-block-need-clause-first
 returns-then-block-need-clause-first g c = λ gs links blocks.

@@ -1,8 +1,8 @@
 use Rattle.std.proofs.Common.{◌≤◌, ◌-◌, List, length, None}
 use Rattle.seg_spec.specs.Heap.{Span, Links}
 use Rattle.seg_seqfit.specs.FreeBlocks.{AreFreeBlocks}
-use Rattle.seg_seqfit.proofs.Search.{IsSearched}
-use Rattle.seg_seqfit.proofs.free_list.first_fit.Given as goal
+use Rattle.seg_seqfit.proofs.Walks.{IsSearched}
+use Rattle.seg_seqfit.proofs.search.first_fit.Given as goal
 
 abbrev pub invariant-loop-block : goal.invariant-loop-block
 invariant-loop-block g l = record {

@@ -1,6 +1,6 @@
 use Rattle.std.proofs.Common.{arith, inr}
-use Rattle.seg_seqfit.proofs.Search.{passed_more, passed_end, some_none}
-use Rattle.seg_seqfit.proofs.free_list.link_before.Goals as goal
+use Rattle.seg_seqfit.proofs.Walks.{passed_more, passed_end, some_none}
+use Rattle.seg_seqfit.proofs.search.link_before.Goals as goal
 
 pub loop-gap-preserved : goal.loop-gap-preserved
 loop-gap-preserved g c = record {

@@ -1,8 +1,8 @@
 use Rattle.std.proofs.Common.{◌≡◌, ◌≤◌, ◌-◌, ◌^◌, ◌⊎◌, List, ◌++◌, length, None}
 use Rattle.seg_spec.specs.Heap.{Span, Links}
 use Rattle.seg_seqfit.specs.FreeBlocks.{AreFreeBlocks, AreBelow, AreAbove}
-use Rattle.seg_seqfit.proofs.Search.{IsPassed}
-use Rattle.seg_seqfit.proofs.free_list.link_before.Given as goal
+use Rattle.seg_seqfit.proofs.Walks.{IsPassed}
+use Rattle.seg_seqfit.proofs.search.link_before.Given as goal
 
 abbrev pub invariant-loop-gap : goal.invariant-loop-gap
 invariant-loop-gap g l = record {
