@@ -1,0 +1,4 @@
+pub mod Sizes
+pub mod Blocks
+pub mod Tiling
+pub mod Request

@@ -11,7 +11,7 @@ pub const UNIT: u32 = 16;
 pub const HEAP_START: u32 = 704;
 
 /// The bit of the first word that says whether a block is live. The bits below count its units.
-const LIVE: u32 = 1 << 31;
+pub(crate) const LIVE: u32 = 1 << 31;
 
 /// The units of the block at a position, its header counted in.
 pub fn units<A: Allocator>(w: &Window<A>, block: u32) -> u32

@@ -1,9 +1,15 @@
-//! Blocks of a segment's heap: their headers and tags. A block is named by the position of its header; its payload
-//! begins [`UNIT`] bytes behind it.
+//! Blocks of a segment's heap: their headers and tags, the laws of an allocator, and requests to one. A block is named
+//! by the position of its header; its payload begins [`UNIT`] bytes behind it.
 #![tactic(auto)]
 
+mod block;
+mod fit;
+mod grant;
 mod header;
 mod tag;
 
+pub use block::{Block, block_at, last_block, need, set_size};
+pub use fit::Fit;
+pub use grant::{Grant, request, request_at, request_new};
 pub use header::{HEAP_START, UNIT, is_live, link, payload, tag_word, units, units_before};
 pub use tag::{Kind, Tag};

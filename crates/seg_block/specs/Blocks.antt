@@ -1,0 +1,17 @@
+-- A block with its size in its header.
+use Rattle.std.specs.Prelude.{◌≡◌, ℕ, Bool, ◌%◌, ◌≤◌, List, [], ◌∷◌, ◌++◌, length}
+use Rattle.seg_spec.specs.Heap.{Tile, Span, end_of, units_at}
+use Rattle.seg_block.specs.Tiling.{tile}
+
+-- the header at its position states its size, and it lies in the segment
+pub record IsBlock (bytes : List ℕ) (g : Span) : Type 0 where
+  pub aligned : g.at % 16 ≡ 0
+  pub large : 2 ≤ g.units
+  pub inside : end_of g ≤ length bytes
+  pub size_is : units_at bytes g.at ≡ g.units
+
+-- a tile of this size is the last one
+pub record HasEnd (bytes : List ℕ) (ts : List Tile) (at units : ℕ) : Type 0 where
+  pub front : List Tile
+  pub live : Bool
+  pub parts : ts ≡ front ++ tile at units live ∷ []

@@ -1,0 +1,19 @@
+-- The tiles of a heap, whatever holds the free ones. Free tiles may be neighbours.
+use Rattle.std.specs.Prelude.{◌≡◌, ℕ, ◌+◌, ◌≤◌, ◌^◌, Bool, List, length, Contains}
+use Rattle.seg_spec.specs.Bytes.{Agrees}
+use Rattle.seg_spec.specs.Heap.{Span, Tile, end_of, Fill, AreHeaders, live_of, heap_start}
+
+abbrev pub tile : ℕ → ℕ → Bool → Tile
+tile at units live = record { at = at; units = units; live = live }
+
+-- these tiles fill the heap with their headers
+pub record IsTiled (bytes : List ℕ) (ts : List Tile) : Type 0 where
+  pub small : length bytes ≤ 2 ^ 30
+  pub filled : Fill heap_start ts (length bytes)
+  pub headers : AreHeaders bytes 0 ts
+
+-- the bytes before the heap but the word at 24, and the tag, link and payload of each of these live tiles
+pub record Spares (old new : List ℕ) (ts : List Tile) : Type 0 where
+  pub front_kept : Agrees old new 0 24
+  pub back_kept : Agrees old new 28 heap_start
+  pub tiles_kept : (b : Span) → Contains (live_of ts) b → Agrees old new (b.at + 8) (end_of b)

@@ -1,0 +1,83 @@
+ghost use Rattle.std.specs.Prelude.{◌≡◌, ℕ, ◌≤◌, Contains, Option, Some, None};
+ghost use Rattle.seg_spec.specs.Window.{with_bytes};
+ghost use Rattle.seg_spec.specs.Heap.{Span, IsHeap, live};
+ghost use Rattle.seg_block.specs.Request.{Grants, GrantsNew};
+
+use crate::fit::Fit;
+use seg_ptr::Window;
+use std::alloc::Allocator;
+
+/// What a request was given: the block where it stands, or a new one beside it.
+#[derive(Clone, Copy, Debug, PartialEq, Eq)]
+pub enum Grant {
+    Same(u32),
+    New(u32),
+}
+
+/// Finds room for `preferred` units, or for `limit`, without an old block.
+pub fn request_new<F: Fit, A: Allocator>(
+    w: &mut Window<A>,
+    preferred: u32,
+    limit: u32,
+) -> Option<Grant>
+    requires preferred { 2 ≤ preferred }
+    requires limit { 2 ≤ limit }
+    ensures host { w.new ≡ with_bytes w.old w.new.bytes }
+    ensures grants { IsHeap F.code w.old.bytes → GrantsNew F.code w.old.bytes w.new.bytes preferred limit result }
+{
+    if let Some(block) = F::allocate(w, preferred) {
+        return Some(Grant::New(block));
+    }
+    match F::allocate(w, limit) {
+        Some(block) => Some(Grant::New(block)),
+        None => None,
+    }
+}
+
+/// Finds room for `preferred` units, or for `limit`, at a live block or elsewhere.
+pub fn request_at<F: Fit, A: Allocator>(
+    w: &mut Window<A>,
+    block: u32,
+    preferred: u32,
+    limit: u32,
+) -> Option<Grant>
+    requires preferred { 2 ≤ preferred }
+    requires limit { 2 ≤ limit }
+    ensures host { w.new ≡ with_bytes w.old w.new.bytes }
+    ensures grants { (x : ℕ) → IsHeap F.code w.old.bytes → Contains (live w.old.bytes) (record { at = block; units = x })
+        → Grants F.code w.old.bytes w.new.bytes block x preferred limit result }
+{
+    if F::expand(w, block, preferred) {
+        return Some(Grant::Same(block));
+    }
+    if let Some(new) = F::allocate(w, preferred) {
+        return Some(Grant::New(new));
+    }
+    if F::expand(w, block, limit) {
+        return Some(Grant::Same(block));
+    }
+    match F::allocate(w, limit) {
+        Some(new) => Some(Grant::New(new)),
+        None => None,
+    }
+}
+
+/// Finds room for `preferred` units, or for `limit`. A new block leaves the old one live.
+pub fn request<F: Fit, A: Allocator>(
+    w: &mut Window<A>,
+    old: Option<u32>,
+    preferred: u32,
+    limit: u32,
+) -> Option<Grant>
+    requires preferred { 2 ≤ preferred }
+    requires limit { 2 ≤ limit }
+    ensures host { w.new ≡ with_bytes w.old w.new.bytes }
+    ensures same { (at x : ℕ) → old ≡ Some at → IsHeap F.code w.old.bytes → Contains (live w.old.bytes) (record { at = at; units = x })
+        → Grants F.code w.old.bytes w.new.bytes at x preferred limit result }
+    ensures new { old ≡ None → IsHeap F.code w.old.bytes → GrantsNew F.code w.old.bytes w.new.bytes preferred limit result }
+{
+    match old {
+        Some(block) => request_at::<F, A>(w, block, preferred, limit),
+        None => request_new::<F, A>(w, preferred, limit),
+    }
+}

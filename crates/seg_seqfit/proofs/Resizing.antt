@@ -1,0 +1,70 @@
+-- A live block of another size.
+use Rattle.std.proofs.Common.{◌≡◌, ℕ, suc, ◌+◌, ◌*◌, ◌≤◌, true, false, List, [], ◌∷◌, ◌++◌, cond, refl, sym, ap, ◌∙◌, subst, arith, ⊎_elim}
+use Rattle.std.specs.Prelude.{Contains}
+use Rattle.std.proofs.lemmas.List.{append_assoc}
+use Rattle.std.proofs.lemmas.List.Elements.{Contains-append_left, Contains-append_right, Contains-append_cases}
+use Rattle.seg_spec.specs.Bytes.{Agrees}
+use Rattle.seg_spec.specs.Heap.{Span, Tile, span_of, live_of}
+use Rattle.seg_spec.proofs.BytesLaws.{Agrees-trans}
+use Rattle.seg_spec.proofs.TileLaws.{live_of-append}
+use Rattle.seg_block.specs.Sizes.{set_size}
+use Rattle.seg_block.specs.Tiling.{tile, Spares}
+use Rattle.seg_seqfit.specs.Retiling.{link_behind, IsTiling, Retiles}
+use Rattle.seg_seqfit.proofs.LinkLaws.{link_behind-append}
+use Rattle.seg_seqfit.proofs.Allocating.{Spares-trans}
+use Rattle.seg_seqfit.proofs.Extending.{extend-retiles, extend-keeps}
+use Rattle.seg_seqfit.proofs.Cutting.{cut-retiles, cut-keeps}
+
+-- the same tiles, with one of them put to those in front
+abbrev pub put_front : List Tile → Tile → List Tile
+put_front xs t = xs ++ t ∷ []
+
+pub put_front-append : (xs ys : List Tile) (t : Tile) → put_front xs t ++ ys ≡ xs ++ t ∷ ys
+put_front-append xs ys t = append_assoc xs (t ∷ []) ys
+
+-- what is spared in front includes the tile itself
+own : (old new : List ℕ) (xs ys : List Tile) (at u : ℕ) → Spares old new (put_front xs (tile at u true) ++ ys) → Agrees old new (at + 8) (at + 16 * u)
+own old new xs ys at u s =
+    s.tiles_kept (record { at = at; units = u })
+    (subst (λ l. Contains l (record { at = at; units = u })) (sym (ap live_of (put_front-append xs ys (tile at u true)) ∙ live_of-append xs (tile at u true ∷ ys)))
+    (Contains-append_right (live_of xs) (record { at = at; units = u } ∷ live_of ys) (record { at = at; units = u }) (0, omega arith, refl)))
+
+others : (old new : List ℕ) (xs ys : List Tile) (t : Tile) → Spares old new (put_front xs t ++ ys) → Spares old new (xs ++ ys)
+others old new xs ys t s = record {
+  front_kept = s.front_kept;
+  back_kept = s.back_kept;
+  tiles_kept = λ b c. s.tiles_kept b (subst (λ l. Contains l b) (sym (ap live_of (put_front-append xs ys t) ∙ live_of-append xs (t ∷ ys)))
+      (⊎_elim (λ h. Contains-append_left (live_of xs) (live_of (t ∷ ys)) b h) (λ h. Contains-append_right (live_of xs) (live_of (t ∷ ys)) b (behind t ys b h)) (Contains-append_cases (live_of xs) (live_of ys) b (subst (λ l. Contains l b) (live_of-append xs ys) c))));
+}
+  where
+    later : (x b : Span) (l : List Span) → Contains l b → Contains (x ∷ l) b
+    later x b l (n, k, e) = (suc n, omega arith, e)
+
+    behind : (t : Tile) (ys : List Tile) (b : Span) → Contains (live_of ys) b → Contains (live_of (t ∷ ys)) b
+    behind t ys b c = elim t.live as (λ l. Contains (cond l (span_of t ∷ live_of ys) (live_of ys)) b) [ true ↦ later (span_of t) b (live_of ys) c | false ↦ c ]
+
+pub absorbs : (old taken new : List ℕ) (xs ys : List Tile) (at u v link : ℕ) → link ≡ link_behind 24 xs → IsTiling old (xs ++ (tile at u true ∷ tile (at + 16 * u) v false ∷ ys))
+    → ((zs : List Tile) → link ≡ link_behind 24 zs → IsTiling old (zs ++ tile (at + 16 * u) v false ∷ ys) → Retiles old taken zs (tile (at + 16 * u) v true ∷ []) ys)
+    → new ≡ set_size taken at (u + v) true
+    → Retiles old new xs (tile at (u + v) true ∷ []) ys × Agrees old new (at + 8) (at + 16 * u)
+absorbs old taken new xs ys at u v link link_is was takes new_is =
+    let t = tile at u true in
+    let r = takes (put_front xs t) (link_is ∙ sym (link_behind-append xs (t ∷ []) 24)) (subst (λ l. IsTiling old l) (sym (put_front-append xs (tile (at + 16 * u) v false ∷ ys) t)) was) in
+    let mid = subst (λ l. IsTiling taken l) (put_front-append xs (tile (at + 16 * u) v true ∷ ys) t) r.tiling in
+    let e = extend-retiles taken xs ys at u v mid in
+    subst (λ b. Retiles old b xs (tile at (u + v) true ∷ []) ys × Agrees old b (at + 8) (at + 16 * u)) (sym new_is) (
+      record { tiling = e.tiling; spared = Spares-trans old taken (set_size taken at (u + v) true) (xs ++ ys) (others old taken xs ys t r.spared) e.spared },
+      Agrees-trans old taken (set_size taken at (u + v) true) (at + 8) (at + 16 * u) (own old taken xs ys at u r.spared) (extend-keeps taken xs ys at u v mid),
+    )
+
+pub cuts : (old cut new : List ℕ) (xs ys : List Tile) (at n u r link : ℕ) → link ≡ link_behind 24 xs → IsTiling old (xs ++ tile at n true ∷ ys) → n ≡ u + r → 2 ≤ u → 2 ≤ r
+    → cut ≡ set_size (set_size old (at + 16 * u) r true) at u true
+    → ((zs : List Tile) → link ≡ link_behind 24 zs → IsTiling cut (zs ++ tile (at + 16 * u) r true ∷ ys) → Retiles cut new zs (tile (at + 16 * u) r false ∷ []) ys)
+    → Retiles old new xs (tile at u true ∷ tile (at + 16 * u) r false ∷ []) ys × Agrees old new (at + 8) (at + 16 * u)
+cuts old cut new xs ys at n u r link link_is was whole large rest_large cut_is releases =
+    let t = tile at u true in
+    let c = subst (λ b. Retiles old b xs (t ∷ tile (at + 16 * u) r true ∷ []) ys × Agrees old b (at + 8) (at + 16 * u)) (sym cut_is) (cut-retiles old xs ys at n u r was whole large rest_large, cut-keeps old xs ys at n u r was whole large rest_large) in
+    let x = releases (put_front xs t) (link_is ∙ sym (link_behind-append xs (t ∷ []) 24)) (subst (λ l. IsTiling cut l) (sym (put_front-append xs (tile (at + 16 * u) r true ∷ ys) t)) c.0.tiling) in (
+      record { tiling = subst (λ l. IsTiling new l) (put_front-append xs (tile (at + 16 * u) r false ∷ ys) t) x.tiling; spared = Spares-trans old cut new (xs ++ ys) c.0.spared (others cut new xs ys t x.spared) },
+      Agrees-trans old cut new (at + 8) (at + 16 * u) c.1 (own cut new xs ys at u x.spared),
+    )

@@ -1,0 +1,204 @@
+-- What a change of a live block's size leaves.
+use Rattle.std.proofs.Common.{◌≡◌, ◌≢◌, ℕ, ◌+◌, ◌-◌, ◌*◌, ◌<◌, ◌≤◌, true, false, List, [], ◌∷◌, ◌++◌, length, min, cond, eqb, Some, None, refl, sym, ap, ◌∙◌, subst, arith, inl, inr, ◌⊎◌, ⊎_elim}
+use Rattle.std.specs.Prelude.{Contains}
+use Rattle.std.proofs.lemmas.Bool.Decides.{nat_tests}
+use Rattle.std.proofs.lemmas.List.Elements.{Contains-append_cases, Contains-append_left, Contains-append_right}
+use Rattle.seg_spec.specs.Bytes.{Agrees}
+use Rattle.seg_spec.specs.Pointer.{target}
+use Rattle.seg_spec.specs.Heap.{Span, Tile, span_of, end_of, Fill, AreApart, Links, live_of, free_of, heap_start, live, gaps, IsHeap, room_at, resized, Keeps}
+use Rattle.seg_spec.proofs.BytesLaws.{Agrees-within, Agrees-trans}
+use Rattle.seg_spec.proofs.TileLaws.{Fill-le, live_of-append, free_of-append, AreApart-append}
+use Rattle.seg_block.specs.Blocks.{IsBlock}
+use Rattle.seg_block.specs.Tiling.{tile, Spares}
+use Rattle.seg_seqfit.specs.Retiling.{link_behind, IsTiling, Retiles}
+use Rattle.seg_seqfit.proofs.LinkLaws.{Links-behind}
+use Rattle.seg_block.proofs.LiveTiles.{cons_cases, live_within}
+use Rattle.seg_seqfit.proofs.Retile.{around}
+use Rattle.seg_seqfit.proofs.Resizing.{put_front, put_front-append}
+use Rattle.seg_seqfit.proofs.Allocating.{Spares-trans, Spares-same, Keeps-same}
+use Rattle.seg_seqfit.proofs.Heaps.{heap_of_tiling, AreApart-live}
+use Rattle.seg_seqfit.proofs.Freeing.{BeginsFree, begins_free, apart_behind, block, block_tiling, block_apart, block_behind, block_front, IsBlock-tile}
+
+test_same : (m n : ℕ) → m ≡ n → eqb m n ≡ true
+test_same m n e = grind (arith, nat_tests)
+
+test_other : (m n : ℕ) → m ≢ n → eqb m n ≡ false
+test_other m n e = grind (arith, nat_tests)
+
+-- ---- the room behind a block
+
+room_at-front : (xs : List Tile) (gs : List Span) (from to p : ℕ) → Fill from xs to → to < p → room_at (free_of xs ++ gs) p ≡ room_at gs p
+room_at-front [] gs from to p f h = refl
+room_at-front (t ∷ xs) gs from to p f h =
+    let le = Fill-le xs (from + 16 * t.units) to f.2 in
+    let rest = room_at-front xs gs (from + 16 * t.units) to p f.2 h in
+    elim t.live as (λ b. room_at (cond b (free_of xs) (span_of t ∷ free_of xs) ++ gs) p ≡ room_at gs p)
+    [ true ↦ rest | false ↦ rw (test_other t.at p (λ e. absurd (omega (arith, f.0)))) rest ]
+
+room_at-above : (ys : List Tile) (from to p : ℕ) → Fill from ys to → p < from → room_at (free_of ys) p ≡ 0
+room_at-above [] from to p f h = refl
+room_at-above (t ∷ ys) from to p f h =
+    let rest = room_at-above ys (from + 16 * t.units) to p f.2 (omega arith) in
+    elim t.live as (λ b. room_at (cond b (free_of ys) (span_of t ∷ free_of ys)) p ≡ 0)
+    [ true ↦ rest | false ↦ rw (test_other t.at p (λ e. absurd (omega (arith, f.0)))) rest ]
+
+room_at-apart : (ys : List Tile) (from to : ℕ) → Fill from ys to → AreApart false ys → room_at (free_of ys) from ≡ 0
+room_at-apart [] from to f a = refl
+room_at-apart (t ∷ ys) from to f a = rw (a.0 refl) (room_at-above ys (from + 16 * t.units) to from f.2 (omega (arith, f.1)))
+
+-- ---- the blocks with another size
+
+resized-front : (at n : ℕ) (xs : List Tile) (bs : List Span) (from to : ℕ) → Fill from xs to → to ≤ at → resized at n (live_of xs ++ bs) ≡ live_of xs ++ resized at n bs
+resized-front at n [] bs from to f h = refl
+resized-front at n (t ∷ xs) bs from to f h =
+    let le = Fill-le xs (from + 16 * t.units) to f.2 in
+    let rest = resized-front at n xs bs (from + 16 * t.units) to f.2 h in
+    elim t.live as (λ l. resized at n (cond l (span_of t ∷ live_of xs) (live_of xs) ++ bs) ≡ cond l (span_of t ∷ live_of xs) (live_of xs) ++ resized at n bs)
+    [ true ↦ rw (test_other t.at at (λ e. absurd (omega (arith, f.0, f.1)))) (ap (λ l. span_of t ∷ l) rest) | false ↦ rest ]
+
+resized-here : (at n u : ℕ) (bs : List Span) → resized at n (record { at = at; units = u } ∷ bs) ≡ record { at = at; units = n } ∷ bs
+resized-here at n u bs = rw (test_same at at refl) refl
+
+-- the parts that the two allocators answer
+pub record IsResized (old new : List ℕ) (at n : ℕ) : Type 0 where
+  pub heap : IsHeap 0 new
+  pub kept : Keeps old new
+  pub live_is : live new ≡ resized at n (live old)
+
+module _ (old : List ℕ) (at u : ℕ) (h : IsHeap 0 old) (held : Contains (live old) (record { at = at; units = u })) where
+  abbrev pub before : List Tile
+  before = (block old at u h held).xs
+
+  abbrev pub behind : List Tile
+  behind = (block old at u h held).ys
+
+  was : IsTiling old (before ++ tile at u true ∷ behind)
+  was = block_tiling old at u h held
+
+  parts : (Fill heap_start before at) × (2 ≤ u) × Fill (at + 16 * u) behind (length old)
+  parts = around before behind heap_start (length old) at u true was.filled
+
+  old_live : live old ≡ live_of before ++ record { at = at; units = u } ∷ live_of behind
+  old_live = (heap_of_tiling old (before ++ tile at u true ∷ behind) was (block_apart old at u h held)).live_is ∙ live_of-append before (tile at u true ∷ behind)
+
+  old_gaps : gaps old ≡ free_of before ++ free_of behind
+  old_gaps = (heap_of_tiling old (before ++ tile at u true ∷ behind) was (block_apart old at u h held)).gaps_is ∙ free_of-append before (tile at u true ∷ behind)
+
+  resized_is : (n : ℕ) → resized at n (live old) ≡ live_of before ++ record { at = at; units = n } ∷ live_of behind
+  resized_is n =
+      ap (resized at n) old_live ∙ resized-front at n before (record { at = at; units = u } ∷ live_of behind) heap_start at parts.0 (omega arith)
+      ∙ ap (λ l. live_of before ++ l) (resized-here at n u (live_of behind))
+
+  pub resized_same : resized at u (live old) ≡ live old
+  resized_same = resized_is u ∙ sym old_live
+
+  room_is : room_at (gaps old) (at + 16 * u) ≡ room_at (free_of behind) (at + 16 * u)
+  room_is = ap (λ gs. room_at gs (at + 16 * u)) old_gaps ∙ room_at-front before (free_of behind) heap_start at (at + 16 * u) parts.0 (let p = parts.1 in omega arith)
+
+  keeps_block : (new : List ℕ) (n : ℕ) (zs : List Tile) (c : Span) → Fill (at + 16 * n) zs (length new) → 2 ≤ n → Agrees old new (at + 8) (at + 16 * min u n) → (Contains (live_of before) c) ⊎ ((record { at = at; units = n } ≡ c) ⊎ Contains (live_of zs) c) → at ≡ c.at → Agrees old new (at + 8) (at + 16 * min u c.units)
+  keeps_block new n zs c back large own (inl x) e = let w = live_within before heap_start at c parts.0 x in Agrees-within old new (at + 8) (at + 16 * min u n) (at + 8) (at + 16 * min u c.units) own (omega arith) (omega (arith, w.1))
+  keeps_block new n zs c back large own (inr (inl x)) e = Agrees-within old new (at + 8) (at + 16 * min u n) (at + 8) (at + 16 * min u c.units) own (omega arith) (omega (arith, ap (λ (s : Span). s.units) x))
+  keeps_block new n zs c back large own (inr (inr x)) e = let w = live_within zs (at + 16 * n) (length new) c back x in absurd (omega (arith, w.0))
+
+  keeps_any : (new : List ℕ) (n : ℕ) (zs : List Tile) (b c : Span) → Fill (at + 16 * n) zs (length new) → 2 ≤ n → Spares old new (before ++ behind) → Agrees old new (at + 8) (at + 16 * min u n)
+      → (Contains (live_of before) b) ⊎ ((record { at = at; units = u } ≡ b) ⊎ Contains (live_of behind) b) → (Contains (live_of before) c) ⊎ ((record { at = at; units = n } ≡ c) ⊎ Contains (live_of zs) c) → b.at ≡ c.at → Agrees old new (b.at + 8) (b.at + 16 * min b.units c.units)
+  keeps_any new n zs b c back large s own (inl x) k e =
+      Agrees-within old new (b.at + 8) (end_of b) (b.at + 8) (b.at + 16 * min b.units c.units) (s.tiles_kept b (subst (λ l. Contains l b) (sym (live_of-append before behind)) (Contains-append_left (live_of before) (live_of behind) b x))) (omega arith) (omega arith)
+  keeps_any new n zs b c back large s own (inr (inr x)) k e =
+      Agrees-within old new (b.at + 8) (end_of b) (b.at + 8) (b.at + 16 * min b.units c.units) (s.tiles_kept b (subst (λ l. Contains l b) (sym (live_of-append before behind)) (Contains-append_right (live_of before) (live_of behind) b x))) (omega arith) (omega arith)
+  keeps_any new n zs b c back large s own (inr (inl x)) k e =
+      subst (λ (b : Span). b.at ≡ c.at → Agrees old new (b.at + 8) (b.at + 16 * min b.units c.units)) x (λ e. keeps_block new n zs c back large own k e) e
+
+  pub resizes : (new : List ℕ) (n : ℕ) (zs : List Tile) → IsTiling new (before ++ tile at n true ∷ zs) → live_of zs ≡ live_of behind → AreApart true zs → Spares old new (before ++ behind) → Agrees old new (at + 8) (at + 16 * min u n) → IsResized old new at n
+  resizes new n zs tiling same apart s own =
+      let now = heap_of_tiling new (before ++ tile at n true ∷ zs) tiling (AreApart-append before (tile at n true ∷ zs) true (block_front old at u h held) (λ e. refl, apart)) in
+      let new_parts = around before zs heap_start (length new) at n true tiling.filled in
+      let new_live = now.live_is ∙ live_of-append before (tile at n true ∷ zs) in
+      let cases = λ (c : Span) (k : Contains (live new) c). ⊎_elim (λ x. inl x) (λ x. inr (cons_cases (record { at = at; units = n }) c (live_of zs) x)) (Contains-append_cases (live_of before) (record { at = at; units = n } ∷ live_of zs) c (subst (λ l. Contains l c) new_live k)) in
+      let olds = λ (b : Span) (k : Contains (live old) b). ⊎_elim (λ x. inl x) (λ x. inr (cons_cases (record { at = at; units = u }) b (live_of behind) x)) (Contains-append_cases (live_of before) (record { at = at; units = u } ∷ live_of behind) b (subst (λ l. Contains l b) old_live k)) in
+      record {
+        heap = now.heap;
+        kept = record {
+          length_kept = s.front_kept.length_kept;
+          front_kept = s.front_kept;
+          back_kept = s.back_kept;
+          blocks_kept = λ b c x k e. keeps_any new n zs b c new_parts.2 new_parts.1 s own (olds b x) (cases c k) e;
+        };
+        live_is = new_live ∙ ap (λ l. live_of before ++ record { at = at; units = n } ∷ l) same ∙ sym (resized_is n);
+      }
+
+  -- ---- the gap behind
+
+  pub gap_none : (link : ℕ) → link ≡ link_behind 24 before → ((g : Span) → target old link ≡ Some (at + 16 * u + 16) → g.at ≡ at + 16 * u → IsBlock old g → ⊥) → AreApart false behind × (room_at (gaps old) (at + 16 * u) ≡ 0)
+  gap_none link link_is none =
+      let links = subst (λ p. Links old p (free_of behind) None) (sym link_is) (Links-behind old before (tile at u true ∷ behind) 24 None was.links) in
+      let apart = apart_behind old behind link (at + 16 * u) (length old) parts.2 links (block_behind old at u h held)
+      (λ e. let b = begins_free old behind link (at + 16 * u) (length old) parts.2 links e in none (record { at = at + 16 * u; units = b.units }) e refl (block_of b)) in
+      (apart, room_is ∙ room_at-apart behind (at + 16 * u) (length old) parts.2 apart)
+    where
+      block_of : (b : BeginsFree behind (at + 16 * u)) → IsBlock old (record { at = at + 16 * u; units = b.units })
+      block_of b = IsBlock-tile old (put_front before (tile at u true)) b.rest (at + 16 * u) b.units false
+          (subst (λ l. IsTiling old l) (ap (λ l. before ++ tile at u true ∷ l) b.parts ∙ sym (put_front-append before (tile (at + 16 * u) b.units false ∷ b.rest) (tile at u true))) was)
+
+  pub record HasGap (v : ℕ) : Type 0 where
+    pub rest : List Tile
+    pub gap_parts : behind ≡ tile (at + 16 * u) v false ∷ rest
+    pub room : room_at (gaps old) (at + 16 * u) ≡ v
+    pub large : 2 ≤ v
+    pub apart : AreApart false rest
+    pub tiling : IsTiling old (before ++ (tile at u true ∷ tile (at + 16 * u) v false ∷ rest))
+    pub fill : Fill (at + 16 * u + 16 * v) rest (length old)
+
+  pub gap_found : (link v : ℕ) → link ≡ link_behind 24 before → target old link ≡ Some (at + 16 * u + 16) → ((g : Span) → target old link ≡ Some (at + 16 * u + 16) → g.at ≡ at + 16 * u → IsBlock old g → v ≡ g.units) → HasGap v
+  gap_found link v link_is named read =
+      let links = subst (λ p. Links old p (free_of behind) None) (sym link_is) (Links-behind old before (tile at u true ∷ behind) 24 None was.links) in
+      let b = begins_free old behind link (at + 16 * u) (length old) parts.2 links named in
+      let same : v ≡ b.units = read (record { at = at + 16 * u; units = b.units }) named refl
+      (IsBlock-tile old (put_front before (tile at u true)) b.rest (at + 16 * u) b.units false
+      (subst (λ l. IsTiling old l) (ap (λ l. before ++ tile at u true ∷ l) b.parts ∙ sym (put_front-append before (tile (at + 16 * u) b.units false ∷ b.rest) (tile at u true))) was)) in
+      let behind_is : behind ≡ tile (at + 16 * u) v false ∷ b.rest = b.parts ∙ ap (λ n. tile (at + 16 * u) n false ∷ b.rest) (sym same) in
+      let fill = subst (λ l. Fill (at + 16 * u) l (length old)) behind_is parts.2 in
+      record {
+        rest = b.rest;
+        gap_parts = behind_is;
+        room = room_is ∙ ap (λ l. room_at (free_of l) (at + 16 * u)) behind_is ∙ rw (test_same (at + 16 * u) (at + 16 * u) refl) refl;
+        large = fill.1;
+        apart = (subst (λ l. AreApart true l) behind_is (block_behind old at u h held)).1;
+        tiling = subst (λ l. IsTiling old (before ++ tile at u true ∷ l)) behind_is was;
+        fill = fill.2;
+      }
+
+  -- ---- the block that took the gap in, whole or cut
+
+  pub resized_whole : (mid : List ℕ) (v : ℕ) (g : HasGap v) → Retiles old mid before (tile at (u + v) true ∷ []) g.rest × Agrees old mid (at + 8) (at + 16 * u) → IsResized old mid at (u + v)
+  resized_whole mid v g r =
+      resizes mid (u + v) g.rest r.0.tiling (sym (ap live_of g.gap_parts)) (AreApart-live false g.rest g.apart)
+      (Spares-same old mid (before ++ g.rest) (before ++ behind) (ap (λ l. live_of (before ++ l)) g.gap_parts ∙ live_of-append before (tile (at + 16 * u) v false ∷ g.rest) ∙ sym (live_of-append before g.rest)) r.0.spared)
+      (Agrees-within old mid (at + 8) (at + 16 * u) (at + 8) (at + 16 * min u (u + v)) r.1 (omega arith) (omega arith))
+
+  pub resized_cut : (mid new : List ℕ) (v need : ℕ) (g : HasGap v) → Retiles old mid before (tile at (u + v) true ∷ []) g.rest × Agrees old mid (at + 8) (at + 16 * u)
+      → Retiles mid new before (tile at need true ∷ tile (at + 16 * need) (u + v - need) false ∷ []) g.rest × Agrees mid new (at + 8) (at + 16 * need) → IsResized old new at need
+  resized_cut mid new v need g r c =
+      resizes new need (tile (at + 16 * need) (u + v - need) false ∷ g.rest) c.0.tiling (sym (ap live_of g.gap_parts)) ((λ e. absurd (never e)), g.apart)
+      (Spares-same old new (before ++ g.rest) (before ++ behind) (ap (λ l. live_of (before ++ l)) g.gap_parts ∙ live_of-append before (tile (at + 16 * u) v false ∷ g.rest) ∙ sym (live_of-append before g.rest))
+      (Spares-trans old mid new (before ++ g.rest) r.0.spared c.0.spared))
+      (Agrees-trans old mid new (at + 8) (at + 16 * min u need) (Agrees-within old mid (at + 8) (at + 16 * u) (at + 8) (at + 16 * min u need) r.1 (omega arith) (omega arith))
+      (Agrees-within mid new (at + 8) (at + 16 * need) (at + 8) (at + 16 * min u need) c.1 (omega arith) (omega arith)))
+    where
+      never : true ≡ false → ⊥
+      never e = cc
+
+  pub resized_less : (new : List ℕ) (need : ℕ) → AreApart false behind → Retiles old new before (tile at need true ∷ tile (at + 16 * need) (u - need) false ∷ []) behind × Agrees old new (at + 8) (at + 16 * need) → IsResized old new at need
+  resized_less new need apart c =
+      resizes new need (tile (at + 16 * need) (u - need) false ∷ behind) c.0.tiling refl ((λ e. absurd (never e)), apart) c.0.spared
+      (Agrees-within old new (at + 8) (at + 16 * need) (at + 8) (at + 16 * min u need) c.1 (omega arith) (omega arith))
+    where
+      never : true ≡ false → ⊥
+      never e = cc
+
+  pub resized_not : IsResized old old at u
+  resized_not = record {
+    heap = h;
+    kept = Keeps-same old;
+    live_is = sym resized_same;
+  }

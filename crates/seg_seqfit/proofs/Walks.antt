@@ -1,0 +1,131 @@
+-- A walk along the free list.
+use Rattle.std.proofs.Common.{◌≡◌, ℕ, ◌+◌, ◌*◌, ◌<◌, ◌≤◌, false, leb, List, [], ◌∷◌, ◌++◌, Some, None, refl, sym, ap, ◌∙◌, subst, arith, le-leb}
+use Rattle.std.proofs.lemmas.List.{append_assoc, append-nil}
+use Rattle.std.proofs.lemmas.Bool.Decides.{nat_tests}
+use Rattle.seg_spec.specs.Pointer.{target}
+use Rattle.seg_spec.specs.Heap.{Span, end_of, Links, first_fit}
+use Rattle.seg_block.specs.Blocks.{IsBlock}
+use Rattle.seg_seqfit.specs.FreeBlocks.{AreFreeBlocks, AreBelow, AreAbove, link_after, IsFirstFit}
+
+-- the free blocks before a pointer word were seen, and none of them has u units
+pub record IsSearched (bytes : List ℕ) (gs : List Span) (u link low : ℕ) : Type 0 where
+  pub seen : List Span
+  pub rest : List Span
+  pub parts : gs ≡ seen ++ rest
+  pub link_is : link ≡ link_after 24 seen
+  pub first_is : first_fit gs u ≡ first_fit rest u
+  pub links : Links bytes link rest None
+  pub blocks : AreFreeBlocks bytes low rest
+
+pub searched_none : (bytes : List ℕ) (gs : List Span) (u : ℕ) → Links bytes 24 gs None → AreFreeBlocks bytes 704 gs → IsSearched bytes gs u 24 704
+searched_none bytes gs u links blocks = record { seen = []; rest = gs; parts = refl; link_is = refl; first_is = refl; links = links; blocks = blocks }
+
+link_after-push : (seen : List Span) (at : ℕ) (g : Span) → link_after at (seen ++ g ∷ []) ≡ g.at + 12
+link_after-push [] at g = refl
+link_after-push (s ∷ seen) at g = link_after-push seen (s.at + 12) g
+
+leb_no : (a b : ℕ) → b < a → leb a b ≡ false
+leb_no a b h = grind (arith, nat_tests)
+
+first_fit-passed : (g : Span) (gs : List Span) (u : ℕ) → g.units < u → first_fit (g ∷ gs) u ≡ first_fit gs u
+first_fit-passed g gs u h = rw (leb_no u g.units h) refl
+
+first_fit-here : (g : Span) (gs : List Span) (u : ℕ) → u ≤ g.units → first_fit (g ∷ gs) u ≡ Some g
+first_fit-here g gs u h = rw (le-leb u g.units h) refl
+
+-- the walk reads what a pointer word names: nothing, or a free block from low on
+abbrev pub ReadsBlock : List ℕ → ℕ → ℕ → ℕ → ℕ → Type 0
+ReadsBlock bytes link low at units =
+    (target bytes link ≡ None → ⊥) × ((g : Span) → target bytes link ≡ Some (g.at + 16) → IsBlock bytes g → low ≤ g.at → (at ≡ g.at) × (units ≡ g.units))
+
+abbrev pub ReadsNone : List ℕ → ℕ → ℕ → Type 0
+ReadsNone bytes link low = (g : Span) → target bytes link ≡ Some (g.at + 16) → IsBlock bytes g → low ≤ g.at → ⊥
+
+same_span : (g : Span) (at units : ℕ) → at ≡ g.at → units ≡ g.units → g ≡ record { at = at; units = units }
+same_span g at units p q = λ i. record { at = sym p i; units = sym q i }
+
+more : (bytes : List ℕ) (gs seen rest : List Span) (u link low at units : ℕ) → ReadsBlock bytes link low at units → units < u → gs ≡ seen ++ rest → link ≡ link_after 24 seen → first_fit gs u ≡ first_fit rest u → Links bytes link rest None → AreFreeBlocks bytes low rest → IsSearched bytes gs u (at + 12) (at + 16 * units)
+more bytes gs seen [] u link low at units reads small parts link_is first_is links blocks = absurd (reads.0 links)
+more bytes gs seen (g ∷ rest) u link low at units reads small parts link_is first_is links blocks =
+    let is = reads.1 g links.0 blocks.1 blocks.0 in
+    record {
+      seen = seen ++ g ∷ [];
+      rest = rest;
+      parts = parts ∙ sym (append_assoc seen (g ∷ []) rest);
+      link_is = ap (λ p. p + 12) is.0 ∙ sym (link_after-push seen 24 g);
+      first_is = first_is ∙ first_fit-passed g rest u (omega arith);
+      links = subst (λ p. Links bytes (p + 12) rest None) (sym is.0) links.1;
+      blocks = subst (λ (s : Span). AreFreeBlocks bytes (end_of s) rest) (same_span g at units is.0 is.1) blocks.2;
+    }
+
+pub searched_more : (bytes : List ℕ) (gs : List Span) (u link low at units : ℕ) → ReadsBlock bytes link low at units → units < u → IsSearched bytes gs u link low → IsSearched bytes gs u (at + 12) (at + 16 * units)
+searched_more bytes gs u link low at units reads small s = more bytes gs s.seen s.rest u link low at units reads small s.parts s.link_is s.first_is s.links s.blocks
+
+found : (bytes : List ℕ) (gs seen rest : List Span) (u link low at units : ℕ) → ReadsBlock bytes link low at units → u ≤ units → gs ≡ seen ++ rest → link ≡ link_after 24 seen → first_fit gs u ≡ first_fit rest u → Links bytes link rest None → AreFreeBlocks bytes low rest → IsFirstFit gs u link at units
+found bytes gs seen [] u link low at units reads large parts link_is first_is links blocks = absurd (reads.0 links)
+found bytes gs seen (g ∷ rest) u link low at units reads large parts link_is first_is links blocks =
+    let is = reads.1 g links.0 blocks.1 blocks.0 in
+    let same = same_span g at units is.0 is.1 in
+    record {
+      seen = seen;
+      rest = rest;
+      parts = parts ∙ ap (λ s. seen ++ s ∷ rest) same;
+      link_is = link_is;
+      is_first = first_is ∙ first_fit-here g rest u (omega arith) ∙ ap Some same;
+    }
+
+pub searched_found : (bytes : List ℕ) (gs : List Span) (u link low at units : ℕ) → ReadsBlock bytes link low at units → u ≤ units → IsSearched bytes gs u link low → IsFirstFit gs u link at units
+searched_found bytes gs u link low at units reads large s = found bytes gs s.seen s.rest u link low at units reads large s.parts s.link_is s.first_is s.links s.blocks
+
+end : (bytes : List ℕ) (gs rest : List Span) (u link low : ℕ) → ReadsNone bytes link low → first_fit gs u ≡ first_fit rest u → Links bytes link rest None → AreFreeBlocks bytes low rest → first_fit gs u ≡ None
+end bytes gs [] u link low reads first_is links blocks = first_is
+end bytes gs (g ∷ rest) u link low reads first_is links blocks = absurd (reads g links.0 blocks.1 blocks.0)
+
+pub searched_end : (bytes : List ℕ) (gs : List Span) (u link low : ℕ) → ReadsNone bytes link low → IsSearched bytes gs u link low → first_fit gs u ≡ None
+searched_end bytes gs u link low reads s = end bytes gs s.rest u link low reads s.first_is s.links s.blocks
+
+pub some_none : {X : Type 0} (x : X) → Some x ≡ None → ⊥
+some_none x e = cc
+
+-- ---- the walk to a live block
+
+-- the free blocks before a pointer word are passed, those of `todo` lie below the block, and the rest above
+pub record IsPassed (bytes : List ℕ) (seen rest : List Span) (block link low : ℕ) : Type 0 where
+  pub done : List Span
+  pub todo : List Span
+  pub parts : seen ≡ done ++ todo
+  pub link_is : link ≡ link_after 24 done
+  pub links : Links bytes link (todo ++ rest) None
+  pub blocks : AreFreeBlocks bytes low (todo ++ rest)
+  pub below : AreBelow block todo
+  pub above : AreAbove block rest
+
+pub passed_none : (bytes : List ℕ) (seen rest : List Span) (block : ℕ) → Links bytes 24 (seen ++ rest) None → AreFreeBlocks bytes 704 (seen ++ rest) → AreBelow block seen → AreAbove block rest → IsPassed bytes seen rest block 24 704
+passed_none bytes seen rest block links blocks below above = record { done = []; todo = seen; parts = refl; link_is = refl; links = links; blocks = blocks; below = below; above = above }
+
+pass : (bytes : List ℕ) (seen rest done todo : List Span) (block link low at units : ℕ) → ReadsBlock bytes link low at units → at ≤ block → seen ≡ done ++ todo → link ≡ link_after 24 done → Links bytes link (todo ++ rest) None → AreFreeBlocks bytes low (todo ++ rest) → AreBelow block todo → AreAbove block rest → IsPassed bytes seen rest block (at + 12) (at + 16 * units)
+pass bytes seen [] done [] block link low at units reads under parts link_is links blocks below above = absurd (reads.0 links)
+pass bytes seen (g ∷ rest) done [] block link low at units reads under parts link_is links blocks below above =
+    let is = reads.1 g links.0 blocks.1 blocks.0 in absurd (omega (arith, above.0))
+pass bytes seen rest done (g ∷ todo) block link low at units reads under parts link_is links blocks below above =
+    let is = reads.1 g links.0 blocks.1 blocks.0 in
+    record {
+      done = done ++ g ∷ [];
+      todo = todo;
+      parts = parts ∙ sym (append_assoc done (g ∷ []) todo);
+      link_is = ap (λ p. p + 12) is.0 ∙ sym (link_after-push done 24 g);
+      links = subst (λ p. Links bytes (p + 12) (todo ++ rest) None) (sym is.0) links.1;
+      blocks = subst (λ (s : Span). AreFreeBlocks bytes (end_of s) (todo ++ rest)) (same_span g at units is.0 is.1) blocks.2;
+      below = below.1;
+      above = above;
+    }
+
+pub passed_more : (bytes : List ℕ) (seen rest : List Span) (block link low at units : ℕ) → ReadsBlock bytes link low at units → at ≤ block → IsPassed bytes seen rest block link low → IsPassed bytes seen rest block (at + 12) (at + 16 * units)
+passed_more bytes seen rest block link low at units reads under p = pass bytes seen rest p.done p.todo block link low at units reads under p.parts p.link_is p.links p.blocks p.below p.above
+
+stop : (bytes : List ℕ) (seen rest done todo : List Span) (block link low : ℕ) → ((g : Span) → target bytes link ≡ Some (g.at + 16) → IsBlock bytes g → low ≤ g.at → g.at < block → ⊥) → seen ≡ done ++ todo → link ≡ link_after 24 done → Links bytes link (todo ++ rest) None → AreFreeBlocks bytes low (todo ++ rest) → AreBelow block todo → link ≡ link_after 24 seen
+stop bytes seen rest done [] block link low never parts link_is links blocks below = link_is ∙ ap (link_after 24) (sym (parts ∙ append-nil done))
+stop bytes seen rest done (g ∷ todo) block link low never parts link_is links blocks below = absurd (never g links.0 blocks.1 blocks.0 below.0)
+
+pub passed_end : (bytes : List ℕ) (seen rest : List Span) (block link low : ℕ) → ((g : Span) → target bytes link ≡ Some (g.at + 16) → IsBlock bytes g → low ≤ g.at → g.at < block → ⊥) → IsPassed bytes seen rest block link low → link ≡ link_after 24 seen
+passed_end bytes seen rest block link low never p = stop bytes seen rest p.done p.todo block link low never p.parts p.link_is p.links p.blocks p.below

@@ -1,0 +1,2 @@
+pub mod FreeBlocks
+pub mod Retiling

@@ -1,0 +1,120 @@
+//! Changes of the tiles that keep the free list.
+
+ghost use Rattle.std.specs.Prelude.{◌≡◌, ℕ, ◌+◌, ◌-◌, ◌*◌, ◌/◌, ◌%◌, ◌^◌, ◌<◌, ◌≤◌, true, false, List, [], ◌∷◌, ◌++◌, length, None};
+ghost use Rattle.seg_spec.specs.Bytes.{Agrees};
+ghost use Rattle.seg_spec.specs.Window.{with_bytes};
+ghost use Rattle.seg_spec.specs.Heap.{Tile, AreApart, link_at};
+ghost use Rattle.seg_block.specs.Tiling.{tile};
+ghost use Rattle.seg_seqfit.specs.Retiling.{link_behind, IsTiling, Retiles, JoinsBehind};
+
+use crate::search::free_behind;
+use seg_block::{Block, UNIT, block_at, set_size};
+use seg_ptr::Window;
+use std::alloc::Allocator;
+
+/// Lets a live block take in the gap of `more` units right behind it, which a pointer word names.
+pub(crate) fn absorb<A: Allocator>(w: &mut Window<A>, link: usize, block: Block, more: u32)
+    requires { block.at + 16 * block.units + 16 * more ≤ 2 ^ 30 }
+    ensures host { w.new ≡ with_bytes w.old w.new.bytes }
+    ensures tiles { (xs ys : List Tile) → link ≡ link_behind 24 xs → IsTiling w.old.bytes (xs ++ (tile block.at block.units true ∷ tile (block.at + 16 * block.units) more false ∷ ys))
+        → Retiles w.old.bytes w.new.bytes xs (tile block.at (block.units + more) true ∷ []) ys × Agrees w.old.bytes w.new.bytes (block.at + 8) (block.at + 16 * block.units) }
+{
+    let gap = Block {
+        at: block.at + UNIT * block.units,
+        units: more,
+    };
+    take(w, link, gap);
+    set_size(w, block.at, block.units + more, true);
+}
+
+/// Cuts a live block to `units`, where at least 2 are left.
+pub(crate) fn cut<A: Allocator>(w: &mut Window<A>, link: usize, block: Block, units: u32)
+    requires inside { block.at + 16 * block.units ≤ 2 ^ 30 }
+    requires front { 2 ≤ units }
+    requires enough { units ≤ block.units }
+    ensures host { w.new ≡ with_bytes w.old w.new.bytes }
+    ensures whole { block.units < units + 2 → w.new ≡ w.old }
+    ensures tiles { units + 2 ≤ block.units → (xs ys : List Tile) → link ≡ link_behind 24 xs → IsTiling w.old.bytes (xs ++ tile block.at block.units true ∷ ys)
+        → Retiles w.old.bytes w.new.bytes xs (tile block.at units true ∷ tile (block.at + 16 * units) (block.units - units) false ∷ []) ys × Agrees w.old.bytes w.new.bytes (block.at + 8) (block.at + 16 * units) }
+{
+    let left = block.units - units;
+    if left >= 2 {
+        let rest = Block {
+            at: block.at + UNIT * units,
+            units: left,
+        };
+        set_size(w, rest.at, rest.units, true);
+        set_size(w, block.at, units, true);
+        release(w, link, rest);
+    }
+}
+
+/// Makes the free block live that a pointer word of the list names.
+pub(crate) fn take<A: Allocator>(w: &mut Window<A>, link: usize, block: Block)
+    requires { block.at + 16 * block.units ≤ 2 ^ 30 }
+    ensures host { w.new ≡ with_bytes w.old w.new.bytes }
+    ensures tiles { (xs ys : List Tile) → link ≡ link_behind 24 xs → IsTiling w.old.bytes (xs ++ tile block.at block.units false ∷ ys)
+        → Retiles w.old.bytes w.new.bytes xs (tile block.at block.units true ∷ []) ys × (link_at w.new.bytes block.at ≡ None) }
+{
+    let next = w.target(block.at as usize + 12);
+    w.point(link, next);
+    w.point(block.at as usize + 12, None);
+    set_size(w, block.at, block.units, true);
+}
+
+/// Cuts a free block in two. The front keeps `units`.
+pub(crate) fn split<A: Allocator>(w: &mut Window<A>, block: Block, units: u32)
+    requires inside { block.at + 16 * block.units ≤ 2 ^ 30 }
+    requires front { 2 ≤ units }
+    requires rest { units + 2 ≤ block.units }
+    ensures host { w.new ≡ with_bytes w.old w.new.bytes }
+    ensures tiles { (xs ys : List Tile) → IsTiling w.old.bytes (xs ++ tile block.at block.units false ∷ ys)
+        → Retiles w.old.bytes w.new.bytes xs (tile block.at units false ∷ tile (block.at + 16 * units) (block.units - units) false ∷ []) ys }
+{
+    let behind = block.at + UNIT * units;
+    let next = w.target(block.at as usize + 12);
+    w.put32(behind as usize + 8, 0);
+    w.point(behind as usize + 12, next);
+    set_size(w, behind, block.units - units, false);
+    set_size(w, block.at, units, false);
+    w.point(block.at as usize + 12, Some(behind + UNIT));
+}
+
+/// Puts a live block into the free list, at the pointer word that names the first free block above.
+pub(crate) fn release<A: Allocator>(w: &mut Window<A>, link: usize, block: Block)
+    requires { block.at + 16 * block.units ≤ 2 ^ 30 }
+    ensures host { w.new ≡ with_bytes w.old w.new.bytes }
+    ensures tiles { (xs ys : List Tile) → link ≡ link_behind 24 xs → IsTiling w.old.bytes (xs ++ tile block.at block.units true ∷ ys)
+        → Retiles w.old.bytes w.new.bytes xs (tile block.at block.units false ∷ []) ys }
+{
+    let next = w.target(link);
+    w.put32(block.at as usize + 8, 0);
+    w.point(block.at as usize + 12, next);
+    w.point(link, Some(block.at + UNIT));
+    set_size(w, block.at, block.units, false);
+}
+
+/// Joins a free block with the free block right behind it.
+pub(crate) fn join<A: Allocator>(w: &mut Window<A>, front: Block, rest: Block)
+    requires { front.at + 16 * front.units + 16 * rest.units ≤ 2 ^ 30 }
+    ensures host { w.new ≡ with_bytes w.old w.new.bytes }
+    ensures tiles { (xs ys : List Tile) → IsTiling w.old.bytes (xs ++ (tile front.at front.units false ∷ tile (front.at + 16 * front.units) rest.units false ∷ ys))
+        → Retiles w.old.bytes w.new.bytes xs (tile front.at (front.units + rest.units) false ∷ []) ys }
+{
+    let next = w.target((front.at + UNIT * front.units) as usize + 12);
+    set_size(w, front.at, front.units + rest.units, false);
+    w.point(front.at as usize + 12, next);
+}
+
+/// Joins the free block at a position with what is free right behind it.
+pub(crate) fn join_behind<A: Allocator>(w: &mut Window<A>, at: u32)
+    ensures host { w.new ≡ with_bytes w.old w.new.bytes }
+    ensures joins { (xs ys : List Tile) (u : ℕ) → IsTiling w.old.bytes (xs ++ tile at u false ∷ ys) → AreApart true ys → JoinsBehind w.old.bytes w.new.bytes xs at ys }
+{
+    let Some(front) = block_at(w, at) else {
+        return;
+    };
+    if let Some(rest) = free_behind(w, front.at as usize + 12, front) {
+        join(w, front, rest);
+    }
+}

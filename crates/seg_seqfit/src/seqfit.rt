@@ -1,0 +1,142 @@
+ghost use Rattle.std.specs.Prelude.{ℕ};
+
+use crate::free_list::{absorb, cut, join_behind, release, split, take};
+use crate::search::{first_fit, free_behind, link_before};
+use seg_block::{Block, Fit, HEAP_START, UNIT, block_at, is_live, last_block, set_size};
+use seg_ptr::Window;
+use seg_ptr::header::{FREE, SIZE};
+use std::alloc::Allocator;
+
+/// The allocator that takes the lowest gap.
+pub struct SeqFit;
+
+impl Fit for SeqFit {
+    ghost code = { 0 };
+
+    fn word() -> u32 {
+        0
+    }
+
+    fn init<A: Allocator>(w: &mut Window<A>) {
+        let units = w.len().saturating_sub(HEAP_START) / UNIT;
+        w.put32(HEAP_START as usize + 4, 0);
+        w.put32(HEAP_START as usize + 8, 0);
+        w.point(HEAP_START as usize + 12, None);
+        w.point(FREE, Some(HEAP_START + UNIT));
+        set_size(w, HEAP_START, units, false);
+    }
+
+    fn allocate<A: Allocator>(w: &mut Window<A>, need: u32) -> Option<u32> {
+        let found = first_fit(w, need)?;
+        let gap = found.block;
+        if gap.units - need < 2 {
+            take(w, found.link, gap);
+        } else {
+            split(w, gap, need);
+            take(
+                w,
+                found.link,
+                Block {
+                    at: gap.at,
+                    units: need,
+                },
+            );
+        }
+        Some(gap.at)
+    }
+
+    fn free<A: Allocator>(w: &mut Window<A>, block: u32) {
+        let Some(block) = block_at(w, block) else {
+            return;
+        };
+        let link = link_before(w, block.at);
+        release(w, link, block);
+        join_behind(w, block.at);
+        if link != FREE {
+            join_behind(w, (link - 12) as u32);
+        }
+    }
+
+    fn expand<A: Allocator>(w: &mut Window<A>, block: u32, need: u32) -> bool {
+        let Some(block) = block_at(w, block) else {
+            return false;
+        };
+        if need <= block.units {
+            return true;
+        }
+        let link = link_before(w, block.at);
+        let Some(gap) = free_behind(w, link, block) else {
+            return false;
+        };
+        if block.units + gap.units < need {
+            return false;
+        }
+        absorb(w, link, block, gap.units);
+        let whole = Block {
+            at: block.at,
+            units: block.units + gap.units,
+        };
+        cut(w, link, whole, need);
+        true
+    }
+
+    fn shrink<A: Allocator>(w: &mut Window<A>, block: u32, need: u32) {
+        let Some(block) = block_at(w, block) else {
+            return;
+        };
+        if need > block.units {
+            return;
+        }
+        let link = link_before(w, block.at);
+        if let Some(gap) = free_behind(w, link, block) {
+            absorb(w, link, block, gap.units);
+            let whole = Block {
+                at: block.at,
+                units: block.units + gap.units,
+            };
+            cut(w, link, whole, need);
+        } else {
+            cut(w, link, block, need);
+        }
+    }
+
+    fn extend_end<A: Allocator>(w: &mut Window<A>, units: u32) {
+        let len = w.len();
+        let end = len - UNIT * units;
+        w.put32(SIZE, len / UNIT);
+        if units == 0 {
+            return;
+        }
+        let Some(last) = last_block(w, end) else {
+            return;
+        };
+        if units == 1 {
+            let live = is_live(w, last.at);
+            set_size(w, last.at, (len - last.at) / UNIT, live);
+        } else {
+            w.put32(end as usize + 4, last.units);
+            set_size(w, end, units, true);
+            Self::free(w, end);
+        }
+    }
+
+    fn cut_end<A: Allocator>(w: &mut Window<A>) -> u32 {
+        let len = w.len();
+        let Some(last) = last_block(w, len) else {
+            return 0;
+        };
+        if is_live(w, last.at) {
+            w.put32(SIZE, len / UNIT);
+            return 0;
+        }
+        if last.at <= HEAP_START {
+            w.put32(SIZE, HEAP_START / UNIT + 2);
+            set_size(w, HEAP_START, 2, false);
+            return last.units - 2;
+        }
+        let link = link_before(w, last.at - 1);
+        w.put32(SIZE, last.at / UNIT);
+        w.point(link, None);
+        last.units
+    }
+}
