@@ -6,10 +6,12 @@ mod block;
 mod fit;
 mod grant;
 mod header;
+mod rules;
 mod tag;
 
 pub use block::{Block, block_at, last_block, need, set_size};
 pub use fit::Fit;
 pub use grant::{Grant, request, request_at, request_new};
 pub use header::{HEAP_START, UNIT, is_live, link, payload, tag_word, units, units_before};
+pub use rules::{expanded, granted, shrunk};
 pub use tag::{Kind, Tag};

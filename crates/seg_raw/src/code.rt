@@ -16,8 +16,13 @@ pub enum Code {
 }
 
 impl Code {
+    ghost use Rattle.std.specs.Prelude.{◌≡◌};
+    ghost use Rattle.seg_raw.specs.Refusals.{code_number};
+
     /// The number that a client's register gets.
-    pub fn number(self) -> u8 {
+    pub fn number(self) -> u8
+        ensures { result ≡ code_number self }
+    {
         self as u8
     }
 }

@@ -68,8 +68,12 @@ pub enum Fault {
 }
 
 impl Fault {
+    ghost use Rattle.seg_raw.specs.Refusals.{fault_number};
+
     /// The fault's number, as printed.
-    pub fn code(self) -> u8 {
+    pub fn code(self) -> u8
+        ensures { result ≡ fault_number self }
+    {
         match self {
             Fault::Memory => 1,
             Fault::Misplaced => 2,

@@ -1,0 +1,38 @@
+ghost use Rattle.std.specs.Prelude.{◌≡◌, ◌+◌, ◌^◌, ◌<◌, ◌≤◌};
+ghost use Rattle.seg_spec.specs.Heap.{granted, expanded, shrunk};
+
+/// The units of a block for `need` units at the front of `whole`: a rest of 1 unit goes with it.
+pub fn granted(whole: u32, need: u32) -> u32
+    requires { need ≤ whole }
+    ensures { result ≡ granted whole need }
+{
+    if whole - need == 1 { whole } else { need }
+}
+
+/// The units of a block of `units` that is to have `need`, where a gap of `room` units lies right behind it (0 where none
+/// does). None where they are too few.
+pub fn expanded(units: u32, room: u32, need: u32) -> Option<u32>
+    requires { units + room < 2 ^ 31 }
+    ensures { result ≡ expanded units room need }
+{
+    if need <= units {
+        Some(units)
+    } else if need <= units + room {
+        Some(granted(units + room, need))
+    } else {
+        None
+    }
+}
+
+/// The units of a block of `units` that is cut to `need`, where a gap of `room` units lies right behind it (0 where none
+/// does). A single unit is given back only to a gap.
+pub fn shrunk(units: u32, room: u32, need: u32) -> u32
+    requires { need ≤ units }
+    ensures { result ≡ shrunk units room need }
+{
+    if units - need >= 2 || room > 0 {
+        need
+    } else {
+        units
+    }
+}
