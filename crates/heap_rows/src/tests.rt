@@ -1,0 +1,4 @@
+mod model;
+mod random;
+mod read;
+mod rows;
