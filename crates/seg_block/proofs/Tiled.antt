@@ -1,18 +1,18 @@
 -- A few tiles in the middle of the heap are replaced by others, whatever the free structure is.
-use Rattle.std.proofs.Common.{◌≡◌, ℕ, ◌+◌, ◌*◌, ◌^◌, ◌≤◌, List, [], ◌∷◌, ◌++◌, length, sym, ap, ◌∙◌, subst, arith, inl, inr, ◌⊎◌, ⊎_elim}
-use Rattle.std.specs.Prelude.{Contains}
+use Rattle.std.proofs.Common.{◌≡◌, ℕ, ◌+◌, ◌*◌, ◌%◌, ◌^◌, ◌≤◌, Bool, List, [], ◌∷◌, ◌++◌, length, sym, ap, ◌∙◌, subst, arith, inl, inr, ◌⊎◌, ⊎_elim}
+use Rattle.std.specs.Prelude.{Contains, ⊤}
 use Rattle.std.proofs.lemmas.List.Elements.{Contains-append_cases}
 use Rattle.seg_spec.specs.Bytes.{word, Agrees}
-use Rattle.seg_spec.specs.Heap.{Span, Tile, end_of, Fill, AreHeaders, live_of, heap_start}
+use Rattle.seg_spec.specs.Heap.{Span, Tile, IsHeader, end_of, Fill, AreHeaders, live_of, heap_start}
 use Rattle.seg_spec.proofs.BytesLaws.{number-agrees}
-use Rattle.seg_spec.proofs.TileLaws.{Fill-le, Fill-append, AreHeaders-append, AreHeaders-front, AreHeaders-back, units_after, live_of-append}
+use Rattle.seg_spec.proofs.TileLaws.{Fill-le, Fill-append, Fill-front, Fill-back, AreHeaders-append, AreHeaders-front, AreHeaders-back, units_after, live_of-append}
 use Rattle.seg_spec.proofs.HeaderLaws.{IsHeader-same}
-use Rattle.seg_block.specs.Tiling.{IsTiled}
+use Rattle.seg_block.specs.Tiling.{tile, IsTiled, Replaces}
 use Rattle.seg_block.proofs.LiveTiles.{live_within}
 
 -- each tile's units, units before and tag lie in ranges of this kind
 abbrev pub EachHeader : (ℕ → ℕ → Type 0) → List Tile → Type 0
-EachHeader misses [] = Unit {0}
+EachHeader misses [] = ⊤
 EachHeader misses (t ∷ ts) = misses t.at (t.at + 12) × EachHeader misses ts
 
 -- The places that an allocator keeps for its free structure may change, and so may the bytes from lo up to hi and the word 4 behind hi. `misses` says of a range that it has none of those places.
@@ -64,3 +64,43 @@ module _ (old new : List ℕ) (misses : ℕ → ℕ → Type 0) (part_misses : (
         (λ x. let w = live_within xs heap_start lo b front x in kept (b.at + 8) (end_of b) (clear b c) (inl w.1) (inl (omega (arith, w.1))))
         (λ y. let w = live_within ys hi (length old) b back y in kept (b.at + 8) (end_of b) (clear b c) (inr (omega (arith, w.0))) (inr (omega (arith, w.0))))
         (Contains-append_cases (live_of xs) (live_of ys) b (subst (λ l. Contains l b) (live_of-append xs ys) c))
+
+-- ---- where a tile lies
+
+pub around : (xs ys : List Tile) (from to at u : ℕ) (live : Bool) → Fill from (xs ++ tile at u live ∷ ys) to → (Fill from xs at) × (2 ≤ u) × Fill (at + 16 * u) ys to
+around xs ys from to at u live f =
+    let back = Fill-back xs (tile at u live ∷ ys) from to f in
+    let front = Fill-front xs (tile at u live ∷ ys) from to f in
+    (subst (λ p. Fill from xs p) (sym back.0) front, back.1, subst (λ p. Fill (p + 16 * u) ys to) (sym back.0) back.2)
+
+pub aligned_end : (xs : List Tile) (from to : ℕ) → from % 16 ≡ 0 → Fill from xs to → to % 16 ≡ 0
+aligned_end [] from to aligned f = ap (λ p. p % 16) (sym f) ∙ aligned
+aligned_end (t ∷ xs) from to aligned f = aligned_end xs (from + 16 * t.units) to (omega arith) f.2
+
+-- the header of a tile
+pub header_of : (bytes : List ℕ) (xs ys : List Tile) (t : Tile) → IsTiled bytes (xs ++ t ∷ ys) → IsHeader bytes (units_after 0 xs) t
+header_of bytes xs ys t was = (AreHeaders-back bytes xs (t ∷ ys) 0 was.headers).0
+
+-- ---- no places are kept for a free structure
+
+each_anywhere : (ts : List Tile) → EachHeader (λ from to. ⊤) ts
+each_anywhere [] = tt
+each_anywhere (t ∷ ts) = (tt, each_anywhere ts)
+
+pub replaces : (old new : List ℕ) (xs ms ns ys : List Tile) (lo hi n : ℕ) → IsTiled old (xs ++ (ms ++ ys)) → Fill heap_start xs lo → Fill lo ns hi → Fill hi ys (length old)
+    → ((from to : ℕ) → (to ≤ lo) ⊎ (hi ≤ from) → (to ≤ hi + 4) ⊎ (hi + 8 ≤ from) → Agrees old new from to)
+    → AreHeaders new (units_after 0 xs) ns → (hi + 8 ≤ length old → word new (hi + 4) ≡ units_after (units_after 0 xs) ns) → Agrees old new (lo + 8) (lo + n) → Replaces old new xs ns ys lo n
+replaces old new xs ms ns ys lo hi n was front middle back kept ns_is next_is own =
+    let start = Fill-le xs heap_start lo front in
+    let le = Fill-le ns lo hi middle in
+    let before = kept 0 24 (inl (omega arith)) (inl (omega arith)) in
+    let keeps = λ (from to : ℕ) (m : ⊤). kept from to in
+    record {
+      tiled = retiled old new (λ from to. ⊤) (λ from to low high m p q. tt) lo hi le keeps xs ms ns ys was before.length_kept front middle back (each_anywhere xs) (each_anywhere ys) ns_is next_is;
+      spared = record {
+        front_kept = before;
+        back_kept = kept 28 heap_start (inl (omega arith)) (inl (omega arith));
+        tiles_kept = spared_tiles old new (λ from to. ⊤) (λ from to low high m p q. tt) lo hi le keeps xs ms ns ys was before.length_kept front middle back (λ b c. tt);
+      };
+      own_kept = own;
+    }

@@ -1,5 +1,5 @@
 -- The tiles of a heap, whatever holds the free ones. Free tiles may be neighbours.
-use Rattle.std.specs.Prelude.{◌≡◌, ℕ, ◌+◌, ◌≤◌, ◌^◌, Bool, List, length, Contains}
+use Rattle.std.specs.Prelude.{◌≡◌, ℕ, ◌+◌, ◌≤◌, ◌^◌, Bool, List, ◌++◌, length, Contains}
 use Rattle.seg_spec.specs.Bytes.{Agrees}
 use Rattle.seg_spec.specs.Heap.{Span, Tile, end_of, Fill, AreHeaders, live_of, heap_start}
 
@@ -17,3 +17,9 @@ pub record Spares (old new : List ℕ) (ts : List Tile) : Type 0 where
   pub front_kept : Agrees old new 0 24
   pub back_kept : Agrees old new 28 heap_start
   pub tiles_kept : (b : Span) → Contains (live_of ts) b → Agrees old new (b.at + 8) (end_of b)
+
+-- between the tiles xs and ys there are now the tiles ns, and the first of them kept n bytes of its own tag, link and payload
+pub record Replaces (old new : List ℕ) (xs ns ys : List Tile) (at n : ℕ) : Type 0 where
+  pub tiled : IsTiled new (xs ++ (ns ++ ys))
+  pub spared : Spares old new (xs ++ ys)
+  pub own_kept : Agrees old new (at + 8) (at + n)

@@ -1,10 +1,11 @@
-ghost use Rattle.std.specs.Prelude.{◌≡◌, ℕ, ◌+◌, ◌*◌, ◌/◌, ◌^◌, ◌<◌, ◌≤◌, max, List, length, IfSome, IsSomeAnd, Option, Some, None};
+ghost use Rattle.std.specs.Prelude.{◌≡◌, ℕ, ◌+◌, ◌-◌, ◌*◌, ◌/◌, ◌^◌, ◌<◌, ◌≤◌, max, Bool, List, [], ◌∷◌, ◌++◌, length, IfSome, IsSomeAnd, Option, Some, None};
 ghost use Rattle.seg_spec.specs.Window.{with_bytes};
-ghost use Rattle.seg_spec.specs.Heap.{Span, Tile, Fill, AreHeaders};
-ghost use Rattle.seg_block.specs.Sizes.{set_size};
+ghost use Rattle.seg_spec.specs.Heap.{Span, Tile, Fill, AreHeaders, is_live_at};
+ghost use Rattle.seg_block.specs.Sizes.{set_size, set_split};
+ghost use Rattle.seg_block.specs.Tiling.{tile, IsTiled, Replaces};
 ghost use Rattle.seg_block.specs.Blocks.{IsBlock, HasEnd};
 
-use crate::header::{HEAP_START, LIVE, UNIT, units};
+use crate::header::{HEAP_START, LIVE, UNIT, is_live, units, units_before};
 use seg_ptr::Window;
 use std::alloc::Allocator;
 
@@ -62,4 +63,54 @@ pub fn set_size<A: Allocator>(w: &mut Window<A>, block: u32, units: u32, live: b
     let size = if live { units + LIVE } else { units };
     w.put32(block as usize, size);
     w.put32(block as usize + 16 * units as usize + 4, units);
+}
+
+/// The block right behind a block, where the segment goes on.
+pub fn next<A: Allocator>(w: &Window<A>, block: Block) -> Option<Block>
+    requires { block.at + 16 * block.units ≤ 2 ^ 30 }
+    ensures read { (xs ys : List Tile) (l : Bool) (t : Tile) → IsTiled w.now.bytes (xs ++ (tile block.at block.units l ∷ t ∷ ys))
+        → IsSomeAnd result (λ f. (f.at ≡ t.at) × (f.units ≡ t.units)) }
+    ensures none { (xs : List Tile) (l : Bool) → IsTiled w.now.bytes (xs ++ tile block.at block.units l ∷ []) → result ≡ None }
+{
+    block_at(w, block.at + UNIT * block.units)
+}
+
+/// The block right before a block, where it isn't the first.
+pub fn previous<A: Allocator>(w: &Window<A>, block: Block) -> Option<Block>
+    ensures read { (xs ys : List Tile) (l : Bool) (t : Tile) → IsTiled w.now.bytes (xs ++ (t ∷ tile block.at block.units l ∷ ys))
+        → IsSomeAnd result (λ f. (f.at ≡ t.at) × (f.units ≡ t.units)) }
+    ensures none { (ys : List Tile) (l : Bool) → IsTiled w.now.bytes (tile block.at block.units l ∷ ys) → result ≡ None }
+{
+    let before = units_before(w, block.at);
+    if before < 2 || before > block.at / UNIT {
+        return None;
+    }
+    block_at(w, block.at - UNIT * before)
+}
+
+/// Cuts a block in two, both of them live or free as it was. The front keeps `units`; the rest has tag 0.
+pub fn split<A: Allocator>(w: &mut Window<A>, block: Block, units: u32)
+    requires inside { block.at + 16 * block.units ≤ 2 ^ 30 }
+    requires front { 2 ≤ units }
+    requires rest { units + 2 ≤ block.units }
+    ensures bytes { w.new ≡ with_bytes w.old (set_split w.old.bytes block.at units (block.units - units) (is_live_at w.old.bytes block.at)) }
+    ensures tiles { (xs ys : List Tile) (l : Bool) → IsTiled w.old.bytes (xs ++ tile block.at block.units l ∷ ys)
+        → Replaces w.old.bytes w.new.bytes xs (tile block.at units l ∷ tile (block.at + 16 * units) (block.units - units) l ∷ []) ys block.at (16 * units) }
+{
+    let live = is_live(w, block.at);
+    let rest = block.at + UNIT * units;
+    w.put32(rest as usize + 8, 0);
+    set_size(w, rest, block.units - units, live);
+    set_size(w, block.at, units, live);
+}
+
+/// Joins a block with the block right behind it. It stays live or free as it was.
+pub fn join<A: Allocator>(w: &mut Window<A>, block: Block, behind: Block)
+    requires { block.at + 16 * block.units + 16 * behind.units ≤ 2 ^ 30 }
+    ensures bytes { w.new ≡ with_bytes w.old (set_size w.old.bytes block.at (block.units + behind.units) (is_live_at w.old.bytes block.at)) }
+    ensures tiles { (xs ys : List Tile) (l m : Bool) → IsTiled w.old.bytes (xs ++ (tile block.at block.units l ∷ tile (block.at + 16 * block.units) behind.units m ∷ ys))
+        → Replaces w.old.bytes w.new.bytes xs (tile block.at (block.units + behind.units) l ∷ []) ys block.at (16 * block.units) }
+{
+    let live = is_live(w, block.at);
+    set_size(w, block.at, block.units + behind.units, live);
 }

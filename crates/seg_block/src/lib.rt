@@ -9,7 +9,7 @@ mod header;
 mod rules;
 mod tag;
 
-pub use block::{Block, block_at, last_block, need, set_size};
+pub use block::{Block, block_at, join, last_block, need, next, previous, set_size, split};
 pub use fit::Fit;
 pub use grant::{Grant, request, request_at, request_new};
 pub use header::{HEAP_START, UNIT, is_live, link, payload, tag_word, units, units_before};

@@ -49,9 +49,11 @@ module _ (old : List ℕ) (u : ℕ) (small : length old ≤ 2 ^ 30) (whole : 704
       let longer = length-linked in
       let longest = length-set_size headed 704 u false in
       record {
-        small = omega arith;
-        filled = (refl, large, omega arith);
-        headers = (IsHeader-set_size headed 704 u 0 false large (omega arith) (omega arith) before_is (λ _. tag_is), tt);
+        tiled = record {
+          small = omega arith;
+          filled = (refl, large, omega arith);
+          headers = (IsHeader-set_size headed 704 u 0 false large (omega arith) (omega arith) before_is (λ _. tag_is), tt);
+        };
         links = (
           target-same headed begun 24 (number-set_other 4 4 (set_word headed 704 (size_word u false)) (704 + 16 * u + 4) u 24 (inl (omega arith)) ∙ number-set_other 4 4 headed 704 (size_word u false) 24 (inl (omega arith)))
               ∙ target-set_same linked 24 (Some 720) (omega arith) (omega arith) (λ t e. let is : 720 ≡ t = some_same e in (omega arith, λ k. absurd (omega arith))),

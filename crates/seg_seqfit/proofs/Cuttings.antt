@@ -18,7 +18,7 @@ use Rattle.seg_block.specs.Blocks.{HasEnd}
 use Rattle.seg_seqfit.specs.FreeBlocks.{AreFreeBlocks, AreBelow, AreAbove, link_after}
 use Rattle.seg_seqfit.proofs.LinkLaws.{Links-changed, link_behind-low, link_behind-off, link_behind-cases, live_beside_link}
 use Rattle.seg_block.proofs.LiveTiles.{live_within}
-use Rattle.seg_seqfit.proofs.Retile.{around, aligned_end}
+use Rattle.seg_block.proofs.Tiled.{around, aligned_end}
 use Rattle.seg_seqfit.proofs.Heaps.{tiling_of_heap, heap_of_tiling, IsTiledHeap, free_blocks}
 use Rattle.seg_seqfit.proofs.Freeing.{link_after-free_of}
 use Rattle.seg_seqfit.proofs.Extents.{AreHeaders-words, Links-words}
@@ -53,9 +53,11 @@ prefix_tiling bytes n ts small large filled headers links =
     let end = length bytes - 16 * n in
     let long : length (without_last bytes n) ≡ end = length-take-le end bytes (omega arith) in
     record {
-      small = omega arith;
-      filled = subst (λ e. Fill heap_start ts e) (sym long) filled;
-      headers = AreHeaders-words bytes (without_last bytes n) ts heap_start end 0 (λ q low high. prefix_word bytes n q high) filled headers;
+      tiled = record {
+        small = omega arith;
+        filled = subst (λ e. Fill heap_start ts e) (sym long) filled;
+        headers = AreHeaders-words bytes (without_last bytes n) ts heap_start end 0 (λ q low high. prefix_word bytes n q high) filled headers;
+      };
       links = Links-words bytes (without_last bytes n) ts 24 heap_start end None (prefix_word bytes n 24 (omega arith)) (λ q low high even. prefix_word bytes n q high) refl filled links;
     }
 
@@ -70,10 +72,10 @@ module _ (old : List ℕ) (large : 736 ≤ length old) (h : IsHeap 0 old) (xs : 
   old_is = heap_of_tiling old (xs ++ tile at u l ∷ []) was apart
 
   places : (Fill heap_start xs at) × (2 ≤ u) × (at + 16 * u ≡ length old)
-  places = around xs [] heap_start (length old) at u l was.filled
+  places = around xs [] heap_start (length old) at u l was.tiled.filled
 
   pub last_flag : is_live_at old at ≡ l
-  last_flag = (AreHeaders-back old xs (tile at u l ∷ []) 0 was.headers).0.live_is
+  last_flag = (AreHeaders-back old xs (tile at u l ∷ []) 0 was.tiled.headers).0.live_is
 
   pub last_place : (at + 16 * u ≡ length old) × (2 ≤ u) × (heap_start ≤ at) × (at % 16 ≡ 0)
   last_place = (places.2, places.1, Fill-le xs heap_start at places.0, aligned_end xs heap_start at refl places.0)
@@ -86,7 +88,7 @@ module _ (old : List ℕ) (large : 736 ≤ length old) (h : IsHeap 0 old) (xs : 
       → n ≡ units_to_cut (gaps old) (length old) → word new 12 ≡ (length old - 16 * n) / 16 → Agrees old new 0 12 → Agrees old new 16 24 → Agrees old new 28 heap_start → ((b : Span) → Contains (live old) b → Agrees old new (b.at + 8) (end_of b)) → Cuts 0 old new n
   cut_to new n ts long enough filled headers links ts_apart same n_is size front words back blocks =
       let short : length (without_last new n) ≡ length old - 16 * n = length-take-le (length new - 16 * n) new (omega arith) ∙ ap (λ m. m - 16 * n) long in
-      let small = was.small in
+      let small = was.tiled.small in
       let now = heap_of_tiling (without_last new n) ts (prefix_tiling new n ts (omega arith) (omega arith) (subst (λ m. Fill heap_start ts (m - 16 * n)) (sym long) filled) headers links) ts_apart in
       record {
         heap = now.heap;
@@ -110,7 +112,7 @@ module _ (old : List ℕ) (large : 736 ≤ length old) (h : IsHeap 0 old) (xs : 
   word_size m q low = number-set_other 4 4 old 12 m q (inr low)
 
   block_low : (b : Span) → Contains (live old) b → (704 ≤ b.at) × (end_of b ≤ length old)
-  block_low b c = live_within (xs ++ tile at u l ∷ []) heap_start (length old) b was.filled (subst (λ s. Contains s b) old_is.live_is c)
+  block_low b c = live_within (xs ++ tile at u l ∷ []) heap_start (length old) b was.tiled.filled (subst (λ s. Contains s b) old_is.live_is c)
 
   -- a live block stands at the end
   pub cut_live : l ≡ true → Cuts 0 old (with_size (length old / 16)) 0
@@ -119,10 +121,10 @@ module _ (old : List ℕ) (large : 736 ≤ length old) (h : IsHeap 0 old) (xs : 
       let new = with_size m in
       let whole : length old ≡ length old - 16 * 0 = omega arith in
       let none : units_to_cut (gaps old) (length old) ≡ 0 = ap (λ gs. units_to_cut gs (length old)) (old_gaps ∙ ap (λ c. free_of xs ++ free_of (tile at u c ∷ [])) is) ∙ cut-front xs [] heap_start at (length old) places.0 (let p = last_place in omega arith) in
-      cut_to new 0 (xs ++ tile at u l ∷ []) (length-set_number 4 old 12 m) (omega arith) (subst (λ e. Fill heap_start (xs ++ tile at u l ∷ []) e) (omega arith) was.filled)
-      (AreHeaders-words old new (xs ++ tile at u l ∷ []) heap_start (length old) 0 (λ q low high. word_size m q (omega arith)) was.filled was.headers)
-      (Links-words old new (xs ++ tile at u l ∷ []) 24 heap_start (length old) None (word_size m 24 (omega arith)) (λ q low high even. word_size m q (omega arith)) refl was.filled was.links)
-      apart refl (sym none) (number-set_same 4 old 12 m (omega arith) (let k = was.small in omega arith) ∙ ap (λ x. x / 16) whole) (agrees_size m 0 12 (inl (omega arith))) (agrees_size m 16 24 (inr (omega arith))) (agrees_size m 28 heap_start (inr (omega arith)))
+      cut_to new 0 (xs ++ tile at u l ∷ []) (length-set_number 4 old 12 m) (omega arith) (subst (λ e. Fill heap_start (xs ++ tile at u l ∷ []) e) (omega arith) was.tiled.filled)
+      (AreHeaders-words old new (xs ++ tile at u l ∷ []) heap_start (length old) 0 (λ q low high. word_size m q (omega arith)) was.tiled.filled was.tiled.headers)
+      (Links-words old new (xs ++ tile at u l ∷ []) 24 heap_start (length old) None (word_size m 24 (omega arith)) (λ q low high even. word_size m q (omega arith)) refl was.tiled.filled was.links)
+      apart refl (sym none) (number-set_same 4 old 12 m (omega arith) (let k = was.tiled.small in omega arith) ∙ ap (λ x. x / 16) whole) (agrees_size m 0 12 (inl (omega arith))) (agrees_size m 16 24 (inr (omega arith))) (agrees_size m 28 heap_start (inr (omega arith)))
       (λ b c. agrees_size m (b.at + 8) (end_of b) (inr (let w = block_low b c in omega arith)))
 
   module _ (is_free : l ≡ false) where
@@ -155,7 +157,7 @@ module _ (old : List ℕ) (large : 736 ≤ length old) (h : IsHeap 0 old) (xs : 
       cut_gap =
           let p = last_place in
           let q = link_places in
-          let k = was.small in
+          let k = was.tiled.small in
           let m = at / 16 in
           let long = length-set_number 4 (with_size m) link (distance link None) ∙ length-set_number 4 old 12 m in
           let size_long = length-set_number 4 old 12 m in
@@ -163,7 +165,7 @@ module _ (old : List ℕ) (large : 736 ≤ length old) (h : IsHeap 0 old) (xs : 
           let wide = fill_room xs heap_start at places.0 above in
           let off : (link + 4 ≤ heap_start) ⊎ (link % 16 ≡ 12) = subst (λ x. (x + 4 ≤ heap_start) ⊎ (x % 16 ≡ 12)) (sym link_is) (link_behind-off xs 24 heap_start at heap_start (inl (omega arith)) refl places.0) in
           let named : target cut_off link ≡ None = target-set_same (with_size m) link None (omega arith) (omega arith) (λ t e. absurd (never t e)) in
-          let heads = AreHeaders-words old (with_size m) xs heap_start at 0 (λ q low high. word_size m q (omega arith)) places.0 (AreHeaders-front old xs (tile at u l ∷ []) 0 was.headers) in
+          let heads = AreHeaders-words old (with_size m) xs heap_start at 0 (λ q low high. word_size m q (omega arith)) places.0 (AreHeaders-front old xs (tile at u l ∷ []) 0 was.tiled.headers) in
           cut_to cut_off u xs long (omega arith) (subst (λ e. Fill heap_start xs e) end places.0)
           (AreHeaders-set_link (with_size m) xs heap_start at 0 link (distance link None) refl off places.0 heads)
           (subst (λ ts. Links cut_off 24 (free_of ts) None) (append-nil xs)
@@ -208,10 +210,10 @@ module _ (old : List ℕ) (large : 736 ≤ length old) (h : IsHeap 0 old) (xs : 
           let size_long = length-set_number 4 old 12 46 in
           let long = length-set_size (with_size 46) 704 2 false ∙ size_long in
           let end : 736 ≡ length old - 16 * (u - 2) = omega arith in
-          let head = whole_was.headers.0 in
+          let head = whole_was.tiled.headers.0 in
           let links = whole_was.links in
           cut_to cut_down (u - 2) (tile 704 2 false ∷ []) long (omega arith) (refl, omega arith, end)
-          (IsHeader-set_size (with_size 46) 704 2 0 false (omega arith) (omega arith) (let k = was.small in omega arith) (word_size 46 708 (omega arith) ∙ head.before_is) (λ e. word_size 46 712 (omega arith) ∙ head.tag_is refl), tt)
+          (IsHeader-set_size (with_size 46) 704 2 0 false (omega arith) (omega arith) (let k = was.tiled.small in omega arith) (word_size 46 708 (omega arith) ∙ head.before_is) (λ e. word_size 46 712 (omega arith) ∙ head.tag_is refl), tt)
           (target-same old cut_down 24 (down_word 24 (omega arith) (inl (omega arith))) ∙ links.0, target-same old cut_down 716 (down_word 716 (omega arith) (inr (omega arith, omega arith))) ∙ links.1)
           ((λ e. absurd (never e)), tt) (ap live_of (sym first.0) ∙ free_places)
           (sym (gap_units ∙ ap (λ b. cond b (u - 2) u) (test_same at heap_start f)))
@@ -259,7 +261,7 @@ module _ (old : List ℕ) (len : ℕ) (large : 736 ≤ length old) (h : IsHeap 0
         let e = the_end in
         let is_free = sym flag ∙ free in
         let t : IsTiling old (e.front ++ tile at u false ∷ []) = subst (λ ts. IsTiling old ts) (e.parts ∙ ap (λ l. e.front ++ tile at u l ∷ []) is_free) (tiling_of_heap old h) in
-        let p = around e.front [] heap_start (length old) at u false t.filled in
+        let p = around e.front [] heap_start (length old) at u false t.tiled.filled in
         let split = free_of-append e.front (tile at u false ∷ []) in
         let link_is : link ≡ link_behind 24 e.front =
         walk (free_of e.front) (record { at = at; units = u } ∷ []) (subst (λ gs. Links old 24 gs None) split t.links) (subst (λ gs. AreFreeBlocks old 704 gs) split (free_blocks old (e.front ++ tile at u false ∷ []) t))

@@ -11,7 +11,8 @@ use Rattle.seg_seqfit.specs.FreeBlocks.{AreFreeBlocks, AreBelow, AreAbove, link_
 use Rattle.seg_block.specs.Tiling.{tile}
 use Rattle.seg_seqfit.specs.Retiling.{link_behind, IsTiling, Retiles}
 use Rattle.seg_seqfit.proofs.Allocating.{Keeps-same}
-use Rattle.seg_seqfit.proofs.Freeing.{block, block_tiling, IsBlock-tile, link_of_walk}
+use Rattle.seg_block.proofs.Neighbours.{IsBlock-tile}
+use Rattle.seg_seqfit.proofs.Freeing.{block, block_tiling, link_of_walk}
 use Rattle.seg_seqfit.proofs.Sized.{IsResized, HasGap, gap_none, gap_found, resized_whole, resized_cut, resized_less, resized_not, resized_same, before, behind}
 
 leb_no : (a b : ℕ) → b < a → leb a b ≡ false
@@ -90,7 +91,7 @@ module _ (old : List ℕ) (named x at u : ℕ) (h : IsHeap 0 old) (held : Contai
   named_block = record { at = named; units = x }
 
   pub read_is : (at ≡ named) × (u ≡ x)
-  read_is = let b = block old named x h held in read named_block refl (IsBlock-tile old b.xs b.ys named x true (block_tiling old named x h held))
+  read_is = let b = block old named x h held in read named_block refl (IsBlock-tile old b.xs b.ys named x true (block_tiling old named x h held).tiled)
 
   pub here : Contains (live old) (record { at = at; units = u })
   here = let is = read_is in subst (λ (p : Span). Contains (live old) p) (λ i. record { at = sym is.0 i; units = sym is.1 i }) held

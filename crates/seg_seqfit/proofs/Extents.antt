@@ -18,7 +18,7 @@ use Rattle.seg_block.proofs.SizeLaws.{set_size-headers, Agrees-set_size, length-
 use Rattle.std.proofs.lemmas.Bool.{cases_lt}
 use Rattle.seg_block.proofs.LiveTiles.{live_within}
 use Rattle.std.proofs.lemmas.List.Elements.{Contains-append_cases}
-use Rattle.seg_seqfit.proofs.Retile.{around, aligned_end}
+use Rattle.seg_block.proofs.Tiled.{around, aligned_end}
 use Rattle.seg_seqfit.proofs.Freeing.{without-other}
 use Rattle.seg_seqfit.proofs.Heaps.{tiling_of_heap, heap_of_tiling, IsTiledHeap}
 
@@ -102,7 +102,7 @@ module _ (old : List ℕ) (n : ℕ) (small : length old ≤ 2 ^ 30) (room : 736 
   was = tiling_of_heap front h
 
   pub filled : Fill heap_start (tiles front) end
-  filled = subst (λ e. Fill heap_start (tiles front) e) long was.filled
+  filled = subst (λ e. Fill heap_start (tiles front) e) long was.tiled.filled
 
   old_word : (q : ℕ) → q + 4 ≤ end → word old q ≡ word front q
   old_word q high = ap (λ p. word old p) (sym (zero-add q)) ∙ sym (number-part 4 old 0 end q (omega arith) high)
@@ -111,7 +111,7 @@ module _ (old : List ℕ) (n : ℕ) (small : length old ≤ 2 ^ 30) (room : 736 
   sized_word q low high = number-set_other 4 4 old 12 units q (inr (omega arith)) ∙ old_word q high
 
   pub headers : AreHeaders sized 0 (tiles front)
-  headers = AreHeaders-words front sized (tiles front) heap_start end 0 (λ q low high. sized_word q (omega arith) high) filled was.headers
+  headers = AreHeaders-words front sized (tiles front) heap_start end 0 (λ q low high. sized_word q (omega arith) high) filled was.tiled.headers
 
   links : Links sized 24 (free_of (tiles front)) None
   links = Links-words front sized (tiles front) 24 heap_start end None (sized_word 24 (omega arith) (omega arith)) (λ q low high even. sized_word q (omega arith) high) refl filled was.links
@@ -134,7 +134,7 @@ module _ (old : List ℕ) (n : ℕ) (small : length old ≤ 2 ^ 30) (room : 736 
   extends_zero none =
       let longer = length-sized in
       let same : end ≡ length sized = omega arith in
-      let tiling : IsTiling sized (tiles front) = record { small = omega arith; filled = subst (λ e. Fill heap_start (tiles front) e) same filled; headers = headers; links = links } in
+      let tiling : IsTiling sized (tiles front) = record { tiled = record { small = omega arith; filled = subst (λ e. Fill heap_start (tiles front) e) same filled; headers = headers }; links = links } in
       let now = heap_of_tiling sized (tiles front) tiling h.apart in
       record {
         heap = now.heap;
@@ -198,9 +198,11 @@ module _ (old : List ℕ) (n : ℕ) (small : length old ≤ 2 ^ 30) (room : 736 
         let last = AreHeaders-back sized xs (tile at u l ∷ []) 0 last_headers in
         let filled' : Fill heap_start (xs ++ tile at (u + 1) l ∷ []) (length grown) = Fill-append xs (tile at (u + 1) l ∷ []) heap_start at (length grown) places.0 (refl, omega (arith, places.1), omega arith) in
         let tiling : IsTiling grown (xs ++ tile at (u + 1) l ∷ []) = record {
-          small = omega arith;
-          filled = filled';
-          headers = set_size-headers sized xs [] at (u + 1) 0 l (omega arith) places.0 (omega (arith, places.1)) (omega arith) (AreHeaders-front sized xs (tile at u l ∷ []) 0 last_headers) tt last.0.before_is last.0.tag_is;
+          tiled = record {
+            small = omega arith;
+            filled = filled';
+            headers = set_size-headers sized xs [] at (u + 1) 0 l (omega arith) places.0 (omega (arith, places.1)) (omega arith) (AreHeaders-front sized xs (tile at u l ∷ []) 0 last_headers) tt last.0.before_is last.0.tag_is;
+          };
           links = Links-resized grown xs 24 at u (u + 1) l None
               (Links-words sized grown (xs ++ tile at u l ∷ []) 24 heap_start end None (beside 24 (inl (omega arith)) (omega arith)) (λ q low high even. beside q (link_beside q even) high) refl ended last_links);
         } in
@@ -258,11 +260,13 @@ module _ (old : List ℕ) (n : ℕ) (small : length old ≤ 2 ^ 30) (room : 736 
         let back : Fill (end + 16 * n) [] (length repeated) = omega arith in
         let fills : Fill heap_start (tiles front ++ tile end n true ∷ []) (length added) = Fill-append (tiles front) (tile end n true ∷ []) heap_start end (length added) filled (refl, more, omega arith) in
         record {
-          small = omega arith;
-          filled = fills;
-          headers = set_size-headers repeated (tiles front) [] end n 0 true (omega arith) filled more back
-              (AreHeaders-words sized repeated (tiles front) heap_start end 0 (λ q low high. number-set_other 4 4 sized (end + 4) u q (inl (omega arith))) filled headers) tt
-              (number-set_same 4 sized (end + 4) u (omega arith) size_small ∙ sym (ap (units_after 0) parts ∙ units_after-last xs at u l 0)) (λ e. absurd (never e));
+          tiled = record {
+            small = omega arith;
+            filled = fills;
+            headers = set_size-headers repeated (tiles front) [] end n 0 true (omega arith) filled more back
+                (AreHeaders-words sized repeated (tiles front) heap_start end 0 (λ q low high. number-set_other 4 4 sized (end + 4) u q (inl (omega arith))) filled headers) tt
+                (number-set_same 4 sized (end + 4) u (omega arith) size_small ∙ sym (ap (units_after 0) parts ∙ units_after-last xs at u l 0)) (λ e. absurd (never e));
+          };
           links = subst (λ gs. Links added 24 gs None) (sym (free_of-append (tiles front) (tile end n true ∷ []) ∙ append-nil (free_of (tiles front))))
               (Links-words sized added (tiles front) 24 heap_start end None (added_word 24 (omega arith)) (λ q low high even. added_word q high) refl filled links);
         }

@@ -13,21 +13,10 @@ use Rattle.seg_block.specs.Tiling.{tile, Spares}
 use Rattle.seg_seqfit.specs.Retiling.{link_behind, IsTiling, Retiles, JoinsBehind}
 use Rattle.seg_seqfit.proofs.LinkLaws.{Links-behind, link_behind-cases}
 use Rattle.seg_block.proofs.LiveTiles.{cons_cases}
-use Rattle.seg_seqfit.proofs.Retile.{around, aligned_end}
+use Rattle.seg_block.proofs.Neighbours.{IsBlock-tile}
+use Rattle.seg_block.proofs.Tiled.{around, aligned_end}
 use Rattle.seg_seqfit.proofs.Heaps.{tiling_of_heap, heap_of_tiling, IsTiledHeap, free_blocks, AreApart-live}
 use Rattle.seg_seqfit.proofs.Allocating.{Spares-trans, Spares-same}
-
--- ---- a tile in its place
-
-pub IsBlock-tile : (bytes : List ℕ) (xs ys : List Tile) (at u : ℕ) (live : Bool) → IsTiling bytes (xs ++ tile at u live ∷ ys) → IsBlock bytes (record { at = at; units = u })
-IsBlock-tile bytes xs ys at u live was =
-    let parts = around xs ys heap_start (length bytes) at u live was.filled in
-    record {
-      aligned = aligned_end xs heap_start at refl parts.0;
-      large = parts.1;
-      inside = Fill-le ys (at + 16 * u) (length bytes) parts.2;
-      size_is = (AreHeaders-back bytes xs (tile at u live ∷ ys) 0 was.headers).0.units_is;
-    }
 
 -- the tiles around a live one
 pub record HasLive (ts : List Tile) (b : Span) : Type 0 where
@@ -77,7 +66,7 @@ pub link_of_walk : (bytes : List ℕ) (xs ys : List Tile) (at u link : ℕ) → 
     → ((seen rest : List Span) → Links bytes 24 (seen ++ rest) None → AreFreeBlocks bytes 704 (seen ++ rest) → AreBelow at seen → AreAbove at rest → link ≡ link_after 24 seen)
     → link ≡ link_behind 24 xs
 link_of_walk bytes xs ys at u link was walk =
-    let parts = around xs ys heap_start (length bytes) at u true was.filled in
+    let parts = around xs ys heap_start (length bytes) at u true was.tiled.filled in
     let split = free_of-append xs (tile at u true ∷ ys) in
     walk (free_of xs) (free_of ys) (subst (λ gs. Links bytes 24 gs None) split was.links) (subst (λ gs. AreFreeBlocks bytes 704 gs) split (free_blocks bytes (xs ++ tile at u true ∷ ys) was))
     (AreBelow-free_of xs heap_start at parts.0) (AreAbove-free_of ys at (at + 16 * u) (length bytes) (omega (arith, parts.1)) parts.2)
@@ -130,7 +119,7 @@ apart_behind bytes (t ∷ ys) p from to f l a other =
 
 pub joins_same : (bytes : List ℕ) (xs ys : List Tile) (at u : ℕ) → IsTiling bytes (xs ++ tile at u false ∷ ys) → AreApart true ys → (target bytes (at + 12) ≡ Some (at + 16 * u + 16) → ⊥) → JoinsBehind bytes bytes xs at ys
 joins_same bytes xs ys at u was a other =
-    let parts = around xs ys heap_start (length bytes) at u false was.filled in
+    let parts = around xs ys heap_start (length bytes) at u false was.tiled.filled in
     let links = Links-behind bytes (tile at u false ∷ []) ys (link_behind 24 xs) None (Links-behind bytes xs (tile at u false ∷ ys) 24 None was.links) in
     record {
       units = u;
@@ -143,7 +132,7 @@ joins_same bytes xs ys at u was a other =
 
 pub next_free : (bytes : List ℕ) (xs ys : List Tile) (at u : ℕ) → IsTiling bytes (xs ++ tile at u false ∷ ys) → target bytes (at + 12) ≡ Some (at + 16 * u + 16) → BeginsFree ys (at + 16 * u)
 next_free bytes xs ys at u was e =
-    let parts = around xs ys heap_start (length bytes) at u false was.filled in
+    let parts = around xs ys heap_start (length bytes) at u false was.tiled.filled in
     let links = Links-behind bytes (tile at u false ∷ []) ys (link_behind 24 xs) None (Links-behind bytes xs (tile at u false ∷ ys) 24 None was.links) in
     begins_free bytes ys (at + 12) (at + 16 * u) (length bytes) parts.2 links e
 
@@ -151,7 +140,7 @@ IsBlock-behind : (bytes : List ℕ) (xs ys : List Tile) (at u : ℕ) → IsTilin
 IsBlock-behind bytes xs ys at u was b =
     let split : xs ++ tile at u false ∷ ys ≡ (xs ++ tile at u false ∷ []) ++ tile (at + 16 * u) b.units false ∷ b.rest =
     ap (λ l. xs ++ tile at u false ∷ l) b.parts ∙ sym (append_assoc xs (tile at u false ∷ []) (tile (at + 16 * u) b.units false ∷ b.rest)) in
-    IsBlock-tile bytes (xs ++ tile at u false ∷ []) b.rest (at + 16 * u) b.units false (subst (λ l. IsTiling bytes l) split was)
+    IsBlock-tile bytes (xs ++ tile at u false ∷ []) b.rest (at + 16 * u) b.units false (subst (λ l. IsTiling bytes l) split was).tiled
 
 -- no block was found behind
 pub joins_none : (bytes : List ℕ) (xs ys : List Tile) (at u : ℕ) → IsTiling bytes (xs ++ tile at u false ∷ ys) → AreApart true ys
@@ -248,7 +237,7 @@ module _ (old : List ℕ) (at u : ℕ) (h : IsHeap 0 old) (held : Contains (live
 
   left_live : live_of (block.xs ++ block.ys) ≡ without at (live old)
   left_live =
-      let parts = around block.xs block.ys heap_start (length old) at u true block_tiling.filled in
+      let parts = around block.xs block.ys heap_start (length old) at u true block_tiling.tiled.filled in
       live_of-append block.xs block.ys
       ∙ sym (without-other at block.xs block.ys (record { at = at; units = u }) heap_start at refl parts.0 (omega arith))
       ∙ ap (without at) (sym (old_is.live_is ∙ ap live_of block.parts ∙ live_of-append block.xs (tile at u true ∷ block.ys)))
@@ -324,7 +313,7 @@ pub record Steps (old released joined : List ℕ) (block at units link : ℕ) : 
 
 module _ (old released joined : List ℕ) (named at units link : ℕ) (s : Steps old released joined named at units link) (h : IsHeap 0 old) (held : IsLive old named) where
   read_is : (at ≡ named) × (units ≡ held.0)
-  read_is = let b = block old named held.0 h held.1 in s.read (record { at = named; units = held.0 }) refl (IsBlock-tile old b.xs b.ys named held.0 true (block_tiling old named held.0 h held.1))
+  read_is = let b = block old named held.0 h held.1 in s.read (record { at = named; units = held.0 }) refl (IsBlock-tile old b.xs b.ys named held.0 true (block_tiling old named held.0 h held.1).tiled)
 
   here : Contains (live old) (record { at = at; units = units })
   here = let is = read_is in subst (λ (p : Span). Contains (live old) p) (λ i. record { at = sym is.0 i; units = sym is.1 i }) held.1
@@ -349,7 +338,7 @@ module _ (old released joined : List ℕ) (named at units link : ℕ) (s : Steps
 
   high : (l : HasLast found.xs (link_behind 24 found.xs)) → 716 ≤ l.at + 12
   high l =
-      let parts = around found.xs found.ys heap_start (length old) at units true tiling.filled in
+      let parts = around found.xs found.ys heap_start (length old) at units true tiling.tiled.filled in
       let e = l.link_is in
       ⊎_elim (λ k. let b = around l.front l.back heap_start at l.at l.units false (subst (λ x. Fill heap_start x at) l.parts parts.0) in let le = Fill-le l.front heap_start l.at b.0 in omega arith) (λ k. let b = around l.front l.back heap_start at l.at l.units false (subst (λ x. Fill heap_start x at) l.parts parts.0) in let le = Fill-le l.front heap_start l.at b.0 in omega arith)
       (link_behind-cases found.xs 24 heap_start at parts.0)

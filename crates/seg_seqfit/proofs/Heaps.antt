@@ -22,9 +22,7 @@ gaps_of_heap bytes h = gaps_are bytes (tiles bytes) refl h.filled h.apart
 
 pub tiling_of_heap : (bytes : List ℕ) → IsHeap 0 bytes → IsTiling bytes (tiles bytes)
 tiling_of_heap bytes h = record {
-  small = h.small;
-  filled = h.filled;
-  headers = h.headers;
+  tiled = record { small = h.small; filled = h.filled; headers = h.headers };
   links = subst (λ gs. Links bytes 24 gs None) (gaps_of_heap bytes h) h.free;
 }
 
@@ -36,15 +34,15 @@ pub record IsTiledHeap (bytes : List ℕ) (ts : List Tile) : Type 0 where
 
 pub heap_of_tiling : (bytes : List ℕ) (ts : List Tile) → IsTiling bytes ts → AreApart true ts → IsTiledHeap bytes ts
 heap_of_tiling bytes ts t apart =
-    let is : tiles bytes ≡ ts = tiles-unique bytes ts t.filled t.headers in
-    let free_is = gaps_are bytes ts is t.filled apart in
+    let is : tiles bytes ≡ ts = tiles-unique bytes ts t.tiled.filled t.tiled.headers in
+    let free_is = gaps_are bytes ts is t.tiled.filled apart in
     record {
       heap = record {
-        filled = subst (λ l. Fill heap_start l (length bytes)) (sym is) t.filled;
-        headers = subst (λ l. AreHeaders bytes 0 l) (sym is) t.headers;
+        filled = subst (λ l. Fill heap_start l (length bytes)) (sym is) t.tiled.filled;
+        headers = subst (λ l. AreHeaders bytes 0 l) (sym is) t.tiled.headers;
         apart = subst (λ l. AreApart true l) (sym is) apart;
         free = subst (λ gs. Links bytes 24 gs None) (sym free_is) t.links;
-        small = t.small;
+        small = t.tiled.small;
       };
       live_is = live_are bytes ts is;
       gaps_is = free_is;
@@ -66,7 +64,7 @@ AreFreeBlocks-free_of bytes (t ∷ ts) low from before above aligned f h =
     ] refl
 
 pub free_blocks : (bytes : List ℕ) (ts : List Tile) → IsTiling bytes ts → AreFreeBlocks bytes 704 (free_of ts)
-free_blocks bytes ts t = AreFreeBlocks-free_of bytes ts 704 heap_start 0 (omega arith) refl t.filled t.headers
+free_blocks bytes ts t = AreFreeBlocks-free_of bytes ts 704 heap_start 0 (omega arith) refl t.tiled.filled t.tiled.headers
 
 -- the tiles around a free one
 pub record HasFree (ts : List Tile) (p : ℕ) (seen : List Span) (g : Span) : Type 0 where

@@ -12,7 +12,8 @@ use Rattle.seg_block.specs.Tiling.{tile}
 use Rattle.seg_seqfit.specs.Retiling.{link_behind, IsTiling, Retiles}
 use Rattle.seg_block.proofs.SizeLaws.{IsHeader-set_size, length-set_size}
 use Rattle.seg_seqfit.proofs.LinkLaws.{Links-behind, link_behind-low, names_tile}
-use Rattle.seg_seqfit.proofs.Retile.{IsLocal, retile, spares, around, aligned_end, IsLocal-trans, IsLocal-word, IsLocal-set_size, target-local}
+use Rattle.seg_block.proofs.Tiled.{around, aligned_end}
+use Rattle.seg_seqfit.proofs.Retile.{IsLocal, retile, spares, IsLocal-trans, IsLocal-word, IsLocal-set_size, target-local}
 
 module _ (old : List ℕ) (xs ys : List Tile) (at u v : ℕ) (was : IsTiling old (xs ++ (tile at u false ∷ tile (at + 16 * u) v false ∷ ys))) where
   abbrev behind : ℕ
@@ -28,7 +29,7 @@ module _ (old : List ℕ) (xs ys : List Tile) (at u v : ℕ) (was : IsTiling old
   joined = set_pointer sized (at + 12) (target old (behind + 12))
 
   first : (Fill heap_start xs at) × (2 ≤ u) × Fill behind (tile behind v false ∷ ys) (length old)
-  first = around xs (tile behind v false ∷ ys) heap_start (length old) at u false was.filled
+  first = around xs (tile behind v false ∷ ys) heap_start (length old) at u false was.tiled.filled
 
   large : 2 ≤ v
   large = first.2.1
@@ -57,12 +58,12 @@ module _ (old : List ℕ) (xs ys : List Tile) (at u v : ℕ) (was : IsTiling old
 
   headers : AreHeaders joined (units_after 0 xs) (tile at (u + v) false ∷ [])
   headers =
-      let h = (AreHeaders-back old xs (tile at u false ∷ tile behind v false ∷ ys) 0 was.headers).0 in
+      let h = (AreHeaders-back old xs (tile at u false ∷ tile behind v false ∷ ys) 0 was.tiled.headers).0 in
       let a = first.1 in
       let room = inside in
       let even = aligned in
       AreHeaders-set_link sized (tile at (u + v) false ∷ []) at hi (units_after 0 xs) (at + 12) (distance (at + 12) (target old (behind + 12))) aligned (inr (omega arith)) middle
-      (IsHeader-set_size old at (u + v) (units_after 0 xs) false (omega arith) (omega arith) was.small h.before_is h.tag_is, tt)
+      (IsHeader-set_size old at (u + v) (units_after 0 xs) false (omega arith) (omega arith) was.tiled.small h.before_is h.tag_is, tt)
 
   next_size : hi + 8 ≤ length old → word joined (hi + 4) ≡ u + v
   next_size h =
@@ -70,7 +71,7 @@ module _ (old : List ℕ) (xs ys : List Tile) (at u v : ℕ) (was : IsTiling old
       let b = large in
       number-set_other 4 4 sized (at + 12) (distance (at + 12) (target old (behind + 12))) (hi + 4) (inr (omega arith))
       ∙ ap (λ p. word (set_word (set_word old at (size_word (u + v) false)) (p + 4) (u + v)) (hi + 4)) end_is
-      ∙ number-set_same 4 (set_word old at (size_word (u + v) false)) (hi + 4) (u + v) (omega (arith, length-set_number 4 old at (size_word (u + v) false))) (omega (arith, was.small))
+      ∙ number-set_same 4 (set_word old at (size_word (u + v) false)) (hi + 4) (u + v) (omega (arith, length-set_number 4 old at (size_word (u + v) false))) (omega (arith, was.tiled.small))
 
   names : Links joined (link_behind 24 xs) (record { at = at; units = u + v } ∷ []) (target old (behind + 12))
   names =
@@ -82,8 +83,8 @@ module _ (old : List ℕ) (xs ys : List Tile) (at u v : ℕ) (was : IsTiling old
       let listed = Links-behind old xs (tile at u false ∷ tile behind v false ∷ ys) 24 None was.links in
       let long = length-set_size old at (u + v) false in (
         target-local old joined (at + 12) at hi (link_behind 24 xs) (local (at + 12)) (omega arith) low (inl (omega arith)) ∙ listed.0,
-        target-set_same sized (at + 12) (target old (behind + 12)) (omega arith) (omega (arith, was.small))
-            (λ t e. let is = names_tile old ys (behind + 12) hi (length old) t (omega arith) back listed.1.1 e in (omega (arith, was.small), λ k. absurd (omega arith))),
+        target-set_same sized (at + 12) (target old (behind + 12)) (omega arith) (omega (arith, was.tiled.small))
+            (λ t e. let is = names_tile old ys (behind + 12) hi (length old) t (omega arith) back listed.1.1 e in (omega (arith, was.tiled.small), λ k. absurd (omega arith))),
       )
 
   pub join-retiles : Retiles old joined xs (tile at (u + v) false ∷ []) ys

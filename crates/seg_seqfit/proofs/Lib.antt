@@ -3,7 +3,6 @@ pub mod LinkLaws
 pub mod Retile
 pub mod Taking
 pub mod Heaps
-pub mod Splitting
 pub mod Allocating
 pub mod Releasing
 pub mod Joining

@@ -11,7 +11,8 @@ use Rattle.seg_block.specs.Tiling.{tile}
 use Rattle.seg_seqfit.specs.Retiling.{link_behind, IsTiling, Retiles}
 use Rattle.seg_block.proofs.SizeLaws.{IsHeader-set_size}
 use Rattle.seg_seqfit.proofs.LinkLaws.{Links-behind, link_behind-low, names_tile}
-use Rattle.seg_seqfit.proofs.Retile.{IsLocal, retile, spares, around, aligned_end, link_names, IsLocal-trans, IsLocal-word, IsLocal-link, IsLocal-set_size}
+use Rattle.seg_block.proofs.Tiled.{around, aligned_end}
+use Rattle.seg_seqfit.proofs.Retile.{IsLocal, retile, spares, link_names, IsLocal-trans, IsLocal-word, IsLocal-link, IsLocal-set_size}
 
 module _ (old : List ℕ) (xs ys : List Tile) (at u : ℕ) (was : IsTiling old (xs ++ tile at u true ∷ ys)) where
   abbrev link : ℕ
@@ -30,7 +31,7 @@ module _ (old : List ℕ) (xs ys : List Tile) (at u : ℕ) (was : IsTiling old (
   released = set_size listed at u false
 
   parts : (Fill heap_start xs at) × (2 ≤ u) × Fill (at + 16 * u) ys (length old)
-  parts = around xs ys heap_start (length old) at u true was.filled
+  parts = around xs ys heap_start (length old) at u true was.tiled.filled
 
   aligned : at % 16 ≡ 0
   aligned = aligned_end xs heap_start at refl parts.0
@@ -60,7 +61,7 @@ module _ (old : List ℕ) (xs ys : List Tile) (at u : ℕ) (was : IsTiling old (
 
   header : AreHeaders released (units_after 0 xs) (tile at u false ∷ [])
   header =
-      let h = (AreHeaders-back old xs (tile at u true ∷ ys) 0 was.headers).0 in
+      let h = (AreHeaders-back old xs (tile at u true ∷ ys) 0 was.tiled.headers).0 in
       let large = parts.1 in
       let room = inside in
       let low = below in
@@ -73,12 +74,12 @@ module _ (old : List ℕ) (xs ys : List Tile) (at u : ℕ) (was : IsTiling old (
       number-set_other 4 4 linked link (distance link (Some (at + 16))) (at + 8) (inr (omega arith))
       ∙ number-set_other 4 4 tagged (at + 12) (distance (at + 12) (target old link)) (at + 8) (inl (omega arith))
       ∙ number-set_same 4 old (at + 8) 0 (omega arith) (omega arith) in
-      (IsHeader-set_size listed at u (units_after 0 xs) false large (omega arith) (omega (arith, was.small)) before_is (λ e. tag_is), tt)
+      (IsHeader-set_size listed at u (units_after 0 xs) false large (omega arith) (omega (arith, was.tiled.small)) before_is (λ e. tag_is), tt)
 
   next_size : at + 16 * u + 8 ≤ length old → word released (at + 16 * u + 4) ≡ u
   next_size h =
       let long = length-listed in
-      number-set_same 4 (set_word listed at (size_word u false)) (at + 16 * u + 4) u (omega (arith, length-set_number 4 listed at (size_word u false))) (omega (arith, was.small))
+      number-set_same 4 (set_word listed at (size_word u false)) (at + 16 * u + 4) u (omega (arith, length-set_number 4 listed at (size_word u false))) (omega (arith, was.tiled.small))
 
   names : Links released link (record { at = at; units = u } ∷ []) (target old link)
   names =
@@ -91,14 +92,14 @@ module _ (old : List ℕ) (xs ys : List Tile) (at u : ℕ) (was : IsTiling old (
         target-same listed released link
             (number-set_other 4 4 (set_word listed at (size_word u false)) (at + 16 * u + 4) u link (inl (omega arith))
             ∙ number-set_other 4 4 listed at (size_word u false) link (inl (omega arith)))
-            ∙ target-set_same linked link (Some (at + 16)) (omega arith) (omega (arith, was.small))
-            (λ t e. let is : at + 16 ≡ t = some_same e in (omega (arith, was.small), link_names xs at t parts.0 (omega arith))),
+            ∙ target-set_same linked link (Some (at + 16)) (omega arith) (omega (arith, was.tiled.small))
+            (λ t e. let is : at + 16 ≡ t = some_same e in (omega (arith, was.tiled.small), link_names xs at t parts.0 (omega arith))),
         target-same linked released (at + 12)
             (number-set_other 4 4 (set_word listed at (size_word u false)) (at + 16 * u + 4) u (at + 12) (inl (omega arith))
             ∙ number-set_other 4 4 listed at (size_word u false) (at + 12) (inr (omega arith))
             ∙ number-set_other 4 4 linked link (distance link (Some (at + 16))) (at + 12) (inr (omega arith)))
-            ∙ target-set_same tagged (at + 12) (target old link) (omega arith) (omega (arith, was.small))
-            (λ t e. let is = names_tile old ys link (at + 16 * u) (length old) t (omega arith) parts.2 rest_links e in (omega (arith, was.small), λ k. absurd (omega arith))),
+            ∙ target-set_same tagged (at + 12) (target old link) (omega arith) (omega (arith, was.tiled.small))
+            (λ t e. let is = names_tile old ys link (at + 16 * u) (length old) t (omega arith) parts.2 rest_links e in (omega (arith, was.tiled.small), λ k. absurd (omega arith))),
       )
     where
       some_same : {t : ℕ} → Some (at + 16) ≡ Some t → at + 16 ≡ t

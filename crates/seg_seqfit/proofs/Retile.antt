@@ -75,10 +75,10 @@ module _ (old new : List ℕ) (xs ms ns ys : List Tile) (lo hi : ℕ) (was : IsT
   retile_tiled ns_is next_is =
       let low = link_low in
       let le = middle_le in
-      retiled old new (Misses (link_behind 24 xs)) (part_misses (link_behind 24 xs)) lo hi le local.kept xs ms ns ys (record { small = was.small; filled = was.filled; headers = was.headers }) local.length_kept front middle back
+      retiled old new (Misses (link_behind 24 xs)) (part_misses (link_behind 24 xs)) lo hi le local.kept xs ms ns ys was.tiled local.length_kept front middle back
       (each_front xs (link_behind 24 xs) heap_start lo refl link_off front) (each_behind ys (link_behind 24 xs) hi (length old) (omega arith) back) ns_is next_is
 
-  retile_links : Links new (link_behind 24 xs) (free_of ns) (target old (link_behind (link_behind 24 xs) ms)) → Links new 24 (free_of (xs ++ (ns ++ ys))) None
+  pub retile_links : Links new (link_behind 24 xs) (free_of ns) (target old (link_behind (link_behind 24 xs) ms)) → Links new 24 (free_of (xs ++ (ns ++ ys))) None
   retile_links names =
       let link_below = link_low in
       let le = middle_le in
@@ -91,8 +91,7 @@ module _ (old new : List ℕ) (xs ms ns ys : List Tile) (lo hi : ℕ) (was : IsT
 
   pub retile : AreHeaders new (units_after 0 xs) ns → (hi + 8 ≤ length old → word new (hi + 4) ≡ units_after (units_after 0 xs) ns) → Links new (link_behind 24 xs) (free_of ns) (target old (link_behind (link_behind 24 xs) ms)) → IsTiling new (xs ++ (ns ++ ys))
   retile ns_is next_is names =
-      let t = retile_tiled ns_is next_is in
-      record { small = t.small; filled = t.filled; headers = t.headers; links = retile_links names }
+      record { tiled = retile_tiled ns_is next_is; links = retile_links names }
 
   live_misses : (b : Span) → Contains (live_of (xs ++ ys)) b → Misses (link_behind 24 xs) (b.at + 8) (end_of b)
   live_misses b c =
@@ -111,20 +110,10 @@ module _ (old new : List ℕ) (xs ms ns ys : List Tile) (lo hi : ℕ) (was : IsT
       record {
         front_kept = local.kept 0 24 (inl (omega arith)) (inl (omega arith)) (inl (omega arith));
         back_kept = local.kept 28 heap_start (⊎_elim (λ h. inr (omega arith)) (λ h. inl (omega arith)) (link_behind-cases xs 24 heap_start lo front)) (inl (omega arith)) (inl (omega arith));
-        tiles_kept = spared_tiles old new (Misses (link_behind 24 xs)) (part_misses (link_behind 24 xs)) lo hi le local.kept xs ms ns ys (record { small = was.small; filled = was.filled; headers = was.headers }) local.length_kept front middle back live_misses;
+        tiles_kept = spared_tiles old new (Misses (link_behind 24 xs)) (part_misses (link_behind 24 xs)) lo hi le local.kept xs ms ns ys was.tiled local.length_kept front middle back live_misses;
       }
 
 -- ---- where a tile lies
-
-pub around : (xs ys : List Tile) (from to at u : ℕ) (live : Bool) → Fill from (xs ++ tile at u live ∷ ys) to → (Fill from xs at) × (2 ≤ u) × Fill (at + 16 * u) ys to
-around xs ys from to at u live f =
-    let back = Fill-back xs (tile at u live ∷ ys) from to f in
-    let front = Fill-front xs (tile at u live ∷ ys) from to f in
-    (subst (λ p. Fill from xs p) (sym back.0) front, back.1, subst (λ p. Fill (p + 16 * u) ys to) (sym back.0) back.2)
-
-pub aligned_end : (xs : List Tile) (from to : ℕ) → from % 16 ≡ 0 → Fill from xs to → to % 16 ≡ 0
-aligned_end [] from to aligned f = ap (λ p. p % 16) (sym f) ∙ aligned
-aligned_end (t ∷ xs) from to aligned f = aligned_end xs (from + 16 * t.units) to (omega arith) f.2
 
 -- a place in a part that may change
 pub out_of : (from to lo hi p : ℕ) → (to ≤ lo) ⊎ (hi ≤ from) → lo ≤ p → p + 4 ≤ hi → (to ≤ p) ⊎ (p + 4 ≤ from)

@@ -13,11 +13,12 @@ use Rattle.seg_block.specs.Tiling.{tile, Spares}
 use Rattle.seg_seqfit.specs.Retiling.{link_behind, IsTiling, Retiles}
 use Rattle.seg_seqfit.proofs.LinkLaws.{Links-behind}
 use Rattle.seg_block.proofs.LiveTiles.{cons_cases, live_within}
-use Rattle.seg_seqfit.proofs.Retile.{around}
+use Rattle.seg_block.proofs.Tiled.{around}
 use Rattle.seg_seqfit.proofs.Resizing.{put_front, put_front-append}
 use Rattle.seg_seqfit.proofs.Allocating.{Spares-trans, Spares-same, Keeps-same}
 use Rattle.seg_seqfit.proofs.Heaps.{heap_of_tiling, AreApart-live}
-use Rattle.seg_seqfit.proofs.Freeing.{BeginsFree, begins_free, apart_behind, block, block_tiling, block_apart, block_behind, block_front, IsBlock-tile}
+use Rattle.seg_block.proofs.Neighbours.{IsBlock-tile}
+use Rattle.seg_seqfit.proofs.Freeing.{BeginsFree, begins_free, apart_behind, block, block_tiling, block_apart, block_behind, block_front}
 
 test_same : (m n : ℕ) → m ≡ n → eqb m n ≡ true
 test_same m n e = grind (arith, nat_tests)
@@ -76,7 +77,7 @@ module _ (old : List ℕ) (at u : ℕ) (h : IsHeap 0 old) (held : Contains (live
   was = block_tiling old at u h held
 
   parts : (Fill heap_start before at) × (2 ≤ u) × Fill (at + 16 * u) behind (length old)
-  parts = around before behind heap_start (length old) at u true was.filled
+  parts = around before behind heap_start (length old) at u true was.tiled.filled
 
   old_live : live old ≡ live_of before ++ record { at = at; units = u } ∷ live_of behind
   old_live = (heap_of_tiling old (before ++ tile at u true ∷ behind) was (block_apart old at u h held)).live_is ∙ live_of-append before (tile at u true ∷ behind)
@@ -112,7 +113,7 @@ module _ (old : List ℕ) (at u : ℕ) (h : IsHeap 0 old) (held : Contains (live
   pub resizes : (new : List ℕ) (n : ℕ) (zs : List Tile) → IsTiling new (before ++ tile at n true ∷ zs) → live_of zs ≡ live_of behind → AreApart true zs → Spares old new (before ++ behind) → Agrees old new (at + 8) (at + 16 * min u n) → IsResized old new at n
   resizes new n zs tiling same apart s own =
       let now = heap_of_tiling new (before ++ tile at n true ∷ zs) tiling (AreApart-append before (tile at n true ∷ zs) true (block_front old at u h held) (λ e. refl, apart)) in
-      let new_parts = around before zs heap_start (length new) at n true tiling.filled in
+      let new_parts = around before zs heap_start (length new) at n true tiling.tiled.filled in
       let new_live = now.live_is ∙ live_of-append before (tile at n true ∷ zs) in
       let cases = λ (c : Span) (k : Contains (live new) c). ⊎_elim (λ x. inl x) (λ x. inr (cons_cases (record { at = at; units = n }) c (live_of zs) x)) (Contains-append_cases (live_of before) (record { at = at; units = n } ∷ live_of zs) c (subst (λ l. Contains l c) new_live k)) in
       let olds = λ (b : Span) (k : Contains (live old) b). ⊎_elim (λ x. inl x) (λ x. inr (cons_cases (record { at = at; units = u }) b (live_of behind) x)) (Contains-append_cases (live_of before) (record { at = at; units = u } ∷ live_of behind) b (subst (λ l. Contains l b) old_live k)) in
@@ -138,7 +139,7 @@ module _ (old : List ℕ) (at u : ℕ) (h : IsHeap 0 old) (held : Contains (live
     where
       block_of : (b : BeginsFree behind (at + 16 * u)) → IsBlock old (record { at = at + 16 * u; units = b.units })
       block_of b = IsBlock-tile old (put_front before (tile at u true)) b.rest (at + 16 * u) b.units false
-          (subst (λ l. IsTiling old l) (ap (λ l. before ++ tile at u true ∷ l) b.parts ∙ sym (put_front-append before (tile (at + 16 * u) b.units false ∷ b.rest) (tile at u true))) was)
+          (subst (λ l. IsTiling old l) (ap (λ l. before ++ tile at u true ∷ l) b.parts ∙ sym (put_front-append before (tile (at + 16 * u) b.units false ∷ b.rest) (tile at u true))) was).tiled
 
   pub record HasGap (v : ℕ) : Type 0 where
     pub rest : List Tile
@@ -155,7 +156,7 @@ module _ (old : List ℕ) (at u : ℕ) (h : IsHeap 0 old) (held : Contains (live
       let b = begins_free old behind link (at + 16 * u) (length old) parts.2 links named in
       let same : v ≡ b.units = read (record { at = at + 16 * u; units = b.units }) named refl
       (IsBlock-tile old (put_front before (tile at u true)) b.rest (at + 16 * u) b.units false
-      (subst (λ l. IsTiling old l) (ap (λ l. before ++ tile at u true ∷ l) b.parts ∙ sym (put_front-append before (tile (at + 16 * u) b.units false ∷ b.rest) (tile at u true))) was)) in
+      (subst (λ l. IsTiling old l) (ap (λ l. before ++ tile at u true ∷ l) b.parts ∙ sym (put_front-append before (tile (at + 16 * u) b.units false ∷ b.rest) (tile at u true))) was).tiled) in
       let behind_is : behind ≡ tile (at + 16 * u) v false ∷ b.rest = b.parts ∙ ap (λ n. tile (at + 16 * u) n false ∷ b.rest) (sym same) in
       let fill = subst (λ l. Fill (at + 16 * u) l (length old)) behind_is parts.2 in
       record {

@@ -11,12 +11,13 @@ use Rattle.seg_block.specs.Tiling.{tile}
 use Rattle.seg_seqfit.specs.Retiling.{link_behind, IsTiling, Retiles}
 use Rattle.seg_block.proofs.SizeLaws.{IsHeader-set_size, Agrees-set_size, length-set_size}
 use Rattle.seg_seqfit.proofs.LinkLaws.{Links-behind, link_behind-low, names_tile}
-use Rattle.seg_seqfit.proofs.Retile.{IsLocal, retile, spares, around, aligned_end, out_of, link_names}
+use Rattle.seg_block.proofs.Tiled.{around, aligned_end}
+use Rattle.seg_seqfit.proofs.Retile.{IsLocal, retile, spares, out_of, link_names}
 
 -- what the pointer word of a tile of the list names
 pub named_behind : (bytes : List ℕ) (xs ys : List Tile) (at u t : ℕ) → IsTiling bytes (xs ++ tile at u false ∷ ys) → target bytes (at + 12) ≡ Some t → (t % 16 ≡ 0) × (t ≤ length bytes)
 named_behind bytes xs ys at u t was e =
-    let parts = around xs ys heap_start (length bytes) at u false was.filled in
+    let parts = around xs ys heap_start (length bytes) at u false was.tiled.filled in
     let even = aligned_end xs heap_start at refl parts.0 in
     let rest = Links-behind bytes (tile at u false ∷ []) ys (link_behind 24 xs) None (Links-behind bytes xs (tile at u false ∷ ys) 24 None was.links) in
     names_tile bytes ys (at + 12) (at + 16 * u) (length bytes) t (omega arith) parts.2 rest e
@@ -35,7 +36,7 @@ module _ (old : List ℕ) (xs ys : List Tile) (at u : ℕ) (was : IsTiling old (
   taken = set_size closed at u true
 
   parts : (Fill heap_start xs at) × (2 ≤ u) × Fill (at + 16 * u) ys (length old)
-  parts = around xs ys heap_start (length old) at u false was.filled
+  parts = around xs ys heap_start (length old) at u false was.tiled.filled
 
   length-closed : length closed ≡ length old
   length-closed = length-set_number 4 unlinked (at + 12) (distance (at + 12) None) ∙ length-set_number 4 old link (distance link (target old (at + 12)))
@@ -61,13 +62,13 @@ module _ (old : List ℕ) (xs ys : List Tile) (at u : ℕ) (was : IsTiling old (
 
   header : AreHeaders taken (units_after 0 xs) (tile at u true ∷ [])
   header =
-      let h = (AreHeaders-back old xs (tile at u false ∷ ys) 0 was.headers).0 in
+      let h = (AreHeaders-back old xs (tile at u false ∷ ys) 0 was.tiled.headers).0 in
       let large = parts.1 in
       let room = inside in
       let low = below in
       let long = length-closed in
       let before_is : units_before closed at ≡ units_after 0 xs = number-set_other 4 4 unlinked (at + 12) (distance (at + 12) None) (at + 4) (inl (omega arith)) ∙ number-set_other 4 4 old link (distance link (target old (at + 12))) (at + 4) (inr (omega arith)) ∙ h.before_is in
-      (IsHeader-set_size closed at u (units_after 0 xs) true large (omega arith) (omega (arith, was.small)) before_is (λ e. absurd (no e)), tt)
+      (IsHeader-set_size closed at u (units_after 0 xs) true large (omega arith) (omega (arith, was.tiled.small)) before_is (λ e. absurd (no e)), tt)
     where
       no : true ≡ false → ⊥
       no e = cc
@@ -75,7 +76,7 @@ module _ (old : List ℕ) (xs ys : List Tile) (at u : ℕ) (was : IsTiling old (
   next_size : at + 16 * u + 8 ≤ length old → word taken (at + 16 * u + 4) ≡ u
   next_size h =
       let long = length-closed in
-      number-set_same 4 (set_word closed at (size_word u true)) (at + 16 * u + 4) u (omega (arith, length-set_number 4 closed at (size_word u true))) (omega (arith, was.small))
+      number-set_same 4 (set_word closed at (size_word u true)) (at + 16 * u + 4) u (omega (arith, length-set_number 4 closed at (size_word u true))) (omega (arith, was.tiled.small))
 
   names : target taken link ≡ target old (at + 12)
   names =
@@ -86,8 +87,8 @@ module _ (old : List ℕ) (xs ys : List Tile) (at u : ℕ) (was : IsTiling old (
       (number-set_other 4 4 (set_word closed at (size_word u true)) (at + 16 * u + 4) u link (inl (omega arith))
       ∙ number-set_other 4 4 closed at (size_word u true) link (inl (omega arith))
       ∙ number-set_other 4 4 unlinked (at + 12) (distance (at + 12) None) link (inl (omega arith)))
-      ∙ target-set_same old link (target old (at + 12)) (omega arith) (omega (arith, was.small))
-      (λ t e. let is = named_behind old xs ys at u t was e in (omega (arith, was.small), link_names xs at t parts.0 is.0))
+      ∙ target-set_same old link (target old (at + 12)) (omega arith) (omega (arith, was.tiled.small))
+      (λ t e. let is = named_behind old xs ys at u t was e in (omega (arith, was.tiled.small), link_names xs at t parts.0 is.0))
 
   pub take-retiles : Retiles old taken xs (tile at u true ∷ []) ys
   take-retiles = record {
@@ -102,7 +103,7 @@ module _ (old : List ℕ) (xs ys : List Tile) (at u : ℕ) (was : IsTiling old (
       target-same closed taken (at + 12)
       (number-set_other 4 4 (set_word closed at (size_word u true)) (at + 16 * u + 4) u (at + 12) (inl (omega arith))
       ∙ number-set_other 4 4 closed at (size_word u true) (at + 12) (inr (omega arith)))
-      ∙ target-set_same unlinked (at + 12) None (omega (arith, length-set_number 4 old link (distance link (target old (at + 12))))) (omega (arith, was.small)) (λ t e. absurd (no t e))
+      ∙ target-set_same unlinked (at + 12) None (omega (arith, length-set_number 4 old link (distance link (target old (at + 12))))) (omega (arith, was.tiled.small)) (λ t e. absurd (no t e))
     where
       no : (t : ℕ) → None ≡ Some t → ⊥
       no t e = cc

@@ -1,13 +1,11 @@
 -- A heap under sequential fit, where free tiles may be neighbours for a moment.
-use Rattle.std.specs.Prelude.{◌≡◌, ℕ, ◌+◌, ◌≤◌, ◌^◌, false, List, [], ◌∷◌, ◌++◌, length, if◌then◌else◌, None}
-use Rattle.seg_spec.specs.Heap.{Tile, Fill, AreHeaders, AreApart, Links, live_of, free_of, heap_start}
-use Rattle.seg_block.specs.Tiling.{tile, Spares}
+use Rattle.std.specs.Prelude.{◌≡◌, ℕ, ◌+◌, false, List, [], ◌∷◌, ◌++◌, if◌then◌else◌, None}
+use Rattle.seg_spec.specs.Heap.{Tile, AreApart, Links, live_of, free_of}
+use Rattle.seg_block.specs.Tiling.{tile, IsTiled, Spares}
 
 -- these tiles fill the heap with their headers, and the free list holds the free ones in turn
 pub record IsTiling (bytes : List ℕ) (ts : List Tile) : Type 0 where
-  pub small : length bytes ≤ 2 ^ 30
-  pub filled : Fill heap_start ts (length bytes)
-  pub headers : AreHeaders bytes 0 ts
+  pub tiled : IsTiled bytes ts
   pub links : Links bytes 24 (free_of ts) None
 
 -- the pointer word that names the first free tile behind these

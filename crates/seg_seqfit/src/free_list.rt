@@ -8,7 +8,7 @@ ghost use Rattle.seg_block.specs.Tiling.{tile};
 ghost use Rattle.seg_seqfit.specs.Retiling.{link_behind, IsTiling, Retiles, JoinsBehind};
 
 use crate::search::free_behind;
-use seg_block::{Block, UNIT, block_at, set_size};
+use seg_block::{Block, UNIT, block_at, join, set_size, split};
 use seg_ptr::Window;
 use std::alloc::Allocator;
 
@@ -24,7 +24,7 @@ pub(crate) fn absorb<A: Allocator>(w: &mut Window<A>, link: usize, block: Block,
         units: more,
     };
     take(w, link, gap);
-    set_size(w, block.at, block.units + more, true);
+    join(w, block, gap);
 }
 
 /// Cuts a live block to `units`, where at least 2 are left.
@@ -43,8 +43,7 @@ pub(crate) fn cut<A: Allocator>(w: &mut Window<A>, link: usize, block: Block, un
             at: block.at + UNIT * units,
             units: left,
         };
-        set_size(w, rest.at, rest.units, true);
-        set_size(w, block.at, units, true);
+        split(w, block, units);
         release(w, link, rest);
     }
 }
@@ -62,24 +61,6 @@ pub(crate) fn take<A: Allocator>(w: &mut Window<A>, link: usize, block: Block)
     set_size(w, block.at, block.units, true);
 }
 
-/// Cuts a free block in two. The front keeps `units`.
-pub(crate) fn split<A: Allocator>(w: &mut Window<A>, block: Block, units: u32)
-    requires inside { block.at + 16 * block.units ≤ 2 ^ 30 }
-    requires front { 2 ≤ units }
-    requires rest { units + 2 ≤ block.units }
-    ensures host { w.new ≡ with_bytes w.old w.new.bytes }
-    ensures tiles { (xs ys : List Tile) → IsTiling w.old.bytes (xs ++ tile block.at block.units false ∷ ys)
-        → Retiles w.old.bytes w.new.bytes xs (tile block.at units false ∷ tile (block.at + 16 * units) (block.units - units) false ∷ []) ys }
-{
-    let behind = block.at + UNIT * units;
-    let next = w.target(block.at as usize + 12);
-    w.put32(behind as usize + 8, 0);
-    w.point(behind as usize + 12, next);
-    set_size(w, behind, block.units - units, false);
-    set_size(w, block.at, units, false);
-    w.point(block.at as usize + 12, Some(behind + UNIT));
-}
-
 /// Puts a live block into the free list, at the pointer word that names the first free block above.
 pub(crate) fn release<A: Allocator>(w: &mut Window<A>, link: usize, block: Block)
     requires { block.at + 16 * block.units ≤ 2 ^ 30 }
@@ -95,19 +76,19 @@ pub(crate) fn release<A: Allocator>(w: &mut Window<A>, link: usize, block: Block
 }
 
 /// Joins a free block with the free block right behind it.
-pub(crate) fn join<A: Allocator>(w: &mut Window<A>, front: Block, rest: Block)
+pub(crate) fn merge<A: Allocator>(w: &mut Window<A>, front: Block, rest: Block)
     requires { front.at + 16 * front.units + 16 * rest.units ≤ 2 ^ 30 }
     ensures host { w.new ≡ with_bytes w.old w.new.bytes }
     ensures tiles { (xs ys : List Tile) → IsTiling w.old.bytes (xs ++ (tile front.at front.units false ∷ tile (front.at + 16 * front.units) rest.units false ∷ ys))
         → Retiles w.old.bytes w.new.bytes xs (tile front.at (front.units + rest.units) false ∷ []) ys }
 {
     let next = w.target((front.at + UNIT * front.units) as usize + 12);
-    set_size(w, front.at, front.units + rest.units, false);
+    join(w, front, rest);
     w.point(front.at as usize + 12, next);
 }
 
 /// Joins the free block at a position with what is free right behind it.
-pub(crate) fn join_behind<A: Allocator>(w: &mut Window<A>, at: u32)
+pub(crate) fn merge_behind<A: Allocator>(w: &mut Window<A>, at: u32)
     ensures host { w.new ≡ with_bytes w.old w.new.bytes }
     ensures joins { (xs ys : List Tile) (u : ℕ) → IsTiling w.old.bytes (xs ++ tile at u false ∷ ys) → AreApart true ys → JoinsBehind w.old.bytes w.new.bytes xs at ys }
 {
@@ -115,6 +96,6 @@ pub(crate) fn join_behind<A: Allocator>(w: &mut Window<A>, at: u32)
         return;
     };
     if let Some(rest) = free_behind(w, front.at as usize + 12, front) {
-        join(w, front, rest);
+        merge(w, front, rest);
     }
 }

@@ -1,6 +1,6 @@
 ghost use Rattle.std.specs.Prelude.{ℕ};
 
-use crate::free_list::{absorb, cut, join_behind, release, split, take};
+use crate::free_list::{absorb, cut, merge_behind, release, take};
 use crate::search::{first_fit, free_behind, link_before};
 use seg_block::{Block, Fit, HEAP_START, UNIT, block_at, is_live, last_block, set_size};
 use seg_ptr::Window;
@@ -28,21 +28,9 @@ impl Fit for SeqFit {
 
     fn allocate<A: Allocator>(w: &mut Window<A>, need: u32) -> Option<u32> {
         let found = first_fit(w, need)?;
-        let gap = found.block;
-        if gap.units - need < 2 {
-            take(w, found.link, gap);
-        } else {
-            split(w, gap, need);
-            take(
-                w,
-                found.link,
-                Block {
-                    at: gap.at,
-                    units: need,
-                },
-            );
-        }
-        Some(gap.at)
+        take(w, found.link, found.block);
+        cut(w, found.link, found.block, need);
+        Some(found.block.at)
     }
 
     fn free<A: Allocator>(w: &mut Window<A>, block: u32) {
@@ -51,9 +39,9 @@ impl Fit for SeqFit {
         };
         let link = link_before(w, block.at);
         release(w, link, block);
-        join_behind(w, block.at);
+        merge_behind(w, block.at);
         if link != FREE {
-            join_behind(w, (link - 12) as u32);
+            merge_behind(w, (link - 12) as u32);
         }
     }
 

@@ -7,4 +7,4 @@ pub returns-clause-tiles : goal.returns-clause-tiles
 returns-clause-tiles g c = λ xs ys link_is was.
     let at = c.args.block.at in
     let u = c.args.block.units in
-    absorbs c.args.w.now.bytes c.take.new.w.bytes c.set_size.new.w.bytes xs ys at u c.args.more c.args.link link_is was (λ zs e t. (c.take.ensures.tiles zs ys e t).0) (ap (λ (p : Placement). p.bytes) c.set_size.ensures)
+    absorbs c.args.w.now.bytes c.take.new.w.bytes c.join.new.w.bytes xs ys at u c.args.more c.args.link link_is was (λ zs e t. (c.take.ensures.tiles zs ys e t).0) (ap (λ (p : Placement). p.bytes) c.join.ensures.bytes)

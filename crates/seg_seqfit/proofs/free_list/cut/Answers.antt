@@ -1,6 +1,5 @@
-use Rattle.std.proofs.Common.{◌-◌, true, ap, ◌∙◌, arith}
+use Rattle.std.proofs.Common.{◌-◌, ap, arith}
 use Rattle.seg_spec.specs.Window.{Placement}
-use Rattle.seg_block.specs.Sizes.{set_size}
 use Rattle.seg_seqfit.proofs.Resizing.{cuts}
 use Rattle.seg_seqfit.proofs.free_list.cut.Goals as goal
 
@@ -9,6 +8,6 @@ returns-then-left-ge2-clause-tiles g c = λ enough xs ys link_is was.
     let at = c.args.block.at in
     let n = c.args.block.units in
     let u = c.args.units in
-    cuts c.args.w.now.bytes c.set_size-then-left-ge2.new.w.bytes c.release.new.w.bytes xs ys at n u (n - u) c.args.link link_is was (omega arith) c.requires.front (omega arith)
-    (ap (λ (p : Placement). p.bytes) c.set_size-then-left-ge2.ensures ∙ ap (λ (p : Placement). set_size p.bytes at u true) c.set_size.ensures)
+    cuts c.args.w.now.bytes c.split.new.w.bytes c.release.new.w.bytes xs ys at n u (n - u) c.args.link link_is was (omega arith) c.requires.front (omega arith)
+    (ap (λ (p : Placement). p.bytes) c.split.ensures.bytes)
     (λ zs e t. c.release.ensures.tiles zs ys e t)

@@ -1,6 +1,7 @@
 use Rattle.std.proofs.Common.{true, refl, ap}
 use Rattle.seg_spec.specs.Window.{Placement}
-use Rattle.seg_seqfit.proofs.Freeing.{IsBlock-tile, block, block_tiling}
+use Rattle.seg_block.proofs.Neighbours.{IsBlock-tile}
+use Rattle.seg_seqfit.proofs.Freeing.{block, block_tiling}
 use Rattle.seg_seqfit.proofs.Expanding.{expand_enough, expand_no_gap, expand_short, expand_done}
 use Rattle.seg_seqfit.proofs.seqfit.SeqFitFit.expand.Goals as goal
 
@@ -8,7 +9,7 @@ pub returns-in_default-clause-expands : goal.returns-in_default-clause-expands
 returns-in_default-clause-expands g c = λ x h held.
     let old = c.args.w.now.bytes in
     let b = block old c.args.block x h held in
-    absurd (c.in_default.ensures.read (record { at = c.args.block; units = x }) refl (IsBlock-tile old b.xs b.ys c.args.block x true (block_tiling old c.args.block x h held)))
+    absurd (c.in_default.ensures.read (record { at = c.args.block; units = x }) refl (IsBlock-tile old b.xs b.ys c.args.block x true (block_tiling old c.args.block x h held).tiled))
 
 pub returns-then-need-block-clause-expands : goal.returns-then-need-block-clause-expands
 returns-then-need-block-clause-expands g c = λ x h held.

@@ -1,6 +1,7 @@
 use Rattle.std.proofs.Common.{true, refl, ap, arith}
 use Rattle.seg_spec.specs.Window.{Placement}
-use Rattle.seg_seqfit.proofs.Freeing.{IsBlock-tile, block, block_tiling}
+use Rattle.seg_block.proofs.Neighbours.{IsBlock-tile}
+use Rattle.seg_seqfit.proofs.Freeing.{block, block_tiling}
 use Rattle.seg_seqfit.proofs.Expanding.{read_is, shrink_no_gap, shrink_gap}
 use Rattle.seg_seqfit.proofs.seqfit.SeqFitFit.shrink.Goals as goal
 
@@ -8,7 +9,7 @@ pub returns-in_default-clause-shrinks : goal.returns-in_default-clause-shrinks
 returns-in_default-clause-shrinks g c = λ x h held low.
     let old = c.args.w.now.bytes in
     let b = block old c.args.block x h held in
-    absurd (c.in_default.ensures.read (record { at = c.args.block; units = x }) refl (IsBlock-tile old b.xs b.ys c.args.block x true (block_tiling old c.args.block x h held)))
+    absurd (c.in_default.ensures.read (record { at = c.args.block; units = x }) refl (IsBlock-tile old b.xs b.ys c.args.block x true (block_tiling old c.args.block x h held).tiled))
 
 pub returns-then-need-block-clause-shrinks : goal.returns-then-need-block-clause-shrinks
 returns-then-need-block-clause-shrinks g c = λ x h held low.
