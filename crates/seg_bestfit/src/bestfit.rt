@@ -1,8 +1,10 @@
-ghost use Rattle.std.specs.Prelude.{◌+◌, ◌*◌, ◌^◌, ◌<◌, ◌≤◌, length};
+ghost use Rattle.std.specs.Prelude.{◌≡◌, ◌+◌, ◌*◌, ◌^◌, ◌<◌, ◌≤◌, length};
+ghost use Rattle.seg_spec.specs.Window.{with_bytes};
 
 use crate::free_tree::{BySize, add, block_of, free_before, free_behind, free_tree, take_out};
 use seg_block::{
-    Block, HEAP_START, UNIT, block_at, expanded, granted, is_live, last_block, set_size, shrunk,
+    Block, Fit, HEAP_START, UNIT, block_at, expanded, granted, is_live, last_block, set_size,
+    shrunk,
 };
 use seg_ptr::{Window, header};
 use seg_rbtree::Looked;
@@ -18,14 +20,17 @@ pub fn locate<A: Allocator>(w: &Window<A>, need: u32) -> (Option<u32>, u32) {
     (node.and_then(|node| node.checked_sub(UNIT)), looks)
 }
 
-impl BestFit {
-    /// What the word at 16 of an image holds for this allocator.
-    pub fn word() -> u32 {
+impl Fit for BestFit {
+    ghost code = { 1 };
+
+    // not proved yet
+    ghost exact = { ⊥ };
+
+    fn word() -> u32 {
         1
     }
 
-    /// Makes the heap one gap.
-    pub fn init<A: Allocator>(w: &mut Window<A>) {
+    fn init<A: Allocator>(w: &mut Window<A>) {
         w.put32(HEAP_START as usize + 4, 0);
         w.point(header::FREE, None);
         let units = w.len().saturating_sub(HEAP_START) / UNIT;
@@ -35,10 +40,7 @@ impl BestFit {
         }
     }
 
-    /// Takes a block of `need` units, or of one more, and answers where its header is.
-    pub fn allocate<A: Allocator>(w: &mut Window<A>, need: u32) -> Option<u32>
-        requires { 2 ≤ need }
-    {
+    fn allocate<A: Allocator>(w: &mut Window<A>, need: u32) -> Option<u32> {
         let found = free_tree().first_at_least(w, &BySize, need).node?;
         let gap = block_of(w, found)?;
         if gap.units < need {
@@ -50,8 +52,7 @@ impl BestFit {
         Some(gap.at)
     }
 
-    /// Gives a live block back: it becomes one gap with its free neighbours.
-    pub fn free<A: Allocator>(w: &mut Window<A>, block: u32) {
+    fn free<A: Allocator>(w: &mut Window<A>, block: u32) {
         let Some(mut whole) = block_at(w, block) else {
             return;
         };
@@ -67,10 +68,7 @@ impl BestFit {
         add(w, whole);
     }
 
-    /// Lets a live block have `need` units where it stands, if the gap behind it has them.
-    pub fn expand<A: Allocator>(w: &mut Window<A>, block: u32, need: u32) -> bool
-        requires { 2 ≤ need }
-    {
+    fn expand<A: Allocator>(w: &mut Window<A>, block: u32, need: u32) -> bool {
         let Some(block) = block_at(w, block) else {
             return false;
         };
@@ -84,10 +82,7 @@ impl BestFit {
         }
     }
 
-    /// Cuts a live block to `need` units.
-    pub fn shrink<A: Allocator>(w: &mut Window<A>, block: u32, need: u32)
-        requires { 2 ≤ need }
-    {
+    fn shrink<A: Allocator>(w: &mut Window<A>, block: u32, need: u32) {
         let Some(block) = block_at(w, block) else {
             return;
         };
@@ -99,10 +94,7 @@ impl BestFit {
         resize(w, block, units);
     }
 
-    /// Takes the last `units` units of the window into the heap, which ended before them.
-    pub fn extend_end<A: Allocator>(w: &mut Window<A>, units: u32)
-        requires { 16 * units ≤ length w.old.bytes }
-    {
+    fn extend_end<A: Allocator>(w: &mut Window<A>, units: u32) {
         let len = w.len();
         let end = len - UNIT * units;
         w.put32(header::SIZE, len / UNIT);
@@ -118,9 +110,7 @@ impl BestFit {
         }
     }
 
-    /// Cuts the gap at the heap's end, and answers how many units the window can be cut by. Where the whole heap is one gap, 2
-    /// units of it stay.
-    pub fn cut_end<A: Allocator>(w: &mut Window<A>) -> u32 {
+    fn cut_end<A: Allocator>(w: &mut Window<A>) -> u32 {
         let len = w.len();
         let cut = match last_block(w, len) {
             Some(last) if !is_live(w, last.at) => cut_gap(w, last),
@@ -134,6 +124,7 @@ impl BestFit {
 /// Makes the front of units that are in no tree a live block, and what is left, if anything is, a free one.
 fn give<A: Allocator>(w: &mut Window<A>, whole: Block, units: u32)
     requires { units < 2 ^ 31 }
+    ensures { w.new ≡ with_bytes w.old w.new.bytes }
 {
     set_size(w, whole.at, units, true);
     let rest = Block {
@@ -149,6 +140,7 @@ fn give<A: Allocator>(w: &mut Window<A>, whole: Block, units: u32)
 fn resize<A: Allocator>(w: &mut Window<A>, block: Block, units: u32)
     requires inside { block.at + 16 * block.units ≤ 2 ^ 30 }
     requires few { units < 2 ^ 31 }
+    ensures { w.new ≡ with_bytes w.old w.new.bytes }
 {
     if units == block.units {
         return;
@@ -162,7 +154,9 @@ fn resize<A: Allocator>(w: &mut Window<A>, block: Block, units: u32)
 }
 
 /// Gives the last block of a heap all units to the end of the segment.
-fn enlarge<A: Allocator>(w: &mut Window<A>, last: Block) {
+fn enlarge<A: Allocator>(w: &mut Window<A>, last: Block)
+    ensures { w.new ≡ with_bytes w.old w.new.bytes }
+{
     let units = w.len().saturating_sub(last.at) / UNIT;
     if is_live(w, last.at) {
         set_size(w, last.at, units, true);
@@ -175,6 +169,7 @@ fn enlarge<A: Allocator>(w: &mut Window<A>, last: Block) {
 /// Cuts a gap at the heap's end, and answers its units, but for 2 where it is the whole heap.
 fn cut_gap<A: Allocator>(w: &mut Window<A>, last: Block) -> u32
     requires { 2 ≤ last.units }
+    ensures { w.new ≡ with_bytes w.old w.new.bytes }
 {
     take_out(w, last);
     if last.at > HEAP_START {

@@ -1,4 +1,5 @@
-ghost use Rattle.std.specs.Prelude.{◌+◌, ◌*◌, ◌^◌, ◌<◌, ◌≤◌, length, IfSome};
+ghost use Rattle.std.specs.Prelude.{◌≡◌, ◌+◌, ◌*◌, ◌^◌, ◌<◌, ◌≤◌, length, IfSome};
+ghost use Rattle.seg_spec.specs.Window.{with_bytes};
 
 use seg_block::{Block, HEAP_START, UNIT, block_at, is_live, set_size, units, units_before};
 use seg_ptr::{Window, header};
@@ -37,7 +38,9 @@ pub(crate) fn block_of<A: Allocator>(w: &Window<A>, node: u32) -> Option<Block>
 }
 
 /// Makes units of the heap a free block, in the tree. Nothing changes where they don't lie in the segment.
-pub(crate) fn add<A: Allocator>(w: &mut Window<A>, block: Block) {
+pub(crate) fn add<A: Allocator>(w: &mut Window<A>, block: Block)
+    ensures { w.new ≡ with_bytes w.old w.new.bytes }
+{
     let len = w.len();
     if block.at > len || block.units > (len - block.at) / UNIT {
         return;
@@ -49,7 +52,9 @@ pub(crate) fn add<A: Allocator>(w: &mut Window<A>, block: Block) {
 }
 
 /// Takes a free block out of the tree.
-pub(crate) fn take_out<A: Allocator>(w: &mut Window<A>, block: Block) {
+pub(crate) fn take_out<A: Allocator>(w: &mut Window<A>, block: Block)
+    ensures { w.new ≡ with_bytes w.old w.new.bytes }
+{
     free_tree().remove(w, &BySize, block.at.saturating_add(UNIT));
 }
 

@@ -1,3 +1,6 @@
+ghost use Rattle.std.specs.Prelude.{◌≡◌};
+ghost use Rattle.seg_spec.specs.Window.{with_bytes};
+
 use crate::node::{Colour, Side, child, init, is_red, paint};
 use crate::order::NodeOrder;
 use crate::path::{DEPTH, Path};
@@ -12,7 +15,9 @@ impl Tree {
         w: &mut Window<A>,
         order: &O,
         node: u32,
-    ) {
+    )
+        ensures { w.new ≡ with_bytes w.old w.new.bytes }
+    {
         let mut path = self.path_to(w, order, node);
         init(w, node);
         path.set(w, Some(node));
@@ -27,7 +32,9 @@ impl Tree {
 }
 
 /// Settles a red node whose parent may be red: here, or by a red node further up, which it answers.
-fn settle<A: Allocator>(w: &mut Window<A>, path: &mut Path, node: u32) -> Option<u32> {
+fn settle<A: Allocator>(w: &mut Window<A>, path: &mut Path, node: u32) -> Option<u32>
+    ensures { w.new ≡ with_bytes w.old w.new.bytes }
+{
     let Some(parent) = path.pop() else {
         paint(w, node, Colour::Black);
         return None;
@@ -59,7 +66,9 @@ fn straighten<A: Allocator>(
     grandparent: u32,
     side: Side,
     inner: Side,
-) {
+)
+    ensures { w.new ≡ with_bytes w.old w.new.bytes }
+{
     if inner != side {
         bring_up(w, path, grandparent, side);
     }
@@ -70,7 +79,9 @@ fn straighten<A: Allocator>(
 }
 
 /// Lets the inner grandchild on a side take the place of its parent.
-fn bring_up<A: Allocator>(w: &mut Window<A>, path: &mut Path, grandparent: u32, side: Side) {
+fn bring_up<A: Allocator>(w: &mut Window<A>, path: &mut Path, grandparent: u32, side: Side)
+    ensures { w.new ≡ with_bytes w.old w.new.bytes }
+{
     if path.push(grandparent, side) {
         if let Some(parent) = path.node(w) {
             let _ = path.rotate(w, parent, side);

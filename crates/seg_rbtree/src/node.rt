@@ -1,3 +1,6 @@
+ghost use Rattle.std.specs.Prelude.{◌≡◌};
+ghost use Rattle.seg_spec.specs.Window.{with_bytes};
+
 use seg_ptr::Window;
 use std::alloc::Allocator;
 
@@ -36,12 +39,9 @@ pub(crate) fn child<A: Allocator>(w: &Window<A>, node: u32, side: Side) -> Optio
     w.target(child_word(node, side))
 }
 
-pub(crate) fn set_child<A: Allocator>(
-    w: &mut Window<A>,
-    node: u32,
-    side: Side,
-    child: Option<u32>,
-) {
+pub(crate) fn set_child<A: Allocator>(w: &mut Window<A>, node: u32, side: Side, child: Option<u32>)
+    ensures { w.new ≡ with_bytes w.old w.new.bytes }
+{
     w.point(child_word(node, side), child);
 }
 
@@ -57,12 +57,16 @@ pub(crate) fn is_red<A: Allocator>(w: &Window<A>, node: Option<u32>) -> bool {
     colour_of(w, node) == Colour::Red
 }
 
-pub(crate) fn paint<A: Allocator>(w: &mut Window<A>, node: u32, colour: Colour) {
+pub(crate) fn paint<A: Allocator>(w: &mut Window<A>, node: u32, colour: Colour)
+    ensures { w.new ≡ with_bytes w.old w.new.bytes }
+{
     w.put32(node as usize + 8, colour as u32);
 }
 
 /// Makes a node a red one without children.
-pub(crate) fn init<A: Allocator>(w: &mut Window<A>, node: u32) {
+pub(crate) fn init<A: Allocator>(w: &mut Window<A>, node: u32)
+    ensures { w.new ≡ with_bytes w.old w.new.bytes }
+{
     set_child(w, node, Side::Left, None);
     set_child(w, node, Side::Right, None);
     paint(w, node, Colour::Red);

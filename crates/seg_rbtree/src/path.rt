@@ -1,3 +1,6 @@
+ghost use Rattle.std.specs.Prelude.{◌≡◌};
+ghost use Rattle.seg_spec.specs.Window.{with_bytes};
+
 use crate::node::{Side, child_word, set_child};
 use arrayvec::ArrayVec;
 use seg_ptr::Window;
@@ -69,12 +72,16 @@ impl Path {
     }
 
     /// Lets another node stand at the place.
-    pub(crate) fn set<A: Allocator>(&self, w: &mut Window<A>, node: Option<u32>) {
+    pub(crate) fn set<A: Allocator>(&self, w: &mut Window<A>, node: Option<u32>)
+        ensures { w.new ≡ with_bytes w.old w.new.bytes }
+    {
         w.point(self.word(), node);
     }
 
     /// Lets another node stand at the place below so many steps.
-    pub(crate) fn set_at<A: Allocator>(&self, w: &mut Window<A>, steps: usize, node: u32) {
+    pub(crate) fn set_at<A: Allocator>(&self, w: &mut Window<A>, steps: usize, node: u32)
+        ensures { w.new ≡ with_bytes w.old w.new.bytes }
+    {
         w.point(self.word_below(steps), Some(node));
     }
 
@@ -85,7 +92,9 @@ impl Path {
         w: &mut Window<A>,
         node: u32,
         side: Side,
-    ) -> Option<u32> {
+    ) -> Option<u32>
+        ensures { w.new ≡ with_bytes w.old w.new.bytes }
+    {
         let up = w.target(child_word(node, side.other()))?;
         let between = w.target(child_word(up, side));
         set_child(w, node, side.other(), between);

@@ -1,3 +1,6 @@
+ghost use Rattle.std.specs.Prelude.{◌≡◌};
+ghost use Rattle.seg_spec.specs.Window.{with_bytes};
+
 use crate::node::{Colour, Side, child, colour_of, is_red, paint, set_child};
 use crate::order::NodeOrder;
 use crate::path::{DEPTH, Path, Step};
@@ -12,7 +15,9 @@ impl Tree {
         w: &mut Window<A>,
         order: &O,
         node: u32,
-    ) {
+    )
+        ensures { w.new ≡ with_bytes w.old w.new.bytes }
+    {
         let mut path = self.path_to(w, order, node);
         if path.node(w) != Some(node) {
             return;
@@ -31,7 +36,9 @@ impl Tree {
 
 /// Takes a node out of the place that a path leads to, which then leads to where a node is missing. Answers the colour that
 /// is missing there.
-fn unlink<A: Allocator>(w: &mut Window<A>, path: &mut Path, node: u32) -> Colour {
+fn unlink<A: Allocator>(w: &mut Window<A>, path: &mut Path, node: u32) -> Colour
+    ensures { w.new ≡ with_bytes w.old w.new.bytes }
+{
     let left = child(w, node, Side::Left);
     let right = child(w, node, Side::Right);
     match (left, right) {
@@ -44,7 +51,9 @@ fn unlink<A: Allocator>(w: &mut Window<A>, path: &mut Path, node: u32) -> Colour
 }
 
 /// Takes out a node with two children: the next node in order comes to its place, in its colour.
-fn unlink_by_next<A: Allocator>(w: &mut Window<A>, path: &mut Path, node: u32) -> Colour {
+fn unlink_by_next<A: Allocator>(w: &mut Window<A>, path: &mut Path, node: u32) -> Colour
+    ensures { w.new ≡ with_bytes w.old w.new.bytes }
+{
     let depth = path.len();
     let Some(next) = descend_to_next(w, path, node) else {
         return Colour::Red;
@@ -74,7 +83,9 @@ fn descend_to_next<A: Allocator>(w: &Window<A>, path: &mut Path, node: u32) -> O
 }
 
 /// Gives a node the children and the colour of another.
-fn take_place<A: Allocator>(w: &mut Window<A>, from: u32, to: u32) {
+fn take_place<A: Allocator>(w: &mut Window<A>, from: u32, to: u32)
+    ensures { w.new ≡ with_bytes w.old w.new.bytes }
+{
     let left = child(w, from, Side::Left);
     let right = child(w, from, Side::Right);
     let colour = colour_of(w, Some(from));
@@ -85,7 +96,9 @@ fn take_place<A: Allocator>(w: &mut Window<A>, from: u32, to: u32) {
 
 /// Makes good that the part at the end of a path has one black node too few on every way: here, or by one step, after which
 /// it answers that there is more to do.
-fn lengthen<A: Allocator>(w: &mut Window<A>, path: &mut Path) -> bool {
+fn lengthen<A: Allocator>(w: &mut Window<A>, path: &mut Path) -> bool
+    ensures { w.new ≡ with_bytes w.old w.new.bytes }
+{
     if let Some(node) = path.node(w) {
         if is_red(w, Some(node)) {
             paint(w, node, Colour::Black);
@@ -106,7 +119,9 @@ fn lengthen<A: Allocator>(w: &mut Window<A>, path: &mut Path) -> bool {
 }
 
 /// Lets a red sibling come up, so that the short part has a black one.
-fn lower<A: Allocator>(w: &mut Window<A>, path: &mut Path, short: Step, sibling: u32) {
+fn lower<A: Allocator>(w: &mut Window<A>, path: &mut Path, short: Step, sibling: u32)
+    ensures { w.new ≡ with_bytes w.old w.new.bytes }
+{
     let _ = path.rotate(w, short.node, short.side);
     paint(w, sibling, Colour::Black);
     paint(w, short.node, Colour::Red);
@@ -115,7 +130,9 @@ fn lower<A: Allocator>(w: &mut Window<A>, path: &mut Path, short: Step, sibling:
 
 /// Takes a black node for the short part from a red child of its black sibling. Where it has none, the sibling's part is
 /// shortened too, and the part above both is short.
-fn borrow<A: Allocator>(w: &mut Window<A>, path: &mut Path, short: Step, sibling: u32) -> bool {
+fn borrow<A: Allocator>(w: &mut Window<A>, path: &mut Path, short: Step, sibling: u32) -> bool
+    ensures { w.new ≡ with_bytes w.old w.new.bytes }
+{
     let far = short.side.other();
     let outer = child(w, sibling, far);
     match outer {
@@ -140,7 +157,9 @@ fn borrow<A: Allocator>(w: &mut Window<A>, path: &mut Path, short: Step, sibling
 }
 
 /// Lets the node beside a short part come up in its parent's colour, and the parent go down, black.
-fn come_up<A: Allocator>(w: &mut Window<A>, path: &Path, short: Step) {
+fn come_up<A: Allocator>(w: &mut Window<A>, path: &Path, short: Step)
+    ensures { w.new ≡ with_bytes w.old w.new.bytes }
+{
     let top = colour_of(w, Some(short.node));
     if let Some(up) = path.rotate(w, short.node, short.side) {
         paint(w, up, top);

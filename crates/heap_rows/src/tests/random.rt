@@ -1,3 +1,5 @@
+ghost use Rattle.std.specs.Prelude.{◌<◌, ◌≤◌};
+
 use crate::tests::model::{Model, Rule};
 use crate::tests::read::is_model;
 use seg_bestfit::BestFit;
@@ -14,7 +16,9 @@ use std::test::Fail;
 pub struct Random(pub u64);
 
 impl Random {
-    pub fn below(&mut self, n: u32) -> u32 {
+    pub fn below(&mut self, n: u32) -> u32
+        ensures { 0 < n → result < n }
+    {
         self.0 = self
             .0
             .wrapping_mul(6364136223846793005)
@@ -44,12 +48,14 @@ struct Pair {
 impl Pair {
     /// One of the model's live blocks.
     fn some_block(&self, random: &mut Random) -> Option<Block> {
-        let n = self.model.live.len() as u32 as usize;
-        let i = random.below(n as u32) as usize;
+        let n = u32::try_from(self.model.live.len()).unwrap_or(0);
+        let i = random.below(n) as usize;
         self.model.live.get(i).copied()
     }
 
-    fn allocate<F: Fit>(&mut self, rt: &impl Abort, need: u32) -> Result<(), Fail> {
+    fn allocate<F: Fit>(&mut self, rt: &impl Abort, need: u32) -> Result<(), Fail>
+        requires { 2 ≤ need }
+    {
         let wanted = self.model.allocate(need)?;
         assert_eq!(rt; F::allocate(&mut self.w, need), wanted);
         Ok(())
@@ -62,7 +68,10 @@ impl Pair {
         old: Option<Block>,
         limit: u32,
         preferred: u32,
-    ) -> Result<(), Fail> {
+    ) -> Result<(), Fail>
+        requires limit { 2 ≤ limit }
+        requires preferred { 2 ≤ preferred }
+    {
         let wanted = self.wanted(old, limit, preferred)?;
         let given = request::<F, Global>(&mut self.w, old.map(|b| b.at), preferred, limit);
         assert!(rt; given == wanted);
@@ -88,7 +97,9 @@ impl Pair {
         Ok(None)
     }
 
-    fn resize<F: Fit>(&mut self, rt: &impl Abort, block: Block, need: u32) -> Result<(), Fail> {
+    fn resize<F: Fit>(&mut self, rt: &impl Abort, block: Block, need: u32) -> Result<(), Fail>
+        requires { 2 ≤ need }
+    {
         if need <= block.units {
             self.model.shrink(block, need)?;
             F::shrink(&mut self.w, block.at, need);

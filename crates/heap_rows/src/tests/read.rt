@@ -13,7 +13,7 @@ struct Blocks {
 }
 
 /// Reads the headers to the end: each has the units of the one before, and no two free ones are neighbours.
-fn blocks(rt: &(impl Abort + AllocGlobal), w: &Window<Global>) -> Result<Blocks, Fail> {
+fn read_blocks(rt: &(impl Abort + AllocGlobal), w: &Window<Global>) -> Result<Blocks, Fail> {
     let mut live = Vec::new(rt.alloc());
     let mut free = Vec::new(rt.alloc());
     let mut at = HEAP_START;
@@ -91,7 +91,7 @@ pub fn is_model(
     rule: Rule,
 ) -> Result<(), Fail> {
     assert_eq!(rt; w.len(), model.end);
-    let found = blocks(rt, w)?;
+    let found = read_blocks(rt, w)?;
     let gaps = model.gaps()?;
     assert_eq!(rt; found.live.as_slice(), model.live.as_slice());
     assert_eq!(rt; found.free.as_slice(), gaps.as_slice());
