@@ -1,6 +1,6 @@
 use seg_layout::{ENTRY, MAX_TYPES, TypeId, TypeTable};
 use seg_ptr::{Window, header};
-use seg_raw::{Fault, Region};
+use seg_raw::Fault;
 use std::alloc::Allocator;
 
 /// A segment: its bytes, and their table of types.
@@ -11,11 +11,6 @@ pub struct Segment<A: Allocator> {
 }
 
 impl<A: Allocator> Segment<A> {
-    pub fn into_region(self) -> Region<A> {
-        let Segment { window, types: _ } = self;
-        window.into_region()
-    }
-
     /// Adds the types of a longer table, in the bytes too. `TypeMismatch` where both tables have an entry that differs.
     pub fn add_types(&mut self, types: &TypeTable) -> Result<(), Fault> {
         self.types = self.types.extends(types)?;

@@ -187,7 +187,9 @@ fn is_safe_on_any_bytes<F: Fit>(rt: &impl AllocGlobal) -> Result<(), Fail> {
         F::free(&mut w, 704);
         let _ = F::expand(&mut w, 704 + 16 * random.below(20), 4);
         F::shrink(&mut w, 704, 2);
-        F::extend_end(&mut w, 2);
+        if w.holds(0, 32) {
+            F::extend_end(&mut w, 2);
+        }
         let _ = F::cut_end(&mut w);
     }
     Ok(())
