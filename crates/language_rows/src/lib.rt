@@ -14,6 +14,8 @@ mod operations;
 #[cfg(test)]
 mod programs;
 #[cfg(test)]
+mod random;
+#[cfg(test)]
 mod support;
 #[cfg(test)]
 mod texts;

@@ -5,6 +5,7 @@ use std::alloc::{AllocError, Allocator, Global};
 use std::cmp::Ordering;
 use std::process::Abort;
 use std::test::Fail;
+use test_random::Random;
 
 /// Nodes of 32 bytes with a number behind the tree words.
 const NODE: u32 = 32;
@@ -35,20 +36,6 @@ fn window(alloc: Global, nodes: u32) -> Result<Window<Global>, Fail> {
             Ok(w)
         }
         Err(_) => Err(Fail::from("misplaced")),
-    }
-}
-
-/// Numbers that look random.
-#[derive(Drop)]
-struct Random(u64);
-
-impl Random {
-    fn below(&mut self, n: u32) -> u32 {
-        self.0 = self
-            .0
-            .wrapping_mul(6364136223846793005)
-            .wrapping_add(1442695040888963407);
-        ((self.0 >> 33) % u64::from(n.max(1))) as u32
     }
 }
 
@@ -143,7 +130,7 @@ fn toggle(w: &mut Window<Global>, numbers: &mut Vec<u32>, n: u32) -> Result<(), 
 
 #[test]
 fn keeps_nodes_in_order(rt: HostRuntime) -> Result<(), Fail> {
-    let mut random = Random(1);
+    let mut random = Random::new(1);
     for size in [1, 2, 3, 5, 8, 40, 300] {
         let mut w = window(rt.alloc(), size)?;
         let mut numbers = Vec::new(rt.alloc());
@@ -158,7 +145,7 @@ fn keeps_nodes_in_order(rt: HostRuntime) -> Result<(), Fail> {
 
 #[test]
 fn is_safe_on_any_bytes(rt: HostRuntime) -> Result<(), Fail> {
-    let mut random = Random(2);
+    let mut random = Random::new(2);
     for _ in 0..200 {
         let mut w = window(rt.alloc(), 16)?;
         for at in 0..136usize {

@@ -1,4 +1,4 @@
-ghost use Rattle.std.specs.Prelude.{◌<◌, ◌≤◌};
+ghost use Rattle.std.specs.Prelude.{◌≤◌};
 
 use crate::tests::model::{Model, Rule};
 use crate::tests::read::is_model;
@@ -10,22 +10,7 @@ use seg_seqfit::SeqFit;
 use std::alloc::Global;
 use std::process::Abort;
 use std::test::Fail;
-
-/// Numbers that look random.
-#[derive(Drop)]
-pub struct Random(pub u64);
-
-impl Random {
-    pub fn below(&mut self, n: u32) -> u32
-        ensures { 0 < n → result < n }
-    {
-        self.0 = self
-            .0
-            .wrapping_mul(6364136223846793005)
-            .wrapping_add(1442695040888963407);
-        ((self.0 >> 33) % u64::from(n.max(1))) as u32
-    }
-}
+use test_random::Random;
 
 /// A segment of `len` bytes in a region of 8192, whose heap is one gap.
 pub fn segment<F: Fit>(alloc: Global, len: u32) -> Result<Window<Global>, Fail> {
@@ -150,7 +135,7 @@ impl Pair {
 }
 
 fn follows_the_model<F: Fit>(rt: &(impl Abort + AllocGlobal), rule: Rule) -> Result<(), Fail> {
-    let mut random = Random(1);
+    let mut random = Random::new(1);
     for len in [736, 752, 960, 1024, 2048, 8192] {
         let mut pair = Pair {
             w: segment::<F>(rt.alloc(), len)?,
@@ -176,7 +161,7 @@ fn best_fit_follows_the_model(rt: HostRuntime) -> Result<(), Fail> {
 
 /// Every call on words that look random.
 fn is_safe_on_any_bytes<F: Fit>(rt: &impl AllocGlobal) -> Result<(), Fail> {
-    let mut random = Random(2);
+    let mut random = Random::new(2);
     for _ in 0..100 {
         let mut w = segment::<F>(rt.alloc(), 1024)?;
         for at in 0..256usize {

@@ -1,0 +1,433 @@
+-- A text spells one client at most.
+use Rattle.std.proofs.Common.{◌≡◌, ℕ, suc, ◌+◌, ◌/◌, ◌%◌, ◌^◌, ◌<◌, ◌≤◌, ℤ, pos, negsuc, Bool, true, false, List, [], ◌∷◌, ◌++◌, length, map, refl, sym, ap, ◌∙◌, subst, arith, inl, inr, append-nil, append_assoc, length-append}
+use Rattle.std.specs.Prelude.{⊤, if◌then◌else◌, nat_lt, codes, flat_map, FitsSigned, All}
+use Rattle.std.specs.List.{AllByRecursion}
+use Rattle.std.specs.Int.{w32}
+use Rattle.std.specs.Fmt.{decimal, signed_decimal}
+use Rattle.std.proofs.lemmas.Fmt.{decimal_by_steps}
+use Rattle.std.proofs.lemmas.Int.{ints}
+use Rattle.std.proofs.lemmas.Bool.{ltb-true}
+use Rattle.std.proofs.lemmas.List.Elements.{All-head, All-tail}
+use Rattle.seg_spec.specs.Types.{Form, Table, IsForm}
+use Rattle.seg_spec.proofs.TypesLaws.{all_forms}
+use Rattle.seg_spec.proofs.MoreTypes.{below_length}
+use Rattle.client_spec.specs.Code.{Constant, Operation, Instruction, Client}
+use Rattle.client_spec.specs.Machine.{same_name}
+use Rattle.client_spec.specs.Operations.{Number, row_of}
+use Rattle.client_spec.specs.Grammar.{IsConstant, IsOperand, IsNumber, IsCode, IsClient, listing}
+use Rattle.client_spec.specs.Text.{Item, type_item, constant_item, instruction_item, items_of, Words, operand_words, type_word, constant_word, number_words, instruction_words, type_words, words_of, SpellsText, is_plain, escaped, hex_digit, SpellsItem, EachSpells, SpellsInText}
+use Rattle.client_spec.proofs.Listed.{all_two, all_listed}
+use Rattle.client_spec.proofs.OneTree.{one_code}
+use Rattle.client_spec.proofs.TextWords.{tail_of, front, decimal_one, lettered_one, word_one, types_one, same_operation, operand_length, operand_one}
+
+-- ---- instructions that are right with some types and constants
+
+record IsRight (types : Table) (constants : List Constant) (o : Operation) (a b c : ℕ) (n : ℤ) : Type 0 where
+  at_a : IsOperand (row_of o).a a
+  at_b : IsOperand (row_of o).b b
+  at_c : IsOperand (row_of o).c c
+  at_number : IsNumber types constants b (row_of o).number n
+  range : FitsSigned w32 n
+
+abbrev Right : Table → List Constant → Instruction → Type 0
+Right types constants i = IsRight types constants i.operation i.a i.b i.c i.number
+
+-- ---- numbers
+
+digits_high : (n : ℕ) → n < 2 ^ 64 → AllByRecursion (λ b. 48 ≤ b) (decimal n)
+digits_high n h = decimal_by_steps (λ m ds. AllByRecursion (λ b. 48 ≤ b) ds) (λ m l. (omega arith, tt)) (λ m ds l d. all_two (λ b. 48 ≤ b) ds ((48 + m % 10) ∷ []) d (omega arith, tt)) n h
+
+signed_one : (x y : ℤ) → FitsSigned w32 x → FitsSigned w32 y → signed_decimal x ≡ signed_decimal y → x ≡ y
+signed_one (pos n) (pos m) h k e = ap pos (decimal_one n m (omega (arith, h.sfits)) (omega (arith, k.sfits)) e)
+signed_one (pos n) (negsuc m) h k e = let d = subst (AllByRecursion (λ b. 48 ≤ b)) e (digits_high n (omega (arith, h.sfits))) in let l = d.0 in absurd (omega arith)
+signed_one (negsuc n) (pos m) h k e = let d = subst (AllByRecursion (λ b. 48 ≤ b)) (sym e) (digits_high m (omega (arith, k.sfits))) in let l = d.0 in absurd (omega arith)
+signed_one (negsuc n) (negsuc m) h k e =
+    let s = decimal_one (suc n) (suc m) (omega (arith, h.sfits)) (omega (arith, k.sfits)) (tail_of 45 45 (decimal (suc n)) (decimal (suc m)) e).1 in
+    let same : n ≡ m = omega arith in ap negsuc same
+
+divided : (n m : ℕ) → n / 256 ≡ m / 256 → n % 256 ≡ m % 256 → n ≡ m
+divided n m e f = omega arith
+
+module _ (types : Table) (constants : List Constant) (types2 : Table) (constants2 : List Constant) where
+  number_one : (form : Number) (b c : ℕ) (x y : ℤ) → IsNumber types constants b form x → IsNumber types2 constants2 c form y → FitsSigned w32 x → FitsSigned w32 y → number_words form x ≡ number_words form y → x ≡ y
+  number_one Number.Unused b c x y h k f g e = h ∙ sym k
+  number_one Number.Any b c x y h k f g e = signed_one x y f g (word_one _ _ e)
+  number_one Number.Turns b c x y h k f g e = signed_one x y f g (word_one _ _ e)
+  number_one Number.TypeId b c (pos n) (pos m) h k f g e = ap pos (lettered_one 116 n m (omega (arith, f.sfits)) (omega (arith, g.sfits)) (word_one _ _ e))
+  number_one Number.TypeId b c (pos n) (negsuc m) h k f g e = absurd k
+  number_one Number.TypeId b c (negsuc n) y h k f g e = absurd h
+  number_one Number.Text b c (pos n) (pos m) h k f g e = ap pos (lettered_one 107 n m (omega (arith, f.sfits)) (omega (arith, g.sfits)) (word_one _ _ e))
+  number_one Number.Text b c (pos n) (negsuc m) h k f g e = absurd k
+  number_one Number.Text b c (negsuc n) y h k f g e = absurd h
+  number_one Number.TypedName b c (pos n) (pos m) h k f g e =
+      let p = tail_of (type_word (n / 256)) (type_word (m / 256)) (constant_word (n % 256) ∷ []) (constant_word (m % 256) ∷ []) e in
+      let a = lettered_one 116 (n / 256) (m / 256) (omega (arith, f.sfits)) (omega (arith, g.sfits)) p.0 in
+      let d = lettered_one 107 (n % 256) (m % 256) (omega arith) (omega arith) (word_one _ _ p.1) in
+      ap pos (divided n m a d)
+  number_one Number.TypedName b c (pos n) (negsuc m) h k f g e = absurd k
+  number_one Number.TypedName b c (negsuc n) y h k f g e = absurd h
+
+  -- ---- instructions
+
+  abbrev rest_words : Operation → ℕ → ℕ → ℕ → ℤ → Words
+  rest_words o a b c n = ((operand_words (row_of o).a a ++ operand_words (row_of o).b b) ++ operand_words (row_of o).c c) ++ number_words (row_of o).number n
+
+  length_two : (xs ys us vs : Words) → length xs ≡ length ys → length us ≡ length vs → length (xs ++ us) ≡ length (ys ++ vs)
+  length_two xs ys us vs e f = simp length-append (omega arith)
+
+  fields_one : (o : Operation) (a b c a' b' c' : ℕ) (n n' : ℤ) → IsRight types constants o a b c n → IsRight types2 constants2 o a' b' c' n' → rest_words o a b c n ≡ rest_words o a' b' c' n' → (a ≡ a') × (b ≡ b') × (c ≡ c') × (n ≡ n')
+  fields_one o a b c a' b' c' n n' h k e =
+      let la = operand_length (row_of o).a a a' in
+      let lb = operand_length (row_of o).b b b' in
+      let lc = operand_length (row_of o).c c c' in
+      let lab = length_two (operand_words (row_of o).a a) (operand_words (row_of o).a a') (operand_words (row_of o).b b) (operand_words (row_of o).b b') la lb in
+      let labc = length_two (operand_words (row_of o).a a ++ operand_words (row_of o).b b) (operand_words (row_of o).a a' ++ operand_words (row_of o).b b') (operand_words (row_of o).c c) (operand_words (row_of o).c c') lab lc in
+      let p = front _ _ (number_words (row_of o).number n) (number_words (row_of o).number n') labc e in
+      let q = front _ _ (operand_words (row_of o).c c) (operand_words (row_of o).c c') lab p.0 in
+      let r = front _ _ (operand_words (row_of o).b b) (operand_words (row_of o).b b') la q.0 in
+      (operand_one (row_of o).a a a' h.at_a k.at_a r.0, operand_one (row_of o).b b b' h.at_b k.at_b r.1, operand_one (row_of o).c c c' h.at_c k.at_c q.1, number_one (row_of o).number b b' n n' h.at_number k.at_number h.range k.range p.1)
+
+  instruction_one : (i j : Instruction) → Right types constants i → Right types2 constants2 j → instruction_words i ≡ instruction_words j → i ≡ j
+  instruction_one i j h k e =
+      let p = tail_of (row_of i.operation).word (row_of j.operation).word (rest_words i.operation i.a i.b i.c i.number) (rest_words j.operation j.a j.b j.c j.number) e in
+      let o = same_operation i.operation j.operation p.0 in
+      let k' = subst (λ o. IsRight types2 constants2 o j.a j.b j.c j.number) (sym o) k in
+      let f = fields_one i.operation i.a i.b i.c j.a j.b j.c i.number j.number h k' (p.1 ∙ ap (λ o. rest_words o j.a j.b j.c j.number) (sym o)) in
+      λ t. record { operation = o t; a = f.0 t; b = f.1 t; c = f.2 t; number = f.3 t }
+
+-- ---- types
+
+tag : Form → ℕ
+tag Form.i64 = 0
+tag Form.str = 1
+tag (Form.vec U) = 2
+tag (Form.list U) = 3
+tag (Form.flat_map U) = 4
+tag (Form.map U) = 5
+tag (Form.own U) = 6
+tag (Form.struct Us) = 7
+
+tag_of_words : Words → ℕ
+tag_of_words [] = 9
+tag_of_words (w ∷ ws) = if same_name w (codes "i64") then 0 else (if same_name w (codes "str") then 1 else (if same_name w (codes "vec") then 2 else (if same_name w (codes "list") then 3 else (if same_name w (codes "flat_map") then 4 else (if same_name w (codes "map") then 5 else (if same_name w (codes "own") then 6 else (7)))))))
+
+tag_is : (f : Form) → tag_of_words (type_words f) ≡ tag f
+unfolding tag tag_of_words
+tag_is Form.i64 = refl
+tag_is Form.str = refl
+tag_is (Form.vec U) = refl
+tag_is (Form.list U) = refl
+tag_is (Form.flat_map U) = refl
+tag_is (Form.map U) = refl
+tag_is (Form.own U) = refl
+tag_is (Form.struct Us) = refl
+
+form_one : (n k m l : ℕ) (f g : Form) → n ≤ 32 → k ≤ 32 → m ≤ 32 → l ≤ 32 → IsForm n k f → IsForm m l g → tag f ≡ tag g → type_words f ≡ type_words g → f ≡ g
+unfolding tag
+form_one n k m l Form.i64 Form.i64 a b c d h j t e = refl
+form_one n k m l Form.str Form.str a b c d h j t e = refl
+form_one n k m l (Form.vec U) (Form.vec V) a b c d h j t e = ap Form.vec (lettered_one 116 U V (omega arith) (omega arith) (word_one _ _ (tail_of _ _ _ _ e).1))
+form_one n k m l (Form.list U) (Form.list V) a b c d h j t e = ap Form.list (lettered_one 116 U V (omega arith) (omega arith) (word_one _ _ (tail_of _ _ _ _ e).1))
+form_one n k m l (Form.flat_map U) (Form.flat_map V) a b c d h j t e = ap Form.flat_map (lettered_one 116 U V (omega arith) (omega arith) (word_one _ _ (tail_of _ _ _ _ e).1))
+form_one n k m l (Form.map U) (Form.map V) a b c d h j t e = ap Form.map (lettered_one 116 U V (omega arith) (omega arith) (word_one _ _ (tail_of _ _ _ _ e).1))
+form_one n k m l (Form.own U) (Form.own V) a b c d h j t e = ap Form.own (lettered_one 116 U V (omega arith) (omega arith) (word_one _ _ (tail_of _ _ _ _ e).1))
+form_one n k m l (Form.struct Us) (Form.struct Vs) a b c d h j t e = ap Form.struct (types_one Us Vs k l (omega arith) (omega arith) (all_below Us k h.2) (all_below Vs l j.2) (tail_of _ _ _ _ e).1)
+  where
+    all_below : (Us : List ℕ) (k : ℕ) → All (λ U. U < k) Us → AllByRecursion (λ U. U < k) Us
+    all_below [] k h = tt
+    all_below (U ∷ Us) k h = (All-head (λ U. U < k) U Us h, all_below Us k (All-tail (λ U. U < k) U Us h))
+form_one n k m l f g a b c d h j t e = absurd (omega arith)
+
+-- ---- texts
+
+hex_one : (n m : ℕ) → n < 16 → m < 16 → hex_digit n ≡ hex_digit m → n ≡ m
+hex_one n m h k e = choose (nat_lt n 10) (nat_lt m 10) refl refl e
+  where
+    choose : (b c : Bool) → nat_lt n 10 ≡ b → nat_lt m 10 ≡ c → (if b then 48 + n else 87 + n) ≡ (if c then 48 + m else 87 + m) → n ≡ m
+    choose true true f g d = omega arith
+    choose true false f g d = let l = ltb-true n 10 f in absurd (omega arith)
+    choose false true f g d = let l = ltb-true m 10 g in absurd (omega arith)
+    choose false false f g d = omega arith
+
+sixteenths : (b c : ℕ) → b / 16 ≡ c / 16 → b % 16 ≡ c % 16 → b ≡ c
+sixteenths b c e f = omega arith
+
+not_plain : (b : ℕ) → b ≡ 92 → is_plain b ≡ true → ⊥
+not_plain b e f = let g : is_plain 92 ≡ true = subst (λ x. is_plain x ≡ true) e f in let z : false ≡ true = g in cc
+
+escape_one : (b c : ℕ) → b < 256 → c < 256 → (us vs : List ℕ) → escaped b ++ us ≡ escaped c ++ vs → (b ≡ c) × (us ≡ vs)
+escape_one b c h k us vs e =
+    let p = tail_of 92 92 (hex_digit (b / 16) ∷ hex_digit (b % 16) ∷ us) (hex_digit (c / 16) ∷ hex_digit (c % 16) ∷ vs) e in
+    let q = tail_of (hex_digit (b / 16)) (hex_digit (c / 16)) (hex_digit (b % 16) ∷ us) (hex_digit (c % 16) ∷ vs) p.1 in
+    let r = tail_of (hex_digit (b % 16)) (hex_digit (c % 16)) us vs q.1 in
+    (sixteenths b c (hex_one (b / 16) (c / 16) (omega arith) (omega arith) q.0) (hex_one (b % 16) (c % 16) (omega arith) (omega arith) r.0), r.1)
+
+text_one : (xs ys s : List ℕ) → AllByRecursion (λ b. b < 256) xs → AllByRecursion (λ b. b < 256) ys → SpellsText xs s → SpellsText ys s → xs ≡ ys
+text_one [] [] s p q h k = refl
+text_one [] (c ∷ ys) s p q h (rest, k, inl (f, e)) = let z : [] ≡ c ∷ rest = sym h ∙ e in cc
+text_one [] (c ∷ ys) s p q h (rest, k, inr e) = let z : [] ≡ escaped c ++ rest = sym h ∙ e in cc
+text_one (b ∷ xs) [] s p q (rest, h, inl (f, e)) k = let z : [] ≡ b ∷ rest = sym k ∙ e in cc
+text_one (b ∷ xs) [] s p q (rest, h, inr e) k = let z : [] ≡ escaped b ++ rest = sym k ∙ e in cc
+text_one (b ∷ xs) (c ∷ ys) s p q (us, h, inl (f, e)) (vs, k, inl (g, d)) =
+    let r = tail_of b c us vs (sym e ∙ d) in
+    ap (λ z. z ∷ xs) r.0 ∙ ap (λ zs. c ∷ zs) (text_one xs ys vs p.1 q.1 (subst (SpellsText xs) r.1 h) k)
+text_one (b ∷ xs) (c ∷ ys) s p q (us, h, inl (f, e)) (vs, k, inr d) =
+    let r = tail_of b 92 us (hex_digit (c / 16) ∷ hex_digit (c % 16) ∷ vs) (sym e ∙ d) in absurd (not_plain b r.0 f)
+text_one (b ∷ xs) (c ∷ ys) s p q (us, h, inr e) (vs, k, inl (g, d)) =
+    let r = tail_of c 92 vs (hex_digit (b / 16) ∷ hex_digit (b % 16) ∷ us) (sym d ∙ e) in absurd (not_plain c r.0 g)
+text_one (b ∷ xs) (c ∷ ys) s p q (us, h, inr e) (vs, k, inr d) =
+    let r = escape_one b c p.0 q.0 us vs (sym e ∙ d) in
+    ap (λ z. z ∷ xs) r.0 ∙ ap (λ zs. c ∷ zs) (text_one xs ys vs p.1 q.1 (subst (SpellsText xs) r.1 h) k)
+
+-- ---- items
+
+-- the item is right with some types and constants
+abbrev IsItem : Item → Type 0
+IsItem (type_item f) = (n : ℕ) × (k : ℕ) × (n ≤ 32) × (k ≤ 32) × IsForm n k f
+IsItem (constant_item (Constant.Text bytes)) = AllByRecursion (λ b. b < 256) bytes
+IsItem (constant_item (Constant.Name name)) = ⊤
+IsItem (constant_item (Constant.Family prefix)) = ⊤
+IsItem (instruction_item i) = (types : Table) × (constants : List Constant) × Right types constants i
+
+-- the first word of an item's line
+abbrev first_word : Item → List ℕ
+first_word (type_item f) = codes "type"
+first_word (constant_item (Constant.Text bytes)) = codes "text"
+first_word (constant_item (Constant.Name name)) = codes "name"
+first_word (constant_item (Constant.Family prefix)) = codes "family"
+first_word (instruction_item i) = (row_of i.operation).word
+
+abbrev first_in : Words → List ℕ
+first_in [] = []
+first_in (w ∷ ws) = w
+
+first_is : (line : List ℕ) (x : Item) → SpellsItem line x → first_in (words_of line) ≡ first_word x
+first_is line (type_item f) h = ap first_in h
+first_is line (constant_item (Constant.Text bytes)) h = ap (λ l. first_in (words_of l)) h.1
+first_is line (constant_item (Constant.Name name)) h = ap first_in h
+first_is line (constant_item (Constant.Family prefix)) h = ap first_in h
+first_is line (instruction_item i) h = ap first_in h
+
+-- which of the five an item is, as its first word tells
+kind : Item → ℕ
+kind (type_item f) = 0
+kind (constant_item (Constant.Text bytes)) = 1
+kind (constant_item (Constant.Name name)) = 2
+kind (constant_item (Constant.Family prefix)) = 3
+kind (instruction_item i) = 4
+
+kind_of_word : List ℕ → ℕ
+kind_of_word w = if same_name w (codes "type") then 0 else (if same_name w (codes "text") then 1 else (if same_name w (codes "name") then 2 else (if same_name w (codes "family") then 3 else 4)))
+
+kind_of_operation : (o : Operation) → kind_of_word (row_of o).word ≡ 4
+unfolding kind_of_word
+kind_of_operation Operation.Const = refl
+kind_of_operation Operation.Mov = refl
+kind_of_operation Operation.Add = refl
+kind_of_operation Operation.Sub = refl
+kind_of_operation Operation.Mul = refl
+kind_of_operation Operation.Less = refl
+kind_of_operation Operation.Equal = refl
+kind_of_operation Operation.If = refl
+kind_of_operation Operation.While = refl
+kind_of_operation Operation.Else = refl
+kind_of_operation Operation.End = refl
+kind_of_operation Operation.OutInt = refl
+kind_of_operation Operation.OutStr = refl
+kind_of_operation Operation.OutConst = refl
+kind_of_operation Operation.GetByte = refl
+kind_of_operation Operation.Make = refl
+kind_of_operation Operation.Find = refl
+kind_of_operation Operation.FindOrMake = refl
+kind_of_operation Operation.Count = refl
+kind_of_operation Operation.Kill = refl
+kind_of_operation Operation.MakeUnique = refl
+kind_of_operation Operation.FindUnique = refl
+kind_of_operation Operation.FindOrMakeUnique = refl
+kind_of_operation Operation.KillUnique = refl
+kind_of_operation Operation.New = refl
+kind_of_operation Operation.Drop = refl
+kind_of_operation Operation.Ref = refl
+kind_of_operation Operation.Put = refl
+kind_of_operation Operation.Take = refl
+kind_of_operation Operation.Content = refl
+kind_of_operation Operation.Clear = refl
+kind_of_operation Operation.Forget = refl
+kind_of_operation Operation.Load = refl
+kind_of_operation Operation.Store = refl
+kind_of_operation Operation.Field = refl
+kind_of_operation Operation.Len = refl
+kind_of_operation Operation.At = refl
+kind_of_operation Operation.PushBack = refl
+kind_of_operation Operation.PushFront = refl
+kind_of_operation Operation.PopBack = refl
+kind_of_operation Operation.PopFront = refl
+kind_of_operation Operation.SetStr = refl
+kind_of_operation Operation.AddStr = refl
+kind_of_operation Operation.AddByte = refl
+kind_of_operation Operation.Shrink = refl
+kind_of_operation Operation.GetKey = refl
+kind_of_operation Operation.PutKey = refl
+kind_of_operation Operation.DeleteKey = refl
+kind_of_operation Operation.FirstKey = refl
+kind_of_operation Operation.NextKey = refl
+
+kind_is : (x : Item) → kind_of_word (first_word x) ≡ kind x
+unfolding kind kind_of_word
+kind_is (type_item f) = refl
+kind_is (constant_item (Constant.Text bytes)) = refl
+kind_is (constant_item (Constant.Name name)) = refl
+kind_is (constant_item (Constant.Family prefix)) = refl
+kind_is (instruction_item i) = kind_of_operation i.operation
+
+same_kind : (line : List ℕ) (x y : Item) → SpellsItem line x → SpellsItem line y → kind x ≡ kind y
+same_kind line x y h k = sym (kind_is x) ∙ ap kind_of_word (sym (first_is line x h) ∙ first_is line y k) ∙ kind_is y
+
+item_one : (line : List ℕ) (x y : Item) → IsItem x → IsItem y → kind x ≡ kind y → SpellsItem line x → SpellsItem line y → x ≡ y
+unfolding kind
+item_one line (type_item f) (type_item g) p q e h k =
+    let words = (tail_of (codes "type") (codes "type") (type_words f) (type_words g) (sym h ∙ k)).1 in
+    ap type_item (form_one p.0 p.1 q.0 q.1 f g p.2 p.3 q.2 q.3 p.4 q.4 (sym (tag_is f) ∙ ap tag_of_words words ∙ tag_is g) words)
+item_one line (constant_item (Constant.Text xs)) (constant_item (Constant.Text ys)) p q e h k =
+    let body = (front (codes "text ") (codes "text ") h.0 k.0 refl (sym h.1 ∙ k.1)).1 in
+    ap (λ bytes. constant_item (Constant.Text bytes)) (text_one xs ys k.0 p q (subst (SpellsText xs) body h.2) k.2)
+item_one line (constant_item (Constant.Name x)) (constant_item (Constant.Name y)) p q e h k =
+    ap (λ name. constant_item (Constant.Name name)) (word_one x y (tail_of (codes "name") (codes "name") (x ∷ []) (y ∷ []) (sym h ∙ k)).1)
+item_one line (constant_item (Constant.Family x)) (constant_item (Constant.Family y)) p q e h k =
+    ap (λ name. constant_item (Constant.Family name)) (word_one x y (tail_of (codes "family") (codes "family") (x ∷ []) (y ∷ []) (sym h ∙ k)).1)
+item_one line (instruction_item i) (instruction_item j) p q e h k = ap instruction_item (instruction_one p.0 p.1 q.0 q.1 i j p.2 q.2 (sym h ∙ k))
+item_one line (type_item f) (constant_item (Constant.Text ys)) p q e h k = absurd (omega arith)
+item_one line (type_item f) (constant_item (Constant.Name ys)) p q e h k = absurd (omega arith)
+item_one line (type_item f) (constant_item (Constant.Family ys)) p q e h k = absurd (omega arith)
+item_one line (type_item f) (instruction_item j) p q e h k = absurd (omega arith)
+item_one line (constant_item (Constant.Text xs)) (type_item g) p q e h k = absurd (omega arith)
+item_one line (constant_item (Constant.Text xs)) (constant_item (Constant.Name ys)) p q e h k = absurd (omega arith)
+item_one line (constant_item (Constant.Text xs)) (constant_item (Constant.Family ys)) p q e h k = absurd (omega arith)
+item_one line (constant_item (Constant.Text xs)) (instruction_item j) p q e h k = absurd (omega arith)
+item_one line (constant_item (Constant.Name xs)) (type_item g) p q e h k = absurd (omega arith)
+item_one line (constant_item (Constant.Name xs)) (constant_item (Constant.Text ys)) p q e h k = absurd (omega arith)
+item_one line (constant_item (Constant.Name xs)) (constant_item (Constant.Family ys)) p q e h k = absurd (omega arith)
+item_one line (constant_item (Constant.Name xs)) (instruction_item j) p q e h k = absurd (omega arith)
+item_one line (constant_item (Constant.Family xs)) (type_item g) p q e h k = absurd (omega arith)
+item_one line (constant_item (Constant.Family xs)) (constant_item (Constant.Text ys)) p q e h k = absurd (omega arith)
+item_one line (constant_item (Constant.Family xs)) (constant_item (Constant.Name ys)) p q e h k = absurd (omega arith)
+item_one line (constant_item (Constant.Family xs)) (instruction_item j) p q e h k = absurd (omega arith)
+item_one line (instruction_item i) (type_item g) p q e h k = absurd (omega arith)
+item_one line (instruction_item i) (constant_item (Constant.Text ys)) p q e h k = absurd (omega arith)
+item_one line (instruction_item i) (constant_item (Constant.Name ys)) p q e h k = absurd (omega arith)
+item_one line (instruction_item i) (constant_item (Constant.Family ys)) p q e h k = absurd (omega arith)
+
+items_one : (lines : List (List ℕ)) (xs ys : List Item) → AllByRecursion IsItem xs → AllByRecursion IsItem ys → EachSpells lines xs → EachSpells lines ys → xs ≡ ys
+items_one [] [] [] p q h k = refl
+items_one [] [] (y ∷ ys) p q h k = absurd k
+items_one [] (x ∷ xs) ys p q h k = absurd h
+items_one (line ∷ lines) [] ys p q h k = absurd h
+items_one (line ∷ lines) (x ∷ xs) [] p q h k = absurd k
+items_one (line ∷ lines) (x ∷ xs) (y ∷ ys) p q h k =
+    ap (λ z. z ∷ xs) (item_one line x y p.0 q.0 (same_kind line x y h.0 k.0) h.0 k.0) ∙ ap (λ zs. y ∷ zs) (items_one lines xs ys p.1 q.1 h.1 k.1)
+
+-- ---- clients
+
+module _ {A : Type 0} (see : Item → List A) where
+  picked : List Item → List A
+  picked items = flat_map see items
+
+  picked_two : (xs ys : List Item) → picked (xs ++ ys) ≡ picked xs ++ picked ys
+  unfolding picked
+  picked_two [] ys = refl
+  picked_two (x ∷ xs) ys = ap (λ zs. see x ++ zs) (picked_two xs ys) ∙ sym (append_assoc (see x) (picked xs) (picked ys))
+
+  picked_all : (put : A → Item) → ((x : A) → see (put x) ≡ x ∷ []) → (xs : List A) → picked (map put xs) ≡ xs
+  unfolding picked
+  picked_all put e [] = refl
+  picked_all put e (x ∷ xs) = ap (λ zs. zs ++ picked (map put xs)) (e x) ∙ ap (λ zs. x ∷ zs) (picked_all put e xs)
+
+  picked_none : {B : Type 0} (put : B → Item) → ((x : B) → see (put x) ≡ []) → (xs : List B) → picked (map put xs) ≡ []
+  unfolding picked
+  picked_none put e [] = refl
+  picked_none put e (x ∷ xs) = ap (λ zs. zs ++ picked (map put xs)) (e x) ∙ picked_none put e xs
+
+abbrev forms_in : Item → List Form
+forms_in (type_item f) = f ∷ []
+forms_in (constant_item c) = []
+forms_in (instruction_item i) = []
+
+abbrev constants_in : Item → List Constant
+constants_in (type_item f) = []
+constants_in (constant_item c) = c ∷ []
+constants_in (instruction_item i) = []
+
+abbrev instructions_in : Item → List Instruction
+instructions_in (type_item f) = []
+instructions_in (constant_item c) = []
+instructions_in (instruction_item i) = i ∷ []
+
+three : {A : Type 0} (see : Item → List A) (client : Client) → picked see (items_of client) ≡ (picked see (map type_item client.types) ++ picked see (map constant_item client.constants)) ++ picked see (map instruction_item (listing client.code))
+three see client =
+    picked_two see (map type_item client.types ++ map constant_item client.constants) (map instruction_item (listing client.code))
+    ∙ ap (λ zs. zs ++ picked see (map instruction_item (listing client.code))) (picked_two see (map type_item client.types) (map constant_item client.constants))
+
+types_of : (client : Client) → picked forms_in (items_of client) ≡ client.types
+types_of client =
+    three forms_in client
+    ∙ ap (λ zs. (zs ++ picked forms_in (map constant_item client.constants)) ++ picked forms_in (map instruction_item (listing client.code))) (picked_all forms_in type_item (λ f. refl) client.types)
+    ∙ ap (λ zs. (client.types ++ zs) ++ picked forms_in (map instruction_item (listing client.code))) (picked_none forms_in constant_item (λ c. refl) client.constants)
+    ∙ ap (λ zs. (client.types ++ []) ++ zs) (picked_none forms_in instruction_item (λ i. refl) (listing client.code))
+    ∙ append-nil (client.types ++ []) ∙ append-nil client.types
+
+constants_of : (client : Client) → picked constants_in (items_of client) ≡ client.constants
+constants_of client =
+    three constants_in client
+    ∙ ap (λ zs. (zs ++ picked constants_in (map constant_item client.constants)) ++ picked constants_in (map instruction_item (listing client.code))) (picked_none constants_in type_item (λ f. refl) client.types)
+    ∙ ap (λ zs. zs ++ picked constants_in (map instruction_item (listing client.code))) (picked_all constants_in constant_item (λ c. refl) client.constants)
+    ∙ ap (λ zs. client.constants ++ zs) (picked_none constants_in instruction_item (λ i. refl) (listing client.code))
+    ∙ append-nil client.constants
+
+listing_of : (client : Client) → picked instructions_in (items_of client) ≡ listing client.code
+listing_of client =
+    three instructions_in client
+    ∙ ap (λ zs. (zs ++ picked instructions_in (map constant_item client.constants)) ++ picked instructions_in (map instruction_item (listing client.code))) (picked_none instructions_in type_item (λ f. refl) client.types)
+    ∙ ap (λ zs. zs ++ picked instructions_in (map instruction_item (listing client.code))) (picked_none instructions_in constant_item (λ c. refl) client.constants)
+    ∙ picked_all instructions_in instruction_item (λ i. refl) (listing client.code)
+
+right_map : {A : Type 0} (P : A → Type 0) (put : A → Item) → ((x : A) → P x → IsItem (put x)) → (xs : List A) → AllByRecursion P xs → AllByRecursion IsItem (map put xs)
+right_map P put g [] h = tt
+right_map P put g (x ∷ xs) h = (g x h.0, right_map P put g xs h.1)
+
+constant_right : (c : Constant) → IsConstant c → IsItem (constant_item c)
+constant_right (Constant.Text bytes) h = bytes_all bytes h.1
+  where
+    bytes_all : (bytes : List ℕ) → All (λ b. b < 256) bytes → AllByRecursion (λ b. b < 256) bytes
+    bytes_all [] h = tt
+    bytes_all (b ∷ bytes) h = (All-head (λ b. b < 256) b bytes h, bytes_all bytes (All-tail (λ b. b < 256) b bytes h))
+constant_right (Constant.Name name) h = tt
+constant_right (Constant.Family prefix) h = tt
+
+constants_right : (cs : List Constant) → All IsConstant cs → AllByRecursion IsConstant cs
+constants_right [] h = tt
+constants_right (c ∷ cs) h = (All-head IsConstant c cs h, constants_right cs (All-tail IsConstant c cs h))
+
+fits_zero : FitsSigned w32 (pos 0)
+fits_zero = search (arith, ints)
+
+items_right : (client : Client) → IsClient client → AllByRecursion IsItem (items_of client)
+items_right client h =
+    let table = client.types in
+    let forms = all_forms (λ f. IsItem (type_item f)) table (λ T f e. (length table, T, h.types.few, (let l = below_length table T f e in omega (arith, l, h.types.few)), h.types.forms T f e)) in
+    let right = all_listed table client.constants (Right table client.constants) (λ place i g. record { at_a = g.a; at_b = g.b; at_c = g.c; at_number = g.number; range = g.range })
+    (record { at_a = refl; at_b = refl; at_c = refl; at_number = refl; range = fits_zero }) (record { at_a = refl; at_b = refl; at_c = refl; at_number = refl; range = fits_zero }) client.code h.code in
+    all_two IsItem (map type_item table ++ map constant_item client.constants) (map instruction_item (listing client.code))
+    (all_two IsItem (map type_item table) (map constant_item client.constants)
+    (right_map (λ f. IsItem (type_item f)) type_item (λ f g. g) table forms)
+    (right_map IsConstant constant_item constant_right client.constants (constants_right client.constants h.constants)))
+    (right_map (Right table client.constants) instruction_item (λ i g. (table, client.constants, g)) (listing client.code) right)
+
+pub one_text : (text : List ℕ) (x y : Client) → SpellsInText text x → SpellsInText text y → x ≡ y
+one_text text x y h k =
+    let items = items_one _ (items_of x) (items_of y) (items_right x h.valid) (items_right y k.valid) h.lines k.lines in
+    let types = sym (types_of x) ∙ ap (picked forms_in) items ∙ types_of y in
+    let constants = sym (constants_of x) ∙ ap (picked constants_in) items ∙ constants_of y in
+    let list = sym (listing_of x) ∙ ap (picked instructions_in) items ∙ listing_of y in
+    let other = subst (λ t. IsCode t x.constants y.code) (sym types) (subst (λ c. IsCode y.types c y.code) (sym constants) k.valid.code) in
+    let code = (one_code x.types x.constants x.code y.code h.valid.code other [] [] tt tt (append-nil (listing x.code) ∙ list ∙ sym (append-nil (listing y.code)))).0 in
+    λ j. record { types = types j; constants = constants j; code = code j }
