@@ -1,5 +1,5 @@
 -- The tiles of a heap, whatever holds the free ones. Free tiles may be neighbours.
-use Rattle.std.specs.Prelude.{◌≡◌, ℕ, ◌+◌, ◌≤◌, ◌^◌, Bool, List, ◌++◌, length, Contains}
+use Rattle.std.specs.Prelude.{ℕ, ◌+◌, ◌≤◌, ◌^◌, Bool, List, ◌++◌, length, Contains}
 use Rattle.seg_spec.specs.Bytes.{Agrees}
 use Rattle.seg_spec.specs.Heap.{Span, Tile, end_of, Fill, AreHeaders, live_of, heap_start}
 

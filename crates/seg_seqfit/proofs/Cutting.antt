@@ -1,5 +1,5 @@
 -- A live tile is cut in two live ones.
-use Rattle.std.proofs.Common.{◌≡◌, ℕ, ◌+◌, ◌*◌, ◌≤◌, true, List, [], ◌∷◌, ◌++◌, length, refl, arith, inl, inr}
+use Rattle.std.proofs.Common.{◌≡◌, ℕ, ◌+◌, ◌*◌, ◌≤◌, true, List, [], ◌∷◌, ◌++◌, length, refl, arith, inl}
 use Rattle.seg_spec.specs.Bytes.{Agrees}
 use Rattle.seg_spec.specs.Pointer.{target}
 use Rattle.seg_spec.specs.Heap.{Tile, Fill, heap_start}

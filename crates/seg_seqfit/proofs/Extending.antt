@@ -1,11 +1,11 @@
 -- A live tile takes in the live tile right behind it.
-use Rattle.std.proofs.Common.{◌≡◌, ℕ, ◌+◌, ◌*◌, ◌≤◌, true, List, [], ◌∷◌, ◌++◌, length, refl, arith, inl}
+use Rattle.std.proofs.Common.{◌≡◌, ℕ, ◌+◌, ◌*◌, true, List, [], ◌∷◌, ◌++◌, arith, inl}
 use Rattle.seg_spec.specs.Bytes.{Agrees}
 use Rattle.seg_spec.specs.Pointer.{target}
 use Rattle.seg_spec.specs.Heap.{Tile, heap_start}
 use Rattle.seg_block.specs.Sizes.{set_size}
 use Rattle.seg_block.specs.Tiling.{tile}
-use Rattle.seg_block.proofs.Joining.{join-front, join-middle, join-back, join-large, join-kept, join-replaces}
+use Rattle.seg_block.proofs.Joining.{join-front, join-middle, join-back, join-kept, join-replaces}
 use Rattle.seg_seqfit.specs.Retiling.{link_behind, IsTiling, Retiles}
 use Rattle.seg_seqfit.proofs.LinkLaws.{link_behind-low}
 use Rattle.seg_seqfit.proofs.Retile.{IsLocal, retile_links, target-local}

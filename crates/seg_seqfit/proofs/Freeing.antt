@@ -6,7 +6,7 @@ use Rattle.std.proofs.lemmas.List.{append_assoc}
 use Rattle.seg_spec.specs.Pointer.{target}
 use Rattle.seg_spec.specs.Heap.{Span, Tile, span_of, end_of, IsLive, Fill, AreApart, Links, live_of, free_of, heap_start, tiles, live, IsHeap, without, Gives}
 use Rattle.seg_spec.proofs.BytesLaws.{Agrees-within, Agrees-same}
-use Rattle.seg_spec.proofs.TileLaws.{Fill-le, live_of-append, free_of-append, AreHeaders-back, AreApart-append, AreApart-front, AreApart-back, live_after}
+use Rattle.seg_spec.proofs.TileLaws.{Fill-le, live_of-append, free_of-append, AreApart-append, AreApart-front, AreApart-back, live_after}
 use Rattle.seg_block.specs.Blocks.{IsBlock}
 use Rattle.seg_seqfit.specs.FreeBlocks.{AreFreeBlocks, AreBelow, AreAbove, link_after}
 use Rattle.seg_block.specs.Tiling.{tile, Spares}
@@ -14,7 +14,7 @@ use Rattle.seg_seqfit.specs.Retiling.{link_behind, IsTiling, Retiles, JoinsBehin
 use Rattle.seg_seqfit.proofs.LinkLaws.{Links-behind, link_behind-cases}
 use Rattle.seg_block.proofs.LiveTiles.{cons_cases}
 use Rattle.seg_block.proofs.Neighbours.{IsBlock-tile}
-use Rattle.seg_block.proofs.Tiled.{around, aligned_end}
+use Rattle.seg_block.proofs.Tiled.{around}
 use Rattle.seg_seqfit.proofs.Heaps.{tiling_of_heap, heap_of_tiling, IsTiledHeap, free_blocks, AreApart-live}
 use Rattle.seg_seqfit.proofs.Allocating.{Spares-trans, Spares-same}
 

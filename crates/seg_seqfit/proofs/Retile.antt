@@ -1,5 +1,5 @@
 -- A few tiles in the middle of the heap are replaced by others, and the free list is led through them.
-use Rattle.std.proofs.Common.{◌≡◌, ◌≢◌, ℕ, ◌+◌, ◌*◌, ◌%◌, ◌≤◌, Bool, true, false, List, [], ◌∷◌, ◌++◌, length, cond, Option, None, refl, sym, ap, ◌∙◌, subst, arith, inl, inr, ◌⊎◌, ⊎_elim}
+use Rattle.std.proofs.Common.{◌≡◌, ◌≢◌, ℕ, ◌+◌, ◌*◌, ◌%◌, ◌≤◌, Bool, true, false, List, [], ◌∷◌, ◌++◌, length, cond, Option, None, refl, ◌∙◌, subst, arith, inl, inr, ◌⊎◌, ⊎_elim}
 use Rattle.std.specs.Prelude.{Contains}
 use Rattle.std.proofs.lemmas.List.Elements.{Contains-append_cases}
 use Rattle.seg_spec.specs.Bytes.{word, set_word, Agrees}
@@ -8,9 +8,9 @@ use Rattle.seg_spec.specs.Heap.{Span, Tile, span_of, end_of, Fill, AreHeaders, L
 use Rattle.seg_spec.proofs.BytesLaws.{number-agrees, Agrees-trans, Agrees-set_number, length-set_number}
 use Rattle.seg_spec.proofs.PointerLaws.{target-same}
 use Rattle.seg_block.specs.Sizes.{size_word, set_size}
-use Rattle.seg_spec.proofs.TileLaws.{Fill-le, Fill-front, Fill-back, units_after, live_of-append}
+use Rattle.seg_spec.proofs.TileLaws.{Fill-le, units_after, live_of-append}
 use Rattle.seg_spec.proofs.HeaderLaws.{off_header}
-use Rattle.seg_block.specs.Tiling.{tile, IsTiled, Spares}
+use Rattle.seg_block.specs.Tiling.{IsTiled, Spares}
 use Rattle.seg_seqfit.specs.Retiling.{link_behind, IsTiling}
 use Rattle.seg_block.proofs.Tiled.{EachHeader, retiled, spared_tiles}
 use Rattle.seg_seqfit.proofs.LinkLaws.{link_behind-low, link_behind-off, link_behind-cases, Links-behind, Links-changed, Links-moved, live_beside_link}
