@@ -8,8 +8,8 @@ use Rattle.seg_spec.specs.Heap.{Span, Tile, end_of, link_at, Fill, AreApart, liv
 use Rattle.seg_spec.proofs.BytesLaws.{Agrees-within, Agrees-same, Agrees-trans}
 use Rattle.seg_spec.proofs.TileLaws.{live_of-append, AreApart-append, AreApart-front, AreApart-back}
 use Rattle.seg_seqfit.specs.FreeBlocks.{AreFreeBlocks, IsFirstFit}
-use Rattle.seg_block.specs.Tiling.{tile, Spares}
-use Rattle.seg_seqfit.specs.Retiling.{link_behind, IsTiling, Retiles}
+use Rattle.seg_block.specs.Tiling.{tile, Spares, IsTiling, Retiles}
+use Rattle.seg_seqfit.specs.Retiling.{link_behind}
 use Rattle.seg_block.proofs.Tiled.{around}
 use Rattle.seg_seqfit.proofs.LinkLaws.{target-agrees}
 use Rattle.seg_seqfit.proofs.Heaps.{gaps_of_heap, tiling_of_heap, heap_of_tiling, free_blocks, has_free, HasFree, with_block-between, AreApart-live}
@@ -69,8 +69,8 @@ module _ (old new : List ℕ) (u link at units : ℕ) (h : IsHeap 0 old) (f : Is
   gap_link : link ≡ link_behind 24 tiles_before
   gap_link = f.link_is ∙ around_gap.link_is
 
-  gap_tiling : IsTiling old (tiles_before ++ tile at units false ∷ tiles_behind)
-  gap_tiling = subst (λ l. IsTiling old l) around_gap.parts (tiling_of_heap old h)
+  gap_tiling : IsTiling 0 old (tiles_before ++ tile at units false ∷ tiles_behind)
+  gap_tiling = subst (λ l. IsTiling 0 old l) around_gap.parts (tiling_of_heap old h)
 
   gap_apart : AreApart true (tiles_before ++ tile at units false ∷ tiles_behind)
   gap_apart = subst (λ l. AreApart true l) around_gap.parts h.apart
@@ -89,7 +89,7 @@ module _ (old new : List ℕ) (u link at units : ℕ) (h : IsHeap 0 old) (f : Is
   }
 
   -- the block stands at the gap's front, before these tiles
-  finish : (n : ℕ) (zs : List Tile) → granted units u ≡ n → live_of zs ≡ live_of tiles_behind → AreApart true zs → Fill (at + 16 * n) zs (length new) → 2 ≤ n → IsTiling new (tiles_before ++ tile at n true ∷ zs) → Spares old new (tiles_before ++ tiles_behind) → link_at new at ≡ None → Takes 0 old new u (Some at)
+  finish : (n : ℕ) (zs : List Tile) → granted units u ≡ n → live_of zs ≡ live_of tiles_behind → AreApart true zs → Fill (at + 16 * n) zs (length new) → 2 ≤ n → IsTiling 0 new (tiles_before ++ tile at n true ∷ zs) → Spares old new (tiles_before ++ tiles_behind) → link_at new at ≡ None → Takes 0 old new u (Some at)
   finish n zs n_is same apart fits large tiling spared link_none =
       let parts = around tiles_before tiles_behind heap_start (length old) at units false gap_tiling.tiled.filled in
       let now = heap_of_tiling new (tiles_before ++ tile at n true ∷ zs) tiling (AreApart-append tiles_before (tile at n true ∷ zs) true (AreApart-front tiles_before (tile at units false ∷ tiles_behind) true gap_apart) (λ e. refl, apart)) in
@@ -105,7 +105,7 @@ module _ (old new : List ℕ) (u link at units : ℕ) (h : IsHeap 0 old) (f : Is
         taken = rw f.is_first (refl, live_is, link_none);
       }
 
-  takes_whole : u ≤ units → units < u + 2 → Retiles old new tiles_before (tile at units true ∷ []) tiles_behind → link_at new at ≡ None → Takes 0 old new u (Some at)
+  takes_whole : u ≤ units → units < u + 2 → Retiles 0 old new tiles_before (tile at units true ∷ []) tiles_behind → link_at new at ≡ None → Takes 0 old new u (Some at)
   takes_whole enough small r link_none =
       let parts = around tiles_before tiles_behind heap_start (length old) at units false gap_tiling.tiled.filled in
       let behind = AreApart-back tiles_before (tile at units false ∷ tiles_behind) true gap_apart in
@@ -115,8 +115,8 @@ module _ (old new : List ℕ) (u link at units : ℕ) (h : IsHeap 0 old) (f : Is
   rest_tile = tile (at + 16 * u) (units - u) false
 
   -- the gap was taken whole, and its rest given back
-  takes_part : (mid : List ℕ) → 2 ≤ u → u + 2 ≤ units → Retiles old mid tiles_before (tile at units true ∷ []) tiles_behind → link_at mid at ≡ None
-      → Retiles mid new tiles_before (tile at u true ∷ rest_tile ∷ []) tiles_behind × Agrees mid new (at + 8) (at + 16 * u) → Takes 0 old new u (Some at)
+  takes_part : (mid : List ℕ) → 2 ≤ u → u + 2 ≤ units → Retiles 0 old mid tiles_before (tile at units true ∷ []) tiles_behind → link_at mid at ≡ None
+      → Retiles 0 mid new tiles_before (tile at u true ∷ rest_tile ∷ []) tiles_behind × Agrees mid new (at + 8) (at + 16 * u) → Takes 0 old new u (Some at)
   takes_part mid large room r link_none s =
       let parts = around tiles_before tiles_behind heap_start (length old) at units false gap_tiling.tiled.filled in
       let behind = AreApart-back tiles_before (tile at units false ∷ tiles_behind) true gap_apart in
@@ -129,12 +129,12 @@ module _ (old new : List ℕ) (u link at units : ℕ) (h : IsHeap 0 old) (f : Is
       no : true ≡ false → ⊥
       no e = cc
 
-  pub takes : (mid : List ℕ) → 2 ≤ u → u ≤ units → ((xs ys : List Tile) → link ≡ link_behind 24 xs → IsTiling old (xs ++ tile at units false ∷ ys) → Retiles old mid xs (tile at units true ∷ []) ys × (link_at mid at ≡ None))
+  pub takes : (mid : List ℕ) → 2 ≤ u → u ≤ units → ((xs ys : List Tile) → link ≡ link_behind 24 xs → IsTiling 0 old (xs ++ tile at units false ∷ ys) → Retiles 0 old mid xs (tile at units true ∷ []) ys × (link_at mid at ≡ None))
       → (units < u + 2 → new ≡ mid)
-      → (u + 2 ≤ units → (xs ys : List Tile) → link ≡ link_behind 24 xs → IsTiling mid (xs ++ tile at units true ∷ ys) → Retiles mid new xs (tile at u true ∷ tile (at + 16 * u) (units - u) false ∷ []) ys × Agrees mid new (at + 8) (at + 16 * u))
+      → (u + 2 ≤ units → (xs ys : List Tile) → link ≡ link_behind 24 xs → IsTiling 0 mid (xs ++ tile at units true ∷ ys) → Retiles 0 mid new xs (tile at u true ∷ tile (at + 16 * u) (units - u) false ∷ []) ys × Agrees mid new (at + 8) (at + 16 * u))
       → Takes 0 old new u (Some at)
   takes mid large enough take whole cut =
       let t = take tiles_before tiles_behind gap_link gap_tiling in
-      ⊎_elim (λ small. let same = sym (whole small) in takes_whole enough small (subst (λ b. Retiles old b tiles_before (tile at units true ∷ []) tiles_behind) same t.0) (subst (λ b. link_at b at ≡ None) same t.1))
+      ⊎_elim (λ small. let same = sym (whole small) in takes_whole enough small (subst (λ b. Retiles 0 old b tiles_before (tile at units true ∷ []) tiles_behind) same t.0) (subst (λ b. link_at b at ≡ None) same t.1))
       (λ room. takes_part mid large room t.0 t.1 (cut room tiles_before tiles_behind gap_link t.0.tiling))
       (cases_lt units (u + 2))

@@ -8,8 +8,8 @@ use Rattle.seg_spec.specs.Pointer.{target}
 use Rattle.seg_spec.specs.Heap.{Span, Tile, Links, live, gaps, IsHeap, granted, room_at, expanded, shrunk, Expands, Shrinks}
 use Rattle.seg_block.specs.Blocks.{IsBlock}
 use Rattle.seg_seqfit.specs.FreeBlocks.{AreFreeBlocks, AreBelow, AreAbove, link_after}
-use Rattle.seg_block.specs.Tiling.{tile}
-use Rattle.seg_seqfit.specs.Retiling.{link_behind, IsTiling, Retiles}
+use Rattle.seg_block.specs.Tiling.{tile, IsTiling, Retiles}
+use Rattle.seg_seqfit.specs.Retiling.{link_behind}
 use Rattle.seg_seqfit.proofs.Allocating.{Keeps-same}
 use Rattle.seg_block.proofs.Neighbours.{IsBlock-tile}
 use Rattle.seg_seqfit.proofs.Freeing.{block, block_tiling, link_of_walk}
@@ -114,7 +114,7 @@ module _ (old : List ℕ) (named x at u : ℕ) (h : IsHeap 0 old) (held : Contai
 
     pub shrink_no_gap : (new : List ℕ) (need : ℕ) → ((g : Span) → target old link ≡ Some (at + 16 * u + 16) → g.at ≡ at + 16 * u → IsBlock old g → ⊥)
         → (u < need + 2 → new ≡ old)
-        → (need + 2 ≤ u → (xs ys : List Tile) → link ≡ link_behind 24 xs → IsTiling old (xs ++ tile at u true ∷ ys) → Retiles old new xs (tile at need true ∷ tile (at + 16 * need) (u - need) false ∷ []) ys × Agrees old new (at + 8) (at + 16 * need))
+        → (need + 2 ≤ u → (xs ys : List Tile) → link ≡ link_behind 24 xs → IsTiling 0 old (xs ++ tile at u true ∷ ys) → Retiles 0 old new xs (tile at need true ∷ tile (at + 16 * need) (u - need) false ∷ []) ys × Agrees old new (at + 8) (at + 16 * need))
         → Shrinks 0 old new named x need
     shrink_no_gap new need none whole cut =
         let gap = gap_none old at u h here link link_is none in
@@ -133,10 +133,10 @@ module _ (old : List ℕ) (named x at u : ℕ) (h : IsHeap 0 old) (held : Contai
       expand_short need short = back_expands old need false (expands_short old at u need h here v gap.room short)
 
       module _ (mid new : List ℕ) (need : ℕ)
-          (absorb : (xs ys : List Tile) → link ≡ link_behind 24 xs → IsTiling old (xs ++ (tile at u true ∷ tile (at + 16 * u) v false ∷ ys)) → Retiles old mid xs (tile at (u + v) true ∷ []) ys × Agrees old mid (at + 8) (at + 16 * u))
+          (absorb : (xs ys : List Tile) → link ≡ link_behind 24 xs → IsTiling 0 old (xs ++ (tile at u true ∷ tile (at + 16 * u) v false ∷ ys)) → Retiles 0 old mid xs (tile at (u + v) true ∷ []) ys × Agrees old mid (at + 8) (at + 16 * u))
           (whole : u + v < need + 2 → new ≡ mid)
-          (cut : need + 2 ≤ u + v → (xs ys : List Tile) → link ≡ link_behind 24 xs → IsTiling mid (xs ++ tile at (u + v) true ∷ ys) → Retiles mid new xs (tile at need true ∷ tile (at + 16 * need) (u + v - need) false ∷ []) ys × Agrees mid new (at + 8) (at + 16 * need)) where
-        absorbed : Retiles old mid (before old at u h here) (tile at (u + v) true ∷ []) gap.rest × Agrees old mid (at + 8) (at + 16 * u)
+          (cut : need + 2 ≤ u + v → (xs ys : List Tile) → link ≡ link_behind 24 xs → IsTiling 0 mid (xs ++ tile at (u + v) true ∷ ys) → Retiles 0 mid new xs (tile at need true ∷ tile (at + 16 * need) (u + v - need) false ∷ []) ys × Agrees mid new (at + 8) (at + 16 * need)) where
+        absorbed : Retiles 0 old mid (before old at u h here) (tile at (u + v) true ∷ []) gap.rest × Agrees old mid (at + 8) (at + 16 * u)
         absorbed = absorb (before old at u h here) gap.rest link_is gap.tiling
 
         resized_to_cut : need + 2 ≤ u + v → IsResized old new at need

@@ -4,8 +4,8 @@ use Rattle.std.proofs.lemmas.Bool.Decides.{nat_tests}
 use Rattle.seg_spec.specs.Heap.{Span, Tile, span_of, Fill, AreHeaders, AreApart, Links, live_of, free_of, gaps_between, heap_start, tiles, live, gaps, IsHeap, with_block}
 use Rattle.seg_spec.proofs.TileLaws.{Fill-le, tiles-unique, gaps_between-live_of}
 use Rattle.seg_seqfit.specs.FreeBlocks.{AreFreeBlocks, link_after}
-use Rattle.seg_block.specs.Tiling.{tile}
-use Rattle.seg_seqfit.specs.Retiling.{link_behind, IsTiling}
+use Rattle.seg_block.specs.Tiling.{tile, IsTiling}
+use Rattle.seg_seqfit.specs.Retiling.{link_behind}
 
 -- ---- between the two views
 
@@ -20,10 +20,10 @@ live_are bytes ts is = ap live_of is
 pub gaps_of_heap : (bytes : List ℕ) → IsHeap 0 bytes → gaps bytes ≡ free_of (tiles bytes)
 gaps_of_heap bytes h = gaps_are bytes (tiles bytes) refl h.filled h.apart
 
-pub tiling_of_heap : (bytes : List ℕ) → IsHeap 0 bytes → IsTiling bytes (tiles bytes)
+pub tiling_of_heap : (bytes : List ℕ) → IsHeap 0 bytes → IsTiling 0 bytes (tiles bytes)
 tiling_of_heap bytes h = record {
   tiled = record { small = h.small; filled = h.filled; headers = h.headers };
-  links = subst (λ gs. Links bytes 24 gs None) (gaps_of_heap bytes h) h.free;
+  free = subst (λ gs. Links bytes 24 gs None) (gaps_of_heap bytes h) h.free;
 }
 
 -- what is known of bytes that these tiles fill, where no two free ones are neighbours
@@ -32,7 +32,7 @@ pub record IsTiledHeap (bytes : List ℕ) (ts : List Tile) : Type 0 where
   pub live_is : live bytes ≡ live_of ts
   pub gaps_is : gaps bytes ≡ free_of ts
 
-pub heap_of_tiling : (bytes : List ℕ) (ts : List Tile) → IsTiling bytes ts → AreApart true ts → IsTiledHeap bytes ts
+pub heap_of_tiling : (bytes : List ℕ) (ts : List Tile) → IsTiling 0 bytes ts → AreApart true ts → IsTiledHeap bytes ts
 heap_of_tiling bytes ts t apart =
     let is : tiles bytes ≡ ts = tiles-unique bytes ts t.tiled.filled t.tiled.headers in
     let free_is = gaps_are bytes ts is t.tiled.filled apart in
@@ -41,7 +41,7 @@ heap_of_tiling bytes ts t apart =
         filled = subst (λ l. Fill heap_start l (length bytes)) (sym is) t.tiled.filled;
         headers = subst (λ l. AreHeaders bytes 0 l) (sym is) t.tiled.headers;
         apart = subst (λ l. AreApart true l) (sym is) apart;
-        free = subst (λ gs. Links bytes 24 gs None) (sym free_is) t.links;
+        free = subst (λ gs. Links bytes 24 gs None) (sym free_is) t.free;
         small = t.tiled.small;
       };
       live_is = live_are bytes ts is;
@@ -63,7 +63,7 @@ AreFreeBlocks-free_of bytes (t ∷ ts) low from before above aligned f h =
       ))
     ] refl
 
-pub free_blocks : (bytes : List ℕ) (ts : List Tile) → IsTiling bytes ts → AreFreeBlocks bytes 704 (free_of ts)
+pub free_blocks : (bytes : List ℕ) (ts : List Tile) → IsTiling 0 bytes ts → AreFreeBlocks bytes 704 (free_of ts)
 free_blocks bytes ts t = AreFreeBlocks-free_of bytes ts 704 heap_start 0 (omega arith) refl t.tiled.filled t.tiled.headers
 
 -- the tiles around a free one

@@ -9,8 +9,8 @@ use Rattle.seg_spec.specs.Heap.{Span, Tile, span_of, end_of, Fill, AreApart, Lin
 use Rattle.seg_spec.proofs.BytesLaws.{Agrees-within, Agrees-trans}
 use Rattle.seg_spec.proofs.TileLaws.{Fill-le, live_of-append, free_of-append, AreApart-append}
 use Rattle.seg_block.specs.Blocks.{IsBlock}
-use Rattle.seg_block.specs.Tiling.{tile, Spares}
-use Rattle.seg_seqfit.specs.Retiling.{link_behind, IsTiling, Retiles}
+use Rattle.seg_block.specs.Tiling.{tile, Spares, IsTiling, Retiles}
+use Rattle.seg_seqfit.specs.Retiling.{link_behind}
 use Rattle.seg_seqfit.proofs.LinkLaws.{Links-behind}
 use Rattle.seg_block.proofs.LiveTiles.{cons_cases, live_within}
 use Rattle.seg_block.proofs.Tiled.{around}
@@ -73,7 +73,7 @@ module _ (old : List ℕ) (at u : ℕ) (h : IsHeap 0 old) (held : Contains (live
   abbrev pub behind : List Tile
   behind = (block old at u h held).ys
 
-  was : IsTiling old (before ++ tile at u true ∷ behind)
+  was : IsTiling 0 old (before ++ tile at u true ∷ behind)
   was = block_tiling old at u h held
 
   parts : (Fill heap_start before at) × (2 ≤ u) × Fill (at + 16 * u) behind (length old)
@@ -110,7 +110,7 @@ module _ (old : List ℕ) (at u : ℕ) (h : IsHeap 0 old) (held : Contains (live
   keeps_any new n zs b c back large s own (inr (inl x)) k e =
       subst (λ (b : Span). b.at ≡ c.at → Agrees old new (b.at + 8) (b.at + 16 * min b.units c.units)) x (λ e. keeps_block new n zs c back large own k e) e
 
-  pub resizes : (new : List ℕ) (n : ℕ) (zs : List Tile) → IsTiling new (before ++ tile at n true ∷ zs) → live_of zs ≡ live_of behind → AreApart true zs → Spares old new (before ++ behind) → Agrees old new (at + 8) (at + 16 * min u n) → IsResized old new at n
+  pub resizes : (new : List ℕ) (n : ℕ) (zs : List Tile) → IsTiling 0 new (before ++ tile at n true ∷ zs) → live_of zs ≡ live_of behind → AreApart true zs → Spares old new (before ++ behind) → Agrees old new (at + 8) (at + 16 * min u n) → IsResized old new at n
   resizes new n zs tiling same apart s own =
       let now = heap_of_tiling new (before ++ tile at n true ∷ zs) tiling (AreApart-append before (tile at n true ∷ zs) true (block_front old at u h held) (λ e. refl, apart)) in
       let new_parts = around before zs heap_start (length new) at n true tiling.tiled.filled in
@@ -132,14 +132,14 @@ module _ (old : List ℕ) (at u : ℕ) (h : IsHeap 0 old) (held : Contains (live
 
   pub gap_none : (link : ℕ) → link ≡ link_behind 24 before → ((g : Span) → target old link ≡ Some (at + 16 * u + 16) → g.at ≡ at + 16 * u → IsBlock old g → ⊥) → AreApart false behind × (room_at (gaps old) (at + 16 * u) ≡ 0)
   gap_none link link_is none =
-      let links = subst (λ p. Links old p (free_of behind) None) (sym link_is) (Links-behind old before (tile at u true ∷ behind) 24 None was.links) in
+      let links = subst (λ p. Links old p (free_of behind) None) (sym link_is) (Links-behind old before (tile at u true ∷ behind) 24 None was.free) in
       let apart = apart_behind old behind link (at + 16 * u) (length old) parts.2 links (block_behind old at u h held)
       (λ e. let b = begins_free old behind link (at + 16 * u) (length old) parts.2 links e in none (record { at = at + 16 * u; units = b.units }) e refl (block_of b)) in
       (apart, room_is ∙ room_at-apart behind (at + 16 * u) (length old) parts.2 apart)
     where
       block_of : (b : BeginsFree behind (at + 16 * u)) → IsBlock old (record { at = at + 16 * u; units = b.units })
       block_of b = IsBlock-tile old (put_front before (tile at u true)) b.rest (at + 16 * u) b.units false
-          (subst (λ l. IsTiling old l) (ap (λ l. before ++ tile at u true ∷ l) b.parts ∙ sym (put_front-append before (tile (at + 16 * u) b.units false ∷ b.rest) (tile at u true))) was).tiled
+          (subst (λ l. IsTiling 0 old l) (ap (λ l. before ++ tile at u true ∷ l) b.parts ∙ sym (put_front-append before (tile (at + 16 * u) b.units false ∷ b.rest) (tile at u true))) was).tiled
 
   pub record HasGap (v : ℕ) : Type 0 where
     pub rest : List Tile
@@ -147,16 +147,16 @@ module _ (old : List ℕ) (at u : ℕ) (h : IsHeap 0 old) (held : Contains (live
     pub room : room_at (gaps old) (at + 16 * u) ≡ v
     pub large : 2 ≤ v
     pub apart : AreApart false rest
-    pub tiling : IsTiling old (before ++ (tile at u true ∷ tile (at + 16 * u) v false ∷ rest))
+    pub tiling : IsTiling 0 old (before ++ (tile at u true ∷ tile (at + 16 * u) v false ∷ rest))
     pub fill : Fill (at + 16 * u + 16 * v) rest (length old)
 
   pub gap_found : (link v : ℕ) → link ≡ link_behind 24 before → target old link ≡ Some (at + 16 * u + 16) → ((g : Span) → target old link ≡ Some (at + 16 * u + 16) → g.at ≡ at + 16 * u → IsBlock old g → v ≡ g.units) → HasGap v
   gap_found link v link_is named read =
-      let links = subst (λ p. Links old p (free_of behind) None) (sym link_is) (Links-behind old before (tile at u true ∷ behind) 24 None was.links) in
+      let links = subst (λ p. Links old p (free_of behind) None) (sym link_is) (Links-behind old before (tile at u true ∷ behind) 24 None was.free) in
       let b = begins_free old behind link (at + 16 * u) (length old) parts.2 links named in
       let same : v ≡ b.units = read (record { at = at + 16 * u; units = b.units }) named refl
       (IsBlock-tile old (put_front before (tile at u true)) b.rest (at + 16 * u) b.units false
-      (subst (λ l. IsTiling old l) (ap (λ l. before ++ tile at u true ∷ l) b.parts ∙ sym (put_front-append before (tile (at + 16 * u) b.units false ∷ b.rest) (tile at u true))) was).tiled) in
+      (subst (λ l. IsTiling 0 old l) (ap (λ l. before ++ tile at u true ∷ l) b.parts ∙ sym (put_front-append before (tile (at + 16 * u) b.units false ∷ b.rest) (tile at u true))) was).tiled) in
       let behind_is : behind ≡ tile (at + 16 * u) v false ∷ b.rest = b.parts ∙ ap (λ n. tile (at + 16 * u) n false ∷ b.rest) (sym same) in
       let fill = subst (λ l. Fill (at + 16 * u) l (length old)) behind_is parts.2 in
       record {
@@ -165,20 +165,20 @@ module _ (old : List ℕ) (at u : ℕ) (h : IsHeap 0 old) (held : Contains (live
         room = room_is ∙ ap (λ l. room_at (free_of l) (at + 16 * u)) behind_is ∙ rw (test_same (at + 16 * u) (at + 16 * u) refl) refl;
         large = fill.1;
         apart = (subst (λ l. AreApart true l) behind_is (block_behind old at u h held)).1;
-        tiling = subst (λ l. IsTiling old (before ++ tile at u true ∷ l)) behind_is was;
+        tiling = subst (λ l. IsTiling 0 old (before ++ tile at u true ∷ l)) behind_is was;
         fill = fill.2;
       }
 
   -- ---- the block that took the gap in, whole or cut
 
-  pub resized_whole : (mid : List ℕ) (v : ℕ) (g : HasGap v) → Retiles old mid before (tile at (u + v) true ∷ []) g.rest × Agrees old mid (at + 8) (at + 16 * u) → IsResized old mid at (u + v)
+  pub resized_whole : (mid : List ℕ) (v : ℕ) (g : HasGap v) → Retiles 0 old mid before (tile at (u + v) true ∷ []) g.rest × Agrees old mid (at + 8) (at + 16 * u) → IsResized old mid at (u + v)
   resized_whole mid v g r =
       resizes mid (u + v) g.rest r.0.tiling (sym (ap live_of g.gap_parts)) (AreApart-live false g.rest g.apart)
       (Spares-same old mid (before ++ g.rest) (before ++ behind) (ap (λ l. live_of (before ++ l)) g.gap_parts ∙ live_of-append before (tile (at + 16 * u) v false ∷ g.rest) ∙ sym (live_of-append before g.rest)) r.0.spared)
       (Agrees-within old mid (at + 8) (at + 16 * u) (at + 8) (at + 16 * min u (u + v)) r.1 (omega arith) (omega arith))
 
-  pub resized_cut : (mid new : List ℕ) (v need : ℕ) (g : HasGap v) → Retiles old mid before (tile at (u + v) true ∷ []) g.rest × Agrees old mid (at + 8) (at + 16 * u)
-      → Retiles mid new before (tile at need true ∷ tile (at + 16 * need) (u + v - need) false ∷ []) g.rest × Agrees mid new (at + 8) (at + 16 * need) → IsResized old new at need
+  pub resized_cut : (mid new : List ℕ) (v need : ℕ) (g : HasGap v) → Retiles 0 old mid before (tile at (u + v) true ∷ []) g.rest × Agrees old mid (at + 8) (at + 16 * u)
+      → Retiles 0 mid new before (tile at need true ∷ tile (at + 16 * need) (u + v - need) false ∷ []) g.rest × Agrees mid new (at + 8) (at + 16 * need) → IsResized old new at need
   resized_cut mid new v need g r c =
       resizes new need (tile (at + 16 * need) (u + v - need) false ∷ g.rest) c.0.tiling (sym (ap live_of g.gap_parts)) ((λ e. absurd (never e)), g.apart)
       (Spares-same old new (before ++ g.rest) (before ++ behind) (ap (λ l. live_of (before ++ l)) g.gap_parts ∙ live_of-append before (tile (at + 16 * u) v false ∷ g.rest) ∙ sym (live_of-append before g.rest))
@@ -189,7 +189,7 @@ module _ (old : List ℕ) (at u : ℕ) (h : IsHeap 0 old) (held : Contains (live
       never : true ≡ false → ⊥
       never e = cc
 
-  pub resized_less : (new : List ℕ) (need : ℕ) → AreApart false behind → Retiles old new before (tile at need true ∷ tile (at + 16 * need) (u - need) false ∷ []) behind × Agrees old new (at + 8) (at + 16 * need) → IsResized old new at need
+  pub resized_less : (new : List ℕ) (need : ℕ) → AreApart false behind → Retiles 0 old new before (tile at need true ∷ tile (at + 16 * need) (u - need) false ∷ []) behind × Agrees old new (at + 8) (at + 16 * need) → IsResized old new at need
   resized_less new need apart c =
       resizes new need (tile (at + 16 * need) (u - need) false ∷ behind) c.0.tiling refl ((λ e. absurd (never e)), apart) c.0.spared
       (Agrees-within old new (at + 8) (at + 16 * need) (at + 8) (at + 16 * min u need) c.1 (omega arith) (omega arith))
