@@ -2,6 +2,7 @@ pub mod SizeLaws
 pub mod LiveTiles
 pub mod Tiled
 pub mod Neighbours
+pub mod Heaps
 pub mod Splitting
 pub mod Joining
 pub mod Ends

@@ -12,18 +12,11 @@ use Rattle.seg_block.specs.Tiling.{tile, Spares, IsTiling, Retiles}
 use Rattle.seg_seqfit.specs.Retiling.{link_behind}
 use Rattle.seg_block.proofs.Tiled.{around}
 use Rattle.seg_seqfit.proofs.LinkLaws.{target-agrees}
-use Rattle.seg_seqfit.proofs.Heaps.{gaps_of_heap, tiling_of_heap, heap_of_tiling, free_blocks, has_free, HasFree, with_block-between, AreApart-live}
+use Rattle.seg_seqfit.proofs.FreeTiles.{free_blocks, has_free, HasFree}
+use Rattle.seg_block.proofs.Heaps.{gaps_of_heap, tiling_of_heap, heap_of_tiling, with_block-between, AreApart-live, Keeps-same, Spares-trans, Spares-same}
 
 pub heap_free_blocks : (bytes : List ℕ) → IsHeap 0 bytes → AreFreeBlocks bytes 704 (gaps bytes)
 heap_free_blocks bytes h = subst (λ gs. AreFreeBlocks bytes 704 gs) (sym (gaps_of_heap bytes h)) (free_blocks bytes (tiles bytes) (tiling_of_heap bytes h))
-
-pub Keeps-same : (bytes : List ℕ) → Keeps bytes bytes
-Keeps-same bytes = record {
-  length_kept = refl;
-  front_kept = Agrees-same bytes 0 24;
-  back_kept = Agrees-same bytes 28 heap_start;
-  blocks_kept = λ b c _ _ _. Agrees-same bytes (b.at + 8) (b.at + 16 * min b.units c.units);
-}
 
 pub takes_none : (bytes : List ℕ) (u : ℕ) (result : Option ℕ) → IsHeap 0 bytes → first_fit (gaps bytes) u ≡ None → result ≡ None → Takes 0 bytes bytes u result
 takes_none bytes u result h none e = record {
@@ -37,21 +30,6 @@ granted_whole x u low high = grind (arith, nat_tests)
 
 granted_part : (x u : ℕ) → u + 2 ≤ x → granted x u ≡ u
 granted_part x u h = grind (arith, nat_tests)
-
-pub Spares-trans : (a b c : List ℕ) (ts : List Tile) → Spares a b ts → Spares b c ts → Spares a c ts
-Spares-trans a b c ts x y = record {
-  front_kept = Agrees-trans a b c 0 24 x.front_kept y.front_kept;
-  back_kept = Agrees-trans a b c 28 heap_start x.back_kept y.back_kept;
-  tiles_kept = λ s h. Agrees-trans a b c (s.at + 8) (end_of s) (x.tiles_kept s h) (y.tiles_kept s h);
-}
-
--- only the live tiles count
-pub Spares-same : (a b : List ℕ) (ts us : List Tile) → live_of us ≡ live_of ts → Spares a b ts → Spares a b us
-Spares-same a b ts us e s = record {
-  front_kept = s.front_kept;
-  back_kept = s.back_kept;
-  tiles_kept = λ x h. s.tiles_kept x (subst (λ l. Contains l x) e h);
-}
 
 module _ (old new : List ℕ) (u link at units : ℕ) (h : IsHeap 0 old) (f : IsFirstFit (gaps old) u link at units) where
   abbrev gap : Span

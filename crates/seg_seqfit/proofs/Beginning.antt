@@ -8,7 +8,7 @@ use Rattle.seg_spec.proofs.PointerLaws.{target-set_same, target-same}
 use Rattle.seg_block.specs.Sizes.{size_word, set_size}
 use Rattle.seg_block.specs.Tiling.{tile, IsTiling}
 use Rattle.seg_block.proofs.SizeLaws.{IsHeader-set_size, Agrees-set_size, length-set_size}
-use Rattle.seg_seqfit.proofs.Heaps.{heap_of_tiling}
+use Rattle.seg_block.proofs.Heaps.{heap_of_tiling}
 
 module _ (old : List ℕ) (u : ℕ) (small : length old ≤ 2 ^ 30) (whole : 704 + 16 * u ≡ length old) (large : 2 ≤ u) where
   abbrev first : List ℕ

@@ -19,9 +19,10 @@ use Rattle.seg_seqfit.specs.FreeBlocks.{AreFreeBlocks, AreBelow, AreAbove, link_
 use Rattle.seg_seqfit.proofs.LinkLaws.{Links-changed, link_behind-low, link_behind-off, link_behind-cases, live_beside_link}
 use Rattle.seg_block.proofs.LiveTiles.{live_within}
 use Rattle.seg_block.proofs.Tiled.{around, aligned_end}
-use Rattle.seg_seqfit.proofs.Heaps.{tiling_of_heap, heap_of_tiling, IsTiledHeap, free_blocks}
+use Rattle.seg_seqfit.proofs.FreeTiles.{free_blocks}
 use Rattle.seg_seqfit.proofs.Freeing.{link_after-free_of}
 use Rattle.seg_seqfit.proofs.Extents.{AreHeaders-words, Links-words}
+use Rattle.seg_block.proofs.Heaps.{tiling_of_heap, heap_of_tiling, IsTiledHeap}
 
 test_same : (m n : ℕ) → m ≡ n → eqb m n ≡ true
 test_same m n e = grind (arith, nat_tests)
@@ -68,7 +69,7 @@ module _ (old : List ℕ) (large : 736 ≤ length old) (h : IsHeap 0 old) (xs : 
   apart : AreApart true (xs ++ tile at u l ∷ [])
   apart = subst (λ ts. AreApart true ts) parts h.apart
 
-  old_is : IsTiledHeap old (xs ++ tile at u l ∷ [])
+  old_is : IsTiledHeap 0 old (xs ++ tile at u l ∷ [])
   old_is = heap_of_tiling old (xs ++ tile at u l ∷ []) was apart
 
   places : (Fill heap_start xs at) × (2 ≤ u) × (at + 16 * u ≡ length old)

@@ -10,10 +10,10 @@ use Rattle.seg_block.specs.Blocks.{IsBlock}
 use Rattle.seg_seqfit.specs.FreeBlocks.{AreFreeBlocks, AreBelow, AreAbove, link_after}
 use Rattle.seg_block.specs.Tiling.{tile, IsTiling, Retiles}
 use Rattle.seg_seqfit.specs.Retiling.{link_behind}
-use Rattle.seg_seqfit.proofs.Allocating.{Keeps-same}
 use Rattle.seg_block.proofs.Neighbours.{IsBlock-tile}
 use Rattle.seg_seqfit.proofs.Freeing.{block, block_tiling, link_of_walk}
 use Rattle.seg_seqfit.proofs.Sized.{IsResized, HasGap, gap_none, gap_found, resized_whole, resized_cut, resized_less, resized_not, resized_same, before, behind}
+use Rattle.seg_block.proofs.Heaps.{Keeps-same}
 
 leb_no : (a b : ℕ) → b < a → leb a b ≡ false
 leb_no a b h = grind (arith, nat_tests)

@@ -19,7 +19,7 @@ use Rattle.seg_block.proofs.LiveTiles.{live_within}
 use Rattle.std.proofs.lemmas.List.Elements.{Contains-append_cases}
 use Rattle.seg_block.proofs.Tiled.{around, aligned_end}
 use Rattle.seg_seqfit.proofs.Freeing.{without-other}
-use Rattle.seg_seqfit.proofs.Heaps.{tiling_of_heap, heap_of_tiling, IsTiledHeap}
+use Rattle.seg_block.proofs.Heaps.{tiling_of_heap, heap_of_tiling, IsTiledHeap}
 
 -- ---- equal words
 
@@ -273,7 +273,7 @@ module _ (old : List ℕ) (n : ℕ) (small : length old ≤ 2 ^ 30) (room : 736 
         never : true ≡ false → ⊥
         never e = cc
 
-    added_is : IsTiledHeap added (tiles front ++ tile end n true ∷ [])
+    added_is : IsTiledHeap 0 added (tiles front ++ tile end n true ∷ [])
     added_is = heap_of_tiling added (tiles front ++ tile end n true ∷ []) added_tiling (AreApart-append (tiles front) (tile end n true ∷ []) true h.apart ((λ _. refl), tt))
 
     pub added_heap : IsHeap 0 added

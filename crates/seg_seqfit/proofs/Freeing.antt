@@ -15,8 +15,8 @@ use Rattle.seg_seqfit.proofs.LinkLaws.{Links-behind, link_behind-cases}
 use Rattle.seg_block.proofs.LiveTiles.{cons_cases}
 use Rattle.seg_block.proofs.Neighbours.{IsBlock-tile}
 use Rattle.seg_block.proofs.Tiled.{around}
-use Rattle.seg_seqfit.proofs.Heaps.{tiling_of_heap, heap_of_tiling, IsTiledHeap, free_blocks, AreApart-live}
-use Rattle.seg_seqfit.proofs.Allocating.{Spares-trans, Spares-same}
+use Rattle.seg_seqfit.proofs.FreeTiles.{free_blocks}
+use Rattle.seg_block.proofs.Heaps.{tiling_of_heap, heap_of_tiling, IsTiledHeap, AreApart-live, Spares-trans, Spares-same}
 
 -- the tiles around a live one
 pub record HasLive (ts : List Tile) (b : Span) : Type 0 where
@@ -217,7 +217,7 @@ has_last (t ∷ xs) p =
     ] refl
 
 module _ (old : List ℕ) (at u : ℕ) (h : IsHeap 0 old) (held : Contains (live old) (record { at = at; units = u })) where
-  old_is : IsTiledHeap old (tiles old)
+  old_is : IsTiledHeap 0 old (tiles old)
   old_is = heap_of_tiling old (tiles old) (tiling_of_heap old h) h.apart
 
   pub block : HasLive (tiles old) (record { at = at; units = u })

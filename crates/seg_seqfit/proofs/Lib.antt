@@ -2,7 +2,7 @@ pub mod Walks
 pub mod LinkLaws
 pub mod Retile
 pub mod Taking
-pub mod Heaps
+pub mod FreeTiles
 pub mod Allocating
 pub mod Releasing
 pub mod Joining

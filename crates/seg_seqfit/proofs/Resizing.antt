@@ -12,9 +12,9 @@ use Rattle.seg_block.proofs.Tiled.{header_of}
 use Rattle.seg_block.specs.Tiling.{tile, Spares, IsTiling, Retiles}
 use Rattle.seg_seqfit.specs.Retiling.{link_behind}
 use Rattle.seg_seqfit.proofs.LinkLaws.{link_behind-append}
-use Rattle.seg_seqfit.proofs.Allocating.{Spares-trans}
 use Rattle.seg_seqfit.proofs.Extending.{extend-retiles, extend-keeps}
 use Rattle.seg_seqfit.proofs.Cutting.{cut-retiles, cut-keeps}
+use Rattle.seg_block.proofs.Heaps.{Spares-trans}
 
 -- the same tiles, with one of them put to those in front
 abbrev pub put_front : List Tile → Tile → List Tile

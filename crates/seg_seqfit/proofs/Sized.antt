@@ -15,10 +15,9 @@ use Rattle.seg_seqfit.proofs.LinkLaws.{Links-behind}
 use Rattle.seg_block.proofs.LiveTiles.{cons_cases, live_within}
 use Rattle.seg_block.proofs.Tiled.{around}
 use Rattle.seg_seqfit.proofs.Resizing.{put_front, put_front-append}
-use Rattle.seg_seqfit.proofs.Allocating.{Spares-trans, Spares-same, Keeps-same}
-use Rattle.seg_seqfit.proofs.Heaps.{heap_of_tiling, AreApart-live}
 use Rattle.seg_block.proofs.Neighbours.{IsBlock-tile}
 use Rattle.seg_seqfit.proofs.Freeing.{BeginsFree, begins_free, apart_behind, block, block_tiling, block_apart, block_behind, block_front}
+use Rattle.seg_block.proofs.Heaps.{Spares-trans, Spares-same, Keeps-same, heap_of_tiling, AreApart-live}
 
 test_same : (m n : ℕ) → m ≡ n → eqb m n ≡ true
 test_same m n e = grind (arith, nat_tests)
