@@ -3,6 +3,7 @@ pub mod LiveTiles
 pub mod Tiled
 pub mod Neighbours
 pub mod Heaps
+pub mod LiveBlocks
 pub mod Splitting
 pub mod Joining
 pub mod Ends

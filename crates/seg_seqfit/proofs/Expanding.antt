@@ -11,7 +11,8 @@ use Rattle.seg_seqfit.specs.FreeBlocks.{AreFreeBlocks, AreBelow, AreAbove, link_
 use Rattle.seg_block.specs.Tiling.{tile, IsTiling, Retiles}
 use Rattle.seg_seqfit.specs.Retiling.{link_behind}
 use Rattle.seg_block.proofs.Neighbours.{IsBlock-tile}
-use Rattle.seg_seqfit.proofs.Freeing.{block, block_tiling, link_of_walk}
+use Rattle.seg_block.proofs.LiveBlocks.{block, block_tiling}
+use Rattle.seg_seqfit.proofs.Freeing.{link_of_walk}
 use Rattle.seg_seqfit.proofs.Sized.{IsResized, HasGap, gap_none, gap_found, resized_whole, resized_cut, resized_less, resized_not, resized_same, before, behind}
 use Rattle.seg_block.proofs.Heaps.{Keeps-same}
 

@@ -18,7 +18,7 @@ use Rattle.std.proofs.lemmas.Bool.{cases_lt}
 use Rattle.seg_block.proofs.LiveTiles.{live_within}
 use Rattle.std.proofs.lemmas.List.Elements.{Contains-append_cases}
 use Rattle.seg_block.proofs.Tiled.{around, aligned_end}
-use Rattle.seg_seqfit.proofs.Freeing.{without-other}
+use Rattle.seg_block.proofs.LiveBlocks.{without-other}
 use Rattle.seg_block.proofs.Heaps.{tiling_of_heap, heap_of_tiling, IsTiledHeap}
 
 -- ---- equal words

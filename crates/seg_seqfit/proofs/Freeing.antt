@@ -17,28 +17,7 @@ use Rattle.seg_block.proofs.Neighbours.{IsBlock-tile}
 use Rattle.seg_block.proofs.Tiled.{around}
 use Rattle.seg_seqfit.proofs.FreeTiles.{free_blocks}
 use Rattle.seg_block.proofs.Heaps.{tiling_of_heap, heap_of_tiling, IsTiledHeap, AreApart-live, Spares-trans, Spares-same}
-
--- the tiles around a live one
-pub record HasLive (ts : List Tile) (b : Span) : Type 0 where
-  pub xs : List Tile
-  pub ys : List Tile
-  pub parts : ts ≡ xs ++ tile b.at b.units true ∷ ys
-
-live_tile : (t : Tile) (b : Span) → t.live ≡ true → span_of t ≡ b → t ≡ tile b.at b.units true
-live_tile t b is e = λ i. record { at = (e i).at; units = (e i).units; live = is i }
-
-more_live : (t : Tile) (ts : List Tile) (b : Span) → HasLive ts b → HasLive (t ∷ ts) b
-more_live t ts b h = record { xs = t ∷ h.xs; ys = h.ys; parts = ap (λ l. t ∷ l) h.parts }
-
-pub has_live : (ts : List Tile) (b : Span) → Contains (live_of ts) b → HasLive ts b
-has_live [] b (n, k, e) = absurd (omega arith)
-has_live (t ∷ ts) b c =
-    let rest = λ (c : Contains (live_of ts) b). more_live t ts b (has_live ts b c) in
-    let go = elim t.live as (λ l. t.live ≡ l → Contains (cond l (span_of t ∷ live_of ts) (live_of ts)) b → HasLive (t ∷ ts) b) [
-      | true ↦ (λ is c. ⊎_elim (λ e. record { xs = []; ys = ts; parts = ap (λ x. x ∷ ts) (live_tile t b is e) }) (λ c. rest c) (cons_cases (span_of t) b (live_of ts) c))
-      | false ↦ (λ is c. rest c)
-    ] in
-    go refl c
+use Rattle.seg_block.proofs.LiveBlocks.{HasLive, block, block_tiling, block_behind, block_front, gives}
 
 -- ---- the free list around a live tile
 
@@ -179,20 +158,6 @@ all_live (t ∷ xs) live is e =
     never : span_of t ∷ free_of xs ≡ [] → ⊥
     never e = cc
 
-pub without-other : (at : ℕ) (xs ys : List Tile) (b : Span) (from to : ℕ) → b.at ≡ at → Fill from xs to → to ≤ at → without at (live_of xs ++ b ∷ live_of ys) ≡ live_of xs ++ live_of ys
-without-other at [] ys b from to is f le = rw (test_same b.at at is) refl
-  where
-    test_same : (m n : ℕ) → m ≡ n → eqb m n ≡ true
-    test_same m n e = grind (arith, nat_tests)
-without-other at (t ∷ xs) ys b from to is f le =
-    let rest = without-other at xs ys b (from + 16 * t.units) to is f.2 le in
-    let low = Fill-le xs (from + 16 * t.units) to f.2 in
-    elim t.live as (λ l. without at (cond l (span_of t ∷ live_of xs) (live_of xs) ++ b ∷ live_of ys) ≡ cond l (span_of t ∷ live_of xs) (live_of xs) ++ live_of ys)
-    [ true ↦ rw (test_other t.at at (omega (arith, f.0, f.1))) (ap (λ l. span_of t ∷ l) rest) | false ↦ rest ]
-  where
-    test_other : (m n : ℕ) → m < n → eqb m n ≡ false
-    test_other m n e = grind (arith, nat_tests)
-
 -- the last free tile, where there is one
 pub record HasLast (xs : List Tile) (link : ℕ) : Type 0 where
   pub front : List Tile
@@ -217,75 +182,39 @@ has_last (t ∷ xs) p =
     ] refl
 
 module _ (old : List ℕ) (at u : ℕ) (h : IsHeap 0 old) (held : Contains (live old) (record { at = at; units = u })) where
-  old_is : IsTiledHeap 0 old (tiles old)
-  old_is = heap_of_tiling old (tiles old) (tiling_of_heap old h) h.apart
-
-  pub block : HasLive (tiles old) (record { at = at; units = u })
-  block = has_live (tiles old) (record { at = at; units = u }) (subst (λ l. Contains l (record { at = at; units = u })) old_is.live_is held)
-
-  pub block_tiling : IsTiling 0 old (block.xs ++ tile at u true ∷ block.ys)
-  block_tiling = subst (λ l. IsTiling 0 old l) block.parts (tiling_of_heap old h)
-
-  pub block_apart : AreApart true (block.xs ++ tile at u true ∷ block.ys)
-  block_apart = subst (λ l. AreApart true l) block.parts h.apart
-
-  pub block_behind : AreApart true block.ys
-  block_behind = (AreApart-back block.xs (tile at u true ∷ block.ys) true block_apart).1
-
-  pub block_front : AreApart true block.xs
-  block_front = AreApart-front block.xs (tile at u true ∷ block.ys) true block_apart
-
-  left_live : live_of (block.xs ++ block.ys) ≡ without at (live old)
-  left_live =
-      let parts = around block.xs block.ys heap_start (length old) at u true block_tiling.tiled.filled in
-      live_of-append block.xs block.ys
-      ∙ sym (without-other at block.xs block.ys (record { at = at; units = u }) heap_start at refl parts.0 (omega arith))
-      ∙ ap (without at) (sym (old_is.live_is ∙ ap live_of block.parts ∙ live_of-append block.xs (tile at u true ∷ block.ys)))
-
-  pub gives : (new : List ℕ) (ts : List Tile) → IsTiling 0 new ts → AreApart true ts → live_of ts ≡ live_of (block.xs ++ block.ys) → Spares old new (block.xs ++ block.ys) → Gives 0 old new at
-  gives new ts tiling apart same spared =
-      let now = heap_of_tiling new ts tiling apart in
-      record {
-        heap = now.heap;
-        kept = record {
-          length_kept = spared.front_kept.length_kept;
-          front_kept = spared.front_kept;
-          back_kept = spared.back_kept;
-          blocks_kept = λ b c _ kept e. Agrees-within old new (c.at + 8) (end_of c) (b.at + 8) (b.at + 16 * min b.units c.units) (spared.tiles_kept c (subst (λ l. Contains l c) (now.live_is ∙ same) kept)) (omega arith) (omega arith);
-        };
-        given = now.live_is ∙ same ∙ left_live;
-      }
+  abbrev where_it_is : HasLive (tiles old) (record { at = at; units = u })
+  where_it_is = block old at u h held
 
   abbrev pub left : List Tile
-  left = block.xs ++ block.ys
+  left = where_it_is.xs ++ where_it_is.ys
 
   -- after the first join
-  module _ (released joined : List ℕ) (r : Retiles 0 old released block.xs (tile at u false ∷ []) block.ys) (j : JoinsBehind released joined block.xs at block.ys) where
+  module _ (released joined : List ℕ) (r : Retiles 0 old released where_it_is.xs (tile at u false ∷ []) where_it_is.ys) (j : JoinsBehind released joined where_it_is.xs at where_it_is.ys) where
     abbrev pub merged : List Tile
     merged = tile at j.units false ∷ j.rest
 
     first_spared : Spares old joined left
     first_spared = Spares-trans old released joined left r.spared j.spared
 
-    first_live : live_of (block.xs ++ merged) ≡ live_of left
-    first_live = live_of-append block.xs merged ∙ ap (λ l. live_of block.xs ++ l) j.live_is ∙ sym (live_of-append block.xs block.ys)
+    first_live : live_of (where_it_is.xs ++ merged) ≡ live_of left
+    first_live = live_of-append where_it_is.xs merged ∙ ap (λ l. live_of where_it_is.xs ++ l) j.live_is ∙ sym (live_of-append where_it_is.xs where_it_is.ys)
 
-    pub freed_alone : free_of block.xs ≡ [] → Gives 0 old joined at
+    pub freed_alone : free_of where_it_is.xs ≡ [] → Gives 0 old joined at
     freed_alone none =
-        gives joined (block.xs ++ merged) j.tiling (AreApart-append block.xs merged true block_front ((λ e. sym e ∙ all_live block.xs true refl none), j.apart)) first_live first_spared
+        gives old at u h held joined (where_it_is.xs ++ merged) j.tiling (AreApart-append where_it_is.xs merged true (block_front old at u h held) ((λ e. sym e ∙ all_live where_it_is.xs true refl none), j.apart)) first_live first_spared
 
-    module _ (link : ℕ) (l : HasLast block.xs link) where
+    module _ (link : ℕ) (l : HasLast where_it_is.xs link) where
       abbrev pub second : List Tile
       second = l.back ++ merged
 
-      parts_are : block.xs ++ merged ≡ l.front ++ tile l.at l.units false ∷ second
+      parts_are : where_it_is.xs ++ merged ≡ l.front ++ tile l.at l.units false ∷ second
       parts_are = ap (λ x. x ++ merged) l.parts ∙ append_assoc l.front (tile l.at l.units false ∷ l.back) merged
 
       pub second_tiling : IsTiling 0 joined (l.front ++ tile l.at l.units false ∷ second)
       second_tiling = subst (λ x. IsTiling 0 joined x) parts_are j.tiling
 
       front_apart : AreApart true (l.front ++ tile l.at l.units false ∷ l.back)
-      front_apart = subst (λ x. AreApart true x) l.parts block_front
+      front_apart = subst (λ x. AreApart true x) l.parts (block_front old at u h held)
 
       pub second_apart : AreApart true second
       second_apart =
@@ -296,7 +225,7 @@ module _ (old : List ℕ) (at u : ℕ) (h : IsHeap 0 old) (held : Contains (live
       freed_joined new k =
           let same : live_of (l.front ++ second) ≡ live_of left =
           live_of-append l.front second ∙ sym (live_of-append l.front (tile l.at l.units false ∷ second)) ∙ sym (ap live_of parts_are) ∙ first_live in
-          gives new (l.front ++ tile l.at k.units false ∷ k.rest) k.tiling
+          gives old at u h held new (l.front ++ tile l.at k.units false ∷ k.rest) k.tiling
           (AreApart-append l.front (tile l.at k.units false ∷ k.rest) true (AreApart-front l.front (tile l.at l.units false ∷ l.back) true front_apart)
           ((AreApart-back l.front (tile l.at l.units false ∷ l.back) true front_apart).0, k.apart))
           (live_of-append l.front (tile l.at k.units false ∷ k.rest) ∙ ap (λ x. live_of l.front ++ x) k.live_is ∙ sym (live_of-append l.front second) ∙ same)

@@ -16,7 +16,8 @@ use Rattle.seg_block.proofs.LiveTiles.{cons_cases, live_within}
 use Rattle.seg_block.proofs.Tiled.{around}
 use Rattle.seg_seqfit.proofs.Resizing.{put_front, put_front-append}
 use Rattle.seg_block.proofs.Neighbours.{IsBlock-tile}
-use Rattle.seg_seqfit.proofs.Freeing.{BeginsFree, begins_free, apart_behind, block, block_tiling, block_apart, block_behind, block_front}
+use Rattle.seg_block.proofs.LiveBlocks.{block, block_tiling, block_apart, block_behind, block_front}
+use Rattle.seg_seqfit.proofs.Freeing.{BeginsFree, begins_free, apart_behind}
 use Rattle.seg_block.proofs.Heaps.{Spares-trans, Spares-same, Keeps-same, heap_of_tiling, AreApart-live}
 
 test_same : (m n : ℕ) → m ≡ n → eqb m n ≡ true
