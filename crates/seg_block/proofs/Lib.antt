@@ -4,6 +4,7 @@ pub mod Tiled
 pub mod Neighbours
 pub mod Heaps
 pub mod LiveBlocks
+pub mod Resized
 pub mod Splitting
 pub mod Joining
 pub mod Ends

@@ -10,7 +10,7 @@ pub mod Freeing
 pub mod Extending
 pub mod Cutting
 pub mod Resizing
-pub mod Sized
+pub mod Behind
 pub mod Expanding
 pub mod Beginning
 pub mod Extents
