@@ -3,7 +3,10 @@ use Rattle.std.proofs.Common.{◌≡◌, ℕ, ◌+◌, ◌*◌, ◌<◌, ◌≤�
 use Rattle.std.specs.Prelude.{Contains}
 use Rattle.std.proofs.lemmas.Bool.Decides.{nat_tests}
 use Rattle.seg_spec.specs.Heap.{Span, Tile, span_of, end_of, Fill, AreHeaders, AreApart, HoldsGaps, live_of, free_of, gaps_between, heap_start, tiles, live, gaps, IsHeap, with_block, Keeps}
-use Rattle.seg_spec.proofs.BytesLaws.{Agrees-same, Agrees-trans}
+use Rattle.seg_spec.specs.Bytes.{Agrees}
+use Rattle.seg_spec.specs.Pointer.{target}
+use Rattle.seg_spec.proofs.BytesLaws.{number-agrees, Agrees-same, Agrees-trans}
+use Rattle.seg_spec.proofs.PointerLaws.{target-same}
 use Rattle.seg_spec.proofs.TileLaws.{Fill-le, tiles-unique, gaps_between-live_of}
 use Rattle.seg_block.specs.Tiling.{IsTiling, Spares}
 
@@ -101,3 +104,7 @@ Spares-same a b ts us e s = record {
   back_kept = s.back_kept;
   tiles_kept = λ x h. s.tiles_kept x (subst (λ l. Contains l x) e h);
 }
+
+-- the pointers in bytes that are kept
+pub target-agrees : (old new : List ℕ) (from to at : ℕ) → Agrees old new from to → from ≤ at → at + 4 ≤ to → target new at ≡ target old at
+target-agrees old new from to at same low high = target-same old new at (number-agrees old new from to 4 at same low high)

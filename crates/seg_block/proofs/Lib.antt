@@ -5,6 +5,7 @@ pub mod Neighbours
 pub mod Heaps
 pub mod LiveBlocks
 pub mod Resized
+pub mod Taken
 pub mod Splitting
 pub mod Joining
 pub mod Ends
