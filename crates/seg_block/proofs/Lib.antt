@@ -2,6 +2,10 @@ pub mod SizeLaws
 pub mod LiveTiles
 pub mod Tiled
 pub mod Neighbours
+pub mod Heaps
+pub mod LiveBlocks
+pub mod Resized
+pub mod Taken
 pub mod Splitting
 pub mod Joining
 pub mod Ends

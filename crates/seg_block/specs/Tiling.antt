@@ -1,7 +1,7 @@
 -- The tiles of a heap, whatever holds the free ones. Free tiles may be neighbours.
-use Rattle.std.specs.Prelude.{◌≡◌, ℕ, ◌+◌, ◌≤◌, ◌^◌, Bool, List, ◌++◌, length, Contains}
+use Rattle.std.specs.Prelude.{ℕ, ◌+◌, ◌≤◌, ◌^◌, Bool, List, ◌++◌, length, Contains}
 use Rattle.seg_spec.specs.Bytes.{Agrees}
-use Rattle.seg_spec.specs.Heap.{Span, Tile, end_of, Fill, AreHeaders, live_of, heap_start}
+use Rattle.seg_spec.specs.Heap.{Span, Tile, end_of, Fill, AreHeaders, HoldsGaps, live_of, free_of, heap_start}
 
 abbrev pub tile : ℕ → ℕ → Bool → Tile
 tile at units live = record { at = at; units = units; live = live }
@@ -23,3 +23,13 @@ pub record Replaces (old new : List ℕ) (xs ns ys : List Tile) (at n : ℕ) : T
   pub tiled : IsTiled new (xs ++ (ns ++ ys))
   pub spared : Spares old new (xs ++ ys)
   pub own_kept : Agrees old new (at + 8) (at + n)
+
+-- these tiles fill the heap with their headers, and the allocator's free structure holds the free ones
+pub record IsTiling (allocator : ℕ) (bytes : List ℕ) (ts : List Tile) : Type 0 where
+  pub tiled : IsTiled bytes ts
+  pub free : HoldsGaps allocator bytes (free_of ts)
+
+-- between the tiles xs and ys there are now the tiles ns, and the free structure holds the free ones
+pub record Retiles (allocator : ℕ) (old new : List ℕ) (xs ns ys : List Tile) : Type 0 where
+  pub tiling : IsTiling allocator new (xs ++ (ns ++ ys))
+  pub spared : Spares old new (xs ++ ys)

@@ -6,10 +6,9 @@ use Rattle.seg_spec.specs.Heap.{units_before, tag_at, heap_start, Begins}
 use Rattle.seg_spec.proofs.BytesLaws.{number-set_same, number-set_other, length-set_number, Agrees-trans, Agrees-set_number}
 use Rattle.seg_spec.proofs.PointerLaws.{target-set_same, target-same}
 use Rattle.seg_block.specs.Sizes.{size_word, set_size}
-use Rattle.seg_block.specs.Tiling.{tile}
-use Rattle.seg_seqfit.specs.Retiling.{IsTiling}
+use Rattle.seg_block.specs.Tiling.{tile, IsTiling}
 use Rattle.seg_block.proofs.SizeLaws.{IsHeader-set_size, Agrees-set_size, length-set_size}
-use Rattle.seg_seqfit.proofs.Heaps.{heap_of_tiling}
+use Rattle.seg_block.proofs.Heaps.{heap_of_tiling}
 
 module _ (old : List ℕ) (u : ℕ) (small : length old ≤ 2 ^ 30) (whole : 704 + 16 * u ≡ length old) (large : 2 ≤ u) where
   abbrev first : List ℕ
@@ -43,7 +42,7 @@ module _ (old : List ℕ) (u : ℕ) (small : length old ≤ 2 ^ 30) (whole : 704
       number-set_other 4 4 linked 24 (distance 24 (Some 720)) 712 (inr (omega arith)) ∙ number-set_other 4 4 tagged 716 (distance 716 None) 712 (inl (omega arith))
       ∙ number-set_same 4 first 712 0 (omega (arith, length-set_number 4 old 708 0)) (omega arith)
 
-  tiling : IsTiling begun (tile 704 u false ∷ [])
+  tiling : IsTiling 0 begun (tile 704 u false ∷ [])
   tiling =
       let long = length-headed in
       let longer = length-linked in
@@ -54,7 +53,7 @@ module _ (old : List ℕ) (u : ℕ) (small : length old ≤ 2 ^ 30) (whole : 704
           filled = (refl, large, omega arith);
           headers = (IsHeader-set_size headed 704 u 0 false large (omega arith) (omega arith) before_is (λ _. tag_is), tt);
         };
-        links = (
+        free = (
           target-same headed begun 24 (number-set_other 4 4 (set_word headed 704 (size_word u false)) (704 + 16 * u + 4) u 24 (inl (omega arith)) ∙ number-set_other 4 4 headed 704 (size_word u false) 24 (inl (omega arith)))
               ∙ target-set_same linked 24 (Some 720) (omega arith) (omega arith) (λ t e. let is : 720 ≡ t = some_same e in (omega arith, λ k. absurd (omega arith))),
           target-same linked begun 716 (number-set_other 4 4 (set_word headed 704 (size_word u false)) (704 + 16 * u + 4) u 716 (inl (omega arith)) ∙ number-set_other 4 4 headed 704 (size_word u false) 716 (inr (omega arith)) ∙ number-set_other 4 4 linked 24 (distance 24 (Some 720)) 716 (inr (omega arith)))

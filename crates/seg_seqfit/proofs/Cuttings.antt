@@ -12,16 +12,17 @@ use Rattle.seg_block.proofs.SizeLaws.{IsHeader-set_size, Agrees-set_size, length
 use Rattle.seg_spec.proofs.TileLaws.{Fill-le, AreHeaders-front, AreHeaders-back, AreApart-front, live_of-append, free_of-append}
 use Rattle.seg_spec.proofs.HeaderLaws.{AreHeaders-set_link}
 use Rattle.seg_block.specs.Sizes.{size_word, set_size}
-use Rattle.seg_block.specs.Tiling.{tile}
-use Rattle.seg_seqfit.specs.Retiling.{link_behind, IsTiling}
+use Rattle.seg_block.specs.Tiling.{tile, IsTiling}
+use Rattle.seg_seqfit.specs.Retiling.{link_behind}
 use Rattle.seg_block.specs.Blocks.{HasEnd}
 use Rattle.seg_seqfit.specs.FreeBlocks.{AreFreeBlocks, AreBelow, AreAbove, link_after}
 use Rattle.seg_seqfit.proofs.LinkLaws.{Links-changed, link_behind-low, link_behind-off, link_behind-cases, live_beside_link}
 use Rattle.seg_block.proofs.LiveTiles.{live_within}
 use Rattle.seg_block.proofs.Tiled.{around, aligned_end}
-use Rattle.seg_seqfit.proofs.Heaps.{tiling_of_heap, heap_of_tiling, IsTiledHeap, free_blocks}
+use Rattle.seg_seqfit.proofs.FreeTiles.{free_blocks}
 use Rattle.seg_seqfit.proofs.Freeing.{link_after-free_of}
 use Rattle.seg_seqfit.proofs.Extents.{AreHeaders-words, Links-words}
+use Rattle.seg_block.proofs.Heaps.{tiling_of_heap, heap_of_tiling, IsTiledHeap}
 
 test_same : (m n : ℕ) → m ≡ n → eqb m n ≡ true
 test_same m n e = grind (arith, nat_tests)
@@ -48,7 +49,7 @@ fill_room (t ∷ xs) from to f h = let le = Fill-le xs (from + 16 * t.units) to 
 prefix_word : (bytes : List ℕ) (n q : ℕ) → q + 4 ≤ length bytes - 16 * n → word (without_last bytes n) q ≡ word bytes q
 prefix_word bytes n q high = number-part 4 bytes 0 (length bytes - 16 * n) q (omega arith) high ∙ ap (λ p. word bytes p) (zero-add q)
 
-prefix_tiling : (bytes : List ℕ) (n : ℕ) (ts : List Tile) → length bytes ≤ 2 ^ 30 → 736 ≤ length bytes - 16 * n → Fill heap_start ts (length bytes - 16 * n) → AreHeaders bytes 0 ts → Links bytes 24 (free_of ts) None → IsTiling (without_last bytes n) ts
+prefix_tiling : (bytes : List ℕ) (n : ℕ) (ts : List Tile) → length bytes ≤ 2 ^ 30 → 736 ≤ length bytes - 16 * n → Fill heap_start ts (length bytes - 16 * n) → AreHeaders bytes 0 ts → Links bytes 24 (free_of ts) None → IsTiling 0 (without_last bytes n) ts
 prefix_tiling bytes n ts small large filled headers links =
     let end = length bytes - 16 * n in
     let long : length (without_last bytes n) ≡ end = length-take-le end bytes (omega arith) in
@@ -58,17 +59,17 @@ prefix_tiling bytes n ts small large filled headers links =
         filled = subst (λ e. Fill heap_start ts e) (sym long) filled;
         headers = AreHeaders-words bytes (without_last bytes n) ts heap_start end 0 (λ q low high. prefix_word bytes n q high) filled headers;
       };
-      links = Links-words bytes (without_last bytes n) ts 24 heap_start end None (prefix_word bytes n 24 (omega arith)) (λ q low high even. prefix_word bytes n q high) refl filled links;
+      free = Links-words bytes (without_last bytes n) ts 24 heap_start end None (prefix_word bytes n 24 (omega arith)) (λ q low high even. prefix_word bytes n q high) refl filled links;
     }
 
 module _ (old : List ℕ) (large : 736 ≤ length old) (h : IsHeap 0 old) (xs : List Tile) (at u : ℕ) (l : Bool) (parts : tiles old ≡ xs ++ tile at u l ∷ []) where
-  was : IsTiling old (xs ++ tile at u l ∷ [])
-  was = subst (λ ts. IsTiling old ts) parts (tiling_of_heap old h)
+  was : IsTiling 0 old (xs ++ tile at u l ∷ [])
+  was = subst (λ ts. IsTiling 0 old ts) parts (tiling_of_heap old h)
 
   apart : AreApart true (xs ++ tile at u l ∷ [])
   apart = subst (λ ts. AreApart true ts) parts h.apart
 
-  old_is : IsTiledHeap old (xs ++ tile at u l ∷ [])
+  old_is : IsTiledHeap 0 old (xs ++ tile at u l ∷ [])
   old_is = heap_of_tiling old (xs ++ tile at u l ∷ []) was apart
 
   places : (Fill heap_start xs at) × (2 ≤ u) × (at + 16 * u ≡ length old)
@@ -123,7 +124,7 @@ module _ (old : List ℕ) (large : 736 ≤ length old) (h : IsHeap 0 old) (xs : 
       let none : units_to_cut (gaps old) (length old) ≡ 0 = ap (λ gs. units_to_cut gs (length old)) (old_gaps ∙ ap (λ c. free_of xs ++ free_of (tile at u c ∷ [])) is) ∙ cut-front xs [] heap_start at (length old) places.0 (let p = last_place in omega arith) in
       cut_to new 0 (xs ++ tile at u l ∷ []) (length-set_number 4 old 12 m) (omega arith) (subst (λ e. Fill heap_start (xs ++ tile at u l ∷ []) e) (omega arith) was.tiled.filled)
       (AreHeaders-words old new (xs ++ tile at u l ∷ []) heap_start (length old) 0 (λ q low high. word_size m q (omega arith)) was.tiled.filled was.tiled.headers)
-      (Links-words old new (xs ++ tile at u l ∷ []) 24 heap_start (length old) None (word_size m 24 (omega arith)) (λ q low high even. word_size m q (omega arith)) refl was.tiled.filled was.links)
+      (Links-words old new (xs ++ tile at u l ∷ []) 24 heap_start (length old) None (word_size m 24 (omega arith)) (λ q low high even. word_size m q (omega arith)) refl was.tiled.filled was.free)
       apart refl (sym none) (number-set_same 4 old 12 m (omega arith) (let k = was.tiled.small in omega arith) ∙ ap (λ x. x / 16) whole) (agrees_size m 0 12 (inl (omega arith))) (agrees_size m 16 24 (inr (omega arith))) (agrees_size m 28 heap_start (inr (omega arith)))
       (λ b c. agrees_size m (b.at + 8) (end_of b) (inr (let w = block_low b c in omega arith)))
 
@@ -169,7 +170,7 @@ module _ (old : List ℕ) (large : 736 ≤ length old) (h : IsHeap 0 old) (xs : 
           cut_to cut_off u xs long (omega arith) (subst (λ e. Fill heap_start xs e) end places.0)
           (AreHeaders-set_link (with_size m) xs heap_start at 0 link (distance link None) refl off places.0 heads)
           (subst (λ ts. Links cut_off 24 (free_of ts) None) (append-nil xs)
-          (Links-changed old cut_off xs (tile at u l ∷ []) [] 24 heap_start at None None (omega arith) places.0 (agrees_cut 24 (link_behind 24 xs) (inr (omega arith)) (inl (omega arith))) was.links (subst (λ x. target cut_off x ≡ None) link_is named)))
+          (Links-changed old cut_off xs (tile at u l ∷ []) [] 24 heap_start at None None (omega arith) places.0 (agrees_cut 24 (link_behind 24 xs) (inr (omega arith)) (inl (omega arith))) was.free (subst (λ x. target cut_off x ≡ None) link_is named)))
           (AreApart-front xs (tile at u l ∷ []) true apart) free_places
           (sym (gap_units ∙ ap (λ b. cond b (u - 2) u) (test_other at heap_start (λ e. absurd (omega arith)))))
           (number-set_other 4 4 (with_size m) link (distance link None) 12 (inl (omega arith)) ∙ number-set_same 4 old 12 m (omega arith) (omega arith) ∙ ap (λ x. x / 16) end)
@@ -193,8 +194,8 @@ module _ (old : List ℕ) (large : 736 ≤ length old) (h : IsHeap 0 old) (xs : 
           nothing [] from to f h = refl
           nothing (t ∷ xs) from to f h = let le = Fill-le xs (from + 16 * t.units) to f.2 in absurd (omega (arith, f.1))
 
-      whole_was : IsTiling old (tile 704 u false ∷ [])
-      whole_was = subst (λ ts. IsTiling old ts) (λ i. first.0 i ++ tile (first.1 i) u (is_free i) ∷ []) was
+      whole_was : IsTiling 0 old (tile 704 u false ∷ [])
+      whole_was = subst (λ ts. IsTiling 0 old ts) (λ i. first.0 i ++ tile (first.1 i) u (is_free i) ∷ []) was
 
       agrees_down : (from to : ℕ) → (to ≤ 12) ⊎ (16 ≤ from) → to ≤ 704 → Agrees old cut_down from to
       agrees_down from to out low = Agrees-trans old (with_size 46) cut_down from to (agrees_size 46 from to out) (Agrees-set_size (with_size 46) 704 2 false from to (inl low) (inl (omega arith)))
@@ -211,7 +212,7 @@ module _ (old : List ℕ) (large : 736 ≤ length old) (h : IsHeap 0 old) (xs : 
           let long = length-set_size (with_size 46) 704 2 false ∙ size_long in
           let end : 736 ≡ length old - 16 * (u - 2) = omega arith in
           let head = whole_was.tiled.headers.0 in
-          let links = whole_was.links in
+          let links = whole_was.free in
           cut_to cut_down (u - 2) (tile 704 2 false ∷ []) long (omega arith) (refl, omega arith, end)
           (IsHeader-set_size (with_size 46) 704 2 0 false (omega arith) (omega arith) (let k = was.tiled.small in omega arith) (word_size 46 708 (omega arith) ∙ head.before_is) (λ e. word_size 46 712 (omega arith) ∙ head.tag_is refl), tt)
           (target-same old cut_down 24 (down_word 24 (omega arith) (inl (omega arith))) ∙ links.0, target-same old cut_down 716 (down_word 716 (omega arith) (inr (omega arith, omega arith))) ∙ links.1)
@@ -260,10 +261,10 @@ module _ (old : List ℕ) (len : ℕ) (large : 736 ≤ length old) (h : IsHeap 0
     cuts_gap new link free above walk new_is =
         let e = the_end in
         let is_free = sym flag ∙ free in
-        let t : IsTiling old (e.front ++ tile at u false ∷ []) = subst (λ ts. IsTiling old ts) (e.parts ∙ ap (λ l. e.front ++ tile at u l ∷ []) is_free) (tiling_of_heap old h) in
+        let t : IsTiling 0 old (e.front ++ tile at u false ∷ []) = subst (λ ts. IsTiling 0 old ts) (e.parts ∙ ap (λ l. e.front ++ tile at u l ∷ []) is_free) (tiling_of_heap old h) in
         let p = around e.front [] heap_start (length old) at u false t.tiled.filled in
         let split = free_of-append e.front (tile at u false ∷ []) in
         let link_is : link ≡ link_behind 24 e.front =
-        walk (free_of e.front) (record { at = at; units = u } ∷ []) (subst (λ gs. Links old 24 gs None) split t.links) (subst (λ gs. AreFreeBlocks old 704 gs) split (free_blocks old (e.front ++ tile at u false ∷ []) t))
+        walk (free_of e.front) (record { at = at; units = u } ∷ []) (subst (λ gs. Links old 24 gs None) split t.free) (subst (λ gs. AreFreeBlocks old 704 gs) split (free_blocks old (e.front ++ tile at u false ∷ []) t))
         (below_less e.front heap_start at (at - 1) p.0 (omega arith)) (omega arith, tt) ∙ link_after-free_of e.front 24 in
         subst (λ b. Cuts 0 old b u) (sym new_is) (cut_gap old large h e.front at u e.live e.parts is_free link link_is above)

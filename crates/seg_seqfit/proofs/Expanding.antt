@@ -8,76 +8,14 @@ use Rattle.seg_spec.specs.Pointer.{target}
 use Rattle.seg_spec.specs.Heap.{Span, Tile, Links, live, gaps, IsHeap, granted, room_at, expanded, shrunk, Expands, Shrinks}
 use Rattle.seg_block.specs.Blocks.{IsBlock}
 use Rattle.seg_seqfit.specs.FreeBlocks.{AreFreeBlocks, AreBelow, AreAbove, link_after}
-use Rattle.seg_block.specs.Tiling.{tile}
-use Rattle.seg_seqfit.specs.Retiling.{link_behind, IsTiling, Retiles}
-use Rattle.seg_seqfit.proofs.Allocating.{Keeps-same}
+use Rattle.seg_block.specs.Tiling.{tile, IsTiling, Retiles}
+use Rattle.seg_seqfit.specs.Retiling.{link_behind}
 use Rattle.seg_block.proofs.Neighbours.{IsBlock-tile}
-use Rattle.seg_seqfit.proofs.Freeing.{block, block_tiling, link_of_walk}
-use Rattle.seg_seqfit.proofs.Sized.{IsResized, HasGap, gap_none, gap_found, resized_whole, resized_cut, resized_less, resized_not, resized_same, before, behind}
-
-leb_no : (a b : ℕ) → b < a → leb a b ≡ false
-leb_no a b h = grind (arith, nat_tests)
-
-ltb_yes : (a b : ℕ) → a < b → ltb a b ≡ true
-ltb_yes a b h = grind (arith, nat_tests)
-
-granted_all : (n u : ℕ) → u ≤ n → n < u + 2 → granted n u ≡ n
-granted_all n u low high = grind (arith, nat_tests)
-
-granted_part : (n u : ℕ) → u + 2 ≤ n → granted n u ≡ u
-granted_part n u h = grind (arith, nat_tests)
-
-expanded_same : (x room u : ℕ) → u ≤ x → expanded x room u ≡ Some x
-expanded_same x room u h = rw (le-leb u x h) refl
-
-expanded_none : (x room u : ℕ) → x + room < u → expanded x room u ≡ None
-expanded_none x room u h = rw (leb_no u x (omega arith), leb_no u (x + room) h) refl
-
-expanded_more : (x room u : ℕ) → x < u → u ≤ x + room → expanded x room u ≡ Some (granted (x + room) u)
-expanded_more x room u low high = rw (leb_no u x low, le-leb u (x + room) high) refl
-
-shrunk_cut : (x u : ℕ) → u + 2 ≤ x → shrunk x 0 u ≡ u
-shrunk_cut x u h = rw (le-leb (u + 2) x h) refl
-
-shrunk_not : (x u : ℕ) → x < u + 2 → shrunk x 0 u ≡ x
-shrunk_not x u h = rw (leb_no (u + 2) x h) refl
-
-shrunk_room : (x room u : ℕ) → 0 < room → shrunk x room u ≡ u
-shrunk_room x room u h = ⊎_elim (λ k. rw (leb_no (u + 2) x k, ltb_yes 0 room h) refl) (λ k. rw (le-leb (u + 2) x k) refl) (cases_lt x (u + 2))
-
--- ---- at the block that was read
-
-module _ (old : List ℕ) (at u need : ℕ) (h : IsHeap 0 old) (held : Contains (live old) (record { at = at; units = u })) where
-  expands_enough : need ≤ u → Expands 0 old old at u need true
-  expands_enough enough = record {
-    heap = h;
-    kept = Keeps-same old;
-    unchanged = λ _. refl;
-    expands = rw (expanded_same u (room_at (gaps old) (at + 16 * u)) need enough) (refl, sym (resized_same old at u h held));
-  }
-
-  expands_short : (room : ℕ) → room_at (gaps old) (at + 16 * u) ≡ room → u + room < need → Expands 0 old old at u need false
-  expands_short room room_is short = record {
-    heap = h;
-    kept = Keeps-same old;
-    unchanged = λ _. refl;
-    expands = rw (room_is, expanded_none u room need short) (refl, refl);
-  }
-
-  expands_done : (new : List ℕ) (v n : ℕ) → room_at (gaps old) (at + 16 * u) ≡ v → u < need → need ≤ u + v → granted (u + v) need ≡ n → IsResized old new at n → Expands 0 old new at u need true
-  expands_done new v n room_is low enough n_is r = record {
-    heap = r.heap;
-    kept = r.kept;
-    unchanged = λ k. absurd (omega arith);
-    expands = rw (room_is, expanded_more u v need low enough, n_is) (refl, r.live_is);
-  }
-
-  shrinks_to : (new : List ℕ) (n : ℕ) → shrunk u (room_at (gaps old) (at + 16 * u)) need ≡ n → IsResized old new at n → Shrinks 0 old new at u need
-  shrinks_to new n n_is r = record {
-    heap = r.heap;
-    kept = r.kept;
-    shrinks = rw n_is r.live_is;
-  }
+use Rattle.seg_block.proofs.LiveBlocks.{block, block_tiling}
+use Rattle.seg_seqfit.proofs.Freeing.{link_of_walk}
+use Rattle.seg_block.proofs.Resized.{IsResized, HasGap, granted_all, granted_part, shrunk_cut, shrunk_not, shrunk_room, expands_enough, expands_short, expands_done, shrinks_to, resized_whole, resized_cut, resized_less, resized_not, before, behind}
+use Rattle.seg_seqfit.proofs.Behind.{unnamed, gap_behind}
+use Rattle.seg_block.proofs.Heaps.{Keeps-same}
 
 -- ---- at the block that was named
 
@@ -110,14 +48,14 @@ module _ (old : List ℕ) (named x at u : ℕ) (h : IsHeap 0 old) (held : Contai
     link_is = link_of_walk old (before old at u h here) (behind old at u h here) at u link (block_tiling old at u h here) walk
 
     pub expand_no_gap : (need : ℕ) → u < need → ((g : Span) → target old link ≡ Some (at + 16 * u + 16) → g.at ≡ at + 16 * u → IsBlock old g → ⊥) → Expands 0 old old named x need false
-    expand_no_gap need short none = back_expands old need false (expands_short old at u need h here 0 (gap_none old at u h here link link_is none).1 (omega arith))
+    expand_no_gap need short none = back_expands old need false (expands_short old at u need h here 0 (unnamed old at u h here link link_is none).1 (omega arith))
 
     pub shrink_no_gap : (new : List ℕ) (need : ℕ) → ((g : Span) → target old link ≡ Some (at + 16 * u + 16) → g.at ≡ at + 16 * u → IsBlock old g → ⊥)
         → (u < need + 2 → new ≡ old)
-        → (need + 2 ≤ u → (xs ys : List Tile) → link ≡ link_behind 24 xs → IsTiling old (xs ++ tile at u true ∷ ys) → Retiles old new xs (tile at need true ∷ tile (at + 16 * need) (u - need) false ∷ []) ys × Agrees old new (at + 8) (at + 16 * need))
+        → (need + 2 ≤ u → (xs ys : List Tile) → link ≡ link_behind 24 xs → IsTiling 0 old (xs ++ tile at u true ∷ ys) → Retiles 0 old new xs (tile at need true ∷ tile (at + 16 * need) (u - need) false ∷ []) ys × Agrees old new (at + 8) (at + 16 * need))
         → Shrinks 0 old new named x need
     shrink_no_gap new need none whole cut =
-        let gap = gap_none old at u h here link link_is none in
+        let gap = unnamed old at u h here link link_is none in
         back_shrinks new need
         (⊎_elim
         (λ less. subst (λ b. Shrinks 0 old b at u need) (sym (whole less)) (shrinks_to old at u need h here old u (ap (λ r. shrunk u r need) gap.1 ∙ shrunk_not u need less) (resized_not old at u h here)))
@@ -127,19 +65,19 @@ module _ (old : List ℕ) (named x at u : ℕ) (h : IsHeap 0 old) (held : Contai
 
     module _ (v : ℕ) (named_gap : target old link ≡ Some (at + 16 * u + 16)) (gap_read : (g : Span) → target old link ≡ Some (at + 16 * u + 16) → g.at ≡ at + 16 * u → IsBlock old g → v ≡ g.units) where
       gap : HasGap old at u h here v
-      gap = gap_found old at u h here link v link_is named_gap gap_read
+      gap = gap_behind old at u h here link v link_is named_gap gap_read
 
       pub expand_short : (need : ℕ) → u + v < need → Expands 0 old old named x need false
       expand_short need short = back_expands old need false (expands_short old at u need h here v gap.room short)
 
       module _ (mid new : List ℕ) (need : ℕ)
-          (absorb : (xs ys : List Tile) → link ≡ link_behind 24 xs → IsTiling old (xs ++ (tile at u true ∷ tile (at + 16 * u) v false ∷ ys)) → Retiles old mid xs (tile at (u + v) true ∷ []) ys × Agrees old mid (at + 8) (at + 16 * u))
+          (absorb : (xs ys : List Tile) → link ≡ link_behind 24 xs → IsTiling 0 old (xs ++ (tile at u true ∷ tile (at + 16 * u) v false ∷ ys)) → Retiles 0 old mid xs (tile at (u + v) true ∷ []) ys × Agrees old mid (at + 8) (at + 16 * u))
           (whole : u + v < need + 2 → new ≡ mid)
-          (cut : need + 2 ≤ u + v → (xs ys : List Tile) → link ≡ link_behind 24 xs → IsTiling mid (xs ++ tile at (u + v) true ∷ ys) → Retiles mid new xs (tile at need true ∷ tile (at + 16 * need) (u + v - need) false ∷ []) ys × Agrees mid new (at + 8) (at + 16 * need)) where
-        absorbed : Retiles old mid (before old at u h here) (tile at (u + v) true ∷ []) gap.rest × Agrees old mid (at + 8) (at + 16 * u)
+          (cut : need + 2 ≤ u + v → (xs ys : List Tile) → link ≡ link_behind 24 xs → IsTiling 0 mid (xs ++ tile at (u + v) true ∷ ys) → Retiles 0 mid new xs (tile at need true ∷ tile (at + 16 * need) (u + v - need) false ∷ []) ys × Agrees mid new (at + 8) (at + 16 * need)) where
+        absorbed : Retiles 0 old mid (before old at u h here) (tile at (u + v) true ∷ []) gap.rest × Agrees old mid (at + 8) (at + 16 * u)
         absorbed = absorb (before old at u h here) gap.rest link_is gap.tiling
 
-        resized_to_cut : need + 2 ≤ u + v → IsResized old new at need
+        resized_to_cut : need + 2 ≤ u + v → IsResized 0 old new at need
         resized_to_cut more = resized_cut old at u h here mid new v need gap absorbed (cut more (before old at u h here) gap.rest link_is absorbed.0.tiling)
 
         pub expand_done : u < need → need ≤ u + v → Expands 0 old new named x need true

@@ -11,16 +11,15 @@ use Rattle.seg_spec.proofs.PointerLaws.{target-same}
 use Rattle.seg_spec.proofs.TileLaws.{Fill-le, Fill-append, AreHeaders-front, AreHeaders-back, AreApart-append, AreApart-front, AreApart-back, units_after, live_of-append, free_of-append}
 use Rattle.seg_spec.proofs.HeaderLaws.{IsHeader-same}
 use Rattle.seg_block.specs.Sizes.{size_word, set_size}
-use Rattle.seg_block.specs.Tiling.{tile}
-use Rattle.seg_seqfit.specs.Retiling.{IsTiling}
+use Rattle.seg_block.specs.Tiling.{tile, IsTiling}
 use Rattle.seg_block.specs.Blocks.{HasEnd}
 use Rattle.seg_block.proofs.SizeLaws.{set_size-headers, Agrees-set_size, length-set_size}
 use Rattle.std.proofs.lemmas.Bool.{cases_lt}
 use Rattle.seg_block.proofs.LiveTiles.{live_within}
 use Rattle.std.proofs.lemmas.List.Elements.{Contains-append_cases}
 use Rattle.seg_block.proofs.Tiled.{around, aligned_end}
-use Rattle.seg_seqfit.proofs.Freeing.{without-other}
-use Rattle.seg_seqfit.proofs.Heaps.{tiling_of_heap, heap_of_tiling, IsTiledHeap}
+use Rattle.seg_block.proofs.LiveBlocks.{without-other}
+use Rattle.seg_block.proofs.Heaps.{tiling_of_heap, heap_of_tiling, IsTiledHeap}
 
 -- ---- equal words
 
@@ -98,7 +97,7 @@ module _ (old : List ℕ) (n : ℕ) (small : length old ≤ 2 ^ 30) (room : 736 
   length-sized : length sized ≡ length old
   length-sized = length-set_number 4 old 12 units
 
-  was : IsTiling front (tiles front)
+  was : IsTiling 0 front (tiles front)
   was = tiling_of_heap front h
 
   pub filled : Fill heap_start (tiles front) end
@@ -114,7 +113,7 @@ module _ (old : List ℕ) (n : ℕ) (small : length old ≤ 2 ^ 30) (room : 736 
   headers = AreHeaders-words front sized (tiles front) heap_start end 0 (λ q low high. sized_word q (omega arith) high) filled was.tiled.headers
 
   links : Links sized 24 (free_of (tiles front)) None
-  links = Links-words front sized (tiles front) 24 heap_start end None (sized_word 24 (omega arith) (omega arith)) (λ q low high even. sized_word q (omega arith) high) refl filled was.links
+  links = Links-words front sized (tiles front) 24 heap_start end None (sized_word 24 (omega arith) (omega arith)) (λ q low high even. sized_word q (omega arith) high) refl filled was.free
 
   live_was : live front ≡ live_of (tiles front)
   live_was = (heap_of_tiling front (tiles front) was h.apart).live_is
@@ -134,7 +133,7 @@ module _ (old : List ℕ) (n : ℕ) (small : length old ≤ 2 ^ 30) (room : 736 
   extends_zero none =
       let longer = length-sized in
       let same : end ≡ length sized = omega arith in
-      let tiling : IsTiling sized (tiles front) = record { tiled = record { small = omega arith; filled = subst (λ e. Fill heap_start (tiles front) e) same filled; headers = headers }; links = links } in
+      let tiling : IsTiling 0 sized (tiles front) = record { tiled = record { small = omega arith; filled = subst (λ e. Fill heap_start (tiles front) e) same filled; headers = headers }; free = links } in
       let now = heap_of_tiling sized (tiles front) tiling h.apart in
       record {
         heap = now.heap;
@@ -197,13 +196,13 @@ module _ (old : List ℕ) (n : ℕ) (small : length old ≤ 2 ^ 30) (room : 736 
         let low = Fill-le xs heap_start at places.0 in
         let last = AreHeaders-back sized xs (tile at u l ∷ []) 0 last_headers in
         let filled' : Fill heap_start (xs ++ tile at (u + 1) l ∷ []) (length grown) = Fill-append xs (tile at (u + 1) l ∷ []) heap_start at (length grown) places.0 (refl, omega (arith, places.1), omega arith) in
-        let tiling : IsTiling grown (xs ++ tile at (u + 1) l ∷ []) = record {
+        let tiling : IsTiling 0 grown (xs ++ tile at (u + 1) l ∷ []) = record {
           tiled = record {
             small = omega arith;
             filled = filled';
             headers = set_size-headers sized xs [] at (u + 1) 0 l (omega arith) places.0 (omega (arith, places.1)) (omega arith) (AreHeaders-front sized xs (tile at u l ∷ []) 0 last_headers) tt last.0.before_is last.0.tag_is;
           };
-          links = Links-resized grown xs 24 at u (u + 1) l None
+          free = Links-resized grown xs 24 at u (u + 1) l None
               (Links-words sized grown (xs ++ tile at u l ∷ []) 24 heap_start end None (beside 24 (inl (omega arith)) (omega arith)) (λ q low high even. beside q (link_beside q even) high) refl ended last_links);
         } in
         let apart : AreApart true (xs ++ tile at (u + 1) l ∷ []) = AreApart-append xs (tile at (u + 1) l ∷ []) true (AreApart-front xs (tile at u l ∷ []) true last_apart) (AreApart-back xs (tile at u l ∷ []) true last_apart) in
@@ -252,7 +251,7 @@ module _ (old : List ℕ) (n : ℕ) (small : length old ≤ 2 ^ 30) (room : 736 
         let p = around xs [] heap_start end at u l (subst (λ ts. Fill heap_start ts end) parts filled) in
         let e = p.2 in omega arith
 
-    added_tiling : IsTiling added (tiles front ++ tile end n true ∷ [])
+    added_tiling : IsTiling 0 added (tiles front ++ tile end n true ∷ [])
     added_tiling =
         let longer = length-added in
         let short = length-repeated in
@@ -267,14 +266,14 @@ module _ (old : List ℕ) (n : ℕ) (small : length old ≤ 2 ^ 30) (room : 736 
                 (AreHeaders-words sized repeated (tiles front) heap_start end 0 (λ q low high. number-set_other 4 4 sized (end + 4) u q (inl (omega arith))) filled headers) tt
                 (number-set_same 4 sized (end + 4) u (omega arith) size_small ∙ sym (ap (units_after 0) parts ∙ units_after-last xs at u l 0)) (λ e. absurd (never e));
           };
-          links = subst (λ gs. Links added 24 gs None) (sym (free_of-append (tiles front) (tile end n true ∷ []) ∙ append-nil (free_of (tiles front))))
+          free = subst (λ gs. Links added 24 gs None) (sym (free_of-append (tiles front) (tile end n true ∷ []) ∙ append-nil (free_of (tiles front))))
               (Links-words sized added (tiles front) 24 heap_start end None (added_word 24 (omega arith)) (λ q low high even. added_word q high) refl filled links);
         }
       where
         never : true ≡ false → ⊥
         never e = cc
 
-    added_is : IsTiledHeap added (tiles front ++ tile end n true ∷ [])
+    added_is : IsTiledHeap 0 added (tiles front ++ tile end n true ∷ [])
     added_is = heap_of_tiling added (tiles front ++ tile end n true ∷ []) added_tiling (AreApart-append (tiles front) (tile end n true ∷ []) true h.apart ((λ _. refl), tt))
 
     pub added_heap : IsHeap 0 added

@@ -6,39 +6,18 @@ use Rattle.std.proofs.lemmas.List.{append_assoc}
 use Rattle.seg_spec.specs.Pointer.{target}
 use Rattle.seg_spec.specs.Heap.{Span, Tile, span_of, end_of, IsLive, Fill, AreApart, Links, live_of, free_of, heap_start, tiles, live, IsHeap, without, Gives}
 use Rattle.seg_spec.proofs.BytesLaws.{Agrees-within, Agrees-same}
-use Rattle.seg_spec.proofs.TileLaws.{Fill-le, live_of-append, free_of-append, AreHeaders-back, AreApart-append, AreApart-front, AreApart-back, live_after}
+use Rattle.seg_spec.proofs.TileLaws.{Fill-le, live_of-append, free_of-append, AreApart-append, AreApart-front, AreApart-back, live_after}
 use Rattle.seg_block.specs.Blocks.{IsBlock}
 use Rattle.seg_seqfit.specs.FreeBlocks.{AreFreeBlocks, AreBelow, AreAbove, link_after}
-use Rattle.seg_block.specs.Tiling.{tile, Spares}
-use Rattle.seg_seqfit.specs.Retiling.{link_behind, IsTiling, Retiles, JoinsBehind}
+use Rattle.seg_block.specs.Tiling.{tile, Spares, IsTiling, Retiles}
+use Rattle.seg_seqfit.specs.Retiling.{link_behind, JoinsBehind}
 use Rattle.seg_seqfit.proofs.LinkLaws.{Links-behind, link_behind-cases}
 use Rattle.seg_block.proofs.LiveTiles.{cons_cases}
 use Rattle.seg_block.proofs.Neighbours.{IsBlock-tile}
-use Rattle.seg_block.proofs.Tiled.{around, aligned_end}
-use Rattle.seg_seqfit.proofs.Heaps.{tiling_of_heap, heap_of_tiling, IsTiledHeap, free_blocks, AreApart-live}
-use Rattle.seg_seqfit.proofs.Allocating.{Spares-trans, Spares-same}
-
--- the tiles around a live one
-pub record HasLive (ts : List Tile) (b : Span) : Type 0 where
-  pub xs : List Tile
-  pub ys : List Tile
-  pub parts : ts ≡ xs ++ tile b.at b.units true ∷ ys
-
-live_tile : (t : Tile) (b : Span) → t.live ≡ true → span_of t ≡ b → t ≡ tile b.at b.units true
-live_tile t b is e = λ i. record { at = (e i).at; units = (e i).units; live = is i }
-
-more_live : (t : Tile) (ts : List Tile) (b : Span) → HasLive ts b → HasLive (t ∷ ts) b
-more_live t ts b h = record { xs = t ∷ h.xs; ys = h.ys; parts = ap (λ l. t ∷ l) h.parts }
-
-pub has_live : (ts : List Tile) (b : Span) → Contains (live_of ts) b → HasLive ts b
-has_live [] b (n, k, e) = absurd (omega arith)
-has_live (t ∷ ts) b c =
-    let rest = λ (c : Contains (live_of ts) b). more_live t ts b (has_live ts b c) in
-    let go = elim t.live as (λ l. t.live ≡ l → Contains (cond l (span_of t ∷ live_of ts) (live_of ts)) b → HasLive (t ∷ ts) b) [
-      | true ↦ (λ is c. ⊎_elim (λ e. record { xs = []; ys = ts; parts = ap (λ x. x ∷ ts) (live_tile t b is e) }) (λ c. rest c) (cons_cases (span_of t) b (live_of ts) c))
-      | false ↦ (λ is c. rest c)
-    ] in
-    go refl c
+use Rattle.seg_block.proofs.Tiled.{around}
+use Rattle.seg_seqfit.proofs.FreeTiles.{free_blocks}
+use Rattle.seg_block.proofs.Heaps.{tiling_of_heap, heap_of_tiling, IsTiledHeap, AreApart-live, Spares-trans, Spares-same}
+use Rattle.seg_block.proofs.LiveBlocks.{HasLive, block, block_tiling, block_behind, block_front, gives}
 
 -- ---- the free list around a live tile
 
@@ -62,13 +41,13 @@ link_after-free_of (t ∷ xs) p =
     [ true ↦ link_after-free_of xs p | false ↦ link_after-free_of xs (t.at + 12) ]
 
 -- what the walk to a live block is asked and answers
-pub link_of_walk : (bytes : List ℕ) (xs ys : List Tile) (at u link : ℕ) → IsTiling bytes (xs ++ tile at u true ∷ ys)
+pub link_of_walk : (bytes : List ℕ) (xs ys : List Tile) (at u link : ℕ) → IsTiling 0 bytes (xs ++ tile at u true ∷ ys)
     → ((seen rest : List Span) → Links bytes 24 (seen ++ rest) None → AreFreeBlocks bytes 704 (seen ++ rest) → AreBelow at seen → AreAbove at rest → link ≡ link_after 24 seen)
     → link ≡ link_behind 24 xs
 link_of_walk bytes xs ys at u link was walk =
     let parts = around xs ys heap_start (length bytes) at u true was.tiled.filled in
     let split = free_of-append xs (tile at u true ∷ ys) in
-    walk (free_of xs) (free_of ys) (subst (λ gs. Links bytes 24 gs None) split was.links) (subst (λ gs. AreFreeBlocks bytes 704 gs) split (free_blocks bytes (xs ++ tile at u true ∷ ys) was))
+    walk (free_of xs) (free_of ys) (subst (λ gs. Links bytes 24 gs None) split was.free) (subst (λ gs. AreFreeBlocks bytes 704 gs) split (free_blocks bytes (xs ++ tile at u true ∷ ys) was))
     (AreBelow-free_of xs heap_start at parts.0) (AreAbove-free_of ys at (at + 16 * u) (length bytes) (omega (arith, parts.1)) parts.2)
     ∙ link_after-free_of xs 24
 
@@ -117,10 +96,10 @@ apart_behind bytes (t ∷ ys) p from to f l a other =
 
 -- ---- the joins
 
-pub joins_same : (bytes : List ℕ) (xs ys : List Tile) (at u : ℕ) → IsTiling bytes (xs ++ tile at u false ∷ ys) → AreApart true ys → (target bytes (at + 12) ≡ Some (at + 16 * u + 16) → ⊥) → JoinsBehind bytes bytes xs at ys
+pub joins_same : (bytes : List ℕ) (xs ys : List Tile) (at u : ℕ) → IsTiling 0 bytes (xs ++ tile at u false ∷ ys) → AreApart true ys → (target bytes (at + 12) ≡ Some (at + 16 * u + 16) → ⊥) → JoinsBehind bytes bytes xs at ys
 joins_same bytes xs ys at u was a other =
     let parts = around xs ys heap_start (length bytes) at u false was.tiled.filled in
-    let links = Links-behind bytes (tile at u false ∷ []) ys (link_behind 24 xs) None (Links-behind bytes xs (tile at u false ∷ ys) 24 None was.links) in
+    let links = Links-behind bytes (tile at u false ∷ []) ys (link_behind 24 xs) None (Links-behind bytes xs (tile at u false ∷ ys) 24 None was.free) in
     record {
       units = u;
       rest = ys;
@@ -130,33 +109,33 @@ joins_same bytes xs ys at u was a other =
       spared = record { front_kept = Agrees-same bytes 0 24; back_kept = Agrees-same bytes 28 heap_start; tiles_kept = λ b _. Agrees-same bytes (b.at + 8) (end_of b) };
     }
 
-pub next_free : (bytes : List ℕ) (xs ys : List Tile) (at u : ℕ) → IsTiling bytes (xs ++ tile at u false ∷ ys) → target bytes (at + 12) ≡ Some (at + 16 * u + 16) → BeginsFree ys (at + 16 * u)
+pub next_free : (bytes : List ℕ) (xs ys : List Tile) (at u : ℕ) → IsTiling 0 bytes (xs ++ tile at u false ∷ ys) → target bytes (at + 12) ≡ Some (at + 16 * u + 16) → BeginsFree ys (at + 16 * u)
 next_free bytes xs ys at u was e =
     let parts = around xs ys heap_start (length bytes) at u false was.tiled.filled in
-    let links = Links-behind bytes (tile at u false ∷ []) ys (link_behind 24 xs) None (Links-behind bytes xs (tile at u false ∷ ys) 24 None was.links) in
+    let links = Links-behind bytes (tile at u false ∷ []) ys (link_behind 24 xs) None (Links-behind bytes xs (tile at u false ∷ ys) 24 None was.free) in
     begins_free bytes ys (at + 12) (at + 16 * u) (length bytes) parts.2 links e
 
-IsBlock-behind : (bytes : List ℕ) (xs ys : List Tile) (at u : ℕ) → IsTiling bytes (xs ++ tile at u false ∷ ys) → (b : BeginsFree ys (at + 16 * u)) → IsBlock bytes (record { at = at + 16 * u; units = b.units })
+IsBlock-behind : (bytes : List ℕ) (xs ys : List Tile) (at u : ℕ) → IsTiling 0 bytes (xs ++ tile at u false ∷ ys) → (b : BeginsFree ys (at + 16 * u)) → IsBlock bytes (record { at = at + 16 * u; units = b.units })
 IsBlock-behind bytes xs ys at u was b =
     let split : xs ++ tile at u false ∷ ys ≡ (xs ++ tile at u false ∷ []) ++ tile (at + 16 * u) b.units false ∷ b.rest =
     ap (λ l. xs ++ tile at u false ∷ l) b.parts ∙ sym (append_assoc xs (tile at u false ∷ []) (tile (at + 16 * u) b.units false ∷ b.rest)) in
-    IsBlock-tile bytes (xs ++ tile at u false ∷ []) b.rest (at + 16 * u) b.units false (subst (λ l. IsTiling bytes l) split was).tiled
+    IsBlock-tile bytes (xs ++ tile at u false ∷ []) b.rest (at + 16 * u) b.units false (subst (λ l. IsTiling 0 bytes l) split was).tiled
 
 -- no block was found behind
-pub joins_none : (bytes : List ℕ) (xs ys : List Tile) (at u : ℕ) → IsTiling bytes (xs ++ tile at u false ∷ ys) → AreApart true ys
+pub joins_none : (bytes : List ℕ) (xs ys : List Tile) (at u : ℕ) → IsTiling 0 bytes (xs ++ tile at u false ∷ ys) → AreApart true ys
     → ((g : Span) → target bytes (at + 12) ≡ Some (at + 16 * u + 16) → g.at ≡ at + 16 * u → IsBlock bytes g → ⊥) → JoinsBehind bytes bytes xs at ys
 joins_none bytes xs ys at u was a none =
     joins_same bytes xs ys at u was a (λ e. let b = next_free bytes xs ys at u was e in none (record { at = at + 16 * u; units = b.units }) e refl (IsBlock-behind bytes xs ys at u was b))
 
 -- the block behind was joined
-pub joins_more : (old new : List ℕ) (xs ys : List Tile) (at u v : ℕ) → IsTiling old (xs ++ tile at u false ∷ ys) → AreApart true ys → target old (at + 12) ≡ Some (at + 16 * u + 16)
+pub joins_more : (old new : List ℕ) (xs ys : List Tile) (at u v : ℕ) → IsTiling 0 old (xs ++ tile at u false ∷ ys) → AreApart true ys → target old (at + 12) ≡ Some (at + 16 * u + 16)
     → ((g : Span) → target old (at + 12) ≡ Some (at + 16 * u + 16) → g.at ≡ at + 16 * u → IsBlock old g → v ≡ g.units)
-    → ((zs : List Tile) → IsTiling old (xs ++ (tile at u false ∷ tile (at + 16 * u) v false ∷ zs)) → Retiles old new xs (tile at (u + v) false ∷ []) zs) → JoinsBehind old new xs at ys
+    → ((zs : List Tile) → IsTiling 0 old (xs ++ (tile at u false ∷ tile (at + 16 * u) v false ∷ zs)) → Retiles 0 old new xs (tile at (u + v) false ∷ []) zs) → JoinsBehind old new xs at ys
 joins_more old new xs ys at u v was a e read joins =
     let b = next_free old xs ys at u was e in
     let same : v ≡ b.units = read (record { at = at + 16 * u; units = b.units }) e refl (IsBlock-behind old xs ys at u was b) in
     let parts : ys ≡ tile (at + 16 * u) v false ∷ b.rest = b.parts ∙ ap (λ n. tile (at + 16 * u) n false ∷ b.rest) (sym same) in
-    let r = joins b.rest (subst (λ l. IsTiling old (xs ++ tile at u false ∷ l)) parts was) in
+    let r = joins b.rest (subst (λ l. IsTiling 0 old (xs ++ tile at u false ∷ l)) parts was) in
     let live_is : live_of b.rest ≡ live_of ys = sym (ap live_of parts) in
     record {
       units = u + v;
@@ -178,20 +157,6 @@ all_live (t ∷ xs) live is e =
   where
     never : span_of t ∷ free_of xs ≡ [] → ⊥
     never e = cc
-
-pub without-other : (at : ℕ) (xs ys : List Tile) (b : Span) (from to : ℕ) → b.at ≡ at → Fill from xs to → to ≤ at → without at (live_of xs ++ b ∷ live_of ys) ≡ live_of xs ++ live_of ys
-without-other at [] ys b from to is f le = rw (test_same b.at at is) refl
-  where
-    test_same : (m n : ℕ) → m ≡ n → eqb m n ≡ true
-    test_same m n e = grind (arith, nat_tests)
-without-other at (t ∷ xs) ys b from to is f le =
-    let rest = without-other at xs ys b (from + 16 * t.units) to is f.2 le in
-    let low = Fill-le xs (from + 16 * t.units) to f.2 in
-    elim t.live as (λ l. without at (cond l (span_of t ∷ live_of xs) (live_of xs) ++ b ∷ live_of ys) ≡ cond l (span_of t ∷ live_of xs) (live_of xs) ++ live_of ys)
-    [ true ↦ rw (test_other t.at at (omega (arith, f.0, f.1))) (ap (λ l. span_of t ∷ l) rest) | false ↦ rest ]
-  where
-    test_other : (m n : ℕ) → m < n → eqb m n ≡ false
-    test_other m n e = grind (arith, nat_tests)
 
 -- the last free tile, where there is one
 pub record HasLast (xs : List Tile) (link : ℕ) : Type 0 where
@@ -217,75 +182,39 @@ has_last (t ∷ xs) p =
     ] refl
 
 module _ (old : List ℕ) (at u : ℕ) (h : IsHeap 0 old) (held : Contains (live old) (record { at = at; units = u })) where
-  old_is : IsTiledHeap old (tiles old)
-  old_is = heap_of_tiling old (tiles old) (tiling_of_heap old h) h.apart
-
-  pub block : HasLive (tiles old) (record { at = at; units = u })
-  block = has_live (tiles old) (record { at = at; units = u }) (subst (λ l. Contains l (record { at = at; units = u })) old_is.live_is held)
-
-  pub block_tiling : IsTiling old (block.xs ++ tile at u true ∷ block.ys)
-  block_tiling = subst (λ l. IsTiling old l) block.parts (tiling_of_heap old h)
-
-  pub block_apart : AreApart true (block.xs ++ tile at u true ∷ block.ys)
-  block_apart = subst (λ l. AreApart true l) block.parts h.apart
-
-  pub block_behind : AreApart true block.ys
-  block_behind = (AreApart-back block.xs (tile at u true ∷ block.ys) true block_apart).1
-
-  pub block_front : AreApart true block.xs
-  block_front = AreApart-front block.xs (tile at u true ∷ block.ys) true block_apart
-
-  left_live : live_of (block.xs ++ block.ys) ≡ without at (live old)
-  left_live =
-      let parts = around block.xs block.ys heap_start (length old) at u true block_tiling.tiled.filled in
-      live_of-append block.xs block.ys
-      ∙ sym (without-other at block.xs block.ys (record { at = at; units = u }) heap_start at refl parts.0 (omega arith))
-      ∙ ap (without at) (sym (old_is.live_is ∙ ap live_of block.parts ∙ live_of-append block.xs (tile at u true ∷ block.ys)))
-
-  pub gives : (new : List ℕ) (ts : List Tile) → IsTiling new ts → AreApart true ts → live_of ts ≡ live_of (block.xs ++ block.ys) → Spares old new (block.xs ++ block.ys) → Gives 0 old new at
-  gives new ts tiling apart same spared =
-      let now = heap_of_tiling new ts tiling apart in
-      record {
-        heap = now.heap;
-        kept = record {
-          length_kept = spared.front_kept.length_kept;
-          front_kept = spared.front_kept;
-          back_kept = spared.back_kept;
-          blocks_kept = λ b c _ kept e. Agrees-within old new (c.at + 8) (end_of c) (b.at + 8) (b.at + 16 * min b.units c.units) (spared.tiles_kept c (subst (λ l. Contains l c) (now.live_is ∙ same) kept)) (omega arith) (omega arith);
-        };
-        given = now.live_is ∙ same ∙ left_live;
-      }
+  abbrev where_it_is : HasLive (tiles old) (record { at = at; units = u })
+  where_it_is = block old at u h held
 
   abbrev pub left : List Tile
-  left = block.xs ++ block.ys
+  left = where_it_is.xs ++ where_it_is.ys
 
   -- after the first join
-  module _ (released joined : List ℕ) (r : Retiles old released block.xs (tile at u false ∷ []) block.ys) (j : JoinsBehind released joined block.xs at block.ys) where
+  module _ (released joined : List ℕ) (r : Retiles 0 old released where_it_is.xs (tile at u false ∷ []) where_it_is.ys) (j : JoinsBehind released joined where_it_is.xs at where_it_is.ys) where
     abbrev pub merged : List Tile
     merged = tile at j.units false ∷ j.rest
 
     first_spared : Spares old joined left
     first_spared = Spares-trans old released joined left r.spared j.spared
 
-    first_live : live_of (block.xs ++ merged) ≡ live_of left
-    first_live = live_of-append block.xs merged ∙ ap (λ l. live_of block.xs ++ l) j.live_is ∙ sym (live_of-append block.xs block.ys)
+    first_live : live_of (where_it_is.xs ++ merged) ≡ live_of left
+    first_live = live_of-append where_it_is.xs merged ∙ ap (λ l. live_of where_it_is.xs ++ l) j.live_is ∙ sym (live_of-append where_it_is.xs where_it_is.ys)
 
-    pub freed_alone : free_of block.xs ≡ [] → Gives 0 old joined at
+    pub freed_alone : free_of where_it_is.xs ≡ [] → Gives 0 old joined at
     freed_alone none =
-        gives joined (block.xs ++ merged) j.tiling (AreApart-append block.xs merged true block_front ((λ e. sym e ∙ all_live block.xs true refl none), j.apart)) first_live first_spared
+        gives old at u h held joined (where_it_is.xs ++ merged) j.tiling (AreApart-append where_it_is.xs merged true (block_front old at u h held) ((λ e. sym e ∙ all_live where_it_is.xs true refl none), j.apart)) first_live first_spared
 
-    module _ (link : ℕ) (l : HasLast block.xs link) where
+    module _ (link : ℕ) (l : HasLast where_it_is.xs link) where
       abbrev pub second : List Tile
       second = l.back ++ merged
 
-      parts_are : block.xs ++ merged ≡ l.front ++ tile l.at l.units false ∷ second
+      parts_are : where_it_is.xs ++ merged ≡ l.front ++ tile l.at l.units false ∷ second
       parts_are = ap (λ x. x ++ merged) l.parts ∙ append_assoc l.front (tile l.at l.units false ∷ l.back) merged
 
-      pub second_tiling : IsTiling joined (l.front ++ tile l.at l.units false ∷ second)
-      second_tiling = subst (λ x. IsTiling joined x) parts_are j.tiling
+      pub second_tiling : IsTiling 0 joined (l.front ++ tile l.at l.units false ∷ second)
+      second_tiling = subst (λ x. IsTiling 0 joined x) parts_are j.tiling
 
       front_apart : AreApart true (l.front ++ tile l.at l.units false ∷ l.back)
-      front_apart = subst (λ x. AreApart true x) l.parts block_front
+      front_apart = subst (λ x. AreApart true x) l.parts (block_front old at u h held)
 
       pub second_apart : AreApart true second
       second_apart =
@@ -296,7 +225,7 @@ module _ (old : List ℕ) (at u : ℕ) (h : IsHeap 0 old) (held : Contains (live
       freed_joined new k =
           let same : live_of (l.front ++ second) ≡ live_of left =
           live_of-append l.front second ∙ sym (live_of-append l.front (tile l.at l.units false ∷ second)) ∙ sym (ap live_of parts_are) ∙ first_live in
-          gives new (l.front ++ tile l.at k.units false ∷ k.rest) k.tiling
+          gives old at u h held new (l.front ++ tile l.at k.units false ∷ k.rest) k.tiling
           (AreApart-append l.front (tile l.at k.units false ∷ k.rest) true (AreApart-front l.front (tile l.at l.units false ∷ l.back) true front_apart)
           ((AreApart-back l.front (tile l.at l.units false ∷ l.back) true front_apart).0, k.apart))
           (live_of-append l.front (tile l.at k.units false ∷ k.rest) ∙ ap (λ x. live_of l.front ++ x) k.live_is ∙ sym (live_of-append l.front second) ∙ same)
@@ -308,8 +237,8 @@ module _ (old : List ℕ) (at u : ℕ) (h : IsHeap 0 old) (held : Contains (live
 pub record Steps (old released joined : List ℕ) (block at units link : ℕ) : Type 0 where
   pub read : (g : Span) → block ≡ g.at → IsBlock old g → (at ≡ g.at) × (units ≡ g.units)
   pub walk : (seen rest : List Span) → Links old 24 (seen ++ rest) None → AreFreeBlocks old 704 (seen ++ rest) → AreBelow at seen → AreAbove at rest → link ≡ link_after 24 seen
-  pub release : (xs ys : List Tile) → link ≡ link_behind 24 xs → IsTiling old (xs ++ tile at units true ∷ ys) → Retiles old released xs (tile at units false ∷ []) ys
-  pub join : (xs ys : List Tile) (u : ℕ) → IsTiling released (xs ++ tile at u false ∷ ys) → AreApart true ys → JoinsBehind released joined xs at ys
+  pub release : (xs ys : List Tile) → link ≡ link_behind 24 xs → IsTiling 0 old (xs ++ tile at units true ∷ ys) → Retiles 0 old released xs (tile at units false ∷ []) ys
+  pub join : (xs ys : List Tile) (u : ℕ) → IsTiling 0 released (xs ++ tile at u false ∷ ys) → AreApart true ys → JoinsBehind released joined xs at ys
 
 module _ (old released joined : List ℕ) (named at units link : ℕ) (s : Steps old released joined named at units link) (h : IsHeap 0 old) (held : IsLive old named) where
   read_is : (at ≡ named) × (units ≡ held.0)
@@ -321,13 +250,13 @@ module _ (old released joined : List ℕ) (named at units link : ℕ) (s : Steps
   abbrev found : HasLive (tiles old) (record { at = at; units = units })
   found = block old at units h here
 
-  tiling : IsTiling old (found.xs ++ tile at units true ∷ found.ys)
+  tiling : IsTiling 0 old (found.xs ++ tile at units true ∷ found.ys)
   tiling = block_tiling old at units h here
 
   link_is : link ≡ link_behind 24 found.xs
   link_is = link_of_walk old found.xs found.ys at units link tiling s.walk
 
-  first : Retiles old released found.xs (tile at units false ∷ []) found.ys
+  first : Retiles 0 old released found.xs (tile at units false ∷ []) found.ys
   first = s.release found.xs found.ys link_is tiling
 
   then : JoinsBehind released joined found.xs at found.ys
@@ -348,14 +277,14 @@ module _ (old released joined : List ℕ) (named at units link : ℕ) (s : Steps
       subst (λ p. Gives 0 old joined p) read_is.0
       (⊎_elim (λ k. freed_alone old at units h here released joined first then k.1) (λ l. let is = link_is in let far = high l in let e' = l.link_is in absurd (omega arith)) last)
 
-  pub gives_joined : (new : List ℕ) → link ≢ 24 → ((xs ys : List Tile) (u : ℕ) → IsTiling joined (xs ++ tile (link - 12) u false ∷ ys) → AreApart true ys → JoinsBehind joined new xs (link - 12) ys) → Gives 0 old new named
+  pub gives_joined : (new : List ℕ) → link ≢ 24 → ((xs ys : List Tile) (u : ℕ) → IsTiling 0 joined (xs ++ tile (link - 12) u false ∷ ys) → AreApart true ys → JoinsBehind joined new xs (link - 12) ys) → Gives 0 old new named
   gives_joined new other join =
       subst (λ p. Gives 0 old new p) read_is.0
       (⊎_elim (λ k. absurd (other (link_is ∙ k.0)))
       (λ l. let is = link_is in let e' = l.link_is in
       let place : link - 12 ≡ l.at = omega arith in
-      let join' : (xs ys : List Tile) (u : ℕ) → IsTiling joined (xs ++ tile l.at u false ∷ ys) → AreApart true ys → JoinsBehind joined new xs l.at ys =
-      subst (λ p. (xs ys : List Tile) (u : ℕ) → IsTiling joined (xs ++ tile p u false ∷ ys) → AreApart true ys → JoinsBehind joined new xs p ys) place join in
+      let join' : (xs ys : List Tile) (u : ℕ) → IsTiling 0 joined (xs ++ tile l.at u false ∷ ys) → AreApart true ys → JoinsBehind joined new xs l.at ys =
+      subst (λ p. (xs ys : List Tile) (u : ℕ) → IsTiling 0 joined (xs ++ tile p u false ∷ ys) → AreApart true ys → JoinsBehind joined new xs p ys) place join in
       let j = then in
       let r = first in
       let q = link_behind 24 found.xs in

@@ -8,14 +8,14 @@ use Rattle.seg_spec.proofs.PointerLaws.{target-set_same}
 use Rattle.seg_spec.proofs.TileLaws.{Fill-le, AreHeaders-back, units_after}
 use Rattle.seg_spec.proofs.HeaderLaws.{AreHeaders-set_link}
 use Rattle.seg_block.specs.Sizes.{size_word, set_size}
-use Rattle.seg_block.specs.Tiling.{tile}
-use Rattle.seg_seqfit.specs.Retiling.{link_behind, IsTiling, Retiles}
+use Rattle.seg_block.specs.Tiling.{tile, IsTiling, Retiles}
+use Rattle.seg_seqfit.specs.Retiling.{link_behind}
 use Rattle.seg_block.proofs.SizeLaws.{IsHeader-set_size, length-set_size}
 use Rattle.seg_seqfit.proofs.LinkLaws.{Links-behind, link_behind-low, names_tile}
 use Rattle.seg_block.proofs.Tiled.{around, aligned_end}
 use Rattle.seg_seqfit.proofs.Retile.{IsLocal, retile, spares, IsLocal-trans, IsLocal-word, IsLocal-set_size, target-local}
 
-module _ (old : List ℕ) (xs ys : List Tile) (at u v : ℕ) (was : IsTiling old (xs ++ (tile at u false ∷ tile (at + 16 * u) v false ∷ ys))) where
+module _ (old : List ℕ) (xs ys : List Tile) (at u v : ℕ) (was : IsTiling 0 old (xs ++ (tile at u false ∷ tile (at + 16 * u) v false ∷ ys))) where
   abbrev behind : ℕ
   behind = at + 16 * u
 
@@ -80,14 +80,14 @@ module _ (old : List ℕ) (xs ys : List Tile) (at u v : ℕ) (was : IsTiling old
       let b = large in
       let low = link_behind-low xs 24 heap_start at (omega arith) first.0 in
       let even = aligned in
-      let listed = Links-behind old xs (tile at u false ∷ tile behind v false ∷ ys) 24 None was.links in
+      let listed = Links-behind old xs (tile at u false ∷ tile behind v false ∷ ys) 24 None was.free in
       let long = length-set_size old at (u + v) false in (
         target-local old joined (at + 12) at hi (link_behind 24 xs) (local (at + 12)) (omega arith) low (inl (omega arith)) ∙ listed.0,
         target-set_same sized (at + 12) (target old (behind + 12)) (omega arith) (omega (arith, was.tiled.small))
             (λ t e. let is = names_tile old ys (behind + 12) hi (length old) t (omega arith) back listed.1.1 e in (omega (arith, was.tiled.small), λ k. absurd (omega arith))),
       )
 
-  pub join-retiles : Retiles old joined xs (tile at (u + v) false ∷ []) ys
+  pub join-retiles : Retiles 0 old joined xs (tile at (u + v) false ∷ []) ys
   join-retiles = record {
     tiling = retile old joined xs (tile at u false ∷ tile behind v false ∷ []) (tile at (u + v) false ∷ []) ys at hi was first.0 middle back (local (link_behind 24 xs)) headers next_size names;
     spared = spares old joined xs (tile at u false ∷ tile behind v false ∷ []) (tile at (u + v) false ∷ []) ys at hi was first.0 middle back (local (link_behind 24 xs));

@@ -2,7 +2,7 @@ pub mod Walks
 pub mod LinkLaws
 pub mod Retile
 pub mod Taking
-pub mod Heaps
+pub mod FreeTiles
 pub mod Allocating
 pub mod Releasing
 pub mod Joining
@@ -10,7 +10,7 @@ pub mod Freeing
 pub mod Extending
 pub mod Cutting
 pub mod Resizing
-pub mod Sized
+pub mod Behind
 pub mod Expanding
 pub mod Beginning
 pub mod Extents

@@ -7,14 +7,14 @@ use Rattle.seg_spec.proofs.BytesLaws.{number-set_same, number-set_other, length-
 use Rattle.seg_spec.proofs.PointerLaws.{target-set_same, target-same}
 use Rattle.seg_spec.proofs.TileLaws.{Fill-le, AreHeaders-back, units_after}
 use Rattle.seg_block.specs.Sizes.{size_word, set_size}
-use Rattle.seg_block.specs.Tiling.{tile}
-use Rattle.seg_seqfit.specs.Retiling.{link_behind, IsTiling, Retiles}
+use Rattle.seg_block.specs.Tiling.{tile, IsTiling, Retiles}
+use Rattle.seg_seqfit.specs.Retiling.{link_behind}
 use Rattle.seg_block.proofs.SizeLaws.{IsHeader-set_size}
 use Rattle.seg_seqfit.proofs.LinkLaws.{Links-behind, link_behind-low, names_tile}
 use Rattle.seg_block.proofs.Tiled.{around, aligned_end}
 use Rattle.seg_seqfit.proofs.Retile.{IsLocal, retile, spares, link_names, IsLocal-trans, IsLocal-word, IsLocal-link, IsLocal-set_size}
 
-module _ (old : List ℕ) (xs ys : List Tile) (at u : ℕ) (was : IsTiling old (xs ++ tile at u true ∷ ys)) where
+module _ (old : List ℕ) (xs ys : List Tile) (at u : ℕ) (was : IsTiling 0 old (xs ++ tile at u true ∷ ys)) where
   abbrev link : ℕ
   link = link_behind 24 xs
 
@@ -43,7 +43,7 @@ module _ (old : List ℕ) (xs ys : List Tile) (at u : ℕ) (was : IsTiling old (
   below = link_behind-low xs 24 heap_start at (omega arith) parts.0
 
   rest_links : Links old link (free_of ys) None
-  rest_links = Links-behind old xs (tile at u true ∷ ys) 24 None was.links
+  rest_links = Links-behind old xs (tile at u true ∷ ys) 24 None was.free
 
   length-linked : length linked ≡ length old
   length-linked = length-set_number 4 tagged (at + 12) (distance (at + 12) (target old link)) ∙ length-set_number 4 old (at + 8) 0
@@ -105,7 +105,7 @@ module _ (old : List ℕ) (xs ys : List Tile) (at u : ℕ) (was : IsTiling old (
       some_same : {t : ℕ} → Some (at + 16) ≡ Some t → at + 16 ≡ t
       some_same e = cc
 
-  pub release-retiles : Retiles old released xs (tile at u false ∷ []) ys
+  pub release-retiles : Retiles 0 old released xs (tile at u false ∷ []) ys
   release-retiles = record {
     tiling = retile old released xs (tile at u true ∷ []) (tile at u false ∷ []) ys at (at + 16 * u) was parts.0 (refl, parts.1, refl) parts.2 local header next_size names;
     spared = spares old released xs (tile at u true ∷ []) (tile at u false ∷ []) ys at (at + 16 * u) was parts.0 (refl, parts.1, refl) parts.2 local;

@@ -9,12 +9,12 @@ use Rattle.seg_spec.proofs.BytesLaws.{Agrees-trans}
 use Rattle.seg_spec.proofs.TileLaws.{live_of-append}
 use Rattle.seg_block.specs.Sizes.{set_size, set_split}
 use Rattle.seg_block.proofs.Tiled.{header_of}
-use Rattle.seg_block.specs.Tiling.{tile, Spares}
-use Rattle.seg_seqfit.specs.Retiling.{link_behind, IsTiling, Retiles}
+use Rattle.seg_block.specs.Tiling.{tile, Spares, IsTiling, Retiles}
+use Rattle.seg_seqfit.specs.Retiling.{link_behind}
 use Rattle.seg_seqfit.proofs.LinkLaws.{link_behind-append}
-use Rattle.seg_seqfit.proofs.Allocating.{Spares-trans}
 use Rattle.seg_seqfit.proofs.Extending.{extend-retiles, extend-keeps}
 use Rattle.seg_seqfit.proofs.Cutting.{cut-retiles, cut-keeps}
+use Rattle.seg_block.proofs.Heaps.{Spares-trans}
 
 -- the same tiles, with one of them put to those in front
 abbrev pub put_front : List Tile → Tile → List Tile
@@ -44,28 +44,28 @@ others old new xs ys t s = record {
     behind : (t : Tile) (ys : List Tile) (b : Span) → Contains (live_of ys) b → Contains (live_of (t ∷ ys)) b
     behind t ys b c = elim t.live as (λ l. Contains (cond l (span_of t ∷ live_of ys) (live_of ys)) b) [ true ↦ later (span_of t) b (live_of ys) c | false ↦ c ]
 
-pub absorbs : (old taken new : List ℕ) (xs ys : List Tile) (at u v link : ℕ) → link ≡ link_behind 24 xs → IsTiling old (xs ++ (tile at u true ∷ tile (at + 16 * u) v false ∷ ys))
-    → ((zs : List Tile) → link ≡ link_behind 24 zs → IsTiling old (zs ++ tile (at + 16 * u) v false ∷ ys) → Retiles old taken zs (tile (at + 16 * u) v true ∷ []) ys)
+pub absorbs : (old taken new : List ℕ) (xs ys : List Tile) (at u v link : ℕ) → link ≡ link_behind 24 xs → IsTiling 0 old (xs ++ (tile at u true ∷ tile (at + 16 * u) v false ∷ ys))
+    → ((zs : List Tile) → link ≡ link_behind 24 zs → IsTiling 0 old (zs ++ tile (at + 16 * u) v false ∷ ys) → Retiles 0 old taken zs (tile (at + 16 * u) v true ∷ []) ys)
     → new ≡ set_size taken at (u + v) (is_live_at taken at)
-    → Retiles old new xs (tile at (u + v) true ∷ []) ys × Agrees old new (at + 8) (at + 16 * u)
+    → Retiles 0 old new xs (tile at (u + v) true ∷ []) ys × Agrees old new (at + 8) (at + 16 * u)
 absorbs old taken new xs ys at u v link link_is was takes new_is =
     let t = tile at u true in
-    let r = takes (put_front xs t) (link_is ∙ sym (link_behind-append xs (t ∷ []) 24)) (subst (λ l. IsTiling old l) (sym (put_front-append xs (tile (at + 16 * u) v false ∷ ys) t)) was) in
-    let mid = subst (λ l. IsTiling taken l) (put_front-append xs (tile (at + 16 * u) v true ∷ ys) t) r.tiling in
+    let r = takes (put_front xs t) (link_is ∙ sym (link_behind-append xs (t ∷ []) 24)) (subst (λ l. IsTiling 0 old l) (sym (put_front-append xs (tile (at + 16 * u) v false ∷ ys) t)) was) in
+    let mid = subst (λ l. IsTiling 0 taken l) (put_front-append xs (tile (at + 16 * u) v true ∷ ys) t) r.tiling in
     let e = extend-retiles taken xs ys at u v mid in
-    subst (λ b. Retiles old b xs (tile at (u + v) true ∷ []) ys × Agrees old b (at + 8) (at + 16 * u)) (sym (new_is ∙ ap (set_size taken at (u + v)) (header_of taken xs (tile (at + 16 * u) v true ∷ ys) t mid.tiled).live_is)) (
+    subst (λ b. Retiles 0 old b xs (tile at (u + v) true ∷ []) ys × Agrees old b (at + 8) (at + 16 * u)) (sym (new_is ∙ ap (set_size taken at (u + v)) (header_of taken xs (tile (at + 16 * u) v true ∷ ys) t mid.tiled).live_is)) (
       record { tiling = e.tiling; spared = Spares-trans old taken (set_size taken at (u + v) true) (xs ++ ys) (others old taken xs ys t r.spared) e.spared },
       Agrees-trans old taken (set_size taken at (u + v) true) (at + 8) (at + 16 * u) (own old taken xs ys at u r.spared) (extend-keeps taken xs ys at u v mid),
     )
 
-pub cuts : (old cut new : List ℕ) (xs ys : List Tile) (at n u r link : ℕ) → link ≡ link_behind 24 xs → IsTiling old (xs ++ tile at n true ∷ ys) → n ≡ u + r → 2 ≤ u → 2 ≤ r
+pub cuts : (old cut new : List ℕ) (xs ys : List Tile) (at n u r link : ℕ) → link ≡ link_behind 24 xs → IsTiling 0 old (xs ++ tile at n true ∷ ys) → n ≡ u + r → 2 ≤ u → 2 ≤ r
     → cut ≡ set_split old at u r (is_live_at old at)
-    → ((zs : List Tile) → link ≡ link_behind 24 zs → IsTiling cut (zs ++ tile (at + 16 * u) r true ∷ ys) → Retiles cut new zs (tile (at + 16 * u) r false ∷ []) ys)
-    → Retiles old new xs (tile at u true ∷ tile (at + 16 * u) r false ∷ []) ys × Agrees old new (at + 8) (at + 16 * u)
+    → ((zs : List Tile) → link ≡ link_behind 24 zs → IsTiling 0 cut (zs ++ tile (at + 16 * u) r true ∷ ys) → Retiles 0 cut new zs (tile (at + 16 * u) r false ∷ []) ys)
+    → Retiles 0 old new xs (tile at u true ∷ tile (at + 16 * u) r false ∷ []) ys × Agrees old new (at + 8) (at + 16 * u)
 cuts old cut new xs ys at n u r link link_is was whole large rest_large cut_is releases =
     let t = tile at u true in
-    let c = subst (λ b. Retiles old b xs (t ∷ tile (at + 16 * u) r true ∷ []) ys × Agrees old b (at + 8) (at + 16 * u)) (sym (cut_is ∙ ap (set_split old at u r) (header_of old xs ys (tile at n true) was.tiled).live_is)) (cut-retiles old xs ys at n u r was whole large rest_large, cut-keeps old xs ys at n u r was whole large rest_large) in
-    let x = releases (put_front xs t) (link_is ∙ sym (link_behind-append xs (t ∷ []) 24)) (subst (λ l. IsTiling cut l) (sym (put_front-append xs (tile (at + 16 * u) r true ∷ ys) t)) c.0.tiling) in (
-      record { tiling = subst (λ l. IsTiling new l) (put_front-append xs (tile (at + 16 * u) r false ∷ ys) t) x.tiling; spared = Spares-trans old cut new (xs ++ ys) c.0.spared (others cut new xs ys t x.spared) },
+    let c = subst (λ b. Retiles 0 old b xs (t ∷ tile (at + 16 * u) r true ∷ []) ys × Agrees old b (at + 8) (at + 16 * u)) (sym (cut_is ∙ ap (set_split old at u r) (header_of old xs ys (tile at n true) was.tiled).live_is)) (cut-retiles old xs ys at n u r was whole large rest_large, cut-keeps old xs ys at n u r was whole large rest_large) in
+    let x = releases (put_front xs t) (link_is ∙ sym (link_behind-append xs (t ∷ []) 24)) (subst (λ l. IsTiling 0 cut l) (sym (put_front-append xs (tile (at + 16 * u) r true ∷ ys) t)) c.0.tiling) in (
+      record { tiling = subst (λ l. IsTiling 0 new l) (put_front-append xs (tile (at + 16 * u) r false ∷ ys) t) x.tiling; spared = Spares-trans old cut new (xs ++ ys) c.0.spared (others cut new xs ys t x.spared) },
       Agrees-trans old cut new (at + 8) (at + 16 * u) c.1 (own cut new xs ys at u x.spared),
     )

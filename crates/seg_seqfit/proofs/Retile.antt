@@ -1,5 +1,5 @@
 -- A few tiles in the middle of the heap are replaced by others, and the free list is led through them.
-use Rattle.std.proofs.Common.{◌≡◌, ◌≢◌, ℕ, ◌+◌, ◌*◌, ◌%◌, ◌≤◌, Bool, true, false, List, [], ◌∷◌, ◌++◌, length, cond, Option, None, refl, sym, ap, ◌∙◌, subst, arith, inl, inr, ◌⊎◌, ⊎_elim}
+use Rattle.std.proofs.Common.{◌≡◌, ◌≢◌, ℕ, ◌+◌, ◌*◌, ◌%◌, ◌≤◌, Bool, true, false, List, [], ◌∷◌, ◌++◌, length, cond, Option, None, refl, ◌∙◌, subst, arith, inl, inr, ◌⊎◌, ⊎_elim}
 use Rattle.std.specs.Prelude.{Contains}
 use Rattle.std.proofs.lemmas.List.Elements.{Contains-append_cases}
 use Rattle.seg_spec.specs.Bytes.{word, set_word, Agrees}
@@ -8,10 +8,10 @@ use Rattle.seg_spec.specs.Heap.{Span, Tile, span_of, end_of, Fill, AreHeaders, L
 use Rattle.seg_spec.proofs.BytesLaws.{number-agrees, Agrees-trans, Agrees-set_number, length-set_number}
 use Rattle.seg_spec.proofs.PointerLaws.{target-same}
 use Rattle.seg_block.specs.Sizes.{size_word, set_size}
-use Rattle.seg_spec.proofs.TileLaws.{Fill-le, Fill-front, Fill-back, units_after, live_of-append}
+use Rattle.seg_spec.proofs.TileLaws.{Fill-le, units_after, live_of-append}
 use Rattle.seg_spec.proofs.HeaderLaws.{off_header}
-use Rattle.seg_block.specs.Tiling.{tile, IsTiled, Spares}
-use Rattle.seg_seqfit.specs.Retiling.{link_behind, IsTiling}
+use Rattle.seg_block.specs.Tiling.{IsTiled, Spares, IsTiling}
+use Rattle.seg_seqfit.specs.Retiling.{link_behind}
 use Rattle.seg_block.proofs.Tiled.{EachHeader, retiled, spared_tiles}
 use Rattle.seg_seqfit.proofs.LinkLaws.{link_behind-low, link_behind-off, link_behind-cases, Links-behind, Links-changed, Links-moved, live_beside_link}
 use Rattle.seg_block.proofs.LiveTiles.{live_within}
@@ -58,7 +58,7 @@ Links-append bytes (t ∷ xs) ys p last last' l l' =
 
 -- ---- the whole heap
 
-module _ (old new : List ℕ) (xs ms ns ys : List Tile) (lo hi : ℕ) (was : IsTiling old (xs ++ (ms ++ ys))) (front : Fill heap_start xs lo) (middle : Fill lo ns hi) (back : Fill hi ys (length old)) (local : IsLocal old new (link_behind 24 xs) lo hi) where
+module _ (old new : List ℕ) (xs ms ns ys : List Tile) (lo hi : ℕ) (was : IsTiling 0 old (xs ++ (ms ++ ys))) (front : Fill heap_start xs lo) (middle : Fill lo ns hi) (back : Fill hi ys (length old)) (local : IsLocal old new (link_behind 24 xs) lo hi) where
   pub link_low : link_behind 24 xs + 4 ≤ lo
   link_low = link_behind-low xs 24 heap_start lo (omega arith) front
 
@@ -83,15 +83,15 @@ module _ (old new : List ℕ) (xs ms ns ys : List Tile) (lo hi : ℕ) (was : IsT
       let link_below = link_low in
       let le = middle_le in
       let l = link_behind 24 xs in
-      let rest = Links-behind old ms ys l None (Links-behind old xs (ms ++ ys) 24 None was.links) in
-      Links-changed old new xs (ms ++ ys) (ns ++ ys) 24 heap_start lo None None (omega arith) front (local.kept 24 l (inl (omega arith)) (inl (omega arith)) (inl (omega arith))) was.links
+      let rest = Links-behind old ms ys l None (Links-behind old xs (ms ++ ys) 24 None was.free) in
+      Links-changed old new xs (ms ++ ys) (ns ++ ys) 24 heap_start lo None None (omega arith) front (local.kept 24 l (inl (omega arith)) (inl (omega arith)) (inl (omega arith))) was.free
       (Links-append new ns ys l (target old (link_behind l ms)) None names
       (Links-moved old new ys (link_behind l ms) (link_behind l ns) hi (length old) None (Links-last new ns l (target old (link_behind l ms)) names)
       (local.kept (hi + 8) (length old) (inr (omega arith)) (inr (omega arith)) (inr (omega arith))) back rest))
 
-  pub retile : AreHeaders new (units_after 0 xs) ns → (hi + 8 ≤ length old → word new (hi + 4) ≡ units_after (units_after 0 xs) ns) → Links new (link_behind 24 xs) (free_of ns) (target old (link_behind (link_behind 24 xs) ms)) → IsTiling new (xs ++ (ns ++ ys))
+  pub retile : AreHeaders new (units_after 0 xs) ns → (hi + 8 ≤ length old → word new (hi + 4) ≡ units_after (units_after 0 xs) ns) → Links new (link_behind 24 xs) (free_of ns) (target old (link_behind (link_behind 24 xs) ms)) → IsTiling 0 new (xs ++ (ns ++ ys))
   retile ns_is next_is names =
-      record { tiled = retile_tiled ns_is next_is; links = retile_links names }
+      record { tiled = retile_tiled ns_is next_is; free = retile_links names }
 
   live_misses : (b : Span) → Contains (live_of (xs ++ ys)) b → Misses (link_behind 24 xs) (b.at + 8) (end_of b)
   live_misses b c =

@@ -7,22 +7,22 @@ use Rattle.seg_spec.proofs.BytesLaws.{number-set_same, number-set_other, Agrees-
 use Rattle.seg_spec.proofs.PointerLaws.{target-set_same, target-same}
 use Rattle.seg_spec.proofs.TileLaws.{Fill-le, AreHeaders-back, units_after}
 use Rattle.seg_block.specs.Sizes.{size_word, set_size}
-use Rattle.seg_block.specs.Tiling.{tile}
-use Rattle.seg_seqfit.specs.Retiling.{link_behind, IsTiling, Retiles}
+use Rattle.seg_block.specs.Tiling.{tile, IsTiling, Retiles}
+use Rattle.seg_seqfit.specs.Retiling.{link_behind}
 use Rattle.seg_block.proofs.SizeLaws.{IsHeader-set_size, Agrees-set_size, length-set_size}
 use Rattle.seg_seqfit.proofs.LinkLaws.{Links-behind, link_behind-low, names_tile}
 use Rattle.seg_block.proofs.Tiled.{around, aligned_end}
 use Rattle.seg_seqfit.proofs.Retile.{IsLocal, retile, spares, out_of, link_names}
 
 -- what the pointer word of a tile of the list names
-pub named_behind : (bytes : List ℕ) (xs ys : List Tile) (at u t : ℕ) → IsTiling bytes (xs ++ tile at u false ∷ ys) → target bytes (at + 12) ≡ Some t → (t % 16 ≡ 0) × (t ≤ length bytes)
+pub named_behind : (bytes : List ℕ) (xs ys : List Tile) (at u t : ℕ) → IsTiling 0 bytes (xs ++ tile at u false ∷ ys) → target bytes (at + 12) ≡ Some t → (t % 16 ≡ 0) × (t ≤ length bytes)
 named_behind bytes xs ys at u t was e =
     let parts = around xs ys heap_start (length bytes) at u false was.tiled.filled in
     let even = aligned_end xs heap_start at refl parts.0 in
-    let rest = Links-behind bytes (tile at u false ∷ []) ys (link_behind 24 xs) None (Links-behind bytes xs (tile at u false ∷ ys) 24 None was.links) in
+    let rest = Links-behind bytes (tile at u false ∷ []) ys (link_behind 24 xs) None (Links-behind bytes xs (tile at u false ∷ ys) 24 None was.free) in
     names_tile bytes ys (at + 12) (at + 16 * u) (length bytes) t (omega arith) parts.2 rest e
 
-module _ (old : List ℕ) (xs ys : List Tile) (at u : ℕ) (was : IsTiling old (xs ++ tile at u false ∷ ys)) where
+module _ (old : List ℕ) (xs ys : List Tile) (at u : ℕ) (was : IsTiling 0 old (xs ++ tile at u false ∷ ys)) where
   abbrev link : ℕ
   link = link_behind 24 xs
 
@@ -90,7 +90,7 @@ module _ (old : List ℕ) (xs ys : List Tile) (at u : ℕ) (was : IsTiling old (
       ∙ target-set_same old link (target old (at + 12)) (omega arith) (omega (arith, was.tiled.small))
       (λ t e. let is = named_behind old xs ys at u t was e in (omega (arith, was.tiled.small), link_names xs at t parts.0 is.0))
 
-  pub take-retiles : Retiles old taken xs (tile at u true ∷ []) ys
+  pub take-retiles : Retiles 0 old taken xs (tile at u true ∷ []) ys
   take-retiles = record {
     tiling = retile old taken xs (tile at u false ∷ []) (tile at u true ∷ []) ys at (at + 16 * u) was parts.0 (refl, parts.1, refl) parts.2 local header next_size names;
     spared = spares old taken xs (tile at u false ∷ []) (tile at u true ∷ []) ys at (at + 16 * u) was parts.0 (refl, parts.1, refl) parts.2 local;

@@ -4,8 +4,8 @@ ghost use Rattle.std.specs.Prelude.{◌≡◌, ℕ, ◌+◌, ◌-◌, ◌*◌, �
 ghost use Rattle.seg_spec.specs.Bytes.{Agrees};
 ghost use Rattle.seg_spec.specs.Window.{with_bytes};
 ghost use Rattle.seg_spec.specs.Heap.{Tile, AreApart, link_at};
-ghost use Rattle.seg_block.specs.Tiling.{tile};
-ghost use Rattle.seg_seqfit.specs.Retiling.{link_behind, IsTiling, Retiles, JoinsBehind};
+ghost use Rattle.seg_block.specs.Tiling.{tile, IsTiling, Retiles};
+ghost use Rattle.seg_seqfit.specs.Retiling.{link_behind, JoinsBehind};
 
 use crate::search::free_behind;
 use seg_block::{Block, UNIT, block_at, join, set_size, split};
@@ -16,8 +16,8 @@ use std::alloc::Allocator;
 pub(crate) fn absorb<A: Allocator>(w: &mut Window<A>, link: usize, block: Block, more: u32)
     requires { block.at + 16 * block.units + 16 * more ≤ 2 ^ 30 }
     ensures host { w.new ≡ with_bytes w.old w.new.bytes }
-    ensures tiles { (xs ys : List Tile) → link ≡ link_behind 24 xs → IsTiling w.old.bytes (xs ++ (tile block.at block.units true ∷ tile (block.at + 16 * block.units) more false ∷ ys))
-        → Retiles w.old.bytes w.new.bytes xs (tile block.at (block.units + more) true ∷ []) ys × Agrees w.old.bytes w.new.bytes (block.at + 8) (block.at + 16 * block.units) }
+    ensures tiles { (xs ys : List Tile) → link ≡ link_behind 24 xs → IsTiling 0 w.old.bytes (xs ++ (tile block.at block.units true ∷ tile (block.at + 16 * block.units) more false ∷ ys))
+        → Retiles 0 w.old.bytes w.new.bytes xs (tile block.at (block.units + more) true ∷ []) ys × Agrees w.old.bytes w.new.bytes (block.at + 8) (block.at + 16 * block.units) }
 {
     let gap = Block {
         at: block.at + UNIT * block.units,
@@ -34,8 +34,8 @@ pub(crate) fn cut<A: Allocator>(w: &mut Window<A>, link: usize, block: Block, un
     requires enough { units ≤ block.units }
     ensures host { w.new ≡ with_bytes w.old w.new.bytes }
     ensures whole { block.units < units + 2 → w.new ≡ w.old }
-    ensures tiles { units + 2 ≤ block.units → (xs ys : List Tile) → link ≡ link_behind 24 xs → IsTiling w.old.bytes (xs ++ tile block.at block.units true ∷ ys)
-        → Retiles w.old.bytes w.new.bytes xs (tile block.at units true ∷ tile (block.at + 16 * units) (block.units - units) false ∷ []) ys × Agrees w.old.bytes w.new.bytes (block.at + 8) (block.at + 16 * units) }
+    ensures tiles { units + 2 ≤ block.units → (xs ys : List Tile) → link ≡ link_behind 24 xs → IsTiling 0 w.old.bytes (xs ++ tile block.at block.units true ∷ ys)
+        → Retiles 0 w.old.bytes w.new.bytes xs (tile block.at units true ∷ tile (block.at + 16 * units) (block.units - units) false ∷ []) ys × Agrees w.old.bytes w.new.bytes (block.at + 8) (block.at + 16 * units) }
 {
     let left = block.units - units;
     if left >= 2 {
@@ -52,8 +52,8 @@ pub(crate) fn cut<A: Allocator>(w: &mut Window<A>, link: usize, block: Block, un
 pub(crate) fn take<A: Allocator>(w: &mut Window<A>, link: usize, block: Block)
     requires { block.at + 16 * block.units ≤ 2 ^ 30 }
     ensures host { w.new ≡ with_bytes w.old w.new.bytes }
-    ensures tiles { (xs ys : List Tile) → link ≡ link_behind 24 xs → IsTiling w.old.bytes (xs ++ tile block.at block.units false ∷ ys)
-        → Retiles w.old.bytes w.new.bytes xs (tile block.at block.units true ∷ []) ys × (link_at w.new.bytes block.at ≡ None) }
+    ensures tiles { (xs ys : List Tile) → link ≡ link_behind 24 xs → IsTiling 0 w.old.bytes (xs ++ tile block.at block.units false ∷ ys)
+        → Retiles 0 w.old.bytes w.new.bytes xs (tile block.at block.units true ∷ []) ys × (link_at w.new.bytes block.at ≡ None) }
 {
     let next = w.target(block.at as usize + 12);
     w.point(link, next);
@@ -65,8 +65,8 @@ pub(crate) fn take<A: Allocator>(w: &mut Window<A>, link: usize, block: Block)
 pub(crate) fn release<A: Allocator>(w: &mut Window<A>, link: usize, block: Block)
     requires { block.at + 16 * block.units ≤ 2 ^ 30 }
     ensures host { w.new ≡ with_bytes w.old w.new.bytes }
-    ensures tiles { (xs ys : List Tile) → link ≡ link_behind 24 xs → IsTiling w.old.bytes (xs ++ tile block.at block.units true ∷ ys)
-        → Retiles w.old.bytes w.new.bytes xs (tile block.at block.units false ∷ []) ys }
+    ensures tiles { (xs ys : List Tile) → link ≡ link_behind 24 xs → IsTiling 0 w.old.bytes (xs ++ tile block.at block.units true ∷ ys)
+        → Retiles 0 w.old.bytes w.new.bytes xs (tile block.at block.units false ∷ []) ys }
 {
     let next = w.target(link);
     w.put32(block.at as usize + 8, 0);
@@ -79,8 +79,8 @@ pub(crate) fn release<A: Allocator>(w: &mut Window<A>, link: usize, block: Block
 pub(crate) fn merge<A: Allocator>(w: &mut Window<A>, front: Block, rest: Block)
     requires { front.at + 16 * front.units + 16 * rest.units ≤ 2 ^ 30 }
     ensures host { w.new ≡ with_bytes w.old w.new.bytes }
-    ensures tiles { (xs ys : List Tile) → IsTiling w.old.bytes (xs ++ (tile front.at front.units false ∷ tile (front.at + 16 * front.units) rest.units false ∷ ys))
-        → Retiles w.old.bytes w.new.bytes xs (tile front.at (front.units + rest.units) false ∷ []) ys }
+    ensures tiles { (xs ys : List Tile) → IsTiling 0 w.old.bytes (xs ++ (tile front.at front.units false ∷ tile (front.at + 16 * front.units) rest.units false ∷ ys))
+        → Retiles 0 w.old.bytes w.new.bytes xs (tile front.at (front.units + rest.units) false ∷ []) ys }
 {
     let next = w.target((front.at + UNIT * front.units) as usize + 12);
     join(w, front, rest);
@@ -90,7 +90,7 @@ pub(crate) fn merge<A: Allocator>(w: &mut Window<A>, front: Block, rest: Block)
 /// Joins the free block at a position with what is free right behind it.
 pub(crate) fn merge_behind<A: Allocator>(w: &mut Window<A>, at: u32)
     ensures host { w.new ≡ with_bytes w.old w.new.bytes }
-    ensures joins { (xs ys : List Tile) (u : ℕ) → IsTiling w.old.bytes (xs ++ tile at u false ∷ ys) → AreApart true ys → JoinsBehind w.old.bytes w.new.bytes xs at ys }
+    ensures joins { (xs ys : List Tile) (u : ℕ) → IsTiling 0 w.old.bytes (xs ++ tile at u false ∷ ys) → AreApart true ys → JoinsBehind w.old.bytes w.new.bytes xs at ys }
 {
     let Some(front) = block_at(w, at) else {
         return;

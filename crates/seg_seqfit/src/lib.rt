@@ -6,3 +6,6 @@ mod search;
 mod seqfit;
 
 pub use seqfit::SeqFit;
+
+#[cfg(test)]
+mod tests;

@@ -1,4 +1,4 @@
-use Rattle.std.proofs.Common.{◌+◌, ◌-◌, ◌*◌, Bool, List, [], ◌∷◌, ℕ, sym, ap, ◌∙◌, subst, arith}
+use Rattle.std.proofs.Common.{◌+◌, ◌-◌, ◌*◌, List, [], ◌∷◌, ℕ, sym, ap, ◌∙◌, subst, arith}
 use Rattle.seg_spec.specs.Window.{Placement}
 use Rattle.seg_block.specs.Sizes.{set_size, set_split}
 use Rattle.seg_block.specs.Tiling.{tile, Replaces}

@@ -2,9 +2,8 @@ use Rattle.std.proofs.Common.{◌+◌, ◌*◌, false, [], ◌∷◌, List, ℕ,
 use Rattle.seg_spec.specs.Window.{Placement}
 use Rattle.seg_spec.specs.Pointer.{target, set_pointer}
 use Rattle.seg_block.specs.Sizes.{set_size}
-use Rattle.seg_block.specs.Tiling.{tile}
+use Rattle.seg_block.specs.Tiling.{tile, Retiles}
 use Rattle.seg_block.proofs.Tiled.{header_of}
-use Rattle.seg_seqfit.specs.Retiling.{Retiles}
 use Rattle.seg_seqfit.proofs.Joining.{join-retiles}
 use Rattle.seg_seqfit.proofs.free_list.merge.Goals as goal
 
@@ -17,4 +16,4 @@ returns-clause-tiles g c = λ xs ys was.
     let bytes = λ (p : Placement). p.bytes in
     let sized = ap bytes c.join.ensures.bytes ∙ ap (set_size old at (u + v)) (header_of old xs (tile (at + 16 * u) v false ∷ ys) (tile at u false) was.tiled).live_is in
     let joined = ap bytes c.point.ensures ∙ ap (λ t. set_pointer c.join.new.w.bytes (at + 12) t) c.target-next.ensures ∙ ap (λ b. set_pointer b (at + 12) (target old (at + 16 * u + 12))) sized in
-    subst (λ (b : List ℕ). Retiles old b xs (tile at (u + v) false ∷ []) ys) (sym joined) (join-retiles old xs ys at u v was)
+    subst (λ (b : List ℕ). Retiles 0 old b xs (tile at (u + v) false ∷ []) ys) (sym joined) (join-retiles old xs ys at u v was)

@@ -1,7 +1,7 @@
 use Rattle.std.proofs.Common.{true, refl, ap}
 use Rattle.seg_spec.specs.Window.{Placement}
 use Rattle.seg_block.proofs.Neighbours.{IsBlock-tile}
-use Rattle.seg_seqfit.proofs.Freeing.{block, block_tiling}
+use Rattle.seg_block.proofs.LiveBlocks.{block, block_tiling}
 use Rattle.seg_seqfit.proofs.Expanding.{expand_enough, expand_no_gap, expand_short, expand_done}
 use Rattle.seg_seqfit.proofs.seqfit.SeqFitFit.expand.Goals as goal
 

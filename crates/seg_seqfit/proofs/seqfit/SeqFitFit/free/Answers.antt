@@ -1,6 +1,7 @@
 use Rattle.std.proofs.Common.{refl, true}
 use Rattle.seg_block.proofs.Neighbours.{IsBlock-tile}
-use Rattle.seg_seqfit.proofs.Freeing.{block, block_tiling, gives_alone, gives_joined}
+use Rattle.seg_block.proofs.LiveBlocks.{block, block_tiling}
+use Rattle.seg_seqfit.proofs.Freeing.{gives_alone, gives_joined}
 use Rattle.seg_seqfit.proofs.seqfit.SeqFitFit.free.Goals as goal
 
 pub returns-in_default-clause-gives : goal.returns-in_default-clause-gives

@@ -1,7 +1,7 @@
 use Rattle.std.proofs.Common.{true, refl, ap, arith}
 use Rattle.seg_spec.specs.Window.{Placement}
 use Rattle.seg_block.proofs.Neighbours.{IsBlock-tile}
-use Rattle.seg_seqfit.proofs.Freeing.{block, block_tiling}
+use Rattle.seg_block.proofs.LiveBlocks.{block, block_tiling}
 use Rattle.seg_seqfit.proofs.Expanding.{read_is, shrink_no_gap, shrink_gap}
 use Rattle.seg_seqfit.proofs.seqfit.SeqFitFit.shrink.Goals as goal
 

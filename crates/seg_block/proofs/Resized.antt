@@ -1,24 +1,18 @@
--- What a change of a live block's size leaves.
-use Rattle.std.proofs.Common.{◌≡◌, ◌≢◌, ℕ, ◌+◌, ◌-◌, ◌*◌, ◌<◌, ◌≤◌, true, false, List, [], ◌∷◌, ◌++◌, length, min, cond, eqb, Some, None, refl, sym, ap, ◌∙◌, subst, arith, inl, inr, ◌⊎◌, ⊎_elim}
+-- A live block of another size, and what is left of the gap behind it.
+use Rattle.std.proofs.Common.{◌≡◌, ◌≢◌, ℕ, ◌+◌, ◌-◌, ◌*◌, ◌<◌, ◌≤◌, Bool, true, false, List, [], ◌∷◌, ◌++◌, length, min, cond, eqb, ltb, leb, Some, None, refl, sym, ap, ◌∙◌, subst, arith, inl, inr, ◌⊎◌, ⊎_elim, le-leb}
 use Rattle.std.specs.Prelude.{Contains}
+use Rattle.std.proofs.lemmas.Bool.{cases_lt}
 use Rattle.std.proofs.lemmas.Bool.Decides.{nat_tests}
 use Rattle.std.proofs.lemmas.List.Elements.{Contains-append_cases, Contains-append_left, Contains-append_right}
 use Rattle.seg_spec.specs.Bytes.{Agrees}
-use Rattle.seg_spec.specs.Pointer.{target}
-use Rattle.seg_spec.specs.Heap.{Span, Tile, span_of, end_of, Fill, AreApart, Links, live_of, free_of, heap_start, live, gaps, IsHeap, room_at, resized, Keeps}
+use Rattle.seg_spec.specs.Heap.{Span, Tile, span_of, end_of, Fill, AreApart, live_of, free_of, heap_start, live, gaps, IsHeap, room_at, resized, Keeps, granted, expanded, shrunk, Expands, Shrinks}
 use Rattle.seg_spec.proofs.BytesLaws.{Agrees-within, Agrees-trans}
 use Rattle.seg_spec.proofs.TileLaws.{Fill-le, live_of-append, free_of-append, AreApart-append}
-use Rattle.seg_block.specs.Blocks.{IsBlock}
-use Rattle.seg_block.specs.Tiling.{tile, Spares}
-use Rattle.seg_seqfit.specs.Retiling.{link_behind, IsTiling, Retiles}
-use Rattle.seg_seqfit.proofs.LinkLaws.{Links-behind}
+use Rattle.seg_block.specs.Tiling.{tile, IsTiling, Retiles, Spares}
 use Rattle.seg_block.proofs.LiveTiles.{cons_cases, live_within}
 use Rattle.seg_block.proofs.Tiled.{around}
-use Rattle.seg_seqfit.proofs.Resizing.{put_front, put_front-append}
-use Rattle.seg_seqfit.proofs.Allocating.{Spares-trans, Spares-same, Keeps-same}
-use Rattle.seg_seqfit.proofs.Heaps.{heap_of_tiling, AreApart-live}
-use Rattle.seg_block.proofs.Neighbours.{IsBlock-tile}
-use Rattle.seg_seqfit.proofs.Freeing.{BeginsFree, begins_free, apart_behind, block, block_tiling, block_apart, block_behind, block_front}
+use Rattle.seg_block.proofs.Heaps.{heap_of_tiling, AreApart-live, Spares-trans, Spares-same, Keeps-same}
+use Rattle.seg_block.proofs.LiveBlocks.{block, block_tiling, block_apart, block_behind, block_front}
 
 test_same : (m n : ℕ) → m ≡ n → eqb m n ≡ true
 test_same m n e = grind (arith, nat_tests)
@@ -60,20 +54,20 @@ resized-front at n (t ∷ xs) bs from to f h =
 resized-here : (at n u : ℕ) (bs : List Span) → resized at n (record { at = at; units = u } ∷ bs) ≡ record { at = at; units = n } ∷ bs
 resized-here at n u bs = rw (test_same at at refl) refl
 
--- the parts that the two allocators answer
-pub record IsResized (old new : List ℕ) (at n : ℕ) : Type 0 where
-  pub heap : IsHeap 0 new
+-- the block at a position has n units
+pub record IsResized (allocator : ℕ) (old new : List ℕ) (at n : ℕ) : Type 0 where
+  pub heap : IsHeap allocator new
   pub kept : Keeps old new
   pub live_is : live new ≡ resized at n (live old)
 
-module _ (old : List ℕ) (at u : ℕ) (h : IsHeap 0 old) (held : Contains (live old) (record { at = at; units = u })) where
+module _ {allocator : ℕ} (old : List ℕ) (at u : ℕ) (h : IsHeap allocator old) (held : Contains (live old) (record { at = at; units = u })) where
   abbrev pub before : List Tile
   before = (block old at u h held).xs
 
   abbrev pub behind : List Tile
   behind = (block old at u h held).ys
 
-  was : IsTiling old (before ++ tile at u true ∷ behind)
+  pub was : IsTiling allocator old (before ++ tile at u true ∷ behind)
   was = block_tiling old at u h held
 
   parts : (Fill heap_start before at) × (2 ≤ u) × Fill (at + 16 * u) behind (length old)
@@ -110,7 +104,7 @@ module _ (old : List ℕ) (at u : ℕ) (h : IsHeap 0 old) (held : Contains (live
   keeps_any new n zs b c back large s own (inr (inl x)) k e =
       subst (λ (b : Span). b.at ≡ c.at → Agrees old new (b.at + 8) (b.at + 16 * min b.units c.units)) x (λ e. keeps_block new n zs c back large own k e) e
 
-  pub resizes : (new : List ℕ) (n : ℕ) (zs : List Tile) → IsTiling new (before ++ tile at n true ∷ zs) → live_of zs ≡ live_of behind → AreApart true zs → Spares old new (before ++ behind) → Agrees old new (at + 8) (at + 16 * min u n) → IsResized old new at n
+  pub resizes : (new : List ℕ) (n : ℕ) (zs : List Tile) → IsTiling allocator new (before ++ tile at n true ∷ zs) → live_of zs ≡ live_of behind → AreApart true zs → Spares old new (before ++ behind) → Agrees old new (at + 8) (at + 16 * min u n) → IsResized allocator old new at n
   resizes new n zs tiling same apart s own =
       let now = heap_of_tiling new (before ++ tile at n true ∷ zs) tiling (AreApart-append before (tile at n true ∷ zs) true (block_front old at u h held) (λ e. refl, apart)) in
       let new_parts = around before zs heap_start (length new) at n true tiling.tiled.filled in
@@ -130,16 +124,9 @@ module _ (old : List ℕ) (at u : ℕ) (h : IsHeap 0 old) (held : Contains (live
 
   -- ---- the gap behind
 
-  pub gap_none : (link : ℕ) → link ≡ link_behind 24 before → ((g : Span) → target old link ≡ Some (at + 16 * u + 16) → g.at ≡ at + 16 * u → IsBlock old g → ⊥) → AreApart false behind × (room_at (gaps old) (at + 16 * u) ≡ 0)
-  gap_none link link_is none =
-      let links = subst (λ p. Links old p (free_of behind) None) (sym link_is) (Links-behind old before (tile at u true ∷ behind) 24 None was.links) in
-      let apart = apart_behind old behind link (at + 16 * u) (length old) parts.2 links (block_behind old at u h held)
-      (λ e. let b = begins_free old behind link (at + 16 * u) (length old) parts.2 links e in none (record { at = at + 16 * u; units = b.units }) e refl (block_of b)) in
-      (apart, room_is ∙ room_at-apart behind (at + 16 * u) (length old) parts.2 apart)
-    where
-      block_of : (b : BeginsFree behind (at + 16 * u)) → IsBlock old (record { at = at + 16 * u; units = b.units })
-      block_of b = IsBlock-tile old (put_front before (tile at u true)) b.rest (at + 16 * u) b.units false
-          (subst (λ l. IsTiling old l) (ap (λ l. before ++ tile at u true ∷ l) b.parts ∙ sym (put_front-append before (tile (at + 16 * u) b.units false ∷ b.rest) (tile at u true))) was).tiled
+  -- no free tile stands right behind
+  pub gap_none : AreApart false behind → room_at (gaps old) (at + 16 * u) ≡ 0
+  gap_none apart = room_is ∙ room_at-apart behind (at + 16 * u) (length old) parts.2 apart
 
   pub record HasGap (v : ℕ) : Type 0 where
     pub rest : List Tile
@@ -147,38 +134,32 @@ module _ (old : List ℕ) (at u : ℕ) (h : IsHeap 0 old) (held : Contains (live
     pub room : room_at (gaps old) (at + 16 * u) ≡ v
     pub large : 2 ≤ v
     pub apart : AreApart false rest
-    pub tiling : IsTiling old (before ++ (tile at u true ∷ tile (at + 16 * u) v false ∷ rest))
+    pub tiling : IsTiling allocator old (before ++ (tile at u true ∷ tile (at + 16 * u) v false ∷ rest))
     pub fill : Fill (at + 16 * u + 16 * v) rest (length old)
 
-  pub gap_found : (link v : ℕ) → link ≡ link_behind 24 before → target old link ≡ Some (at + 16 * u + 16) → ((g : Span) → target old link ≡ Some (at + 16 * u + 16) → g.at ≡ at + 16 * u → IsBlock old g → v ≡ g.units) → HasGap v
-  gap_found link v link_is named read =
-      let links = subst (λ p. Links old p (free_of behind) None) (sym link_is) (Links-behind old before (tile at u true ∷ behind) 24 None was.links) in
-      let b = begins_free old behind link (at + 16 * u) (length old) parts.2 links named in
-      let same : v ≡ b.units = read (record { at = at + 16 * u; units = b.units }) named refl
-      (IsBlock-tile old (put_front before (tile at u true)) b.rest (at + 16 * u) b.units false
-      (subst (λ l. IsTiling old l) (ap (λ l. before ++ tile at u true ∷ l) b.parts ∙ sym (put_front-append before (tile (at + 16 * u) b.units false ∷ b.rest) (tile at u true))) was).tiled) in
-      let behind_is : behind ≡ tile (at + 16 * u) v false ∷ b.rest = b.parts ∙ ap (λ n. tile (at + 16 * u) n false ∷ b.rest) (sym same) in
-      let fill = subst (λ l. Fill (at + 16 * u) l (length old)) behind_is parts.2 in
+  pub gap_found : (v : ℕ) (rest : List Tile) → behind ≡ tile (at + 16 * u) v false ∷ rest → HasGap v
+  gap_found v rest is =
+      let fill = subst (λ l. Fill (at + 16 * u) l (length old)) is parts.2 in
       record {
-        rest = b.rest;
-        gap_parts = behind_is;
-        room = room_is ∙ ap (λ l. room_at (free_of l) (at + 16 * u)) behind_is ∙ rw (test_same (at + 16 * u) (at + 16 * u) refl) refl;
+        rest = rest;
+        gap_parts = is;
+        room = room_is ∙ ap (λ l. room_at (free_of l) (at + 16 * u)) is ∙ rw (test_same (at + 16 * u) (at + 16 * u) refl) refl;
         large = fill.1;
-        apart = (subst (λ l. AreApart true l) behind_is (block_behind old at u h held)).1;
-        tiling = subst (λ l. IsTiling old (before ++ tile at u true ∷ l)) behind_is was;
+        apart = (subst (λ l. AreApart true l) is (block_behind old at u h held)).1;
+        tiling = subst (λ l. IsTiling allocator old (before ++ tile at u true ∷ l)) is was;
         fill = fill.2;
       }
 
   -- ---- the block that took the gap in, whole or cut
 
-  pub resized_whole : (mid : List ℕ) (v : ℕ) (g : HasGap v) → Retiles old mid before (tile at (u + v) true ∷ []) g.rest × Agrees old mid (at + 8) (at + 16 * u) → IsResized old mid at (u + v)
+  pub resized_whole : (mid : List ℕ) (v : ℕ) (g : HasGap v) → Retiles allocator old mid before (tile at (u + v) true ∷ []) g.rest × Agrees old mid (at + 8) (at + 16 * u) → IsResized allocator old mid at (u + v)
   resized_whole mid v g r =
       resizes mid (u + v) g.rest r.0.tiling (sym (ap live_of g.gap_parts)) (AreApart-live false g.rest g.apart)
       (Spares-same old mid (before ++ g.rest) (before ++ behind) (ap (λ l. live_of (before ++ l)) g.gap_parts ∙ live_of-append before (tile (at + 16 * u) v false ∷ g.rest) ∙ sym (live_of-append before g.rest)) r.0.spared)
       (Agrees-within old mid (at + 8) (at + 16 * u) (at + 8) (at + 16 * min u (u + v)) r.1 (omega arith) (omega arith))
 
-  pub resized_cut : (mid new : List ℕ) (v need : ℕ) (g : HasGap v) → Retiles old mid before (tile at (u + v) true ∷ []) g.rest × Agrees old mid (at + 8) (at + 16 * u)
-      → Retiles mid new before (tile at need true ∷ tile (at + 16 * need) (u + v - need) false ∷ []) g.rest × Agrees mid new (at + 8) (at + 16 * need) → IsResized old new at need
+  pub resized_cut : (mid new : List ℕ) (v need : ℕ) (g : HasGap v) → Retiles allocator old mid before (tile at (u + v) true ∷ []) g.rest × Agrees old mid (at + 8) (at + 16 * u)
+      → Retiles allocator mid new before (tile at need true ∷ tile (at + 16 * need) (u + v - need) false ∷ []) g.rest × Agrees mid new (at + 8) (at + 16 * need) → IsResized allocator old new at need
   resized_cut mid new v need g r c =
       resizes new need (tile (at + 16 * need) (u + v - need) false ∷ g.rest) c.0.tiling (sym (ap live_of g.gap_parts)) ((λ e. absurd (never e)), g.apart)
       (Spares-same old new (before ++ g.rest) (before ++ behind) (ap (λ l. live_of (before ++ l)) g.gap_parts ∙ live_of-append before (tile (at + 16 * u) v false ∷ g.rest) ∙ sym (live_of-append before g.rest))
@@ -189,7 +170,7 @@ module _ (old : List ℕ) (at u : ℕ) (h : IsHeap 0 old) (held : Contains (live
       never : true ≡ false → ⊥
       never e = cc
 
-  pub resized_less : (new : List ℕ) (need : ℕ) → AreApart false behind → Retiles old new before (tile at need true ∷ tile (at + 16 * need) (u - need) false ∷ []) behind × Agrees old new (at + 8) (at + 16 * need) → IsResized old new at need
+  pub resized_less : (new : List ℕ) (need : ℕ) → AreApart false behind → Retiles allocator old new before (tile at need true ∷ tile (at + 16 * need) (u - need) false ∷ []) behind × Agrees old new (at + 8) (at + 16 * need) → IsResized allocator old new at need
   resized_less new need apart c =
       resizes new need (tile (at + 16 * need) (u - need) false ∷ behind) c.0.tiling refl ((λ e. absurd (never e)), apart) c.0.spared
       (Agrees-within old new (at + 8) (at + 16 * need) (at + 8) (at + 16 * min u need) c.1 (omega arith) (omega arith))
@@ -197,9 +178,75 @@ module _ (old : List ℕ) (at u : ℕ) (h : IsHeap 0 old) (held : Contains (live
       never : true ≡ false → ⊥
       never e = cc
 
-  pub resized_not : IsResized old old at u
+  pub resized_not : IsResized allocator old old at u
   resized_not = record {
     heap = h;
     kept = Keeps-same old;
     live_is = sym resized_same;
+  }
+
+-- ---- the sizes that are given
+
+leb_no : (a b : ℕ) → b < a → leb a b ≡ false
+leb_no a b h = grind (arith, nat_tests)
+
+ltb_yes : (a b : ℕ) → a < b → ltb a b ≡ true
+ltb_yes a b h = grind (arith, nat_tests)
+
+pub granted_all : (n u : ℕ) → u ≤ n → n < u + 2 → granted n u ≡ n
+granted_all n u low high = grind (arith, nat_tests)
+
+pub granted_part : (n u : ℕ) → u + 2 ≤ n → granted n u ≡ u
+granted_part n u h = grind (arith, nat_tests)
+
+expanded_same : (x room u : ℕ) → u ≤ x → expanded x room u ≡ Some x
+expanded_same x room u h = rw (le-leb u x h) refl
+
+expanded_none : (x room u : ℕ) → x + room < u → expanded x room u ≡ None
+expanded_none x room u h = rw (leb_no u x (omega arith), leb_no u (x + room) h) refl
+
+expanded_more : (x room u : ℕ) → x < u → u ≤ x + room → expanded x room u ≡ Some (granted (x + room) u)
+expanded_more x room u low high = rw (leb_no u x low, le-leb u (x + room) high) refl
+
+pub shrunk_cut : (x u : ℕ) → u + 2 ≤ x → shrunk x 0 u ≡ u
+shrunk_cut x u h = rw (le-leb (u + 2) x h) refl
+
+pub shrunk_not : (x u : ℕ) → x < u + 2 → shrunk x 0 u ≡ x
+shrunk_not x u h = rw (leb_no (u + 2) x h) refl
+
+pub shrunk_room : (x room u : ℕ) → 0 < room → shrunk x room u ≡ u
+shrunk_room x room u h = ⊎_elim (λ k. rw (leb_no (u + 2) x k, ltb_yes 0 room h) refl) (λ k. rw (le-leb (u + 2) x k) refl) (cases_lt x (u + 2))
+
+-- ---- what the calls leave
+
+module _ {allocator : ℕ} (old : List ℕ) (at u need : ℕ) (h : IsHeap allocator old) (held : Contains (live old) (record { at = at; units = u })) where
+  pub expands_enough : need ≤ u → Expands allocator old old at u need true
+  expands_enough enough = record {
+    heap = h;
+    kept = Keeps-same old;
+    unchanged = λ _. refl;
+    expands = rw (expanded_same u (room_at (gaps old) (at + 16 * u)) need enough) (refl, sym (resized_same old at u h held));
+  }
+
+  pub expands_short : (room : ℕ) → room_at (gaps old) (at + 16 * u) ≡ room → u + room < need → Expands allocator old old at u need false
+  expands_short room room_is short = record {
+    heap = h;
+    kept = Keeps-same old;
+    unchanged = λ _. refl;
+    expands = rw (room_is, expanded_none u room need short) (refl, refl);
+  }
+
+  pub expands_done : (new : List ℕ) (v n : ℕ) → room_at (gaps old) (at + 16 * u) ≡ v → u < need → need ≤ u + v → granted (u + v) need ≡ n → IsResized allocator old new at n → Expands allocator old new at u need true
+  expands_done new v n room_is low enough n_is r = record {
+    heap = r.heap;
+    kept = r.kept;
+    unchanged = λ k. absurd (omega arith);
+    expands = rw (room_is, expanded_more u v need low enough, n_is) (refl, r.live_is);
+  }
+
+  pub shrinks_to : (new : List ℕ) (n : ℕ) → shrunk u (room_at (gaps old) (at + 16 * u)) need ≡ n → IsResized allocator old new at n → Shrinks allocator old new at u need
+  shrinks_to new n n_is r = record {
+    heap = r.heap;
+    kept = r.kept;
+    shrinks = rw n_is r.live_is;
   }

@@ -1,52 +1,11 @@
--- A heap as its tiles, its live blocks and its gaps.
+-- The free blocks among the tiles, and the pointer words that name them.
 use Rattle.std.proofs.Common.{◌≡◌, ℕ, ◌+◌, ◌*◌, ◌%◌, ◌<◌, ◌≤◌, Bool, true, false, List, [], ◌∷◌, ◌++◌, length, cond, ltb, None, refl, sym, ap, ◌∙◌, subst, arith}
 use Rattle.std.proofs.lemmas.Bool.Decides.{nat_tests}
 use Rattle.seg_spec.specs.Heap.{Span, Tile, span_of, Fill, AreHeaders, AreApart, Links, live_of, free_of, gaps_between, heap_start, tiles, live, gaps, IsHeap, with_block}
 use Rattle.seg_spec.proofs.TileLaws.{Fill-le, tiles-unique, gaps_between-live_of}
 use Rattle.seg_seqfit.specs.FreeBlocks.{AreFreeBlocks, link_after}
-use Rattle.seg_block.specs.Tiling.{tile}
-use Rattle.seg_seqfit.specs.Retiling.{link_behind, IsTiling}
-
--- ---- between the two views
-
-gaps_are : (bytes : List ℕ) (ts : List Tile) → tiles bytes ≡ ts → Fill heap_start ts (length bytes) → AreApart true ts → gaps bytes ≡ free_of ts
-unfolding live
-gaps_are bytes ts is f a = ap (λ l. gaps_between heap_start (live_of l) (length bytes)) is ∙ gaps_between-live_of ts true heap_start (length bytes) f a
-
-live_are : (bytes : List ℕ) (ts : List Tile) → tiles bytes ≡ ts → live bytes ≡ live_of ts
-unfolding live
-live_are bytes ts is = ap live_of is
-
-pub gaps_of_heap : (bytes : List ℕ) → IsHeap 0 bytes → gaps bytes ≡ free_of (tiles bytes)
-gaps_of_heap bytes h = gaps_are bytes (tiles bytes) refl h.filled h.apart
-
-pub tiling_of_heap : (bytes : List ℕ) → IsHeap 0 bytes → IsTiling bytes (tiles bytes)
-tiling_of_heap bytes h = record {
-  tiled = record { small = h.small; filled = h.filled; headers = h.headers };
-  links = subst (λ gs. Links bytes 24 gs None) (gaps_of_heap bytes h) h.free;
-}
-
--- what is known of bytes that these tiles fill, where no two free ones are neighbours
-pub record IsTiledHeap (bytes : List ℕ) (ts : List Tile) : Type 0 where
-  pub heap : IsHeap 0 bytes
-  pub live_is : live bytes ≡ live_of ts
-  pub gaps_is : gaps bytes ≡ free_of ts
-
-pub heap_of_tiling : (bytes : List ℕ) (ts : List Tile) → IsTiling bytes ts → AreApart true ts → IsTiledHeap bytes ts
-heap_of_tiling bytes ts t apart =
-    let is : tiles bytes ≡ ts = tiles-unique bytes ts t.tiled.filled t.tiled.headers in
-    let free_is = gaps_are bytes ts is t.tiled.filled apart in
-    record {
-      heap = record {
-        filled = subst (λ l. Fill heap_start l (length bytes)) (sym is) t.tiled.filled;
-        headers = subst (λ l. AreHeaders bytes 0 l) (sym is) t.tiled.headers;
-        apart = subst (λ l. AreApart true l) (sym is) apart;
-        free = subst (λ gs. Links bytes 24 gs None) (sym free_is) t.links;
-        small = t.tiled.small;
-      };
-      live_is = live_are bytes ts is;
-      gaps_is = free_is;
-    }
+use Rattle.seg_block.specs.Tiling.{tile, IsTiling}
+use Rattle.seg_seqfit.specs.Retiling.{link_behind}
 
 -- ---- the free blocks
 
@@ -63,7 +22,7 @@ AreFreeBlocks-free_of bytes (t ∷ ts) low from before above aligned f h =
       ))
     ] refl
 
-pub free_blocks : (bytes : List ℕ) (ts : List Tile) → IsTiling bytes ts → AreFreeBlocks bytes 704 (free_of ts)
+pub free_blocks : (bytes : List ℕ) (ts : List Tile) → IsTiling 0 bytes ts → AreFreeBlocks bytes 704 (free_of ts)
 free_blocks bytes ts t = AreFreeBlocks-free_of bytes ts 704 heap_start 0 (omega arith) refl t.tiled.filled t.tiled.headers
 
 -- the tiles around a free one
@@ -109,32 +68,3 @@ has_free (t ∷ ts) p (s ∷ seen) rest g e =
           has_more t ts p (s.at + 12) (s ∷ seen) seen g refl (ap (λ (x : Span). x.at + 12) (sym same.0) ∙ sym (ap (λ b. cond b p (t.at + 12)) is)) (has_free ts (s.at + 12) seen rest g same.1))
     ] in
     go refl e
-
--- ---- the live blocks
-
-less : (a b : ℕ) → a < b → ltb a b ≡ true
-less a b h = grind (arith, nat_tests)
-
-no_less : (a b : ℕ) → b ≤ a → ltb a b ≡ false
-no_less a b h = grind (arith, nat_tests)
-
-with_block-above : (b : Span) (ys : List Tile) (from to : ℕ) → b.at < from → Fill from ys to → with_block b (live_of ys) ≡ b ∷ live_of ys
-with_block-above b [] from to h f = refl
-with_block-above b (t ∷ ys) from to h f =
-    elim t.live as (λ l. with_block b (cond l (span_of t ∷ live_of ys) (live_of ys)) ≡ b ∷ cond l (span_of t ∷ live_of ys) (live_of ys))
-    [ true ↦ rw (less b.at t.at (omega (arith, f.0))) refl | false ↦ with_block-above b ys (from + 16 * t.units) to (omega arith) f.2 ]
-
-pub with_block-between : (b : Span) (xs ys : List Tile) (from hi to : ℕ) → Fill from xs b.at → b.at < hi → Fill hi ys to → with_block b (live_of (xs ++ ys)) ≡ live_of xs ++ b ∷ live_of ys
-with_block-between b [] ys from hi to f h k = with_block-above b ys hi to h k
-with_block-between b (t ∷ xs) ys from hi to f h k =
-    let le = Fill-le xs (from + 16 * t.units) b.at f.2 in
-    let rest = with_block-between b xs ys (from + 16 * t.units) hi to f.2 h k in
-    elim t.live as (λ l. with_block b (cond l (span_of t ∷ live_of (xs ++ ys)) (live_of (xs ++ ys))) ≡ cond l (span_of t ∷ live_of xs) (live_of xs) ++ b ∷ live_of ys)
-    [ true ↦ rw (no_less b.at t.at (omega (arith, f.0, f.1))) (ap (λ l. span_of t ∷ l) rest) | false ↦ rest ]
-
-pub AreApart-live : (live : Bool) (ts : List Tile) → AreApart live ts → AreApart true ts
-AreApart-live live [] a = tt
-AreApart-live live (t ∷ ts) a = (λ e. absurd (no e), a.1)
-  where
-    no : true ≡ false → ⊥
-    no e = cc

@@ -1,0 +1,3 @@
+mod model;
+mod rows;
+mod segment;
