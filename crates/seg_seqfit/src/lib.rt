@@ -6,6 +6,3 @@ mod search;
 mod seqfit;
 
 pub use seqfit::SeqFit;
-
-#[cfg(test)]
-mod tests;

@@ -1,3 +1,0 @@
-mod model;
-mod rows;
-mod segment;
