@@ -3,7 +3,6 @@ pub mod SliceLaws
 pub mod PointerLaws
 pub mod TileLaws
 pub mod HeaderLaws
-pub mod SizeLaws
 pub mod Frame
 pub mod OneReading
 pub mod Paths

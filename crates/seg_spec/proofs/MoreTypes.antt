@@ -6,15 +6,12 @@ use Rattle.std.proofs.lemmas.List.Elements.{All-head, All-tail}
 use Rattle.seg_spec.specs.Types.{Form, Table, form_at, size, size_by, built, IsForm, IsTable}
 use Rattle.seg_spec.specs.Value.{Value, Values}
 use Rattle.seg_spec.specs.Reads.{Place, Opened, fields, Opens, Holds, holds, HoldsEach, holds_none, holds_more}
-use Rattle.seg_spec.proofs.SizeLaws.{built_kept}
+use Rattle.seg_spec.proofs.TypesLaws.{built_kept}
+use Rattle.seg_spec.proofs.EntryLaws.{length-built}
 
 built-append : {X : Type 0} (step : ℕ → List X → Form → X) (before : List X) (old more : Table) → built step before (old ++ more) ≡ built step (built step before old) more
 built-append step before [] more = refl
 built-append step before (form ∷ old) more = built-append step (before ++ step (length before) before form ∷ []) old more
-
-length-built : {X : Type 0} (step : ℕ → List X → Form → X) (before : List X) (old : Table) → length (built step before old) ≡ length before + length old
-length-built step before [] = omega arith
-length-built step before (form ∷ old) = length-built step (before ++ step (length before) before form ∷ []) old ∙ (let e = length-append before (step (length before) before form ∷ []) in omega arith)
 
 pub form_extended : (old more : Table) (T : ℕ) (form : Form) → form_at old T ≡ Some form → form_at (old ++ more) T ≡ Some form
 form_extended [] more T form e = cc
