@@ -1,6 +1,6 @@
 use super::segment::{listed, segment};
 use crate::SeqFit;
-use seg_block::{Fit, Grant, need, request, units};
+use seg_block::{Block, Fit, Grant, need, next, previous, request, units};
 use seg_ptr::Window;
 use seg_ptr::header::SIZE;
 use std::alloc::Global;
@@ -37,6 +37,27 @@ fn takes_the_lowest_gap(rt: HostRuntime) -> Result<(), Fail> {
     SeqFit::free(&mut w, 832);
     allocates(&rt, &mut w, &[(4, 704)]);
     lists(&rt, &w, &[(768, 2), (832, 4)])
+}
+
+#[test]
+fn names_neighbours(rt: HostRuntime) -> Result<(), Fail> {
+    let mut w = segment(rt.alloc(), 960)?;
+    allocates(&rt, &mut w, &[(4, 704), (2, 768)]);
+    let [first, second, rest] = [(704, 4), (768, 2), (800, 10)].map(|(at, units)| Block {
+        at,
+        units,
+    });
+    assert_eq!(rt;
+        [next(&w, first), next(&w, second), next(&w, rest)],
+        [Some(second), Some(rest), None]
+    );
+    let before = [
+        previous(&w, first),
+        previous(&w, second),
+        previous(&w, rest),
+    ];
+    assert_eq!(rt; before, [None, Some(first), Some(second)]);
+    Ok(())
 }
 
 #[test]

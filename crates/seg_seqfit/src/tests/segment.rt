@@ -1,5 +1,5 @@
 use crate::SeqFit;
-use seg_block::{Fit, HEAP_START, UNIT, is_live, units};
+use seg_block::{Fit, HEAP_START, LINK, UNIT, is_live, units};
 use seg_ptr::Window;
 use seg_ptr::header::FREE;
 use seg_raw::Region;
@@ -27,7 +27,7 @@ pub(super) fn listed(alloc: Global, w: &Window<Global>) -> Result<Vec<(u32, u32)
         };
         let gap = payload.wrapping_sub(UNIT);
         gaps.push((gap, units(w, gap)))?;
-        link = gap as usize + 12;
+        link = gap as usize + LINK;
     }
     Ok(gaps)
 }
