@@ -5,7 +5,7 @@ ghost use Rattle.seg_block.specs.Sizes.{set_size, set_split};
 ghost use Rattle.seg_block.specs.Tiling.{tile, IsTiled, Replaces};
 ghost use Rattle.seg_block.specs.Blocks.{IsBlock, HasEnd};
 
-use crate::header::{HEAP_START, LIVE, UNIT, is_live, units, units_before};
+use crate::header::{HEAP_START, LIVE, TAG, UNIT, UNITS_BEFORE, is_live, units, units_before};
 use seg_ptr::Window;
 use std::alloc::Allocator;
 
@@ -62,7 +62,7 @@ pub fn set_size<A: Allocator>(w: &mut Window<A>, block: u32, units: u32, live: b
 {
     let size = if live { units + LIVE } else { units };
     w.put32(block as usize, size);
-    w.put32(block as usize + 16 * units as usize + 4, units);
+    w.put32(block as usize + 16 * units as usize + UNITS_BEFORE, units);
 }
 
 /// The block right behind a block, where the segment goes on.
@@ -99,7 +99,7 @@ pub fn split<A: Allocator>(w: &mut Window<A>, block: Block, units: u32)
 {
     let live = is_live(w, block.at);
     let rest = block.at + UNIT * units;
-    w.put32(rest as usize + 8, 0);
+    w.put32(rest as usize + TAG, 0);
     set_size(w, rest, block.units - units, live);
     set_size(w, block.at, units, live);
 }

@@ -28,10 +28,7 @@ pub fn request_new<F: Fit, A: Allocator>(
     if let Some(block) = F::allocate(w, preferred) {
         return Some(Grant::New(block));
     }
-    match F::allocate(w, limit) {
-        Some(block) => Some(Grant::New(block)),
-        None => None,
-    }
+    F::allocate(w, limit).map(Grant::New)
 }
 
 /// Finds room for `preferred` units, or for `limit`, at a live block or elsewhere.

@@ -10,6 +10,15 @@ pub const UNIT: u32 = 16;
 /// Where the heap begins.
 pub const HEAP_START: u32 = 704;
 
+/// Where a header holds the units of the block before, in bytes from its start.
+pub const UNITS_BEFORE: usize = 4;
+
+/// Where a header holds the block's tag.
+pub const TAG: usize = 8;
+
+/// Where a header holds the block's link.
+pub const LINK: usize = 12;
+
 /// The bit of the first word that says whether a block is live. The bits below count its units.
 pub(crate) const LIVE: u32 = 1 << 31;
 
@@ -31,21 +40,21 @@ pub fn is_live<A: Allocator>(w: &Window<A>, block: u32) -> bool
 pub fn units_before<A: Allocator>(w: &Window<A>, block: u32) -> u32
     ensures { result ≡ units_before w.now.bytes block }
 {
-    w.get32(block as usize + 4)
+    w.get32(block as usize + UNITS_BEFORE)
 }
 
 /// The word that says what a block is ([`Tag::read`](crate::Tag::read)).
 pub fn tag_word<A: Allocator>(w: &Window<A>, block: u32) -> u32
     ensures { result ≡ tag_at w.now.bytes block }
 {
-    w.get32(block as usize + 8)
+    w.get32(block as usize + TAG)
 }
 
 /// What the block's link names.
 pub fn link<A: Allocator>(w: &Window<A>, block: u32) -> Option<u32>
     ensures { result ≡ link_at w.now.bytes block }
 {
-    w.target(block as usize + 12)
+    w.target(block as usize + LINK)
 }
 
 /// The bytes of the block's payload.

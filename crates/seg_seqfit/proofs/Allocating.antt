@@ -1,18 +1,12 @@
 -- An allocation, from what its steps ensure.
-use Rattle.std.proofs.Common.{◌≡◌, ℕ, ◌+◌, ◌-◌, ◌*◌, ◌<◌, ◌≤◌, true, false, List, [], ◌∷◌, ◌++◌, length, min, Option, Some, None, refl, sym, ap, ◌∙◌, subst, arith, ⊎_elim}
-use Rattle.std.specs.Prelude.{Contains}
-use Rattle.std.proofs.lemmas.Bool.{cases_lt}
-use Rattle.std.proofs.lemmas.Bool.Decides.{nat_tests}
+use Rattle.std.proofs.Common.{◌≡◌, ℕ, ◌+◌, ◌-◌, ◌*◌, ◌<◌, ◌≤◌, true, false, List, [], ◌∷◌, ◌++◌, Some, None, sym, ◌∙◌, subst}
 use Rattle.seg_spec.specs.Bytes.{Agrees}
-use Rattle.seg_spec.specs.Heap.{Span, Tile, end_of, link_at, Fill, AreApart, live_of, heap_start, tiles, live, gaps, IsHeap, first_fit, granted, with_block, Keeps, Takes}
-use Rattle.seg_spec.proofs.BytesLaws.{Agrees-within, Agrees-same, Agrees-trans}
-use Rattle.seg_spec.proofs.TileLaws.{live_of-append, AreApart-append, AreApart-front, AreApart-back}
+use Rattle.seg_spec.specs.Heap.{Span, Tile, link_at, tiles, gaps, IsHeap, Takes}
 use Rattle.seg_seqfit.specs.FreeBlocks.{AreFreeBlocks, IsFirstFit}
-use Rattle.seg_block.specs.Tiling.{tile, Spares, IsTiling, Retiles}
+use Rattle.seg_block.specs.Tiling.{tile, IsTiling, Retiles}
 use Rattle.seg_seqfit.specs.Retiling.{link_behind}
-use Rattle.seg_block.proofs.Tiled.{around}
 use Rattle.seg_seqfit.proofs.FreeTiles.{free_blocks, has_free, HasFree}
-use Rattle.seg_block.proofs.Heaps.{gaps_of_heap, tiling_of_heap, heap_of_tiling, with_block-between, AreApart-live, Keeps-same, Spares-trans, Spares-same}
+use Rattle.seg_block.proofs.Heaps.{gaps_of_heap, tiling_of_heap}
 use Rattle.seg_block.proofs.Taken.{takes}
 
 pub heap_free_blocks : (bytes : List ℕ) → IsHeap 0 bytes → AreFreeBlocks bytes 704 (gaps bytes)

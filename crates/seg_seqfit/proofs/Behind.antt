@@ -7,7 +7,7 @@ use Rattle.seg_block.specs.Blocks.{IsBlock}
 use Rattle.seg_block.specs.Tiling.{tile, IsTiling}
 use Rattle.seg_block.proofs.Tiled.{around}
 use Rattle.seg_block.proofs.Neighbours.{IsBlock-tile}
-use Rattle.seg_block.proofs.LiveBlocks.{block, block_tiling, block_behind}
+use Rattle.seg_block.proofs.LiveBlocks.{block_tiling, block_behind}
 use Rattle.seg_block.proofs.Resized.{before, behind, HasGap, gap_none, gap_found}
 use Rattle.seg_seqfit.specs.Retiling.{link_behind}
 use Rattle.seg_seqfit.proofs.LinkLaws.{Links-behind}

@@ -1,11 +1,10 @@
 -- `expand` and `shrink`, from what their steps ensure.
-use Rattle.std.proofs.Common.{◌≡◌, ℕ, ◌+◌, ◌-◌, ◌*◌, ◌<◌, ◌≤◌, Bool, true, false, List, [], ◌∷◌, ◌++◌, ltb, leb, Some, None, refl, sym, ap, ◌∙◌, subst, arith, ⊎_elim, le-leb}
+use Rattle.std.proofs.Common.{◌≡◌, ℕ, ◌+◌, ◌-◌, ◌*◌, ◌<◌, ◌≤◌, Bool, true, false, List, [], ◌∷◌, ◌++◌, Some, None, refl, sym, ap, ◌∙◌, subst, arith, ⊎_elim}
 use Rattle.std.specs.Prelude.{Contains}
 use Rattle.std.proofs.lemmas.Bool.{cases_lt}
-use Rattle.std.proofs.lemmas.Bool.Decides.{nat_tests}
 use Rattle.seg_spec.specs.Bytes.{Agrees}
 use Rattle.seg_spec.specs.Pointer.{target}
-use Rattle.seg_spec.specs.Heap.{Span, Tile, Links, live, gaps, IsHeap, granted, room_at, expanded, shrunk, Expands, Shrinks}
+use Rattle.seg_spec.specs.Heap.{Span, Tile, Links, live, IsHeap, shrunk, Expands, Shrinks}
 use Rattle.seg_block.specs.Blocks.{IsBlock}
 use Rattle.seg_seqfit.specs.FreeBlocks.{AreFreeBlocks, AreBelow, AreAbove, link_after}
 use Rattle.seg_block.specs.Tiling.{tile, IsTiling, Retiles}
@@ -15,7 +14,6 @@ use Rattle.seg_block.proofs.LiveBlocks.{block, block_tiling}
 use Rattle.seg_seqfit.proofs.Freeing.{link_of_walk}
 use Rattle.seg_block.proofs.Resized.{IsResized, HasGap, granted_all, granted_part, shrunk_cut, shrunk_not, shrunk_room, expands_enough, expands_short, expands_done, shrinks_to, resized_whole, resized_cut, resized_less, resized_not, before, behind}
 use Rattle.seg_seqfit.proofs.Behind.{unnamed, gap_behind}
-use Rattle.seg_block.proofs.Heaps.{Keeps-same}
 
 -- ---- at the block that was named
 

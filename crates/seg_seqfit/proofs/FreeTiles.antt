@@ -1,8 +1,7 @@
 -- The free blocks among the tiles, and the pointer words that name them.
-use Rattle.std.proofs.Common.{◌≡◌, ℕ, ◌+◌, ◌*◌, ◌%◌, ◌<◌, ◌≤◌, Bool, true, false, List, [], ◌∷◌, ◌++◌, length, cond, ltb, None, refl, sym, ap, ◌∙◌, subst, arith}
-use Rattle.std.proofs.lemmas.Bool.Decides.{nat_tests}
-use Rattle.seg_spec.specs.Heap.{Span, Tile, span_of, Fill, AreHeaders, AreApart, Links, live_of, free_of, gaps_between, heap_start, tiles, live, gaps, IsHeap, with_block}
-use Rattle.seg_spec.proofs.TileLaws.{Fill-le, tiles-unique, gaps_between-live_of}
+use Rattle.std.proofs.Common.{◌≡◌, ℕ, ◌+◌, ◌*◌, ◌%◌, ◌≤◌, true, false, List, [], ◌∷◌, ◌++◌, length, cond, refl, sym, ap, ◌∙◌, arith}
+use Rattle.seg_spec.specs.Heap.{Span, Tile, span_of, Fill, AreHeaders, free_of, heap_start}
+use Rattle.seg_spec.proofs.TileLaws.{Fill-le}
 use Rattle.seg_seqfit.specs.FreeBlocks.{AreFreeBlocks, link_after}
 use Rattle.seg_block.specs.Tiling.{tile, IsTiling}
 use Rattle.seg_seqfit.specs.Retiling.{link_behind}

@@ -1,22 +1,20 @@
 -- What a release leaves, once the free tiles are joined.
-use Rattle.std.proofs.Common.{◌≡◌, ◌≢◌, ℕ, ◌+◌, ◌-◌, ◌*◌, ◌<◌, ◌≤◌, Bool, true, false, List, [], ◌∷◌, ◌++◌, length, min, cond, eqb, Some, None, refl, sym, ap, ◌∙◌, subst, arith, inl, inr, ◌⊎◌, ⊎_elim}
+use Rattle.std.proofs.Common.{◌≡◌, ◌≢◌, ℕ, ◌+◌, ◌-◌, ◌*◌, ◌<◌, ◌≤◌, Bool, true, false, List, [], ◌∷◌, ◌++◌, length, cond, Some, None, refl, sym, ap, ◌∙◌, subst, arith, inl, inr, ◌⊎◌, ⊎_elim}
 use Rattle.std.specs.Prelude.{Contains}
-use Rattle.std.proofs.lemmas.Bool.Decides.{nat_tests}
 use Rattle.std.proofs.lemmas.List.{append_assoc}
 use Rattle.seg_spec.specs.Pointer.{target}
-use Rattle.seg_spec.specs.Heap.{Span, Tile, span_of, end_of, IsLive, Fill, AreApart, Links, live_of, free_of, heap_start, tiles, live, IsHeap, without, Gives}
-use Rattle.seg_spec.proofs.BytesLaws.{Agrees-within, Agrees-same}
+use Rattle.seg_spec.specs.Heap.{Span, Tile, span_of, end_of, IsLive, Fill, AreApart, Links, live_of, free_of, heap_start, tiles, live, IsHeap, Gives}
+use Rattle.seg_spec.proofs.BytesLaws.{Agrees-same}
 use Rattle.seg_spec.proofs.TileLaws.{Fill-le, live_of-append, free_of-append, AreApart-append, AreApart-front, AreApart-back, live_after}
 use Rattle.seg_block.specs.Blocks.{IsBlock}
 use Rattle.seg_seqfit.specs.FreeBlocks.{AreFreeBlocks, AreBelow, AreAbove, link_after}
 use Rattle.seg_block.specs.Tiling.{tile, Spares, IsTiling, Retiles}
 use Rattle.seg_seqfit.specs.Retiling.{link_behind, JoinsBehind}
 use Rattle.seg_seqfit.proofs.LinkLaws.{Links-behind, link_behind-cases}
-use Rattle.seg_block.proofs.LiveTiles.{cons_cases}
 use Rattle.seg_block.proofs.Neighbours.{IsBlock-tile}
 use Rattle.seg_block.proofs.Tiled.{around}
 use Rattle.seg_seqfit.proofs.FreeTiles.{free_blocks}
-use Rattle.seg_block.proofs.Heaps.{tiling_of_heap, heap_of_tiling, IsTiledHeap, AreApart-live, Spares-trans, Spares-same}
+use Rattle.seg_block.proofs.Heaps.{AreApart-live, Spares-trans, Spares-same}
 use Rattle.seg_block.proofs.LiveBlocks.{HasLive, block, block_tiling, block_behind, block_front, gives}
 
 -- ---- the free list around a live tile

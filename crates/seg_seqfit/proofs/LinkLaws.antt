@@ -4,8 +4,7 @@ use Rattle.std.specs.Prelude.{Contains}
 use Rattle.seg_spec.specs.Bytes.{Agrees}
 use Rattle.seg_spec.specs.Pointer.{target}
 use Rattle.seg_spec.specs.Heap.{Span, Tile, span_of, end_of, Fill, Links, live_of, free_of}
-use Rattle.seg_spec.proofs.BytesLaws.{number-agrees, Agrees-within}
-use Rattle.seg_spec.proofs.PointerLaws.{target-same}
+use Rattle.seg_spec.proofs.BytesLaws.{Agrees-within}
 use Rattle.seg_spec.proofs.TileLaws.{Fill-le}
 use Rattle.seg_seqfit.specs.Retiling.{link_behind}
 use Rattle.seg_block.proofs.LiveTiles.{cons_cases}

@@ -8,7 +8,7 @@ ghost use Rattle.seg_block.specs.Tiling.{tile, IsTiling, Retiles};
 ghost use Rattle.seg_seqfit.specs.Retiling.{link_behind, JoinsBehind};
 
 use crate::search::free_behind;
-use seg_block::{Block, UNIT, block_at, join, set_size, split};
+use seg_block::{Block, LINK, TAG, UNIT, block_at, join, set_size, split};
 use seg_ptr::Window;
 use std::alloc::Allocator;
 
@@ -55,9 +55,9 @@ pub(crate) fn take<A: Allocator>(w: &mut Window<A>, link: usize, block: Block)
     ensures tiles { (xs ys : List Tile) → link ≡ link_behind 24 xs → IsTiling 0 w.old.bytes (xs ++ tile block.at block.units false ∷ ys)
         → Retiles 0 w.old.bytes w.new.bytes xs (tile block.at block.units true ∷ []) ys × (link_at w.new.bytes block.at ≡ None) }
 {
-    let next = w.target(block.at as usize + 12);
+    let next = w.target(block.at as usize + LINK);
     w.point(link, next);
-    w.point(block.at as usize + 12, None);
+    w.point(block.at as usize + LINK, None);
     set_size(w, block.at, block.units, true);
 }
 
@@ -69,8 +69,8 @@ pub(crate) fn release<A: Allocator>(w: &mut Window<A>, link: usize, block: Block
         → Retiles 0 w.old.bytes w.new.bytes xs (tile block.at block.units false ∷ []) ys }
 {
     let next = w.target(link);
-    w.put32(block.at as usize + 8, 0);
-    w.point(block.at as usize + 12, next);
+    w.put32(block.at as usize + TAG, 0);
+    w.point(block.at as usize + LINK, next);
     w.point(link, Some(block.at + UNIT));
     set_size(w, block.at, block.units, false);
 }
@@ -82,9 +82,9 @@ pub(crate) fn merge<A: Allocator>(w: &mut Window<A>, front: Block, rest: Block)
     ensures tiles { (xs ys : List Tile) → IsTiling 0 w.old.bytes (xs ++ (tile front.at front.units false ∷ tile (front.at + 16 * front.units) rest.units false ∷ ys))
         → Retiles 0 w.old.bytes w.new.bytes xs (tile front.at (front.units + rest.units) false ∷ []) ys }
 {
-    let next = w.target((front.at + UNIT * front.units) as usize + 12);
+    let next = w.target((front.at + UNIT * front.units) as usize + LINK);
     join(w, front, rest);
-    w.point(front.at as usize + 12, next);
+    w.point(front.at as usize + LINK, next);
 }
 
 /// Joins the free block at a position with what is free right behind it.
@@ -95,7 +95,7 @@ pub(crate) fn merge_behind<A: Allocator>(w: &mut Window<A>, at: u32)
     let Some(front) = block_at(w, at) else {
         return;
     };
-    if let Some(rest) = free_behind(w, front.at as usize + 12, front) {
+    if let Some(rest) = free_behind(w, front.at as usize + LINK, front) {
         merge(w, front, rest);
     }
 }

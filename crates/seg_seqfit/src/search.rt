@@ -6,7 +6,7 @@ ghost use Rattle.seg_spec.specs.Heap.{Span, Links, first_fit};
 ghost use Rattle.seg_block.specs.Blocks.{IsBlock};
 ghost use Rattle.seg_seqfit.specs.FreeBlocks.{AreFreeBlocks, AreBelow, AreAbove, link_after, IsFirstFit};
 
-use seg_block::{Block, HEAP_START, UNIT, block_at};
+use seg_block::{Block, HEAP_START, LINK, UNIT, block_at};
 use seg_ptr::Window;
 use seg_ptr::header::FREE;
 use std::alloc::Allocator;
@@ -42,7 +42,7 @@ pub(crate) fn first_fit<A: Allocator>(w: &Window<A>, need: u32) -> Option<Found>
         if block.units >= need {
             return Some(Found { link, block });
         }
-        link = block.at as usize + 12;
+        link = block.at as usize + LINK;
         low = block.at + UNIT * block.units;
     }
     None
@@ -60,7 +60,7 @@ pub(crate) fn link_before<A: Allocator>(w: &Window<A>, block: u32) -> usize
         if gap.at > block {
             return link;
         }
-        link = gap.at as usize + 12;
+        link = gap.at as usize + LINK;
         low = gap.at + UNIT * gap.units;
     }
     link

@@ -2,7 +2,9 @@ ghost use Rattle.std.specs.Prelude.{ℕ};
 
 use crate::free_list::{absorb, cut, merge_behind, release, take};
 use crate::search::{first_fit, free_behind, link_before};
-use seg_block::{Block, Fit, HEAP_START, UNIT, block_at, is_live, last_block, set_size};
+use seg_block::{
+    Block, Fit, HEAP_START, LINK, TAG, UNIT, UNITS_BEFORE, block_at, is_live, last_block, set_size,
+};
 use seg_ptr::Window;
 use seg_ptr::header::{FREE, SIZE};
 use std::alloc::Allocator;
@@ -21,9 +23,9 @@ impl Fit for SeqFit {
 
     fn init<A: Allocator>(w: &mut Window<A>) {
         let units = w.len().saturating_sub(HEAP_START) / UNIT;
-        w.put32(HEAP_START as usize + 4, 0);
-        w.put32(HEAP_START as usize + 8, 0);
-        w.point(HEAP_START as usize + 12, None);
+        w.put32(HEAP_START as usize + UNITS_BEFORE, 0);
+        w.put32(HEAP_START as usize + TAG, 0);
+        w.point(HEAP_START as usize + LINK, None);
         w.point(FREE, Some(HEAP_START + UNIT));
         set_size(w, HEAP_START, units, false);
     }
@@ -104,7 +106,7 @@ impl Fit for SeqFit {
             let live = is_live(w, last.at);
             set_size(w, last.at, (len - last.at) / UNIT, live);
         } else {
-            w.put32(end as usize + 4, last.units);
+            w.put32(end as usize + UNITS_BEFORE, last.units);
             set_size(w, end, units, true);
             Self::free(w, end);
         }
