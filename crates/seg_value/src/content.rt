@@ -45,6 +45,15 @@ pub struct Entry {
 }
 
 impl Entry {
+    /// A byte of a string.
+    fn byte() -> Entry {
+        Entry {
+            size: 1,
+            before: 0,
+            item: None,
+        }
+    }
+
     /// The entry with a value of a type behind so many bytes.
     fn with_item(table: &TypeTable, item: TypeId, before: u32) -> Entry
         requires { before ≤ 24 }
@@ -85,40 +94,22 @@ pub struct Content {
 impl Content {
     /// What the cell of a type names. None for the types whose values name nothing themselves: numbers and structs.
     pub fn of(table: &TypeTable, t: TypeId) -> Option<Content> {
-        match table.kind(t)? {
-            Type::I64 | Type::Struct(_) => None,
-            Type::Str => {
-                let entry = Entry {
-                    size: 1,
-                    before: 0,
-                    item: None,
-                };
-                Some(Content::new(Shape::Buffer, Kind::Buffer, t, entry))
-            }
-            Type::Vec(item) => {
-                let entry = Entry::with_item(table, item, 0);
-                Some(Content::new(Shape::Buffer, Kind::Buffer, t, entry))
-            }
-            Type::FlatMap(item) => {
-                let entry = Entry::with_item(table, item, KEY);
-                Some(Content::new(Shape::Buffer, Kind::Buffer, t, entry))
-            }
-            Type::List(item) => {
-                let entry = Entry::with_item(table, item, LIST_LINKS);
-                Some(Content::new(Shape::Ring, Kind::Node, t, entry))
-            }
-            Type::Map(item) => {
-                let entry = Entry::with_item(table, item, TREE_WORDS + KEY);
-                Some(Content::new(Shape::Tree, Kind::Node, t, entry))
-            }
-            Type::Own(item) => Some(Content::object(table, item)),
-        }
+        let (shape, entry) = match table.kind(t)? {
+            Type::I64 | Type::Struct(_) => return None,
+            Type::Own(item) => return Some(Content::object(table, item)),
+            Type::Str => (Shape::Buffer, Entry::byte()),
+            Type::Vec(item) => (Shape::Buffer, Entry::with_item(table, item, 0)),
+            Type::FlatMap(item) => (Shape::Buffer, Entry::with_item(table, item, KEY)),
+            Type::List(item) => (Shape::Ring, Entry::with_item(table, item, LIST_LINKS)),
+            Type::Map(item) => (Shape::Tree, Entry::with_item(table, item, TREE_WORDS + KEY)),
+        };
+        Some(Content::new(shape, t, entry))
     }
 
     /// An object of a type: one value.
     pub fn object(table: &TypeTable, t: TypeId) -> Content {
         let entry = Entry::with_item(table, t, 0);
-        Content::new(Shape::Object, Kind::Object, t, entry)
+        Content::new(Shape::Object, t, entry)
     }
 
     /// What a block with this tag is a part of.
@@ -130,7 +121,12 @@ impl Content {
         }
     }
 
-    fn new(shape: Shape, kind: Kind, type_id: TypeId, entry: Entry) -> Content {
+    fn new(shape: Shape, type_id: TypeId, entry: Entry) -> Content {
+        let kind = match shape {
+            Shape::Buffer => Kind::Buffer,
+            Shape::Ring | Shape::Tree => Kind::Node,
+            Shape::Object => Kind::Object,
+        };
         Content {
             shape,
             tag: Tag { kind, type_id },

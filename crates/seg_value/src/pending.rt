@@ -6,8 +6,8 @@ use seg_layout::{Cell, TypeId, TypeTable};
 use seg_ptr::Window;
 use std::alloc::Allocator;
 
-/// Blocks that are to be destroyed, in a list through their links. A block that waits here shows by itself what it
-/// holds: each entry that it has room for is a value, and a node's pointers name only nodes that nothing else names.
+/// Blocks that are to be destroyed, in a list through their links. A block that waits here shows by itself what goes
+/// with it: each entry that a buffer has room for is a value, and a node's next node or children aren't in the list yet.
 #[derive(Drop)]
 pub(crate) struct Pending {
     /// Where the payload of the first one begins.
