@@ -1,5 +1,6 @@
 //! Maps from numbers to values, of two kinds: flat ones, whose entries stand in a buffer, and trees. The same calls serve
-//! both. A map is named by the position of its cell and its type, a value by its position.
+//! both. A map is named by the position of its cell and its type, a value by its position. A call on a type that is no map
+//! is refused as OtherType, or answers false.
 #![tactic(auto)]
 
 mod flat;

@@ -1,4 +1,5 @@
 //! Strings, vectors and lists. One is named by the position of its cell and its type, its items by their positions.
+//! A call on a type that it isn't for is refused as OtherType, or changes nothing.
 #![tactic(auto)]
 
 mod list;
