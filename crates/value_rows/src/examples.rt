@@ -132,3 +132,17 @@ fn shifted_values_read_the_same(rt: HostRuntime) -> Result<(), Fail> {
     shift(&mut s.w, &s.table, 1, ROOT + 8, ROOT, 1);
     reads_as(&rt, &s, "([97, 98], [])")
 }
+
+/// Bytes behind the used items may be a pointer to a block that something else owns, which stays.
+#[test]
+fn unused_items_own_nothing(rt: HostRuntime) -> Result<(), Fail> {
+    let mut s = new_segment(rt.alloc(), 1024, &[STR, of(3, 0)], 1)?;
+    let item = push_back::<SeqFit, Global>(&mut s.w, &s.table, 1, ROOT)?;
+    assign::<SeqFit, Global>(&mut s.w, &s.table, 0, item, b"hello")?;
+    let other = Content::object(&s.table, 0);
+    let stays = new_block::<SeqFit, Global>(&mut s.w, &s.table, &other)?;
+    live_are(&rt, &s, &[(704, 3), (752, 2), (784, 2)])?;
+    s.w.point(item as usize + 8, Some(stays));
+    clear::<SeqFit, Global>(&mut s.w, &s.table, 1, ROOT);
+    live_are(&rt, &s, &[(784, 2)])
+}
