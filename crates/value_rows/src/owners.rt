@@ -1,0 +1,133 @@
+use crate::support::{I64, ROOT, Random, STR, Segment, new_segment, of, pair};
+use crate::trial::{Answer, Trial, try_out};
+use seg_raw::Code;
+use seg_seq::{assign, at, pop_back, push_back, shrink_to_fit};
+use seg_seqfit::SeqFit;
+use seg_value::{Content, block_of, destroy, new_block, set_own, store, take_own};
+use std::alloc::{AllocError, Global};
+use std::process::Abort;
+use std::test::Fail;
+
+const NUMBER: u8 = 0;
+
+const STRING: u8 = 1;
+
+/// The pairs of an owned number and a string in a vector or a list.
+#[derive(Drop)]
+struct Pairs {
+    model: Vec<(Option<i64>, Vec<u8>)>,
+}
+
+impl Pairs {
+    fn push(&mut self, alloc: Global, s: &mut Segment) -> Result<Answer, Fail> {
+        let pushed = push_back::<SeqFit, Global>(&mut s.w, &s.table, s.root, ROOT);
+        if pushed.is_ok() {
+            self.model.push((None, Vec::new(alloc)))?;
+        }
+        Ok(pushed.map(|_| ()))
+    }
+
+    fn pop(&mut self, rt: &impl Abort, s: &mut Segment) -> Answer {
+        let popped = pop_back::<SeqFit, Global>(&mut s.w, &s.table, s.root, ROOT);
+        assert_eq!(rt; popped.is_ok(), self.model.pop().is_some());
+        popped
+    }
+
+    /// A call on one of the pairs, whose fields are 8 bytes apart.
+    fn change(
+        &mut self,
+        rt: &impl Abort,
+        s: &mut Segment,
+        random: &mut Random,
+    ) -> Result<Answer, Fail> {
+        let index = random.below(8);
+        let place = at(&s.w, &s.table, s.root, ROOT, index);
+        let Some(pair) = self.model.get_mut(index as usize) else {
+            assert_eq!(rt; place, Err(Code::OutOfRange));
+            return Ok(Ok(()));
+        };
+        let place = place?;
+        match random.below(3) {
+            0 => change_text(s, place.wrapping_add(8), &mut pair.1, random),
+            1 => Ok(own_new(s, place, &mut pair.0, random)),
+            _ => {
+                take_back(rt, s, place, &mut pair.0);
+                Ok(Ok(()))
+            }
+        }
+    }
+}
+
+fn change_text(
+    s: &mut Segment,
+    cell: u32,
+    text: &mut Vec<u8>,
+    random: &mut Random,
+) -> Result<Answer, Fail> {
+    let bytes = random.text();
+    let answer = assign::<SeqFit, Global>(&mut s.w, &s.table, STRING, cell, bytes);
+    if answer.is_ok() {
+        text.clear();
+        text.extend_from_slice(bytes)?;
+    }
+    Ok(answer)
+}
+
+/// Lets the own hold a new number.
+fn own_new(s: &mut Segment, cell: u32, number: &mut Option<i64>, random: &mut Random) -> Answer {
+    let object = Content::object(&s.table, NUMBER);
+    let place = new_block::<SeqFit, Global>(&mut s.w, &s.table, &object)?;
+    let value = i64::from(random.below(100));
+    store(&mut s.w, place, value);
+    set_own::<SeqFit, Global>(&mut s.w, &s.table, cell, place);
+    *number = Some(value);
+    Ok(())
+}
+
+/// Takes the number out of the own, and destroys it.
+fn take_back(rt: &impl Abort, s: &mut Segment, cell: u32, number: &mut Option<i64>) {
+    let taken = take_own(&mut s.w, cell);
+    assert_eq!(rt; taken.is_some(), number.is_some());
+    if let Some(object) = taken {
+        destroy::<SeqFit, Global>(&mut s.w, &s.table, block_of(object));
+    }
+    *number = None;
+}
+
+impl Trial for Pairs {
+    fn step(
+        &mut self,
+        rt: &(impl Abort + AllocGlobal),
+        s: &mut Segment,
+        random: &mut Random,
+    ) -> Result<Answer, Fail> {
+        match random.below(8) {
+            0 | 1 => self.push(rt.alloc(), s),
+            2 => Ok(self.pop(rt, s)),
+            3 => {
+                shrink_to_fit::<SeqFit, Global>(&mut s.w, &s.table, s.root, ROOT);
+                Ok(Ok(()))
+            }
+            _ => self.change(rt, s, random),
+        }
+    }
+
+    fn text(&self, alloc: Global) -> Result<String, AllocError> {
+        let model = self.model.as_slice();
+        format!(in alloc; "{model:?}")
+    }
+}
+
+/// A vector and a list of pairs, whose own names the block of a number.
+#[test]
+fn owners_follow_a_model(rt: HostRuntime) -> Result<(), Fail> {
+    for kind in [3, 4] {
+        let types = [I64, STR, of(7, NUMBER), pair(2, STRING), of(kind, 3)];
+        let mut s = new_segment(rt.alloc(), 1216, &types, 4)?;
+        let mut pairs = Pairs {
+            model: Vec::new(rt.alloc()),
+        };
+        try_out(&rt, &mut s, &mut pairs, 1000)?;
+    }
+    Ok(())
+}
