@@ -1,5 +1,5 @@
 use crate::support::Segment;
-use seg_block::{HEAP_START, UNIT, block_at, is_live, tag_word};
+use seg_block::{Fit, HEAP_START, UNIT, block_at, is_live, tag_word};
 use seg_ptr::Window;
 use seg_ptr::header::FREE;
 use std::alloc::{AllocError, Global};
@@ -55,8 +55,11 @@ pub(crate) fn live(alloc: Global, w: &Window<Global>) -> Result<Vec<Owned>, Allo
     Ok(live)
 }
 
-/// The heap is one gap, and the free list has it.
-pub(crate) fn is_one_gap(rt: &(impl Abort + AllocGlobal), s: &Segment) -> Result<(), Fail> {
+/// The heap is one gap, with which the free structure starts. Its link is null.
+pub(crate) fn is_one_gap<F: Fit>(
+    rt: &(impl Abort + AllocGlobal),
+    s: &Segment<F>,
+) -> Result<(), Fail> {
     let gap = Tile {
         at: HEAP_START,
         units: s.w.len().saturating_sub(HEAP_START) / UNIT,

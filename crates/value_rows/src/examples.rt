@@ -15,7 +15,7 @@ use std::test::Fail;
 /// The first blocks of the heap that are live: where they are, and their units.
 fn live_are(
     rt: &(impl Abort + AllocGlobal),
-    s: &Segment,
+    s: &Segment<SeqFit>,
     wanted: &[(u32, u32)],
 ) -> Result<(), Fail> {
     let mut live = Vec::new(rt.alloc());
@@ -30,7 +30,7 @@ fn live_are(
 
 #[test]
 fn a_string_grows_and_shrinks_in_place(rt: HostRuntime) -> Result<(), Fail> {
-    let mut s = new_segment(rt.alloc(), 1024, &[STR], 0)?;
+    let mut s = new_segment::<SeqFit>(rt.alloc(), 1024, &[STR], 0)?;
     assign::<SeqFit, Global>(&mut s.w, &s.table, 0, ROOT, b"hello")?;
     live_are(&rt, &s, &[(704, 2)])?;
     append::<SeqFit, Global>(&mut s.w, &s.table, 0, ROOT, b", dear neighbours!!")?;
@@ -50,7 +50,7 @@ fn a_string_grows_and_shrinks_in_place(rt: HostRuntime) -> Result<(), Fail> {
 /// A vector of numbers has room for 4, then for 8 where it stands.
 #[test]
 fn a_vector_doubles_in_place(rt: HostRuntime) -> Result<(), Fail> {
-    let mut s = new_segment(rt.alloc(), 1024, &[I64, of(3, 0)], 1)?;
+    let mut s = new_segment::<SeqFit>(rt.alloc(), 1024, &[I64, of(3, 0)], 1)?;
     for units in [3, 3, 3, 3, 5] {
         let _ = push_back::<SeqFit, Global>(&mut s.w, &s.table, 1, ROOT)?;
         live_are(&rt, &s, &[(704, units)])?;
@@ -61,7 +61,7 @@ fn a_vector_doubles_in_place(rt: HostRuntime) -> Result<(), Fail> {
 /// A fifth push that finds no room for 8 takes its limit elsewhere. A seventh finds no room, and changes nothing.
 #[test]
 fn a_fifth_push_takes_its_limit(rt: HostRuntime) -> Result<(), Fail> {
-    let mut s = new_segment(rt.alloc(), 704 + 9 * 16, &[I64, of(3, 0)], 1)?;
+    let mut s = new_segment::<SeqFit>(rt.alloc(), 704 + 9 * 16, &[I64, of(3, 0)], 1)?;
     for _ in 0..4 {
         let _ = push_back::<SeqFit, Global>(&mut s.w, &s.table, 1, ROOT)?;
     }
@@ -79,7 +79,7 @@ fn a_fifth_push_takes_its_limit(rt: HostRuntime) -> Result<(), Fail> {
 
 #[test]
 fn list_nodes_of_numbers_have_2_units(rt: HostRuntime) -> Result<(), Fail> {
-    let mut s = new_segment(rt.alloc(), 1024, &[I64, of(4, 0)], 1)?;
+    let mut s = new_segment::<SeqFit>(rt.alloc(), 1024, &[I64, of(4, 0)], 1)?;
     for _ in 0..3 {
         let _ = push_back::<SeqFit, Global>(&mut s.w, &s.table, 1, ROOT)?;
     }
@@ -90,7 +90,7 @@ fn list_nodes_of_numbers_have_2_units(rt: HostRuntime) -> Result<(), Fail> {
 
 #[test]
 fn a_flat_map_of_numbers_has_5_then_9_units(rt: HostRuntime) -> Result<(), Fail> {
-    let mut s = new_segment(rt.alloc(), 1024, &[I64, of(5, 0)], 1)?;
+    let mut s = new_segment::<SeqFit>(rt.alloc(), 1024, &[I64, of(5, 0)], 1)?;
     for (key, units) in [(1, 5), (2, 5), (3, 5), (4, 5), (5, 9)] {
         let _ = put::<SeqFit, Global>(&mut s.w, &s.table, 1, ROOT, key)?;
         live_are(&rt, &s, &[(704, units)])?;
@@ -99,7 +99,7 @@ fn a_flat_map_of_numbers_has_5_then_9_units(rt: HostRuntime) -> Result<(), Fail>
 }
 
 /// Puts an object that owns what the root owned before into the root.
-fn push_owned(s: &mut Segment, number: i64) -> Result<(), Fail> {
+fn push_owned(s: &mut Segment<SeqFit>, number: i64) -> Result<(), Fail> {
     let object = Content::object(&s.table, 2);
     let node = new_block::<SeqFit, Global>(&mut s.w, &s.table, &object)?;
     store(&mut s.w, node, number);
@@ -113,7 +113,7 @@ fn push_owned(s: &mut Segment, number: i64) -> Result<(), Fail> {
 /// 20,000 objects, each of which owns the next, go at once.
 #[test]
 fn a_deep_value_is_destroyed(rt: HostRuntime) -> Result<(), Fail> {
-    let mut s = new_segment(rt.alloc(), 1 << 20, &[I64, of(7, 2), pair(0, 1)], 1)?;
+    let mut s = new_segment::<SeqFit>(rt.alloc(), 1 << 20, &[I64, of(7, 2), pair(0, 1)], 1)?;
     for number in 0..20_000 {
         push_owned(&mut s, number)?;
     }
@@ -125,7 +125,7 @@ fn a_deep_value_is_destroyed(rt: HostRuntime) -> Result<(), Fail> {
 /// Values that move over part of their own place still name their blocks.
 #[test]
 fn shifted_values_read_the_same(rt: HostRuntime) -> Result<(), Fail> {
-    let mut s = new_segment(rt.alloc(), 1024, &[STR, pair(0, 0)], 1)?;
+    let mut s = new_segment::<SeqFit>(rt.alloc(), 1024, &[STR, pair(0, 0)], 1)?;
     assign::<SeqFit, Global>(&mut s.w, &s.table, 0, ROOT, b"ab")?;
     reads_as(&rt, &s, "([97, 98], [])")?;
     shift(&mut s.w, &s.table, 1, ROOT, ROOT + 8, 1);
@@ -136,7 +136,7 @@ fn shifted_values_read_the_same(rt: HostRuntime) -> Result<(), Fail> {
 /// Bytes behind the used items may be a pointer to a block that something else owns, which stays.
 #[test]
 fn unused_items_own_nothing(rt: HostRuntime) -> Result<(), Fail> {
-    let mut s = new_segment(rt.alloc(), 1024, &[STR, of(3, 0)], 1)?;
+    let mut s = new_segment::<SeqFit>(rt.alloc(), 1024, &[STR, of(3, 0)], 1)?;
     let item = push_back::<SeqFit, Global>(&mut s.w, &s.table, 1, ROOT)?;
     assign::<SeqFit, Global>(&mut s.w, &s.table, 0, item, b"hello")?;
     let other = Content::object(&s.table, 0);

@@ -1,4 +1,4 @@
-//! Tests of values and containers over sequential fit: worked examples, and random calls beside plain models.
+//! Tests of values and containers over both allocators: worked examples, and random calls beside plain models.
 #![tactic(auto)]
 
 #[cfg(test)]

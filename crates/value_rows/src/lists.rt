@@ -1,5 +1,7 @@
 use crate::support::{I64, ROOT, Random, Segment, new_segment, of};
 use crate::trial::{Answer, Trial, try_out};
+use seg_bestfit::BestFit;
+use seg_block::Fit;
 use seg_raw::Code;
 use seg_seq::{at, next, pop_back, pop_front, prev, push_back, push_front};
 use seg_seqfit::SeqFit;
@@ -17,7 +19,12 @@ struct Lists {
 }
 
 impl Lists {
-    fn push(&mut self, alloc: Global, s: &mut Segment, front: bool) -> Result<Answer, Fail> {
+    fn push<F: Fit>(
+        &mut self,
+        alloc: Global,
+        s: &mut Segment<F>,
+        front: bool,
+    ) -> Result<Answer, Fail> {
         let pushed = push(s, s.root, ROOT, front);
         if pushed.is_ok() {
             let place = if front { 0 } else { self.model.len() };
@@ -26,17 +33,17 @@ impl Lists {
         Ok(pushed.map(|_| ()))
     }
 
-    fn pop(&mut self, rt: &impl Abort, s: &mut Segment, front: bool) -> Answer {
+    fn pop<F: Fit>(&mut self, rt: &impl Abort, s: &mut Segment<F>, front: bool) -> Answer {
         let popped = pop(s, s.root, ROOT, front);
         assert_eq!(rt; popped.is_ok(), take(&mut self.model, front).is_some());
         popped
     }
 
     /// A call on one of the lists.
-    fn change(
+    fn change<F: Fit>(
         &mut self,
         rt: &impl Abort,
-        s: &mut Segment,
+        s: &mut Segment<F>,
         random: &mut Random,
     ) -> Result<Answer, Fail> {
         let index = random.below(4);
@@ -52,31 +59,31 @@ impl Lists {
 }
 
 /// Where an item of the root list is.
-fn item(s: &Segment, index: u32) -> u32 {
+fn item<F: Fit>(s: &Segment<F>, index: u32) -> u32 {
     at(&s.w, &s.table, s.root, ROOT, index).unwrap_or(0)
 }
 
 /// The item at an index and the one behind it, round the ring, are neighbours.
-fn check_neighbours(rt: &impl Abort, s: &Segment, index: u32, n: usize) {
+fn check_neighbours<F: Fit>(rt: &impl Abort, s: &Segment<F>, index: u32, n: usize) {
     let behind = index.wrapping_add(1);
     let after = if behind as usize == n { 0 } else { behind };
     assert_eq!(rt; next(&s.w, item(s, index)), item(s, after));
     assert_eq!(rt; prev(&s.w, item(s, after)), item(s, index));
 }
 
-fn push(s: &mut Segment, t: u8, cell: u32, front: bool) -> Result<u32, Code> {
+fn push<F: Fit>(s: &mut Segment<F>, t: u8, cell: u32, front: bool) -> Result<u32, Code> {
     if front {
-        push_front::<SeqFit, Global>(&mut s.w, &s.table, t, cell)
+        push_front::<F, Global>(&mut s.w, &s.table, t, cell)
     } else {
-        push_back::<SeqFit, Global>(&mut s.w, &s.table, t, cell)
+        push_back::<F, Global>(&mut s.w, &s.table, t, cell)
     }
 }
 
-fn pop(s: &mut Segment, t: u8, cell: u32, front: bool) -> Answer {
+fn pop<F: Fit>(s: &mut Segment<F>, t: u8, cell: u32, front: bool) -> Answer {
     if front {
-        pop_front::<SeqFit, Global>(&mut s.w, &s.table, t, cell)
+        pop_front::<F, Global>(&mut s.w, &s.table, t, cell)
     } else {
-        pop_back::<SeqFit, Global>(&mut s.w, &s.table, t, cell)
+        pop_back::<F, Global>(&mut s.w, &s.table, t, cell)
     }
 }
 
@@ -90,9 +97,9 @@ fn take<T: Drop>(items: &mut Vec<T>, front: bool) -> Option<T> {
 }
 
 /// Adds a number to a list, or takes one from it.
-fn change_numbers(
+fn change_numbers<F: Fit>(
     rt: &impl Abort,
-    s: &mut Segment,
+    s: &mut Segment<F>,
     cell: u32,
     numbers: &mut Vec<i64>,
     random: &mut Random,
@@ -115,11 +122,11 @@ fn change_numbers(
     }
 }
 
-impl Trial for Lists {
+impl<F: Fit> Trial<F> for Lists {
     fn step(
         &mut self,
         rt: &(impl Abort + AllocGlobal),
-        s: &mut Segment,
+        s: &mut Segment<F>,
         random: &mut Random,
     ) -> Result<Answer, Fail> {
         let front = random.below(2) == 0;
@@ -137,11 +144,16 @@ impl Trial for Lists {
 }
 
 /// A list of lists.
-#[test]
-fn lists_follow_a_model(rt: HostRuntime) -> Result<(), Fail> {
-    let mut s = new_segment(rt.alloc(), 1216, &[I64, of(4, 0), of(4, NUMBERS)], 2)?;
+fn try_lists<F: Fit>(rt: &(impl Abort + AllocGlobal)) -> Result<(), Fail> {
+    let mut s = new_segment::<F>(rt.alloc(), 1216, &[I64, of(4, 0), of(4, NUMBERS)], 2)?;
     let mut lists = Lists {
         model: Vec::new(rt.alloc()),
     };
-    try_out(&rt, &mut s, &mut lists, 1000)
+    try_out(rt, &mut s, &mut lists, 1000)
+}
+
+#[test]
+fn lists_follow_a_model(rt: HostRuntime) -> Result<(), Fail> {
+    try_lists::<SeqFit>(&rt)?;
+    try_lists::<BestFit>(&rt)
 }

@@ -1,5 +1,7 @@
 use crate::support::{I64, ROOT, Random, STR, Segment, new_segment, of, pair};
 use crate::trial::{Answer, Trial, try_out};
+use seg_bestfit::BestFit;
+use seg_block::Fit;
 use seg_raw::Code;
 use seg_seq::{assign, at, pop_back, push_back, shrink_to_fit};
 use seg_seqfit::SeqFit;
@@ -19,25 +21,25 @@ struct Pairs {
 }
 
 impl Pairs {
-    fn push(&mut self, alloc: Global, s: &mut Segment) -> Result<Answer, Fail> {
-        let pushed = push_back::<SeqFit, Global>(&mut s.w, &s.table, s.root, ROOT);
+    fn push<F: Fit>(&mut self, alloc: Global, s: &mut Segment<F>) -> Result<Answer, Fail> {
+        let pushed = push_back::<F, Global>(&mut s.w, &s.table, s.root, ROOT);
         if pushed.is_ok() {
             self.model.push((None, Vec::new(alloc)))?;
         }
         Ok(pushed.map(|_| ()))
     }
 
-    fn pop(&mut self, rt: &impl Abort, s: &mut Segment) -> Answer {
-        let popped = pop_back::<SeqFit, Global>(&mut s.w, &s.table, s.root, ROOT);
+    fn pop<F: Fit>(&mut self, rt: &impl Abort, s: &mut Segment<F>) -> Answer {
+        let popped = pop_back::<F, Global>(&mut s.w, &s.table, s.root, ROOT);
         assert_eq!(rt; popped.is_ok(), self.model.pop().is_some());
         popped
     }
 
     /// A call on one of the pairs, whose fields are 8 bytes apart.
-    fn change(
+    fn change<F: Fit>(
         &mut self,
         rt: &impl Abort,
-        s: &mut Segment,
+        s: &mut Segment<F>,
         random: &mut Random,
     ) -> Result<Answer, Fail> {
         let index = random.below(8);
@@ -58,14 +60,14 @@ impl Pairs {
     }
 }
 
-fn change_text(
-    s: &mut Segment,
+fn change_text<F: Fit>(
+    s: &mut Segment<F>,
     cell: u32,
     text: &mut Vec<u8>,
     random: &mut Random,
 ) -> Result<Answer, Fail> {
     let bytes = random.text();
-    let answer = assign::<SeqFit, Global>(&mut s.w, &s.table, STRING, cell, bytes);
+    let answer = assign::<F, Global>(&mut s.w, &s.table, STRING, cell, bytes);
     if answer.is_ok() {
         text.clear();
         text.extend_from_slice(bytes)?;
@@ -74,38 +76,43 @@ fn change_text(
 }
 
 /// Lets the own hold a new number.
-fn own_new(s: &mut Segment, cell: u32, number: &mut Option<i64>, random: &mut Random) -> Answer {
+fn own_new<F: Fit>(
+    s: &mut Segment<F>,
+    cell: u32,
+    number: &mut Option<i64>,
+    random: &mut Random,
+) -> Answer {
     let object = Content::object(&s.table, NUMBER);
-    let place = new_block::<SeqFit, Global>(&mut s.w, &s.table, &object)?;
+    let place = new_block::<F, Global>(&mut s.w, &s.table, &object)?;
     let value = i64::from(random.below(100));
     store(&mut s.w, place, value);
-    set_own::<SeqFit, Global>(&mut s.w, &s.table, cell, place);
+    set_own::<F, Global>(&mut s.w, &s.table, cell, place);
     *number = Some(value);
     Ok(())
 }
 
 /// Takes the number out of the own, and destroys it.
-fn take_back(rt: &impl Abort, s: &mut Segment, cell: u32, number: &mut Option<i64>) {
+fn take_back<F: Fit>(rt: &impl Abort, s: &mut Segment<F>, cell: u32, number: &mut Option<i64>) {
     let taken = take_own(&mut s.w, cell);
     assert_eq!(rt; taken.is_some(), number.is_some());
     if let Some(object) = taken {
-        destroy::<SeqFit, Global>(&mut s.w, &s.table, block_of(object));
+        destroy::<F, Global>(&mut s.w, &s.table, block_of(object));
     }
     *number = None;
 }
 
-impl Trial for Pairs {
+impl<F: Fit> Trial<F> for Pairs {
     fn step(
         &mut self,
         rt: &(impl Abort + AllocGlobal),
-        s: &mut Segment,
+        s: &mut Segment<F>,
         random: &mut Random,
     ) -> Result<Answer, Fail> {
         match random.below(8) {
             0 | 1 => self.push(rt.alloc(), s),
             2 => Ok(self.pop(rt, s)),
             3 => {
-                shrink_to_fit::<SeqFit, Global>(&mut s.w, &s.table, s.root, ROOT);
+                shrink_to_fit::<F, Global>(&mut s.w, &s.table, s.root, ROOT);
                 Ok(Ok(()))
             }
             _ => self.change(rt, s, random),
@@ -119,15 +126,20 @@ impl Trial for Pairs {
 }
 
 /// A vector and a list of pairs, whose own names the block of a number.
-#[test]
-fn owners_follow_a_model(rt: HostRuntime) -> Result<(), Fail> {
+fn try_owners<F: Fit>(rt: &(impl Abort + AllocGlobal)) -> Result<(), Fail> {
     for kind in [3, 4] {
         let types = [I64, STR, of(7, NUMBER), pair(2, STRING), of(kind, 3)];
-        let mut s = new_segment(rt.alloc(), 1216, &types, 4)?;
+        let mut s = new_segment::<F>(rt.alloc(), 1216, &types, 4)?;
         let mut pairs = Pairs {
             model: Vec::new(rt.alloc()),
         };
-        try_out(&rt, &mut s, &mut pairs, 1000)?;
+        try_out(rt, &mut s, &mut pairs, 1000)?;
     }
     Ok(())
+}
+
+#[test]
+fn owners_follow_a_model(rt: HostRuntime) -> Result<(), Fail> {
+    try_owners::<SeqFit>(&rt)?;
+    try_owners::<BestFit>(&rt)
 }

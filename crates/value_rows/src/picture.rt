@@ -2,6 +2,7 @@
 
 use crate::blocks::Owned;
 use crate::support::{ROOT, Segment};
+use seg_block::Fit;
 use seg_layout::{Type, TypeId};
 use std::alloc::{AllocError, Global};
 use std::fmt::Write;
@@ -22,7 +23,7 @@ pub(crate) struct Picture {
     pub(crate) blocks: Vec<Owned>,
 }
 
-pub(crate) fn draw(alloc: Global, s: &Segment) -> Result<Picture, Fail> {
+pub(crate) fn draw<F: Fit>(alloc: Global, s: &Segment<F>) -> Result<Picture, Fail> {
     let mut text = String::new(alloc);
     let mut blocks = Vec::new(alloc);
     let mut pending = Vec::new(alloc);
@@ -42,9 +43,9 @@ pub(crate) fn draw(alloc: Global, s: &Segment) -> Result<Picture, Fail> {
 }
 
 /// Puts the pieces of a value on the pile, the first one on top.
-fn add_pieces(
+fn add_pieces<F: Fit>(
     alloc: Global,
-    s: &Segment,
+    s: &Segment<F>,
     t: TypeId,
     at: u32,
     pending: &mut Vec<Piece>,
@@ -56,7 +57,7 @@ fn add_pieces(
 }
 
 /// The text of a value, with the values inside.
-fn pieces(alloc: Global, s: &Segment, t: TypeId, at: u32) -> Result<Vec<Piece>, Fail> {
+fn pieces<F: Fit>(alloc: Global, s: &Segment<F>, t: TypeId, at: u32) -> Result<Vec<Piece>, Fail> {
     let Some(kind) = s.table.kind(t) else {
         return Err(Fail::from("no such type"));
     };
@@ -73,7 +74,13 @@ fn pieces(alloc: Global, s: &Segment, t: TypeId, at: u32) -> Result<Vec<Piece>, 
     }
 }
 
-fn items(alloc: Global, s: &Segment, t: TypeId, kind: Type, at: u32) -> Result<Vec<Piece>, Fail> {
+fn items<F: Fit>(
+    alloc: Global,
+    s: &Segment<F>,
+    t: TypeId,
+    kind: Type,
+    at: u32,
+) -> Result<Vec<Piece>, Fail> {
     let mut pieces = Vec::new(alloc);
     pieces.push(Piece::Text("["))?;
     for index in 0..seg_seq::len(&s.w, at) {
@@ -90,9 +97,9 @@ fn items(alloc: Global, s: &Segment, t: TypeId, kind: Type, at: u32) -> Result<V
     Ok(pieces)
 }
 
-fn entries(
+fn entries<F: Fit>(
     alloc: Global,
-    s: &Segment,
+    s: &Segment<F>,
     t: TypeId,
     item: TypeId,
     at: u32,
@@ -118,7 +125,7 @@ fn entries(
     Ok(pieces)
 }
 
-fn own(alloc: Global, s: &Segment, item: TypeId, at: u32) -> Result<Vec<Piece>, Fail> {
+fn own<F: Fit>(alloc: Global, s: &Segment<F>, item: TypeId, at: u32) -> Result<Vec<Piece>, Fail> {
     let mut pieces = Vec::new(alloc);
     match s.w.target(at as usize) {
         None => pieces.push(Piece::Text("None"))?,
@@ -131,7 +138,7 @@ fn own(alloc: Global, s: &Segment, item: TypeId, at: u32) -> Result<Vec<Piece>, 
     Ok(pieces)
 }
 
-fn fields(alloc: Global, s: &Segment, t: TypeId, at: u32) -> Result<Vec<Piece>, Fail> {
+fn fields<F: Fit>(alloc: Global, s: &Segment<F>, t: TypeId, at: u32) -> Result<Vec<Piece>, Fail> {
     let mut pieces = Vec::new(alloc);
     pieces.push(Piece::Text("("))?;
     for index in 0..8 {
@@ -148,9 +155,9 @@ fn fields(alloc: Global, s: &Segment, t: TypeId, at: u32) -> Result<Vec<Piece>, 
 }
 
 /// Adds the blocks that the cell of a value names itself, with the tags that they must have.
-fn add_blocks(
+fn add_blocks<F: Fit>(
     alloc: Global,
-    s: &Segment,
+    s: &Segment<F>,
     t: TypeId,
     cell: u32,
     blocks: &mut Vec<Owned>,
@@ -171,8 +178,8 @@ fn add_blocks(
     Ok(())
 }
 
-fn add_named(
-    s: &Segment,
+fn add_named<F: Fit>(
+    s: &Segment<F>,
     pointer: u32,
     tag: u32,
     blocks: &mut Vec<Owned>,
@@ -188,7 +195,12 @@ fn add_named(
 }
 
 /// The nodes of a list, along the ring, which comes back to the first one.
-fn add_ring(s: &Segment, cell: u32, tag: u32, blocks: &mut Vec<Owned>) -> Result<(), Fail> {
+fn add_ring<F: Fit>(
+    s: &Segment<F>,
+    cell: u32,
+    tag: u32,
+    blocks: &mut Vec<Owned>,
+) -> Result<(), Fail> {
     let first = s.w.target(cell as usize);
     let mut pointer = cell;
     for _ in 0..seg_seq::len(&s.w, cell) {
@@ -207,9 +219,9 @@ fn add_ring(s: &Segment, cell: u32, tag: u32, blocks: &mut Vec<Owned>) -> Result
     Ok(())
 }
 
-fn add_tree(
+fn add_tree<F: Fit>(
     alloc: Global,
-    s: &Segment,
+    s: &Segment<F>,
     cell: u32,
     tag: u32,
     blocks: &mut Vec<Owned>,

@@ -1,5 +1,7 @@
 use crate::support::{ROOT, Random, STR, Segment, new_segment, of};
 use crate::trial::{Answer, Trial, try_out};
+use seg_bestfit::BestFit;
+use seg_block::Fit;
 use seg_raw::Code;
 use seg_seq::{append, assign, at, pop_back, push_back, push_byte, shrink_to_fit};
 use seg_seqfit::SeqFit;
@@ -17,25 +19,25 @@ struct Strings {
 }
 
 impl Strings {
-    fn push(&mut self, alloc: Global, s: &mut Segment) -> Result<Answer, Fail> {
-        let pushed = push_back::<SeqFit, Global>(&mut s.w, &s.table, s.root, ROOT);
+    fn push<F: Fit>(&mut self, alloc: Global, s: &mut Segment<F>) -> Result<Answer, Fail> {
+        let pushed = push_back::<F, Global>(&mut s.w, &s.table, s.root, ROOT);
         if pushed.is_ok() {
             self.model.push(Vec::new(alloc))?;
         }
         Ok(pushed.map(|_| ()))
     }
 
-    fn pop(&mut self, rt: &impl Abort, s: &mut Segment) -> Answer {
-        let popped = pop_back::<SeqFit, Global>(&mut s.w, &s.table, s.root, ROOT);
+    fn pop<F: Fit>(&mut self, rt: &impl Abort, s: &mut Segment<F>) -> Answer {
+        let popped = pop_back::<F, Global>(&mut s.w, &s.table, s.root, ROOT);
         assert_eq!(rt; popped.is_ok(), self.model.pop().is_some());
         popped
     }
 
     /// A call on one of the strings.
-    fn change(
+    fn change<F: Fit>(
         &mut self,
         rt: &impl Abort,
-        s: &mut Segment,
+        s: &mut Segment<F>,
         random: &mut Random,
     ) -> Result<Answer, Fail> {
         let index = random.below(8);
@@ -49,9 +51,9 @@ impl Strings {
 }
 
 /// A call on a string.
-fn change_text(
+fn change_text<F: Fit>(
     rt: &impl Abort,
-    s: &mut Segment,
+    s: &mut Segment<F>,
     cell: u32,
     text: &mut Vec<u8>,
     random: &mut Random,
@@ -60,23 +62,23 @@ fn change_text(
     let (w, table) = (&mut s.w, &s.table);
     match random.below(8) {
         0 => {
-            shrink_to_fit::<SeqFit, Global>(w, table, STRING, cell);
+            shrink_to_fit::<F, Global>(w, table, STRING, cell);
             Ok(Ok(()))
         }
         1 => {
-            let popped = pop_back::<SeqFit, Global>(w, table, STRING, cell);
+            let popped = pop_back::<F, Global>(w, table, STRING, cell);
             assert_eq!(rt; popped.is_ok(), text.pop().is_some());
             Ok(popped)
         }
         2 => {
-            let answer = push_byte::<SeqFit, Global>(w, table, STRING, cell, b'!');
+            let answer = push_byte::<F, Global>(w, table, STRING, cell, b'!');
             if answer.is_ok() {
                 text.push(b'!')?;
             }
             Ok(answer)
         }
         3 | 4 => {
-            let answer = assign::<SeqFit, Global>(w, table, STRING, cell, added);
+            let answer = assign::<F, Global>(w, table, STRING, cell, added);
             if answer.is_ok() {
                 text.clear();
                 text.extend_from_slice(added)?;
@@ -84,7 +86,7 @@ fn change_text(
             Ok(answer)
         }
         _ => {
-            let answer = append::<SeqFit, Global>(w, table, STRING, cell, added);
+            let answer = append::<F, Global>(w, table, STRING, cell, added);
             if answer.is_ok() {
                 text.extend_from_slice(added)?;
             }
@@ -93,18 +95,18 @@ fn change_text(
     }
 }
 
-impl Trial for Strings {
+impl<F: Fit> Trial<F> for Strings {
     fn step(
         &mut self,
         rt: &(impl Abort + AllocGlobal),
-        s: &mut Segment,
+        s: &mut Segment<F>,
         random: &mut Random,
     ) -> Result<Answer, Fail> {
         match random.below(8) {
             0 | 1 => self.push(rt.alloc(), s),
             2 => Ok(self.pop(rt, s)),
             3 => {
-                shrink_to_fit::<SeqFit, Global>(&mut s.w, &s.table, s.root, ROOT);
+                shrink_to_fit::<F, Global>(&mut s.w, &s.table, s.root, ROOT);
                 Ok(Ok(()))
             }
             _ => self.change(rt, s, random),
@@ -118,14 +120,19 @@ impl Trial for Strings {
 }
 
 /// A vector and a list of strings.
-#[test]
-fn strings_follow_a_model(rt: HostRuntime) -> Result<(), Fail> {
+fn try_strings<F: Fit>(rt: &(impl Abort + AllocGlobal)) -> Result<(), Fail> {
     for kind in [3, 4] {
-        let mut s = new_segment(rt.alloc(), 1216, &[STR, of(kind, STRING)], 1)?;
+        let mut s = new_segment::<F>(rt.alloc(), 1216, &[STR, of(kind, STRING)], 1)?;
         let mut strings = Strings {
             model: Vec::new(rt.alloc()),
         };
-        try_out(&rt, &mut s, &mut strings, 1000)?;
+        try_out(rt, &mut s, &mut strings, 1000)?;
     }
     Ok(())
+}
+
+#[test]
+fn strings_follow_a_model(rt: HostRuntime) -> Result<(), Fail> {
+    try_strings::<SeqFit>(&rt)?;
+    try_strings::<BestFit>(&rt)
 }

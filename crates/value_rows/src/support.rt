@@ -2,9 +2,9 @@ use seg_block::Fit;
 use seg_layout::{TypeId, TypeTable};
 use seg_ptr::Window;
 use seg_raw::Region;
-use seg_seqfit::SeqFit;
 use seg_value::init_default;
 use std::alloc::{AllocError, Global};
+use std::marker::PhantomData;
 use std::test::Fail;
 
 /// Where the root value stands, before the heap: the heap's live blocks are those that it owns.
@@ -27,12 +27,13 @@ pub(crate) fn pair(first: TypeId, second: TypeId) -> Spelled {
     [8, 2, first, second, 0, 0, 0, 0, 0, 0]
 }
 
-/// A segment with a root value.
+/// A segment with a root value, whose heap an allocator keeps.
 #[derive(Drop)]
-pub(crate) struct Segment {
+pub(crate) struct Segment<F> {
     pub(crate) w: Window<Global>,
     pub(crate) table: TypeTable,
     pub(crate) root: TypeId,
+    pub(crate) fit: PhantomData<F>,
 }
 
 fn spelled(alloc: Global, types: &[Spelled]) -> Result<Vec<u8>, AllocError> {
@@ -45,19 +46,24 @@ fn spelled(alloc: Global, types: &[Spelled]) -> Result<Vec<u8>, AllocError> {
 }
 
 /// A segment of these types, whose heap is one gap, with the default of the type `root`.
-pub(crate) fn new_segment(
+pub(crate) fn new_segment<F: Fit>(
     alloc: Global,
     len: u32,
     types: &[Spelled],
     root: TypeId,
-) -> Result<Segment, Fail> {
+) -> Result<Segment<F>, Fail> {
     let table = TypeTable::read(&spelled(alloc, types)?)?;
     let len = len.min(1 << 20);
     match Window::place(Region::new(alloc, len)?, 0, len) {
         Ok(mut w) => {
-            SeqFit::init(&mut w);
+            F::init(&mut w);
             init_default(&mut w, &table, root, ROOT);
-            Ok(Segment { w, table, root })
+            Ok(Segment {
+                w,
+                table,
+                root,
+                fit: PhantomData,
+            })
         }
         Err(_) => Err(Fail::from("misplaced")),
     }

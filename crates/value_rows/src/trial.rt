@@ -1,8 +1,8 @@
 use crate::blocks::{Owned, is_one_gap, live, tiles};
 use crate::picture::draw;
 use crate::support::{ROOT, Random, Segment};
+use seg_block::Fit;
 use seg_raw::Code;
-use seg_seqfit::SeqFit;
 use std::alloc::{AllocError, Global};
 use std::process::Abort;
 use std::test::Fail;
@@ -11,12 +11,12 @@ use std::test::Fail;
 pub(crate) type Answer = Result<(), Code>;
 
 /// A model, and random calls of a container that change it in the same way.
-pub(crate) trait Trial {
+pub(crate) trait Trial<F: Fit> {
     /// One call on the root value, and on the model if it wasn't refused.
     fn step(
         &mut self,
         rt: &(impl Abort + AllocGlobal),
-        s: &mut Segment,
+        s: &mut Segment<F>,
         random: &mut Random,
     ) -> Result<Answer, Fail>;
 
@@ -33,9 +33,9 @@ fn check_owned(rt: &impl Abort, live: &[Owned], owned: &[Owned]) {
 }
 
 /// The root value reads as a text, and the live blocks are those that it owns.
-pub(crate) fn reads_as(
+pub(crate) fn reads_as<F: Fit>(
     rt: &(impl Abort + AllocGlobal),
-    s: &Segment,
+    s: &Segment<F>,
     wanted: &str,
 ) -> Result<(), Fail> {
     let picture = draw(rt.alloc(), s)?;
@@ -49,9 +49,9 @@ pub(crate) fn reads_as(
 }
 
 /// One step, and what must hold behind it. True where it found no room.
-fn checked_step<T: Trial>(
+fn checked_step<F: Fit, T: Trial<F>>(
     rt: &(impl Abort + AllocGlobal),
-    s: &mut Segment,
+    s: &mut Segment<F>,
     trial: &mut T,
     random: &mut Random,
 ) -> Result<bool, Fail> {
@@ -66,9 +66,9 @@ fn checked_step<T: Trial>(
 }
 
 /// So many steps, some of which must have found no room. Then the root value is cleared, and nothing is left.
-pub(crate) fn try_out<T: Trial>(
+pub(crate) fn try_out<F: Fit, T: Trial<F>>(
     rt: &(impl Abort + AllocGlobal),
-    s: &mut Segment,
+    s: &mut Segment<F>,
     trial: &mut T,
     steps: u32,
 ) -> Result<(), Fail> {
@@ -80,6 +80,6 @@ pub(crate) fn try_out<T: Trial>(
         }
     }
     assert!(rt; refused >= steps / 20, "{refused} of {steps} found no room");
-    seg_value::clear::<SeqFit, Global>(&mut s.w, &s.table, s.root, ROOT);
+    seg_value::clear::<F, Global>(&mut s.w, &s.table, s.root, ROOT);
     is_one_gap(rt, s)
 }
