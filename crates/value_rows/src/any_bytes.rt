@@ -1,9 +1,10 @@
-use crate::support::{I64, ROOT, Random, STR, Segment, Spelled, new_segment};
+use crate::support::{I64, ROOT, STR, Segment, Spelled, new_segment};
 use seg_bestfit::BestFit;
 use seg_block::Fit;
 use seg_seqfit::SeqFit;
 use std::alloc::Global;
 use std::test::Fail;
+use test_random::Random;
 
 /// Numbers, texts, and a struct, with all that holds them.
 const TYPES: [Spelled; 8] = [
@@ -58,7 +59,7 @@ fn call<F: Fit>(s: &mut Segment<F>, t: u8, random: &mut Random) {
 }
 
 fn try_calls<F: Fit>(rt: &impl AllocGlobal) -> Result<(), Fail> {
-    let mut random = Random(3);
+    let mut random = Random::new(3);
     for _ in 0..400 {
         let mut s = new_segment::<F>(rt.alloc(), 1024, &TYPES, 0)?;
         damage(&mut s, &mut random);

@@ -1,4 +1,4 @@
-use crate::support::{I64, ROOT, Random, Segment, new_segment, of};
+use crate::support::{I64, ROOT, Segment, new_segment, of};
 use crate::trial::{Answer, Trial, try_out};
 use seg_bestfit::BestFit;
 use seg_block::Fit;
@@ -8,6 +8,7 @@ use seg_seqfit::SeqFit;
 use std::alloc::{AllocError, Global};
 use std::process::Abort;
 use std::test::Fail;
+use test_random::Random;
 
 /// The id of the type of a list of numbers.
 const NUMBERS: u8 = 1;

@@ -1,4 +1,4 @@
-use crate::support::{I64, ROOT, Random, STR, Segment, new_segment, of, pair};
+use crate::support::{I64, ROOT, STR, Segment, new_segment, of, pair, some_text};
 use crate::trial::{Answer, Trial, try_out};
 use seg_bestfit::BestFit;
 use seg_block::Fit;
@@ -9,6 +9,7 @@ use seg_value::{Content, block_of, destroy, new_block, set_own, store, take_own}
 use std::alloc::{AllocError, Global};
 use std::process::Abort;
 use std::test::Fail;
+use test_random::Random;
 
 const NUMBER: u8 = 0;
 
@@ -66,7 +67,7 @@ fn change_text<F: Fit>(
     text: &mut Vec<u8>,
     random: &mut Random,
 ) -> Result<Answer, Fail> {
-    let bytes = random.text();
+    let bytes = some_text(random);
     let answer = assign::<F, Global>(&mut s.w, &s.table, STRING, cell, bytes);
     if answer.is_ok() {
         text.clear();

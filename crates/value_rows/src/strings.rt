@@ -1,4 +1,4 @@
-use crate::support::{ROOT, Random, STR, Segment, new_segment, of};
+use crate::support::{ROOT, STR, Segment, new_segment, of, some_text};
 use crate::trial::{Answer, Trial, try_out};
 use seg_bestfit::BestFit;
 use seg_block::Fit;
@@ -8,6 +8,7 @@ use seg_seqfit::SeqFit;
 use std::alloc::{AllocError, Global};
 use std::process::Abort;
 use std::test::Fail;
+use test_random::Random;
 
 /// The id of the strings' type.
 const STRING: u8 = 0;
@@ -58,7 +59,7 @@ fn change_text<F: Fit>(
     text: &mut Vec<u8>,
     random: &mut Random,
 ) -> Result<Answer, Fail> {
-    let added = random.text();
+    let added = some_text(random);
     let (w, table) = (&mut s.w, &s.table);
     match random.below(8) {
         0 => {

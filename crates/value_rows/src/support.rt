@@ -6,6 +6,7 @@ use seg_value::init_default;
 use std::alloc::{AllocError, Global};
 use std::marker::PhantomData;
 use std::test::Fail;
+use test_random::Random;
 
 /// Where the root value stands, before the heap: the heap's live blocks are those that it owns.
 pub(crate) const ROOT: u32 = 64;
@@ -69,28 +70,14 @@ pub(crate) fn new_segment<F: Fit>(
     }
 }
 
-/// Numbers that look random.
-#[derive(Drop)]
-pub(crate) struct Random(pub(crate) u64);
-
-impl Random {
-    pub(crate) fn below(&mut self, n: u32) -> u32 {
-        self.0 = self
-            .0
-            .wrapping_mul(6364136223846793005)
-            .wrapping_add(1442695040888963407);
-        ((self.0 >> 33) % u64::from(n.max(1))) as u32
-    }
-
-    /// A text of 0 to 40 bytes.
-    pub(crate) fn text(&mut self) -> &'static [u8] {
-        match self.below(6) {
-            0 => b"",
-            1 => b"a",
-            2 => b"hello",
-            3 => b"seventeen letters",
-            4 => b"twenty-four letters long",
-            _ => b"a text of forty bytes, which is 3 units.",
-        }
+/// A text of 0 to 40 bytes.
+pub(crate) fn some_text(random: &mut Random) -> &'static [u8] {
+    match random.below(6) {
+        0 => b"",
+        1 => b"a",
+        2 => b"hello",
+        3 => b"seventeen letters",
+        4 => b"twenty-four letters long",
+        _ => b"a text of forty bytes, which is 3 units.",
     }
 }

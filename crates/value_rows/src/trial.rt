@@ -1,11 +1,12 @@
 use crate::blocks::{Owned, is_one_gap, live, tiles};
 use crate::picture::draw;
-use crate::support::{ROOT, Random, Segment};
+use crate::support::{ROOT, Segment};
 use seg_block::Fit;
 use seg_raw::Code;
 use std::alloc::{AllocError, Global};
 use std::process::Abort;
 use std::test::Fail;
+use test_random::Random;
 
 /// What a random call came to: done in the model too, or refused.
 pub(crate) type Answer = Result<(), Code>;
@@ -72,7 +73,7 @@ pub(crate) fn try_out<F: Fit, T: Trial<F>>(
     trial: &mut T,
     steps: u32,
 ) -> Result<(), Fail> {
-    let mut random = Random(7);
+    let mut random = Random::new(7);
     let mut refused = 0u32;
     for _ in 0..steps {
         if checked_step(rt, s, trial, &mut random)? {
