@@ -1,3 +1,10 @@
+ghost use Rattle.std.specs.Prelude.{◌≡◌};
+ghost use Rattle.seg_spec.specs.Window.{with_bytes};
+
+use crate::header::TAG;
+use seg_ptr::Window;
+use std::alloc::Allocator;
+
 /// What a block is for.
 #[derive(Debug, Clone, Copy, PartialEq, Eq)]
 pub enum Kind {
@@ -45,5 +52,12 @@ impl Tag {
     /// The word that spells the tag in a header.
     pub fn word(self) -> u32 {
         u32::from_le_bytes([self.kind as u8, self.type_id, 0, 0])
+    }
+
+    /// Writes the tag into the header of the block at a position.
+    pub fn write<A: Allocator>(self, w: &mut Window<A>, block: u32)
+        ensures { w.new ≡ with_bytes w.old w.new.bytes }
+    {
+        w.put32(block as usize + TAG, self.word());
     }
 }
