@@ -1,9 +1,8 @@
 use crate::checker::Checker;
 use crate::walk::{Tree, Visit};
-use seg_block::{link, units};
+use seg_block::{block_of, link, units};
 use seg_ptr::{Window, header};
 use seg_raw::Fault;
-use seg_value::block_of;
 use std::alloc::Allocator;
 use std::cmp::Ordering;
 

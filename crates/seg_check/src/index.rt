@@ -2,9 +2,10 @@ use crate::checker::Checker;
 use crate::claims::Claimed;
 use crate::walk::{Tree, Visit};
 use seg_block::{Kind, Tag};
-use seg_index::{ENTRY, Entry, name_count};
+use seg_index::{ENTRY, Entry, IndexKind, name_count};
 use seg_ptr::header;
 use seg_raw::Fault;
+use seg_rbtree::TREE_WORDS;
 use std::alloc::Allocator;
 
 const BUFFER: Tag = Tag {
@@ -16,9 +17,6 @@ const NODE: Tag = Tag {
     kind: Kind::IndexNode,
     type_id: 0,
 };
-
-/// The bytes of a node of the index before its entry.
-const TREE_WORDS: u32 = 16;
 
 /// The pointer to the entries, or to the root node.
 const INDEX: u32 = header::INDEX as u32;
@@ -33,8 +31,10 @@ impl<'w, A: Allocator, B: Allocator> Checker<'w, A, B> {
         match (self.w.target(header::INDEX), count) {
             (None, 0) => Ok(()),
             (None, _) => Err(Fault::BadPointer(INDEX)),
-            _ if self.w.get32(header::INDEX_KIND) == 0 => self.check_flat_index(count),
-            _ => self.check_tree_index(count),
+            (Some(_), _) => match IndexKind::of(self.w) {
+                IndexKind::Flat => self.check_flat_index(count),
+                IndexKind::Tree => self.check_tree_index(count),
+            },
         }
     }
 

@@ -30,7 +30,9 @@ impl<A: Allocator, B: Allocator> Checker<'_, A, B> {
         let mut keys = Keys::new();
         for visit in tree.walk(self.w) {
             match visit? {
-                Visit::Enter(pointer) => drop(self.claim_entries(pointer, content, 1)?),
+                Visit::Enter(pointer) => {
+                    self.claim_entries(pointer, content, 1)?;
+                }
                 Visit::Pass(node) => keys.add(self.key(content.entry.value_at(node, 0))),
             }
         }

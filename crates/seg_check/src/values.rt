@@ -1,9 +1,9 @@
 use crate::checker::Checker;
 use crate::claims::Claimed;
-use seg_block::{Kind, Tag, UNIT, tag_word};
+use seg_block::{Kind, Tag, UNIT, block_of, tag_word};
 use seg_layout::{Cell, Type, TypeId};
 use seg_raw::Fault;
-use seg_value::{Content, Entry, Shape, block_of, count};
+use seg_value::{Content, Entry, Shape, count};
 use std::alloc::Allocator;
 
 impl<A: Allocator, B: Allocator> Checker<'_, A, B> {
