@@ -1,0 +1,6 @@
+local left, one, count = 100000000, 1, 0
+while left ~= 0 do
+  count = count + one
+  left = left - one
+end
+print(count)
