@@ -5,7 +5,9 @@ ghost use Rattle.seg_block.specs.Sizes.{set_size, set_split};
 ghost use Rattle.seg_block.specs.Tiling.{tile, IsTiled, Replaces};
 ghost use Rattle.seg_block.specs.Blocks.{IsBlock, HasEnd};
 
-use crate::header::{HEAP_START, LIVE, TAG, UNIT, UNITS_BEFORE, block_of, is_live, units, units_before};
+use crate::header::{
+    HEAP_START, LIVE, TAG, UNIT, UNITS_BEFORE, block_of, is_live, units, units_before,
+};
 use seg_ptr::Window;
 use std::alloc::Allocator;
 

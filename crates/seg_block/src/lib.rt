@@ -9,7 +9,9 @@ mod header;
 mod rules;
 mod tag;
 
-pub use block::{Block, block_at, capacity, join, last_block, need, next, previous, set_size, split};
+pub use block::{
+    Block, block_at, capacity, join, last_block, need, next, previous, set_size, split,
+};
 pub use fit::Fit;
 pub use grant::{Grant, request, request_at, request_new};
 pub use header::{

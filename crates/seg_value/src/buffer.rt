@@ -1,21 +1,15 @@
 use crate::cell::{count, init_default};
-use crate::content::{Content, Entry, Shape, block_of};
+use crate::content::{Content, Entry, Shape};
 use crate::moving::shift_entries;
-use seg_block::{Fit, Grant, UNIT, block_at, request};
+use seg_block::{Fit, Grant, UNIT, block_of, preferred, request};
 use seg_layout::{TypeId, TypeTable};
 use seg_ptr::Window;
 use seg_raw::Code;
 use std::alloc::Allocator;
 
-/// The fewest entries that a growing buffer asks for first.
-const LEAST: u32 = 4;
-
 /// How many entries the block has room for whose payload begins at `start`.
 pub fn capacity<A: Allocator>(w: &Window<A>, entry: Entry, start: u32) -> u32 {
-    match block_at(w, block_of(start)) {
-        Some(block) => UNIT * (block.units - 1) / entry.size,
-        None => 0,
-    }
+    seg_block::capacity(w, start, entry.size)
 }
 
 /// Lets the buffer of a cell have room for `limit` entries, those that it has and more. BadAlloc where no gap gives that
@@ -33,14 +27,9 @@ pub fn reserve<F: Fit, A: Allocator>(
         return Ok(());
     }
     let kept = count(w, cell);
-    let preferred = limit.max(LEAST).max(kept.saturating_mul(2));
-    let grant = request::<F, A>(
-        w,
-        old.map(block_of),
-        entry.need(preferred),
-        entry.need(limit),
-    );
-    match grant {
+    let block = old.map(|start| block_of(start));
+    let wanted = entry.need(preferred(kept, limit));
+    match request::<F, A>(w, block, wanted, entry.need(limit)) {
         None => return Err(Code::BadAlloc),
         Some(Grant::Same(_)) => {}
         Some(Grant::New(block)) => {
@@ -72,7 +61,7 @@ pub fn new_block<F: Fit, A: Allocator>(
 
 /// Gives a new block its tag, and answers where its payload begins.
 fn tagged<A: Allocator>(w: &mut Window<A>, content: &Content, block: u32) -> u32 {
-    w.put32(block as usize + 8, content.tag.word());
+    content.tag.write(w, block);
     block.wrapping_add(UNIT)
 }
 

@@ -1,6 +1,6 @@
-ghost use Rattle.std.specs.Prelude.{◌≡◌, ◌-◌, ◌≤◌};
+ghost use Rattle.std.specs.Prelude.{◌≤◌};
 
-use seg_block::{Kind, Tag, UNIT, need};
+use seg_block::{Kind, Tag, need};
 use seg_layout::{Type, TypeId, TypeTable};
 
 /// The bytes of a key.
@@ -11,13 +11,6 @@ pub const LIST_LINKS: u32 = 8;
 
 /// The bytes of a map's node before its key.
 const TREE_WORDS: u32 = 16;
-
-/// The block whose payload begins at a position.
-pub fn block_of(payload: u32) -> u32
-    ensures { result ≡ payload - 16 }
-{
-    payload.saturating_sub(UNIT)
-}
 
 /// How the blocks hang together that a cell names.
 #[derive(Debug, Clone, Copy, PartialEq, Eq)]

@@ -1,7 +1,7 @@
 use crate::buffer::capacity;
 use crate::cell::{count, set_null};
-use crate::content::{Content, Entry, Shape, block_of};
-use seg_block::{Fit, Tag, UNIT, link, tag_word};
+use crate::content::{Content, Entry, Shape};
+use seg_block::{Fit, LINK, Tag, UNIT, block_of, link, tag_word};
 use seg_layout::{Cell, TypeId, TypeTable};
 use seg_ptr::Window;
 use std::alloc::Allocator;
@@ -21,7 +21,7 @@ impl Pending {
 
     /// Adds the block whose payload begins at a position.
     pub(crate) fn push<A: Allocator>(&mut self, w: &mut Window<A>, payload: u32) {
-        w.point(block_of(payload) as usize + 12, self.first);
+        w.point(block_of(payload) as usize + LINK, self.first);
         self.first = Some(payload);
     }
 
