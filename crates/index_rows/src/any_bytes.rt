@@ -26,7 +26,7 @@ fn damage<F: Fit>(s: &mut Segment<F>, kind: IndexKind, random: &mut Random) {
 /// Each of the calls, with a name.
 fn call<F: Fit>(s: &mut Segment<F>, name: &[u8], random: &mut Random) {
     let _ = find(&s.w, &s.types, name);
-    let _ = first_name(&s.w, &s.types);
+    let _ = first_name(&s.w);
     let _ = next_name(&s.w, &s.types, name);
     let _ = add::<F, Global>(&mut s.w, &s.types, random.below(1024), 1, 3);
     let _ = remove::<F, Global>(&mut s.w, &s.types, name);

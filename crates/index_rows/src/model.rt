@@ -68,7 +68,7 @@ fn is_entry_of<F: Fit>(
 
 /// The index is walked in order of the names.
 fn walks<F: Fit>(rt: &impl Abort, s: &Segment<F>, model: &Model) {
-    let mut found = first_name(&s.w, &s.types);
+    let mut found = first_name(&s.w);
     for named in &model.names {
         is_entry_of(rt, s, found, Some(*named));
         found = next_name(&s.w, &s.types, named.name);

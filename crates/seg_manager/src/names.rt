@@ -141,7 +141,7 @@ impl<F: Fit, A: Allocator> Segment<F, A> {
 
     /// The least name.
     pub fn first_name(&self) -> Option<Named<'_>> {
-        self.named(first_name(&self.window, &self.types)?)
+        self.named(first_name(&self.window)?)
     }
 
     /// The least name above another one, which need not be there.
