@@ -8,7 +8,7 @@ use client_code::parse;
 use client_verify::{Verified, verify};
 use seg_bestfit::BestFit;
 use seg_block::Fit;
-use seg_check::check;
+use seg_check::{open, save};
 use seg_layout::TypeTable;
 use seg_manager::{MIN_LEN, Segment};
 use seg_ptr::{MAX_LEN, Window, header};
@@ -57,12 +57,10 @@ fn run_on<F: Fit, A: Allocator + Copy, W: Sink>(
     ensures refused { OnErr result (W.has_failed out.new ≡ false) }
     ensures ended { IfOk result (λ o. (o.ended ≡ Ended.OutputFailed) ↔ (W.has_failed out.new ≡ true)) }
 {
-    let types = check(alloc, &window)?;
-    let programs = verify_all(alloc, clients, &types)?;
-    let len = window.len() as usize;
-    let mut saved = Vec::from_slice(alloc, window.slice(0, len))?;
+    let mut segment = open::<F, A, A>(alloc, window).map_err(|refused| refused.0)?;
+    let programs = verify_all(alloc, clients, &segment.types)?;
+    let mut saved = save(alloc, &segment)?;
     let mut reports = Vec::with_capacity(alloc, clients.len())?;
-    let mut segment = Segment::<F, A>::new(window, types);
     run_all(
         &mut segment,
         programs.as_slice(),
@@ -76,6 +74,7 @@ fn run_on<F: Fit, A: Allocator + Copy, W: Sink>(
     } else {
         Ended::Done
     };
+    let len = segment.window.len() as usize;
     copy(&mut saved, segment.window.slice(0, len));
     Ok(Outcome {
         image: saved,

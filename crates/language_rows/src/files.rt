@@ -1,9 +1,10 @@
-use crate::{every, increment};
+use crate::every;
 use client_code::{Instruction, Operation, assemble, parse, print};
 use seg_raw::Fault;
 use std::alloc::{AllocError, Global};
 use std::process::Abort;
 use std::test::Fail;
+use test_fixtures::{INCREMENT, INCREMENT_FILE};
 
 /// Where the field of the increment client begins that a file of this length cuts.
 fn cut_field(len: u32) -> u32 {
@@ -20,7 +21,7 @@ fn a_cut_file_is_wrong_at_the_cut_field(rt: HostRuntime) {
     for len in 0..103u32 {
         let wanted = Some(Fault::BadCode(cut_field(len)));
         assert_eq!(rt;
-            parse(&increment::FILE[..len as usize]).err(),
+            parse(&INCREMENT_FILE[..len as usize]).err(),
             wanted,
             "{len}"
         );
@@ -30,10 +31,10 @@ fn a_cut_file_is_wrong_at_the_cut_field(rt: HostRuntime) {
 
 #[test]
 fn the_increment_in_bytes_and_text(rt: HostRuntime) -> Result<(), Fail> {
-    let file = assemble(rt.alloc(), increment::TEXT.as_bytes())?;
-    assert!(rt; file.as_slice() == increment::FILE.as_slice());
+    let file = assemble(rt.alloc(), INCREMENT.as_bytes())?;
+    assert!(rt; file.as_slice() == INCREMENT_FILE.as_slice());
     let client = parse(file.as_slice())?;
-    assert!(rt; print(rt.alloc(), &client)?.as_slice() == increment::TEXT.as_bytes());
+    assert!(rt; print(rt.alloc(), &client)?.as_slice() == INCREMENT.as_bytes());
     assert_eq!(rt; client.type_count(), 1);
     assert_eq!(rt; client.constants().len(), 1);
     assert_eq!(rt; client.instruction(8), None);
@@ -120,7 +121,7 @@ fn each_byte_changed_to_each_value(rt: HostRuntime) -> Result<(), Fail> {
     for value in 0..=255u8 {
         changes[usize::from(value)] = value;
     }
-    let mut file = increment::FILE;
+    let mut file = INCREMENT_FILE;
     let count = count_changes(&rt, file.as_mut_slice(), &changes)?;
     assert_eq!(rt;
         count,

@@ -8,8 +8,6 @@ mod every;
 #[cfg(test)]
 mod files;
 #[cfg(test)]
-mod increment;
-#[cfg(test)]
 mod operations;
 #[cfg(test)]
 mod programs;

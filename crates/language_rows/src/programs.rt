@@ -1,4 +1,3 @@
-use crate::increment;
 use crate::support::verdict;
 use client_code::parse;
 use client_verify::verify;
@@ -6,41 +5,16 @@ use seg_layout::TypeTable;
 use seg_raw::Fault;
 use std::process::Abort;
 use std::test::Fail;
+use test_fixtures::{CHAIN, INCREMENT, INCREMENT_FILE};
 
 fn check(rt: &(impl Abort + AllocGlobal), text: &str, wanted: Result<u64, Fault>) {
     assert_eq!(rt; verdict(rt.alloc(), text.as_bytes()), wanted, "{text}");
 }
 
-/// A chain of 20,000 owned nodes, made and destroyed.
-const CHAIN: &str = "type i64
-type own t2
-type struct t0 t1
-name h
-CONST r0 20000
-CONST r1 1
-FINDOR r2 - t1 k0
-WHILE r0 20000
-NEW r3 t2
-REF r4 r3
-FIELD r5 r4 1
-TAKE r6 r2
-PUT r5 r6
-ELSE
-END
-PUT r2 r3
-ELSE
-END
-SUB r0 r0 r1
-END
-ELSE
-END
-KILL r7 - t1 k0
-";
-
 #[test]
 fn bounds(rt: HostRuntime) {
     check(&rt, "", Ok(0));
-    check(&rt, increment::TEXT, Ok(6));
+    check(&rt, INCREMENT, Ok(6));
     check(&rt, CHAIN, Ok(160005));
     check(
         &rt,
@@ -118,7 +92,7 @@ fn table_of(kind: u8) -> TypeTable {
 
 #[test]
 fn types_agree_with_a_table(rt: HostRuntime) -> Result<(), Fail> {
-    let client = parse(&increment::FILE)?;
+    let client = parse(&INCREMENT_FILE)?;
     let numbers = table_of(1);
     let texts = table_of(2);
     assert_eq!(rt;

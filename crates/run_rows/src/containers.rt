@@ -7,11 +7,11 @@ use std::test::Fail;
 pub(crate) const FIVE_TEXTS: &str = "type str
     type vec t0
     name v
-    text a
-    text bb
-    text ccc
-    text dddd
-    text eeeee
+text a
+text bb
+text ccc
+text dddd
+text eeeee
     MAKE r0 - - t1 k0
       PUSH r1 r0
         SETS r2 r1 k1
@@ -80,8 +80,8 @@ fn fifth_push_takes_its_limit(rt: HostRuntime) -> Result<(), Fail> {
 fn texts_grow_and_shrink_in_place(rt: HostRuntime) -> Result<(), Fail> {
     let grow = "type str
         name s
-        text hello
-        text abcdefghijklmnopqrst
+text hello
+text abcdefghijklmnopqrst
         FINDOR r0 - t0 k0
           SETS r1 r0 k1
             OUTI r1
@@ -96,7 +96,7 @@ fn texts_grow_and_shrink_in_place(rt: HostRuntime) -> Result<(), Fail> {
         END";
     let shrink = "type str
         name s
-        text a
+text a
         FINDOR r0 - t0 k0
           SETS r1 r0 k1
           ELSE
@@ -245,8 +245,7 @@ fn print_keys(alloc: Global, kind: &str) -> Result<String, AllocError> {
         name m
         CONST r1 -2147483648
         CONST r2 1
-        ADD r3 r1 r1
-        MUL r3 r1 r3
+        MUL r3 r1 r1
         ADD r3 r3 r3
         SUB r4 r3 r2
         MAKE r0 - - t1 k0

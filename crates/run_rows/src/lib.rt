@@ -5,8 +5,12 @@
 #[cfg(test)]
 mod containers;
 #[cfg(test)]
+mod hostile;
+#[cfg(test)]
 mod objects;
 #[cfg(test)]
 mod owners;
 #[cfg(test)]
 mod runs;
+#[cfg(test)]
+mod sizes;

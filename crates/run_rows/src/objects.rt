@@ -1,6 +1,6 @@
 use crate::runs::{
     BEST_FLAT, BEST_TREE, KINDS, PLAIN, SEQ_FLAT, SEQ_TREE, Setting, empty, leaves, run_anew,
-    run_in, run_on, statistics,
+    run_in, run_on, statistics_of,
 };
 use std::process::Abort;
 use std::test::Fail;
@@ -59,7 +59,7 @@ fn destroys_an_object_once(rt: HostRuntime) -> Result<(), Fail> {
     for kind in KINDS {
         let ran = run_anew(rt.alloc(), 1024, kind, &[MAKE, KILL_TWICE])?;
         leaves(&rt, &ran, "42\n1\n0\n", 320, 0)?;
-        let left = statistics(rt.alloc(), ran.image.as_slice())?;
+        let left = statistics_of(rt.alloc(), ran.image.as_slice())?;
         assert_eq!(rt; left.largest, 320);
     }
     Ok(())
@@ -199,8 +199,8 @@ fn unique_objects(rt: HostRuntime) -> Result<(), Fail> {
     for kind in KINDS {
         let made = run_anew(rt.alloc(), 1024, kind, &[make])?;
         leaves(&rt, &made, "1\n9\n", 288, 0)?;
-        let statistics = statistics(rt.alloc(), made.image.as_slice())?;
-        assert_eq!(rt; statistics.unique, 1);
+        let left = statistics_of(rt.alloc(), made.image.as_slice())?;
+        assert_eq!(rt; left.unique, 1);
         let killed = run_on(rt.alloc(), made.image.as_slice(), &[find, kill])?;
         leaves(&rt, &killed, "9\n3\n9\n1\n0\n", 320, 0)?;
     }

@@ -1,40 +1,16 @@
 use crate::containers::{FIVE_TEXTS, PRINT_TEXTS};
-use crate::runs::{KINDS, PLAIN, SEQ_FLAT, Setting, empty, leaves, run_anew, run_in, run_on, statistics};
+use crate::runs::{KINDS, PLAIN, SEQ_FLAT, Setting, empty, leaves, run_anew, run_in, run_on, statistics_of};
 use client_vm::{Ended, Move};
 use std::process::Abort;
 use std::test::Fail;
-
-/// Makes a chain of 20,000 objects, each of which owns the one before, and destroys it.
-pub(crate) const CHAIN: &str = "type i64
-    type own t2
-    type struct t0 t1
-    name h
-    CONST r0 20000
-    CONST r1 1
-    FINDOR r2 - t1 k0
-      WHILE r0 20000
-        NEW r3 t2
-          REF r4 r3
-          FIELD r5 r4 1
-          TAKE r6 r2
-            PUT r5 r6
-          ELSE
-          END
-          PUT r2 r3
-        ELSE
-        END
-        SUB r0 r0 r1
-      END
-    ELSE
-    END
-    KILL r7 - t1 k0";
+use test_fixtures::CHAIN;
 
 #[test]
 fn a_chain_of_owners(rt: HostRuntime) -> Result<(), Fail> {
     for kind in KINDS {
         let ran = run_anew(rt.alloc(), 1 << 20, kind, &[CHAIN])?;
         leaves(&rt, &ran, "", 1_047_872, 0)?;
-        let left = statistics(rt.alloc(), ran.image.as_slice())?;
+        let left = statistics_of(rt.alloc(), ran.image.as_slice())?;
         assert_eq!(rt; left.largest, 1_047_872);
         let report = ran.reports.first().copied().unwrap_or_default();
         assert_eq!(rt; report.steps, 160_004);
@@ -55,6 +31,7 @@ fn owners_destroy_what_they_hold(rt: HostRuntime) -> Result<(), Fail> {
             OUTI r3
           END
           TAKE r3 r2
+            DROP r3
           ELSE
             OUTI r3
           END
@@ -107,7 +84,7 @@ fn registers_are_emptied_at_the_end(rt: HostRuntime) -> Result<(), Fail> {
         assert_eq!(rt; ran.reports.len(), 1);
         let report = ran.reports.first().copied().unwrap_or_default();
         assert_eq!(rt; report.steps, 3);
-        let left = statistics(rt.alloc(), ran.image.as_slice())?;
+        let left = statistics_of(rt.alloc(), ran.image.as_slice())?;
         assert_eq!(rt; left.free, 320);
     }
     Ok(())

@@ -162,7 +162,7 @@ pub(crate) fn run_files(
     let mut out = Output::new(alloc, setting.at_a_time, setting.limit);
     match run_bytes(alloc, image, clients, setting.input, &place, &mut out) {
         Ok(outcome) => {
-            let _ = statistics(alloc, outcome.image.as_slice())?;
+            let _ = statistics_of(alloc, outcome.image.as_slice())?;
             Ok(Ran {
                 out: out.bytes,
                 image: outcome.image,
@@ -194,7 +194,7 @@ pub(crate) struct Statistics {
 }
 
 /// What an image holds, which must be one that is accepted.
-pub(crate) fn statistics(alloc: Global, image: &[u8]) -> Result<Statistics, Fail> {
+pub(crate) fn statistics_of(alloc: Global, image: &[u8]) -> Result<Statistics, Fail> {
     let len = u32::try_from(image.len()).map_err(|_| Fault::BadHeader)?;
     let region = Region::new(alloc, len.min(1 << 21))?;
     let mut window = Window::place(region, 0, len).map_err(|_| Fault::BadHeader)?;
@@ -219,9 +219,9 @@ pub(crate) fn leaves(
     named: u32,
 ) -> Result<(), Fail> {
     assert_eq!(rt; ran.out.as_slice(), printed.as_bytes());
-    let statistics = statistics(rt.alloc(), ran.image.as_slice())?;
-    assert_eq!(rt; statistics.free, free);
-    assert_eq!(rt; statistics.named, named);
+    let left = statistics_of(rt.alloc(), ran.image.as_slice())?;
+    assert_eq!(rt; left.free, free);
+    assert_eq!(rt; left.named, named);
     assert!(rt; ran.ended == Ended::Done);
     Ok(())
 }

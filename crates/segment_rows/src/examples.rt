@@ -23,6 +23,7 @@ fn is_sound<F: Fit>(
 }
 
 /// Which of these counts a segment of numbers has after `x` was asked for: the code, or none, the names, and free bytes.
+#[derive(Drop)]
 struct Asked {
     size: u32,
     refused: Option<Code>,
@@ -198,16 +199,31 @@ fn new_segments_are_empty(rt: HostRuntime) -> Result<(), Fail> {
     Ok(())
 }
 
-/// The words of a gap behind its header that sequential fit doesn't use become 0.
+/// Sequential fit uses no byte of a gap behind its header.
 #[test]
 fn free_memory_is_zeroed(rt: HostRuntime) -> Result<(), Fail> {
-    let mut segment = segment::<SeqFit>(rt.alloc(), 1024, IndexKind::Flat, &[I64])?;
-    let at = segment.construct(b"x", NUMBER, 1)?;
-    segment.window.put64(at as usize, u64::MAX);
-    assert!(rt; segment.destroy(b"x", NUMBER));
-    assert_eq!(rt; segment.window.get64(720), u64::MAX);
+    for index in BOTH {
+        let mut segment = segment::<SeqFit>(rt.alloc(), 1024, index, &[I64])?;
+        segment.window.fill(720, 304, 0xa5);
+        segment.zero_free_memory();
+        assert!(rt; segment.window.slice(720, 304).iter().all(|byte| *byte == 0));
+        is_sound(&rt, &segment, 320)?;
+        segment.construct(b"x", NUMBER, 1)?;
+        segment.window.put64(720, u64::MAX);
+        segment.zero_free_memory();
+        assert_eq!(rt; segment.window.get64(720), u64::MAX);
+        is_sound(&rt, &segment, 240)?;
+    }
+    Ok(())
+}
+
+/// Best fit keeps the tree's words behind the header of a gap.
+#[test]
+fn free_tree_stays(rt: HostRuntime) -> Result<(), Fail> {
+    let mut segment = segment::<BestFit>(rt.alloc(), 1024, IndexKind::Flat, &[I64])?;
+    segment.window.fill(736, 288, 0xa5);
     segment.zero_free_memory();
-    assert!(rt; segment.window.slice(720, 304).iter().all(|byte| *byte == 0));
+    assert!(rt; segment.window.slice(736, 288).iter().all(|byte| *byte == 0));
     is_sound(&rt, &segment, 320)
 }
 

@@ -10,7 +10,9 @@ use std::test::Fail;
 use test_random::Random;
 
 /// The types of the values.
-pub(crate) const TYPES: [Spelled; 4] = [I64, STR, vector(0), own(0)];
+pub(crate) fn value_types() -> [Spelled; 4] {
+    [I64, STR, vector(0), own(0)]
+}
 
 /// A value of the model.
 #[derive(Debug, PartialEq, Drop)]

@@ -1,7 +1,7 @@
 mod clients;
 mod faults;
 mod files;
-mod images;
 mod language;
 mod rows;
+mod segments;
 mod writers;

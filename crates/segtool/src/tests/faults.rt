@@ -1,11 +1,11 @@
-use crate::tests::clients::{INCREMENT, client};
+use crate::tests::clients::client;
 use crate::tests::files::{Printed, Stored, run};
-use crate::tests::images::{counter, counter_with, write_words};
 use client_vm::{Move, Place, Through, run_bytes};
 use seg_raw::Fault;
 use std::alloc::Global;
 use std::process::Abort;
 use std::test::Fail;
+use test_fixtures::{INCREMENT, counter, counter_with, write_words};
 
 /// The counter's image, the increment client, and that client without its last byte.
 fn files(alloc: Global) -> Result<Stored, Fail> {
@@ -33,7 +33,7 @@ fn refuses_runs(rt: HostRuntime) -> Result<(), Fail> {
         ),
         (
             ["image", "saved", "text", "client", "--base", "0"],
-            "client 0 fault 20 20\n",
+            "client 0 fault 4 0\n",
         ),
         (
             ["image", "saved", "client", "client", "--base", "8"],

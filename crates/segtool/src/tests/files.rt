@@ -32,9 +32,9 @@ impl Stored {
         Ok(())
     }
 
-    /// The bytes of a file, none where there is no such file.
+    /// The bytes that were written last to a file, none where there is no such file.
     pub fn get(&self, name: &str) -> &[u8] {
-        for (other, bytes) in &self.files {
+        for (other, bytes) in self.files.iter().rev() {
             if *other == name {
                 return bytes.as_slice();
             }

@@ -1,23 +1,8 @@
-use crate::tests::clients::{INCREMENT, client};
+use crate::tests::clients::client;
 use crate::tests::files::{Printed, Stored, run};
-use crate::tests::images::counter;
 use std::process::Abort;
 use std::test::Fail;
-
-/// The bytes of `examples/increment.client`.
-const INCREMENT_FILE: [u8; 103] = [
-    b'S', b'E', b'G', b'C', 1, 0, 0, 0, 1, 0, 0, 0, 1, 0, 0, 0, 8, 0, 0, 0, // the header
-    1, 0, 0, 0, 0, 0, 0, 0, 0, 0, 0, 0, 0, 0, 0, 0, // type i64
-    2, 1, b'x', // name x
-    0x11, 0, 0x10, 0x10, 0, 0, 0, 0, // FIND r0 - - t0 k0
-    0x21, 1, 0, 0, 0, 0, 0, 0, // LOAD r1 r0
-    0x01, 2, 0, 0, 1, 0, 0, 0, // CONST r2 1
-    0x03, 1, 1, 2, 0, 0, 0, 0, // ADD r1 r1 r2
-    0x22, 0, 0, 1, 0, 0, 0, 0, // STORE r0 r1
-    0x0c, 0, 1, 0, 0, 0, 0, 0, // OUTI r1
-    0x0a, 0, 0, 0, 0, 0, 0, 0, // ELSE
-    0x0b, 0, 0, 0, 0, 0, 0, 0, // END
-];
+use test_fixtures::{INCREMENT, INCREMENT_FILE, counter};
 
 fn is(rt: &impl Abort, printed: &Printed, status: u8, out: &str, err: &str) {
     assert_eq!(rt; printed.out.as_slice(), out.as_bytes());

@@ -1,10 +1,10 @@
-use crate::tests::clients::{INCREMENT, client};
+use crate::tests::clients::client;
 use crate::tests::files::{Printed, Stored, run};
-use crate::tests::images::{counter, counter_with};
 use client_vm::{Ended, Move, Place, Through, run_bytes};
 use std::alloc::Global;
 use std::process::Abort;
 use std::test::Fail;
+use test_fixtures::{INCREMENT, counter, counter_with};
 
 /// The counter's image and the increment client.
 fn files(alloc: Global) -> Result<Stored, Fail> {

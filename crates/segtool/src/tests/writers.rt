@@ -1,12 +1,12 @@
-use crate::tests::clients::{INCREMENT, client};
+use crate::tests::clients::client;
 use crate::tests::files::{Stored, Taken, run, run_into};
-use crate::tests::images::{counter, counter_with};
 use client_vm::{Place, Refused, Through, run_bytes};
 use linked_list_allocator::LocalHeap;
 use seg_raw::Fault;
 use std::alloc::Global;
 use std::process::Abort;
 use std::test::Fail;
+use test_fixtures::{INCREMENT, counter, counter_with};
 
 fn files(alloc: Global) -> Result<Stored, Fail> {
     let mut files = Stored::new(alloc);

@@ -1,0 +1,53 @@
+/// The text of `examples/increment.text`: a client that adds 1 to the number x, and prints it.
+pub const INCREMENT: &str = "type i64
+name x
+FIND r0 - - t0 k0
+LOAD r1 r0
+CONST r2 1
+ADD r1 r1 r2
+STORE r0 r1
+OUTI r1
+ELSE
+END
+";
+
+/// The bytes of `examples/increment.client`.
+pub const INCREMENT_FILE: [u8; 103] = [
+    b'S', b'E', b'G', b'C', 1, 0, 0, 0, 1, 0, 0, 0, 1, 0, 0, 0, 8, 0, 0, 0, // the header
+    1, 0, 0, 0, 0, 0, 0, 0, 0, 0, 0, 0, 0, 0, 0, 0, // type i64
+    2, 1, b'x', // name x
+    0x11, 0, 0x10, 0x10, 0, 0, 0, 0, // FIND r0 - - t0 k0
+    0x21, 1, 0, 0, 0, 0, 0, 0, // LOAD r1 r0
+    0x01, 2, 0, 0, 1, 0, 0, 0, // CONST r2 1
+    0x03, 1, 1, 2, 0, 0, 0, 0, // ADD r1 r1 r2
+    0x22, 0, 0, 1, 0, 0, 0, 0, // STORE r0 r1
+    0x0c, 0, 1, 0, 0, 0, 0, 0, // OUTI r1
+    0x0a, 0, 0, 0, 0, 0, 0, 0, // ELSE
+    0x0b, 0, 0, 0, 0, 0, 0, 0, // END
+];
+
+/// A chain of 20,000 owned nodes, made and destroyed.
+pub const CHAIN: &str = "type i64
+type own t2
+type struct t0 t1
+name h
+CONST r0 20000
+CONST r1 1
+FINDOR r2 - t1 k0
+WHILE r0 20000
+NEW r3 t2
+REF r4 r3
+FIELD r5 r4 1
+TAKE r6 r2
+PUT r5 r6
+ELSE
+END
+PUT r2 r3
+ELSE
+END
+SUB r0 r0 r1
+END
+ELSE
+END
+KILL r7 - t1 k0
+";

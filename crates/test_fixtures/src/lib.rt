@@ -1,0 +1,8 @@
+//! Images and clients that the tests of several crates use, written by hand from their formats.
+#![tactic(auto)]
+
+mod clients;
+mod images;
+
+pub use clients::{CHAIN, INCREMENT, INCREMENT_FILE};
+pub use images::{counter, counter_with, write, write_words};
