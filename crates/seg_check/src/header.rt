@@ -1,12 +1,10 @@
 ghost use Rattle.std.specs.Prelude.{◌≤◌, length, OnOk};
 
 use seg_block::UNIT;
+use seg_manager::MIN_LEN;
 use seg_ptr::{MAX_LEN, Window, header};
 use seg_raw::Fault;
 use std::alloc::Allocator;
-
-/// The fewest bytes that a segment has: the header and tables, and a block of two units.
-pub const MIN_LEN: u32 = 736;
 
 const VERSION: u32 = 1;
 
@@ -30,7 +28,7 @@ pub(crate) fn check_header<A: Allocator>(w: &Window<A>) -> Result<(), Fault>
 /// are 0 in every image.
 fn has_known_words<A: Allocator>(w: &Window<A>) -> bool {
     w.slice(0, 8) == b"SEGIMAGE".as_slice()
-        && w.get32(8) == VERSION
+        && w.get32(header::VERSION) == VERSION
         && w.get32(header::ALLOCATOR) <= 1
         && w.get32(header::INDEX_KIND) <= 1
         && w.get32(header::ZERO) == 0

@@ -3,6 +3,7 @@ use crate::claims::Claimed;
 use crate::walk::{Tree, Visit};
 use seg_block::{Kind, Tag};
 use seg_index::{ENTRY, Entry, IndexKind, name_count};
+use seg_manager::MAX_NAME;
 use seg_ptr::header;
 use seg_raw::Fault;
 use seg_rbtree::TREE_WORDS;
@@ -20,9 +21,6 @@ const NODE: Tag = Tag {
 
 /// The pointer to the entries, or to the root node.
 const INDEX: u32 = header::INDEX as u32;
-
-/// The most bytes of a name.
-const MAX_NAME: u8 = 63;
 
 impl<'w, A: Allocator, B: Allocator> Checker<'w, A, B> {
     /// The index, flat or a tree, and each of its entries with the object.
@@ -87,7 +85,7 @@ impl<'w, A: Allocator, B: Allocator> Checker<'w, A, B> {
         }
         self.claim_named(at, &entry)?;
         let name = entry.name(self.w, self.types);
-        if before < name && name.iter().all(|byte| (0x21..=0x7e).contains(byte)) {
+        if before < name && name.iter().all(|byte| byte.is_ascii_graphic()) {
             Ok(name)
         } else {
             Err(Fault::BadIndex(at))

@@ -9,9 +9,12 @@ mod header;
 mod index;
 mod lists;
 mod maps;
+mod opening;
+mod saving;
 mod tiles;
 mod values;
 mod walk;
 
 pub use checker::check;
-pub use header::MIN_LEN;
+pub use opening::open;
+pub use saving::save;
