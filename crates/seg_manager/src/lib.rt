@@ -9,5 +9,5 @@ mod space;
 mod uniques;
 
 pub use names::{Found, MAX_NAME, Named};
-pub use segment::{MIN_LEN, Segment};
 pub use seg_index::IndexKind;
+pub use segment::{MIN_LEN, Segment};

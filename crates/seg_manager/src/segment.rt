@@ -1,3 +1,5 @@
+ghost use Rattle.std.specs.Prelude.{◌≡◌};
+
 use seg_block::Fit;
 use seg_index::{IndexKind, set_unique};
 use seg_layout::{ENTRY, MAX_TYPES, TypeId, TypeTable};
@@ -13,6 +15,7 @@ const UNIT: u32 = 16;
 
 /// The first word of an image, and its version.
 const MAGIC: &[u8] = b"SEGIMAGE";
+
 const VERSION: u32 = 1;
 
 /// A segment: its bytes, their table of types, and the allocator of its heap. Its calls mean what they say where the bytes
@@ -27,7 +30,10 @@ pub struct Segment<F: Fit, A: Allocator> {
 
 impl<F: Fit, A: Allocator> Segment<F, A> {
     /// The segment in a window.
-    pub fn new(window: Window<A>, types: TypeTable) -> Segment<F, A> {
+    pub fn new(window: Window<A>, types: TypeTable) -> Segment<F, A>
+        ensures window { result.window ≡ window }
+        ensures types { result.types ≡ types }
+    {
         Segment {
             window,
             types,

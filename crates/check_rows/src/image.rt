@@ -1,0 +1,217 @@
+use seg_check::check;
+use seg_layout::TypeId;
+use seg_ptr::Window;
+use seg_ptr::header::{ALLOCATOR, INDEX, INDEX_KIND, SIZE, TYPES, UNIQUES};
+use seg_raw::{Fault, Region};
+use std::alloc::{AllocError, Global};
+use std::process::Abort;
+use std::test::Fail;
+
+/// A kind, the number of parts, and the parts; zeros follow.
+pub(crate) type Spelled = [u8; 10];
+
+pub(crate) const I64: Spelled = [1, 0, 0, 0, 0, 0, 0, 0, 0, 0];
+
+pub(crate) const STR: Spelled = [2, 0, 0, 0, 0, 0, 0, 0, 0, 0];
+
+pub(crate) fn vec_of(item: TypeId) -> Spelled {
+    [3, 1, item, 0, 0, 0, 0, 0, 0, 0]
+}
+
+pub(crate) fn list_of(item: TypeId) -> Spelled {
+    [4, 1, item, 0, 0, 0, 0, 0, 0, 0]
+}
+
+pub(crate) fn flat_map_of(item: TypeId) -> Spelled {
+    [5, 1, item, 0, 0, 0, 0, 0, 0, 0]
+}
+
+pub(crate) fn map_of(item: TypeId) -> Spelled {
+    [6, 1, item, 0, 0, 0, 0, 0, 0, 0]
+}
+
+pub(crate) fn own_of(item: TypeId) -> Spelled {
+    [7, 1, item, 0, 0, 0, 0, 0, 0, 0]
+}
+
+/// The kinds of live blocks, as a tag has them.
+pub(crate) const NAMED: u32 = 1;
+
+pub(crate) const OBJECT: u32 = 2;
+
+pub(crate) const BUFFER: u32 = 3;
+
+pub(crate) const NODE: u32 = 4;
+
+pub(crate) const INDEX_BUFFER: u32 = 5;
+
+pub(crate) const INDEX_NODE: u32 = 6;
+
+/// The bit of a header's first word that says that the block is live.
+const LIVE: u32 = 1 << 31;
+
+/// Where the heap begins.
+const HEAP: u32 = 704;
+
+/// The most bytes of an image here.
+const ROOM: u32 = 4096;
+
+/// A word of an image, and what is written there.
+pub(crate) type Change = (u32, u32);
+
+/// Lets a pointer name a position.
+pub(crate) fn to(at: u32, named: u32) -> Change {
+    (at, named.wrapping_sub(at))
+}
+
+/// Lets a pointer name nothing.
+pub(crate) fn null(at: u32) -> Change {
+    (at, 1)
+}
+
+/// An image that grows by a block at a time.
+#[derive(Drop)]
+pub(crate) struct Image {
+    pub(crate) w: Window<Global>,
+    /// The units of the last block, 0 while there is none.
+    before: u32,
+}
+
+impl Image {
+    /// The header, these types, no name and no unique object. It has no block yet.
+    pub(crate) fn new(alloc: Global, types: &[Spelled]) -> Result<Image, Fail> {
+        let Ok(mut w) = Window::place(Region::new(alloc, ROOM)?, 0, HEAP) else {
+            return Err(Fail::from("misplaced"));
+        };
+        w.copy_in(0, b"SEGIMAGE");
+        w.put32(8, 1);
+        w.put32(24, 1);
+        w.put32(INDEX, 1);
+        for t in 0..32 {
+            w.put32(UNIQUES + 4 * t, 1);
+        }
+        for (t, entry) in types.iter().enumerate() {
+            w.copy_in(TYPES.saturating_add(t.saturating_mul(16)), entry);
+        }
+        Ok(Image { w, before: 0 })
+    }
+
+    pub(crate) fn with_best_fit(mut self) -> Image {
+        self.w.put32(ALLOCATOR, 1);
+        self
+    }
+
+    pub(crate) fn with_tree_index(mut self) -> Image {
+        self.w.put32(INDEX_KIND, 1);
+        self
+    }
+
+    /// Adds a live block for a type, and answers where its payload begins.
+    pub(crate) fn add(&mut self, kind: u32, t: u32, units: u32) -> u32 {
+        let tag = kind.wrapping_add(t.wrapping_mul(256));
+        self.add_block(units, units.wrapping_add(LIVE), tag)
+    }
+
+    /// Adds a free block, and answers where its payload begins.
+    pub(crate) fn add_gap(&mut self, units: u32) -> u32 {
+        self.add_block(units, units, 0)
+    }
+
+    fn add_block(&mut self, units: u32, size: u32, tag: u32) -> u32 {
+        let block = self.w.len();
+        let end = block.saturating_add(units.saturating_mul(16));
+        if self.w.resize(end).is_ok() {
+            self.write(&[
+                (SIZE as u32, end / 16),
+                (block, size),
+                (block.wrapping_add(4), self.before),
+                (block.wrapping_add(8), tag),
+                (block.wrapping_add(12), 1),
+            ]);
+            self.before = units;
+        }
+        block.wrapping_add(16)
+    }
+
+    /// Lets a type's unique object be this one.
+    pub(crate) fn set_unique(&mut self, t: TypeId, object: u32) {
+        self.w.point(UNIQUES + 4 * t as usize, Some(object));
+    }
+
+    /// Adds a unique object of a type, with these units.
+    pub(crate) fn add_unique(&mut self, t: TypeId, units: u32) -> u32 {
+        let object = self.add(OBJECT, u32::from(t), units);
+        self.set_unique(t, object);
+        object
+    }
+
+    /// Writes a cell: what it names, and its number.
+    pub(crate) fn cell(&mut self, at: u32, named: Option<u32>, n: u32) {
+        self.w.point(at as usize, named);
+        self.w.put32(at as usize + 4, n);
+    }
+
+    /// Writes tree words: what is to the left and to the right, and the colour.
+    pub(crate) fn tree_words(
+        &mut self,
+        node: u32,
+        left: Option<u32>,
+        right: Option<u32>,
+        colour: u32,
+    ) {
+        self.w.point(node as usize, left);
+        self.w.point(node as usize + 4, right);
+        self.w.put32(node as usize + 8, colour);
+        self.w.put32(node as usize + 12, 0);
+    }
+
+    pub(crate) fn write(&mut self, changes: &[Change]) {
+        for (at, word) in changes {
+            self.w.put32(*at as usize, *word);
+        }
+    }
+
+    /// The image's first fault, if it has one.
+    pub(crate) fn fault(&self, alloc: Global) -> Option<Fault> {
+        check(alloc, &self.w).err()
+    }
+
+    /// The image is accepted with these changes. They are undone.
+    pub(crate) fn accepts(
+        &mut self,
+        rt: &(impl Abort + AllocGlobal),
+        changes: &[Change],
+    ) -> Result<(), Fail> {
+        let fault = self.fault_with(rt.alloc(), changes)?;
+        assert_eq!(rt; fault, None, "at {changes:?}");
+        Ok(())
+    }
+
+    /// This is the image's first fault with these changes. They are undone.
+    pub(crate) fn finds(
+        &mut self,
+        rt: &(impl Abort + AllocGlobal),
+        changes: &[Change],
+        wanted: Fault,
+    ) -> Result<(), Fail> {
+        let fault = self.fault_with(rt.alloc(), changes)?;
+        assert_eq!(rt; fault, Some(wanted), "at {changes:?}");
+        Ok(())
+    }
+
+    fn fault_with(
+        &mut self,
+        alloc: Global,
+        changes: &[Change],
+    ) -> Result<Option<Fault>, AllocError> {
+        let mut old = Vec::new(alloc);
+        for (at, word) in changes {
+            old.push((*at, self.w.get32(*at as usize)))?;
+            self.w.put32(*at as usize, *word);
+        }
+        let fault = self.fault(alloc);
+        old.reverse();
+        self.write(old.as_slice());
+        Ok(fault)
+    }
+}
