@@ -1,5 +1,5 @@
 -- A live block of another size, and what is left of the gap behind it.
-use Rattle.std.proofs.Common.{◌≡◌, ◌≢◌, ℕ, ◌+◌, ◌-◌, ◌*◌, ◌<◌, ◌≤◌, true, false, List, [], ◌∷◌, ◌++◌, length, min, cond, eqb, ltb, leb, Some, None, refl, sym, ap, ◌∙◌, subst, arith, inl, inr, ◌⊎◌, ⊎_elim, le-leb}
+use Rattle.std.proofs.Common.{◌≡◌, ◌≢◌, ℕ, ◌+◌, ◌-◌, ◌*◌, ◌<◌, ◌≤◌, true, false, Bool, List, [], ◌∷◌, ◌++◌, length, min, cond, eqb, ltb, leb, Some, None, refl, sym, ap, ◌∙◌, subst, arith, inl, inr, ◌⊎◌, ⊎_elim, le-leb}
 use Rattle.std.specs.Prelude.{Contains}
 use Rattle.std.proofs.lemmas.Bool.{cases_lt}
 use Rattle.std.proofs.lemmas.Bool.Decides.{nat_tests}
@@ -8,7 +8,9 @@ use Rattle.seg_spec.specs.Bytes.{Agrees}
 use Rattle.seg_spec.specs.Heap.{Span, Tile, span_of, end_of, Fill, AreApart, live_of, free_of, heap_start, live, gaps, IsHeap, room_at, resized, Keeps, granted, expanded, shrunk, Expands, Shrinks}
 use Rattle.seg_spec.proofs.BytesLaws.{Agrees-within, Agrees-trans}
 use Rattle.seg_spec.proofs.TileLaws.{Fill-le, live_of-append, free_of-append, AreApart-append}
-use Rattle.seg_block.specs.Tiling.{tile, IsTiling, Retiles, Spares}
+use Rattle.seg_block.specs.Blocks.{IsReadFree}
+use Rattle.seg_block.specs.declared.block.Block.{Block}
+use Rattle.seg_block.specs.Tiling.{tile, IsTiled, IsTiling, Retiles, Spares}
 use Rattle.seg_block.proofs.LiveTiles.{cons_cases, live_within}
 use Rattle.seg_block.proofs.Tiled.{around}
 use Rattle.seg_block.proofs.Heaps.{heap_of_tiling, AreApart-live, Spares-trans, Spares-same, Keeps-same}
@@ -150,6 +152,21 @@ module _ {allocator : ℕ} (old : List ℕ) (at u : ℕ) (h : IsHeap allocator o
         fill = fill.2;
       }
 
+  -- either holds
+  pub room_cases : (AreApart false behind × (room_at (gaps old) (at + 16 * u) ≡ 0)) ⊎ ((v : ℕ) × HasGap v)
+  room_cases = go behind refl
+    where
+      go : (ys : List Tile) → behind ≡ ys → (AreApart false behind × (room_at (gaps old) (at + 16 * u) ≡ 0)) ⊎ ((v : ℕ) × HasGap v)
+      go [] e = let apart = subst (λ l. AreApart false l) (sym e) tt in inl (apart, gap_none apart)
+      go (t ∷ ys) e =
+          let after = (subst (λ l. AreApart true l) e (block_behind old at u h held)).1 in
+          let place = (subst (λ l. Fill (at + 16 * u) l (length old)) e parts.2).0 in
+          let cases = elim t.live as (λ b. t.live ≡ b → (AreApart false behind × (room_at (gaps old) (at + 16 * u) ≡ 0)) ⊎ ((v : ℕ) × HasGap v)) [
+            | true ↦ (λ is. let apart = subst (λ l. AreApart false l) (sym e) ((λ _. is), after) in inl (apart, gap_none apart))
+            | false ↦ (λ is. inr (t.units, gap_found t.units ys (e ∙ (λ i. record { at = place i; units = t.units; live = is i } ∷ ys))))
+          ] in
+          cases refl
+
   -- ---- the block that took the gap in, whole or cut
 
   pub resized_whole : (mid : List ℕ) (v : ℕ) (g : HasGap v) → Retiles allocator old mid before (tile at (u + v) true ∷ []) g.rest × Agrees old mid (at + 8) (at + 16 * u) → IsResized allocator old mid at (u + v)
@@ -250,3 +267,22 @@ module _ {allocator : ℕ} (old : List ℕ) (at u need : ℕ) (h : IsHeap alloca
     kept = r.kept;
     shrinks = rw n_is r.live_is;
   }
+
+-- ---- the room, as it is read
+
+module _ {allocator : ℕ} (old : List ℕ) (at u : ℕ) (h : IsHeap allocator old) (held : Contains (live old) (record { at = at; units = u })) where
+  pub room_some : (f : Block) → ((xs ys : List Tile) (l : Bool) (t : Tile) → IsTiled old (xs ++ (tile at u l ∷ t ∷ ys)) → IsReadFree t (Some f)) → ((xs : List Tile) (l : Bool) → IsTiled old (xs ++ tile at u l ∷ []) → Some f ≡ None)
+      → f.units ≡ room_at (gaps old) (at + 16 * u)
+  room_some f read none = ⊎_elim (λ n. go (behind old at u h held) refl n.0) (λ g. let tiles = g.1.tiling in ((read (before old at u h held) g.1.rest true (tile (at + 16 * u) g.0 false) tiles.tiled).free refl).1 ∙ sym g.1.room) (room_cases old at u h held)
+    where
+      no : Some f ≡ None → ⊥
+      no e = cc
+
+      go : (ys : List Tile) → behind old at u h held ≡ ys → AreApart false (behind old at u h held) → f.units ≡ room_at (gaps old) (at + 16 * u)
+      go [] e apart = absurd (no (none (before old at u h held) true (subst (λ l. IsTiled old (before old at u h held ++ tile at u true ∷ l)) e (was old at u h held).tiled)))
+      go (t ∷ ys) e apart =
+          let live = (subst (λ l. AreApart false l) e apart).0 refl in
+          absurd (no ((read (before old at u h held) ys true t (subst (λ l. IsTiled old (before old at u h held ++ tile at u true ∷ l)) e (was old at u h held).tiled)).live live))
+
+  pub room_none : ((xs ys : List Tile) (l : Bool) (t : Tile) → IsTiled old (xs ++ (tile at u l ∷ t ∷ ys)) → IsReadFree t None) → 0 ≡ room_at (gaps old) (at + 16 * u)
+  room_none read = ⊎_elim (λ n. sym n.1) (λ g. absurd ((read (before old at u h held) g.1.rest true (tile (at + 16 * u) g.0 false) g.1.tiling.tiled).free refl)) (room_cases old at u h held)

@@ -9,7 +9,10 @@ mod header;
 mod rules;
 mod tag;
 
-pub use block::{Block, block_at, join, last_block, need, next, previous, set_size, split};
+pub use block::{
+    Block, block_at, free_before, free_behind, join, last_block, need, next, previous, room_behind,
+    set_size, split,
+};
 pub use fit::Fit;
 pub use grant::{Grant, request, request_at, request_new};
 pub use header::{
