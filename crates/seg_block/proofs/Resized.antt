@@ -1,14 +1,13 @@
 -- A live block of another size, and what is left of the gap behind it.
 use Rattle.std.proofs.Common.{◌≡◌, ◌≢◌, ℕ, ◌+◌, ◌-◌, ◌*◌, ◌<◌, ◌≤◌, true, false, Bool, List, [], ◌∷◌, ◌++◌, length, min, cond, eqb, ltb, leb, Some, None, refl, sym, ap, ◌∙◌, subst, arith, inl, inr, ◌⊎◌, ⊎_elim, le-leb}
 use Rattle.std.specs.Prelude.{Contains}
-use Rattle.std.proofs.lemmas.Bool.{cases_lt}
 use Rattle.std.proofs.lemmas.Bool.Decides.{nat_tests}
 use Rattle.std.proofs.lemmas.List.Elements.{Contains-append_cases, Contains-append_left, Contains-append_right}
 use Rattle.seg_spec.specs.Bytes.{Agrees}
-use Rattle.seg_spec.specs.Heap.{Span, Tile, span_of, end_of, Fill, AreApart, live_of, free_of, heap_start, live, gaps, IsHeap, room_at, resized, Keeps, granted, expanded, shrunk, Expands, Shrinks}
+use Rattle.seg_spec.specs.Heap.{Span, Tile, span_of, end_of, Fill, AreApart, live_of, free_of, heap_start, live, gaps, IsHeap, room_at, resized, granted, expanded, shrunk, Expands, Shrinks}
 use Rattle.seg_spec.proofs.BytesLaws.{Agrees-within, Agrees-trans}
 use Rattle.seg_spec.proofs.TileLaws.{Fill-le, live_of-append, free_of-append, AreApart-append}
-use Rattle.seg_block.specs.Blocks.{IsReadFree}
+use Rattle.seg_block.specs.Blocks.{IsReadFree, IsResized}
 use Rattle.seg_block.specs.declared.block.Block.{Block}
 use Rattle.seg_block.specs.Tiling.{tile, IsTiled, IsTiling, Retiles, Spares}
 use Rattle.seg_block.proofs.LiveTiles.{cons_cases, live_within}
@@ -55,12 +54,6 @@ resized-front at n (t ∷ xs) bs from to f h =
 
 resized-here : (at n u : ℕ) (bs : List Span) → resized at n (record { at = at; units = u } ∷ bs) ≡ record { at = at; units = n } ∷ bs
 resized-here at n u bs = rw (test_same at at refl) refl
-
--- the block at a position has n units
-pub record IsResized (allocator : ℕ) (old new : List ℕ) (at n : ℕ) : Type 0 where
-  pub heap : IsHeap allocator new
-  pub kept : Keeps old new
-  pub live_is : live new ≡ resized at n (live old)
 
 module _ {allocator : ℕ} (old : List ℕ) (at u : ℕ) (h : IsHeap allocator old) (held : Contains (live old) (record { at = at; units = u })) where
   abbrev pub before : List Tile
@@ -219,47 +212,27 @@ granted_part n u h = grind (arith, nat_tests)
 expanded_same : (x room u : ℕ) → u ≤ x → expanded x room u ≡ Some x
 expanded_same x room u h = rw (le-leb u x h) refl
 
-expanded_none : (x room u : ℕ) → x + room < u → expanded x room u ≡ None
-expanded_none x room u h = rw (leb_no u x (omega arith), leb_no u (x + room) h) refl
-
-expanded_more : (x room u : ℕ) → x < u → u ≤ x + room → expanded x room u ≡ Some (granted (x + room) u)
-expanded_more x room u low high = rw (leb_no u x low, le-leb u (x + room) high) refl
-
-pub shrunk_cut : (x u : ℕ) → u + 2 ≤ x → shrunk x 0 u ≡ u
-shrunk_cut x u h = rw (le-leb (u + 2) x h) refl
-
-pub shrunk_not : (x u : ℕ) → x < u + 2 → shrunk x 0 u ≡ x
-shrunk_not x u h = rw (leb_no (u + 2) x h) refl
-
-pub shrunk_room : (x room u : ℕ) → 0 < room → shrunk x room u ≡ u
-shrunk_room x room u h = ⊎_elim (λ k. rw (leb_no (u + 2) x k, ltb_yes 0 room h) refl) (λ k. rw (le-leb (u + 2) x k) refl) (cases_lt x (u + 2))
-
 -- ---- what the calls leave
 
 module _ {allocator : ℕ} (old : List ℕ) (at u need : ℕ) (h : IsHeap allocator old) (held : Contains (live old) (record { at = at; units = u })) where
-  pub expands_enough : need ≤ u → Expands allocator old old at u need true
-  expands_enough enough = record {
+  pub expands_not : expanded u (room_at (gaps old) (at + 16 * u)) need ≡ None → Expands allocator old old at u need false
+  expands_not none = record {
     heap = h;
     kept = Keeps-same old;
     unchanged = λ _. refl;
-    expands = rw (expanded_same u (room_at (gaps old) (at + 16 * u)) need enough) (refl, sym (resized_same old at u h held));
+    expands = rw none (refl, refl);
   }
 
-  pub expands_short : (room : ℕ) → room_at (gaps old) (at + 16 * u) ≡ room → u + room < need → Expands allocator old old at u need false
-  expands_short room room_is short = record {
-    heap = h;
-    kept = Keeps-same old;
-    unchanged = λ _. refl;
-    expands = rw (room_is, expanded_none u room need short) (refl, refl);
-  }
-
-  pub expands_done : (new : List ℕ) (v n : ℕ) → room_at (gaps old) (at + 16 * u) ≡ v → u < need → need ≤ u + v → granted (u + v) need ≡ n → IsResized allocator old new at n → Expands allocator old new at u need true
-  expands_done new v n room_is low enough n_is r = record {
+  pub expands_to : (new : List ℕ) (n : ℕ) → expanded u (room_at (gaps old) (at + 16 * u)) need ≡ Some n → (n ≡ u → new ≡ old) → IsResized allocator old new at n → Expands allocator old new at u need true
+  expands_to new n some same r = record {
     heap = r.heap;
     kept = r.kept;
-    unchanged = λ k. absurd (omega arith);
-    expands = rw (room_is, expanded_more u v need low enough, n_is) (refl, r.live_is);
+    unchanged = λ enough. same (sized (sym some ∙ expanded_same u (room_at (gaps old) (at + 16 * u)) need enough));
+    expands = rw some (refl, r.live_is);
   }
+    where
+      sized : Some n ≡ Some u → n ≡ u
+      sized h = cc
 
   pub shrinks_to : (new : List ℕ) (n : ℕ) → shrunk u (room_at (gaps old) (at + 16 * u)) need ≡ n → IsResized allocator old new at n → Shrinks allocator old new at u need
   shrinks_to new n n_is r = record {

@@ -1,6 +1,6 @@
 -- A block with its size in its header.
 use Rattle.std.specs.Prelude.{◌≡◌, ℕ, Bool, true, false, ◌%◌, ◌≤◌, List, [], ◌∷◌, ◌++◌, length, IsSomeAnd, Option, None}
-use Rattle.seg_spec.specs.Heap.{Tile, Span, end_of, units_at}
+use Rattle.seg_spec.specs.Heap.{Tile, Span, end_of, units_at, live, IsHeap, Keeps, resized}
 use Rattle.seg_block.specs.Tiling.{tile}
 use Rattle.seg_block.specs.declared.block.Block.{Block}
 
@@ -21,3 +21,9 @@ pub record HasEnd (bytes : List ℕ) (ts : List Tile) (at units : ℕ) : Type 0 
   pub front : List Tile
   pub live : Bool
   pub parts : ts ≡ front ++ tile at units live ∷ []
+
+-- the block at a position has n units now
+pub record IsResized (allocator : ℕ) (old new : List ℕ) (at n : ℕ) : Type 0 where
+  pub heap : IsHeap allocator new
+  pub kept : Keeps old new
+  pub live_is : live new ≡ resized at n (live old)

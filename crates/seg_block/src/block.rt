@@ -93,7 +93,7 @@ pub fn previous<A: Allocator>(w: &Window<A>, block: Block) -> Option<Block>
     })
 }
 
-/// The gap right behind a block, where there is one.
+/// The free block right behind a block, where there is one.
 pub fn free_behind<A: Allocator>(w: &Window<A>, block: Block) -> Option<Block>
     requires { block.at + 16 * block.units ≤ 2 ^ 30 }
     ensures bounds { IfSome result (λ f. (f.at ≡ block.at + 16 * block.units) × (2 ≤ f.units) × (f.at + 16 * f.units ≤ length w.now.bytes) × (length w.now.bytes ≤ 2 ^ 30)) }
@@ -107,7 +107,7 @@ pub fn free_behind<A: Allocator>(w: &Window<A>, block: Block) -> Option<Block>
     Some(behind)
 }
 
-/// The gap right before a block, where there is one.
+/// The free block right before a block, where there is one.
 pub fn free_before<A: Allocator>(w: &Window<A>, block: Block) -> Option<Block>
     ensures bounds { IfSome result (λ f. (f.at + 16 * f.units ≡ block.at) × (2 ≤ f.units)) }
     ensures read { (xs ys : List Tile) (l : Bool) (t : Tile) → IsTiled w.now.bytes (xs ++ (t ∷ tile block.at block.units l ∷ ys)) → IsReadFree t result }
