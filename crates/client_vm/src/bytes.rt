@@ -1,17 +1,19 @@
 ghost use Rattle.std.specs.Prelude.{◌≡◌, ◌↔◌, ◌≤◌, ◌<◌, ◌+◌, ◌*◌, ◌^◌, true, false, IfOk, IfErr, OnErr, OnOk, length, vec_len};
 
-use crate::built::check_built;
 use crate::interpreter::run;
 use crate::moves::{first_bad_move, is_place};
-use crate::report::{Ended, Outcome, Place, Refused, Report};
+use crate::report::{Ended, Move, Outcome, Place, Refused, Report};
 use crate::sink::Sink;
 use client_code::parse;
 use client_verify::{Verified, verify};
-use seg_check::{MIN_LEN, check};
+use seg_bestfit::BestFit;
+use seg_block::Fit;
+use seg_check::check;
 use seg_layout::TypeTable;
-use seg_manager::Segment;
-use seg_ptr::{MAX_LEN, Window};
+use seg_manager::{MIN_LEN, Segment};
+use seg_ptr::{MAX_LEN, Window, header};
 use seg_raw::{Fault, Region};
+use seg_seqfit::SeqFit;
 use std::alloc::Allocator;
 
 /// The most bytes of a region.
@@ -34,15 +36,38 @@ pub fn run_bytes<A: Allocator + Copy, W: Sink>(
     ensures refused { OnErr result (W.has_failed out.new ≡ false) }
     ensures ended { IfOk result (λ o. (o.ended ≡ Ended.OutputFailed) ↔ (W.has_failed out.new ≡ true)) }
 {
-    let mut segment = open(alloc, image, place)?;
-    let programs = verify_all(alloc, clients, &segment.types)?;
-    let mut saved = Vec::from_slice(alloc, image)?;
+    let window = placed(alloc, image, place)?;
+    if window.get32(header::ALLOCATOR) == BestFit::word() {
+        run_on::<BestFit, A, W>(alloc, window, clients, input, place.moves, out)
+    } else {
+        run_on::<SeqFit, A, W>(alloc, window, clients, input, place.moves, out)
+    }
+}
+
+/// Runs clients on the image in a window, with the allocator that it names.
+fn run_on<F: Fit, A: Allocator + Copy, W: Sink>(
+    alloc: A,
+    window: Window<A>,
+    clients: &[&[u8]],
+    input: &[u8],
+    moves: &[Move],
+    out: &mut W,
+) -> Result<Outcome<A>, Refused>
+    requires works { W.has_failed out.old ≡ false }
+    ensures refused { OnErr result (W.has_failed out.new ≡ false) }
+    ensures ended { IfOk result (λ o. (o.ended ≡ Ended.OutputFailed) ↔ (W.has_failed out.new ≡ true)) }
+{
+    let types = check(alloc, &window)?;
+    let programs = verify_all(alloc, clients, &types)?;
+    let len = window.len() as usize;
+    let mut saved = Vec::from_slice(alloc, window.slice(0, len))?;
     let mut reports = Vec::with_capacity(alloc, clients.len())?;
+    let mut segment = Segment::<F, A>::new(window, types);
     run_all(
         &mut segment,
         programs.as_slice(),
         input,
-        place,
+        moves,
         out,
         &mut reports,
     );
@@ -51,7 +76,7 @@ pub fn run_bytes<A: Allocator + Copy, W: Sink>(
     } else {
         Ended::Done
     };
-    copy(&mut saved, segment.window.slice(0, image.len()));
+    copy(&mut saved, segment.window.slice(0, len));
     Ok(Outcome {
         image: saved,
         reports,
@@ -59,8 +84,8 @@ pub fn run_bytes<A: Allocator + Copy, W: Sink>(
     })
 }
 
-/// The segment of an image at its place in a new region.
-fn open<A: Allocator + Copy>(alloc: A, image: &[u8], place: &Place) -> Result<Segment<A>, Fault> {
+/// The window on an image at its place in a new region.
+fn placed<A: Allocator + Copy>(alloc: A, image: &[u8], place: &Place) -> Result<Window<A>, Fault> {
     let len = image_len(image)?;
     if place.room > MAX_ROOM || !is_place(place.room, place.base, len) {
         return Err(Fault::Misplaced);
@@ -71,8 +96,7 @@ fn open<A: Allocator + Copy>(alloc: A, image: &[u8], place: &Place) -> Result<Se
     let region = Region::new(alloc, place.room)?;
     let mut window = Window::place(region, place.base, len).map_err(|_| Fault::Misplaced)?;
     window.copy_in(0, image);
-    let types = check(alloc, &window)?;
-    Ok(Segment { window, types })
+    Ok(window)
 }
 
 /// The length of an image, if it is one that a segment may have.
@@ -99,7 +123,6 @@ fn verify_all<'a, A: Allocator + Copy>(
             fault,
         };
         let client = parse(bytes).map_err(refused)?;
-        check_built(&client).map_err(refused)?;
         let program = verify(client, &types).map_err(refused)?;
         types = types.extends(program.types()).map_err(refused)?;
         programs.push(program)?;
@@ -108,11 +131,11 @@ fn verify_all<'a, A: Allocator + Copy>(
 }
 
 /// Runs the clients until the output fails, and adds the report of each that ran.
-fn run_all<A: Allocator, B: Allocator, W: Sink>(
-    segment: &mut Segment<A>,
+fn run_all<F: Fit, A: Allocator, B: Allocator, W: Sink>(
+    segment: &mut Segment<F, A>,
     programs: &[Verified],
     input: &[u8],
-    place: &Place,
+    moves: &[Move],
     out: &mut W,
     reports: &mut Vec<Report, B>,
 ) {
@@ -121,7 +144,7 @@ fn run_all<A: Allocator, B: Allocator, W: Sink>(
         if out.failed() {
             break;
         }
-        let report = run(segment, program, left, place.moves, out);
+        let report = run(segment, program, left, moves, out);
         left = left.get(report.read..).unwrap_or(&[]);
         // there is room for it
         let _ = reports.push(report);

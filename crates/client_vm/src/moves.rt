@@ -1,8 +1,16 @@
 ghost use Rattle.std.specs.Prelude.{◌≤◌, length};
 
 use crate::report::Move;
+use seg_block::Fit;
+use seg_manager::Segment;
 use seg_ptr::Window;
 use std::alloc::Allocator;
+
+/// The index of the first move that can't be made on a segment: its step is 0 or not above the one before, or the segment
+/// may not lie at its base.
+pub fn moves_fit<F: Fit, A: Allocator>(segment: &Segment<F, A>, moves: &[Move]) -> Option<usize> {
+    first_bad_move(segment.window.len(), segment.window.room(), moves)
+}
 
 /// The first move that can't be made: its step isn't above the one before, or its base is none for the segment.
 pub(crate) fn first_bad_move(len: u32, room: u32, moves: &[Move]) -> Option<usize> {

@@ -7,7 +7,7 @@ use seg_block::{
     shrunk,
 };
 use seg_ptr::{Window, header};
-use seg_rbtree::Looked;
+use seg_rbtree::{Looked, TREE_WORDS};
 use std::alloc::Allocator;
 
 /// The allocator that takes the smallest gap. Sizes are in units.
@@ -28,6 +28,10 @@ impl Fit for BestFit {
 
     fn word() -> u32 {
         1
+    }
+
+    fn free_words() -> u32 {
+        TREE_WORDS
     }
 
     fn init<A: Allocator>(w: &mut Window<A>) {

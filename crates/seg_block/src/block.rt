@@ -5,7 +5,9 @@ ghost use Rattle.seg_block.specs.Sizes.{set_size, set_split};
 ghost use Rattle.seg_block.specs.Tiling.{tile, IsTiled, Replaces};
 ghost use Rattle.seg_block.specs.Blocks.{IsBlock, IsReadFree, HasEnd};
 
-use crate::header::{HEAP_START, LIVE, TAG, UNIT, UNITS_BEFORE, is_live, units, units_before};
+use crate::header::{
+    HEAP_START, LIVE, TAG, UNIT, UNITS_BEFORE, block_of, is_live, units, units_before,
+};
 use seg_ptr::Window;
 use std::alloc::Allocator;
 
@@ -37,6 +39,17 @@ pub fn block_at<A: Allocator>(w: &Window<A>, at: u32) -> Option<Block>
         return None;
     }
     Some(Block { at, units })
+}
+
+/// How many entries of `size` bytes the block has room for whose payload begins at a position.
+pub fn capacity<A: Allocator>(w: &Window<A>, payload: u32, size: u32) -> u32
+    requires { 1 ≤ size }
+    ensures { (g : Span) → payload ≡ g.at + 16 → IsBlock w.now.bytes g → result ≡ (16 * g.units - 16) / size }
+{
+    match block_at(w, block_of(payload)) {
+        Some(block) => UNIT * (block.units - 1) / size,
+        None => 0,
+    }
 }
 
 /// The last block of a heap that ends at a position.

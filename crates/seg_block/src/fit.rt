@@ -18,6 +18,10 @@ pub trait Fit {
     fn word() -> u32
         ensures { result ≡ code };
 
+    /// The bytes at the start of a free block's payload that the allocator uses.
+    fn free_words() -> u32
+        ensures { result ≤ 16 };
+
     /// Makes the heap of a segment of at least 736 bytes one gap.
     fn init<A: Allocator>(w: &mut Window<A>)
         ensures host { w.new ≡ with_bytes w.old w.new.bytes }

@@ -22,6 +22,13 @@ pub const LINK: usize = 12;
 /// The bit of the first word that says whether a block is live. The bits below count its units.
 pub(crate) const LIVE: u32 = 1 << 31;
 
+/// The block whose payload begins at a position.
+pub fn block_of(payload: u32) -> u32
+    ensures { result ≡ payload - 16 }
+{
+    payload.saturating_sub(UNIT)
+}
+
 /// The units of the block at a position, its header counted in.
 pub fn units<A: Allocator>(w: &Window<A>, block: u32) -> u32
     ensures { result ≡ units_at w.now.bytes block }

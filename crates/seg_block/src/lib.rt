@@ -10,14 +10,14 @@ mod rules;
 mod tag;
 
 pub use block::{
-    Block, block_at, free_before, free_behind, join, last_block, need, next, previous, room_behind,
-    set_size, split,
+    Block, block_at, capacity, free_before, free_behind, join, last_block, need, next, previous,
+    room_behind, set_size, split,
 };
 pub use fit::Fit;
 pub use grant::{Grant, request, request_at, request_new};
 pub use header::{
-    HEAP_START, LINK, TAG, UNIT, UNITS_BEFORE, is_live, link, payload, tag_word, units,
+    HEAP_START, LINK, TAG, UNIT, UNITS_BEFORE, block_of, is_live, link, payload, tag_word, units,
     units_before,
 };
-pub use rules::{expanded, granted, shrunk};
+pub use rules::{expanded, granted, preferred, shrunk};
 pub use tag::{Kind, Tag};

@@ -1,5 +1,11 @@
-ghost use Rattle.std.specs.Prelude.{◌≡◌, ◌^◌, ◌<◌, IfSome, Some};
+ghost use Rattle.std.specs.Prelude.{◌≡◌, ◌+◌, ◌^◌, ◌<◌, IfSome, Some};
+ghost use Rattle.seg_spec.specs.Bytes.{set_word};
+ghost use Rattle.seg_spec.specs.Window.{with_bytes};
 ghost use Rattle.seg_block.specs.Tags.{word_of};
+
+use crate::header::TAG;
+use seg_ptr::Window;
+use std::alloc::Allocator;
 
 /// What a live block is for.
 #[derive(Debug, Clone, Copy, PartialEq, Eq)]
@@ -50,5 +56,12 @@ impl Tag {
         ensures { result ≡ word_of self }
     {
         self.kind as u32 + 256 * u32::from(self.type_id)
+    }
+
+    /// Writes the tag into the header of the block at a position.
+    pub fn write<A: Allocator>(self, w: &mut Window<A>, block: u32)
+        ensures { w.new ≡ with_bytes w.old (set_word w.old.bytes (block + 8) (word_of self)) }
+    {
+        w.put32(block as usize + TAG, self.word());
     }
 }

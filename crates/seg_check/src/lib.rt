@@ -3,9 +3,15 @@
 
 mod checker;
 mod claims;
+mod free_list;
+mod free_tree;
 mod header;
 mod index;
+mod lists;
+mod maps;
 mod tiles;
+mod values;
+mod walk;
 
 pub use checker::check;
 pub use header::MIN_LEN;

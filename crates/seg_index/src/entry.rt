@@ -1,8 +1,9 @@
-ghost use Rattle.std.specs.Prelude.{◌<◌, ◌^◌};
+ghost use Rattle.std.specs.Prelude.{◌≡◌, ◌<◌, ◌^◌};
+ghost use Rattle.seg_spec.specs.Window.{with_bytes};
 
 use seg_block::{Kind, Tag, UNIT, tag_word};
 use seg_layout::{TypeId, TypeTable};
-use seg_ptr::{Window, header};
+use seg_ptr::Window;
 use std::alloc::Allocator;
 
 /// The bytes of an entry.
@@ -22,6 +23,16 @@ pub struct Entry {
 }
 
 impl Entry {
+    /// The entry of an object of `count` values, whose name has `name_len` bytes.
+    pub fn new(object: u32, count: u16, name_len: u8) -> Entry {
+        Entry {
+            object: Some(object),
+            count,
+            name_len,
+            zero: 0,
+        }
+    }
+
     /// The entry at a position.
     pub fn read<A: Allocator>(w: &Window<A>, at: usize) -> Entry {
         let [low, high, name_len, zero] = w.get32(at.saturating_add(4)).to_le_bytes();
@@ -31,6 +42,16 @@ impl Entry {
             name_len,
             zero,
         }
+    }
+
+    /// Writes the entry at a position.
+    pub fn write<A: Allocator>(self, w: &mut Window<A>, at: usize)
+        ensures { w.new ≡ with_bytes w.old w.new.bytes }
+    {
+        let [low, high] = self.count.to_le_bytes();
+        let rest = u32::from_le_bytes([low, high, self.name_len, self.zero]);
+        w.point(at, self.object);
+        w.put32(at.saturating_add(4), rest);
     }
 
     /// The type of the object, where its block is that of a named object.
@@ -63,9 +84,4 @@ impl Entry {
         let values = self.values_len(types.size(type_id));
         w.slice(object as usize + values, self.name_len as usize)
     }
-}
-
-/// How many names there are.
-pub fn name_count<A: Allocator>(w: &Window<A>) -> u32 {
-    w.get32(header::INDEX + 4)
 }

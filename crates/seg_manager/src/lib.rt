@@ -1,8 +1,13 @@
-//! A segment: named objects of known types in a window.
+//! A segment: named, unique and anonymous objects of known types in a window, and how large it is.
 #![tactic(auto)]
 
-mod named;
+mod anonymous;
+mod names;
 mod segment;
+mod size;
+mod space;
+mod uniques;
 
-pub use named::Found;
-pub use segment::Segment;
+pub use names::{Found, MAX_NAME, Named};
+pub use segment::{MIN_LEN, Segment};
+pub use seg_index::IndexKind;

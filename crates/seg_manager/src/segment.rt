@@ -1,16 +1,60 @@
+use seg_block::Fit;
+use seg_index::{IndexKind, set_unique};
 use seg_layout::{ENTRY, MAX_TYPES, TypeId, TypeTable};
-use seg_ptr::{Window, header};
-use seg_raw::Fault;
+use seg_ptr::{MAX_LEN, Window, header};
+use seg_raw::{Fault, Region};
 use std::alloc::Allocator;
+use std::marker::PhantomData;
 
-/// A segment: its bytes, and their table of types.
+/// The fewest bytes that a segment has: the header and tables, and a block of two units.
+pub const MIN_LEN: u32 = 736;
+
+const UNIT: u32 = 16;
+
+/// The first word of an image, and its version.
+const MAGIC: &[u8] = b"SEGIMAGE";
+const VERSION: u32 = 1;
+
+/// A segment: its bytes, their table of types, and the allocator of its heap. Its calls mean what they say where the bytes
+/// are a sound image of that table and that allocator, but for anonymous objects that nothing owns; on any other bytes they
+/// return.
 #[derive(Drop)]
-pub struct Segment<A: Allocator> {
+pub struct Segment<F: Fit, A: Allocator> {
     pub window: Window<A>,
     pub types: TypeTable,
+    fit: PhantomData<F>,
 }
 
-impl<A: Allocator> Segment<A> {
+impl<F: Fit, A: Allocator> Segment<F, A> {
+    /// The segment in a window.
+    pub fn new(window: Window<A>, types: TypeTable) -> Segment<F, A> {
+        Segment {
+            window,
+            types,
+            fit: PhantomData,
+        }
+    }
+
+    /// An empty segment of `size` bytes at a base of a region: all zero but for its header and a heap of one gap. The region
+    /// comes back with `BadSize` where the size isn't a multiple of 16 that a segment may have, and with `Misplaced` where
+    /// it may not lie there.
+    pub fn create(
+        region: Region<A>,
+        base: u32,
+        size: u32,
+        index: IndexKind,
+    ) -> Result<Segment<F, A>, (Fault, Region<A>)> {
+        if !is_size(size) {
+            return Err((Fault::BadSize, region));
+        }
+        let mut window = match Window::place(region, base, size) {
+            Ok(window) => window,
+            Err(region) => return Err((Fault::Misplaced, region)),
+        };
+        write_empty::<F, A>(&mut window, size, index);
+        Ok(Segment::new(window, TypeTable::new()))
+    }
+
     /// Adds the types of a longer table, in the bytes too. `TypeMismatch` where both tables have an entry that differs.
     pub fn add_types(&mut self, types: &TypeTable) -> Result<(), Fault> {
         self.types = self.types.extends(types)?;
@@ -20,4 +64,28 @@ impl<A: Allocator> Segment<A> {
         }
         Ok(())
     }
+
+    pub fn into_region(self) -> Region<A> {
+        self.window.into_region()
+    }
+}
+
+/// Whether a segment may have so many bytes.
+pub(crate) fn is_size(size: u32) -> bool {
+    (MIN_LEN..=MAX_LEN).contains(&size) && size % UNIT == 0
+}
+
+/// Writes the image of an empty segment.
+fn write_empty<F: Fit, A: Allocator>(w: &mut Window<A>, size: u32, index: IndexKind) {
+    w.fill(0, size as usize, 0);
+    w.copy_in(0, MAGIC);
+    w.put32(header::VERSION, VERSION);
+    w.put32(header::SIZE, size / UNIT);
+    w.put32(header::ALLOCATOR, F::word());
+    w.put32(header::INDEX_KIND, index.word());
+    w.point(header::INDEX, None);
+    for t in 0..MAX_TYPES {
+        set_unique(w, t as TypeId, None);
+    }
+    F::init(w);
 }

@@ -1,5 +1,8 @@
 //! Where the fields of an image's header stand, in bytes from the start of the segment.
 
+/// The word with the version of the format.
+pub const VERSION: usize = 8;
+
 /// The word that counts the segment's units of 16 bytes.
 pub const SIZE: usize = 12;
 

@@ -22,6 +22,10 @@ impl Fit for SeqFit {
         0
     }
 
+    fn free_words() -> u32 {
+        0
+    }
+
     fn init<A: Allocator>(w: &mut Window<A>) {
         let units = w.len().saturating_sub(HEAP_START) / UNIT;
         w.put32(HEAP_START as usize + UNITS_BEFORE, 0);

@@ -1,6 +1,6 @@
 ghost use Rattle.std.specs.Prelude.{◌≡◌, false};
 
-use crate::command::{MAX_FILE, MAX_IMAGE, print, read, word};
+use crate::command::{MAX_FILE, MAX_IMAGE, print, read, word, write};
 use crate::failure::Failure;
 use crate::files::Files;
 use crate::image::types_of;
@@ -39,10 +39,7 @@ pub fn assemble_file<'a, F: Files>(
         Err(Fault::BadLine(line)) => return Err(Failure::BadLine { line, text }),
         Err(fault) => return Err(Failure::from(fault)),
     };
-    let name = word(arguments, "OUT");
-    files
-        .write(name, client.as_slice())
-        .map_err(|fault| Failure::of_file(name, fault))
+    write(files, word(arguments, "OUT"), client.as_slice())
 }
 
 /// `print CLIENT`: prints the client's canonical text.
@@ -56,8 +53,5 @@ pub fn print_file<'a, F: Files, O: Sink>(
 {
     let file = read(alloc, files, word(arguments, "CLIENT"), MAX_FILE)?;
     let text = print_client(alloc, &parse(file.as_slice())?)?;
-    if text.is_empty() {
-        return Ok(());
-    }
     print(out, text.as_slice())
 }

@@ -4,7 +4,7 @@ use crate::clients::{assemble_file, print_file, verify_file};
 use crate::command_line::command_line;
 use crate::failure::{Failure, STANDARD_OUTPUT};
 use crate::files::Files;
-use crate::image::check_file;
+use crate::images::{check_file, grow_file, list_file, new_file, shrink_file, stat_file};
 use crate::run::run;
 use clap::ArgMatches;
 use client_vm::{Sink, write_all};
@@ -58,7 +58,12 @@ fn perform<'a, S: AsStr, F: Files, O: Sink>(
     };
     match matches.subcommand() {
         Some(("run", arguments)) => run(alloc, arguments, files, out),
+        Some(("new", arguments)) => new_file(alloc, arguments, files),
         Some(("check", arguments)) => check_file(alloc, arguments, files, out),
+        Some(("stat", arguments)) => stat_file(alloc, arguments, files, out),
+        Some(("list", arguments)) => list_file(alloc, arguments, files, out),
+        Some(("grow", arguments)) => grow_file(alloc, arguments, files, out),
+        Some(("shrink", arguments)) => shrink_file(alloc, arguments, files, out),
         Some(("verify", arguments)) => verify_file(alloc, arguments, files, out),
         Some(("asm", arguments)) => assemble_file(alloc, arguments, files),
         Some(("print", arguments)) => print_file(alloc, arguments, files, out),
@@ -80,6 +85,13 @@ pub fn read<'a, F: Files>(
 ) -> Result<Vec<u8>, Failure<'a>> {
     files
         .read(alloc, name, limit)
+        .map_err(|fault| Failure::of_file(name, fault))
+}
+
+/// Makes or replaces a file.
+pub fn write<'a, F: Files>(files: &mut F, name: &'a str, bytes: &[u8]) -> Result<(), Failure<'a>> {
+    files
+        .write(name, bytes)
         .map_err(|fault| Failure::of_file(name, fault))
 }
 

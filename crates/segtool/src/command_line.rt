@@ -2,21 +2,35 @@ use clap::builder::ValueRange;
 use clap::{Arg, Command, value_parser};
 use std::alloc::{AllocError, Global};
 
+const ALLOCATORS: &[&str] = &["seq", "best"];
+const INDEXES: &[&str] = &["flat", "tree"];
+
 /// The words that the program understands.
 pub fn command_line<'a>(alloc: Global) -> Result<Command<'a>, AllocError> {
     Command::new(alloc, "segtool")
         .about("Checks images of managed segments, and runs verified clients on them")
         .subcommand_required(true)
         .arg_required_else_help(true)
-        .subcommand(run_line(alloc)?)?
+        .subcommand(new_line(alloc)?)?
         .subcommand(check_line(alloc)?)?
         .subcommand(verify_line(alloc)?)?
+        .subcommand(run_line(alloc)?)?
+        .subcommand(stat_line(alloc)?)?
+        .subcommand(list_line(alloc)?)?
+        .subcommand(grow_line(alloc)?)?
+        .subcommand(shrink_line(alloc)?)?
         .subcommand(assemble_line(alloc)?)?
         .subcommand(print_line(alloc)?)
 }
 
-fn file<'a>(alloc: Global, id: &'a str, help: &'a str) -> Arg<'a> {
+/// A required word.
+fn required<'a>(alloc: Global, id: &'a str, help: &'a str) -> Arg<'a> {
     Arg::new(alloc, id).help(help).required(true)
+}
+
+/// A required number of bytes.
+fn bytes<'a>(alloc: Global, id: &'a str, help: &'a str) -> Arg<'a> {
+    required(alloc, id, help).value_parser(value_parser!(u32))
 }
 
 fn number<'a>(alloc: Global, name: &'a str, help: &'a str) -> Arg<'a> {
@@ -28,7 +42,7 @@ fn number<'a>(alloc: Global, name: &'a str, help: &'a str) -> Arg<'a> {
 }
 
 fn run_line<'a>(alloc: Global) -> Result<Command<'a>, AllocError> {
-    let clients = file(alloc, "CLIENT", "The clients, run one after the other").num_args(
+    let clients = required(alloc, "CLIENT", "The clients, run one after the other").num_args(
         ValueRange::new(1..),
     );
     let input = Arg::new(alloc, "input")
@@ -37,8 +51,8 @@ fn run_line<'a>(alloc: Global) -> Result<Command<'a>, AllocError> {
         .help("The bytes that the clients read, none if left out");
     Command::new(alloc, "run")
         .about("Runs clients on an image, prints their output and saves the image")
-        .arg(file(alloc, "IMAGE", "The image that the clients run on"))?
-        .arg(file(alloc, "OUT", "The file that the saved image is written to"))?
+        .arg(required(alloc, "IMAGE", "The image that the clients run on"))?
+        .arg(required(alloc, "OUT", "The file that the saved image is written to"))?
         .arg(clients)?
         .arg(number(
             alloc,
@@ -53,28 +67,65 @@ fn run_line<'a>(alloc: Global) -> Result<Command<'a>, AllocError> {
         .arg(input)
 }
 
+fn new_line<'a>(alloc: Global) -> Result<Command<'a>, AllocError> {
+    Command::new(alloc, "new")
+        .about("Makes the image of an empty segment")
+        .arg(required(alloc, "FILE", "The file that the image is written to"))?
+        .arg(bytes(alloc, "SIZE", "The bytes of the segment, a multiple of 16 from 736 to 2^30"))?
+        .arg(
+            required(alloc, "ALG", "The allocator: sequential fit or best fit")
+                .value_parser(ALLOCATORS),
+        )?
+        .arg(required(alloc, "INDEX", "How names are kept").value_parser(INDEXES))
+}
+
+fn stat_line<'a>(alloc: Global) -> Result<Command<'a>, AllocError> {
+    Command::new(alloc, "stat")
+        .about("Prints the bytes of a segment and of its free memory, and how many objects it has")
+        .arg(required(alloc, "FILE", "The image"))
+}
+
+fn list_line<'a>(alloc: Global) -> Result<Command<'a>, AllocError> {
+    Command::new(alloc, "list")
+        .about("Prints each name with the number of its type and its count, then the types of unique objects")
+        .arg(required(alloc, "FILE", "The image"))
+}
+
+fn grow_line<'a>(alloc: Global) -> Result<Command<'a>, AllocError> {
+    Command::new(alloc, "grow")
+        .about("Adds free memory to a segment's end, rewrites the file and prints the new size")
+        .arg(required(alloc, "FILE", "The image"))?
+        .arg(bytes(alloc, "EXTRA", "The bytes to add, a multiple of 16"))
+}
+
+fn shrink_line<'a>(alloc: Global) -> Result<Command<'a>, AllocError> {
+    Command::new(alloc, "shrink")
+        .about("Cuts the free memory at a segment's end, rewrites the file and prints the new size")
+        .arg(required(alloc, "FILE", "The image"))
+}
+
 fn check_line<'a>(alloc: Global) -> Result<Command<'a>, AllocError> {
     Command::new(alloc, "check")
         .about("Prints ok where a file is a sound image, else the first fault")
-        .arg(file(alloc, "FILE", "The image"))
+        .arg(required(alloc, "FILE", "The image"))
 }
 
 fn verify_line<'a>(alloc: Global) -> Result<Command<'a>, AllocError> {
     Command::new(alloc, "verify")
         .about("Prints how many steps a client takes at most on an image")
-        .arg(file(alloc, "FILE", "The image"))?
-        .arg(file(alloc, "CLIENT", "The client"))
+        .arg(required(alloc, "FILE", "The image"))?
+        .arg(required(alloc, "CLIENT", "The client"))
 }
 
 fn assemble_line<'a>(alloc: Global) -> Result<Command<'a>, AllocError> {
     Command::new(alloc, "asm")
         .about("Assembles the text of a client")
-        .arg(file(alloc, "TEXT", "The text"))?
-        .arg(file(alloc, "OUT", "The file that the client is written to"))
+        .arg(required(alloc, "TEXT", "The text"))?
+        .arg(required(alloc, "OUT", "The file that the client is written to"))
 }
 
 fn print_line<'a>(alloc: Global) -> Result<Command<'a>, AllocError> {
     Command::new(alloc, "print")
         .about("Prints the text of a client")
-        .arg(file(alloc, "CLIENT", "The client"))
+        .arg(required(alloc, "CLIENT", "The client"))
 }

@@ -10,6 +10,7 @@ mod failure;
 mod files;
 mod host;
 mod image;
+mod images;
 mod run;
 #[cfg(test)]
 mod tests;

@@ -1,6 +1,6 @@
 ghost use Rattle.std.specs.Prelude.{◌≡◌, false};
 
-use crate::command::{MAX_FILE, MAX_IMAGE, read, word};
+use crate::command::{MAX_FILE, MAX_IMAGE, read, word, write};
 use crate::failure::{Failure, STANDARD_OUTPUT};
 use crate::files::Files;
 use clap::ArgMatches;
@@ -36,9 +36,7 @@ pub fn run<'a, F: Files, O: Sink>(
         &place,
         out,
     )?;
-    let saved = files
-        .write(word(arguments, "OUT"), outcome.image.as_slice())
-        .map_err(|fault| Failure::of_file(word(arguments, "OUT"), fault));
+    let saved = write(files, word(arguments, "OUT"), outcome.image.as_slice());
     match outcome.ended {
         Ended::Done => saved,
         Ended::OutputFailed => Err(Failure::File(STANDARD_OUTPUT)),

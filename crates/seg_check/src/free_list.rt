@@ -1,0 +1,31 @@
+use crate::checker::Checker;
+use seg_block::{HEAP_START, LINK, UNIT, block_at, is_live};
+use seg_ptr::{Window, header};
+use seg_raw::Fault;
+use std::alloc::Allocator;
+
+impl<A: Allocator, B: Allocator> Checker<'_, A, B> {
+    /// The list of sequential fit: each of its pointers names the next free block, and the last one none.
+    pub(crate) fn check_free_list(&self) -> Result<(), Fault> {
+        let w = self.w;
+        let mut word = header::FREE as u32;
+        let mut at = HEAP_START;
+        while let Some(block) = block_at(w, at) {
+            if !is_live(w, at) {
+                check_word(w, word, Some(at + UNIT))?;
+                word = at + LINK as u32;
+            }
+            at += UNIT * block.units;
+        }
+        check_word(w, word, None)
+    }
+}
+
+/// The pointer at a position names this, else `BadFree`.
+fn check_word<A: Allocator>(w: &Window<A>, word: u32, named: Option<u32>) -> Result<(), Fault> {
+    if w.target(word as usize) == named {
+        Ok(())
+    } else {
+        Err(Fault::BadFree(word))
+    }
+}

@@ -1,0 +1,76 @@
+use crate::checker::Checker;
+use crate::walk::{Tree, Visit};
+use seg_raw::Fault;
+use seg_value::{Content, KEY};
+use std::alloc::Allocator;
+
+impl<A: Allocator, B: Allocator> Checker<'_, A, B> {
+    /// The flat map of `n` entries at a cell: its buffer, and then the order of its keys.
+    pub(crate) fn check_flat_map(
+        &mut self,
+        content: &Content,
+        cell: u32,
+        n: u32,
+    ) -> Result<(), Fault> {
+        let start = self.claim_entries(cell, content, n)?;
+        let mut keys = Keys::new();
+        for index in 0..n {
+            keys.add(self.key(content.entry.value_at(start, index)));
+        }
+        keys.check(cell)
+    }
+
+    /// The map of `n` nodes at a cell: its nodes, and then the tree and the order of its keys.
+    pub(crate) fn check_map(&mut self, content: &Content, cell: u32, n: u32) -> Result<(), Fault> {
+        let tree = Tree {
+            root: cell,
+            nodes: n as usize,
+            fault: Fault::BadValue(cell),
+        };
+        let mut keys = Keys::new();
+        for visit in tree.walk(self.w) {
+            match visit? {
+                Visit::Enter(pointer) => {
+                    self.claim_entries(pointer, content, 1)?;
+                }
+                Visit::Pass(node) => keys.add(self.key(content.entry.value_at(node, 0))),
+            }
+        }
+        keys.check(cell)
+    }
+
+    /// The key that stands right before the value at a position.
+    fn key(&self, value: u32) -> i64 {
+        self.w.get64(value.wrapping_sub(KEY) as usize).cast_signed()
+    }
+}
+
+/// The keys of a map, one after the other.
+#[derive(Debug, Clone, Copy)]
+struct Keys {
+    last: Option<i64>,
+    ascend: bool,
+}
+
+impl Keys {
+    fn new() -> Keys {
+        Keys {
+            last: None,
+            ascend: true,
+        }
+    }
+
+    fn add(&mut self, key: i64) {
+        self.ascend = self.ascend && self.last.is_none_or(|last| last < key);
+        self.last = Some(key);
+    }
+
+    /// Each key is above the one before, else `BadValue` with the map's cell.
+    fn check(self, cell: u32) -> Result<(), Fault> {
+        if self.ascend {
+            Ok(())
+        } else {
+            Err(Fault::BadValue(cell))
+        }
+    }
+}

@@ -1,0 +1,86 @@
+ghost use Rattle.std.specs.Prelude.{◌≡◌, ◌+◌, ◌*◌, ◌^◌, ◌≤◌};
+
+use crate::segment::Segment;
+use seg_block::{Block, Fit, HEAP_START, UNIT, block_at, is_live};
+use seg_ptr::Window;
+use std::alloc::Allocator;
+
+/// The gaps of a heap: how many, and their bytes, of all and of the largest.
+#[derive(Debug, Clone, Copy, Default)]
+struct Gaps {
+    count: u32,
+    total: u32,
+    largest: u32,
+}
+
+impl Gaps {
+    fn of<A: Allocator>(w: &Window<A>) -> Gaps {
+        let mut gaps = Gaps::default();
+        let mut at = HEAP_START;
+        while let Some(block) = block_at(w, at) {
+            if !is_live(w, at) {
+                gaps.add(UNIT * block.units);
+            }
+            at = behind(block);
+        }
+        gaps
+    }
+
+    fn add(&mut self, bytes: u32) {
+        self.count = self.count.saturating_add(1);
+        self.total = self.total.saturating_add(bytes);
+        self.largest = self.largest.max(bytes);
+    }
+}
+
+/// Where the block behind a block begins.
+fn behind(block: Block) -> u32
+    requires { block.at + 16 * block.units ≤ 2 ^ 30 }
+    ensures { result ≡ block.at + 16 * block.units }
+{
+    block.at + UNIT * block.units
+}
+
+/// Free memory.
+impl<F: Fit, A: Allocator> Segment<F, A> {
+    /// The bytes of all gaps, with their headers.
+    pub fn free_memory(&self) -> u32 {
+        Gaps::of(&self.window).total
+    }
+
+    /// The bytes of the largest gap, with its header.
+    pub fn largest_gap(&self) -> u32 {
+        Gaps::of(&self.window).largest
+    }
+
+    /// Whether one gap is the whole heap.
+    pub fn all_memory_deallocated(&self) -> bool {
+        let heap = self.window.len().saturating_sub(HEAP_START);
+        Gaps::of(&self.window).largest == heap
+    }
+
+    /// Writes 0 to each byte of the gaps that holds no header and that the allocator doesn't use.
+    pub fn zero_free_memory(&mut self) {
+        let w = &mut self.window;
+        let end = w.len();
+        let mut at = HEAP_START;
+        while at < end {
+            let Some(block) = block_at(w, at) else {
+                break;
+            };
+            if !is_live(w, at) {
+                zero_payload::<F, A>(w, block);
+            }
+            at = behind(block);
+        }
+    }
+}
+
+/// Writes 0 to the payload of a free block, behind what the allocator keeps there.
+fn zero_payload<F: Fit, A: Allocator>(w: &mut Window<A>, block: Block)
+    requires { block.at + 16 * block.units ≤ 2 ^ 30 }
+{
+    let used = UNIT + F::free_words();
+    let payload = (UNIT * block.units).saturating_sub(used);
+    w.fill(block.at as usize + used as usize, payload as usize, 0);
+}
