@@ -1,10 +1,10 @@
 ghost use Rattle.std.specs.Prelude.{◌≡◌, ◌+◌, ◌*◌, ◌^◌, ◌<◌, ◌≤◌, length};
 ghost use Rattle.seg_spec.specs.Window.{with_bytes};
 
-use crate::free_tree::{BySize, add, block_of, free_before, free_behind, free_tree, take_out};
+use crate::free_tree::{BySize, add, block_of, free_tree, take_out};
 use seg_block::{
-    Block, Fit, HEAP_START, UNIT, block_at, expanded, granted, is_live, last_block, set_size,
-    shrunk,
+    Block, Fit, HEAP_START, UNIT, block_at, expanded, free_before, free_behind, granted, is_live,
+    last_block, room_behind, set_size, shrunk,
 };
 use seg_ptr::{Window, header};
 use seg_rbtree::{Looked, TREE_WORDS};
@@ -76,8 +76,7 @@ impl Fit for BestFit {
         let Some(block) = block_at(w, block) else {
             return false;
         };
-        let gap = free_behind(w, block);
-        match expanded(block.units, gap.map_or(0, |gap| gap.units), need) {
+        match expanded(block.units, room_behind(w, block), need) {
             Some(units) => {
                 resize(w, block, units);
                 true
@@ -93,8 +92,7 @@ impl Fit for BestFit {
         if need > block.units {
             return;
         }
-        let gap = free_behind(w, block);
-        let units = shrunk(block.units, gap.map_or(0, |gap| gap.units), need);
+        let units = shrunk(block.units, room_behind(w, block), need);
         resize(w, block, units);
     }
 

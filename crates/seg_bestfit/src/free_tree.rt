@@ -1,7 +1,7 @@
 ghost use Rattle.std.specs.Prelude.{◌≡◌, ◌+◌, ◌*◌, ◌^◌, ◌<◌, ◌≤◌, length, IfSome};
 ghost use Rattle.seg_spec.specs.Window.{with_bytes};
 
-use seg_block::{Block, HEAP_START, UNIT, block_at, is_live, set_size, units, units_before};
+use seg_block::{Block, UNIT, block_at, set_size, units};
 use seg_ptr::{Window, header};
 use seg_rbtree::{NodeOrder, Tree};
 use std::alloc::Allocator;
@@ -56,33 +56,4 @@ pub(crate) fn take_out<A: Allocator>(w: &mut Window<A>, block: Block)
     ensures { w.new ≡ with_bytes w.old w.new.bytes }
 {
     free_tree().remove(w, &BySize, block.at.saturating_add(UNIT));
-}
-
-/// The free block right behind one, if there is one.
-pub(crate) fn free_behind<A: Allocator>(w: &Window<A>, block: Block) -> Option<Block>
-    requires { block.at + 16 * block.units ≤ 2 ^ 30 }
-    ensures { IfSome result (λ f. (2 ≤ f.units) × (f.at + 16 * f.units ≤ length w.now.bytes) × (length w.now.bytes ≤ 2 ^ 30)) }
-{
-    free_at(w, block.at + UNIT * block.units)
-}
-
-/// The free block right before one, if there is one.
-pub(crate) fn free_before<A: Allocator>(w: &Window<A>, block: Block) -> Option<Block>
-    ensures { IfSome result (λ f. (2 ≤ f.units) × (f.at + 16 * f.units ≤ length w.now.bytes) × (length w.now.bytes ≤ 2 ^ 30)) }
-{
-    if block.at <= HEAP_START {
-        return None;
-    }
-    let before = UNIT.saturating_mul(units_before(w, block.at));
-    free_at(w, block.at.checked_sub(before)?)
-}
-
-/// The free block at a position, if there is one.
-fn free_at<A: Allocator>(w: &Window<A>, at: u32) -> Option<Block>
-    ensures { IfSome result (λ f. (2 ≤ f.units) × (f.at + 16 * f.units ≤ length w.now.bytes) × (length w.now.bytes ≤ 2 ^ 30)) }
-{
-    if is_live(w, at) {
-        return None;
-    }
-    block_at(w, at)
 }

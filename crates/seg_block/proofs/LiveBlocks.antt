@@ -7,7 +7,9 @@ use Rattle.seg_spec.proofs.BytesLaws.{Agrees-within}
 use Rattle.seg_spec.proofs.TileLaws.{Fill-le, live_of-append, AreApart-front, AreApart-back}
 use Rattle.seg_block.specs.Tiling.{tile, IsTiling, Spares}
 use Rattle.seg_block.proofs.LiveTiles.{cons_cases}
+use Rattle.seg_block.specs.Blocks.{IsBlock}
 use Rattle.seg_block.proofs.Tiled.{around}
+use Rattle.seg_block.proofs.Neighbours.{IsBlock-tile}
 use Rattle.seg_block.proofs.Heaps.{tiling_of_heap, heap_of_tiling, IsTiledHeap}
 
 -- the tiles around a live one
@@ -89,3 +91,19 @@ module _ {allocator : ℕ} (old : List ℕ) (at u : ℕ) (h : IsHeap allocator o
         };
         given = now.live_is ∙ same ∙ left_live;
       }
+
+-- ---- a block that was read at its position
+
+module _ {allocator : ℕ} (old : List ℕ) (named x : ℕ) (h : IsHeap allocator old) (held : Contains (live old) (record { at = named; units = x })) where
+  stated : IsBlock old (record { at = named; units = x })
+  stated = let b = block old named x h held in IsBlock-tile old b.xs b.ys named x true (block_tiling old named x h held).tiled
+
+  pub unread : ((g : Span) → named ≡ g.at → IsBlock old g → ⊥) → ⊥
+  unread none = none (record { at = named; units = x }) refl stated
+
+  module _ (at u : ℕ) (read : (g : Span) → named ≡ g.at → IsBlock old g → (at ≡ g.at) × (u ≡ g.units)) where
+    pub read_is : (at ≡ named) × (u ≡ x)
+    read_is = read (record { at = named; units = x }) refl stated
+
+    pub read_held : Contains (live old) (record { at = at; units = u })
+    read_held = subst (λ (b : Span). Contains (live old) b) (λ i. record { at = sym read_is.0 i; units = sym read_is.1 i }) held

@@ -1,11 +1,11 @@
 -- The blocks that headers state, and those beside them.
-use Rattle.std.proofs.Common.{◌≡◌, ℕ, ◌+◌, ◌*◌, ◌^◌, ◌≤◌, Bool, List, [], ◌∷◌, ◌++◌, length, Option, Some, None, refl, sym, ◌∙◌, subst, arith}
+use Rattle.std.proofs.Common.{◌≡◌, ℕ, ◌+◌, ◌*◌, ◌^◌, ◌≤◌, Bool, true, false, List, [], ◌∷◌, ◌++◌, length, Option, Some, None, refl, sym, ap, ◌∙◌, subst, arith}
 use Rattle.std.specs.Prelude.{IfSome}
 use Rattle.std.proofs.lemmas.List.{append_assoc}
-use Rattle.seg_spec.specs.Heap.{Tile, units_before, heap_start}
+use Rattle.seg_spec.specs.Heap.{Tile, units_before, is_live_at, heap_start}
 use Rattle.seg_spec.proofs.TileLaws.{Fill-le, Fill-back, AreHeaders-back}
 use Rattle.seg_block.specs.declared.block.Block.{Block}
-use Rattle.seg_block.specs.Blocks.{IsBlock}
+use Rattle.seg_block.specs.Blocks.{IsBlock, IsReadFree}
 use Rattle.seg_block.specs.Tiling.{tile, IsTiled}
 use Rattle.seg_block.proofs.Tiled.{around, aligned_end, header_of}
 
@@ -52,3 +52,29 @@ previous_block bytes xs ys at u before live t is was =
 pub none_at_end : (result : Option Block) (at len : ℕ) → at ≡ len → IfSome result (λ f. (f.at ≡ at) × (2 ≤ f.units) × (f.at + 16 * f.units ≤ len) × (len ≤ 2 ^ 30)) → result ≡ None
 none_at_end None at len e bounds = refl
 none_at_end (Some f) at len e bounds = absurd (omega (arith, bounds))
+
+-- ---- a neighbour that may be free
+
+tells : (bytes : List ℕ) (t : Tile) (at : ℕ) (flag : Bool) → is_live_at bytes t.at ≡ t.live → at ≡ t.at → flag ≡ is_live_at bytes at → flag ≡ t.live
+tells bytes t at flag is place read = read ∙ ap (is_live_at bytes) place ∙ is
+
+never : true ≡ false → ⊥
+never e = cc
+
+pub read_free : (bytes : List ℕ) (t : Tile) (f : Block) (flag : Bool) → is_live_at bytes t.at ≡ t.live → (f.at ≡ t.at) × (f.units ≡ t.units) → flag ≡ is_live_at bytes f.at → flag ≡ false → IsReadFree t (Some f)
+read_free bytes t f flag is place read free = record {
+  free = λ _. place;
+  live = λ e. absurd (never (sym e ∙ sym (tells bytes t f.at flag is place.0 read) ∙ free));
+}
+
+pub read_live : (bytes : List ℕ) (t : Tile) (f : Block) (flag : Bool) → is_live_at bytes t.at ≡ t.live → (f.at ≡ t.at) × (f.units ≡ t.units) → flag ≡ is_live_at bytes f.at → flag ≡ true → IsReadFree t None
+read_live bytes t f flag is place read live = record {
+  free = λ e. absurd (never (sym live ∙ tells bytes t f.at flag is place.0 read ∙ e));
+  live = λ _. refl;
+}
+
+pub next_flag : (bytes : List ℕ) (xs ys : List Tile) (s t : Tile) → IsTiled bytes (xs ++ (s ∷ t ∷ ys)) → is_live_at bytes t.at ≡ t.live
+next_flag bytes xs ys s t was = (header_of bytes (xs ++ s ∷ []) ys t (subst (λ l. IsTiled bytes l) (sym (append_assoc xs (s ∷ []) (t ∷ ys))) was)).live_is
+
+pub own_flag : (bytes : List ℕ) (xs ys : List Tile) (t : Tile) → IsTiled bytes (xs ++ (t ∷ ys)) → is_live_at bytes t.at ≡ t.live
+own_flag bytes xs ys t was = (header_of bytes xs ys t was).live_is

@@ -1,14 +1,15 @@
 -- A live block of another size, and what is left of the gap behind it.
-use Rattle.std.proofs.Common.{◌≡◌, ◌≢◌, ℕ, ◌+◌, ◌-◌, ◌*◌, ◌<◌, ◌≤◌, true, false, List, [], ◌∷◌, ◌++◌, length, min, cond, eqb, ltb, leb, Some, None, refl, sym, ap, ◌∙◌, subst, arith, inl, inr, ◌⊎◌, ⊎_elim, le-leb}
+use Rattle.std.proofs.Common.{◌≡◌, ◌≢◌, ℕ, ◌+◌, ◌-◌, ◌*◌, ◌<◌, ◌≤◌, true, false, Bool, List, [], ◌∷◌, ◌++◌, length, min, cond, eqb, ltb, leb, Some, None, refl, sym, ap, ◌∙◌, subst, arith, inl, inr, ◌⊎◌, ⊎_elim, le-leb}
 use Rattle.std.specs.Prelude.{Contains}
-use Rattle.std.proofs.lemmas.Bool.{cases_lt}
 use Rattle.std.proofs.lemmas.Bool.Decides.{nat_tests}
 use Rattle.std.proofs.lemmas.List.Elements.{Contains-append_cases, Contains-append_left, Contains-append_right}
 use Rattle.seg_spec.specs.Bytes.{Agrees}
-use Rattle.seg_spec.specs.Heap.{Span, Tile, span_of, end_of, Fill, AreApart, live_of, free_of, heap_start, live, gaps, IsHeap, room_at, resized, Keeps, granted, expanded, shrunk, Expands, Shrinks}
+use Rattle.seg_spec.specs.Heap.{Span, Tile, span_of, end_of, Fill, AreApart, live_of, free_of, heap_start, live, gaps, IsHeap, room_at, resized, granted, expanded, shrunk, Expands, Shrinks}
 use Rattle.seg_spec.proofs.BytesLaws.{Agrees-within, Agrees-trans}
 use Rattle.seg_spec.proofs.TileLaws.{Fill-le, live_of-append, free_of-append, AreApart-append}
-use Rattle.seg_block.specs.Tiling.{tile, IsTiling, Retiles, Spares}
+use Rattle.seg_block.specs.Blocks.{IsReadFree, IsResized}
+use Rattle.seg_block.specs.declared.block.Block.{Block}
+use Rattle.seg_block.specs.Tiling.{tile, IsTiled, IsTiling, Retiles, Spares}
 use Rattle.seg_block.proofs.LiveTiles.{cons_cases, live_within}
 use Rattle.seg_block.proofs.Tiled.{around}
 use Rattle.seg_block.proofs.Heaps.{heap_of_tiling, AreApart-live, Spares-trans, Spares-same, Keeps-same}
@@ -53,12 +54,6 @@ resized-front at n (t ∷ xs) bs from to f h =
 
 resized-here : (at n u : ℕ) (bs : List Span) → resized at n (record { at = at; units = u } ∷ bs) ≡ record { at = at; units = n } ∷ bs
 resized-here at n u bs = rw (test_same at at refl) refl
-
--- the block at a position has n units
-pub record IsResized (allocator : ℕ) (old new : List ℕ) (at n : ℕ) : Type 0 where
-  pub heap : IsHeap allocator new
-  pub kept : Keeps old new
-  pub live_is : live new ≡ resized at n (live old)
 
 module _ {allocator : ℕ} (old : List ℕ) (at u : ℕ) (h : IsHeap allocator old) (held : Contains (live old) (record { at = at; units = u })) where
   abbrev pub before : List Tile
@@ -150,6 +145,21 @@ module _ {allocator : ℕ} (old : List ℕ) (at u : ℕ) (h : IsHeap allocator o
         fill = fill.2;
       }
 
+  -- either holds
+  pub room_cases : (AreApart false behind × (room_at (gaps old) (at + 16 * u) ≡ 0)) ⊎ ((v : ℕ) × HasGap v)
+  room_cases = go behind refl
+    where
+      go : (ys : List Tile) → behind ≡ ys → (AreApart false behind × (room_at (gaps old) (at + 16 * u) ≡ 0)) ⊎ ((v : ℕ) × HasGap v)
+      go [] e = let apart = subst (λ l. AreApart false l) (sym e) tt in inl (apart, gap_none apart)
+      go (t ∷ ys) e =
+          let after = (subst (λ l. AreApart true l) e (block_behind old at u h held)).1 in
+          let place = (subst (λ l. Fill (at + 16 * u) l (length old)) e parts.2).0 in
+          let cases = elim t.live as (λ b. t.live ≡ b → (AreApart false behind × (room_at (gaps old) (at + 16 * u) ≡ 0)) ⊎ ((v : ℕ) × HasGap v)) [
+            | true ↦ (λ is. let apart = subst (λ l. AreApart false l) (sym e) ((λ _. is), after) in inl (apart, gap_none apart))
+            | false ↦ (λ is. inr (t.units, gap_found t.units ys (e ∙ (λ i. record { at = place i; units = t.units; live = is i } ∷ ys))))
+          ] in
+          cases refl
+
   -- ---- the block that took the gap in, whole or cut
 
   pub resized_whole : (mid : List ℕ) (v : ℕ) (g : HasGap v) → Retiles allocator old mid before (tile at (u + v) true ∷ []) g.rest × Agrees old mid (at + 8) (at + 16 * u) → IsResized allocator old mid at (u + v)
@@ -202,47 +212,27 @@ granted_part n u h = grind (arith, nat_tests)
 expanded_same : (x room u : ℕ) → u ≤ x → expanded x room u ≡ Some x
 expanded_same x room u h = rw (le-leb u x h) refl
 
-expanded_none : (x room u : ℕ) → x + room < u → expanded x room u ≡ None
-expanded_none x room u h = rw (leb_no u x (omega arith), leb_no u (x + room) h) refl
-
-expanded_more : (x room u : ℕ) → x < u → u ≤ x + room → expanded x room u ≡ Some (granted (x + room) u)
-expanded_more x room u low high = rw (leb_no u x low, le-leb u (x + room) high) refl
-
-pub shrunk_cut : (x u : ℕ) → u + 2 ≤ x → shrunk x 0 u ≡ u
-shrunk_cut x u h = rw (le-leb (u + 2) x h) refl
-
-pub shrunk_not : (x u : ℕ) → x < u + 2 → shrunk x 0 u ≡ x
-shrunk_not x u h = rw (leb_no (u + 2) x h) refl
-
-pub shrunk_room : (x room u : ℕ) → 0 < room → shrunk x room u ≡ u
-shrunk_room x room u h = ⊎_elim (λ k. rw (leb_no (u + 2) x k, ltb_yes 0 room h) refl) (λ k. rw (le-leb (u + 2) x k) refl) (cases_lt x (u + 2))
-
 -- ---- what the calls leave
 
 module _ {allocator : ℕ} (old : List ℕ) (at u need : ℕ) (h : IsHeap allocator old) (held : Contains (live old) (record { at = at; units = u })) where
-  pub expands_enough : need ≤ u → Expands allocator old old at u need true
-  expands_enough enough = record {
+  pub expands_not : expanded u (room_at (gaps old) (at + 16 * u)) need ≡ None → Expands allocator old old at u need false
+  expands_not none = record {
     heap = h;
     kept = Keeps-same old;
     unchanged = λ _. refl;
-    expands = rw (expanded_same u (room_at (gaps old) (at + 16 * u)) need enough) (refl, sym (resized_same old at u h held));
+    expands = rw none (refl, refl);
   }
 
-  pub expands_short : (room : ℕ) → room_at (gaps old) (at + 16 * u) ≡ room → u + room < need → Expands allocator old old at u need false
-  expands_short room room_is short = record {
-    heap = h;
-    kept = Keeps-same old;
-    unchanged = λ _. refl;
-    expands = rw (room_is, expanded_none u room need short) (refl, refl);
-  }
-
-  pub expands_done : (new : List ℕ) (v n : ℕ) → room_at (gaps old) (at + 16 * u) ≡ v → u < need → need ≤ u + v → granted (u + v) need ≡ n → IsResized allocator old new at n → Expands allocator old new at u need true
-  expands_done new v n room_is low enough n_is r = record {
+  pub expands_to : (new : List ℕ) (n : ℕ) → expanded u (room_at (gaps old) (at + 16 * u)) need ≡ Some n → (n ≡ u → new ≡ old) → IsResized allocator old new at n → Expands allocator old new at u need true
+  expands_to new n some same r = record {
     heap = r.heap;
     kept = r.kept;
-    unchanged = λ k. absurd (omega arith);
-    expands = rw (room_is, expanded_more u v need low enough, n_is) (refl, r.live_is);
+    unchanged = λ enough. same (sized (sym some ∙ expanded_same u (room_at (gaps old) (at + 16 * u)) need enough));
+    expands = rw some (refl, r.live_is);
   }
+    where
+      sized : Some n ≡ Some u → n ≡ u
+      sized h = cc
 
   pub shrinks_to : (new : List ℕ) (n : ℕ) → shrunk u (room_at (gaps old) (at + 16 * u)) need ≡ n → IsResized allocator old new at n → Shrinks allocator old new at u need
   shrinks_to new n n_is r = record {
@@ -250,3 +240,22 @@ module _ {allocator : ℕ} (old : List ℕ) (at u need : ℕ) (h : IsHeap alloca
     kept = r.kept;
     shrinks = rw n_is r.live_is;
   }
+
+-- ---- the room, as it is read
+
+module _ {allocator : ℕ} (old : List ℕ) (at u : ℕ) (h : IsHeap allocator old) (held : Contains (live old) (record { at = at; units = u })) where
+  pub room_some : (f : Block) → ((xs ys : List Tile) (l : Bool) (t : Tile) → IsTiled old (xs ++ (tile at u l ∷ t ∷ ys)) → IsReadFree t (Some f)) → ((xs : List Tile) (l : Bool) → IsTiled old (xs ++ tile at u l ∷ []) → Some f ≡ None)
+      → f.units ≡ room_at (gaps old) (at + 16 * u)
+  room_some f read none = ⊎_elim (λ n. go (behind old at u h held) refl n.0) (λ g. let tiles = g.1.tiling in ((read (before old at u h held) g.1.rest true (tile (at + 16 * u) g.0 false) tiles.tiled).free refl).1 ∙ sym g.1.room) (room_cases old at u h held)
+    where
+      no : Some f ≡ None → ⊥
+      no e = cc
+
+      go : (ys : List Tile) → behind old at u h held ≡ ys → AreApart false (behind old at u h held) → f.units ≡ room_at (gaps old) (at + 16 * u)
+      go [] e apart = absurd (no (none (before old at u h held) true (subst (λ l. IsTiled old (before old at u h held ++ tile at u true ∷ l)) e (was old at u h held).tiled)))
+      go (t ∷ ys) e apart =
+          let live = (subst (λ l. AreApart false l) e apart).0 refl in
+          absurd (no ((read (before old at u h held) ys true t (subst (λ l. IsTiled old (before old at u h held ++ tile at u true ∷ l)) e (was old at u h held).tiled)).live live))
+
+  pub room_none : ((xs ys : List Tile) (l : Bool) (t : Tile) → IsTiled old (xs ++ (tile at u l ∷ t ∷ ys)) → IsReadFree t None) → 0 ≡ room_at (gaps old) (at + 16 * u)
+  room_none read = ⊎_elim (λ n. sym n.1) (λ g. absurd ((read (before old at u h held) g.1.rest true (tile (at + 16 * u) g.0 false) g.1.tiling.tiled).free refl)) (room_cases old at u h held)

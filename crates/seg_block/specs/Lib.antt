@@ -1,4 +1,5 @@
 pub mod Sizes
 pub mod Blocks
+pub mod Tags
 pub mod Tiling
 pub mod Request

@@ -1,9 +1,9 @@
-ghost use Rattle.std.specs.Prelude.{◌≡◌, ℕ, ◌+◌, ◌-◌, ◌*◌, ◌/◌, ◌^◌, ◌<◌, ◌≤◌, max, Bool, List, [], ◌∷◌, ◌++◌, length, IfSome, IsSomeAnd, Option, Some, None};
+ghost use Rattle.std.specs.Prelude.{◌≡◌, ℕ, ◌+◌, ◌-◌, ◌*◌, ◌/◌, ◌^◌, ◌<◌, ◌≤◌, max, Bool, List, [], ◌∷◌, ◌++◌, length, Contains, IfSome, IsSomeAnd, Option, Some, None};
 ghost use Rattle.seg_spec.specs.Window.{with_bytes};
-ghost use Rattle.seg_spec.specs.Heap.{Span, Tile, Fill, AreHeaders, is_live_at};
+ghost use Rattle.seg_spec.specs.Heap.{Span, Tile, Fill, AreHeaders, IsHeap, is_live_at, live, gaps, room_at};
 ghost use Rattle.seg_block.specs.Sizes.{set_size, set_split};
 ghost use Rattle.seg_block.specs.Tiling.{tile, IsTiled, Replaces};
-ghost use Rattle.seg_block.specs.Blocks.{IsBlock, HasEnd};
+ghost use Rattle.seg_block.specs.Blocks.{IsBlock, IsReadFree, HasEnd};
 
 use crate::header::{
     HEAP_START, LIVE, TAG, UNIT, UNITS_BEFORE, block_of, is_live, units, units_before,
@@ -44,6 +44,7 @@ pub fn block_at<A: Allocator>(w: &Window<A>, at: u32) -> Option<Block>
 /// How many entries of `size` bytes the block has room for whose payload begins at a position.
 pub fn capacity<A: Allocator>(w: &Window<A>, payload: u32, size: u32) -> u32
     requires { 1 ≤ size }
+    ensures { (g : Span) → payload ≡ g.at + 16 → IsBlock w.now.bytes g → result ≡ (16 * g.units - 16) / size }
 {
     match block_at(w, block_of(payload)) {
         Some(block) => UNIT * (block.units - 1) / size,
@@ -80,6 +81,7 @@ pub fn set_size<A: Allocator>(w: &mut Window<A>, block: u32, units: u32, live: b
 /// The block right behind a block, where the segment goes on.
 pub fn next<A: Allocator>(w: &Window<A>, block: Block) -> Option<Block>
     requires { block.at + 16 * block.units ≤ 2 ^ 30 }
+    ensures bounds { IfSome result (λ f. (f.at ≡ block.at + 16 * block.units) × (2 ≤ f.units) × (f.at + 16 * f.units ≤ length w.now.bytes) × (length w.now.bytes ≤ 2 ^ 30)) }
     ensures read { (xs ys : List Tile) (l : Bool) (t : Tile) → IsTiled w.now.bytes (xs ++ (tile block.at block.units l ∷ t ∷ ys))
         → IsSomeAnd result (λ f. (f.at ≡ t.at) × (f.units ≡ t.units)) }
     ensures none { (xs : List Tile) (l : Bool) → IsTiled w.now.bytes (xs ++ tile block.at block.units l ∷ []) → result ≡ None }
@@ -89,15 +91,59 @@ pub fn next<A: Allocator>(w: &Window<A>, block: Block) -> Option<Block>
 
 /// The block right before a block, where it isn't the first.
 pub fn previous<A: Allocator>(w: &Window<A>, block: Block) -> Option<Block>
+    ensures bounds { IfSome result (λ f. (f.at + 16 * f.units ≡ block.at) × (2 ≤ f.units)) }
     ensures read { (xs ys : List Tile) (l : Bool) (t : Tile) → IsTiled w.now.bytes (xs ++ (t ∷ tile block.at block.units l ∷ ys))
         → IsSomeAnd result (λ f. (f.at ≡ t.at) × (f.units ≡ t.units)) }
     ensures none { (ys : List Tile) (l : Bool) → IsTiled w.now.bytes (tile block.at block.units l ∷ ys) → result ≡ None }
 {
-    let before = units_before(w, block.at);
-    if before < 2 || before > block.at / UNIT {
+    let units = units_before(w, block.at);
+    if units < 2 || units > block.at / UNIT {
         return None;
     }
-    block_at(w, block.at - UNIT * before)
+    Some(Block {
+        at: block.at - UNIT * units,
+        units,
+    })
+}
+
+/// The free block right behind a block, where there is one.
+pub fn free_behind<A: Allocator>(w: &Window<A>, block: Block) -> Option<Block>
+    requires { block.at + 16 * block.units ≤ 2 ^ 30 }
+    ensures bounds { IfSome result (λ f. (f.at ≡ block.at + 16 * block.units) × (2 ≤ f.units) × (f.at + 16 * f.units ≤ length w.now.bytes) × (length w.now.bytes ≤ 2 ^ 30)) }
+    ensures read { (xs ys : List Tile) (l : Bool) (t : Tile) → IsTiled w.now.bytes (xs ++ (tile block.at block.units l ∷ t ∷ ys)) → IsReadFree t result }
+    ensures none { (xs : List Tile) (l : Bool) → IsTiled w.now.bytes (xs ++ tile block.at block.units l ∷ []) → result ≡ None }
+{
+    let behind = next(w, block)?;
+    if is_live(w, behind.at) {
+        return None;
+    }
+    Some(behind)
+}
+
+/// The free block right before a block, where there is one.
+pub fn free_before<A: Allocator>(w: &Window<A>, block: Block) -> Option<Block>
+    ensures bounds { IfSome result (λ f. (f.at + 16 * f.units ≡ block.at) × (2 ≤ f.units)) }
+    ensures read { (xs ys : List Tile) (l : Bool) (t : Tile) → IsTiled w.now.bytes (xs ++ (t ∷ tile block.at block.units l ∷ ys)) → IsReadFree t result }
+    ensures none { (ys : List Tile) (l : Bool) → IsTiled w.now.bytes (tile block.at block.units l ∷ ys) → result ≡ None }
+{
+    let before = previous(w, block)?;
+    if is_live(w, before.at) {
+        return None;
+    }
+    Some(before)
+}
+
+/// The units of the gap right behind a block, 0 where there is none.
+pub fn room_behind<A: Allocator>(w: &Window<A>, block: Block) -> u32
+    requires { block.at + 16 * block.units ≤ 2 ^ 30 }
+    ensures bounds { block.at + 16 * block.units + 16 * result ≤ 2 ^ 30 }
+    ensures room { (allocator : ℕ) → IsHeap allocator w.now.bytes → Contains (live w.now.bytes) (record { at = block.at; units = block.units })
+        → result ≡ room_at (gaps w.now.bytes) (block.at + 16 * block.units) }
+{
+    match free_behind(w, block) {
+        Some(gap) => gap.units,
+        None => 0,
+    }
 }
 
 /// Cuts a block in two, both of them live or free as it was. The front keeps `units`; the rest has tag 0.

@@ -10,7 +10,8 @@ mod rules;
 mod tag;
 
 pub use block::{
-    Block, block_at, capacity, join, last_block, need, next, previous, set_size, split,
+    Block, block_at, capacity, free_before, free_behind, join, last_block, need, next, previous,
+    room_behind, set_size, split,
 };
 pub use fit::Fit;
 pub use grant::{Grant, request, request_at, request_new};

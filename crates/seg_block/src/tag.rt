@@ -1,14 +1,15 @@
-ghost use Rattle.std.specs.Prelude.{◌≡◌};
+ghost use Rattle.std.specs.Prelude.{◌≡◌, ◌+◌, ◌^◌, ◌<◌, IfSome, Some};
+ghost use Rattle.seg_spec.specs.Bytes.{set_word};
 ghost use Rattle.seg_spec.specs.Window.{with_bytes};
+ghost use Rattle.seg_block.specs.Tags.{word_of};
 
 use crate::header::TAG;
 use seg_ptr::Window;
 use std::alloc::Allocator;
 
-/// What a block is for.
+/// What a live block is for.
 #[derive(Debug, Clone, Copy, PartialEq, Eq)]
 pub enum Kind {
-    Free = 0,
     /// An object with a name: its values, then the name's bytes.
     Named = 1,
     /// A unique or an anonymous object: one value.
@@ -23,7 +24,8 @@ pub enum Kind {
     IndexNode = 6,
 }
 
-/// What a block is for, and the id of the type that it is for (0 where there is none).
+/// What a live block is for, and the id of the type that it is for (0 where there is none). The header of a free block has
+/// the word 0, which spells no tag.
 #[derive(Debug, Clone, Copy, PartialEq, Eq)]
 pub struct Tag {
     pub kind: Kind,
@@ -32,12 +34,11 @@ pub struct Tag {
 
 impl Tag {
     /// The tag that a header's word spells, if it spells one.
-    pub fn read(word: u32) -> Option<Tag> {
-        let [kind, type_id, 0, 0] = word.to_le_bytes() else {
-            return None;
-        };
-        let kind = match kind {
-            0 => Kind::Free,
+    pub fn read(word: u32) -> Option<Tag>
+        ensures spelled { IfSome result (λ t. word ≡ word_of t) }
+        ensures every { (t : Tag) → t.type_id < 256 → word ≡ word_of t → result ≡ Some t }
+    {
+        let kind = match word % 256 {
             1 => Kind::Named,
             2 => Kind::Object,
             3 => Kind::Buffer,
@@ -46,17 +47,20 @@ impl Tag {
             6 => Kind::IndexNode,
             _ => return None,
         };
+        let type_id = u8::try_from(word / 256).ok()?;
         Some(Tag { kind, type_id })
     }
 
     /// The word that spells the tag in a header.
-    pub fn word(self) -> u32 {
-        u32::from_le_bytes([self.kind as u8, self.type_id, 0, 0])
+    pub fn word(self) -> u32
+        ensures { result ≡ word_of self }
+    {
+        self.kind as u32 + 256 * u32::from(self.type_id)
     }
 
     /// Writes the tag into the header of the block at a position.
     pub fn write<A: Allocator>(self, w: &mut Window<A>, block: u32)
-        ensures { w.new ≡ with_bytes w.old w.new.bytes }
+        ensures { w.new ≡ with_bytes w.old (set_word w.old.bytes (block + 8) (word_of self)) }
     {
         w.put32(block as usize + TAG, self.word());
     }

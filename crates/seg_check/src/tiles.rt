@@ -43,24 +43,19 @@ fn is_block<A: Allocator>(w: &Window<A>, types: &TypeTable, block: u32, before: 
     if units_before(w, block) != before.units {
         return false;
     }
-    let Some(tag) = Tag::read(tag_word(w, block)) else {
-        return false;
-    };
-    if is_live(w, block) {
-        link(w, block).is_none() && is_live_tag(types, tag)
-    } else {
-        before.is_live && is_free_tag(tag)
+    let tag = tag_word(w, block);
+    if !is_live(w, block) {
+        return before.is_live && tag == 0;
     }
-}
-
-fn is_free_tag(tag: Tag) -> bool {
-    tag.kind == Kind::Free && tag.type_id == 0
+    match Tag::read(tag) {
+        Some(tag) => link(w, block).is_none() && is_live_tag(types, tag),
+        None => false,
+    }
 }
 
 /// Whether a live block may have this tag.
 fn is_live_tag(types: &TypeTable, tag: Tag) -> bool {
     match tag.kind {
-        Kind::Free => false,
         Kind::Named | Kind::Object => types.kind(tag.type_id).is_some(),
         Kind::Buffer | Kind::Node => {
             Content::of(types, tag.type_id).is_some_and(|content| content.tag == tag)

@@ -15,12 +15,9 @@ use Rattle.seg_block.specs.Sizes.{size_word, set_size}
 use Rattle.seg_block.specs.Tiling.{tile, IsTiling}
 use Rattle.seg_seqfit.specs.Retiling.{link_behind}
 use Rattle.seg_block.specs.Blocks.{HasEnd}
-use Rattle.seg_seqfit.specs.FreeBlocks.{AreFreeBlocks, AreBelow, AreAbove, link_after}
 use Rattle.seg_seqfit.proofs.LinkLaws.{Links-changed, link_behind-low, link_behind-off, link_behind-cases, live_beside_link}
 use Rattle.seg_block.proofs.LiveTiles.{live_within}
 use Rattle.seg_block.proofs.Tiled.{around, aligned_end}
-use Rattle.seg_seqfit.proofs.FreeTiles.{free_blocks}
-use Rattle.seg_seqfit.proofs.Freeing.{link_after-free_of}
 use Rattle.seg_seqfit.proofs.Extents.{AreHeaders-words, Links-words}
 use Rattle.seg_block.proofs.Heaps.{tiling_of_heap, heap_of_tiling, IsTiledHeap}
 
@@ -227,13 +224,6 @@ module _ (old : List ℕ) (large : 736 ≤ length old) (h : IsHeap 0 old) (xs : 
 
 -- ---- from what the steps ensure
 
-below_less : (xs : List Tile) (from to p : ℕ) → Fill from xs to → to ≤ p + 2 → AreBelow p (free_of xs)
-below_less [] from to p f h = tt
-below_less (t ∷ xs) from to p f h =
-    let le = Fill-le xs (from + 16 * t.units) to f.2 in
-    let rest = below_less xs (from + 16 * t.units) to p f.2 h in
-    elim t.live as (λ b. AreBelow p (cond b (free_of xs) (span_of t ∷ free_of xs))) [ true ↦ rest | false ↦ (omega (arith, f.0, f.1), rest) ]
-
 module _ (old : List ℕ) (len : ℕ) (large : 736 ≤ length old) (h : IsHeap 0 old) (len_is : len ≡ length old) where
   pub never_ends : ((ts : List Tile) → 704 < len → len ≤ length old → Fill 704 ts len → AreHeaders old 0 ts → ⊥) → ⊥
   never_ends last = last (tiles old) (omega arith) (omega arith) (subst (λ e. Fill heap_start (tiles old) e) (sym len_is) h.filled) h.headers
@@ -256,15 +246,9 @@ module _ (old : List ℕ) (len : ℕ) (large : 736 ≤ length old) (h : IsHeap 0
         subst (λ b. Cuts 0 old b (u - 2)) (sym new_is) (cut_whole old large h e.front at u e.live e.parts (sym flag ∙ free) below)
 
     pub cuts_gap : (new : List ℕ) (link : ℕ) → is_live_at old at ≡ false → 704 < at
-        → ((seen rest : List Span) → Links old 24 (seen ++ rest) None → AreFreeBlocks old 704 (seen ++ rest) → AreBelow (at - 1) seen → AreAbove (at - 1) rest → link ≡ link_after 24 seen)
+        → ((xs ys : List Tile) (l : Bool) → IsTiling 0 old (xs ++ tile at u l ∷ ys) → link ≡ link_behind 24 xs)
         → new ≡ set_pointer (set_word old 12 (at / 16)) link None → Cuts 0 old new u
-    cuts_gap new link free above walk new_is =
+    cuts_gap new link free above place new_is =
         let e = the_end in
-        let is_free = sym flag ∙ free in
-        let t : IsTiling 0 old (e.front ++ tile at u false ∷ []) = subst (λ ts. IsTiling 0 old ts) (e.parts ∙ ap (λ l. e.front ++ tile at u l ∷ []) is_free) (tiling_of_heap old h) in
-        let p = around e.front [] heap_start (length old) at u false t.tiled.filled in
-        let split = free_of-append e.front (tile at u false ∷ []) in
-        let link_is : link ≡ link_behind 24 e.front =
-        walk (free_of e.front) (record { at = at; units = u } ∷ []) (subst (λ gs. Links old 24 gs None) split t.free) (subst (λ gs. AreFreeBlocks old 704 gs) split (free_blocks old (e.front ++ tile at u false ∷ []) t))
-        (below_less e.front heap_start at (at - 1) p.0 (omega arith)) (omega arith, tt) ∙ link_after-free_of e.front 24 in
-        subst (λ b. Cuts 0 old b u) (sym new_is) (cut_gap old large h e.front at u e.live e.parts is_free link link_is above)
+        let was = subst (λ ts. IsTiling 0 old ts) e.parts (tiling_of_heap old h) in
+        subst (λ b. Cuts 0 old b u) (sym new_is) (cut_gap old large h e.front at u e.live e.parts (sym flag ∙ free) link (place e.front [] e.live was) above)

@@ -3,6 +3,7 @@ pub mod LinkLaws
 pub mod Retile
 pub mod Taking
 pub mod FreeTiles
+pub mod Predecessor
 pub mod Allocating
 pub mod Releasing
 pub mod Joining
@@ -10,7 +11,6 @@ pub mod Freeing
 pub mod Extending
 pub mod Cutting
 pub mod Resizing
-pub mod Behind
 pub mod Expanding
 pub mod Beginning
 pub mod Extents

@@ -1,14 +1,14 @@
 -- A live block of another size.
-use Rattle.std.proofs.Common.{◌≡◌, ℕ, suc, ◌+◌, ◌*◌, ◌≤◌, true, false, List, [], ◌∷◌, ◌++◌, cond, refl, sym, ap, ◌∙◌, subst, arith, ⊎_elim}
+use Rattle.std.proofs.Common.{◌≡◌, ℕ, suc, ◌+◌, ◌*◌, ◌≤◌, true, false, List, [], ◌∷◌, ◌++◌, length, cond, refl, sym, ap, ◌∙◌, subst, arith, ⊎_elim}
 use Rattle.std.specs.Prelude.{Contains}
 use Rattle.std.proofs.lemmas.List.{append_assoc}
 use Rattle.std.proofs.lemmas.List.Elements.{Contains-append_left, Contains-append_right, Contains-append_cases}
 use Rattle.seg_spec.specs.Bytes.{Agrees}
-use Rattle.seg_spec.specs.Heap.{Span, Tile, span_of, is_live_at, live_of}
+use Rattle.seg_spec.specs.Heap.{Span, Tile, span_of, is_live_at, live_of, heap_start}
 use Rattle.seg_spec.proofs.BytesLaws.{Agrees-trans}
 use Rattle.seg_spec.proofs.TileLaws.{live_of-append}
 use Rattle.seg_block.specs.Sizes.{set_size, set_split}
-use Rattle.seg_block.proofs.Tiled.{header_of}
+use Rattle.seg_block.proofs.Tiled.{around, header_of}
 use Rattle.seg_block.specs.Tiling.{tile, Spares, IsTiling, Retiles}
 use Rattle.seg_seqfit.specs.Retiling.{link_behind}
 use Rattle.seg_seqfit.proofs.LinkLaws.{link_behind-append}
@@ -43,6 +43,10 @@ others old new xs ys t s = record {
 
     behind : (t : Tile) (ys : List Tile) (b : Span) → Contains (live_of ys) b → Contains (live_of (t ∷ ys)) b
     behind t ys b c = elim t.live as (λ l. Contains (cond l (span_of t ∷ live_of ys) (live_of ys)) b) [ true ↦ later (span_of t) b (live_of ys) c | false ↦ c ]
+
+-- a gap has two units
+pub absorbs_large : (old : List ℕ) (xs ys : List Tile) (at u v : ℕ) → IsTiling 0 old (xs ++ (tile at u true ∷ tile (at + 16 * u) v false ∷ ys)) → 2 ≤ v
+absorbs_large old xs ys at u v was = (around xs (tile (at + 16 * u) v false ∷ ys) heap_start (length old) at u true was.tiled.filled).2.1
 
 pub absorbs : (old taken new : List ℕ) (xs ys : List Tile) (at u v link : ℕ) → link ≡ link_behind 24 xs → IsTiling 0 old (xs ++ (tile at u true ∷ tile (at + 16 * u) v false ∷ ys))
     → ((zs : List Tile) → link ≡ link_behind 24 zs → IsTiling 0 old (zs ++ tile (at + 16 * u) v false ∷ ys) → Retiles 0 old taken zs (tile (at + 16 * u) v true ∷ []) ys)

@@ -2,10 +2,11 @@
 use Rattle.std.proofs.Common.{◌≡◌, ℕ, ◌+◌, ◌*◌, ◌<◌, ◌≤◌, false, leb, List, [], ◌∷◌, ◌++◌, Some, None, refl, sym, ap, ◌∙◌, subst, arith, le-leb}
 use Rattle.std.proofs.lemmas.List.{append_assoc, append-nil}
 use Rattle.std.proofs.lemmas.Bool.Decides.{nat_tests}
+use Rattle.std.specs.Prelude.{⊤}
 use Rattle.seg_spec.specs.Pointer.{target}
 use Rattle.seg_spec.specs.Heap.{Span, end_of, Links, first_fit}
 use Rattle.seg_block.specs.Blocks.{IsBlock}
-use Rattle.seg_seqfit.specs.FreeBlocks.{AreFreeBlocks, AreBelow, AreAbove, link_after, IsFirstFit}
+use Rattle.seg_seqfit.specs.FreeBlocks.{AreFreeBlocks, link_after, IsFirstFit}
 
 -- the free blocks before a pointer word were seen, and none of them has u units
 pub record IsSearched (bytes : List ℕ) (gs : List Span) (u link low : ℕ) : Type 0 where
@@ -87,7 +88,16 @@ searched_end bytes gs u link low reads s = end bytes gs s.rest u link low reads 
 pub some_none : {X : Type 0} (x : X) → Some x ≡ None → ⊥
 some_none x e = cc
 
--- ---- the walk to a live block
+-- ---- the walk to a block
+
+-- each begins below a position, or at it or above
+abbrev pub AreBelow : ℕ → List Span → Type 0
+AreBelow at [] = ⊤
+AreBelow at (g ∷ gs) = (g.at < at) × AreBelow at gs
+
+abbrev pub AreAbove : ℕ → List Span → Type 0
+AreAbove at [] = ⊤
+AreAbove at (g ∷ gs) = (at ≤ g.at) × AreAbove at gs
 
 -- the free blocks before a pointer word are passed, those of `todo` lie below the block, and the rest above
 pub record IsPassed (bytes : List ℕ) (seen rest : List Span) (block link low : ℕ) : Type 0 where
@@ -103,7 +113,7 @@ pub record IsPassed (bytes : List ℕ) (seen rest : List Span) (block link low :
 pub passed_none : (bytes : List ℕ) (seen rest : List Span) (block : ℕ) → Links bytes 24 (seen ++ rest) None → AreFreeBlocks bytes 704 (seen ++ rest) → AreBelow block seen → AreAbove block rest → IsPassed bytes seen rest block 24 704
 passed_none bytes seen rest block links blocks below above = record { done = []; todo = seen; parts = refl; link_is = refl; links = links; blocks = blocks; below = below; above = above }
 
-pass : (bytes : List ℕ) (seen rest done todo : List Span) (block link low at units : ℕ) → ReadsBlock bytes link low at units → at ≤ block → seen ≡ done ++ todo → link ≡ link_after 24 done → Links bytes link (todo ++ rest) None → AreFreeBlocks bytes low (todo ++ rest) → AreBelow block todo → AreAbove block rest → IsPassed bytes seen rest block (at + 12) (at + 16 * units)
+pass : (bytes : List ℕ) (seen rest done todo : List Span) (block link low at units : ℕ) → ReadsBlock bytes link low at units → at < block → seen ≡ done ++ todo → link ≡ link_after 24 done → Links bytes link (todo ++ rest) None → AreFreeBlocks bytes low (todo ++ rest) → AreBelow block todo → AreAbove block rest → IsPassed bytes seen rest block (at + 12) (at + 16 * units)
 pass bytes seen [] done [] block link low at units reads under parts link_is links blocks below above = absurd (reads.0 links)
 pass bytes seen (g ∷ rest) done [] block link low at units reads under parts link_is links blocks below above =
     let is = reads.1 g links.0 blocks.1 blocks.0 in absurd (omega (arith, above.0))
@@ -120,7 +130,7 @@ pass bytes seen rest done (g ∷ todo) block link low at units reads under parts
       above = above;
     }
 
-pub passed_more : (bytes : List ℕ) (seen rest : List Span) (block link low at units : ℕ) → ReadsBlock bytes link low at units → at ≤ block → IsPassed bytes seen rest block link low → IsPassed bytes seen rest block (at + 12) (at + 16 * units)
+pub passed_more : (bytes : List ℕ) (seen rest : List Span) (block link low at units : ℕ) → ReadsBlock bytes link low at units → at < block → IsPassed bytes seen rest block link low → IsPassed bytes seen rest block (at + 12) (at + 16 * units)
 passed_more bytes seen rest block link low at units reads under p = pass bytes seen rest p.done p.todo block link low at units reads under p.parts p.link_is p.links p.blocks p.below p.above
 
 stop : (bytes : List ℕ) (seen rest done todo : List Span) (block link low : ℕ) → ((g : Span) → target bytes link ≡ Some (g.at + 16) → IsBlock bytes g → low ≤ g.at → g.at < block → ⊥) → seen ≡ done ++ todo → link ≡ link_after 24 done → Links bytes link (todo ++ rest) None → AreFreeBlocks bytes low (todo ++ rest) → AreBelow block todo → link ≡ link_after 24 seen

@@ -1,5 +1,5 @@
 -- Free blocks in ascending position, and the pointer words that name them.
-use Rattle.std.specs.Prelude.{◌≡◌, ℕ, ◌+◌, ◌<◌, ◌≤◌, List, [], ◌∷◌, ◌++◌, Some, ⊤}
+use Rattle.std.specs.Prelude.{◌≡◌, ℕ, ◌+◌, ◌≤◌, List, [], ◌∷◌, ◌++◌, Some, ⊤}
 use Rattle.seg_spec.specs.Heap.{Span, end_of, first_fit, span}
 use Rattle.seg_block.specs.Blocks.{IsBlock}
 
@@ -20,12 +20,3 @@ pub record IsFirstFit (gs : List Span) (u link at units : ℕ) : Type 0 where
   pub parts : gs ≡ seen ++ span at units ∷ rest
   pub link_is : link ≡ link_after 24 seen
   pub is_first : first_fit gs u ≡ Some (span at units)
-
--- each begins below a position, or above it
-abbrev pub AreBelow : ℕ → List Span → Type 0
-AreBelow at [] = ⊤
-AreBelow at (g ∷ gs) = (g.at < at) × AreBelow at gs
-
-abbrev pub AreAbove : ℕ → List Span → Type 0
-AreAbove at [] = ⊤
-AreAbove at (g ∷ gs) = (at < g.at) × AreAbove at gs

@@ -8,9 +8,8 @@ abbrev pub link_behind : ℕ → List Tile → ℕ
 link_behind at [] = at
 link_behind at (t ∷ ts) = link_behind (if t.live then at else t.at + 12) ts
 
--- the free tile at a position was joined with the free tile right behind it, where there is one
-pub record JoinsBehind (old new : List ℕ) (xs : List Tile) (at : ℕ) (ys : List Tile) : Type 0 where
-  pub units : ℕ
+-- the free tile at a position was joined with the free tile right behind it, where there is one, and has so many units now
+pub record JoinsBehind (old new : List ℕ) (xs : List Tile) (at units : ℕ) (ys : List Tile) : Type 0 where
   pub rest : List Tile
   pub tiling : IsTiling 0 new (xs ++ tile at units false ∷ rest)
   pub apart : AreApart false rest

@@ -1,24 +1,52 @@
 //! Changes of the tiles that keep the free list.
 
-ghost use Rattle.std.specs.Prelude.{◌≡◌, ℕ, ◌+◌, ◌-◌, ◌*◌, ◌/◌, ◌%◌, ◌^◌, ◌<◌, ◌≤◌, true, false, List, [], ◌∷◌, ◌++◌, length, None};
+ghost use Rattle.std.specs.Prelude.{◌≡◌, ℕ, ◌+◌, ◌-◌, ◌*◌, ◌/◌, ◌%◌, ◌^◌, ◌<◌, ◌≤◌, ◌⊎◌, true, false, List, [], ◌∷◌, ◌++◌, length, Contains, None};
 ghost use Rattle.seg_spec.specs.Bytes.{Agrees};
 ghost use Rattle.seg_spec.specs.Window.{with_bytes};
-ghost use Rattle.seg_spec.specs.Heap.{Tile, AreApart, link_at};
+ghost use Rattle.seg_spec.specs.Heap.{Tile, AreApart, IsHeap, link_at, live, gaps, room_at};
+ghost use Rattle.seg_block.specs.Blocks.{IsResized};
 ghost use Rattle.seg_block.specs.Tiling.{tile, IsTiling, Retiles};
 ghost use Rattle.seg_seqfit.specs.Retiling.{link_behind, JoinsBehind};
 
-use crate::search::free_behind;
-use seg_block::{Block, LINK, TAG, UNIT, block_at, join, set_size, split};
+use crate::search::link_before;
+use seg_block::{Block, LINK, TAG, UNIT, free_behind, join, set_size, split};
 use seg_ptr::Window;
 use std::alloc::Allocator;
 
-/// Lets a live block take in the gap of `more` units right behind it, which a pointer word names.
-pub(crate) fn absorb<A: Allocator>(w: &mut Window<A>, link: usize, block: Block, more: u32)
+/// Gives a live block other units, at the cost or in favour of the gap of `room` units right behind it (0 where there is
+/// none).
+pub(crate) fn resize<A: Allocator>(w: &mut Window<A>, block: Block, room: u32, units: u32)
+    requires inside { block.at + 16 * block.units + 16 * room ≤ 2 ^ 30 }
+    requires front { 2 ≤ units }
+    requires rest { (units ≡ block.units) ⊎ ((units ≡ block.units + room) ⊎ (units + 2 ≤ block.units + room)) }
+    ensures host { w.new ≡ with_bytes w.old w.new.bytes }
+    ensures same { units ≡ block.units → w.new ≡ w.old }
+    ensures resized { IsHeap 0 w.old.bytes → Contains (live w.old.bytes) (record { at = block.at; units = block.units }) → room ≡ room_at (gaps w.old.bytes) (block.at + 16 * block.units)
+        → IsResized 0 w.old.bytes w.new.bytes block.at units }
+{
+    if units == block.units {
+        return;
+    }
+    let link = link_before(w, block);
+    absorb(w, link, block, room);
+    let whole = Block {
+        at: block.at,
+        units: block.units + room,
+    };
+    cut(w, link, whole, units);
+}
+
+/// Lets a live block take in the gap of `more` units right behind it, which a pointer word names. Nothing where they are 0.
+fn absorb<A: Allocator>(w: &mut Window<A>, link: usize, block: Block, more: u32)
     requires { block.at + 16 * block.units + 16 * more ≤ 2 ^ 30 }
     ensures host { w.new ≡ with_bytes w.old w.new.bytes }
+    ensures none { more ≡ 0 → w.new ≡ w.old }
     ensures tiles { (xs ys : List Tile) → link ≡ link_behind 24 xs → IsTiling 0 w.old.bytes (xs ++ (tile block.at block.units true ∷ tile (block.at + 16 * block.units) more false ∷ ys))
         → Retiles 0 w.old.bytes w.new.bytes xs (tile block.at (block.units + more) true ∷ []) ys × Agrees w.old.bytes w.new.bytes (block.at + 8) (block.at + 16 * block.units) }
 {
+    if more == 0 {
+        return;
+    }
     let gap = Block {
         at: block.at + UNIT * block.units,
         units: more,
@@ -27,21 +55,20 @@ pub(crate) fn absorb<A: Allocator>(w: &mut Window<A>, link: usize, block: Block,
     join(w, block, gap);
 }
 
-/// Cuts a live block to `units`, where at least 2 are left.
+/// Cuts a live block to `units`. What is left becomes a gap.
 pub(crate) fn cut<A: Allocator>(w: &mut Window<A>, link: usize, block: Block, units: u32)
     requires inside { block.at + 16 * block.units ≤ 2 ^ 30 }
     requires front { 2 ≤ units }
-    requires enough { units ≤ block.units }
+    requires rest { (units ≡ block.units) ⊎ (units + 2 ≤ block.units) }
     ensures host { w.new ≡ with_bytes w.old w.new.bytes }
-    ensures whole { block.units < units + 2 → w.new ≡ w.old }
+    ensures whole { units ≡ block.units → w.new ≡ w.old }
     ensures tiles { units + 2 ≤ block.units → (xs ys : List Tile) → link ≡ link_behind 24 xs → IsTiling 0 w.old.bytes (xs ++ tile block.at block.units true ∷ ys)
         → Retiles 0 w.old.bytes w.new.bytes xs (tile block.at units true ∷ tile (block.at + 16 * units) (block.units - units) false ∷ []) ys × Agrees w.old.bytes w.new.bytes (block.at + 8) (block.at + 16 * units) }
 {
-    let left = block.units - units;
-    if left >= 2 {
+    if units < block.units {
         let rest = Block {
             at: block.at + UNIT * units,
-            units: left,
+            units: block.units - units,
         };
         split(w, block, units);
         release(w, link, rest);
@@ -87,15 +114,19 @@ pub(crate) fn merge<A: Allocator>(w: &mut Window<A>, front: Block, rest: Block)
     w.point(front.at as usize + LINK, next);
 }
 
-/// Joins the free block at a position with what is free right behind it.
-pub(crate) fn merge_behind<A: Allocator>(w: &mut Window<A>, at: u32)
+/// Joins a free block with the gap right behind it, where there is one. Answers the two as one.
+pub(crate) fn merge_behind<A: Allocator>(w: &mut Window<A>, front: Block) -> Block
+    requires { front.at + 16 * front.units ≤ 2 ^ 30 }
+    ensures bounds { (result.at ≡ front.at) × (result.at + 16 * result.units ≤ 2 ^ 30) }
     ensures host { w.new ≡ with_bytes w.old w.new.bytes }
-    ensures joins { (xs ys : List Tile) (u : ℕ) → IsTiling 0 w.old.bytes (xs ++ tile at u false ∷ ys) → AreApart true ys → JoinsBehind w.old.bytes w.new.bytes xs at ys }
+    ensures joins { (xs ys : List Tile) → IsTiling 0 w.old.bytes (xs ++ tile front.at front.units false ∷ ys) → AreApart true ys → JoinsBehind w.old.bytes w.new.bytes xs front.at result.units ys }
 {
-    let Some(front) = block_at(w, at) else {
-        return;
+    let Some(rest) = free_behind(w, front) else {
+        return front;
     };
-    if let Some(rest) = free_behind(w, front.at as usize + LINK, front) {
-        merge(w, front, rest);
+    merge(w, front, rest);
+    Block {
+        at: front.at,
+        units: front.units + rest.units,
     }
 }

@@ -1,12 +1,14 @@
 //! Walks along the free list.
 
-ghost use Rattle.std.specs.Prelude.{◌≡◌, ℕ, ◌+◌, ◌-◌, ◌*◌, ◌/◌, ◌%◌, ◌^◌, ◌<◌, ◌≤◌, ◌⊎◌, List, ◌++◌, length, IfSome, IsSomeAnd, MatchOption, Option, Some, None};
+ghost use Rattle.std.specs.Prelude.{◌≡◌, ◌+◌, ◌-◌, ◌*◌, ◌/◌, ◌%◌, ◌^◌, ◌<◌, ◌≤◌, Bool, List, ◌∷◌, ◌++◌, length, IfSome, IsSomeAnd, MatchOption, Option, Some, None};
 ghost use Rattle.seg_spec.specs.Pointer.{target};
-ghost use Rattle.seg_spec.specs.Heap.{Span, Links, first_fit};
+ghost use Rattle.seg_spec.specs.Heap.{Span, Tile, Links, first_fit};
 ghost use Rattle.seg_block.specs.Blocks.{IsBlock};
-ghost use Rattle.seg_seqfit.specs.FreeBlocks.{AreFreeBlocks, AreBelow, AreAbove, link_after, IsFirstFit};
+ghost use Rattle.seg_block.specs.Tiling.{tile, IsTiling};
+ghost use Rattle.seg_seqfit.specs.FreeBlocks.{AreFreeBlocks, IsFirstFit};
+ghost use Rattle.seg_seqfit.specs.Retiling.{link_behind};
 
-use seg_block::{Block, HEAP_START, LINK, UNIT, block_at};
+use seg_block::{Block, HEAP_START, LINK, UNIT, block_at, is_live, previous};
 use seg_ptr::Window;
 use seg_ptr::header::FREE;
 use std::alloc::Allocator;
@@ -48,34 +50,28 @@ pub(crate) fn first_fit<A: Allocator>(w: &Window<A>, need: u32) -> Option<Found>
     None
 }
 
-/// The pointer word that names the first free block above a live one.
-pub(crate) fn link_before<A: Allocator>(w: &Window<A>, block: u32) -> usize
-    ensures bounds { (result ≡ 24) ⊎ ((716 ≤ result) × (result ≤ 2 ^ 30)) }
-    ensures link { (seen rest : List Span) → Links w.now.bytes 24 (seen ++ rest) None → AreFreeBlocks w.now.bytes 704 (seen ++ rest) → AreBelow block seen → AreAbove block rest
-        → result ≡ link_after 24 seen }
+/// The pointer word that names the first free block above a block: the link of the nearest one below, or the list's first
+/// word. Two walks look for it, along the list and down the blocks, in turn: so it takes at most twice the steps of the
+/// shorter one, and none where the list begins above the block.
+pub(crate) fn link_before<A: Allocator>(w: &Window<A>, block: Block) -> usize
+    ensures { (xs ys : List Tile) (l : Bool) → IsTiling 0 w.now.bytes (xs ++ tile block.at block.units l ∷ ys) → result ≡ link_behind 24 xs }
 {
     let mut link = FREE;
     let mut low = HEAP_START;
+    let mut near = block;
     while let Some(gap) = free_block(w, link, low) {
-        if gap.at > block {
+        if gap.at >= block.at {
             return link;
         }
         link = gap.at as usize + LINK;
         low = gap.at + UNIT * gap.units;
+        let Some(before) = previous(w, near) else {
+            return FREE;
+        };
+        if !is_live(w, before.at) {
+            return before.at as usize + LINK;
+        }
+        near = before;
     }
     link
-}
-
-/// The free block right behind a block, where a pointer word names it.
-pub(crate) fn free_behind<A: Allocator>(w: &Window<A>, link: usize, block: Block) -> Option<Block>
-    requires { block.at + 16 * block.units ≤ 2 ^ 30 }
-    ensures bounds { IfSome result (λ f. block.at + 16 * block.units + 16 * f.units ≤ 2 ^ 30) }
-    ensures found { IfSome result (λ f. target w.now.bytes link ≡ Some (block.at + 16 * block.units + 16)) }
-    ensures read { (g : Span) → target w.now.bytes link ≡ Some (block.at + 16 * block.units + 16) → g.at ≡ block.at + 16 * block.units → IsBlock w.now.bytes g → IsSomeAnd result (λ f. f.units ≡ g.units) }
-{
-    let behind = block.at + UNIT * block.units;
-    match w.target(link) {
-        Some(next) if next == behind + UNIT => block_at(w, behind),
-        _ => None,
-    }
 }

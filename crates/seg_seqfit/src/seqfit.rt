@@ -1,9 +1,10 @@
 ghost use Rattle.std.specs.Prelude.{ℕ};
 
-use crate::free_list::{absorb, cut, merge_behind, release, take};
-use crate::search::{first_fit, free_behind, link_before};
+use crate::free_list::{cut, merge, merge_behind, release, resize, take};
+use crate::search::{Found, first_fit, link_before};
 use seg_block::{
-    Block, Fit, HEAP_START, LINK, TAG, UNIT, UNITS_BEFORE, block_at, is_live, last_block, set_size,
+    Fit, HEAP_START, LINK, TAG, UNIT, UNITS_BEFORE, block_at, expanded, free_before, granted,
+    is_live, last_block, room_behind, set_size, shrunk,
 };
 use seg_ptr::Window;
 use seg_ptr::header::{FREE, SIZE};
@@ -35,21 +36,21 @@ impl Fit for SeqFit {
     }
 
     fn allocate<A: Allocator>(w: &mut Window<A>, need: u32) -> Option<u32> {
-        let found = first_fit(w, need)?;
-        take(w, found.link, found.block);
-        cut(w, found.link, found.block, need);
-        Some(found.block.at)
+        let Found { link, block } = first_fit(w, need)?;
+        take(w, link, block);
+        cut(w, link, block, granted(block.units, need));
+        Some(block.at)
     }
 
     fn free<A: Allocator>(w: &mut Window<A>, block: u32) {
         let Some(block) = block_at(w, block) else {
             return;
         };
-        let link = link_before(w, block.at);
+        let link = link_before(w, block);
         release(w, link, block);
-        merge_behind(w, block.at);
-        if link != FREE {
-            merge_behind(w, (link - 12) as u32);
+        let whole = merge_behind(w, block);
+        if let Some(gap) = free_before(w, whole) {
+            merge(w, gap, whole);
         }
     }
 
@@ -57,22 +58,11 @@ impl Fit for SeqFit {
         let Some(block) = block_at(w, block) else {
             return false;
         };
-        if need <= block.units {
-            return true;
-        }
-        let link = link_before(w, block.at);
-        let Some(gap) = free_behind(w, link, block) else {
+        let room = room_behind(w, block);
+        let Some(units) = expanded(block.units, room, need) else {
             return false;
         };
-        if block.units + gap.units < need {
-            return false;
-        }
-        absorb(w, link, block, gap.units);
-        let whole = Block {
-            at: block.at,
-            units: block.units + gap.units,
-        };
-        cut(w, link, whole, need);
+        resize(w, block, room, units);
         true
     }
 
@@ -83,17 +73,8 @@ impl Fit for SeqFit {
         if need > block.units {
             return;
         }
-        let link = link_before(w, block.at);
-        if let Some(gap) = free_behind(w, link, block) {
-            absorb(w, link, block, gap.units);
-            let whole = Block {
-                at: block.at,
-                units: block.units + gap.units,
-            };
-            cut(w, link, whole, need);
-        } else {
-            cut(w, link, block, need);
-        }
+        let room = room_behind(w, block);
+        resize(w, block, room, shrunk(block.units, room, need));
     }
 
     fn extend_end<A: Allocator>(w: &mut Window<A>, units: u32) {
@@ -130,7 +111,7 @@ impl Fit for SeqFit {
             set_size(w, HEAP_START, 2, false);
             return last.units - 2;
         }
-        let link = link_before(w, last.at - 1);
+        let link = link_before(w, last);
         w.put32(SIZE, last.at / UNIT);
         w.point(link, None);
         last.units

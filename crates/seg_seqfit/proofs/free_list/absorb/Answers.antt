@@ -1,7 +1,11 @@
-use Rattle.std.proofs.Common.{ap}
+use Rattle.std.proofs.Common.{ap, arith}
 use Rattle.seg_spec.specs.Window.{Placement}
-use Rattle.seg_seqfit.proofs.Resizing.{absorbs}
+use Rattle.seg_seqfit.proofs.Resizing.{absorbs, absorbs_large}
 use Rattle.seg_seqfit.proofs.free_list.absorb.Goals as goal
+
+pub returns-then-more-eq0-clause-tiles : goal.returns-then-more-eq0-clause-tiles
+returns-then-more-eq0-clause-tiles g c = λ xs ys link_is was.
+    absurd (omega (arith, absorbs_large c.args.w.now.bytes xs ys c.args.block.at c.args.block.units c.args.more was, c.if-more-eq0.true))
 
 pub returns-clause-tiles : goal.returns-clause-tiles
 returns-clause-tiles g c = λ xs ys link_is was.

@@ -3,8 +3,8 @@ use Rattle.seg_spec.specs.Window.{Placement}
 use Rattle.seg_seqfit.proofs.Resizing.{cuts}
 use Rattle.seg_seqfit.proofs.free_list.cut.Goals as goal
 
-pub returns-then-left-ge2-clause-tiles : goal.returns-then-left-ge2-clause-tiles
-returns-then-left-ge2-clause-tiles g c = λ enough xs ys link_is was.
+pub returns-then-units-block-clause-tiles : goal.returns-then-units-block-clause-tiles
+returns-then-units-block-clause-tiles g c = λ enough xs ys link_is was.
     let at = c.args.block.at in
     let n = c.args.block.units in
     let u = c.args.units in

@@ -1,15 +1,13 @@
-use Rattle.std.proofs.Common.{◌≡◌, ◌≤◌, ◌-◌, ◌^◌, ◌⊎◌, List, ◌++◌, length, None}
-use Rattle.seg_spec.specs.Heap.{Span, Links}
-use Rattle.seg_seqfit.specs.FreeBlocks.{AreFreeBlocks, AreBelow, AreAbove}
+use Rattle.std.proofs.Common.{◌-◌, Bool, List, ◌∷◌, ◌++◌, length}
+use Rattle.seg_spec.specs.Heap.{Tile, free_of}
+use Rattle.seg_block.specs.Tiling.{tile, IsTiling}
 use Rattle.seg_seqfit.proofs.Walks.{IsPassed}
+use Rattle.seg_seqfit.proofs.Predecessor.{IsNear}
 use Rattle.seg_seqfit.proofs.search.link_before.Given as goal
 
 abbrev pub invariant-loop-gap : goal.invariant-loop-gap
-invariant-loop-gap g l = record {
-  above : 704 ≤ l.low;
-  bounds : (l.link ≡ 24) ⊎ ((716 ≤ l.link) × (l.link ≤ 2 ^ 30));
-  passed : (seen rest : List Span) → Links l.w.bytes 24 (seen ++ rest) None → AreFreeBlocks l.w.bytes 704 (seen ++ rest) → AreBelow l.block seen → AreAbove l.block rest → IsPassed l.w.bytes seen rest l.block l.link l.low;
-}
+invariant-loop-gap g l = (xs ys : List Tile) (b : Bool) → IsTiling 0 l.w.bytes (xs ++ tile l.block.at l.block.units b ∷ ys)
+    → IsPassed l.w.bytes (free_of xs) (free_of (tile l.block.at l.block.units b ∷ ys)) l.block.at l.link l.low × IsNear l.w.bytes xs l.near
 
 abbrev pub decreases-loop-gap : goal.decreases-loop-gap
 decreases-loop-gap g l = length l.w.bytes - l.low

@@ -5,14 +5,16 @@ use Rattle.seg_block.proofs.Taken.{takes_none}
 use Rattle.seg_seqfit.proofs.Allocating.{heap_free_blocks, takes_gap}
 use Rattle.seg_seqfit.proofs.seqfit.SeqFitFit.allocate.Goals as goal
 
-pub returns-in_err-found-clause-takes : goal.returns-in_err-found-clause-takes
-returns-in_err-found-clause-takes g c = λ e h.
+pub returns-in_err-link-clause-takes : goal.returns-in_err-link-clause-takes
+returns-in_err-link-clause-takes g c = λ e h.
     let old = c.args.w.now.bytes in
-    takes_none old c.args.need c.from_residual.result h (c.in_err-found.ensures.first (gaps old) h.free (heap_free_blocks old h)) c.from_residual.ensures
+    takes_none old c.args.need c.from_residual.result h (c.in_err-link.ensures.first (gaps old) h.free (heap_free_blocks old h)) c.from_residual.ensures
 
 pub returns-clause-takes : goal.returns-clause-takes
 returns-clause-takes g c = λ e h.
     let old = c.args.w.now.bytes in
-    let b = c.in_ok-found.found in
-    takes_gap old c.args.need b.link b.block.at b.block.units h (c.in_ok-found.ensures.first (gaps old) h.free (heap_free_blocks old h)) c.cut.new.w.bytes c.take.new.w.bytes c.requires (omega (arith, c.in_ok-found.ensures.bounds))
-    c.take.ensures.tiles (λ k. ap (λ (p : Placement). p.bytes) (c.cut.ensures.whole k)) c.cut.ensures.tiles
+    let link = c.in_ok-link.field-0.link in
+    let gap = c.in_ok-link.field-0.block in
+    let bytes = λ (p : Placement). p.bytes in
+    takes_gap old c.args.need link gap.at gap.units h (c.in_ok-link.ensures.first (gaps old) h.free (heap_free_blocks old h)) c.cut.new.w.bytes c.granted.result c.take.new.w.bytes c.granted.ensures c.requires (omega (arith, c.in_ok-link.ensures.bounds))
+    c.take.ensures.tiles (λ k. ap bytes (c.cut.ensures.whole k)) c.cut.ensures.tiles

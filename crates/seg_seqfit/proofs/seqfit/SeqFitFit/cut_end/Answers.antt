@@ -21,4 +21,4 @@ returns-then-last-le-HEAP_START-clause-cuts g c = λ e large h.
 pub returns-clause-cuts : goal.returns-clause-cuts
 returns-clause-cuts g c = λ e large h.
     cuts_gap c.args.w.now.bytes c.len-len.result large h c.len-len.ensures.len c.in-Some.last.at c.in-Some.last.units c.in-Some.ensures.last c.point.new.self.bytes c.link_before-link.result (sym c.is_live.ensures ∙ c.if-is_live.false) c.if-last-le-HEAP_START.false
-    c.link_before-link.ensures.link (ap (λ (p : Placement). p.bytes) c.point.ensures ∙ ap (λ (p : Placement). set_pointer p.bytes c.link_before-link.result None) c.put32-2.ensures)
+    c.link_before-link.ensures (ap (λ (p : Placement). p.bytes) c.point.ensures ∙ ap (λ (p : Placement). set_pointer p.bytes c.link_before-link.result None) c.put32-2.ensures)
