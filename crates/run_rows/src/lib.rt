@@ -14,3 +14,5 @@ mod owners;
 mod runs;
 #[cfg(test)]
 mod sizes;
+#[cfg(test)]
+mod uses;

@@ -2,7 +2,9 @@
 #![tactic(auto)]
 
 mod clients;
+mod examples;
 mod images;
 
 pub use clients::{CHAIN, INCREMENT, INCREMENT_FILE};
+pub use examples::{CACHE, CONFIGURE, COUNT, SETTINGS};
 pub use images::{counter, counter_with, write, write_words};
