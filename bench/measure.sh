@@ -46,3 +46,18 @@ compare counting lua5.4 "$here/counting.lua"
 compare pushes "$work/boost" pushes
 compare puts "$work/boost" puts
 compare finds "$work/boost" finds
+
+# checks an image of so many MiB whose heap has so many blocks
+check() {
+  local size=$1 nodes=$2 took
+  sed "s/1000000/$nodes/" "$here/nodes.text" > "$work/nodes.text"
+  "$segtool" asm "$work/nodes.text" "$work/nodes"
+  "$segtool" new "$work/small" $((size << 20)) seq flat
+  "$segtool" run "$work/small" "$work/small" "$work/nodes" > "$work/printed"
+  [ "$(cat "$work/printed")" = "$nodes" ] || { echo "nodes: $(cat "$work/printed")" >&2; exit 1; }
+  took=$(seconds "$segtool" check "$work/small")
+  echo "check of $size MiB with $nodes blocks: $took s"
+}
+
+check 64 1000000
+check 16 250000

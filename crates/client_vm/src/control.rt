@@ -87,7 +87,7 @@ impl Control {
         let part = self.parts.pop();
         if let Some(Part::Body { turns }) = part {
             let start = program.partner(self.at);
-            if turns > 0 && machine.goes_on(program.instruction(start)) {
+            if turns > 0 && machine.goes_on(program.line(start)) {
                 self.push(Part::Body { turns: turns - 1 });
                 self.go_behind(start);
                 return true;

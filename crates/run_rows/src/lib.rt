@@ -3,13 +3,25 @@
 #![tactic(auto)]
 
 #[cfg(test)]
+mod abstract_openers;
+#[cfg(test)]
+mod abstract_plain;
+#[cfg(test)]
+mod abstract_run;
+#[cfg(test)]
 mod containers;
 #[cfg(test)]
+mod generator;
+#[cfg(test)]
 mod hostile;
+#[cfg(test)]
+mod model;
 #[cfg(test)]
 mod objects;
 #[cfg(test)]
 mod owners;
+#[cfg(test)]
+mod random_clients;
 #[cfg(test)]
 mod runs;
 #[cfg(test)]
