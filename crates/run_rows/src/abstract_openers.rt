@@ -100,6 +100,11 @@ impl AbstractRun<'_> {
 
     fn find(&self, objects: &Objects, i: Instruction) -> Result<Answer, Fail> {
         let item = if i.c == Instruction::NONE { 0 } else { self.number(i.c) };
+        self.item(objects, i, item)
+    }
+
+    /// A value of a name's object.
+    fn item(&self, objects: &Objects, i: Instruction, item: i64) -> Result<Answer, Fail> {
         Ok(match self.named(objects, i)? {
             Err(code) => Err(code),
             Ok(object) => place(object.values.as_slice(), item),
@@ -107,7 +112,7 @@ impl AbstractRun<'_> {
     }
 
     fn find_or_make(&self, objects: &mut Objects, i: Instruction) -> Result<Answer, Fail> {
-        match self.find(objects, i)? {
+        match self.item(objects, i, 0)? {
             Err(ABSENT) => self.make_named(objects, i, 1),
             found => Ok(found),
         }

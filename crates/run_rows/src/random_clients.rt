@@ -44,7 +44,7 @@ fn follow_clients(rt: &(impl Abort + AllocGlobal), kind: Kind, size: u32) -> Res
     let mut image = empty(alloc, size, kind)?;
     let mut objects = Objects::new(alloc);
     let mut accepted = 0u32;
-    for seed in 0..60 {
+    for seed in 0..25 {
         let text = Generator::new(alloc, u64::from(size).wrapping_add(seed)).client(40)?;
         let file = assemble(alloc, text.as_bytes())?;
         if let Some(saved) = follow(rt, &mut objects, image.as_slice(), file.as_slice())? {
@@ -63,10 +63,10 @@ fn follow_clients(rt: &(impl Abort + AllocGlobal), kind: Kind, size: u32) -> Res
 fn random_clients_follow_a_model(rt: HostRuntime) -> Result<(), Fail> {
     let mut accepted = 0u32;
     for kind in KINDS {
-        for size in [800, 1024, 1600, 4096] {
+        for size in [800, 1200, 4096] {
             accepted = accepted.wrapping_add(follow_clients(&rt, kind, size)?);
         }
     }
-    assert!(rt; accepted > 300, "{accepted} clients were accepted");
+    assert!(rt; accepted > 150, "{accepted} clients were accepted");
     Ok(())
 }
