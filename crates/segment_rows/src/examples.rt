@@ -192,7 +192,8 @@ fn new_segments_are_empty(rt: HostRuntime) -> Result<(), Fail> {
             Ok(_) => return Err(Fail::from("made")),
             Err((refused, region)) => {
                 assert_eq!(rt; refused, fault);
-                assert!(rt; region.slice(0, 1024).iter().all(|byte| *byte == 0xa5));
+                let bytes = region.slice(0, region.len() as usize);
+                assert!(rt; bytes.iter().all(|byte| *byte == 0xa5));
             }
         }
     }

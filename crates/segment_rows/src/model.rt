@@ -55,7 +55,7 @@ impl Model {
             };
             assert_eq!(rt; named.name, *name);
             assert_eq!(rt; named.type_id, object.type_id);
-            assert_eq!(rt; named.count as usize, object.values.len());
+            assert_eq!(rt; usize::from(named.count), object.values.len());
             compare_object(rt, s, name, object)?;
             next = s.next_name(name);
         }
