@@ -8,7 +8,7 @@ use seg_layout::{TypeId, TypeTable};
 use seg_manager::{IndexKind, Segment};
 use seg_ptr::Window;
 use seg_ptr::header::TYPES;
-use seg_raw::{Code, Region};
+use seg_raw::{Code, Fault, Region};
 use seg_seq::{assign, pop_back, pop_front, push_back, push_front};
 use seg_seqfit::SeqFit;
 use seg_value::{Content, clear, destroy, new_block, set_own, take_own};
@@ -96,18 +96,24 @@ fn some_key(random: &mut Random) -> i64 {
     i64::from(random.below(12)).wrapping_sub(6)
 }
 
-/// Puts a link before the chain that an own holds.
+/// Puts a link before the chain that an own holds, and answers where it is.
+fn push_link<F: Fit>(w: &mut Window<Global>, table: &TypeTable, cell: u32) -> Result<u32, Code> {
+    let link = new_block::<F, Global>(w, table, &Content::object(table, LINK))?;
+    if let Some(rest) = take_own(w, cell) {
+        set_own::<F, Global>(w, table, link.wrapping_add(16), rest);
+    }
+    set_own::<F, Global>(w, table, cell, link);
+    Ok(link)
+}
+
+/// Puts a link with a text before a chain.
 fn add_link<F: Fit>(
     w: &mut Window<Global>,
     table: &TypeTable,
     cell: u32,
     random: &mut Random,
 ) -> Result<(), Code> {
-    let link = new_block::<F, Global>(w, table, &Content::object(table, LINK))?;
-    if let Some(rest) = take_own(w, cell) {
-        set_own::<F, Global>(w, table, link.wrapping_add(16), rest);
-    }
-    set_own::<F, Global>(w, table, cell, link);
+    let link = push_link::<F>(w, table, cell)?;
     assign::<F, Global>(w, table, TEXT, link.wrapping_add(8), some_text(random))
 }
 
@@ -157,16 +163,26 @@ fn take<F: Fit>(
     Ok(())
 }
 
+/// An empty segment of these types.
+fn new_segment<F: Fit>(
+    alloc: Global,
+    size: u32,
+    index: IndexKind,
+) -> Result<Segment<F, Global>, Fail> {
+    let region = Region::new(alloc, size.min(1 << 20))?;
+    let Ok(mut segment) = Segment::<F, Global>::create(region, 0, size, index) else {
+        return Err(Fail::from("no segment"));
+    };
+    segment.add_types(&table(alloc)?)?;
+    Ok(segment)
+}
+
 fn try_calls<F: Fit>(
     rt: &(impl Abort + AllocGlobal),
     size: u32,
     index: IndexKind,
 ) -> Result<(), Fail> {
-    let region = Region::new(rt.alloc(), size.min(4096))?;
-    let Ok(mut segment) = Segment::<F, Global>::create(region, 0, size, index) else {
-        return Err(Fail::from("no segment"));
-    };
-    segment.add_types(&table(rt.alloc())?)?;
+    let mut segment = new_segment::<F>(rt.alloc(), size, index)?;
     segment.construct(b"name", TEXT, 3)?;
     let object = segment.construct_unique(ALL)?;
     let mut random = Random::new(u64::from(size));
@@ -190,5 +206,21 @@ fn accepts_what_the_library_makes(rt: HostRuntime) -> Result<(), Fail> {
             try_calls::<BestFit>(&rt, size, index)?;
         }
     }
+    Ok(())
+}
+
+/// Each object owns the next one, and the last one is wrong or isn't: 20,000 objects in a segment of a megabyte.
+#[test]
+fn reads_values_of_any_depth(rt: HostRuntime) -> Result<(), Fail> {
+    let mut segment = new_segment::<SeqFit>(rt.alloc(), 1 << 20, IndexKind::Flat)?;
+    let cell = segment.construct_unique(OWN)?;
+    let (w, table) = (&mut segment.window, &segment.types);
+    let last = push_link::<SeqFit>(w, table, cell)?.wrapping_add(16);
+    for _ in 1..20_000 {
+        push_link::<SeqFit>(w, table, cell)?;
+    }
+    assert_eq!(rt; check(rt.alloc(), w).err(), None);
+    w.put32(last as usize + 4, 2);
+    assert_eq!(rt; check(rt.alloc(), w).err(), Some(Fault::BadValue(last)));
     Ok(())
 }
