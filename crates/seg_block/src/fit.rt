@@ -20,7 +20,8 @@ pub trait Fit {
 
     /// The bytes at the start of a free block's payload that the allocator uses.
     fn free_words() -> u32
-        ensures { result ≡ 16 * code };
+        ensures words { result ≡ 16 * code }
+        ensures small { result ≤ 16 };
 
     /// Makes the heap of a segment of at least 736 bytes one gap.
     fn init<A: Allocator>(w: &mut Window<A>)

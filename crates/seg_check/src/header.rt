@@ -6,8 +6,6 @@ use seg_ptr::{MAX_LEN, Window, header};
 use seg_raw::Fault;
 use std::alloc::Allocator;
 
-const VERSION: u32 = 1;
-
 /// The image's length and its first 64 bytes.
 pub(crate) fn check_header<A: Allocator>(w: &Window<A>) -> Result<(), Fault>
     ensures { OnOk result (736 ≤ length w.now.bytes) }
@@ -27,8 +25,8 @@ pub(crate) fn check_header<A: Allocator>(w: &Window<A>) -> Result<(), Fault>
 /// The magic, the version, the allocator (0 sequential fit, 1 best fit), the index (0 flat, 1 a tree), and the bytes that
 /// are 0 in every image.
 fn has_known_words<A: Allocator>(w: &Window<A>) -> bool {
-    w.slice(0, 8) == b"SEGIMAGE".as_slice()
-        && w.get32(header::VERSION) == VERSION
+    w.slice(0, header::MAGIC.len()) == header::MAGIC
+        && w.get32(header::VERSION) == header::CURRENT_VERSION
         && w.get32(header::ALLOCATOR) <= 1
         && w.get32(header::INDEX_KIND) <= 1
         && w.get32(header::ZERO) == 0

@@ -84,8 +84,8 @@ pub(crate) fn is_size(size: u32) -> bool {
 /// Writes the image of an empty segment.
 fn write_empty<F: Fit, A: Allocator>(w: &mut Window<A>, size: u32, index: IndexKind) {
     w.fill(0, size as usize, 0);
-    w.copy_in(0, MAGIC);
-    w.put32(header::VERSION, VERSION);
+    w.copy_in(0, header::MAGIC);
+    w.put32(header::VERSION, header::CURRENT_VERSION);
     w.put32(header::SIZE, size / UNIT);
     w.put32(header::ALLOCATOR, F::word());
     w.put32(header::INDEX_KIND, index.word());

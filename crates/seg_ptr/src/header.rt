@@ -1,5 +1,11 @@
 //! Where the fields of an image's header stand, in bytes from the start of the segment.
 
+/// The bytes that an image begins with.
+pub const MAGIC: &[u8] = b"SEGIMAGE";
+
+/// The version of the format that this library reads and writes.
+pub const CURRENT_VERSION: u32 = 1;
+
 /// The word with the version of the format.
 pub const VERSION: usize = 8;
 
