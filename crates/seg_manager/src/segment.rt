@@ -1,6 +1,6 @@
 ghost use Rattle.std.specs.Prelude.{◌≡◌};
 
-use seg_block::Fit;
+use seg_block::{Fit, UNIT};
 use seg_index::{IndexKind, set_unique};
 use seg_layout::{ENTRY, MAX_TYPES, TypeId, TypeTable};
 use seg_ptr::{MAX_LEN, Window, header};
@@ -10,8 +10,6 @@ use std::marker::PhantomData;
 
 /// The fewest bytes that a segment has: the header and tables, and a block of two units.
 pub const MIN_LEN: u32 = 736;
-
-const UNIT: u32 = 16;
 
 /// The first word of an image, and its version.
 const MAGIC: &[u8] = b"SEGIMAGE";
