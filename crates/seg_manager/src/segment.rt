@@ -11,11 +11,6 @@ use std::marker::PhantomData;
 /// The fewest bytes that a segment has: the header and tables, and a block of two units.
 pub const MIN_LEN: u32 = 736;
 
-/// The first word of an image, and its version.
-const MAGIC: &[u8] = b"SEGIMAGE";
-
-const VERSION: u32 = 1;
-
 /// A segment: its bytes, their table of types, and the allocator of its heap. Its calls mean what they say where the bytes
 /// are a sound image of that table and that allocator, but for anonymous objects that nothing owns; on any other bytes they
 /// return.
