@@ -15,7 +15,11 @@ mod generator;
 #[cfg(test)]
 mod hostile;
 #[cfg(test)]
+mod hosts;
+#[cfg(test)]
 mod model;
+#[cfg(test)]
+mod mutations;
 #[cfg(test)]
 mod objects;
 #[cfg(test)]

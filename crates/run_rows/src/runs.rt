@@ -62,7 +62,7 @@ fn empty_on<F: Fit>(alloc: Global, size: u32, index: IndexKind) -> Result<Vec<u8
 /// An output that takes a few bytes at a time, and fails when it holds so many.
 #[derive(Drop)]
 pub(crate) struct Output {
-    bytes: Vec<u8>,
+    pub(crate) bytes: Vec<u8>,
     at_a_time: usize,
     limit: usize,
     failed: bool,

@@ -3,8 +3,8 @@ use client_vm::Ended;
 use std::process::Abort;
 use std::test::Fail;
 
-/// Makes an object of each kind, asks for room in each way, prints each code, and destroys all that it made.
-const ASK_IN_EACH_WAY: &str = "type i64
+/// Makes an object of each kind, asks for room in each way, and prints each code.
+pub(crate) const MAKE_EACH_KIND: &str = "type i64
     type str
     type vec t1
     type list t0
@@ -112,7 +112,10 @@ text a text of forty bytes, which is 3 units.
     ELSE
       OUTI r0
     END
-    KILL r0 - t0 k0
+";
+
+/// Destroys what [`MAKE_EACH_KIND`] made.
+const KILL_EACH_KIND: &str = "KILL r0 - t0 k0
     KILL r0 - t1 k1
     KILL r0 - t2 k2
     KILL r0 - t3 k3
@@ -133,10 +136,11 @@ fn codes(rt: &impl Abort, out: &[u8]) -> usize {
 /// objects by themselves, the largest for all.
 #[test]
 fn leaves_nothing_on_each_size(rt: HostRuntime) -> Result<(), Fail> {
+    let text = format!(in rt.alloc(); "{MAKE_EACH_KIND}{KILL_EACH_KIND}")?;
     for kind in KINDS {
         let mut refused = 0;
         for units in 46..=256 {
-            let ran = run_anew(rt.alloc(), 16 * units, kind, &[ASK_IN_EACH_WAY])?;
+            let ran = run_anew(rt.alloc(), 16 * units, kind, &[text.as_str()])?;
             refused = codes(&rt, ran.out.as_slice());
             if units == 46 {
                 // six named objects, the object for the own, and the second unique one

@@ -1,13 +1,15 @@
 use crate::support::{I64, NUMBER, map, pair, segment, used_region};
 use seg_bestfit::BestFit;
 use seg_block::Fit;
-use seg_check::check;
-use seg_manager::{IndexKind, Named, Segment};
+use seg_check::{check, open, save};
+use seg_manager::{Found, IndexKind, Named, Segment};
+use seg_ptr::Window;
 use seg_raw::{Code, Fault};
 use seg_seqfit::SeqFit;
 use std::alloc::Global;
 use std::process::Abort;
 use std::test::Fail;
+use test_fixtures::counter;
 
 const BOTH: [IndexKind; 2] = [IndexKind::Flat, IndexKind::Tree];
 
@@ -286,4 +288,30 @@ fn shrinks<F: Fit>(rt: &(impl Abort + AllocGlobal)) -> Result<(), Fail> {
 fn segments_shrink(rt: HostRuntime) -> Result<(), Fail> {
     shrinks::<SeqFit>(&rt)?;
     shrinks::<BestFit>(&rt)
+}
+
+/// The counter's image opened: x at 720, one value; saved, it is the same bytes. It isn't an image of best fit.
+#[test]
+fn opens_and_saves_the_counter(rt: HostRuntime) -> Result<(), Fail> {
+    let image = counter(rt.alloc())?;
+    let mut window = match Window::place(used_region(rt.alloc(), 784)?, 0, 784) {
+        Ok(window) => window,
+        Err(_) => return Err(Fail::from("misplaced")),
+    };
+    window.copy_in(0, image.as_slice());
+    let window = match open::<BestFit, Global, Global>(rt.alloc(), window) {
+        Ok(_) => return Err(Fail::from("opened")),
+        Err((fault, window)) => {
+            assert_eq!(rt; fault, Fault::BadHeader);
+            window
+        }
+    };
+    match open::<SeqFit, Global, Global>(rt.alloc(), window) {
+        Ok(segment) => {
+            assert_eq!(rt; segment.find(b"x", NUMBER)?, Found { at: 720, count: 1 });
+            assert_eq!(rt; save(rt.alloc(), &segment)?.as_slice(), image.as_slice());
+            Ok(())
+        }
+        Err((fault, _)) => Err(Fail::from(fault)),
+    }
 }
