@@ -3,7 +3,7 @@
 use crate::machine::Machine;
 use crate::program::Program;
 use crate::register::{Register, Value};
-use client_code::Instruction;
+use client_code::{Instruction, Operation};
 use seg_block::Fit;
 use seg_layout::{Type, TypeId};
 use seg_manager::Segment;
@@ -26,7 +26,6 @@ fn length<F: Fit, A: Allocator>(segment: &Segment<F, A>, container: Value) -> Re
     Register::Int(i64::from(len(&segment.window, container.at)))
 }
 
-/// Items.
 impl Machine<'_> {
     pub(crate) fn len<F: Fit, A: Allocator>(&mut self, segment: &Segment<F, A>, i: Instruction) {
         self.set(i.a, length(segment, self.value(i.b)));
@@ -46,53 +45,34 @@ impl Machine<'_> {
         }
     }
 
-    pub(crate) fn push_back<F: Fit, A: Allocator>(
+    /// Adds a default item at the end that the operation names.
+    pub(crate) fn push<F: Fit, A: Allocator>(
         &self,
         segment: &mut Segment<F, A>,
         i: Instruction,
     ) -> Result<Register, Code> {
         let Value { at: cell, type_id } = self.value(i.b);
-        let item = push_back::<F, A>(&mut segment.window, &segment.types, type_id, cell)?;
+        let (w, types) = (&mut segment.window, &segment.types);
+        let item = match i.operation {
+            Operation::PushFront => push_front::<F, A>(w, types, type_id, cell),
+            _ => push_back::<F, A>(w, types, type_id, cell),
+        }?;
         Ok(Register::reference(item, item_type(segment, type_id)))
     }
 
-    pub(crate) fn push_front<F: Fit, A: Allocator>(
-        &self,
-        segment: &mut Segment<F, A>,
-        i: Instruction,
-    ) -> Result<Register, Code> {
-        let Value { at: cell, type_id } = self.value(i.b);
-        let item = push_front::<F, A>(&mut segment.window, &segment.types, type_id, cell)?;
-        Ok(Register::reference(item, item_type(segment, type_id)))
-    }
-
-    pub(crate) fn pop_back<F: Fit, A: Allocator>(
+    /// Removes the item at the end that the operation names.
+    pub(crate) fn pop<F: Fit, A: Allocator>(
         &self,
         segment: &mut Segment<F, A>,
         i: Instruction,
     ) -> Result<Register, Code> {
         let container = self.value(i.b);
-        pop_back::<F, A>(
-            &mut segment.window,
-            &segment.types,
-            container.type_id,
-            container.at,
-        )?;
-        Ok(length(segment, container))
-    }
-
-    pub(crate) fn pop_front<F: Fit, A: Allocator>(
-        &self,
-        segment: &mut Segment<F, A>,
-        i: Instruction,
-    ) -> Result<Register, Code> {
-        let container = self.value(i.b);
-        pop_front::<F, A>(
-            &mut segment.window,
-            &segment.types,
-            container.type_id,
-            container.at,
-        )?;
+        let Value { at: cell, type_id } = container;
+        let (w, types) = (&mut segment.window, &segment.types);
+        match i.operation {
+            Operation::PopFront => pop_front::<F, A>(w, types, type_id, cell),
+            _ => pop_back::<F, A>(w, types, type_id, cell),
+        }?;
         Ok(length(segment, container))
     }
 
@@ -106,58 +86,26 @@ impl Machine<'_> {
     }
 }
 
-/// Texts.
-impl Machine<'_> {
-    pub(crate) fn set_text<F: Fit, A: Allocator>(
+    /// Replaces a text by the instruction's constant, or adds that to it, or a byte.
+    pub(crate) fn write_text<F: Fit, A: Allocator>(
         &self,
         segment: &mut Segment<F, A>,
         program: &Program,
         i: Instruction,
     ) -> Result<Register, Code> {
         let text = self.value(i.b);
-        let bytes = program.constant(i.constant()).bytes;
-        assign::<F, A>(
-            &mut segment.window,
-            &segment.types,
-            text.type_id,
-            text.at,
-            bytes,
-        )?;
-        Ok(length(segment, text))
-    }
-
-    pub(crate) fn add_text<F: Fit, A: Allocator>(
-        &self,
-        segment: &mut Segment<F, A>,
-        program: &Program,
-        i: Instruction,
-    ) -> Result<Register, Code> {
-        let text = self.value(i.b);
-        let bytes = program.constant(i.constant()).bytes;
-        append::<F, A>(
-            &mut segment.window,
-            &segment.types,
-            text.type_id,
-            text.at,
-            bytes,
-        )?;
-        Ok(length(segment, text))
-    }
-
-    pub(crate) fn add_byte<F: Fit, A: Allocator>(
-        &self,
-        segment: &mut Segment<F, A>,
-        i: Instruction,
-    ) -> Result<Register, Code> {
-        let text = self.value(i.b);
-        let byte = u8::try_from(self.int(i.c)).map_err(|_| Code::OutOfRange)?;
-        push_byte::<F, A>(
-            &mut segment.window,
-            &segment.types,
-            text.type_id,
-            text.at,
-            byte,
-        )?;
+        let Value { at: cell, type_id } = text;
+        let (w, types) = (&mut segment.window, &segment.types);
+        match i.operation {
+            Operation::AddByte => {
+                let byte = u8::try_from(self.int(i.c)).map_err(|_| Code::OutOfRange)?;
+                push_byte::<F, A>(w, types, type_id, cell, byte)
+            }
+            Operation::AddStr => {
+                append::<F, A>(w, types, type_id, cell, program.constant(i.constant()).bytes)
+            }
+            _ => assign::<F, A>(w, types, type_id, cell, program.constant(i.constant()).bytes),
+        }?;
         Ok(length(segment, text))
     }
 }

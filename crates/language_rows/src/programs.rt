@@ -5,17 +5,18 @@ use seg_layout::TypeTable;
 use seg_raw::Fault;
 use std::process::Abort;
 use std::test::Fail;
-use test_fixtures::{CHAIN, INCREMENT, INCREMENT_FILE};
+use test_fixtures::{INCREMENT, INCREMENT_FILE, chain};
 
 fn check(rt: &(impl Abort + AllocGlobal), text: &str, wanted: Result<u64, Fault>) {
     assert_eq!(rt; verdict(rt.alloc(), text.as_bytes()), wanted, "{text}");
 }
 
 #[test]
-fn bounds(rt: HostRuntime) {
+fn bounds(rt: HostRuntime) -> Result<(), Fail> {
     check(&rt, "", Ok(0));
     check(&rt, INCREMENT, Ok(6));
-    check(&rt, CHAIN, Ok(160005));
+    let chain = chain(rt.alloc(), 20_000)?;
+    check(&rt, chain.as_str(), Ok(160005));
     check(
         &rt,
         "CONST r0 1\nCONST r1 7\nWHILE r0 3\nOUTI r1\nEND",
@@ -27,6 +28,7 @@ fn bounds(rt: HostRuntime) {
         "CONST r0 1\nIF r0\nOUTI r0\nELSE\nOUTI r0\nOUTI r0\nEND",
         Ok(4),
     );
+    Ok(())
 }
 
 #[test]

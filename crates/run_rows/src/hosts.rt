@@ -1,4 +1,3 @@
-use crate::runs::Output;
 use client_code::parse;
 use client_verify::verify;
 use client_vm::{Ended, Move, moves_fit, run};
@@ -11,6 +10,7 @@ use std::alloc::Global;
 use std::process::Abort;
 use std::test::Fail;
 use test_fixtures::{INCREMENT_FILE, counter, counter_with};
+use test_output::Taken;
 
 /// The bytes of the host, all of them 0xa5 but for the segment.
 const ROOM: u32 = 8192;
@@ -45,7 +45,7 @@ fn increments(
     let mut segment = placed(rt.alloc(), base)?;
     assert_eq!(rt; moves_fit(&segment, moves), None);
     let verified = verify(parse(&INCREMENT_FILE)?, &segment.types)?;
-    let mut out = Output::new(rt.alloc(), 1, usize::MAX);
+    let mut out = Taken::new(rt.alloc(), 1, usize::MAX);
     let report = run(&mut segment, &verified, b"", moves, &mut out);
     assert_eq!(rt; report.steps, 6);
     assert!(rt; report.ended == Ended::Done);

@@ -3,12 +3,13 @@ use crate::runs::{KINDS, PLAIN, SEQ_FLAT, Setting, empty, leaves, run_anew, run_
 use client_vm::{Ended, Move};
 use std::process::Abort;
 use std::test::Fail;
-use test_fixtures::CHAIN;
+use test_fixtures::chain;
 
 #[test]
 fn a_chain_of_owners(rt: HostRuntime) -> Result<(), Fail> {
+    let text = chain(rt.alloc(), 20_000)?;
     for kind in KINDS {
-        let ran = run_anew(rt.alloc(), 1 << 20, kind, &[CHAIN])?;
+        let ran = run_anew(rt.alloc(), 1 << 20, kind, &[text.as_str()])?;
         leaves(&rt, &ran, "", 1_047_872, 0)?;
         let left = statistics_of(rt.alloc(), ran.image.as_slice())?;
         assert_eq!(rt; left.largest, 1_047_872);
@@ -141,38 +142,17 @@ fn runs_alike_wherever_it_lies(rt: HostRuntime) -> Result<(), Fail> {
 #[test]
 fn a_chain_that_moves(rt: HostRuntime) -> Result<(), Fail> {
     let alloc = rt.alloc();
-    let text = "type i64
-        type own t2
-        type struct t0 t1
-        name h
-        CONST r0 100
-        CONST r1 1
-        FINDOR r2 - t1 k0
-          WHILE r0 100
-            NEW r3 t2
-              REF r4 r3
-              FIELD r5 r4 1
-              TAKE r6 r2
-                PUT r5 r6
-              ELSE
-              END
-              PUT r2 r3
-            ELSE
-            END
-            SUB r0 r0 r1
-          END
-        ELSE
-        END";
+    let text = chain(alloc, 2_000)?;
     let mut moves = Vec::new(alloc);
-    for step in 1..=900u64 {
-        let base = if step % 2 == 0 { 48 } else { 8192 };
+    for step in 1..=16_004u64 {
+        let base = if step % 2 == 0 { 48 } else { 65_536 };
         moves.push(Move { step, base })?;
     }
-    let image = empty(alloc, 1 << 14, SEQ_FLAT)?;
-    let still = run_on(alloc, image.as_slice(), &[text])?;
+    let image = empty(alloc, 1 << 17, SEQ_FLAT)?;
+    let still = run_on(alloc, image.as_slice(), &[text.as_str()])?;
     let setting = Setting { moves: moves.as_slice(), ..PLAIN };
-    let ran = run_in(alloc, image.as_slice(), &[text], setting)?;
+    let ran = run_in(alloc, image.as_slice(), &[text.as_str()], setting)?;
     assert_eq!(rt; ran.image.as_slice(), still.image.as_slice());
     assert!(rt; ran.reports == still.reports);
-    leaves(&rt, &ran, "", 16384 - 704 - 80 - 100 * 32, 1)
+    leaves(&rt, &ran, "", 131_072 - 704, 0)
 }

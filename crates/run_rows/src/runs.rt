@@ -1,7 +1,5 @@
-ghost use Rattle.std.specs.Prelude.{◌≡◌, None, false};
-
 use client_code::assemble;
-use client_vm::{Ended, Move, Place, Report, Sink, run_bytes};
+use client_vm::{Ended, Move, Place, Report, run_bytes};
 use seg_bestfit::BestFit;
 use seg_block::Fit;
 use seg_check::{check, save};
@@ -12,6 +10,7 @@ use seg_seqfit::SeqFit;
 use std::alloc::Global;
 use std::process::Abort;
 use std::test::Fail;
+use test_output::Taken;
 
 /// How a segment keeps its free blocks and its names.
 #[derive(Debug, Clone, Copy, PartialEq, Eq)]
@@ -56,49 +55,6 @@ fn empty_on<F: Fit>(alloc: Global, size: u32, index: IndexKind) -> Result<Vec<u8
     match Segment::<F, Global>::create(region, 0, size, index) {
         Ok(segment) => Ok(save(alloc, &segment)?),
         Err((fault, _)) => Err(Fail::from(fault)),
-    }
-}
-
-/// An output that takes a few bytes at a time, and fails when it holds so many.
-#[derive(Drop)]
-pub(crate) struct Output {
-    pub(crate) bytes: Vec<u8>,
-    at_a_time: usize,
-    limit: usize,
-    failed: bool,
-}
-
-impl Output {
-    pub(crate) fn new(alloc: Global, at_a_time: usize, limit: usize) -> Output
-        ensures { result.failed ≡ false }
-    {
-        Output {
-            bytes: Vec::new(alloc),
-            at_a_time,
-            limit,
-            failed: false,
-        }
-    }
-}
-
-impl Sink for Output {
-    ghost has_failed = { λ s. s.failed };
-
-    ghost taken = { λ s. None };
-
-    fn failed(&self) -> bool {
-        self.failed
-    }
-
-    fn write(&mut self, bytes: &[u8]) -> usize {
-        let room = self.limit.saturating_sub(self.bytes.len());
-        let n = bytes.len().min(self.at_a_time).min(room);
-        let taken = match self.bytes.extend_from_slice(&bytes[..n]) {
-            Ok(()) => n,
-            Err(_) => 0,
-        };
-        self.failed = taken == 0;
-        taken
     }
 }
 
@@ -159,7 +115,7 @@ pub(crate) fn run_files(
         base: setting.base,
         moves: setting.moves,
     };
-    let mut out = Output::new(alloc, setting.at_a_time, setting.limit);
+    let mut out = Taken::new(alloc, setting.at_a_time, setting.limit);
     match run_bytes(alloc, image, clients, setting.input, &place, &mut out) {
         Ok(outcome) => {
             let _ = statistics_of(alloc, outcome.image.as_slice())?;

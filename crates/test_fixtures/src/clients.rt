@@ -1,3 +1,5 @@
+use std::alloc::{AllocError, Global};
+
 /// The text of `examples/increment.text`: a client that adds 1 to the number x, and prints it.
 pub const INCREMENT: &str = "type i64
 name x
@@ -26,15 +28,16 @@ pub const INCREMENT_FILE: [u8; 103] = [
     0x0b, 0, 0, 0, 0, 0, 0, 0, // END
 ];
 
-/// A chain of 20,000 owned nodes, made and destroyed.
-pub const CHAIN: &str = "type i64
+/// The text of a client that makes a chain of so many objects, each of which owns the one before, and destroys it.
+pub fn chain(alloc: Global, nodes: u32) -> Result<String, AllocError> {
+    format!(in alloc; "type i64
 type own t2
 type struct t0 t1
 name h
-CONST r0 20000
+CONST r0 {nodes}
 CONST r1 1
 FINDOR r2 - t1 k0
-WHILE r0 20000
+WHILE r0 {nodes}
 NEW r3 t2
 REF r4 r3
 FIELD r5 r4 1
@@ -50,4 +53,5 @@ END
 ELSE
 END
 KILL r7 - t1 k0
-";
+")
+}

@@ -5,6 +5,6 @@ mod clients;
 mod examples;
 mod images;
 
-pub use clients::{CHAIN, INCREMENT, INCREMENT_FILE};
+pub use clients::{INCREMENT, INCREMENT_FILE, chain};
 pub use examples::{CACHE, CONFIGURE, COUNT, SETTINGS};
 pub use images::{counter, counter_with, write, write_words};

@@ -1,9 +1,9 @@
-ghost use Rattle.std.specs.Prelude.{◌≡◌, false, None};
+ghost use Rattle.std.specs.Prelude.{◌≡◌, false};
 
 use crate::command::command;
 use crate::files::{FileFault, Files};
-use client_vm::Sink;
 use std::alloc::{AllocError, Global};
+use test_output::Taken;
 
 /// Files in memory. The read and the write with these numbers, counted from 1, fail.
 #[derive(Drop)]
@@ -63,56 +63,6 @@ impl Files for Stored {
             return Err(FileFault::Failed);
         }
         self.add("saved", bytes).map_err(|_| FileFault::Memory)
-    }
-}
-
-/// A sink that takes a few bytes at a time, and fails when it holds so many.
-#[derive(Drop)]
-pub struct Taken {
-    pub bytes: Vec<u8>,
-    at_a_time: usize,
-    limit: usize,
-    failed: bool,
-}
-
-impl Taken {
-    pub fn new(alloc: Global, at_a_time: usize, limit: usize) -> Taken
-        ensures { result.failed ≡ false }
-    {
-        Taken {
-            bytes: Vec::new(alloc),
-            at_a_time,
-            limit,
-            failed: false,
-        }
-    }
-
-    /// A sink that takes all.
-    pub fn all(alloc: Global) -> Taken
-        ensures { result.failed ≡ false }
-    {
-        Taken::new(alloc, usize::MAX, usize::MAX)
-    }
-}
-
-impl Sink for Taken {
-    ghost has_failed = { λ s. s.failed };
-
-    ghost taken = { λ s. None };
-
-    fn failed(&self) -> bool {
-        self.failed
-    }
-
-    fn write(&mut self, bytes: &[u8]) -> usize {
-        let room = self.limit.saturating_sub(self.bytes.len());
-        let n = bytes.len().min(self.at_a_time).min(room);
-        let taken = match self.bytes.extend_from_slice(&bytes[..n]) {
-            Ok(()) => n,
-            Err(_) => 0,
-        };
-        self.failed = taken == 0;
-        taken
     }
 }
 

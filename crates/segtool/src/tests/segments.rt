@@ -1,9 +1,10 @@
 use crate::tests::clients::client;
-use crate::tests::files::{Printed, Stored, Taken, run, run_into};
+use crate::tests::files::{Printed, Stored, run, run_into};
 use std::alloc::Global;
 use std::process::Abort;
 use std::test::Fail;
 use test_fixtures::counter;
+use test_output::Taken;
 
 fn is(rt: &impl Abort, printed: &Printed, status: u8, out: &str, err: &str) {
     assert_eq!(rt; printed.out.as_slice(), out.as_bytes());

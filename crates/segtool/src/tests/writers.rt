@@ -1,9 +1,10 @@
 use crate::tests::clients::client;
-use crate::tests::files::{Stored, Taken, run, run_into};
+use crate::tests::files::{Stored, run, run_into};
 use std::alloc::Global;
 use std::process::Abort;
 use std::test::Fail;
 use test_fixtures::{INCREMENT, counter, counter_with};
+use test_output::Taken;
 
 fn files(alloc: Global) -> Result<Stored, Fail> {
     let mut files = Stored::new(alloc);
