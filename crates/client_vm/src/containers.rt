@@ -84,7 +84,6 @@ impl Machine<'_> {
         let Value { at: cell, type_id } = self.value(i.b);
         shrink_to_fit::<F, A>(&mut segment.window, &segment.types, type_id, cell);
     }
-}
 
     /// Replaces a text by the instruction's constant, or adds that to it, or a byte.
     pub(crate) fn write_text<F: Fit, A: Allocator>(
