@@ -1,0 +1,3 @@
+pub mod Views
+pub mod Files
+pub mod Parts
