@@ -35,9 +35,9 @@ fn read_constants(file: &[u8], at: u32, count: u32) -> Result<(Constants<'_>, u3
         let Some((constant, behind)) = Constant::read(file, place) else {
             return Err(Fault::BadCode(place));
         };
-        if constants
+        if !constants
             .iter()
-            .any(|other: &Constant| other.clashes(constant))
+            .all(|other: &Constant| other.differs(constant))
         {
             return Err(Fault::BadCode(place));
         }
