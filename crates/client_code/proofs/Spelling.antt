@@ -1,13 +1,15 @@
 -- What reads of a client file's bytes make of them.
 use Rattle.std.proofs.Common.{◌≡◌, ℕ, ◌+◌, ◌-◌, ◌*◌, ◌<◌, ◌≤◌, Fits, w8, List, [], ◌∷◌, ◌++◌, length, take, drop, get_or, refl, sym, ap, ◌∙◌, subst, arith, rules}
-use Rattle.std.specs.Prelude.{slice_index, IsTrue, nat_le, All}
+use Rattle.std.specs.Prelude.{◌≢◌, slice_index, IsTrue, nat_le, All, Option, Some, None, IfSome, IfNone}
 use Rattle.std.proofs.lemmas.List.{get_or_default, take_rest, drop-drop, length-take-le, take-append-drop}
 use Rattle.seg_spec.specs.Bytes.{spelled, number, slice}
 use Rattle.seg_spec.proofs.BytesLaws.{number_in, length-slice}
 use Rattle.client_code.specs.declared.constant.ConstantKind.{ConstantKind}
 use Rattle.client_code.specs.declared.constant.ConstantKind.TheVariants as kind
-use Rattle.client_spec.specs.Grammar.{IsConstant, constant_bytes}
-use Rattle.client_code.specs.Views.{constant_by}
+use Rattle.client_spec.specs.Code as code
+use Rattle.client_spec.specs.Grammar.{IsConstant, constant_bytes, instruction_bytes}
+use Rattle.client_code.specs.declared.instruction.Instruction.{Instruction}
+use Rattle.client_code.specs.Views.{constant_by, instruction_of}
 
 spelled_four : (s : List ℕ) → length s ≡ 4 → spelled s ≡ slice_index s 0 + 256 * (slice_index s 1 + 256 * (slice_index s 2 + 256 * (slice_index s 3 + 0)))
 spelled_four [] e = absurd (omega arith)
@@ -49,3 +51,12 @@ constant_at file front rest bytes k at len n f long r l m fits b law =
     two_of [] rest h e = absurd (omega arith)
     two_of (a ∷ []) rest h e = absurd (omega arith)
     two_of (a ∷ b ∷ xs) rest h e = ap (λ ys. a ∷ b ∷ ys) (sym (e ∙ take_rest (a ∷ b ∷ xs) 2))
+
+-- what 8 bytes spell
+pub decoded : (r : Option Instruction) (file field : List ℕ) (at : ℕ) → at + 8 ≤ length file → field ≡ slice file at 8 → IfSome r (λ i. field ≡ instruction_bytes (instruction_of i)) → IfSome r (λ i. (at + 8 ≤ length file) × (slice file at 8 ≡ instruction_bytes (instruction_of i)))
+decoded None file field at h same found = found
+decoded (Some i) file field at h same found = (h, sym same ∙ found)
+
+pub not_decoded : (r : Option Instruction) (file field : List ℕ) (at : ℕ) → field ≡ slice file at 8 → IfNone r ((i : code.Instruction) → field ≢ instruction_bytes i) → IfNone r (at + 8 ≤ length file → (i : code.Instruction) → slice file at 8 ≢ instruction_bytes i)
+not_decoded None file field at same none = λ h i e. none i (same ∙ e)
+not_decoded (Some i) file field at same none = none
