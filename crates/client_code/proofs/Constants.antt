@@ -20,7 +20,7 @@ fronts f P one (x ∷ xs) (y ∷ ys) us vs p q l e =
     let r = fronts f P one xs ys us vs p.1 q.1 (omega arith) h.1 in
     (r.0, ap (λ z. z ∷ ys) (sym h.0) ∙ ap (λ zs. x ∷ zs) r.1, r.2)
 
-any : {A : Type 0} (xs : List A) → AllByRecursion (λ x. ⊤) xs
+pub any : {A : Type 0} (xs : List A) → AllByRecursion (λ x. ⊤) xs
 any [] = tt
 any (x ∷ xs) = (tt, any xs)
 

@@ -1,4 +1,5 @@
 -- A client file, part by part.
+--     code_place client                              where the code of a client begins
 --     IsHeader file types constants instructions     the header says so
 --     AreTypes file table                            these types stand behind it
 --     AreConstants file at constants behind          these constants stand there, and the rest behind them
@@ -6,8 +7,11 @@
 use Rattle.std.specs.Prelude.{◌≡◌, ℕ, ◌+◌, ◌*◌, ◌≤◌, List, ◌++◌, length, take, drop, flat_map, codes, All, AllPairs}
 use Rattle.seg_spec.specs.Bytes as bytes
 use Rattle.seg_spec.specs.Types.{Table, IsTable, form_bytes}
-use Rattle.client_spec.specs.Code.{Constant, Statements}
+use Rattle.client_spec.specs.Code.{Constant, Statements, Client}
 use Rattle.client_spec.specs.Grammar.{constant_bytes, instruction_bytes, listing, IsConstant, Differ, IsCode, depth}
+
+abbrev pub code_place : Client → ℕ
+code_place client = 20 + 16 * length client.types + length (flat_map constant_bytes client.constants)
 
 pub record IsHeader (file : List ℕ) (types constants instructions : ℕ) : Type 0 where
   pub whole : 20 ≤ length file

@@ -1,3 +1,4 @@
 pub mod Views
 pub mod Files
 pub mod Parts
+pub mod Clients

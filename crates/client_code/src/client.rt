@@ -1,20 +1,15 @@
-ghost use Rattle.std.specs.Prelude.{◌≡◌, ◌≢◌, ◌≤◌, ◌<◌, ◌+◌, ◌*◌, ◌^◌, ◌++◌, ℕ, List, length, drop, All, ◌↔◌, IsTrue, IfOk, IfErr, IfSome, IfNone, IsSome, OnOk, FitsSigned};
-ghost use Rattle.std.specs.Int.{w32};
-ghost use Rattle.seg_spec.specs.Bytes.{slice};
-ghost use Rattle.client_spec.specs.Code as code;
-ghost use Rattle.client_spec.specs.Code.{Statements};
-ghost use Rattle.client_spec.specs.Grammar.{constant_bytes, instruction_bytes, listing, IsConstant, Differ};
-ghost use Rattle.client_code.specs.Views.{constant_of, constants_of, instruction_of};
-ghost use Rattle.client_code.specs.Files.{AreConstants, IsCodeAt};
+ghost use Rattle.std.specs.Prelude.{◌≡◌, ◌≤◌, ◌<◌, ◌+◌, ◌*◌, ◌^◌, length};
+ghost use Rattle.client_spec.specs.Code as tree;
+ghost use Rattle.client_spec.specs.Grammar.{listing, Spells};
+ghost use Rattle.client_code.specs.Files.{code_place};
 
 use crate::constant::Constant;
-use crate::header::{Header, MOST_CONSTANTS, MOST_INSTRUCTIONS};
+use crate::header::{Header, MOST_INSTRUCTIONS};
 use crate::instruction::Instruction;
-use crate::nesting::Nesting;
+use crate::parser::{instruction_at, read_constants};
 use crate::types::{MOST_TYPES, read_types};
 use arrayvec::ArrayVec;
 use seg_layout::TypeTable;
-use seg_raw::Fault;
 
 /// The constants of a client, in order.
 pub type Constants<'a> = ArrayVec<Constant<'a>, 256>;
@@ -22,127 +17,50 @@ pub type Constants<'a> = ArrayVec<Constant<'a>, 256>;
 /// A client: types, constants and code. It borrows its file, and copies nothing.
 #[derive(Debug, Clone, Copy)]
 pub struct Client<'a> {
-    file: &'a [u8],
-    header: Header,
+    pub(crate) file: &'a [u8],
+    pub(crate) header: Header,
     // the position of the first instruction
-    code: u32,
+    pub(crate) code: u32,
     ghost near: { code ≤ 2 ^ 20 },
-}
-
-fn differs_from(others: &[Constant], constant: Constant) -> bool
-    ensures { IsTrue result ↔ All (λ other. Differ (constant_of other) (constant_of constant.entry)) others.now }
-{
-    others.iter().all(|other| other.differs(constant))
-}
-
-/// The constant that begins at a position, behind these, and the position behind it.
-fn next_constant<'a>(
-    file: &'a [u8],
-    at: u32,
-    before: &[Constant],
-) -> Option<(Constant<'a>, u32)>
-    requires { at ≤ 2 ^ 31 }
-    ensures spelled { IfSome result (λ found. drop at file.now ≡ constant_bytes (constant_of found.0) ++ drop found.1 file.now) }
-    ensures right { IfSome result (λ found. IsConstant (constant_of found.0)) }
-    ensures place { IfSome result (λ found. found.1 ≡ at + length (constant_bytes (constant_of found.0))) }
-    ensures near { IfSome result (λ found. found.1 ≤ at + 257) }
-    ensures differs { IfSome result (λ found. All (λ other. Differ (constant_of other) (constant_of found.0)) before.now) }
-    ensures none { IfNone result ((c : code.Constant) (rest : List ℕ) → IsConstant c → All (λ other. Differ (constant_of other) c) before.now → drop at file.now ≢ constant_bytes c ++ rest) }
-{
-    let (constant, behind) = Constant::read(file, at)?;
-    if !differs_from(before, constant) {
-        return None;
-    }
-    Some((constant, behind))
-}
-
-/// The constants that begin at a position, and the position behind them.
-fn read_constants(file: &[u8], at: u32, count: u32) -> Result<(Constants<'_>, u32), Fault>
-    requires first { at ≤ 1000 }
-    requires few { count ≤ MOST_CONSTANTS }
-    ensures near { IfOk result (λ found. found.1 ≤ at + 257 * count) }
-    ensures count { IfOk result (λ found. length found.0.items ≡ count) }
-    ensures found { IfOk result (λ found. AreConstants file.now at (constants_of found.0.items) found.1) }
-    ensures wrong { IfErr result (λ fault. (cs : List code.Constant) (behind : ℕ) → length cs ≡ count → AreConstants file.now at cs behind → ⊥) }
-    ensures fault { IfErr result (λ fault. (place : ℕ) × (fault ≡ Fault.BadCode place)) }
-{
-    let mut constants = ArrayVec::new();
-    let mut next = at;
-    for _ in 0..count {
-        let place = next;
-        let Some((constant, behind)) = next_constant(file, place, constants.as_slice()) else {
-            return Err(Fault::BadCode(place));
-        };
-        constants.push(constant);
-        next = behind;
-    }
-    Ok((constants, next))
-}
-
-/// The instruction whose 8 bytes begin at a position.
-fn instruction_at(file: &[u8], at: u32) -> Option<Instruction>
-    requires { at ≤ 2 ^ 31 }
-    ensures found { IfSome result (λ i. (at + 8 ≤ length file.now) × (slice file.now at 8 ≡ instruction_bytes (instruction_of i))) }
-    ensures range { IfSome result (λ i. FitsSigned w32 i.number) }
-    ensures none { IfNone result (at + 8 ≤ length file.now → (i : code.Instruction) → slice file.now at 8 ≢ instruction_bytes i) }
-{
-    let place = at as usize;
-    Instruction::decode(file.get(place..place + Instruction::SIZE)?)
-}
-
-/// Tests each instruction where it stands, and that the file ends where the code does.
-fn check_code(
-    file: &[u8],
-    at: u32,
-    count: u32,
-    types: &TypeTable,
-    constants: &[Constant],
-) -> Result<(), Fault>
-    requires near { at ≤ 2 ^ 20 }
-    requires few { count ≤ MOST_INSTRUCTIONS }
-    ensures found { OnOk result ((tree : Statements) × (length (listing tree) ≡ count) × IsCodeAt file.now at types.now (constants_of constants.now) tree) }
-    ensures wrong { IfErr result (λ fault. (tree : Statements) → length (listing tree) ≡ count → IsCodeAt file.now at types.now (constants_of constants.now) tree → ⊥) }
-    ensures fault { IfErr result (λ fault. (place : ℕ) × (fault ≡ Fault.BadCode place)) }
-{
-    let mut nesting = Nesting::new();
-    for i in 0..count {
-        let place = at + 8 * i;
-        let Some(instruction) = instruction_at(file, place) else {
-            return Err(Fault::BadCode(place));
-        };
-        if !instruction.is_valid(types.len(), constants)
-            || !nesting.pass(instruction.operation.row().place)
-        {
-            return Err(Fault::BadCode(place));
-        }
-    }
-    let end = at + 8 * count;
-    if !nesting.is_closed() || file.len() != end as usize {
-        return Err(Fault::BadCode(end));
-    }
-    Ok(())
+    ghost spelled: { ∥ ((tree : tree.Client) × Spells file.now tree) ∥₁ },
+    ghost placed: { (tree : tree.Client) → Spells file.now tree → (header.types ≡ length tree.types) × (header.constants ≡ length tree.constants) × (header.instructions ≡ length (listing tree.code)) × (code ≡ code_place tree) },
 }
 
 impl<'a> Client<'a> {
+    ghost use Rattle.std.specs.Prelude.{slice_get};
+    ghost use Rattle.std.specs.Option.{option_map};
+    ghost use Rattle.client_code.specs.Views.{constants_of, instruction_of};
+    ghost use Rattle.client_code.specs.Clients.{bytes_of};
+
     /// The whole file.
-    pub fn bytes(&self) -> &'a [u8] {
+    pub fn bytes(&self) -> &'a [u8]
+        ensures { result.now ≡ bytes_of self.now }
+    {
         self.file
     }
 
     /// The types.
-    pub fn types(&self) -> TypeTable {
-        read_types(self.file, self.header.types).unwrap_or_else(|_| TypeTable::new())
+    pub fn types(&self) -> TypeTable
+        ensures { (tree : tree.Client) → Spells (bytes_of self.now) tree → result ≡ tree.types }
+    {
+        match read_types(self.file, self.header.types) {
+            Ok(types) => types,
+            Err(_) => TypeTable::new(),
+        }
     }
 
     /// The number of types.
     pub fn type_count(&self) -> u32
-        ensures { result ≤ MOST_TYPES }
+        ensures few { result ≤ MOST_TYPES }
+        ensures count { (tree : tree.Client) → Spells (bytes_of self.now) tree → result ≡ length tree.types }
     {
         self.header.types
     }
 
     /// The constants, found in one pass.
-    pub fn constants(&self) -> Constants<'a> {
+    pub fn constants(&self) -> Constants<'a>
+        ensures { (tree : tree.Client) → Spells (bytes_of self.now) tree → constants_of result.items ≡ tree.constants }
+    {
         match read_constants(self.file, self.header.constants_at(), self.header.constants) {
             Ok((constants, _)) => constants,
             Err(_) => ArrayVec::new(),
@@ -151,14 +69,15 @@ impl<'a> Client<'a> {
 
     /// The number of instructions, `ELSE` and `END` among them.
     pub fn instruction_count(&self) -> u32
-        ensures { result ≤ MOST_INSTRUCTIONS }
+        ensures few { result ≤ MOST_INSTRUCTIONS }
+        ensures count { (tree : tree.Client) → Spells (bytes_of self.now) tree → result ≡ length (listing tree.code) }
     {
         self.header.instructions
     }
 
     /// An instruction, in constant time.
     pub fn instruction(&self, i: u32) -> Option<Instruction>
-        ensures { IsSome result → i < self.now.header.instructions }
+        ensures { (tree : tree.Client) → Spells (bytes_of self.now) tree → option_map instruction_of result ≡ slice_get (listing tree.code) i }
     {
         if i >= self.header.instructions {
             return None;
@@ -169,28 +88,15 @@ impl<'a> Client<'a> {
     /// The position of an instruction, or of what follows the last one.
     fn place_of(&self, i: u32) -> u32
         requires { i ≤ self.now.header.instructions }
+        ensures { result ≡ self.now.code + 8 * i }
     {
         self.code + 8 * i
     }
 
     /// The position behind the code, which is the file's length.
-    pub fn end(&self) -> u32 {
+    pub fn end(&self) -> u32
+        ensures { (tree : tree.Client) → Spells (bytes_of self.now) tree → result ≡ length (bytes_of self.now) }
+    {
         self.place_of(self.header.instructions)
     }
-}
-
-/// The client whose file this is, or `BadCode` with the start of the first field that is wrong or cut, with the first byte
-/// too many, or with the file's length where an `END` is missing.
-pub fn parse(file: &[u8]) -> Result<Client<'_>, Fault> {
-    let header = Header::read(file)?;
-    let types = read_types(file, header.types)?;
-    let (constants, code) = read_constants(file, header.constants_at(), header.constants)?;
-    check_code(
-        file,
-        code,
-        header.instructions,
-        &types,
-        constants.as_slice(),
-    )?;
-    Ok(Client { file, header, code })
 }

@@ -43,6 +43,7 @@ fn count(file: &[u8], at: u32, most: u32) -> Result<u32, Fault>
     requires { at ≤ 16 }
     ensures found { IfOk result (λ n. (n ≤ most) × (at + 4 ≤ length file.now) × (n ≡ bytes.word file.now at)) }
     ensures wrong { IfErr result (λ fault. at + 4 ≤ length file.now → bytes.word file.now at ≤ most → ⊥) }
+    ensures fault { IfErr result (λ fault. (place : ℕ) × (fault ≡ Fault.BadCode place)) }
 {
     match word(file, at) {
         Some(n) if n <= most => Ok(n),
@@ -55,6 +56,7 @@ impl Header {
     pub fn read(file: &[u8]) -> Result<Header, Fault>
         ensures found { IfOk result (λ h. IsHeader file.now h.types h.constants h.instructions) }
         ensures wrong { IfErr result (λ fault. (t c i : ℕ) → t ≤ MOST_TYPES → c ≤ MOST_CONSTANTS → i ≤ MOST_INSTRUCTIONS → IsHeader file.now t c i → ⊥) }
+        ensures fault { IfErr result (λ fault. (place : ℕ) × (fault ≡ Fault.BadCode place)) }
     {
         if !file.starts_with(MAGIC) {
             return Err(Fault::BadCode(0));

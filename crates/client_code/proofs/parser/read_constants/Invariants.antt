@@ -1,7 +1,7 @@
 use Rattle.std.proofs.Common.{◌≡◌, ◌≤◌, ◌+◌, ◌*◌, length}
 use Rattle.client_code.specs.Views.{constants_of}
 use Rattle.client_code.specs.Files.{AreConstants}
-use Rattle.client_code.proofs.client.read_constants.Given as goal
+use Rattle.client_code.proofs.parser.read_constants.Given as goal
 
 -- a constant has at most 257 bytes, and each found so far is in the list
 abbrev pub invariant-loop : goal.invariant-loop

@@ -6,9 +6,9 @@ use Rattle.client_code.specs.Views.{constants_of, instruction_of}
 use Rattle.client_code.specs.Parts.{passed, open_parts}
 use Rattle.client_code.proofs.Nested.{Right, place_of}
 use Rattle.client_code.proofs.Instructions.{CodeTo, starts, goes_on, ends, stands, closed}
-use Rattle.client_code.proofs.client.check_code.Goals as goal
-use Rattle.client_code.proofs.client.check_code.Goals.{then-not-is_valid-via-then-not-is_valid, then-not-is_valid-via-else-not-is_valid+then-not-pass}
-use Rattle.client_code.proofs.client.check_code.Goals.{then-not-is_closed-via-then-not-is_closed, then-not-is_closed-via-else-not-is_closed+then-file-end}
+use Rattle.client_code.proofs.parser.check_code.Goals as goal
+use Rattle.client_code.proofs.parser.check_code.Goals.{then-not-is_valid-via-then-not-is_valid, then-not-is_valid-via-else-not-is_valid+then-not-pass}
+use Rattle.client_code.proofs.parser.check_code.Goals.{then-not-is_closed-via-then-not-is_closed, then-not-is_closed-via-else-not-is_closed+then-file-end}
 
 pub loop-i-init : goal.loop-i-init
 loop-i-init c =

@@ -6,7 +6,7 @@ use Rattle.client_code.specs.declared.constant.Constant.{Constant}
 use Rattle.client_code.specs.Views.{constant_of, constants_of}
 use Rattle.client_code.specs.Files.{AreConstants}
 use Rattle.client_code.proofs.Constants.{begins, one_more, none_more, all_map, map_all}
-use Rattle.client_code.proofs.client.read_constants.Goals as goal
+use Rattle.client_code.proofs.parser.read_constants.Goals as goal
 
 pub loop-preserved : goal.loop-preserved
 loop-preserved c =

@@ -3,7 +3,7 @@ use Rattle.std.proofs.lemmas.Bool.{false≢true}
 use Rattle.client_spec.specs.Grammar.{Differ}
 use Rattle.client_spec.proofs.OneClient.{constant_front}
 use Rattle.client_code.specs.Views.{constant_of}
-use Rattle.client_code.proofs.client.next_constant.Goals as goal
+use Rattle.client_code.proofs.parser.next_constant.Goals as goal
 
 pub returns-then-not-differs_from-clause-none : goal.returns-then-not-differs_from-clause-none
 returns-then-not-differs_from-clause-none c d rest right differs e =
