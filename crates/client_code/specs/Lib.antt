@@ -1,0 +1,4 @@
+pub mod Views
+pub mod Files
+pub mod Parts
+pub mod Clients

@@ -1,6 +1,6 @@
-use crate::client::parse;
 use crate::item::Item;
 use crate::outline::{header_of, is_skipped};
+use crate::parser::parse;
 use crate::types::TYPES_AT;
 use seg_raw::Fault;
 use std::alloc::{AllocError, Allocator};

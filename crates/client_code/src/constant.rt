@@ -1,4 +1,10 @@
-ghost use Rattle.std.specs.Prelude.{◌+◌, ◌^◌, ◌≤◌, IfSome};
+ghost use Rattle.std.specs.Prelude.{◌≡◌, ◌≢◌, ℕ, List, ◌+◌, ◌^◌, ◌≤◌, ◌↔◌, ◌++◌, ◌∷◌, [], length, drop, All, IsTrue, IfSome, IfNone, codes};
+ghost use Rattle.client_spec.specs.Code as code;
+ghost use Rattle.client_spec.specs.Grammar.{IsConstant, IsNameByte, Differ, constant_bytes};
+ghost use Rattle.client_code.specs.Views.{constant_of, constant_by};
+
+/// The most bytes of a constant.
+pub const LONGEST: usize = 255;
 
 /// What a constant is. The discriminant is the number that stands for it in a client file.
 #[derive(Debug, Clone, Copy, PartialEq, Eq, Default)]
@@ -14,12 +20,17 @@ pub enum ConstantKind {
 
 impl ConstantKind {
     /// The number that stands for the kind in a client file.
-    pub fn number(self) -> u8 {
+    pub fn number(self) -> u8
+        ensures { (bytes : List ℕ) → constant_bytes (constant_by self bytes) ≡ result ∷ length bytes ∷ bytes }
+    {
         self as u8
     }
 
     /// The kind of a number.
-    pub fn from_number(number: u8) -> Option<ConstantKind> {
+    pub fn from_number(number: u8) -> Option<ConstantKind>
+        ensures found { IfSome result (λ kind. (bytes : List ℕ) → constant_bytes (constant_by kind bytes) ≡ number ∷ length bytes ∷ bytes) }
+        ensures none { IfNone result ((c : code.Constant) (rest : List ℕ) → constant_bytes c ≢ number ∷ rest) }
+    {
         match number {
             1 => Some(ConstantKind::Text),
             2 => Some(ConstantKind::Name),
@@ -45,42 +56,54 @@ pub struct Constant<'a> {
     pub bytes: &'a [u8],
 }
 
-fn is_name_byte(byte: u8) -> bool {
-    byte.is_ascii_graphic() && byte != b'#'
+fn is_name_byte(byte: u8) -> bool
+    ensures { IsTrue result ↔ IsNameByte byte }
+{
+    matches!(byte, b'!'..=b'~') && byte != b'#'
 }
 
-fn is_name(bytes: &[u8], longest: usize) -> bool {
+fn is_name(bytes: &[u8], longest: usize) -> bool
+    ensures { IsTrue result ↔ (1 ≤ length bytes.now) × (length bytes.now ≤ longest) × All IsNameByte bytes.now }
+{
     !bytes.is_empty() && bytes.len() <= longest && bytes.iter().all(|byte| is_name_byte(*byte))
+}
+
+/// Whether a constant of this kind may have these bytes.
+fn may_be(kind: ConstantKind, bytes: &[u8]) -> bool
+    ensures { IsTrue result ↔ IsConstant (constant_by kind bytes.now) }
+{
+    match kind {
+        ConstantKind::Text => bytes.len() <= LONGEST,
+        ConstantKind::Name => is_name(bytes, 63),
+        ConstantKind::Family => is_name(bytes, 42),
+    }
 }
 
 impl<'a> Constant<'a> {
     /// The constant whose spelling, a kind, a length and bytes, begins at a position of a file, and the position behind it.
     pub fn read(file: &'a [u8], at: u32) -> Option<(Constant<'a>, u32)>
         requires { at ≤ 2 ^ 31 }
-        ensures { IfSome result (λ found. found.1 ≤ at + 257) }
+        ensures spelled { IfSome result (λ found. drop at file.now ≡ constant_bytes (constant_of found.0) ++ drop found.1 file.now) }
+        ensures right { IfSome result (λ found. IsConstant (constant_of found.0)) }
+        ensures place { IfSome result (λ found. found.1 ≡ at + length (constant_bytes (constant_of found.0))) }
+        ensures near { IfSome result (λ found. found.1 ≤ at + 257) }
+        ensures none { IfNone result ((c : code.Constant) (rest : List ℕ) → IsConstant c → drop at file.now ≢ constant_bytes c ++ rest) }
     {
         let [kind, len, rest @ ..] = file.get(at as usize..)? else {
             return None;
         };
         let kind = ConstantKind::from_number(*kind)?;
         let bytes = rest.get(..usize::from(*len))?;
-        let constant = Constant { kind, bytes };
-        if !constant.is_valid() {
+        if !may_be(kind, bytes) {
             return None;
         }
-        Some((constant, at + 2 + u32::from(*len)))
+        Some((Constant { kind, bytes }, at + 2 + u32::from(*len)))
     }
 
-    fn is_valid(self) -> bool {
-        match self.kind {
-            ConstantKind::Text => true,
-            ConstantKind::Name => is_name(self.bytes, 63),
-            ConstantKind::Family => is_name(self.bytes, 42),
-        }
-    }
-
-    /// Whether both name the same objects. Texts never do.
-    pub fn clashes(self, other: Constant) -> bool {
-        self.kind != ConstantKind::Text && self.kind == other.kind && self.bytes == other.bytes
+    /// Whether no two names of objects are the same. Texts always differ.
+    pub fn differs(self, other: Constant) -> bool
+        ensures { IsTrue result ↔ Differ (constant_of self.entry) (constant_of other.entry) }
+    {
+        self.kind == ConstantKind::Text || self.kind != other.kind || self.bytes != other.bytes
     }
 }

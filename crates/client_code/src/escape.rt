@@ -1,9 +1,7 @@
 ghost use Rattle.std.specs.Prelude.{◌<◌, length, IfSome};
 
+use crate::constant::LONGEST;
 use arrayvec::ArrayVec;
-
-/// The most bytes of a constant.
-pub const LONGEST: usize = 255;
 
 /// The bytes of a constant.
 pub type Bytes = ArrayVec<u8, LONGEST>;

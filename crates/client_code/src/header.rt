@@ -1,4 +1,6 @@
-ghost use Rattle.std.specs.Prelude.{◌≡◌, ◌≤◌, ◌+◌, ◌*◌, IfOk};
+ghost use Rattle.std.specs.Prelude.{◌≡◌, ◌≤◌, ◌<◌, ◌+◌, ◌*◌, ℕ, length, IfOk, IfErr, MatchOption};
+ghost use Rattle.seg_spec.specs.Bytes as bytes;
+ghost use Rattle.client_code.specs.Files.{IsHeader};
 ghost use Rattle.client_code.specs.declared.header.TheConstants.{MOST_CONSTANTS, MOST_INSTRUCTIONS};
 ghost use Rattle.client_code.specs.declared.types.TheConstants.{MOST_TYPES};
 
@@ -28,14 +30,20 @@ pub struct Header {
     ghost limits: { (types ≤ MOST_TYPES) × (constants ≤ MOST_CONSTANTS) × (instructions ≤ MOST_INSTRUCTIONS) },
 }
 
-fn word(file: &[u8], at: u32) -> Option<u32> {
+fn word(file: &[u8], at: u32) -> Option<u32>
+    requires { at ≤ 16 }
+    ensures { MatchOption result (length file.now < at + 4) (λ n. (at + 4 ≤ length file.now) × (n ≡ bytes.word file.now at)) }
+{
     let bytes = file.get(at as usize..at as usize + 4)?;
     Some(LittleEndian::read_u32(bytes))
 }
 
 /// The word at a position, which is a number of entries.
 fn count(file: &[u8], at: u32, most: u32) -> Result<u32, Fault>
-    ensures { IfOk result (λ n. n ≤ most) }
+    requires { at ≤ 16 }
+    ensures found { IfOk result (λ n. (n ≤ most) × (at + 4 ≤ length file.now) × (n ≡ bytes.word file.now at)) }
+    ensures wrong { IfErr result (λ fault. at + 4 ≤ length file.now → bytes.word file.now at ≤ most → ⊥) }
+    ensures fault { IfErr result (λ fault. (place : ℕ) × (fault ≡ Fault.BadCode place)) }
 {
     match word(file, at) {
         Some(n) if n <= most => Ok(n),
@@ -45,7 +53,11 @@ fn count(file: &[u8], at: u32, most: u32) -> Result<u32, Fault>
 
 impl Header {
     /// The header of a file, or the position of the first field that is wrong or cut.
-    pub fn read(file: &[u8]) -> Result<Header, Fault> {
+    pub fn read(file: &[u8]) -> Result<Header, Fault>
+        ensures found { IfOk result (λ h. IsHeader file.now h.types h.constants h.instructions) }
+        ensures wrong { IfErr result (λ fault. (t c i : ℕ) → t ≤ MOST_TYPES → c ≤ MOST_CONSTANTS → i ≤ MOST_INSTRUCTIONS → IsHeader file.now t c i → ⊥) }
+        ensures fault { IfErr result (λ fault. (place : ℕ) × (fault ≡ Fault.BadCode place)) }
+    {
         if !file.starts_with(MAGIC) {
             return Err(Fault::BadCode(0));
         }

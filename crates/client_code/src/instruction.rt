@@ -1,14 +1,20 @@
+ghost use Rattle.std.specs.Prelude.{◌≡◌, ◌≢◌, ◌%◌, ◌/◌, ◌↔◌, ℕ, length, slice_get, IsTrue, IfSome, IfNone, FitsSigned};
+ghost use Rattle.std.specs.Int.{w32};
+ghost use Rattle.seg_spec.specs.Types.{Table};
+ghost use Rattle.client_spec.specs.Code as code;
+ghost use Rattle.client_spec.specs.Grammar.{IsOperand, IsText, NamesBy, IsNumber, IsInstruction, instruction_bytes};
+ghost use Rattle.client_code.specs.Views.{operand_of, number_of, definition, constants_of, instruction_of};
+
 use crate::constant::{Constant, ConstantKind};
 use crate::operation::Operation;
 use crate::table::{Number, Operand};
-use byteorder::{ByteOrder, LittleEndian};
 use seg_layout::TypeId;
 
 /// The number of registers.
 pub const REGISTERS: u8 = 16;
 
 /// The most turns of one run of a loop.
-pub const TURNS: i32 = 1_000_000_000;
+pub const TURNS: usize = 1_000_000_000;
 
 /// An instruction: its operation, three operands and a number. An operand is a register, `NONE`, or 0 where the operation
 /// doesn't use it; so is an unused number.
@@ -21,7 +27,9 @@ pub struct Instruction {
     pub number: i32,
 }
 
-fn is_operand(operand: Operand, n: u8) -> bool {
+fn is_operand(operand: Operand, n: u8) -> bool
+    ensures { IsTrue result ↔ IsOperand (operand_of operand) n }
+{
     match operand {
         Operand::Unused => n == 0,
         Operand::Register => n < REGISTERS,
@@ -37,24 +45,28 @@ impl Instruction {
     pub const SIZE: usize = 8;
 
     /// The instruction that 8 bytes spell, if they are 8 and their operation is known.
-    pub fn decode(bytes: &[u8]) -> Option<Instruction> {
-        let [operation, a, b, c, number @ ..] = bytes else {
+    pub fn decode(bytes: &[u8]) -> Option<Instruction>
+        ensures found { IfSome result (λ i. bytes.now ≡ instruction_bytes (instruction_of i)) }
+        ensures none { IfNone result ((i : code.Instruction) → bytes.now ≢ instruction_bytes i) }
+    {
+        let [operation, a, b, c, n0, n1, n2, n3] = bytes else {
             return None;
         };
-        if number.len() != 4 {
-            return None;
-        }
+        let operation = Operation::from_number(*operation)?;
+        let number = i32::from_le_bytes([*n0, *n1, *n2, *n3]);
         Some(Instruction {
-            operation: Operation::from_number(*operation)?,
+            operation,
             a: *a,
             b: *b,
             c: *c,
-            number: LittleEndian::read_i32(number),
+            number,
         })
     }
 
     /// The 8 bytes that spell the instruction.
-    pub fn encode(self) -> [u8; Self::SIZE] {
+    pub fn encode(self) -> [u8; Self::SIZE]
+        ensures { result ≡ instruction_bytes (instruction_of self) }
+    {
         let [n0, n1, n2, n3] = self.number.to_le_bytes();
         [
             self.operation.number(),
@@ -84,7 +96,9 @@ impl Instruction {
     }
 
     /// Whether the operands and the number are what the operation asks for, in a client with so many types and these constants.
-    pub fn is_valid(self, types: usize, constants: &[Constant]) -> bool {
+    pub fn is_valid(self, types: usize, constants: &[Constant]) -> bool
+        ensures { (table : Table) → length table ≡ types → (IsTrue result ↔ IsInstruction table (constants_of constants.now) (definition self.operation).place (instruction_of self)) }
+    {
         let row = self.operation.row();
         is_operand(row.a, self.a)
             && is_operand(row.b, self.b)
@@ -92,39 +106,43 @@ impl Instruction {
             && self.is_number(row.number, types, constants)
     }
 
-    fn is_number(self, number: Number, types: usize, constants: &[Constant]) -> bool {
+    fn is_number(self, number: Number, types: usize, constants: &[Constant]) -> bool
+        ensures { (table : Table) → length table ≡ types → (IsTrue result ↔ IsNumber table (constants_of constants.now) self.b (number_of number) self.number) }
+    {
+        let Ok(n) = u32::try_from(self.number) else {
+            return number == Number::Any;
+        };
+        let n = n as usize;
         match number {
-            Number::Unused => self.number == 0,
+            Number::Unused => n == 0,
             Number::Any => true,
-            Number::Turns => 1 <= self.number && self.number <= TURNS,
-            Number::Type => self.is_below(256) && self.has_type(types),
-            Number::Text => self.is_below(256)
-                && self.kind_in(constants) == Some(ConstantKind::Text),
-            Number::TypedName => self.is_below(65536)
-                && self.has_type(types)
-                && self.has_name(constants),
+            Number::Turns => 1 <= n && n <= TURNS,
+            Number::Type => n < types,
+            Number::Text => is_text(constants, n),
+            Number::TypedName => n / 256 < types && names_by(constants, n % 256, self.b),
         }
     }
+}
 
-    fn is_below(self, limit: i32) -> bool {
-        0 <= self.number && self.number < limit
+fn is_text(constants: &[Constant], n: usize) -> bool
+    ensures { IsTrue result ↔ IsText (slice_get (constants_of constants.now) n) }
+{
+    match constants.get(n) {
+        Some(constant) => constant.kind == ConstantKind::Text,
+        None => false,
     }
+}
 
-    fn has_type(self, types: usize) -> bool {
-        usize::from(self.type_id()) < types
-    }
-
-    /// The kind of the constant that the number names.
-    fn kind_in(self, constants: &[Constant]) -> Option<ConstantKind> {
-        Some(constants.get(usize::from(self.constant()))?.kind)
-    }
-
-    // the number of a family's name is in register b, and an exact name has none
-    fn has_name(self, constants: &[Constant]) -> bool {
-        match self.kind_in(constants) {
-            Some(ConstantKind::Name) => self.b == Instruction::NONE,
-            Some(ConstantKind::Family) => self.b < REGISTERS,
-            Some(ConstantKind::Text) | None => false,
-        }
+// the number of a family's name is in register b, and an exact name has none
+fn names_by(constants: &[Constant], n: usize, b: u8) -> bool
+    ensures { IsTrue result ↔ NamesBy (slice_get (constants_of constants.now) n) b }
+{
+    let Some(constant) = constants.get(n) else {
+        return false;
+    };
+    match constant.kind {
+        ConstantKind::Name => b == Instruction::NONE,
+        ConstantKind::Family => b < REGISTERS,
+        ConstantKind::Text => false,
     }
 }

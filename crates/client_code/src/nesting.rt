@@ -1,3 +1,6 @@
+ghost use Rattle.std.specs.Prelude.{◌≡◌, ◌≤◌, [], Some, None, MatchBool, ◌↔◌, IsTrue};
+ghost use Rattle.arrayvec.specs.ArrayVec.{array_vec_len};
+
 use crate::table::Place;
 use arrayvec::ArrayVec;
 
@@ -20,30 +23,45 @@ pub const DEPTH: usize = 8;
 #[derive(Debug, Drop)]
 pub struct Nesting {
     parts: ArrayVec<Part, DEPTH>,
+    ghost few: { array_vec_len parts ≤ 8 },
 }
 
 impl Nesting {
+    ghost use Rattle.client_code.specs.Views.{place_of};
+    ghost use Rattle.client_code.specs.Parts.{opened, passed, open_parts};
+
     /// No open part.
-    pub fn new() -> Nesting {
+    pub fn new() -> Nesting
+        ensures { open_parts result ≡ [] }
+    {
         Nesting {
             parts: ArrayVec::new(),
         }
     }
 
     /// Whether no part is open.
-    pub fn is_closed(&self) -> bool {
+    pub fn is_closed(&self) -> bool
+        ensures { IsTrue result ↔ (open_parts self.now ≡ []) }
+    {
         self.parts.is_empty()
     }
 
+    /// Opens a part, if there is room.
+    fn open(&mut self, part: Part) -> bool
+        ensures { MatchBool result (opened (open_parts self.old) part ≡ Some (open_parts self.new)) (opened (open_parts self.old) part ≡ None) }
+    {
+        self.parts.try_push(part).is_ok()
+    }
+
     /// Goes past an instruction: opens and closes what it opens and closes. False where it may not stand here.
-    pub fn pass(&mut self, place: Place) -> bool {
+    pub fn pass(&mut self, place: Place) -> bool
+        ensures { MatchBool result (passed (open_parts self.old) (place_of place) ≡ Some (open_parts self.new)) (passed (open_parts self.old) (place_of place) ≡ None) }
+    {
         match place {
             Place::Plain => true,
-            Place::Opener => self.parts.try_push(Part::Success).is_ok(),
-            Place::Loop => self.parts.try_push(Part::Body).is_ok(),
-            Place::Else => {
-                self.parts.pop() == Some(Part::Success) && self.parts.try_push(Part::Else).is_ok()
-            }
+            Place::Opener => self.open(Part::Success),
+            Place::Loop => self.open(Part::Body),
+            Place::Else => self.parts.pop() == Some(Part::Success) && self.open(Part::Else),
             Place::End => matches!(self.parts.pop(), Some(Part::Else | Part::Body)),
         }
     }

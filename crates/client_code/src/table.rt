@@ -1,3 +1,8 @@
+ghost use Rattle.std.specs.Prelude.{◌≡◌, ◌≢◌, ◌≤◌, map, IfSome, IfNone};
+ghost use Rattle.client_code.specs.Views.{row_view, definition, operations};
+ghost use Rattle.client_spec.specs.Code as code;
+ghost use Rattle.client_spec.specs.Operations.{row_of};
+
 use crate::operation::Operation;
 
 /// How an operation stands in code.
@@ -211,26 +216,47 @@ pub static ROWS: [Row; 50] = [
     row!(NextKey, "NEXTK", Opener; Register, Register, Register, Unused; Reference(Map), Int; Int, Nothing),
 ];
 
+/// The instruction table.
+fn rows() -> &'static [Row; 50]
+    ensures same { map (λ row. row.operation) result.now ≡ operations }
+    ensures rows { map row_view result.now ≡ map definition operations }
+{
+    &ROWS
+}
+
 impl Operation {
     /// The operation's row of the table.
-    pub fn row(self) -> &'static Row {
-        &ROWS[self as usize - 1]
+    pub fn row(self) -> &'static Row
+        ensures same { result.now.operation ≡ self }
+        ensures row { row_view result.now ≡ definition self }
+    {
+        &rows()[self.number() as usize - 1]
     }
 
     /// The number that stands for the operation in a client file.
-    pub fn number(self) -> u8 {
+    pub fn number(self) -> u8
+        ensures byte { result ≡ (definition self).byte }
+        ensures some { 1 ≤ result }
+        ensures few { result ≤ 50 }
+    {
         self as u8
     }
 
     /// The operation of a number.
-    pub fn from_number(number: u8) -> Option<Operation> {
+    pub fn from_number(number: u8) -> Option<Operation>
+        ensures found { IfSome result (λ operation. (definition operation).byte ≡ number) }
+        ensures none { IfNone result ((operation : code.Operation) → (row_of operation).byte ≢ number) }
+    {
         let index = usize::from(number).checked_sub(1)?;
-        Some(ROWS.get(index)?.operation)
+        Some(rows().get(index)?.operation)
     }
 
     /// The operation of a word of the assembler text.
-    pub fn from_word(word: &[u8]) -> Option<Operation> {
-        for row in &ROWS {
+    pub fn from_word(word: &[u8]) -> Option<Operation>
+        ensures found { IfSome result (λ operation. (definition operation).word ≡ word.now) }
+        ensures none { IfNone result ((operation : code.Operation) → (row_of operation).word ≢ word.now) }
+    {
+        for row in rows() {
             if row.text.as_bytes() == word {
                 return Some(row.operation);
             }

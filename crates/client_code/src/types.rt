@@ -1,4 +1,7 @@
-ghost use Rattle.std.specs.Prelude.{◌≡◌, ◌≤◌, IfSome, length};
+ghost use Rattle.std.specs.Prelude.{◌≡◌, ◌≤◌, ◌<◌, ◌+◌, ◌*◌, ℕ, IfSome, IfNone, IfOk, IfErr, length};
+ghost use Rattle.seg_spec.specs.Bytes.{slice};
+ghost use Rattle.seg_spec.specs.Types.{Table, IsUsed};
+ghost use Rattle.client_code.specs.Files.{AreTypes};
 
 use seg_layout::{MAX_TYPES, TypeTable};
 use seg_raw::Fault;
@@ -52,16 +55,47 @@ fn entries(file: &[u8], count: u32) -> [u8; 512]
     table
 }
 
-/// The types of a client file, or the position of the first entry that is wrong or cut.
-pub fn read_types(file: &[u8], count: u32) -> Result<TypeTable, Fault>
+/// Where the first entry begins that is wrong or cut.
+fn first_wrong(file: &[u8], count: u32) -> u32
     requires { count ≤ MOST_TYPES }
 {
     let missing = first_missing(file, count);
     let table = entries(file, count);
     let wrong = match TypeTable::read(&table[..(ENTRY * count) as usize]) {
-        Ok(types) if missing == count => return Ok(types),
         Err(Fault::BadType(i)) => missing.min(i),
         _ => missing,
     };
-    Err(Fault::BadCode(TYPES_AT + ENTRY * wrong))
+    TYPES_AT + ENTRY * wrong
+}
+
+/// The entries, if the file has all of them and each is used.
+fn used_entries(file: &[u8], count: u32) -> Option<&[u8]>
+    requires { count ≤ MOST_TYPES }
+    ensures found { IfSome result (λ bytes. (20 + 16 * count ≤ length file.now) × (bytes.now ≡ slice file.now 20 (16 * count)) × (length bytes.now ≡ 16 * count) × ((k : ℕ) → k < count → IsUsed bytes.now k)) }
+    ensures none { IfNone result (20 + 16 * count ≤ length file.now → ((k : ℕ) → k < count → IsUsed (slice file.now 20 (16 * count)) k) → ⊥) }
+{
+    let at = TYPES_AT as usize;
+    let bytes = file.get(at..at + (ENTRY * count) as usize)?;
+    for i in 0..count {
+        if bytes[(ENTRY * i) as usize] == 0 {
+            return None;
+        }
+    }
+    Some(bytes)
+}
+
+/// The types of a client file, or the position of the first entry that is wrong or cut.
+pub fn read_types(file: &[u8], count: u32) -> Result<TypeTable, Fault>
+    requires { count ≤ MOST_TYPES }
+    ensures count { IfOk result (λ table. length table ≡ count) }
+    ensures found { IfOk result (λ table. AreTypes file.now table) }
+    ensures wrong { IfErr result (λ fault. (table : Table) → length table ≡ count → AreTypes file.now table → ⊥) }
+    ensures fault { IfErr result (λ fault. (at : ℕ) × (fault ≡ Fault.BadCode at)) }
+{
+    if let Some(bytes) = used_entries(file, count) {
+        if let Ok(types) = TypeTable::read(bytes) {
+            return Ok(types);
+        }
+    }
+    Err(Fault::BadCode(first_wrong(file, count)))
 }

@@ -1,0 +1,88 @@
+-- Constants that stand one after the other in a file.
+use Rattle.std.proofs.Common.{◌≡◌, ◌≢◌, ℕ, ◌+◌, ◌<◌, ◌≤◌, List, [], ◌∷◌, ◌++◌, length, map, drop, get_or, refl, sym, ap, ◌∙◌, subst, arith, inl, inr, append_assoc}
+use Rattle.std.specs.Prelude.{⊤, flat_map, All, AllPairs, slice_index_or}
+use Rattle.std.specs.List.{AllByRecursion}
+use Rattle.std.proofs.lemmas.Bool.{cases_lt}
+use Rattle.std.proofs.lemmas.List.{length-append, flat_map_more, get_or_append_left, get_or_push, get_or_at, length_push, length-map, get_or-map}
+use Rattle.std.proofs.lemmas.List.Elements.{All-push, All-map}
+use Rattle.client_spec.specs.Code.{Constant}
+use Rattle.client_spec.specs.Grammar.{constant_bytes, IsConstant, Differ}
+use Rattle.client_spec.proofs.OneClient.{constant_front}
+use Rattle.client_code.specs.Files.{AreConstants}
+
+-- what is spelled behind the same front, where each element has one spelling
+pub fronts : {A : Type 0} (f : A → List ℕ) (P : A → Type 0) → ((x y : A) (us vs : List ℕ) → P x → P y → f x ++ us ≡ f y ++ vs → (x ≡ y) × (us ≡ vs)) → (xs ys : List A) (us vs : List ℕ) → AllByRecursion P xs → AllByRecursion P ys → length xs ≤ length ys → flat_map f xs ++ us ≡ flat_map f ys ++ vs
+    → (more : List A) × (ys ≡ xs ++ more) × (us ≡ flat_map f more ++ vs)
+fronts f P one [] ys us vs p q l e = (ys, refl, e)
+fronts f P one (x ∷ xs) [] us vs p q l e = absurd (omega arith)
+fronts f P one (x ∷ xs) (y ∷ ys) us vs p q l e =
+    let h = one x y (flat_map f xs ++ us) (flat_map f ys ++ vs) p.0 q.0 (sym (append_assoc (f x) (flat_map f xs) us) ∙ e ∙ append_assoc (f y) (flat_map f ys) vs) in
+    let r = fronts f P one xs ys us vs p.1 q.1 (omega arith) h.1 in
+    (r.0, ap (λ z. z ∷ ys) (sym h.0) ∙ ap (λ zs. x ∷ zs) r.1, r.2)
+
+pub any : {A : Type 0} (xs : List A) → AllByRecursion (λ x. ⊤) xs
+any [] = tt
+any (x ∷ xs) = (tt, any xs)
+
+pub begins : (file : List ℕ) (at : ℕ) → AreConstants file at [] at
+begins file at = record { spelled = refl; place = omega arith; each = λ k d h. absurd (omega arith); different = λ i j d h l. absurd (omega arith) }
+
+pairs_push : (cs : List Constant) (c : Constant) → AllPairs Differ cs → All (λ other. Differ other c) cs → AllPairs Differ (cs ++ c ∷ [])
+pairs_push cs c pairs differs i j d l h =
+    let long = length_push cs c in
+    let left : get_or (cs ++ c ∷ []) i d ≡ get_or cs i d = get_or_append_left cs (c ∷ []) d i (omega arith) in
+    elim (cases_lt j (length cs)) [
+      | inl inside ↦ (
+          let right : get_or (cs ++ c ∷ []) j d ≡ get_or cs j d = get_or_append_left cs (c ∷ []) d j inside in
+          subst (λ x. Differ x (get_or (cs ++ c ∷ []) j d)) (sym left) (subst (λ y. Differ (get_or cs i d) y) (sym right) (pairs i j d l inside))
+          )
+      | inr last ↦ (
+          let right : get_or (cs ++ c ∷ []) j d ≡ c = get_or_push cs c d j (omega arith) in
+          subst (λ x. Differ x (get_or (cs ++ c ∷ []) j d)) (sym left) (subst (λ y. Differ (get_or cs i d) y) (sym right) (differs i d (omega arith)))
+          )
+    ]
+
+-- one constant on
+pub one_more : (file : List ℕ) (at next behind : ℕ) (cs : List Constant) (c : Constant) → AreConstants file at cs next → drop next file ≡ constant_bytes c ++ drop behind file → IsConstant c → behind ≡ next + length (constant_bytes c) → All (λ other. Differ other c) cs → AreConstants file at (cs ++ c ∷ []) behind
+one_more file at next behind cs c so_far spelled right place differs =
+    let flat : flat_map constant_bytes cs ++ constant_bytes c ≡ flat_map constant_bytes (cs ++ c ∷ []) = flat_map_more constant_bytes [] cs c in
+    let long = length-append (flat_map constant_bytes cs) (constant_bytes c) in
+    let same = ap length flat in
+    let start = so_far.place in
+    record {
+      spelled = so_far.spelled ∙ ap (λ xs. flat_map constant_bytes cs ++ xs) spelled ∙ sym (append_assoc (flat_map constant_bytes cs) (constant_bytes c) (drop behind file)) ∙ ap (λ xs. xs ++ drop behind file) flat;
+      place = omega arith;
+      each = All-push IsConstant cs c so_far.each right;
+      different = pairs_push cs c so_far.different differs;
+    }
+
+-- the last of some constants
+last_right : (cs more : List Constant) (c : Constant) → All IsConstant (cs ++ c ∷ more) → IsConstant c
+last_right cs more c all =
+    let long = length-append cs (c ∷ more) in
+    subst IsConstant (get_or_at cs c more c (length cs) refl) (all (length cs) c (omega arith))
+
+last_differs : (cs more : List Constant) (c : Constant) → AllPairs Differ (cs ++ c ∷ more) → All (λ other. Differ other c) cs
+last_differs cs more c pairs k d h =
+    let long = length-append cs (c ∷ more) in
+    let p = pairs k (length cs) d h (omega arith) in
+    subst (λ x. Differ x c) (get_or_append_left cs (c ∷ more) d k h) (subst (λ y. Differ (get_or (cs ++ c ∷ more) k d) y) (get_or_at cs c more d (length cs) refl) p)
+
+-- no constants go on where none stands that may be there
+pub none_more : (file : List ℕ) (at next behind : ℕ) (cs ds : List Constant) → AreConstants file at cs next → ((c : Constant) (rest : List ℕ) → IsConstant c → All (λ other. Differ other c) cs → drop next file ≢ constant_bytes c ++ rest) → length cs < length ds → AreConstants file at ds behind → ⊥
+none_more file at next behind cs ds so_far none few all =
+    let f = fronts constant_bytes (λ c. ⊤) (λ c d us vs p q e. constant_front c d us vs e) cs ds (drop next file) (drop behind file) (any cs) (any ds) (omega arith) (sym so_far.spelled ∙ all.spelled) in
+    found f.0 (ap length f.1) f.1 f.2
+  where
+    found : (more : List Constant) → length ds ≡ length (cs ++ more) → ds ≡ cs ++ more → drop next file ≡ flat_map constant_bytes more ++ drop behind file → ⊥
+    found [] n e s = absurd (omega (arith, length-append {A = Constant}))
+    found (c ∷ more) n e s =
+        let each = subst (All IsConstant) e all.each in
+        let different = subst (AllPairs Differ) e all.different in
+        none c (flat_map constant_bytes more ++ drop behind file) (last_right cs more c each) (last_differs cs more c different) (s ∙ append_assoc (constant_bytes c) (flat_map constant_bytes more) (drop behind file))
+
+pub all_map : {A B : Type 0} (P : B → Type 0) (f : A → B) (xs : List A) → All (λ x. P (f x)) xs → All P (map f xs)
+all_map P f xs all = All-map P f xs all
+
+pub map_all : {A B : Type 0} (P : B → Type 0) (f : A → B) (xs : List A) → All P (map f xs) → All (λ x. P (f x)) xs
+map_all P f xs all k d h = let long = length-map xs f in subst P (get_or-map f xs k d (f d) h) (all k (f d) (omega arith))

@@ -1,9 +1,0 @@
-use Rattle.std.proofs.Common.{◌≤◌, ◌+◌, ◌*◌, length}
-use Rattle.client_code.proofs.client.read_constants.Given as goal
-
--- a constant has at most 257 bytes, and each found so far is in the list
-abbrev pub invariant-loop : goal.invariant-loop
-invariant-loop l = record {
-  near : l.next ≤ l.at + 257 * l.counter;
-  room : length l.constants.items ≤ l.counter;
-}

@@ -1,0 +1,41 @@
+-- A client file, part by part.
+--     code_place client                              where the code of a client begins
+--     IsHeader file types constants instructions     the header says so
+--     AreTypes file table                            these types stand behind it
+--     AreConstants file at constants behind          these constants stand there, and the rest behind them
+--     IsCodeAt file at table constants code          this code stands there, up to the end
+use Rattle.std.specs.Prelude.{◌≡◌, ℕ, ◌+◌, ◌*◌, ◌≤◌, List, ◌++◌, length, take, drop, flat_map, codes, All, AllPairs}
+use Rattle.seg_spec.specs.Bytes as bytes
+use Rattle.seg_spec.specs.Types.{Table, IsTable, form_bytes}
+use Rattle.client_spec.specs.Code.{Constant, Statements, Client}
+use Rattle.client_spec.specs.Grammar.{constant_bytes, instruction_bytes, listing, IsConstant, Differ, IsCode, depth}
+
+abbrev pub code_place : Client → ℕ
+code_place client = 20 + 16 * length client.types + length (flat_map constant_bytes client.constants)
+
+pub record IsHeader (file : List ℕ) (types constants instructions : ℕ) : Type 0 where
+  pub whole : 20 ≤ length file
+  pub magic : take 4 file ≡ codes "SEGC"
+  pub version : bytes.word file 4 ≡ 1
+  pub of_types : bytes.word file 8 ≡ types
+  pub of_constants : bytes.word file 12 ≡ constants
+  pub of_instructions : bytes.word file 16 ≡ instructions
+
+pub record AreConstants (file : List ℕ) (at : ℕ) (constants : List Constant) (behind : ℕ) : Type 0 where
+  pub spelled : drop at file ≡ flat_map constant_bytes constants ++ drop behind file
+  pub place : behind ≡ at + length (flat_map constant_bytes constants)
+  pub each : All IsConstant constants
+  pub different : AllPairs Differ constants
+
+-- the types that stand behind the header
+pub record AreTypes (file : List ℕ) (table : Table) : Type 0 where
+  pub valid : IsTable table
+  pub whole : 20 + 16 * length table ≤ length file
+  pub spelled : bytes.slice file 20 (16 * length table) ≡ flat_map form_bytes table
+
+-- the code that stands there, up to the file's end
+pub record IsCodeAt (file : List ℕ) (at : ℕ) (table : Table) (constants : List Constant) (code : Statements) : Type 0 where
+  pub right : IsCode table constants code
+  pub shallow : depth code ≤ 8
+  pub spelled : drop at file ≡ flat_map instruction_bytes (listing code)
+  pub ends : length file ≡ at + 8 * length (listing code)
