@@ -1,5 +1,9 @@
-ghost use Rattle.std.specs.Prelude.{◌≡◌, ◌+◌, ◌*◌, ◌^◌, ◌<◌, ◌≤◌, length, IfSome};
+ghost use Rattle.std.specs.Prelude.{◌≡◌, ◌+◌, ◌-◌, ◌*◌, ◌^◌, ◌<◌, ◌≤◌, length, IfSome, ⊤};
+ghost use Rattle.std.specs.Ordering.{nat_cmp, ordering_then};
+ghost use Rattle.std.specs.Cmp.{on_total, then_total, nat_cmp_total};
+ghost use Rattle.seg_spec.specs.Heap.{units_at};
 ghost use Rattle.seg_spec.specs.Window.{with_bytes};
+ghost use Rattle.seg_spec.proofs.OrderSteps.{then_steps_up};
 
 use seg_block::{Block, UNIT, block_at, set_size, units};
 use seg_ptr::{Window, header};
@@ -11,11 +15,19 @@ use std::cmp::Ordering;
 pub(crate) struct BySize;
 
 /// The units of the free block with this node.
-fn size<A: Allocator>(w: &Window<A>, node: u32) -> u32 {
-    units(w, node.wrapping_sub(UNIT))
+fn size<A: Allocator>(w: &Window<A>, node: u32) -> u32
+    ensures { result ≡ units_at w.now.bytes (node - 16) }
+{
+    units(w, node.saturating_sub(UNIT))
 }
 
 impl NodeOrder<u32> for BySize {
+    ghost exact = { ⊤ };
+
+    ghost compare = { λ _ bytes x y. ordering_then (nat_cmp (units_at bytes (x - 16)) (units_at bytes (y - 16))) (nat_cmp x y) };
+
+    ghost compare_key = { λ _ bytes x key. nat_cmp (units_at bytes (x - 16)) key };
+
     fn nodes<A: Allocator>(&self, w: &Window<A>, node: u32, other: u32) -> Ordering {
         size(w, node).cmp(&size(w, other)).then(node.cmp(&other))
     }
@@ -23,6 +35,10 @@ impl NodeOrder<u32> for BySize {
     fn key<A: Allocator>(&self, w: &Window<A>, node: u32, key: u32) -> Ordering {
         size(w, node).cmp(&key)
     }
+
+    ghost total = { λ _ _ bytes. then_total (on_total (λ x. units_at bytes (x - 16)) nat_cmp_total) nat_cmp_total };
+
+    ghost keyed = { λ _ _ bytes x y key less. then_steps_up nat_cmp_total (units_at bytes (x - 16)) (units_at bytes (y - 16)) key (nat_cmp x y) less };
 }
 
 /// The tree of free blocks.

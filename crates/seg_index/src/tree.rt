@@ -1,6 +1,7 @@
 //! The tree index: a red-black tree of nodes, each with tree words and an entry, in order of their names.
 
 ghost use Rattle.std.specs.Prelude.{◌≡◌};
+ghost use Rattle.std.specs.declared.cmp.Ordering.TheVariants.{Equal};
 ghost use Rattle.seg_spec.specs.Window.{with_bytes};
 
 use crate::cell::{name_count, set_name_count};
@@ -31,6 +32,13 @@ impl ByName<'_> {
 }
 
 impl NodeOrder<&[u8]> for ByName<'_> {
+    // not proved yet
+    ghost exact = { ⊥ };
+
+    ghost compare = { λ _ _ _ _. Equal };
+
+    ghost compare_key = { λ _ _ _ _. Equal };
+
     fn nodes<A: Allocator>(&self, w: &Window<A>, node: u32, other: u32) -> Ordering {
         self.name(w, node).cmp(self.name(w, other))
     }
@@ -38,6 +46,10 @@ impl NodeOrder<&[u8]> for ByName<'_> {
     fn key<A: Allocator>(&self, w: &Window<A>, node: u32, key: &[u8]) -> Ordering {
         self.name(w, node).cmp(key)
     }
+
+    ghost total = { λ never _ _. absurd never };
+
+    ghost keyed = { λ never _ _ _ _ _ _. absurd never };
 }
 
 fn names() -> Tree {

@@ -1,5 +1,11 @@
 //! A map as a red-black tree of nodes: tree words, the key, the value. The pointer of the map's cell names the root.
 
+ghost use Rattle.std.specs.Prelude.{◌≡◌, ◌+◌, ◌%◌, ◌^◌, ⊤};
+ghost use Rattle.std.specs.Ordering.{int_cmp};
+ghost use Rattle.std.specs.Cmp.{on_total, int_cmp_total};
+ghost use Rattle.seg_spec.specs.Bytes.{signed_long};
+ghost use Rattle.seg_spec.proofs.OrderSteps.{steps_up};
+
 use crate::key::key_at;
 use seg_block::Fit;
 use seg_layout::TypeTable;
@@ -14,6 +20,12 @@ use std::cmp::Ordering;
 struct ByKey;
 
 impl NodeOrder<i64> for ByKey {
+    ghost exact = { ⊤ };
+
+    ghost compare = { λ _ bytes x y. int_cmp (signed_long bytes ((x + 16) % 2 ^ 32)) (signed_long bytes ((y + 16) % 2 ^ 32)) };
+
+    ghost compare_key = { λ _ bytes x key. int_cmp (signed_long bytes ((x + 16) % 2 ^ 32)) key };
+
     fn nodes<A: Allocator>(&self, w: &Window<A>, node: u32, other: u32) -> Ordering {
         key_of(w, node).cmp(&key_of(w, other))
     }
@@ -21,14 +33,22 @@ impl NodeOrder<i64> for ByKey {
     fn key<A: Allocator>(&self, w: &Window<A>, node: u32, key: i64) -> Ordering {
         key_of(w, node).cmp(&key)
     }
+
+    ghost total = { λ _ _ bytes. on_total (λ x. signed_long bytes ((x + 16) % 2 ^ 32)) int_cmp_total };
+
+    ghost keyed = { λ _ _ bytes x y key less. steps_up int_cmp_total (signed_long bytes ((x + 16) % 2 ^ 32)) (signed_long bytes ((y + 16) % 2 ^ 32)) key less };
 }
 
 /// Where a node has its key.
-fn key_place(node: u32) -> u32 {
+fn key_place(node: u32) -> u32
+    ensures { result ≡ (node + 16) % 2 ^ 32 }
+{
     node.wrapping_add(TREE_WORDS)
 }
 
-fn key_of<A: Allocator>(w: &Window<A>, node: u32) -> i64 {
+fn key_of<A: Allocator>(w: &Window<A>, node: u32) -> i64
+    ensures { result ≡ signed_long w.now.bytes ((node + 16) % 2 ^ 32) }
+{
     key_at(w, key_place(node))
 }
 

@@ -1,5 +1,7 @@
 ghost use Rattle.std.specs.Prelude.{◌≡◌};
+ghost use Rattle.seg_spec.specs.Pointer.{target};
 ghost use Rattle.seg_spec.specs.Window.{with_bytes};
+ghost use Rattle.seg_rbtree.specs.Nodes.{side_word};
 
 use seg_ptr::Window;
 use std::alloc::Allocator;
@@ -28,14 +30,18 @@ pub(crate) enum Colour {
 }
 
 /// The position of the pointer to a child.
-pub(crate) fn child_word(node: u32, side: Side) -> usize {
+pub(crate) fn child_word(node: u32, side: Side) -> usize
+    ensures { result ≡ side_word node side }
+{
     match side {
         Side::Left => node as usize,
         Side::Right => node as usize + 4,
     }
 }
 
-pub(crate) fn child<A: Allocator>(w: &Window<A>, node: u32, side: Side) -> Option<u32> {
+pub(crate) fn child<A: Allocator>(w: &Window<A>, node: u32, side: Side) -> Option<u32>
+    ensures { result ≡ target w.now.bytes (side_word node side) }
+{
     w.target(child_word(node, side))
 }
 

@@ -1,12 +1,38 @@
+ghost use Rattle.std.specs.Prelude.{◌≡◌, ℕ, ◌≤◌, List};
+ghost use Rattle.std.specs.Cmp.{IsTotalOrder};
+ghost use Rattle.std.specs.declared.cmp.Ordering.{Ordering};
+ghost use Rattle.std.specs.declared.cmp.Ordering.TheVariants.{Less};
+ghost use Rattle.seg_spec.specs.Search.{step_of};
+
 use seg_ptr::Window;
 use std::alloc::Allocator;
 use std::cmp::Ordering;
 
-/// The order of a tree's nodes, and of its nodes and keys: one total order, which reads no tree word.
+/// The order of a tree's nodes, and of its nodes and keys. A tree compares before it writes, so the order may read what it
+/// likes of a node but its tree words.
 pub trait NodeOrder<K: Copy> {
+    // Whether the comparisons are proved to be those that follow. An order that isn't proved yet says no, and its clauses
+    // then promise nothing.
+    ghost exact: { Type 0 };
+
+    // How two nodes compare in a segment with these bytes.
+    ghost compare: { Self → List ℕ → ℕ → ℕ → Ordering };
+
+    // How a node compares with a key.
+    ghost compare_key: { Self → List ℕ → ℕ → K → Ordering };
+
     /// Compares two nodes.
-    fn nodes<A: Allocator>(&self, w: &Window<A>, node: u32, other: u32) -> Ordering;
+    fn nodes<A: Allocator>(&self, w: &Window<A>, node: u32, other: u32) -> Ordering
+        ensures { exact → result ≡ compare self.now w.now.bytes node other };
 
     /// Compares a node with a key.
-    fn key<A: Allocator>(&self, w: &Window<A>, node: u32, key: K) -> Ordering;
+    fn key<A: Allocator>(&self, w: &Window<A>, node: u32, key: K) -> Ordering
+        ensures { exact → result ≡ compare_key self.now w.now.bytes node key };
+
+    // The order is total. Nodes that compare as equal need not be the same.
+    ghost total: { exact → (order : Self) (bytes : List ℕ) → IsTotalOrder (compare order bytes) };
+
+    // A node before another one is no further up from any key.
+    ghost keyed: { exact → (order : Self) (bytes : List ℕ) (x y : ℕ) (key : K) → compare order bytes x y ≡ Less →
+        step_of (compare_key order bytes x key) ≤ step_of (compare_key order bytes y key) };
 }

@@ -1,3 +1,10 @@
+//! Searches down a tree.
+
+ghost use Rattle.std.specs.Prelude.{◌≡◌, ◌≤◌, nat_le, ◌&&◌, Some, None};
+ghost use Rattle.std.specs.Ordering.{is_eq};
+ghost use Rattle.seg_spec.specs.Shapes.{nodes_of};
+ghost use Rattle.seg_spec.specs.Search.{reaches, Ascend, first_where, looks, IsSearchTree};
+
 use crate::node::{Side, child};
 use crate::order::NodeOrder;
 use crate::path::{DEPTH, Path};
@@ -6,6 +13,8 @@ use seg_ptr::Window;
 use std::alloc::Allocator;
 use std::cmp::Ordering;
 
+const MOST_LOOKS: u32 = DEPTH as u32;
+
 /// What a search found, and how many nodes it looked at.
 #[derive(Debug, Clone, Copy, PartialEq, Eq)]
 pub struct Looked {
@@ -13,24 +22,33 @@ pub struct Looked {
     pub looks: u32,
 }
 
+/// Whether a node that compares so with a key is as far up as is wanted.
+fn is_reached(least: Ordering, found: Ordering) -> bool
+    ensures { result ≡ reaches least found }
+{
+    match least {
+        Ordering::Less => true,
+        Ordering::Equal => found != Ordering::Less,
+        Ordering::Greater => found == Ordering::Greater,
+    }
+}
+
 impl Tree {
-    /// The node that equals a key.
+    /// The first node that equals a key.
     pub fn find<K: Copy, O: NodeOrder<K>, A: Allocator>(
         self,
         w: &Window<A>,
         order: &O,
         key: K,
-    ) -> Option<u32> {
-        let mut place = w.target(self.root);
-        for _ in 0..DEPTH {
-            let node = place?;
-            place = match order.key(w, node, key) {
-                Ordering::Equal => return Some(node),
-                Ordering::Less => child(w, node, Side::Right),
-                Ordering::Greater => child(w, node, Side::Left),
-            };
+    ) -> Option<u32>
+        ensures { O.exact → (shape : _) → IsSearchTree w.now.bytes self.root shape → Ascend (O.compare order.now w.now.bytes) (nodes_of shape)
+            → result ≡ first_where (λ node. is_eq (O.compare_key order.now w.now.bytes node key)) (nodes_of shape) }
+    {
+        let node = self.first_at_least(w, order, key).node?;
+        match order.key(w, node, key) {
+            Ordering::Equal => Some(node),
+            _ => None,
         }
-        None
     }
 
     /// The first node that is at or above a key.
@@ -39,8 +57,14 @@ impl Tree {
         w: &Window<A>,
         order: &O,
         key: K,
-    ) -> Looked {
-        self.first_where(w, |node| order.key(w, node, key) != Ordering::Less)
+    ) -> Looked
+        ensures node { O.exact → (shape : _) → IsSearchTree w.now.bytes self.root shape → Ascend (O.compare order.now w.now.bytes) (nodes_of shape)
+            → result.node ≡ first_where (λ node. reaches Ordering.Equal (O.compare_key order.now w.now.bytes node key)) (nodes_of shape) }
+        ensures looks { O.exact → (shape : _) → IsSearchTree w.now.bytes self.root shape → Ascend (O.compare order.now w.now.bytes) (nodes_of shape)
+            → result.looks ≡ looks (λ node. reaches Ordering.Equal (O.compare_key order.now w.now.bytes node key)) shape }
+        ensures bound { result.looks ≤ 64 }
+    {
+        self.first_from(w, order, key, Ordering::Equal)
     }
 
     /// The first node that is above a key.
@@ -49,26 +73,38 @@ impl Tree {
         w: &Window<A>,
         order: &O,
         key: K,
-    ) -> Option<u32> {
-        self.first_where(w, |node| order.key(w, node, key) == Ordering::Greater)
-            .node
+    ) -> Option<u32>
+        ensures { O.exact → (shape : _) → IsSearchTree w.now.bytes self.root shape → Ascend (O.compare order.now w.now.bytes) (nodes_of shape)
+            → result ≡ first_where (λ node. reaches Ordering.Greater (O.compare_key order.now w.now.bytes node key)) (nodes_of shape) }
+    {
+        self.first_from(w, order, key, Ordering::Greater).node
     }
 
-    /// The first node of which something is true that is true of all behind it.
-    fn first_where<F: Fn(u32) -> bool, A: Allocator>(self, w: &Window<A>, is_past: F) -> Looked
-        requires { F.IsAlwaysCallable is_past }
+    /// The first node that is as far up from a key as is wanted.
+    fn first_from<K: Copy, O: NodeOrder<K>, A: Allocator>(
+        self,
+        w: &Window<A>,
+        order: &O,
+        key: K,
+        least: Ordering,
+    ) -> Looked
+        ensures node { O.exact → (shape : _) → IsSearchTree w.now.bytes self.root shape → Ascend (O.compare order.now w.now.bytes) (nodes_of shape)
+            → result.node ≡ first_where (λ node. reaches least (O.compare_key order.now w.now.bytes node key)) (nodes_of shape) }
+        ensures looks { O.exact → (shape : _) → IsSearchTree w.now.bytes self.root shape → Ascend (O.compare order.now w.now.bytes) (nodes_of shape)
+            → result.looks ≡ looks (λ node. reaches least (O.compare_key order.now w.now.bytes node key)) shape }
+        ensures bound { result.looks ≤ 64 }
     {
         let mut place = w.target(self.root);
         let mut found = Looked {
             node: None,
             looks: 0,
         };
-        for _ in 0..DEPTH {
+        while found.looks < MOST_LOOKS {
             let Some(node) = place else {
                 break;
             };
-            found.looks = found.looks.saturating_add(1);
-            if is_past(node) {
+            found.looks += 1;
+            if is_reached(least, order.key(w, node, key)) {
                 found.node = Some(node);
                 place = child(w, node, Side::Left);
             } else {

@@ -1,3 +1,9 @@
+ghost use Rattle.std.specs.Prelude.{◌≡◌, ◌+◌, ⊤};
+ghost use Rattle.std.specs.Ordering.{nat_cmp};
+ghost use Rattle.std.specs.Cmp.{on_total, nat_cmp_total};
+ghost use Rattle.seg_spec.specs.Bytes.{word};
+ghost use Rattle.seg_spec.proofs.OrderSteps.{steps_up};
+
 use crate::{NodeOrder, TREE_WORDS, Tree};
 use seg_ptr::Window;
 use seg_raw::Region;
@@ -13,11 +19,19 @@ const NODE: u32 = 32;
 /// By that number.
 struct ByNumber;
 
-fn number<A: Allocator>(w: &Window<A>, node: u32) -> u32 {
+fn number<A: Allocator>(w: &Window<A>, node: u32) -> u32
+    ensures { result ≡ word w.now.bytes (node + 16) }
+{
     w.get32(node as usize + TREE_WORDS as usize)
 }
 
 impl NodeOrder<u32> for ByNumber {
+    ghost exact = { ⊤ };
+
+    ghost compare = { λ _ bytes x y. nat_cmp (word bytes (x + 16)) (word bytes (y + 16)) };
+
+    ghost compare_key = { λ _ bytes x key. nat_cmp (word bytes (x + 16)) key };
+
     fn nodes<A: Allocator>(&self, w: &Window<A>, node: u32, other: u32) -> Ordering {
         number(w, node).cmp(&number(w, other))
     }
@@ -25,6 +39,10 @@ impl NodeOrder<u32> for ByNumber {
     fn key<A: Allocator>(&self, w: &Window<A>, node: u32, key: u32) -> Ordering {
         number(w, node).cmp(&key)
     }
+
+    ghost total = { λ _ _ bytes. on_total (λ x. word bytes (x + 16)) nat_cmp_total };
+
+    ghost keyed = { λ _ _ bytes x y key less. steps_up nat_cmp_total (word bytes (x + 16)) (word bytes (y + 16)) key less };
 }
 
 /// A window with the root word at 0, and room for nodes from 32 on.

@@ -1,4 +1,9 @@
+ghost use Rattle.std.specs.Prelude.{◌≡◌, ◌↔◌, IsTrue, true, []};
+ghost use Rattle.seg_spec.specs.Shapes.{nodes_of};
+ghost use Rattle.seg_spec.specs.Search.{first_where, IsSearchTree};
+
 use crate::node::{Side, child};
+use crate::path::DEPTH;
 use seg_ptr::Window;
 use std::alloc::Allocator;
 
@@ -12,24 +17,32 @@ pub struct Tree {
 }
 
 impl Tree {
-    pub fn new(root: usize) -> Tree {
+    pub fn new(root: usize) -> Tree
+        ensures { result.root ≡ root }
+    {
         Tree { root }
     }
 
     /// Whether the tree has no node.
-    pub fn is_empty<A: Allocator>(self, w: &Window<A>) -> bool {
+    pub fn is_empty<A: Allocator>(self, w: &Window<A>) -> bool
+        ensures { (shape : _) → IsSearchTree w.now.bytes self.root shape → IsTrue result ↔ (nodes_of shape ≡ []) }
+    {
         w.target(self.root).is_none()
     }
 
     /// The first node.
-    pub fn first<A: Allocator>(self, w: &Window<A>) -> Option<u32> {
-        let mut first = w.target(self.root)?;
-        for _ in 0..crate::path::DEPTH {
-            match child(w, first, Side::Left) {
-                Some(left) => first = left,
-                None => break,
-            }
+    pub fn first<A: Allocator>(self, w: &Window<A>) -> Option<u32>
+        ensures { (shape : _) → IsSearchTree w.now.bytes self.root shape → result ≡ first_where (λ _. true) (nodes_of shape) }
+    {
+        let mut place = w.target(self.root);
+        let mut first = None;
+        for _ in 0..DEPTH {
+            let Some(node) = place else {
+                break;
+            };
+            first = Some(node);
+            place = child(w, node, Side::Left);
         }
-        Some(first)
+        first
     }
 }

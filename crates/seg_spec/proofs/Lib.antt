@@ -39,3 +39,5 @@ pub mod Composing
 pub mod StretchLaws
 pub mod WorkedCalls
 pub mod MoveLaw
+pub mod SearchLaws
+pub mod OrderSteps

@@ -3,6 +3,7 @@ pub mod Pointer
 pub mod Window
 pub mod Types
 pub mod Shapes
+pub mod Search
 pub mod Heap
 pub mod Value
 pub mod Block

@@ -1,0 +1,8 @@
+use Rattle.std.proofs.Common.{true}
+use Rattle.seg_spec.specs.Shapes.{Tree}
+use Rattle.seg_spec.specs.Search.{IsSearchTree}
+use Rattle.seg_rbtree.proofs.Searching.{IsSearching}
+use Rattle.seg_rbtree.proofs.tree.Tree.first.Given as goal
+
+abbrev pub invariant-loop : goal.invariant-loop
+invariant-loop g l = (shape : Tree) → IsSearchTree l.w.bytes l.fn.self.root shape → IsSearching l.w.bytes (λ _. true) shape l.place l.first l.counter

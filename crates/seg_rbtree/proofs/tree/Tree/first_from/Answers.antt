@@ -1,0 +1,49 @@
+use Rattle.std.proofs.Common.{ℕ, ◌≤◌, ap, sym, ◌∙◌, subst, arith}
+use Rattle.seg_spec.specs.Shapes.{IsTree, nodes_of}
+use Rattle.seg_spec.specs.Search.{reaches, looks}
+use Rattle.seg_spec.proofs.SearchLaws.{looks-64}
+use Rattle.seg_rbtree.proofs.Searching.{upward_of, reaches_up, searching_start, went_left, went_right, searching_stop}
+use Rattle.seg_rbtree.proofs.tree.Tree.first_from.Goals as goal
+
+pub loop-found-init : goal.loop-found-init
+loop-found-init g c = record {
+  few = omega arith;
+  searching = λ exact shape t a.
+      let bytes = c.args.w.now.bytes in
+      let order = g.O.NodeOrder.compare c.args.order.now bytes in
+      searching_start bytes (λ n. reaches c.args.least (g.O.NodeOrder.compare_key c.args.order.now bytes n c.args.key)) shape c.target-place.result
+      (subst (λ o. IsTree bytes o shape) (sym c.target-place.ensures) t.is_tree)
+      (upward_of order _ (λ x y l e. reaches_up c.args.least _ _ (g.met.O.NodeOrder.keyed exact c.args.order.now bytes x y c.args.key l) e) (nodes_of shape) a);
+}
+
+pub loop-found-preserved-then-is_reached : goal.loop-found-preserved-then-is_reached
+loop-found-preserved-then-is_reached g c = record {
+  few = omega (arith, c.loop-found-test.true);
+  searching = λ exact shape t a.
+      let bytes = c.args.w.now.bytes in
+      went_left bytes (λ n. reaches c.args.least (g.O.NodeOrder.compare_key c.args.order.now bytes n c.args.key)) shape c.loop-found.place c.loop-found.found.node c.child-place.result c.in-Some.node c.loop-found.found.looks
+      c.in-Some.is (sym (ap (reaches c.args.least) (c.key.ensures exact)) ∙ sym c.is_reached.ensures ∙ c.if-is_reached.true) c.child-place.ensures (c.loop-found.invariant.searching exact shape t a);
+}
+
+pub loop-found-preserved : goal.loop-found-preserved
+loop-found-preserved g c = record {
+  few = omega (arith, c.loop-found-test.true);
+  searching = λ exact shape t a.
+      let bytes = c.args.w.now.bytes in
+      went_right bytes (λ n. reaches c.args.least (g.O.NodeOrder.compare_key c.args.order.now bytes n c.args.key)) shape c.loop-found.place c.loop-found.found.node c.child-place-else-is_reached.result c.in-Some.node c.loop-found.found.looks
+      c.in-Some.is (sym (ap (reaches c.args.least) (c.key.ensures exact)) ∙ sym c.is_reached.ensures ∙ c.if-is_reached.false) c.child-place-else-is_reached.ensures (c.loop-found.invariant.searching exact shape t a);
+}
+
+pub returns-after-loop-found-clause-node : goal.returns-after-loop-found-clause-node
+returns-after-loop-found-clause-node g c = λ exact shape t a.
+    let bytes = c.args.w.now.bytes in
+    let p = λ (n : ℕ). reaches c.args.least (g.O.NodeOrder.compare_key c.args.order.now bytes n c.args.key) in
+    let enough : looks p shape ≤ c.loop-found.found.looks = omega (arith, looks-64 p shape t.red_black t.few, c.loop-found-test.false) in
+    (searching_stop bytes p shape c.loop-found.place c.loop-found.found.node c.loop-found.found.looks enough (c.loop-found.invariant.searching exact shape t a)).node_is
+
+pub returns-after-loop-found-clause-looks : goal.returns-after-loop-found-clause-looks
+returns-after-loop-found-clause-looks g c = λ exact shape t a.
+    let bytes = c.args.w.now.bytes in
+    let p = λ (n : ℕ). reaches c.args.least (g.O.NodeOrder.compare_key c.args.order.now bytes n c.args.key) in
+    let enough : looks p shape ≤ c.loop-found.found.looks = omega (arith, looks-64 p shape t.red_black t.few, c.loop-found-test.false) in
+    (searching_stop bytes p shape c.loop-found.place c.loop-found.found.node c.loop-found.found.looks enough (c.loop-found.invariant.searching exact shape t a)).looks_are
