@@ -2,3 +2,4 @@ pub mod Views
 pub mod Files
 pub mod Parts
 pub mod Clients
+pub mod Texts

@@ -1,4 +1,5 @@
-ghost use Rattle.std.specs.Prelude.{◌<◌, length, IfSome};
+ghost use Rattle.std.specs.Prelude.{◌≡◌, ◌≢◌, ℕ, ◌<◌, length, IfSome, IfNone, IsTrue};
+ghost use Rattle.client_spec.specs.Text.{hex_digit, is_plain};
 
 use crate::constant::LONGEST;
 use arrayvec::ArrayVec;
@@ -7,13 +8,26 @@ use arrayvec::ArrayVec;
 pub type Bytes = ArrayVec<u8, LONGEST>;
 
 /// Whether a byte of a text may stand for itself.
-pub fn is_plain(byte: u8) -> bool {
+pub fn is_plain(byte: u8) -> bool
+    ensures test { result ≡ is_plain byte }
+    ensures ascii { IsTrue result → byte < 128 }
+{
     matches!(byte, b' '..=b'~') && byte != b'\\'
+}
+
+/// The lower case hexadecimal digit of a value.
+pub fn hex_digit(value: u8) -> u8
+    requires { value < 16 }
+    ensures digit { result ≡ hex_digit value }
+    ensures ascii { result < 128 }
+{
+    if value < 10 { b'0' + value } else { b'a' + (value - 10) }
 }
 
 /// The value of a lower case hexadecimal digit.
 fn hex(digit: u8) -> Option<u8>
-    ensures { IfSome result (λ value. value < 16) }
+    ensures found { IfSome result (λ value. (value < 16) × (digit ≡ hex_digit value)) }
+    ensures none { IfNone result ((value : ℕ) → value < 16 → digit ≢ hex_digit value) }
 {
     match digit {
         b'0'..=b'9' => Some(digit - b'0'),

@@ -1,9 +1,19 @@
+ghost use Rattle.std.specs.Prelude.{◌≡◌, ◌∷◌, [], ◌++◌, if◌then◌else◌, OnOk, IfOk, IfErr, flat_map, map};
+ghost use Rattle.seg_layout.specs.Forms.{form_of};
+ghost use Rattle.seg_spec.specs.Types.{Form};
+ghost use Rattle.client_spec.specs.Code as code;
+ghost use Rattle.client_spec.specs.Grammar.{Spells, listing};
+ghost use Rattle.client_spec.specs.Text.{type_item, constant_item, instruction_item, operand_words, number_words, type_word, is_plain, escaped, text_spelling, text_of};
+ghost use Rattle.client_code.specs.Views.{operand_of, number_of, constant_of, instruction_of};
+ghost use Rattle.client_code.specs.Texts.{with_spaces, ended};
+ghost use Rattle.client_code.specs.Clients.{bytes_of};
+
 use crate::client::Client;
 use crate::constant::{Constant, ConstantKind};
-use crate::escape::is_plain;
+use crate::escape::{hex_digit, is_plain};
 use crate::instruction::Instruction;
 use crate::table::{Number, Operand};
-use seg_layout::Type;
+use seg_layout::{Type, TypeId};
 use seg_raw::Fault;
 use std::alloc::{AllocError, Allocator};
 use std::fmt::Write;
@@ -28,51 +38,98 @@ pub fn print<A: Allocator>(alloc: A, client: &Client) -> Result<Vec<u8, A>, Faul
     Ok(text.into_bytes())
 }
 
-fn print_type<A: Allocator>(text: &mut String<A>, kind: Type) -> Result<(), AllocError> {
+fn print_type<A: Allocator>(text: &mut String<A>, kind: Type) -> Result<(), AllocError>
+    ensures { OnOk result (text.new.bytes.items ≡ text.old.bytes.items ++ ended (type_item (form_of kind))) }
+{
     match kind {
-        Type::I64 => text.push_str("type i64")?,
-        Type::Str => text.push_str("type str")?,
-        Type::Vec(part) => write!(text, "type vec t{part}")?,
-        Type::List(part) => write!(text, "type list t{part}")?,
-        Type::FlatMap(part) => write!(text, "type flat_map t{part}")?,
-        Type::Map(part) => write!(text, "type map t{part}")?,
-        Type::Own(part) => write!(text, "type own t{part}")?,
-        Type::Struct(fields) => {
-            text.push_str("type struct")?;
-            for field in fields.as_slice() {
-                write!(text, " t{field}")?;
-            }
-        }
+        Type::I64 => text.push_str("type i64\n"),
+        Type::Str => text.push_str("type str\n"),
+        Type::Vec(part) => write!(text, "type vec t{part}\n"),
+        Type::List(part) => write!(text, "type list t{part}\n"),
+        Type::FlatMap(part) => write!(text, "type flat_map t{part}\n"),
+        Type::Map(part) => write!(text, "type map t{part}\n"),
+        Type::Own(part) => write!(text, "type own t{part}\n"),
+        Type::Struct(fields) => print_struct(text, fields.as_slice()),
     }
+}
+
+fn print_struct<A: Allocator>(text: &mut String<A>, fields: &[TypeId]) -> Result<(), AllocError>
+    ensures { OnOk result (text.new.bytes.items ≡ text.old.bytes.items ++ ended (type_item (Form.struct fields.now))) }
+{
+    text.push_str("type struct")?;
+    print_fields(text, fields)?;
     text.push('\n')
+}
+
+fn print_fields<A: Allocator>(text: &mut String<A>, fields: &[TypeId]) -> Result<(), AllocError>
+    ensures { OnOk result (text.new.bytes.items ≡ text.old.bytes.items ++ with_spaces (map type_word fields.now)) }
+{
+    for field in fields {
+        let type_id = *field;
+        write!(text, " t{type_id}")?;
+    }
+    Ok(())
 }
 
 fn print_constant<A: Allocator>(
     text: &mut String<A>,
     constant: Constant,
 ) -> Result<(), AllocError> {
+    match constant.kind {
+        ConstantKind::Text => print_text(text, constant.bytes),
+        ConstantKind::Name | ConstantKind::Family => print_name(text, constant),
+    }
+}
+
+fn print_name<A: Allocator>(text: &mut String<A>, constant: Constant) -> Result<(), AllocError> {
     text.push_str(constant.kind.word())?;
     text.push(' ')?;
     for byte in constant.bytes {
-        if constant.kind == ConstantKind::Text && !is_plain(*byte) {
-            write!(text, "\\{byte:02x}")?;
-        } else {
-            text.push(char::from(*byte))?;
-        }
+        text.push(char::from(*byte))?;
     }
     text.push('\n')
+}
+
+fn print_text<A: Allocator>(text: &mut String<A>, bytes: &[u8]) -> Result<(), AllocError>
+    ensures { OnOk result (text.new.bytes.items ≡ text.old.bytes.items ++ ended (constant_item (code.Constant.Text bytes.now))) }
+{
+    text.push_str("text ")?;
+    print_escaped(text, bytes)?;
+    text.push('\n')
+}
+
+fn print_escaped<A: Allocator>(text: &mut String<A>, bytes: &[u8]) -> Result<(), AllocError>
+    ensures { OnOk result (text.new.bytes.items ≡ text.old.bytes.items ++ text_spelling bytes.now) }
+{
+    for byte in bytes {
+        print_byte(text, *byte)?;
+    }
+    Ok(())
+}
+
+fn print_byte<A: Allocator>(text: &mut String<A>, byte: u8) -> Result<(), AllocError>
+    ensures { OnOk result (text.new.bytes.items ≡ text.old.bytes.items ++ (if is_plain byte then byte ∷ [] else escaped byte)) }
+{
+    if is_plain(byte) {
+        return text.push(char::from(byte));
+    }
+    text.push('\\')?;
+    text.push(char::from(hex_digit(byte / 16)))?;
+    text.push(char::from(hex_digit(byte % 16)))
 }
 
 fn print_instruction<A: Allocator>(
     text: &mut String<A>,
     instruction: Instruction,
-) -> Result<(), AllocError> {
+) -> Result<(), AllocError>
+    ensures { OnOk result (text.new.bytes.items ≡ text.old.bytes.items ++ ended (instruction_item (instruction_of instruction))) }
+{
     let row = instruction.operation.row();
     text.push_str(row.text)?;
     print_operand(text, row.a, instruction.a)?;
     print_operand(text, row.b, instruction.b)?;
     print_operand(text, row.c, instruction.c)?;
-    print_number(text, row.number, instruction)?;
+    print_number(text, row.number, instruction.number)?;
     text.push('\n')
 }
 
@@ -80,7 +137,9 @@ fn print_operand<A: Allocator>(
     text: &mut String<A>,
     operand: Operand,
     n: u8,
-) -> Result<(), AllocError> {
+) -> Result<(), AllocError>
+    ensures { OnOk result (text.new.bytes.items ≡ text.old.bytes.items ++ with_spaces (operand_words (operand_of operand) n)) }
+{
     match operand {
         Operand::Unused => Ok(()),
         Operand::Optional if n == Instruction::NONE => text.push_str(" -"),
@@ -91,16 +150,20 @@ fn print_operand<A: Allocator>(
 fn print_number<A: Allocator>(
     text: &mut String<A>,
     kind: Number,
-    instruction: Instruction,
-) -> Result<(), AllocError> {
-    let number = instruction.number;
-    let type_id = instruction.type_id();
-    let constant = instruction.constant();
+    number: i32,
+) -> Result<(), AllocError>
+    ensures { OnOk result (text.new.bytes.items ≡ text.old.bytes.items ++ with_spaces (number_words (number_of kind) number)) }
+{
+    let n = number.unsigned_abs();
     match kind {
         Number::Unused => Ok(()),
         Number::Any | Number::Turns => write!(text, " {number}"),
-        Number::Type => write!(text, " t{type_id}"),
-        Number::Text => write!(text, " k{constant}"),
-        Number::TypedName => write!(text, " t{type_id} k{constant}"),
+        Number::Type => write!(text, " t{n}"),
+        Number::Text => write!(text, " k{n}"),
+        Number::TypedName => {
+            let type_id = n / 256;
+            let constant = n % 256;
+            write!(text, " t{type_id} k{constant}")
+        }
     }
 }

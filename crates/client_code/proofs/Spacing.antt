@@ -1,0 +1,44 @@
+-- The canonical lines of a client's text, from the pieces that are printed.
+use Rattle.std.proofs.Common.{◌≡◌, ℕ, ◌+◌, ◌<◌, List, [], ◌∷◌, ◌++◌, length, map, take, refl, sym, ap, ◌∙◌, append_assoc, append-nil, Ok, Err}
+use Rattle.std.specs.Prelude.{codes, flat_map, Result, OnOk, is_ok, if◌then◌else◌}
+use Rattle.client_spec.specs.Text.{Words, spaced}
+use Rattle.client_code.specs.Texts.{with_spaces}
+
+pub on_ok : {T E : Type 0} (r : Result T E) (P Q : Type 0) → (P → Q) → OnOk r P → OnOk r Q
+on_ok (Ok x) P Q f p = f p
+on_ok (Err e) P Q f p = p
+
+pub spaced_is : (word : List ℕ) (words : Words) → spaced (word ∷ words) ≡ word ++ with_spaces words
+spaced_is word [] = sym (append-nil word)
+spaced_is word (next ∷ words) = ap (λ xs. word ++ 32 ∷ xs) (spaced_is next words)
+
+pub spaces_two : (xs ys : Words) → with_spaces (xs ++ ys) ≡ with_spaces xs ++ with_spaces ys
+spaces_two [] ys = refl
+spaces_two (x ∷ xs) ys = ap (λ zs. (32 ∷ x) ++ zs) (spaces_two xs ys) ∙ sym (append_assoc (32 ∷ x) (with_spaces xs) (with_spaces ys))
+
+-- a line of a word and four groups of words behind it
+pub line_is : (word : List ℕ) (a b c n : Words) (old t0 t1 t2 t3 t4 new : List ℕ) → t0 ≡ old ++ word → t1 ≡ t0 ++ with_spaces a → t2 ≡ t1 ++ with_spaces b → t3 ≡ t2 ++ with_spaces c → t4 ≡ t3 ++ with_spaces n → new ≡ t4 ++ 10 ∷ [] → new ≡ old ++ (spaced ((((word ∷ a) ++ b) ++ c) ++ n) ++ 10 ∷ [])
+line_is word a b c n old t0 t1 t2 t3 t4 new e0 e1 e2 e3 e4 e =
+    let words : with_spaces (((a ++ b) ++ c) ++ n) ≡ ((with_spaces a ++ with_spaces b) ++ with_spaces c) ++ with_spaces n =
+    spaces_two ((a ++ b) ++ c) n ∙ ap (λ xs. xs ++ with_spaces n) (spaces_two (a ++ b) c ∙ ap (λ xs. xs ++ with_spaces c) (spaces_two a b)) in
+    let all : t4 ≡ old ++ (word ++ (((with_spaces a ++ with_spaces b) ++ with_spaces c) ++ with_spaces n)) =
+    e4 ∙ ap (λ xs. xs ++ with_spaces n) (e3 ∙ ap (λ xs. xs ++ with_spaces c) (e2 ∙ ap (λ xs. xs ++ with_spaces b) (e1 ∙ ap (λ xs. xs ++ with_spaces a) e0))) ∙ regroup old word (with_spaces a) (with_spaces b) (with_spaces c) (with_spaces n) in
+    e ∙ ap (λ xs. xs ++ 10 ∷ []) (all ∙ ap (λ xs. old ++ xs) (ap (λ xs. word ++ xs) (sym words) ∙ sym (spaced_is word (((a ++ b) ++ c) ++ n)))) ∙ append_assoc old _ (10 ∷ [])
+  where
+    regroup : (o w a b c n : List ℕ) → ((((o ++ w) ++ a) ++ b) ++ c) ++ n ≡ o ++ (w ++ (((a ++ b) ++ c) ++ n))
+    regroup o w a b c n = simp append_assoc
+
+-- one more word
+pub one_word : (words : Words) (word start text : List ℕ) → text ≡ start ++ with_spaces words → text ++ 32 ∷ word ≡ start ++ with_spaces (words ++ word ∷ [])
+one_word words word start text e =
+    ap (λ xs. xs ++ 32 ∷ word) e ∙ append_assoc start (with_spaces words) (32 ∷ word) ∙ ap (λ xs. start ++ xs) (ap (λ xs. with_spaces words ++ xs) (sym (append-nil (32 ∷ word))) ∙ sym (spaces_two words (word ∷ [])))
+
+pub struct_line : (words : Words) (old t0 t1 new : List ℕ) → t0 ≡ old ++ codes "type struct" → t1 ≡ t0 ++ with_spaces words → new ≡ t1 ++ 10 ∷ [] → new ≡ old ++ (spaced (codes "type" ∷ codes "struct" ∷ words) ++ 10 ∷ [])
+struct_line words old t0 t1 new e0 e1 e =
+    e ∙ ap (λ xs. xs ++ 10 ∷ []) (e1 ∙ ap (λ xs. xs ++ with_spaces words) e0 ∙ append_assoc old (codes "type struct") (with_spaces words) ∙ ap (λ xs. old ++ (codes "type " ++ xs)) (sym (spaced_is (codes "struct") words)))
+    ∙ append_assoc old (spaced (codes "type" ∷ codes "struct" ∷ words)) (10 ∷ [])
+
+-- what a push that succeeds leaves
+pub pushed : {T E : Type 0} (r : Result T E) (old more new : List ℕ) → new ≡ (if is_ok r then old ++ more else old) → OnOk r (new ≡ old ++ more)
+pushed (Ok x) old more new e = e
+pushed (Err x) old more new e = tt
