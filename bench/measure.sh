@@ -15,10 +15,10 @@ done
 : > "$work/nothing.text"
 "$segtool" asm "$work/nothing.text" "$work/nothing"
 
-# the least seconds of five runs of a command; what it prints goes to the file `printed`
+# the least seconds of three runs of a command; what it prints goes to the file `printed`
 seconds() {
   local least=999 took
-  for _ in 1 2 3 4 5; do
+  for _ in 1 2 3; do
     took=$( { TIMEFORMAT=%R; time "$@" > "$work/printed"; } 2>&1 )
     least=$(awk -v a="$least" -v b="$took" 'BEGIN { print (b < a) ? b : a }')
   done
