@@ -1,6 +1,6 @@
 -- The canonical lines of a client's text, from the pieces that are printed.
-use Rattle.std.proofs.Common.{◌≡◌, ℕ, ◌+◌, ◌<◌, List, [], ◌∷◌, ◌++◌, length, map, take, refl, sym, ap, ◌∙◌, append_assoc, append-nil, Ok, Err}
-use Rattle.std.specs.Prelude.{codes, flat_map, Result, OnOk, is_ok, if◌then◌else◌}
+use Rattle.std.proofs.Common.{◌≡◌, ℕ, List, [], ◌∷◌, ◌++◌, refl, sym, ap, ◌∙◌, append_assoc, append-nil, Ok, Err}
+use Rattle.std.specs.Prelude.{codes, Result, OnOk, is_ok, if◌then◌else◌}
 use Rattle.client_spec.specs.Text.{Words, spaced}
 use Rattle.client_code.specs.Texts.{with_spaces}
 
