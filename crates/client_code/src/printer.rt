@@ -114,10 +114,7 @@ fn print_fields<A: Allocator>(text: &mut String<A>, fields: &[TypeId]) -> Result
     Ok(())
 }
 
-fn print_constant<A: Allocator>(
-    text: &mut String<A>,
-    constant: Constant,
-) -> Result<(), AllocError>
+fn print_constant<A: Allocator>(text: &mut String<A>, constant: Constant) -> Result<(), AllocError>
     ensures { OnOk result (IsConstant (constant_of constant.entry) → text.new.bytes.items ≡ text.old.bytes.items ++ ended (constant_item (constant_of constant.entry))) }
 {
     match constant.kind {
@@ -127,11 +124,7 @@ fn print_constant<A: Allocator>(
     }
 }
 
-fn print_name<A: Allocator>(
-    text: &mut String<A>,
-    word: &str,
-    name: &[u8],
-) -> Result<(), AllocError>
+fn print_name<A: Allocator>(text: &mut String<A>, word: &str, name: &[u8]) -> Result<(), AllocError>
     ensures { OnOk result (All IsNameByte name.now → text.new.bytes.items ≡ text.old.bytes.items ++ (spaced (word.now ∷ name.now ∷ []) ++ 10 ∷ [])) }
 {
     text.push_str(word)?;
