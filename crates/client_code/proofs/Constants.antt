@@ -1,6 +1,6 @@
 -- Constants that stand one after the other in a file.
 use Rattle.std.proofs.Common.{◌≡◌, ◌≢◌, ℕ, ◌+◌, ◌<◌, ◌≤◌, List, [], ◌∷◌, ◌++◌, length, map, drop, get_or, refl, sym, ap, ◌∙◌, subst, arith, inl, inr, append_assoc}
-use Rattle.std.specs.Prelude.{⊤, flat_map, All, AllPairs, slice_index_or}
+use Rattle.std.specs.Prelude.{⊤, flat_map, All, AllPairs}
 use Rattle.std.specs.List.{AllByRecursion}
 use Rattle.std.proofs.lemmas.Bool.{cases_lt}
 use Rattle.std.proofs.lemmas.List.{length-append, flat_map_more, get_or_append_left, get_or_push, get_or_at, length_push, length-map, get_or-map}

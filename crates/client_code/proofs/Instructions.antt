@@ -1,14 +1,12 @@
 -- Instructions that stand one after the other in a file.
-use Rattle.std.proofs.Common.{◌≡◌, ℕ, ◌+◌, ◌*◌, ◌<◌, ◌≤◌, List, [], ◌∷◌, ◌++◌, length, map, take, drop, refl, sym, ap, ◌∙◌, subst, arith, Option, Some, None, append_assoc, append-nil, take-add}
-use Rattle.std.specs.Prelude.{⊤, flat_map}
+use Rattle.std.proofs.Common.{◌≡◌, ℕ, ◌+◌, ◌*◌, ◌<◌, ◌≤◌, List, [], ◌∷◌, ◌++◌, length, take, drop, refl, sym, ap, ◌∙◌, subst, arith, Some, None, append-nil, take-add}
+use Rattle.std.specs.Prelude.{flat_map}
 use Rattle.std.specs.List.{AllByRecursion}
 use Rattle.std.specs.Option.{option_and_then}
 use Rattle.std.proofs.lemmas.List.{length-append, length-drop, flat_map_more, map-append, drop-drop, take-append-drop, take_at, take_all}
-use Rattle.std.proofs.lemmas.Int.{ints}
 use Rattle.seg_spec.specs.Bytes.{slice}
 use Rattle.seg_spec.specs.Types.{Table}
 use Rattle.client_spec.specs.Code.{Constant, Operation, Instruction, Statements}
-use Rattle.client_spec.specs.Operations.{Place}
 use Rattle.client_spec.specs.Grammar.{mark, listing, instruction_bytes, IsInstruction}
 use Rattle.client_spec.proofs.Listed.{all_listed, all_two}
 use Rattle.client_spec.proofs.OneClient.{IsWord, instruction_front, mark_word}
@@ -76,8 +74,7 @@ module _ (file : List ℕ) (at : ℕ) (types : Table) (constants : List Constant
       let c = code_of types constants to.list to.right to.nested in
       let same : to.list ≡ listing c.0 = c.3 in
       let n = ap length same in
-      let count = to.count in
-      (
+      let count = to.count in (
         c.0,
         omega arith,
         record {

@@ -1,8 +1,12 @@
 -- The canonical lines of a client's text, from the pieces that are printed.
-use Rattle.std.proofs.Common.{◌≡◌, ℕ, ◌+◌, ◌<◌, List, [], ◌∷◌, ◌++◌, length, map, take, refl, sym, ap, ◌∙◌, append_assoc, append-nil, Ok, Err}
-use Rattle.std.specs.Prelude.{codes, flat_map, Result, OnOk, is_ok, if◌then◌else◌}
-use Rattle.client_spec.specs.Text.{Words, spaced}
-use Rattle.client_code.specs.Texts.{with_spaces}
+use Rattle.std.proofs.Common.{◌≡◌, ℕ, zero, suc, ◌+◌, ◌<◌, List, [], ◌∷◌, ◌++◌, length, map, take, get_or, refl, sym, ap, ◌∙◌, subst, arith, append_assoc, append-nil, Some, Ok, Err}
+use Rattle.std.specs.Prelude.{codes, flat_map, All, slice_get, Result, OnOk, is_ok, if◌then◌else◌}
+use Rattle.std.proofs.lemmas.List.{take_more, map_push, flat_map_more, length-map, get_or-map}
+use Rattle.client_spec.specs.Grammar.{IsConstant}
+use Rattle.client_spec.specs.Text.{Item, constant_item, Words, spaced}
+use Rattle.client_code.specs.declared.constant.Constant.{Constant}
+use Rattle.client_code.specs.Views.{constant_of, constants_of}
+use Rattle.client_code.specs.Texts.{with_spaces, ended}
 
 pub on_ok : {T E : Type 0} (r : Result T E) (P Q : Type 0) → (P → Q) → OnOk r P → OnOk r Q
 on_ok (Ok x) P Q f p = f p
@@ -42,3 +46,24 @@ struct_line words old t0 t1 new e0 e1 e =
 pub pushed : {T E : Type 0} (r : Result T E) (old more new : List ℕ) → new ≡ (if is_ok r then old ++ more else old) → OnOk r (new ≡ old ++ more)
 pushed (Ok x) old more new e = e
 pushed (Err x) old more new e = tt
+
+-- ---- lines
+
+pub get_there : {A : Type 0} (xs : List A) (k : ℕ) → k < length xs → (x : A) × (slice_get xs k ≡ Some x) × (get_or xs k x ≡ x)
+get_there [] k h = absurd (omega arith)
+get_there (x ∷ xs) zero h = (x, refl, refl)
+get_there (x ∷ xs) (suc k) h = get_there xs k (omega arith)
+
+-- one more line
+pub line_more : {A : Type 0} (item : A → Item) (xs : List A) (k : ℕ) (x : A) (start text new : List ℕ) → k < length xs → get_or xs k x ≡ x → text ≡ start ++ flat_map ended (map item (take k xs)) → new ≡ text ++ ended (item x) → new ≡ start ++ flat_map ended (map item (take (k + 1) xs))
+line_more item xs k x start text new h e t n =
+    let more : map item (take (k + 1) xs) ≡ map item (take k xs) ++ item x ∷ [] = ap (map item) (take_more xs k x h ∙ ap (λ y. take k xs ++ y ∷ []) e) ∙ map_push item (take k xs) x in
+    n ∙ ap (λ ys. ys ++ ended (item x)) t ∙ flat_map_more ended start (map item (take k xs)) (item x) ∙ ap (λ ys. start ++ flat_map ended ys) (sym more)
+
+pub constant_more : (xs : List Constant) (k : ℕ) (d : Constant) (start text new : List ℕ) → k < length xs → All IsConstant (constants_of xs) → text ≡ start ++ flat_map ended (map constant_item (take k (constants_of xs))) → (IsConstant (constant_of (get_or xs k d)) → new ≡ text ++ ended (constant_item (constant_of (get_or xs k d)))) → new ≡ start ++ flat_map ended (map constant_item (take (k + 1) (constants_of xs)))
+constant_more xs k d start text new h all t n =
+    let x = constant_of (get_or xs k d) in
+    let long = length-map xs constant_of in
+    let h' : k < length (constants_of xs) = omega arith in
+    let e : get_or (constants_of xs) k x ≡ x = get_or-map constant_of xs k d x h in
+    line_more constant_item (constants_of xs) k x start text new h' e t (n (subst IsConstant e (all k x h')))

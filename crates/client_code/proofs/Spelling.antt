@@ -1,5 +1,5 @@
 -- What reads of a client file's bytes make of them.
-use Rattle.std.proofs.Common.{◌≡◌, ℕ, ◌+◌, ◌-◌, ◌*◌, ◌<◌, ◌≤◌, Fits, w8, List, [], ◌∷◌, ◌++◌, length, take, drop, get_or, refl, sym, ap, ◌∙◌, subst, arith, rules}
+use Rattle.std.proofs.Common.{◌≡◌, ℕ, ◌+◌, ◌-◌, ◌*◌, ◌<◌, ◌≤◌, Fits, w8, List, [], ◌∷◌, ◌++◌, length, take, drop, get_or, refl, sym, ap, ◌∙◌, arith, rules}
 use Rattle.std.specs.Prelude.{◌≢◌, slice_index, IsTrue, nat_le, All, Option, Some, None, IfSome, IfNone}
 use Rattle.std.proofs.lemmas.List.{get_or_default, take_rest, drop-drop, length-take-le, take-append-drop}
 use Rattle.seg_spec.specs.Bytes.{spelled, number, slice}

@@ -1,10 +1,10 @@
 -- The type entries of a client file: all of them are used.
-use Rattle.std.proofs.Common.{◌≡◌, ℕ, ◌+◌, ◌-◌, ◌*◌, ◌<◌, ◌≤◌, List, [], ◌++◌, length, get_or, replicate, refl, sym, ap, ◌∙◌, subst, arith, inl, inr, append-nil}
+use Rattle.std.proofs.Common.{◌≡◌, ℕ, ◌+◌, ◌-◌, ◌*◌, ◌<◌, ◌≤◌, List, [], ◌++◌, length, get_or, replicate, sym, ap, ◌∙◌, arith, inl, inr, append-nil}
 use Rattle.std.specs.Prelude.{flat_map}
 use Rattle.std.proofs.lemmas.Bool.{cases_lt}
 use Rattle.std.proofs.lemmas.List.{length-append}
 use Rattle.seg_spec.specs.Bytes.{slice}
-use Rattle.seg_spec.specs.Types.{Table, IsTable, Spells, IsUsed, form_bytes, padded}
+use Rattle.seg_spec.specs.Types.{Table, IsTable, Spells, IsUsed, form_bytes}
 use Rattle.seg_spec.proofs.EntryLaws.{length-table, kind_at, no_kind_at}
 use Rattle.client_spec.proofs.OneClient.{all_long}
 use Rattle.client_code.specs.Files.{AreTypes}

@@ -1,15 +1,14 @@
 -- A client file is its parts, and the parts are the file.
-use Rattle.std.proofs.Common.{◌≡◌, ℕ, zero, suc, ◌+◌, ◌-◌, ◌*◌, ◌/◌, ◌%◌, ◌^◌, ◌<◌, ◌≤◌, List, [], ◌∷◌, ◌++◌, length, take, drop, get_or, refl, sym, ap, ◌∙◌, subst, arith, append_assoc, append-nil, Fits, w8}
+use Rattle.std.proofs.Common.{◌≡◌, ℕ, zero, suc, ◌+◌, ◌*◌, ◌/◌, ◌%◌, ◌^◌, ◌<◌, ◌≤◌, List, [], ◌∷◌, ◌++◌, length, take, drop, get_or, refl, sym, ap, ◌∙◌, subst, arith, append_assoc, append-nil}
 use Rattle.std.specs.Prelude.{⊤, flat_map, codes, slice_get, ◌≢◌, FitsSigned, IfSome, IfNone, Option, Some, None, Result, Ok, Err, IfErr}
 use Rattle.std.specs.List.{AllByRecursion}
-use Rattle.std.proofs.lemmas.List.{length-append, length-take, length-drop, drop-drop, take-append-drop, take_at, drop_at, get_or-take, get_or-drop, drop_all, nil_from_length, length-map}
-use Rattle.seg_spec.specs.Bytes as bytes
+use Rattle.std.proofs.lemmas.List.{length-append, drop-drop, take-append-drop, take_at, drop_at, get_or-drop, nil_from_length, length-map}
 use Rattle.seg_spec.specs.Bytes.{slice, spelled, spelling, number}
 use Rattle.seg_spec.specs.Types.{Table, form_bytes}
 use Rattle.seg_spec.proofs.BytesLaws.{number_in, length-slice, length-spelling, spelled-spelling}
 use Rattle.seg_spec.proofs.EntryLaws.{length-table, one_table}
 use Rattle.client_spec.specs.Code.{Constant, Statements, Client}
-use Rattle.client_spec.specs.Grammar.{word, constant_bytes, instruction_bytes, listing, IsClient, Spells}
+use Rattle.client_spec.specs.Grammar.{word, constant_bytes, instruction_bytes, listing, Spells}
 use Rattle.client_spec.specs.Code.{Instruction}
 use Rattle.client_spec.proofs.OneClient.{constant_front, instruction_front, IsWord, words, all_long, spelling_is, behind}
 use Rattle.std.specs.Int.{w32}
@@ -271,13 +270,12 @@ at_list [] i h = absurd (omega arith)
 at_list (j ∷ is) zero h = (j, flat_map instruction_bytes is, refl, refl)
 at_list (x ∷ is) (suc i) h =
     let r = at_list is i (omega arith) in
-    let eight : 8 * suc i ≡ 8 + 8 * i = omega arith in
-    (
+    let eight : 8 * suc i ≡ 8 + 8 * i = omega arith in (
       r.0,
       r.1,
       r.2,
       ap (λ n. drop n (instruction_bytes x ++ flat_map instruction_bytes is)) eight ∙ sym (drop-drop (8 * i) 8 (instruction_bytes x ++ flat_map instruction_bytes is))
-      ∙ ap (drop (8 * i)) (drop_at (instruction_bytes x) (flat_map instruction_bytes is) 8 refl) ∙ r.3,
+          ∙ ap (drop (8 * i)) (drop_at (instruction_bytes x) (flat_map instruction_bytes is) 8 refl) ∙ r.3,
     )
 
 some_word : (is : List Instruction) (i : ℕ) (j : Instruction) → AllByRecursion IsWord is → slice_get is i ≡ Some j → IsWord j
@@ -291,8 +289,7 @@ unfolding slice
 instruction_there file tree spells i h =
     let code = (spelled_parts file tree spells).code in
     let r = at_list (listing tree.code) i h in
-    let ends = code.ends in
-    (
+    let ends = code.ends in (
       r.0,
       r.2,
       some_word (listing tree.code) i r.0 (words tree.types tree.constants tree.code code.right) r.2,

@@ -1,7 +1,7 @@
 -- The parts that are open at a place of code, the innermost first.
 --     passed parts place     those that are open behind an instruction, if it may stand here
 --     passed_all parts places     the same for several instructions
-use Rattle.std.specs.Prelude.{ℕ, List, [], ◌∷◌, length, reverse, Option, Some, None, nat_lt, if◌then◌else◌}
+use Rattle.std.specs.Prelude.{List, [], ◌∷◌, length, reverse, Option, Some, None, nat_lt, if◌then◌else◌}
 use Rattle.std.specs.Option.{option_and_then}
 use Rattle.client_spec.specs.Operations.{Place}
 use Rattle.client_code.specs.declared.nesting.Part.{Part}

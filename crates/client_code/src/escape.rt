@@ -21,7 +21,11 @@ pub fn hex_digit(value: u8) -> u8
     ensures digit { result ≡ hex_digit value }
     ensures ascii { result < 128 }
 {
-    if value < 10 { b'0' + value } else { b'a' + (value - 10) }
+    if value < 10 {
+        b'0' + value
+    } else {
+        b'a' + (value - 10)
+    }
 }
 
 /// The value of a lower case hexadecimal digit.

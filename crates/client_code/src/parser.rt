@@ -25,11 +25,7 @@ fn differs_from(others: &[Constant], constant: Constant) -> bool
 }
 
 /// The constant that begins at a position, behind these, and the position behind it.
-fn next_constant<'a>(
-    file: &'a [u8],
-    at: u32,
-    before: &[Constant],
-) -> Option<(Constant<'a>, u32)>
+fn next_constant<'a>(file: &'a [u8], at: u32, before: &[Constant]) -> Option<(Constant<'a>, u32)>
     requires { at ≤ 2 ^ 31 }
     ensures spelled { IfSome result (λ found. drop at file.now ≡ constant_bytes (constant_of found.0) ++ drop found.1 file.now) }
     ensures right { IfSome result (λ found. IsConstant (constant_of found.0)) }

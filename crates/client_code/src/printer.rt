@@ -1,10 +1,10 @@
-ghost use Rattle.std.specs.Prelude.{◌≡◌, ◌∷◌, [], ◌++◌, if◌then◌else◌, OnOk, IfOk, IfErr, flat_map, map};
+ghost use Rattle.std.specs.Prelude.{◌≡◌, ◌∷◌, [], ◌++◌, if◌then◌else◌, OnOk, IfOk, IfErr, All, Some, slice_get, flat_map, map};
 ghost use Rattle.seg_layout.specs.Forms.{form_of};
-ghost use Rattle.seg_spec.specs.Types.{Form};
+ghost use Rattle.seg_spec.specs.Types.{Form, form_at};
 ghost use Rattle.client_spec.specs.Code as code;
-ghost use Rattle.client_spec.specs.Grammar.{Spells, listing};
-ghost use Rattle.client_spec.specs.Text.{type_item, constant_item, instruction_item, operand_words, number_words, type_word, is_plain, escaped, text_spelling, text_of};
-ghost use Rattle.client_code.specs.Views.{operand_of, number_of, constant_of, instruction_of};
+ghost use Rattle.client_spec.specs.Grammar.{Spells, listing, IsConstant, IsNameByte};
+ghost use Rattle.client_spec.specs.Text.{type_item, constant_item, instruction_item, operand_words, number_words, type_word, is_plain, escaped, text_spelling, spaced, text_of};
+ghost use Rattle.client_code.specs.Views.{operand_of, number_of, constant_of, constants_of, instruction_of};
 ghost use Rattle.client_code.specs.Texts.{with_spaces, ended};
 ghost use Rattle.client_code.specs.Clients.{bytes_of};
 
@@ -13,29 +13,72 @@ use crate::constant::{Constant, ConstantKind};
 use crate::escape::{hex_digit, is_plain};
 use crate::instruction::Instruction;
 use crate::table::{Number, Operand};
-use seg_layout::{Type, TypeId};
+use seg_layout::{Type, TypeId, TypeTable};
 use seg_raw::Fault;
 use std::alloc::{AllocError, Allocator};
 use std::fmt::Write;
 
 /// The canonical text of a client. `Memory` where memory was refused.
-pub fn print<A: Allocator>(alloc: A, client: &Client) -> Result<Vec<u8, A>, Fault> {
+pub fn print<A: Allocator>(alloc: A, client: &Client) -> Result<Vec<u8, A>, Fault>
+    ensures { IfOk result (λ text. (tree : code.Client) → Spells (bytes_of client.now) tree → text.items ≡ text_of tree) }
+{
     let mut text = String::new(alloc);
-    let types = client.types();
-    for type_id in 0..types.len() as u8 {
-        if let Some(kind) = types.kind(type_id) {
-            print_type(&mut text, kind)?;
-        }
-    }
-    for constant in client.constants().iter() {
-        print_constant(&mut text, *constant)?;
-    }
-    for i in 0..client.instruction_count() {
-        if let Some(instruction) = client.instruction(i) {
-            print_instruction(&mut text, instruction)?;
-        }
-    }
+    print_types(&mut text, &client.types())?;
+    print_constants(&mut text, client.constants().as_slice())?;
+    print_code(&mut text, client)?;
     Ok(text.into_bytes())
+}
+
+fn print_types<A: Allocator>(text: &mut String<A>, types: &TypeTable) -> Result<(), AllocError>
+    ensures { OnOk result (text.new.bytes.items ≡ text.old.bytes.items ++ flat_map ended (map type_item types.now)) }
+{
+    for type_id in 0..types.len() as u8 {
+        print_entry(text, types, type_id)?;
+    }
+    Ok(())
+}
+
+fn print_entry<A: Allocator>(
+    text: &mut String<A>,
+    types: &TypeTable,
+    type_id: TypeId,
+) -> Result<(), AllocError>
+    ensures { OnOk result ((form : Form) → form_at types.now type_id ≡ Some form → text.new.bytes.items ≡ text.old.bytes.items ++ ended (type_item form)) }
+{
+    match types.kind(type_id) {
+        Some(kind) => print_type(text, kind),
+        None => Ok(()),
+    }
+}
+
+fn print_constants<A: Allocator>(
+    text: &mut String<A>,
+    constants: &[Constant],
+) -> Result<(), AllocError>
+    ensures { OnOk result (All IsConstant (constants_of constants.now) → text.new.bytes.items ≡ text.old.bytes.items ++ flat_map ended (map constant_item (constants_of constants.now))) }
+{
+    for constant in constants {
+        print_constant(text, *constant)?;
+    }
+    Ok(())
+}
+
+fn print_code<A: Allocator>(text: &mut String<A>, client: &Client) -> Result<(), AllocError>
+    ensures { OnOk result ((tree : code.Client) → Spells (bytes_of client.now) tree → text.new.bytes.items ≡ text.old.bytes.items ++ flat_map ended (map instruction_item (listing tree.code))) }
+{
+    for i in 0..client.instruction_count() {
+        print_at(text, client, i)?;
+    }
+    Ok(())
+}
+
+fn print_at<A: Allocator>(text: &mut String<A>, client: &Client, i: u32) -> Result<(), AllocError>
+    ensures { OnOk result ((tree : code.Client) (instruction : code.Instruction) → Spells (bytes_of client.now) tree → slice_get (listing tree.code) i ≡ Some instruction → text.new.bytes.items ≡ text.old.bytes.items ++ ended (instruction_item instruction)) }
+{
+    match client.instruction(i) {
+        Some(instruction) => print_instruction(text, instruction),
+        None => Ok(()),
+    }
 }
 
 fn print_type<A: Allocator>(text: &mut String<A>, kind: Type) -> Result<(), AllocError>
@@ -71,23 +114,32 @@ fn print_fields<A: Allocator>(text: &mut String<A>, fields: &[TypeId]) -> Result
     Ok(())
 }
 
-fn print_constant<A: Allocator>(
-    text: &mut String<A>,
-    constant: Constant,
-) -> Result<(), AllocError> {
+fn print_constant<A: Allocator>(text: &mut String<A>, constant: Constant) -> Result<(), AllocError>
+    ensures { OnOk result (IsConstant (constant_of constant.entry) → text.new.bytes.items ≡ text.old.bytes.items ++ ended (constant_item (constant_of constant.entry))) }
+{
     match constant.kind {
         ConstantKind::Text => print_text(text, constant.bytes),
-        ConstantKind::Name | ConstantKind::Family => print_name(text, constant),
+        ConstantKind::Name => print_name(text, "name", constant.bytes),
+        ConstantKind::Family => print_name(text, "family", constant.bytes),
     }
 }
 
-fn print_name<A: Allocator>(text: &mut String<A>, constant: Constant) -> Result<(), AllocError> {
-    text.push_str(constant.kind.word())?;
+fn print_name<A: Allocator>(text: &mut String<A>, word: &str, name: &[u8]) -> Result<(), AllocError>
+    ensures { OnOk result (All IsNameByte name.now → text.new.bytes.items ≡ text.old.bytes.items ++ (spaced (word.now ∷ name.now ∷ []) ++ 10 ∷ [])) }
+{
+    text.push_str(word)?;
     text.push(' ')?;
-    for byte in constant.bytes {
+    print_plain(text, name)?;
+    text.push('\n')
+}
+
+fn print_plain<A: Allocator>(text: &mut String<A>, name: &[u8]) -> Result<(), AllocError>
+    ensures { OnOk result (All IsNameByte name.now → text.new.bytes.items ≡ text.old.bytes.items ++ name.now) }
+{
+    for byte in name {
         text.push(char::from(*byte))?;
     }
-    text.push('\n')
+    Ok(())
 }
 
 fn print_text<A: Allocator>(text: &mut String<A>, bytes: &[u8]) -> Result<(), AllocError>

@@ -1,6 +1,5 @@
-use Rattle.std.proofs.Common.{◌≡◌, ◌+◌, ◌*◌, ◌<◌, ◌++◌, [], length, refl, sym, ap, ◌∙◌, subst, arith}
+use Rattle.std.proofs.Common.{◌≡◌, ◌++◌, [], sym, ap, ◌∙◌, subst, arith}
 use Rattle.std.proofs.lemmas.Bool.{false≢true}
-use Rattle.client_spec.specs.Grammar.{listing}
 use Rattle.client_spec.proofs.OneClient.{instruction_front}
 use Rattle.client_code.specs.Views.{constants_of, instruction_of}
 use Rattle.client_code.specs.Parts.{passed, open_parts}

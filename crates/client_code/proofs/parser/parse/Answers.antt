@@ -1,4 +1,4 @@
-use Rattle.std.proofs.Common.{ap, sym, ◌∙◌, subst, arith}
+use Rattle.std.proofs.Common.{sym, ◌∙◌, subst}
 use Rattle.std.proofs.lemmas.List.{length-map}
 use Rattle.std.proofs.lemmas.Grind.{merely}
 use Rattle.client_spec.specs.Code.{Client}
@@ -38,7 +38,7 @@ returns-clause-found c =
 pub returns-in_err-header-clause-wrong : goal.returns-in_err-header-clause-wrong
 returns-in_err-header-clause-wrong c =
     no_matter c.from_residual.result _ (λ (tree : Client) (spells : Spells c.args.file.now tree).
-        c.in_err-header.ensures.wrong _ _ _ spells.valid.types.few spells.valid.few_constants spells.valid.few_instructions (spelled_parts c.args.file.now tree spells).header)
+    c.in_err-header.ensures.wrong _ _ _ spells.valid.types.few spells.valid.few_constants spells.valid.few_instructions (spelled_parts c.args.file.now tree spells).header)
 
 pub returns-in_err-types-clause-wrong : goal.returns-in_err-types-clause-wrong
 returns-in_err-types-clause-wrong c =

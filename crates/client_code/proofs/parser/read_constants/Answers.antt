@@ -1,11 +1,11 @@
-use Rattle.std.proofs.Common.{◌+◌, ◌<◌, length, sym, ap, ◌∙◌, subst, arith}
+use Rattle.std.proofs.Common.{sym, ap, ◌∙◌, subst, arith}
 use Rattle.std.proofs.lemmas.List.{map_push, length-map}
 use Rattle.std.specs.Prelude.{All}
 use Rattle.client_spec.specs.Grammar.{Differ}
 use Rattle.client_code.specs.declared.constant.Constant.{Constant}
 use Rattle.client_code.specs.Views.{constant_of, constants_of}
 use Rattle.client_code.specs.Files.{AreConstants}
-use Rattle.client_code.proofs.Constants.{begins, one_more, none_more, all_map, map_all}
+use Rattle.client_code.proofs.Constants.{one_more, none_more, all_map, map_all}
 use Rattle.client_code.proofs.parser.read_constants.Goals as goal
 
 pub loop-preserved : goal.loop-preserved

@@ -1,6 +1,5 @@
 use Rattle.std.proofs.Common.{refl, ◌∙◌}
-use Rattle.std.proofs.Common.{◌≡◌, ◌*◌, ◌+◌, length, sym, ap, subst, arith}
-use Rattle.seg_spec.specs.Bytes.{slice}
+use Rattle.std.proofs.Common.{◌*◌, sym, subst, arith}
 use Rattle.seg_spec.specs.Types.{IsUsed}
 use Rattle.seg_raw.proofs.Numbers.{slice_from}
 use Rattle.client_code.proofs.types.used_entries.Goals as goal

@@ -1,5 +1,4 @@
-use Rattle.client_code.proofs.Nested.{code_of, code_closes, passed_more}
-use Rattle.std.proofs.Common.{◌≡◌, ◌∷◌, [], ◌++◌, Some, rules, ap, ◌∙◌, arith}
+use Rattle.std.proofs.Common.{◌≡◌, ◌++◌, Some, rules, ap, ◌∙◌, arith}
 use Rattle.std.specs.Option.{option_to_list}
 use Rattle.client_code.specs.declared.nesting.Part.TheVariants as part
 use Rattle.client_code.specs.Views.{place_of}

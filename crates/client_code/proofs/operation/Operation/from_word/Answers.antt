@@ -1,4 +1,4 @@
-use Rattle.std.proofs.Common.{◌≡◌, sym, ap, ◌∙◌, arith, below_more}
+use Rattle.std.proofs.Common.{sym, ap, ◌∙◌, arith, below_more}
 use Rattle.std.proofs.lemmas.List.{get_or_default}
 use Rattle.std.proofs.lemmas.Bool.{false≢true}
 use Rattle.std.proofs.lemmas.Bool.Decides.{Decides-eqb}
@@ -16,9 +16,9 @@ pub loop-row-preserved : goal.loop-row-preserved
 loop-row-preserved c =
     let all = fifty c.rows-row-items.result.now c.rows-row-items.ensures.same in
     λ d. below_more _ _ (c.loop-row.invariant d) (λ same.
-        let one = get_or_default c.rows-row-items.result.now c.loop-row.row-index _ d (let t = c.loop-row-test.true in omega arith) in
-        let yes = (slice_eq-Decides Decides-eqb _ _ _ c.eq.ensures).1 (c.as_bytes.ensures.value ∙ ap (λ row. row.text.now) one ∙ same) in
-        false≢true (sym c.if-eq.false ∙ yes))
+    let one = get_or_default c.rows-row-items.result.now c.loop-row.row-index _ d (let t = c.loop-row-test.true in omega arith) in
+    let yes = (slice_eq-Decides Decides-eqb _ _ _ c.eq.ensures).1 (c.as_bytes.ensures.value ∙ ap (λ row. row.text.now) one ∙ same) in
+    false≢true (sym c.if-eq.false ∙ yes))
 
 pub returns-clause-none : goal.returns-clause-none
 returns-clause-none c operation e =
