@@ -7,10 +7,15 @@ use std::ops::Bound;
 use std::test::Fail;
 
 const EXISTS: i64 = 1;
+
 const NO_ROOM: i64 = 2;
+
 const ABSENT: i64 = 3;
+
 const OTHER_TYPE: i64 = 4;
+
 const OUT_OF_RANGE: i64 = 5;
+
 const NONE: i64 = 6;
 
 /// What an opener gives, or its code.
@@ -67,7 +72,12 @@ impl AbstractRun<'_> {
     }
 
     /// Makes the object of a name where the real run found room for it.
-    fn make_named(&self, objects: &mut Objects, i: Instruction, count: i64) -> Result<Answer, Fail> {
+    fn make_named(
+        &self,
+        objects: &mut Objects,
+        i: Instruction,
+        count: i64,
+    ) -> Result<Answer, Fail> {
         if !self.found_room() {
             return Ok(Err(NO_ROOM));
         }
@@ -78,7 +88,11 @@ impl AbstractRun<'_> {
     }
 
     fn make(&self, objects: &mut Objects, i: Instruction) -> Result<Answer, Fail> {
-        let count = if i.c == Instruction::NONE { 1 } else { self.number(i.c) };
+        let count = if i.c == Instruction::NONE {
+            1
+        } else {
+            self.number(i.c)
+        };
         if !(1..=65_535).contains(&count) {
             return Ok(Err(OUT_OF_RANGE));
         }
@@ -89,7 +103,11 @@ impl AbstractRun<'_> {
     }
 
     /// The object of a name, if it has the instruction's type.
-    fn named<'o>(&self, objects: &'o Objects, i: Instruction) -> Result<Result<&'o Object, i64>, Fail> {
+    fn named<'o>(
+        &self,
+        objects: &'o Objects,
+        i: Instruction,
+    ) -> Result<Result<&'o Object, i64>, Fail> {
         let name = self.name(i)?;
         Ok(match objects.named.get(&name) {
             None => Err(ABSENT),
@@ -99,7 +117,11 @@ impl AbstractRun<'_> {
     }
 
     fn find(&self, objects: &Objects, i: Instruction) -> Result<Answer, Fail> {
-        let item = if i.c == Instruction::NONE { 0 } else { self.number(i.c) };
+        let item = if i.c == Instruction::NONE {
+            0
+        } else {
+            self.number(i.c)
+        };
         self.item(objects, i, item)
     }
 
@@ -147,9 +169,10 @@ impl AbstractRun<'_> {
             return Err(Fail::from("no sequence"));
         };
         let answer = self.with_room(objects, item as u8)?;
-        if let (Ok(Register::Value(value)), Some(Content::Items(items))) =
-            (answer, objects.content(container))
-        {
+        if let (Ok(Register::Value(value)), Some(Content::Items(items))) = (
+            answer,
+            objects.content(container),
+        ) {
             if i.operation == Operation::PushFront {
                 items.insert(0, value)?;
             } else {
@@ -170,9 +193,10 @@ impl AbstractRun<'_> {
             }
         }
         let answer = self.with_room(objects, item as u8)?;
-        if let (Ok(Register::Value(value)), Some(Content::Keyed(entries))) =
-            (answer, objects.content(map))
-        {
+        if let (Ok(Register::Value(value)), Some(Content::Keyed(entries))) = (
+            answer,
+            objects.content(map),
+        ) {
             let _ = entries.insert(key, value)?;
         }
         Ok(answer)
@@ -210,8 +234,13 @@ impl AbstractRun<'_> {
         let c = self.number(i.c);
         match i.operation {
             Operation::At => {
-                let byte = usize::try_from(c).ok().and_then(|index| text.get(index).copied());
-                return Ok(byte.map(|byte| Register::Number(i64::from(byte))).ok_or(OUT_OF_RANGE));
+                let byte = usize::try_from(c)
+                    .ok()
+                    .and_then(|index| text.get(index).copied());
+                return Ok(
+                    byte.map(|byte| Register::Number(i64::from(byte)))
+                        .ok_or(OUT_OF_RANGE),
+                );
             }
             Operation::PopBack => {
                 if text.pop().is_none() {

@@ -109,7 +109,9 @@ impl<'a> AbstractRun<'a> {
     /// The bytes of a constant.
     pub(crate) fn constant(&self, i: Instruction) -> &'a [u8] {
         let constants = self.client.constants();
-        constants.get(i.constant() as usize).map_or(&[], |constant| constant.bytes)
+        constants
+            .get(i.constant() as usize)
+            .map_or(&[], |constant| constant.bytes)
     }
 
     /// The name that an instruction gives.
@@ -148,7 +150,11 @@ impl<'a> AbstractRun<'a> {
                 self.count_step();
                 let opens = self.open(objects, i)?;
                 self.parts.push(Part::Opener)?;
-                self.go_behind(if opens { self.at } else { self.mark(Place::Else) });
+                self.go_behind(if opens {
+                    self.at
+                } else {
+                    self.mark(Place::Else)
+                });
             }
             Place::Loop => {
                 self.count_step();
@@ -178,7 +184,10 @@ impl<'a> AbstractRun<'a> {
     /// The end of a part: a loop makes another turn while its number isn't 0.
     fn end(&mut self) -> Result<(), Fail> {
         if let Some(Part::Loop { start, turns }) = self.parts.pop() {
-            let test = self.client.instruction(start).map_or(0, |i| self.number(i.b));
+            let test = self
+                .client
+                .instruction(start)
+                .map_or(0, |i| self.number(i.b));
             if test != 0 && turns > 0 {
                 self.count_step();
                 self.parts.push(Part::Loop {

@@ -240,7 +240,8 @@ fn lists_of_numbers(rt: HostRuntime) -> Result<(), Fail> {
 
 /// Prints the keys of the map m: the first, the next, and the code behind the last.
 fn print_keys(alloc: Global, kind: &str) -> Result<String, AllocError> {
-    format!(in alloc; "type i64
+    format!(in alloc;
+        "type i64
         type {kind} t0
         name m
         CONST r1 -2147483648
@@ -268,7 +269,8 @@ fn print_keys(alloc: Global, kind: &str) -> Result<String, AllocError> {
           ELSE
           END
         ELSE
-        END")
+        END"
+    )
 }
 
 /// The least and the greatest number are keys, of both kinds of maps.

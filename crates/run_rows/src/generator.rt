@@ -172,7 +172,11 @@ impl Generator {
                 self.enter(Close::If)
             }
             _ => {
-                write!(self.text, "WHILE r{b} {}\n", self.random.below(3).wrapping_add(1))?;
+                write!(
+                    self.text,
+                    "WHILE r{b} {}\n",
+                    self.random.below(3).wrapping_add(1)
+                )?;
                 self.enter(Close::Loop)
             }
         }
@@ -218,7 +222,10 @@ impl Generator {
     }
 
     fn count(&mut self, t: usize, k: u32, n: &str) -> Result<(), AllocError> {
-        write!(self.text, "COUNT r15 {n} t{t} k{k}\nOUTC k3\nOUTI r15\nELSE\nOUTI r15\nEND\n")
+        write!(
+            self.text,
+            "COUNT r15 {n} t{t} k{k}\nOUTC k3\nOUTI r15\nELSE\nOUTI r15\nEND\n"
+        )
     }
 
     fn kill(&mut self, t: usize, k: u32, n: &str) -> Result<(), AllocError> {
@@ -302,7 +309,8 @@ impl Generator {
             6 => return write!(self.text, "LEN r15 r{b}\nOUTI r15\n"),
             _ => return write!(self.text, "OUTS r{b}\nOUTC k6\n"),
         }
-        self.text.push_str("OUTC k3\nOUTI r15\nELSE\nOUTI r15\nEND\n")
+        self.text
+            .push_str("OUTC k3\nOUTI r15\nELSE\nOUTI r15\nEND\n")
     }
 
     fn on_sequence(&mut self, part: Part, t: usize, item: usize) -> Result<(), AllocError> {
@@ -327,7 +335,10 @@ impl Generator {
     fn shorter(&mut self, part: Part, operation: &str) -> Result<(), AllocError> {
         let b = part.register;
         self.end_others(part.class, b);
-        write!(self.text, "{operation} r15 r{b}\nOUTC k3\nOUTI r15\nELSE\nOUTI r15\nEND\n")
+        write!(
+            self.text,
+            "{operation} r15 r{b}\nOUTC k3\nOUTI r15\nELSE\nOUTI r15\nEND\n"
+        )
     }
 
     fn on_map(&mut self, part: Part, t: usize, item: usize) -> Result<(), AllocError> {
@@ -354,7 +365,8 @@ impl Generator {
             0 => write!(self.text, "FIRSTK r15 r{b}\n")?,
             _ => write!(self.text, "NEXTK r15 r{b} r{n}\n")?,
         }
-        self.text.push_str("OUTC k3\nOUTI r15\nELSE\nOUTI r15\nEND\n")
+        self.text
+            .push_str("OUTC k3\nOUTI r15\nELSE\nOUTI r15\nEND\n")
     }
 
     fn on_own(&mut self, part: Part, held: usize) -> Result<(), AllocError> {
@@ -371,7 +383,10 @@ impl Generator {
             }
             _ => {
                 self.end_others(part.class, b);
-                write!(self.text, "NEW r{a} t{held}\nOUTC k3\nPUT r{b} r{a}\nELSE\nOUTI r{a}\nEND\n")
+                write!(
+                    self.text,
+                    "NEW r{a} t{held}\nOUTC k3\nPUT r{b} r{a}\nELSE\nOUTI r{a}\nEND\n"
+                )
             }
         }
     }

@@ -80,9 +80,19 @@ fn host_bytes_stay_where_it_moves(rt: HostRuntime) -> Result<(), Fail> {
     let bytes = region.slice(0, region.len() as usize);
     assert!(rt; is_untouched(bytes.get(784..4096).unwrap_or(b"short")));
     assert!(rt; is_untouched(bytes.get(4880..8192).unwrap_or(b"short")));
-    let region = increments(&rt, 0, &[Move { step: 5, base: 4096 }])?;
+    let region = increments(
+        &rt,
+        0,
+        &[Move {
+            step: 5,
+            base: 4096,
+        }],
+    )?;
     let bytes = region.slice(0, region.len() as usize);
-    assert_eq!(rt; bytes.get(..784).unwrap_or(&[]), counter(rt.alloc())?.as_slice());
+    assert_eq!(rt;
+        bytes.get(..784).unwrap_or(&[]),
+        counter(rt.alloc())?.as_slice()
+    );
     Ok(())
 }
 
@@ -92,10 +102,22 @@ fn moves_that_do_not_fit(rt: HostRuntime) -> Result<(), Fail> {
     let segment = placed(rt.alloc(), 0)?;
     let fits = Move { step: 2, base: 16 };
     for (second, wanted) in [
-        (Move { step: 3, base: 7408 }, None),
+        (
+            Move {
+                step: 3,
+                base: 7408,
+            },
+            None,
+        ),
         (Move { step: 2, base: 0 }, Some(1)),
         (Move { step: 3, base: 8 }, Some(1)),
-        (Move { step: 3, base: 7424 }, Some(1)),
+        (
+            Move {
+                step: 3,
+                base: 7424,
+            },
+            Some(1),
+        ),
     ] {
         assert_eq!(rt; moves_fit(&segment, &[fits, second]), wanted);
     }

@@ -86,7 +86,12 @@ fn makes_two_objects(rt: HostRuntime) -> Result<(), Fail> {
         name y
         KILL r0 - t0 k0
         KILL r0 - t0 k1";
-    for (kind, free) in [(SEQ_FLAT, 208), (BEST_FLAT, 208), (SEQ_TREE, 160), (BEST_TREE, 160)] {
+    for (kind, free) in [
+        (SEQ_FLAT, 208),
+        (BEST_FLAT, 208),
+        (SEQ_TREE, 160),
+        (BEST_TREE, 160),
+    ] {
         let made = run_anew(rt.alloc(), 1024, kind, &[make])?;
         leaves(&rt, &made, "1\n", free, 2)?;
         let killed = run_on(rt.alloc(), made.image.as_slice(), &[kill])?;
@@ -151,7 +156,10 @@ fn objects_of_many_values(rt: HostRuntime) -> Result<(), Fail> {
         END";
     for kind in KINDS {
         let ran = run_anew(rt.alloc(), 1024, kind, &[text])?;
-        assert_eq!(rt; ran.out.as_slice(), b"3\n9\n5\n5\n4\n3\n5\n1\n4\n".as_slice());
+        assert_eq!(rt;
+            ran.out.as_slice(),
+            b"3\n9\n5\n5\n4\n3\n5\n1\n4\n".as_slice()
+        );
     }
     Ok(())
 }
@@ -224,10 +232,16 @@ fn reads_the_input(rt: HostRuntime) -> Result<(), Fail> {
           OUTI r0
         END";
     let image = empty(rt.alloc(), 736, SEQ_FLAT)?;
-    let setting = Setting { input: b"A", ..PLAIN };
+    let setting = Setting {
+        input: b"A",
+        ..PLAIN
+    };
     let ran = run_in(rt.alloc(), image.as_slice(), &[twice], setting)?;
     leaves(&rt, &ran, "65\n6\n", 32, 0)?;
-    let setting = Setting { input: b"AB", ..PLAIN };
+    let setting = Setting {
+        input: b"AB",
+        ..PLAIN
+    };
     let ran = run_in(rt.alloc(), image.as_slice(), &[once, once, once], setting)?;
     leaves(&rt, &ran, "65\n66\n6\n", 32, 0)
 }

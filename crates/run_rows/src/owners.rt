@@ -1,5 +1,7 @@
 use crate::containers::{FIVE_TEXTS, PRINT_TEXTS};
-use crate::runs::{KINDS, PLAIN, SEQ_FLAT, Setting, empty, leaves, run_anew, run_in, run_on, statistics_of};
+use crate::runs::{
+    KINDS, PLAIN, SEQ_FLAT, Setting, empty, leaves, run_anew, run_in, run_on, statistics_of,
+};
 use client_vm::{Ended, Move};
 use std::process::Abort;
 use std::test::Fail;
@@ -105,8 +107,16 @@ fn output_fails_at_each_byte(rt: HostRuntime) -> Result<(), Fail> {
         let again = run_on(rt.alloc(), ran.image.as_slice(), &[PRINT_TEXTS])?;
         leaves(&rt, &again, "abbcccddddeeeee", 0, 1)?;
     }
-    let setting = Setting { at_a_time: 1, ..PLAIN };
-    let ran = run_in(rt.alloc(), image.as_slice(), &[FIVE_TEXTS, PRINT_TEXTS], setting)?;
+    let setting = Setting {
+        at_a_time: 1,
+        ..PLAIN
+    };
+    let ran = run_in(
+        rt.alloc(),
+        image.as_slice(),
+        &[FIVE_TEXTS, PRINT_TEXTS],
+        setting,
+    )?;
     leaves(&rt, &ran, "abbcccddddeeeee", 0, 1)
 }
 
@@ -125,8 +135,14 @@ fn runs_alike_wherever_it_lies(rt: HostRuntime) -> Result<(), Fail> {
         let still = run_in(alloc, image.as_slice(), &texts, PLAIN)?;
         let settings = [
             Setting { base: 16, ..PLAIN },
-            Setting { base: 65_536, ..PLAIN },
-            Setting { moves: moves.as_slice(), ..PLAIN },
+            Setting {
+                base: 65_536,
+                ..PLAIN
+            },
+            Setting {
+                moves: moves.as_slice(),
+                ..PLAIN
+            },
         ];
         for setting in settings {
             let ran = run_in(alloc, image.as_slice(), &texts, setting)?;
@@ -150,7 +166,10 @@ fn a_chain_that_moves(rt: HostRuntime) -> Result<(), Fail> {
     }
     let image = empty(alloc, 1 << 17, SEQ_FLAT)?;
     let still = run_on(alloc, image.as_slice(), &[text.as_str()])?;
-    let setting = Setting { moves: moves.as_slice(), ..PLAIN };
+    let setting = Setting {
+        moves: moves.as_slice(),
+        ..PLAIN
+    };
     let ran = run_in(alloc, image.as_slice(), &[text.as_str()], setting)?;
     assert_eq!(rt; ran.image.as_slice(), still.image.as_slice());
     assert!(rt; ran.reports == still.reports);

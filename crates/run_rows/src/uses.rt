@@ -12,7 +12,11 @@ fn clients_share_a_counter(rt: HostRuntime) -> Result<(), Fail> {
         assert_eq!(rt; first.out.as_slice(), b"1\n2\n".as_slice());
         let second = run_on(rt.alloc(), first.image.as_slice(), &[COUNT])?;
         assert_eq!(rt; second.out.as_slice(), b"3\n".as_slice());
-        let full = run_on(rt.alloc(), empty(rt.alloc(), 736, kind)?.as_slice(), &[COUNT])?;
+        let full = run_on(
+            rt.alloc(),
+            empty(rt.alloc(), 736, kind)?.as_slice(),
+            &[COUNT],
+        )?;
         assert_eq!(rt; full.out.as_slice(), b"no room\n".as_slice());
     }
     Ok(())
@@ -40,10 +44,16 @@ fn a_cache_forgets_the_oldest(rt: HostRuntime) -> Result<(), Fail> {
     let printed = "miss 4225\nmiss 4356\nmiss 4489\nhit 4225\nmiss 4624\nmiss 4225\nhit 4489\n";
     for kind in KINDS {
         let image = empty(rt.alloc(), 2048, kind)?;
-        let setting = Setting { input: b"ABCADAC", ..PLAIN };
+        let setting = Setting {
+            input: b"ABCADAC",
+            ..PLAIN
+        };
         let ran = run_in(rt.alloc(), image.as_slice(), &[CACHE], setting)?;
         assert_eq!(rt; ran.out.as_slice(), printed.as_bytes());
-        let setting = Setting { input: b"DB", ..PLAIN };
+        let setting = Setting {
+            input: b"DB",
+            ..PLAIN
+        };
         let again = run_in(rt.alloc(), ran.image.as_slice(), &[CACHE], setting)?;
         assert_eq!(rt; again.out.as_slice(), b"hit 4624\nmiss 4356\n".as_slice());
     }

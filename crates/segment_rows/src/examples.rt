@@ -55,11 +55,36 @@ fn flat_index_takes_what_is_there<F: Fit>(rt: &(impl Abort + AllocGlobal)) -> Re
         rt,
         IndexKind::Flat,
         &[
-            Asked { size: 1024, refused: None, named: 1, free: 240 },
-            Asked { size: 784, refused: None, named: 1, free: 0 },
-            Asked { size: 768, refused: None, named: 1, free: 0 },
-            Asked { size: 752, refused: no_room, named: 0, free: 48 },
-            Asked { size: 736, refused: no_room, named: 0, free: 32 },
+            Asked {
+                size: 1024,
+                refused: None,
+                named: 1,
+                free: 240,
+            },
+            Asked {
+                size: 784,
+                refused: None,
+                named: 1,
+                free: 0,
+            },
+            Asked {
+                size: 768,
+                refused: None,
+                named: 1,
+                free: 0,
+            },
+            Asked {
+                size: 752,
+                refused: no_room,
+                named: 0,
+                free: 48,
+            },
+            Asked {
+                size: 736,
+                refused: no_room,
+                named: 0,
+                free: 32,
+            },
         ],
     )
 }
@@ -71,11 +96,36 @@ fn tree_takes_three_units<F: Fit>(rt: &(impl Abort + AllocGlobal)) -> Result<(),
         rt,
         IndexKind::Tree,
         &[
-            Asked { size: 1024, refused: None, named: 1, free: 240 },
-            Asked { size: 784, refused: None, named: 1, free: 0 },
-            Asked { size: 768, refused: no_room, named: 0, free: 64 },
-            Asked { size: 752, refused: no_room, named: 0, free: 48 },
-            Asked { size: 736, refused: no_room, named: 0, free: 32 },
+            Asked {
+                size: 1024,
+                refused: None,
+                named: 1,
+                free: 240,
+            },
+            Asked {
+                size: 784,
+                refused: None,
+                named: 1,
+                free: 0,
+            },
+            Asked {
+                size: 768,
+                refused: no_room,
+                named: 0,
+                free: 64,
+            },
+            Asked {
+                size: 752,
+                refused: no_room,
+                named: 0,
+                free: 48,
+            },
+            Asked {
+                size: 736,
+                refused: no_room,
+                named: 0,
+                free: 32,
+            },
         ],
     )
 }
@@ -134,14 +184,23 @@ fn refusals_in_order(rt: HostRuntime) -> Result<(), Fail> {
         let mut segment = segment::<SeqFit>(rt.alloc(), 1024, index, &[I64, map(NUMBER)])?;
         segment.construct(b"x", NUMBER, 2)?;
         for count in [0, 65_536, u32::MAX] {
-            assert_eq!(rt; segment.construct(b"x", NUMBER, count), Err(Code::OutOfRange));
+            assert_eq!(rt;
+                segment.construct(b"x", NUMBER, count),
+                Err(Code::OutOfRange)
+            );
         }
         for name in [b"".as_slice(), b"a b", b"\x7f", &[b'a'; 64]] {
             assert_eq!(rt; segment.construct(name, NUMBER, 1), Err(Code::OutOfRange));
-            assert_eq!(rt; segment.find_or_construct(name, NUMBER), Err(Code::OutOfRange));
+            assert_eq!(rt;
+                segment.find_or_construct(name, NUMBER),
+                Err(Code::OutOfRange)
+            );
             assert_eq!(rt; segment.find(name, NUMBER), Err(Code::Absent));
         }
-        assert_eq!(rt; segment.construct(b"x", 1, 65_535), Err(Code::AlreadyExists));
+        assert_eq!(rt;
+            segment.construct(b"x", 1, 65_535),
+            Err(Code::AlreadyExists)
+        );
         assert_eq!(rt; segment.construct(b"y", 1, 65_535), Err(Code::BadAlloc));
         assert_eq!(rt; segment.find(b"x", 1), Err(Code::OtherType));
         assert_eq!(rt; segment.find_or_construct(b"x", 1), Err(Code::OtherType));

@@ -80,7 +80,11 @@ impl<F: Fit> Pair<F> {
 
     fn destroy(&mut self, rt: &impl Abort) -> Answer {
         let (name, t) = (some_name(&mut self.random), some_type(&mut self.random));
-        let is_there = self.model.named.get(&name).is_some_and(|object| object.type_id == t);
+        let is_there = self
+            .model
+            .named
+            .get(&name)
+            .is_some_and(|object| object.type_id == t);
         assert_eq!(rt; self.segment.destroy(name, t), is_there);
         if is_there {
             let _ = self.model.named.remove(&name);
@@ -187,7 +191,10 @@ impl<F: Fit> Pair<F> {
             assert!(rt; self.segment.destroy(name, object.type_id));
         }
         for t in 0..4 {
-            assert_eq!(rt; self.segment.destroy_unique(t), self.model.uniques.contains_key(&t));
+            assert_eq!(rt;
+                self.segment.destroy_unique(t),
+                self.model.uniques.contains_key(&t)
+            );
         }
     }
 }

@@ -121,7 +121,11 @@ fn change_numbers<F: Fit>(
     if random.below(4) == 0 {
         let popped = pop_back::<F, Global>(&mut s.window, &s.types, 2, at);
         let wanted = numbers.pop().map(|_| ()).ok_or(Code::Null);
-        return if popped == wanted { Ok(popped) } else { Err(Fail::from("popped")) };
+        return if popped == wanted {
+            Ok(popped)
+        } else {
+            Err(Fail::from("popped"))
+        };
     }
     match push_back::<F, Global>(&mut s.window, &s.types, 2, at) {
         Ok(item) => {

@@ -3,6 +3,7 @@ use clap::{Arg, Command, value_parser};
 use std::alloc::{AllocError, Global};
 
 const ALLOCATORS: &[&str] = &["seq", "best"];
+
 const INDEXES: &[&str] = &["flat", "tree"];
 
 /// The words that the program understands.
@@ -71,11 +72,14 @@ fn new_line<'a>(alloc: Global) -> Result<Command<'a>, AllocError> {
     Command::new(alloc, "new")
         .about("Makes the image of an empty segment")
         .arg(required(alloc, "FILE", "The file that the image is written to"))?
-        .arg(bytes(alloc, "SIZE", "The bytes of the segment, a multiple of 16 from 736 to 2^30"))?
-        .arg(
-            required(alloc, "ALG", "The allocator: sequential fit or best fit")
-                .value_parser(ALLOCATORS),
-        )?
+        .arg(bytes(
+            alloc,
+            "SIZE",
+            "The bytes of the segment, a multiple of 16 from 736 to 2^30",
+        ))?
+        .arg(required(alloc, "ALG", "The allocator: sequential fit or best fit").value_parser(
+            ALLOCATORS,
+        ))?
         .arg(required(alloc, "INDEX", "How names are kept").value_parser(INDEXES))
 }
 
@@ -87,7 +91,9 @@ fn stat_line<'a>(alloc: Global) -> Result<Command<'a>, AllocError> {
 
 fn list_line<'a>(alloc: Global) -> Result<Command<'a>, AllocError> {
     Command::new(alloc, "list")
-        .about("Prints each name with the number of its type and its count, then the types of unique objects")
+        .about(
+            "Prints each name with the number of its type and its count, then the types of unique objects",
+        )
         .arg(required(alloc, "FILE", "The image"))
 }
 

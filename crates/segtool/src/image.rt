@@ -96,7 +96,9 @@ pub fn types_of(alloc: Global, image: &[u8]) -> Result<TypeTable, Fault> {
 /// The bytes of the image of an empty segment.
 pub fn new_image<F: Fit>(alloc: Global, size: u32, index: IndexKind) -> Result<Vec<u8>, Fault> {
     let region = Region::new(alloc, size.min(MAX_LEN))?;
-    let segment = Segment::<F, Global>::create(region, 0, size, index).map_err(|refused| refused.0)?;
+    let segment = Segment::<F, Global>::create(region, 0, size, index).map_err(
+        |refused| refused.0,
+    )?;
     save(alloc, &segment)
 }
 
@@ -106,7 +108,9 @@ fn statistics<F: Fit>(alloc: Global, segment: &Segment<F, Global>) -> Result<Str
     let largest = segment.largest_gap();
     let named = segment.num_named();
     let unique = segment.num_unique();
-    format!(in alloc; "size {size}\nfree {free}\nlargest {largest}\nnamed {named}\nunique {unique}\n")
+    format!(in alloc;
+        "size {size}\nfree {free}\nlargest {largest}\nnamed {named}\nunique {unique}\n"
+    )
 }
 
 fn objects<F: Fit>(alloc: Global, segment: &Segment<F, Global>) -> Result<Vec<u8>, AllocError> {

@@ -30,7 +30,8 @@ pub const INCREMENT_FILE: [u8; 103] = [
 
 /// The text of a client that makes a chain of so many objects, each of which owns the one before, and destroys it.
 pub fn chain(alloc: Global, nodes: u32) -> Result<String, AllocError> {
-    format!(in alloc; "type i64
+    format!(in alloc;
+        "type i64
 type own t2
 type struct t0 t1
 name h
@@ -53,5 +54,6 @@ END
 ELSE
 END
 KILL r7 - t1 k0
-")
+"
+    )
 }

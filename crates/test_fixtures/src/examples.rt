@@ -15,7 +15,8 @@ END
 ";
 
 /// The text of `examples/configure.text`.
-pub const CONFIGURE: &str = r"; Writes a table of settings that other programs share: a greeting, and by their numbers a limit and a port.
+pub const CONFIGURE: &str =
+    r"; Writes a table of settings that other programs share: a greeting, and by their numbers a limit and a port.
 ; The port stays where a program has set it already.
 type i64
 type str
@@ -54,7 +55,8 @@ END
 ";
 
 /// The text of `examples/settings.text`.
-pub const SETTINGS: &str = r"; Prints the table of settings: each number with its value, and the greeting.
+pub const SETTINGS: &str =
+    r"; Prints the table of settings: each number with its value, and the greeting.
 type i64
 type str
 type flat_map t0
@@ -91,7 +93,8 @@ END
 ";
 
 /// The text of `examples/cache.text`.
-pub const CACHE: &str = r"; A cache of three entries, asked for the bytes of the input. A byte that isn't there is entered with its square, and the
+pub const CACHE: &str =
+    r"; A cache of three entries, asked for the bytes of the input. A byte that isn't there is entered with its square, and the
 ; entry that came first goes. Prints `hit` or `miss` and the square for each byte.
 type i64
 type map t0

@@ -162,7 +162,10 @@ fn calls_answer_memory_until_there_is_enough(rt: HostRuntime) -> Result<(), Fail
             }
             refusals = refusals.saturating_add(1);
         }
-        assert!(rt; 0 < refusals && refusals < 255, "{call:?}: {refusals} refusals");
+        assert!(rt;
+            0 < refusals && refusals < 255,
+            "{call:?}: {refusals} refusals"
+        );
     }
     Ok(())
 }

@@ -13,12 +13,7 @@ fn is(rt: &impl Abort, printed: &Printed, status: u8, out: &str, err: &str) {
 }
 
 /// Runs the program, which must print this.
-fn says(
-    rt: &(impl Abort + AllocGlobal),
-    files: &mut Stored,
-    words: &[&str],
-    out: &str,
-) {
+fn says(rt: &(impl Abort + AllocGlobal), files: &mut Stored, words: &[&str], out: &str) {
     let printed = run(rt.alloc(), words, files);
     is(rt, &printed, 0, out, "");
 }
@@ -44,7 +39,11 @@ fn makes_empty_images(rt: HostRuntime) -> Result<(), Fail> {
 fn refuses_sizes_and_words(rt: HostRuntime) -> Result<(), Fail> {
     for size in ["0", "720", "1000", "1073741840"] {
         let mut files = Stored::new(rt.alloc());
-        let printed = run(rt.alloc(), &["segtool", "new", "saved", size, "seq", "flat"], &mut files);
+        let printed = run(
+            rt.alloc(),
+            &["segtool", "new", "saved", size, "seq", "flat"],
+            &mut files,
+        );
         is(&rt, &printed, 1, "", "fault 5\n");
         assert!(rt; !files.has("saved"));
     }
@@ -92,8 +91,18 @@ fn lists_objects(rt: HostRuntime) -> Result<(), Fail> {
     for index in ["flat", "tree"] {
         let mut files = Stored::new(rt.alloc());
         files.add("client", client(rt.alloc(), OBJECTS)?.as_slice())?;
-        says(&rt, &mut files, &["segtool", "new", "saved", "2048", "best", index], "");
-        says(&rt, &mut files, &["segtool", "run", "saved", "saved", "client"], "");
+        says(
+            &rt,
+            &mut files,
+            &["segtool", "new", "saved", "2048", "best", index],
+            "",
+        );
+        says(
+            &rt,
+            &mut files,
+            &["segtool", "run", "saved", "saved", "client"],
+            "",
+        );
         let listed = "ab 0 1\nb 0 3\nm 1 1\nunique 0\nunique 1\n";
         says(&rt, &mut files, &["segtool", "list", "saved"], listed);
     }
@@ -110,15 +119,40 @@ fn stored_counter(alloc: Global) -> Result<Stored, Fail> {
 #[test]
 fn grows_and_shrinks(rt: HostRuntime) -> Result<(), Fail> {
     let mut files = stored_counter(rt.alloc())?;
-    says(&rt, &mut files, &["segtool", "grow", "saved", "0"], "size 784\n");
-    says(&rt, &mut files, &["segtool", "grow", "saved", "32"], "size 816\n");
+    says(
+        &rt,
+        &mut files,
+        &["segtool", "grow", "saved", "0"],
+        "size 784\n",
+    );
+    says(
+        &rt,
+        &mut files,
+        &["segtool", "grow", "saved", "32"],
+        "size 816\n",
+    );
     assert_eq!(rt; files.get("saved").len(), 816);
     let numbers = "size 816\nfree 32\nlargest 32\nnamed 1\nunique 0\n";
     says(&rt, &mut files, &["segtool", "stat", "saved"], numbers);
-    says(&rt, &mut files, &["segtool", "shrink", "saved"], "size 784\n");
+    says(
+        &rt,
+        &mut files,
+        &["segtool", "shrink", "saved"],
+        "size 784\n",
+    );
     assert_eq!(rt; files.get("saved"), counter(rt.alloc())?.as_slice());
-    says(&rt, &mut files, &["segtool", "grow", "saved", "16"], "size 800\n");
-    says(&rt, &mut files, &["segtool", "shrink", "saved"], "size 800\n");
+    says(
+        &rt,
+        &mut files,
+        &["segtool", "grow", "saved", "16"],
+        "size 800\n",
+    );
+    says(
+        &rt,
+        &mut files,
+        &["segtool", "shrink", "saved"],
+        "size 800\n",
+    );
     says(&rt, &mut files, &["segtool", "check", "saved"], "ok\n");
     for extra in ["24", "1073741824"] {
         let printed = run(rt.alloc(), &["segtool", "grow", "saved", extra], &mut files);
