@@ -49,7 +49,7 @@ impl AbstractRun<'_> {
             Operation::MakeUnique | Operation::FindUnique | Operation::FindOrMakeUnique => {
                 self.unique(objects, i)
             }
-            Operation::New => self.with_room(objects, i.type_id()),
+            Operation::New => self.with_room(objects, usize::from(i.type_id())),
             Operation::PushBack | Operation::PushFront => self.push(objects, i),
             Operation::PutKey => self.put_key(objects, i),
             _ => Ok(self.on_content(objects, i)?),
@@ -63,9 +63,9 @@ impl AbstractRun<'_> {
     }
 
     /// A new value where the real run found room for it.
-    fn with_room(&self, objects: &mut Objects, t: u8) -> Result<Answer, Fail> {
+    fn with_room(&self, objects: &mut Objects, t: usize) -> Result<Answer, Fail> {
         if self.found_room() {
-            Ok(Ok(Register::Value(objects.make(usize::from(t))?)))
+            Ok(Ok(Register::Value(objects.make(t)?)))
         } else {
             Ok(Err(NO_ROOM))
         }
@@ -156,7 +156,7 @@ impl AbstractRun<'_> {
             (Operation::FindUnique, None) => return Ok(Err(ABSENT)),
             _ => {}
         }
-        let answer = self.with_room(objects, i.type_id())?;
+        let answer = self.with_room(objects, usize::from(i.type_id()))?;
         if let Ok(Register::Value(value)) = answer {
             let _ = objects.uniques.insert(t, value)?;
         }
@@ -168,7 +168,7 @@ impl AbstractRun<'_> {
         let Shape::Sequence(item) = objects.shape(container) else {
             return Err(Fail::from("no sequence"));
         };
-        let answer = self.with_room(objects, item as u8)?;
+        let answer = self.with_room(objects, item)?;
         if let (Ok(Register::Value(value)), Some(Content::Items(items))) = (
             answer,
             objects.content(container),
@@ -192,7 +192,7 @@ impl AbstractRun<'_> {
                 return Ok(Ok(Register::Value(*value)));
             }
         }
-        let answer = self.with_room(objects, item as u8)?;
+        let answer = self.with_room(objects, item)?;
         if let (Ok(Register::Value(value)), Some(Content::Keyed(entries))) = (
             answer,
             objects.content(map),

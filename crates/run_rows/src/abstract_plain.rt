@@ -70,7 +70,10 @@ impl AbstractRun<'_> {
             }
             (Operation::Store, Some(Content::Number(number))) => *number = self.number(i.c),
             (Operation::Field, Some(Content::Fields(fields))) => {
-                let field = fields.get(i.number as usize).copied().unwrap_or(usize::MAX);
+                let field = usize::try_from(i.number)
+                    .ok()
+                    .and_then(|index| fields.get(index).copied())
+                    .unwrap_or(usize::MAX);
                 self.set(i.a, Register::Value(field));
             }
             (Operation::Put, Some(Content::Held(held))) => {

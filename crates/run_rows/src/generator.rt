@@ -392,7 +392,7 @@ impl Generator {
     }
 
     fn on_struct(&mut self, part: Part, fields: &[usize]) -> Result<(), AllocError> {
-        let index = self.random.below(fields.len() as u32) as usize;
+        let index = self.random.below(u32::try_from(fields.len()).unwrap_or(1)) as usize;
         let (a, b) = (self.next_register(), part.register);
         write!(self.text, "FIELD r{a} r{b} {index}\n")?;
         self.parts.push(Part {

@@ -8,8 +8,6 @@ mod blocks;
 #[cfg(test)]
 mod examples;
 #[cfg(test)]
-mod items;
-#[cfg(test)]
 mod lists;
 #[cfg(test)]
 mod maps;
