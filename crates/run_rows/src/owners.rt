@@ -7,20 +7,6 @@ use std::process::Abort;
 use std::test::Fail;
 use test_fixtures::chain;
 
-#[test]
-fn a_chain_of_owners(rt: HostRuntime) -> Result<(), Fail> {
-    let text = chain(rt.alloc(), 20_000)?;
-    for kind in KINDS {
-        let ran = run_anew(rt.alloc(), 1 << 20, kind, &[text.as_str()])?;
-        leaves(&rt, &ran, "", 1_047_872, 0)?;
-        let left = statistics_of(rt.alloc(), ran.image.as_slice())?;
-        assert_eq!(rt; left.largest, 1_047_872);
-        let report = ran.reports.first().copied().unwrap_or_default();
-        assert_eq!(rt; report.steps, 160_004);
-    }
-    Ok(())
-}
-
 /// What an own holds is destroyed when it is replaced, cleared or dropped with its owner.
 #[test]
 fn owners_destroy_what_they_hold(rt: HostRuntime) -> Result<(), Fail> {

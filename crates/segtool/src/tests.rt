@@ -4,5 +4,4 @@ mod files;
 mod language;
 mod memory;
 mod rows;
-mod segments;
 mod writers;
