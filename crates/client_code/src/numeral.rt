@@ -1,33 +1,33 @@
-/// The number that decimal digits spell, without leading zeros.
-fn decimal(digits: &[u8]) -> Option<u32> {
-    match digits {
-        [] | [b'0', _, ..] => return None,
-        _ => {}
-    }
-    let mut number = 0u32;
-    for digit in digits {
-        let digit = u32::from(digit.wrapping_sub(b'0'));
-        if digit > 9 {
-            return None;
-        }
-        number = number.checked_mul(10)?.checked_add(digit)?;
-    }
-    Some(number)
+ghost use Rattle.std.specs.Prelude.{◌≡◌, ◌≢◌, ℕ, ℤ, ◌<◌, ◌^◌, ◌∷◌, IfSome, IfNone, FitsSigned};
+ghost use Rattle.std.specs.Fmt.{decimal, signed_decimal};
+ghost use Rattle.std.specs.Int.{w32};
+
+use itoa::Buffer;
+use std::str;
+
+/// The number that decimal digits spell, as it is printed: without leading zeros.
+fn decimal(digits: &[u8]) -> Option<u32>
+    ensures found { IfSome result (λ n. digits.now ≡ decimal n) }
+    ensures none { IfNone result ((n : ℕ) → n < 2 ^ 32 → digits.now ≢ decimal n) }
+{
+    let number: u32 = str::from_utf8(digits).ok()?.parse().ok()?;
+    (Buffer::new().format(number).as_bytes() == digits).then_some(number)
 }
 
-/// The signed number that a word spells: decimal digits, right behind `-` where it is negative.
-pub fn signed(word: &[u8]) -> Option<i32> {
-    match word {
-        [b'-', digits @ ..] => {
-            let number = decimal(digits).filter(|number| *number != 0)?;
-            i32::try_from(-i64::from(number)).ok()
-        }
-        digits => i32::try_from(decimal(digits)?).ok(),
-    }
+/// The signed number that a word spells, as it is printed: decimal digits, right behind `-` where it is negative.
+pub fn signed(word: &[u8]) -> Option<i32>
+    ensures found { IfSome result (λ n. word.now ≡ signed_decimal n) }
+    ensures none { IfNone result ((n : ℤ) → FitsSigned w32 n → word.now ≢ signed_decimal n) }
+{
+    let number: i32 = str::from_utf8(word).ok()?.parse().ok()?;
+    (Buffer::new().format(number).as_bytes() == word).then_some(number)
 }
 
 /// The number behind a letter, as in `r3`.
-pub fn index(letter: u8, word: &[u8]) -> Option<u8> {
+pub fn index(letter: u8, word: &[u8]) -> Option<u8>
+    ensures found { IfSome result (λ n. word.now ≡ letter ∷ decimal n) }
+    ensures none { IfNone result ((n : ℕ) → n < 2 ^ 8 → word.now ≢ letter ∷ decimal n) }
+{
     match word {
         [first, digits @ ..] if *first == letter => u8::try_from(decimal(digits)?).ok(),
         _ => None,
