@@ -1,7 +1,8 @@
 -- The text of a client, piece by piece.
 --     with_spaces words     the words, each behind a space
 --     ended item            the line of an item, with its end
-use Rattle.std.specs.Prelude.{ℕ, List, [], ◌∷◌, ◌++◌, flat_map}
+--     before_space b line   how many bytes stand before a space, or before another byte
+use Rattle.std.specs.Prelude.{ℕ, suc, Bool, not, ◌==◌, if◌then◌else◌, List, [], ◌∷◌, ◌++◌, flat_map}
 use Rattle.client_spec.specs.Text.{Item, Words, line_of}
 
 abbrev pub with_spaces : Words → List ℕ
@@ -10,3 +11,8 @@ with_spaces words = flat_map (λ word. 32 ∷ word) words
 -- a line with its end
 abbrev pub ended : Item → List ℕ
 ended item = line_of item ++ 10 ∷ []
+
+-- how many bytes stand before the first of which it is this that it is a space
+abbrev pub before_space : Bool → List ℕ → ℕ
+before_space is_space [] = 0
+before_space is_space (b ∷ line) = if (if b == 32 then is_space else not is_space) then 0 else suc (before_space is_space line)

@@ -85,7 +85,7 @@ fn read_part(words: &mut Words) -> Option<TypeId> {
 
 fn read_fields(words: &mut Words) -> Option<Fields> {
     let mut fields: ArrayVec<TypeId, 8> = ArrayVec::new();
-    for word in words.by_ref() {
+    while let Some(word) = words.next() {
         fields.try_push(index(b't', word)?).ok()?;
     }
     Fields::new(fields.as_slice())

@@ -1,5 +1,19 @@
-ghost use Rattle.std.specs.Prelude.{◌<◌, length};
-ghost use Rattle.std.specs.Iterator.{at_most};
+ghost use Rattle.std.specs.Prelude.{◌≡◌, ◌∷◌, [], ◌<◌, ◌≤◌, length, IfSome, IfNone};
+ghost use Rattle.client_spec.specs.Text.{words_of};
+ghost use Rattle.client_code.specs.Texts.{before_space};
+
+/// How many bytes of a line stand before the first that is a space, or that is none.
+fn before_space(line: &[u8], is_space: bool) -> usize
+    ensures count { result ≡ before_space is_space line.now }
+    ensures within { result ≤ length line.now }
+{
+    for i in 0..line.len() {
+        if (line[i] == b' ') == is_space {
+            return i;
+        }
+    }
+    line.len()
+}
 
 /// The words of a line, which are parted by spaces.
 #[derive(Debug, Clone, Copy)]
@@ -8,24 +22,24 @@ pub struct Words<'a> {
 }
 
 impl<'a> Words<'a> {
-    pub fn new(line: &'a [u8]) -> Words<'a> {
+    pub fn new(line: &'a [u8]) -> Words<'a>
+        ensures { result.line.now ≡ line.now }
+    {
         Words { line }
     }
-}
 
-impl<'a> Iterator for Words<'a> {
-    type Item = &'a [u8];
-
-    ghost remaining = { λ words. at_most (length words.line.now) };
-
-    fn next(&mut self) -> Option<&'a [u8]> {
-        let start = self.line.iter().position(|byte| *byte != b' ')?;
-        let word = &self.line[start..];
-        let len = word
-            .iter()
-            .position(|byte| *byte == b' ')
-            .unwrap_or(word.len());
-        self.line = &word[len..];
-        Some(&word[..len])
+    /// The next word.
+    pub fn next(&mut self) -> Option<&'a [u8]>
+        ensures found { IfSome result (λ word. words_of self.old.line.now ≡ word.now ∷ words_of self.new.line.now) }
+        ensures shorter { IfSome result (λ word. length self.new.line.now < length self.old.line.now) }
+        ensures none { IfNone result (words_of self.old.line.now ≡ []) }
+    {
+        let line = &self.line[before_space(self.line, false)..];
+        if line.is_empty() {
+            return None;
+        }
+        let (word, rest) = line.split_at(before_space(line, true));
+        self.line = rest;
+        Some(word)
     }
 }
