@@ -1,9 +1,10 @@
 -- The text of a client, piece by piece.
 --     with_spaces words     the words, each behind a space
 --     ended item            the line of an item, with its end
+--     SpellsByte b rest spelling    a byte, and the rest behind it
 --     before_space b line   how many bytes stand before a space, or before another byte
-use Rattle.std.specs.Prelude.{ℕ, suc, Bool, not, ◌==◌, if◌then◌else◌, List, [], ◌∷◌, ◌++◌, flat_map}
-use Rattle.client_spec.specs.Text.{Item, Words, line_of}
+use Rattle.std.specs.Prelude.{◌≡◌, ◌⊎◌, ℕ, suc, Bool, true, not, ◌==◌, if◌then◌else◌, List, [], ◌∷◌, ◌++◌, flat_map}
+use Rattle.client_spec.specs.Text.{Item, Words, line_of, is_plain, escaped}
 
 abbrev pub with_spaces : Words → List ℕ
 with_spaces words = flat_map (λ word. 32 ∷ word) words
@@ -16,3 +17,7 @@ ended item = line_of item ++ 10 ∷ []
 abbrev pub before_space : Bool → List ℕ → ℕ
 before_space is_space [] = 0
 before_space is_space (b ∷ line) = if (if b == 32 then is_space else not is_space) then 0 else suc (before_space is_space line)
+
+-- a byte by itself where it may be, or escaped, and the rest behind it
+abbrev pub SpellsByte : ℕ → List ℕ → List ℕ → Type 0
+SpellsByte b rest spelling = ((is_plain b ≡ true) × (spelling ≡ b ∷ rest)) ⊎ (spelling ≡ escaped b ++ rest)

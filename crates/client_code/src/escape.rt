@@ -1,5 +1,6 @@
-ghost use Rattle.std.specs.Prelude.{◌≡◌, ◌≢◌, ℕ, ◌<◌, length, IfSome, IfNone, IsTrue};
-ghost use Rattle.client_spec.specs.Text.{hex_digit, is_plain};
+ghost use Rattle.std.specs.Prelude.{◌≡◌, ◌≢◌, ℕ, List, ◌<◌, ◌≤◌, length, All, IfSome, IfNone, IsTrue};
+ghost use Rattle.client_spec.specs.Text.{hex_digit, is_plain, SpellsText};
+ghost use Rattle.client_code.specs.Texts.{SpellsByte};
 
 use crate::constant::LONGEST;
 use arrayvec::ArrayVec;
@@ -42,7 +43,10 @@ fn hex(digit: u8) -> Option<u8>
 
 /// The first byte that a spelling of a text stands for, and the rest of the spelling.
 fn first(spelling: &[u8]) -> Option<(u8, &[u8])>
-    ensures { IfSome result (λ found. length found.1.now < length spelling.now) }
+    ensures shorter { IfSome result (λ found. length found.1.now < length spelling.now) }
+    ensures small { IfSome result (λ found. found.0 < 256) }
+    ensures found { IfSome result (λ found. SpellsByte found.0 found.1.now spelling.now) }
+    ensures none { IfNone result ((b : ℕ) (rest : List ℕ) → b < 256 → SpellsByte b rest spelling.now → ⊥) }
 {
     match spelling {
         [b'\\', high, low, rest @ ..] => Some((16 * hex(*high)? + hex(*low)?, rest)),
@@ -52,7 +56,10 @@ fn first(spelling: &[u8]) -> Option<(u8, &[u8])>
 }
 
 /// The bytes that a spelling of a text stands for, if they aren't too many.
-pub fn unescaped(spelling: &[u8]) -> Option<Bytes> {
+pub fn unescaped(spelling: &[u8]) -> Option<Bytes>
+    ensures found { IfSome result (λ bytes. SpellsText bytes.items spelling.now) }
+    ensures none { IfNone result ((bytes : List ℕ) → length bytes ≤ LONGEST → All (λ b. b < 256) bytes → SpellsText bytes spelling.now → ⊥) }
+{
     let mut bytes = ArrayVec::new();
     let mut rest = spelling;
     while !rest.is_empty() {

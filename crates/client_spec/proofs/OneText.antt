@@ -152,10 +152,10 @@ hex_one n m h k e = choose (nat_lt n 10) (nat_lt m 10) refl refl e
 sixteenths : (b c : ℕ) → b / 16 ≡ c / 16 → b % 16 ≡ c % 16 → b ≡ c
 sixteenths b c e f = omega arith
 
-not_plain : (b : ℕ) → b ≡ 92 → is_plain b ≡ true → ⊥
+pub not_plain : (b : ℕ) → b ≡ 92 → is_plain b ≡ true → ⊥
 not_plain b e f = let g : is_plain 92 ≡ true = subst (λ x. is_plain x ≡ true) e f in let z : false ≡ true = g in cc
 
-escape_one : (b c : ℕ) → b < 256 → c < 256 → (us vs : List ℕ) → escaped b ++ us ≡ escaped c ++ vs → (b ≡ c) × (us ≡ vs)
+pub escape_one : (b c : ℕ) → b < 256 → c < 256 → (us vs : List ℕ) → escaped b ++ us ≡ escaped c ++ vs → (b ≡ c) × (us ≡ vs)
 escape_one b c h k us vs e =
     let p = tail_of 92 92 (hex_digit (b / 16) ∷ hex_digit (b % 16) ∷ us) (hex_digit (c / 16) ∷ hex_digit (c % 16) ∷ vs) e in
     let q = tail_of (hex_digit (b / 16)) (hex_digit (c / 16)) (hex_digit (b % 16) ∷ us) (hex_digit (c % 16) ∷ vs) p.1 in
