@@ -1,4 +1,4 @@
-use seg_layout::{Cell, TypeId, TypeTable};
+use seg_layout::{Cell, Type, TypeId, TypeTable};
 use seg_ptr::Window;
 use std::alloc::Allocator;
 
@@ -19,7 +19,11 @@ pub fn start<A: Allocator>(w: &Window<A>, cell: u32) -> u32 {
 /// Writes the default value of a type: 0 for numbers, empty or null for all else.
 pub fn init_default<A: Allocator>(w: &mut Window<A>, table: &TypeTable, t: TypeId, at: u32) {
     w.fill(at as usize, table.size(t) as usize, 0);
-    set_null(w, table.pointers(t).as_slice(), at);
+    // a list of cells costs more than all else here, and most values are numbers
+    match table.kind(t) {
+        None | Some(Type::I64) => {}
+        Some(_) => set_null(w, table.pointers(t).as_slice(), at),
+    }
 }
 
 /// Lets these cells of a value name nothing.

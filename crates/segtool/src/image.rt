@@ -16,7 +16,7 @@ pub enum Image {
 }
 
 impl Image {
-    /// The segment of an image at the start of a region that has `extra` bytes more, up to the most that a segment has. The
+    /// The segment of an image at the start of a region that has `extra` bytes more, if a segment may have so many. The
     /// image's first fault where it isn't sound.
     pub fn open(alloc: Global, image: &[u8], extra: u32) -> Result<Image, Fault> {
         let window = window_of(alloc, image, extra)?;
@@ -74,14 +74,18 @@ fn opened<F: Fit>(alloc: Global, window: Window<Global>) -> Result<Segment<F, Gl
     open(alloc, window).map_err(|refused| refused.0)
 }
 
-/// A window on the bytes of an image, in a region with so many bytes more. Bytes that are too many or too few for a segment
-/// are no image.
+/// A window on the bytes of an image, in a region with so many bytes more if a segment may have them. Bytes that are too many
+/// or too few for a segment are no image.
 fn window_of(alloc: Global, image: &[u8], extra: u32) -> Result<Window<Global>, Fault> {
     let len = match u32::try_from(image.len()) {
         Ok(len) if len <= MAX_LEN => len,
         _ => return Err(Fault::BadHeader),
     };
-    let room = len.saturating_add(extra).min(MAX_LEN);
+    let room = match len.checked_add(extra) {
+        Some(room) if room <= MAX_LEN => room,
+        // no segment grows so far
+        _ => len,
+    };
     let region = Region::new(alloc, room)?;
     let mut window = Window::place(region, 0, len).map_err(|_| Fault::BadHeader)?;
     window.copy_in(0, image);
@@ -95,7 +99,10 @@ pub fn types_of(alloc: Global, image: &[u8]) -> Result<TypeTable, Fault> {
 
 /// The bytes of the image of an empty segment.
 pub fn new_image<F: Fit>(alloc: Global, size: u32, index: IndexKind) -> Result<Vec<u8>, Fault> {
-    let region = Region::new(alloc, size.min(MAX_LEN))?;
+    if size > MAX_LEN {
+        return Err(Fault::BadSize);
+    }
+    let region = Region::new(alloc, size)?;
     let segment = Segment::<F, Global>::create(region, 0, size, index).map_err(
         |refused| refused.0,
     )?;

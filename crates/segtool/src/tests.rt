@@ -4,4 +4,5 @@ mod files;
 mod language;
 mod memory;
 mod rows;
+mod segments;
 mod writers;

@@ -1,6 +1,6 @@
 //! Sizes of blocks that follow from the rules of growth, worked out by hand.
 
-use crate::blocks::{is_one_gap, tiles};
+use crate::blocks::is_one_gap;
 use crate::support::{I64, ROOT, STR, Segment, new_segment, of, pair};
 use crate::trial::reads_as;
 use seg_map::put;
@@ -11,6 +11,7 @@ use seg_value::{Content, clear, new_block, set_own, shift, store, take_own};
 use std::alloc::Global;
 use std::process::Abort;
 use std::test::Fail;
+use test_heap::tiles;
 
 /// The first blocks of the heap that are live: where they are, and their units.
 fn live_are(

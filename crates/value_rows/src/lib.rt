@@ -8,6 +8,8 @@ mod blocks;
 #[cfg(test)]
 mod examples;
 #[cfg(test)]
+mod items;
+#[cfg(test)]
 mod lists;
 #[cfg(test)]
 mod maps;

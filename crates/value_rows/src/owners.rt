@@ -1,12 +1,12 @@
-use crate::support::{I64, ROOT, STR, Segment, new_segment, of, pair, some_text};
-use crate::trial::{Answer, Trial, try_out};
+use crate::items::{Item, Items};
+use crate::support::{I64, STR, Segment, new_segment, of, pair, some_text};
+use crate::trial::{Answer, try_out};
 use seg_bestfit::BestFit;
 use seg_block::Fit;
-use seg_raw::Code;
-use seg_seq::{assign, at, pop_back, push_back, shrink_to_fit};
+use seg_seq::assign;
 use seg_seqfit::SeqFit;
 use seg_value::{Content, block_of, destroy, new_block, set_own, store, take_own};
-use std::alloc::{AllocError, Global};
+use std::alloc::Global;
 use std::process::Abort;
 use std::test::Fail;
 use test_random::Random;
@@ -15,46 +15,24 @@ const NUMBER: u8 = 0;
 
 const STRING: u8 = 1;
 
-/// The pairs of an owned number and a string in a vector or a list.
-#[derive(Drop)]
-struct Pairs {
-    model: Vec<(Option<i64>, Vec<u8>)>,
-}
-
-impl Pairs {
-    fn push<F: Fit>(&mut self, alloc: Global, s: &mut Segment<F>) -> Result<Answer, Fail> {
-        let pushed = push_back::<F, Global>(&mut s.w, &s.table, s.root, ROOT);
-        if pushed.is_ok() {
-            self.model.push((None, Vec::new(alloc)))?;
-        }
-        Ok(pushed.map(|_| ()))
+/// An owned number and a string, 8 bytes apart.
+impl Item for (Option<i64>, Vec<u8>) {
+    fn empty(alloc: Global) -> (Option<i64>, Vec<u8>) {
+        (None, Vec::new(alloc))
     }
 
-    fn pop<F: Fit>(&mut self, rt: &impl Abort, s: &mut Segment<F>) -> Answer {
-        let popped = pop_back::<F, Global>(&mut s.w, &s.table, s.root, ROOT);
-        assert_eq!(rt; popped.is_ok(), self.model.pop().is_some());
-        popped
-    }
-
-    /// A call on one of the pairs, whose fields are 8 bytes apart.
     fn change<F: Fit>(
         &mut self,
         rt: &impl Abort,
         s: &mut Segment<F>,
+        place: u32,
         random: &mut Random,
     ) -> Result<Answer, Fail> {
-        let index = random.below(8);
-        let place = at(&s.w, &s.table, s.root, ROOT, index);
-        let Some(pair) = self.model.get_mut(index as usize) else {
-            assert_eq!(rt; place, Err(Code::OutOfRange));
-            return Ok(Ok(()));
-        };
-        let place = place?;
         match random.below(3) {
-            0 => change_text(s, place.wrapping_add(8), &mut pair.1, random),
-            1 => Ok(own_new(s, place, &mut pair.0, random)),
+            0 => change_text(s, place.wrapping_add(8), &mut self.1, random),
+            1 => Ok(own_new(s, place, &mut self.0, random)),
             _ => {
-                take_back(rt, s, place, &mut pair.0);
+                take_back(rt, s, place, &mut self.0);
                 Ok(Ok(()))
             }
         }
@@ -102,38 +80,12 @@ fn take_back<F: Fit>(rt: &impl Abort, s: &mut Segment<F>, cell: u32, number: &mu
     *number = None;
 }
 
-impl<F: Fit> Trial<F> for Pairs {
-    fn step(
-        &mut self,
-        rt: &(impl Abort + AllocGlobal),
-        s: &mut Segment<F>,
-        random: &mut Random,
-    ) -> Result<Answer, Fail> {
-        match random.below(8) {
-            0 | 1 => self.push(rt.alloc(), s),
-            2 => Ok(self.pop(rt, s)),
-            3 => {
-                shrink_to_fit::<F, Global>(&mut s.w, &s.table, s.root, ROOT);
-                Ok(Ok(()))
-            }
-            _ => self.change(rt, s, random),
-        }
-    }
-
-    fn text(&self, alloc: Global) -> Result<String, AllocError> {
-        let model = self.model.as_slice();
-        format!(in alloc; "{model:?}")
-    }
-}
-
 /// A vector and a list of pairs, whose own names the block of a number.
 fn try_owners<F: Fit>(rt: &(impl Abort + AllocGlobal)) -> Result<(), Fail> {
     for kind in [3, 4] {
         let types = [I64, STR, of(7, NUMBER), pair(2, STRING), of(kind, 3)];
         let mut s = new_segment::<F>(rt.alloc(), 1216, &types, 4)?;
-        let mut pairs = Pairs {
-            model: Vec::new(rt.alloc()),
-        };
+        let mut pairs = Items::<(Option<i64>, Vec<u8>)>::new(rt.alloc());
         try_out(rt, &mut s, &mut pairs, 1000)?;
     }
     Ok(())

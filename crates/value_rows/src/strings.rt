@@ -1,11 +1,11 @@
-use crate::support::{ROOT, STR, Segment, new_segment, of, some_text};
-use crate::trial::{Answer, Trial, try_out};
+use crate::items::{Item, Items};
+use crate::support::{STR, Segment, new_segment, of, some_text};
+use crate::trial::{Answer, try_out};
 use seg_bestfit::BestFit;
 use seg_block::Fit;
-use seg_raw::Code;
-use seg_seq::{append, assign, at, pop_back, push_back, push_byte, shrink_to_fit};
+use seg_seq::{append, assign, pop_back, push_byte, shrink_to_fit};
 use seg_seqfit::SeqFit;
-use std::alloc::{AllocError, Global};
+use std::alloc::Global;
 use std::process::Abort;
 use std::test::Fail;
 use test_random::Random;
@@ -13,41 +13,19 @@ use test_random::Random;
 /// The id of the strings' type.
 const STRING: u8 = 0;
 
-/// The strings of a vector or a list.
-#[derive(Drop)]
-struct Strings {
-    model: Vec<Vec<u8>>,
-}
-
-impl Strings {
-    fn push<F: Fit>(&mut self, alloc: Global, s: &mut Segment<F>) -> Result<Answer, Fail> {
-        let pushed = push_back::<F, Global>(&mut s.w, &s.table, s.root, ROOT);
-        if pushed.is_ok() {
-            self.model.push(Vec::new(alloc))?;
-        }
-        Ok(pushed.map(|_| ()))
+impl Item for Vec<u8> {
+    fn empty(alloc: Global) -> Vec<u8> {
+        Vec::new(alloc)
     }
 
-    fn pop<F: Fit>(&mut self, rt: &impl Abort, s: &mut Segment<F>) -> Answer {
-        let popped = pop_back::<F, Global>(&mut s.w, &s.table, s.root, ROOT);
-        assert_eq!(rt; popped.is_ok(), self.model.pop().is_some());
-        popped
-    }
-
-    /// A call on one of the strings.
     fn change<F: Fit>(
         &mut self,
         rt: &impl Abort,
         s: &mut Segment<F>,
+        place: u32,
         random: &mut Random,
     ) -> Result<Answer, Fail> {
-        let index = random.below(8);
-        let place = at(&s.w, &s.table, s.root, ROOT, index);
-        let Some(text) = self.model.get_mut(index as usize) else {
-            assert_eq!(rt; place, Err(Code::OutOfRange));
-            return Ok(Ok(()));
-        };
-        change_text(rt, s, place?, text, random)
+        change_text(rt, s, place, self, random)
     }
 }
 
@@ -96,37 +74,11 @@ fn change_text<F: Fit>(
     }
 }
 
-impl<F: Fit> Trial<F> for Strings {
-    fn step(
-        &mut self,
-        rt: &(impl Abort + AllocGlobal),
-        s: &mut Segment<F>,
-        random: &mut Random,
-    ) -> Result<Answer, Fail> {
-        match random.below(8) {
-            0 | 1 => self.push(rt.alloc(), s),
-            2 => Ok(self.pop(rt, s)),
-            3 => {
-                shrink_to_fit::<F, Global>(&mut s.w, &s.table, s.root, ROOT);
-                Ok(Ok(()))
-            }
-            _ => self.change(rt, s, random),
-        }
-    }
-
-    fn text(&self, alloc: Global) -> Result<String, AllocError> {
-        let model = self.model.as_slice();
-        format!(in alloc; "{model:?}")
-    }
-}
-
 /// A vector and a list of strings.
 fn try_strings<F: Fit>(rt: &(impl Abort + AllocGlobal)) -> Result<(), Fail> {
     for kind in [3, 4] {
         let mut s = new_segment::<F>(rt.alloc(), 1216, &[STR, of(kind, STRING)], 1)?;
-        let mut strings = Strings {
-            model: Vec::new(rt.alloc()),
-        };
+        let mut strings = Items::<Vec<u8>>::new(rt.alloc());
         try_out(rt, &mut s, &mut strings, 1000)?;
     }
     Ok(())

@@ -1,4 +1,4 @@
-use crate::blocks::{Owned, is_one_gap, live, tiles};
+use crate::blocks::{Owned, is_one_gap, live};
 use crate::picture::draw;
 use crate::support::{ROOT, Segment};
 use seg_block::Fit;
@@ -6,6 +6,7 @@ use seg_raw::Code;
 use std::alloc::{AllocError, Global};
 use std::process::Abort;
 use std::test::Fail;
+use test_heap::tiles;
 use test_random::Random;
 
 /// What a random call came to: done in the model too, or refused.
