@@ -1,9 +1,8 @@
 -- Numbers in a text, as they are printed.
-use Rattle.std.proofs.Common.{◌≡◌, ℕ, ℤ, pos, negsuc, ◌<◌, ◌^◌, FitsSigned, arith, sym, ◌∷◌, ◌-◌, length, take, drop, ◌+◌,  refl, subst, Bool, true, false, List, Option, Some, None, Result, Ok, Err, IfNone, MatchResult, Bor}
+use Rattle.std.proofs.Common.{◌≡◌, ℕ, ℤ, pos, negsuc, ◌<◌, ◌^◌, FitsSigned, arith, sym, ◌∷◌, ◌-◌, length, take, drop, ◌+◌, refl, subst, Bool, true, false, List, Option, Some, None, Result, Ok, Err, IfNone, MatchResult, Bor}
 use Rattle.std.specs.Bool.{⊤}
 use Rattle.std.specs.Int.{w32}
 use Rattle.std.specs.Int.Signed.{mag}
-
 use Rattle.std.specs.Bool.{then_some}
 use Rattle.std.specs.Result.{result_ok, OkIff}
 use Rattle.std.proofs.lemmas.List.{take_all}

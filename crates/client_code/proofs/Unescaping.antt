@@ -39,7 +39,7 @@ pub further : (spelling bytes rest : List ℕ) (b : ℕ) (behind : List ℕ) →
 further spelling bytes rest b behind small reads here = record {
   forth = λ tail spells. subst (λ xs. SpellsText xs spelling) (sym (append_assoc bytes (b ∷ []) tail)) (reads.forth (b ∷ tail) (behind, spells, here));
   back = λ all bounded spells. let (tail, e, below, rest_spells) = reads.back all bounded spells in
-    split all tail e below rest_spells;
+      split all tail e below rest_spells;
 }
   where
     split : (all tail : List ℕ) → all ≡ bytes ++ tail → All (λ b. b < 256) tail → SpellsText tail rest → (left : List ℕ) × (all ≡ (bytes ++ b ∷ []) ++ left) × All (λ b. b < 256) left × SpellsText left behind

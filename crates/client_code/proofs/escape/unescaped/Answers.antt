@@ -12,12 +12,12 @@ loop-rest-init c = subst (λ bytes. Reads c.args.spelling.now bytes c.args.spell
 pub returns-in_err-byte-clause-none : goal.returns-in_err-byte-clause-none
 returns-in_err-byte-clause-none c =
     on_none c.from_residual.result _ (λ all few bounded spells.
-        stuck c.args.spelling.now c.loop-rest.bytes.items c.loop-rest.rest.now c.loop-rest.invariant (eqb-false _ 0 (sym c.is_empty.ensures ∙ c.loop-rest-test.true)) c.in_err-byte.ensures.none all bounded spells)
+    stuck c.args.spelling.now c.loop-rest.bytes.items c.loop-rest.rest.now c.loop-rest.invariant (eqb-false _ 0 (sym c.is_empty.ensures ∙ c.loop-rest-test.true)) c.in_err-byte.ensures.none all bounded spells)
 
 pub returns-in_err-ok-clause-none : goal.returns-in_err-ok-clause-none
 returns-in_err-ok-clause-none c =
     on_none c.from_residual-in_err-ok.result _ (λ all few bounded spells.
-        too_long c.args.spelling.now c.loop-rest.bytes.items c.loop-rest.rest.now c.loop-rest.invariant (eqb-false _ 0 (sym c.is_empty.ensures ∙ c.loop-rest-test.true)) (let full = was_err c.try_push.result _ c.try_push.ensures.full (sym c.ok.ensures.value ∙ c.in_err-ok.was) in omega arith) all few bounded spells)
+    too_long c.args.spelling.now c.loop-rest.bytes.items c.loop-rest.rest.now c.loop-rest.invariant (eqb-false _ 0 (sym c.is_empty.ensures ∙ c.loop-rest-test.true)) (let full = was_err c.try_push.result _ c.try_push.ensures.full (sym c.ok.ensures.value ∙ c.in_err-ok.was) in omega arith) all few bounded spells)
 
 pub loop-rest-preserved : goal.loop-rest-preserved
 loop-rest-preserved c =
@@ -26,4 +26,4 @@ loop-rest-preserved c =
 pub returns-clause-found : goal.returns-clause-found
 returns-clause-found c =
     subst (λ bytes. SpellsText bytes c.args.spelling.now) (append-nil c.loop-rest.bytes.items)
-        (c.loop-rest.invariant.forth [] (nil_from_length c.loop-rest.rest.now (eqb-true _ 0 (sym c.is_empty.ensures ∙ c.loop-rest-test.false))))
+    (c.loop-rest.invariant.forth [] (nil_from_length c.loop-rest.rest.now (eqb-true _ 0 (sym c.is_empty.ensures ∙ c.loop-rest-test.false))))

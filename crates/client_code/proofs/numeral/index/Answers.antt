@@ -8,5 +8,5 @@ pub returns-in_ok-decimal-in-len1-up-clause-none : goal.returns-in_ok-decimal-in
 returns-in_ok-decimal-in-len1-up-clause-none c =
     let m = c.in_ok-decimal-in-len1-up.field-0 in
     fails_large (m < 256) _ m c.ok.result c.try_from.result c.try_from.ensures c.ok.ensures.value (λ large n small same.
-        let one = decimal_one n m (omega arith) (omega arith) (sym (behind_letter c.args.letter c.args.word.now (decimal n) same) ∙ c.in_ok-decimal-in-len1-up.ensures.found) in
-        large (subst (λ k. k < 256) one small))
+    let one = decimal_one n m (omega arith) (omega arith) (sym (behind_letter c.args.letter c.args.word.now (decimal n) same) ∙ c.in_ok-decimal-in-len1-up.ensures.found) in
+    large (subst (λ k. k < 256) one small))
