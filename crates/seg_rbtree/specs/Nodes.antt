@@ -1,10 +1,14 @@
 -- The words of a node.
 --     side_word node side                   the position of the pointer to a child
 --     colour_at bytes node                  the colour of a node, black where there is none
+--     shade colour                          the colour as shapes have it
 --     with_child, with_colour, with_new_node      the bytes with a child, a colour, or a red node without children
+--     rotated bytes word node side          the bytes after the node at a pointer word and its child on the other side changed places
 use Rattle.std.specs.Prelude.{ℕ, ◌+◌, ◌==◌, if◌then◌else◌, List, Option, None, Some}
 use Rattle.seg_spec.specs.Bytes.{word, set_word}
-use Rattle.seg_spec.specs.Pointer.{set_pointer}
+use Rattle.seg_spec.specs.Pointer.{target, set_pointer}
+use Rattle.seg_spec.specs.Shapes
+use Rattle.seg_spec.specs.Shapes.{black, red}
 use Rattle.seg_rbtree.specs.declared.node.Side.{Side}
 use Rattle.seg_rbtree.specs.declared.node.Side.TheVariants.{Left, Right}
 use Rattle.seg_rbtree.specs.declared.node.Colour.{Colour}
@@ -15,6 +19,11 @@ abbrev pub side_word : ℕ → Side → ℕ
 side_word node Left = node
 side_word node Right = node + 4
 
+-- the other side
+abbrev pub opposite : Side → Side
+opposite Left = Right
+opposite Right = Left
+
 -- the colour of a node, black where there is none
 abbrev pub colour_at : List ℕ → Option ℕ → Colour
 colour_at bytes None = Black
@@ -24,6 +33,11 @@ colour_at bytes (Some node) = if word bytes (node + 8) == 1 then Red else Black
 abbrev pub colour_number : Colour → ℕ
 colour_number Black = 0
 colour_number Red = 1
+
+-- the colour as shapes have it
+abbrev pub shade : Colour → Shapes.Colour
+shade Black = black
+shade Red = red
 
 -- the bytes with a child of a node
 abbrev pub with_child : List ℕ → ℕ → Side → Option ℕ → List ℕ
@@ -36,3 +50,13 @@ with_colour bytes node colour = set_word bytes (node + 8) (colour_number colour)
 -- the bytes with a red node without children
 abbrev pub with_new_node : List ℕ → ℕ → List ℕ
 with_new_node bytes node = set_word (with_colour (with_child (with_child bytes node Left None) node Right None) node Red) (node + 12) 0
+
+-- the bytes after a node went down to a side of the node that comes up to its pointer word
+abbrev pub rotated_up : List ℕ → ℕ → ℕ → Side → Option ℕ → List ℕ
+rotated_up bytes word node side None = bytes
+rotated_up bytes word node side (Some up) =
+    set_pointer (with_child (with_child bytes node (opposite side) (target bytes (side_word up side))) up side (Some node)) word (Some up)
+
+-- the bytes after the node at a pointer word went down to a side, and its child on the other side came up
+abbrev pub rotated : List ℕ → ℕ → ℕ → Side → List ℕ
+rotated bytes word node side = rotated_up bytes word node side (target bytes (side_word node (opposite side)))
