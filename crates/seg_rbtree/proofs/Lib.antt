@@ -5,3 +5,5 @@ pub mod Apartness
 pub mod Branches
 pub mod Keeping
 pub mod Turning
+pub mod Depth
+pub mod Walking

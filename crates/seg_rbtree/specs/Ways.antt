@@ -5,8 +5,12 @@
 --     place root layers                   the position of the pointer to the place
 --     steps_of layers                     the layers as a path names them, the outermost first
 --     last_word root steps                the position of the pointer behind the last step
-use Rattle.std.specs.Prelude.{ℕ, List, [], ◌∷◌, ◌++◌}
-use Rattle.seg_spec.specs.Shapes.{Colour, Tree, fork}
+--     IsWayTo order node shape steps      these steps lead to a node, or to the empty place where it would stand
+use Rattle.std.specs.Prelude.{◌≡◌, ℕ, ⊤, List, [], ◌∷◌, ◌++◌}
+use Rattle.std.specs.List.{AllByRecursion}
+use Rattle.std.specs.declared.cmp.Ordering.{Ordering}
+use Rattle.std.specs.declared.cmp.Ordering.TheVariants.{Less, Equal, Greater}
+use Rattle.seg_spec.specs.Shapes.{Colour, Tree, leaf, fork}
 use Rattle.seg_rbtree.specs.declared.node.Side.{Side}
 use Rattle.seg_rbtree.specs.declared.node.Side.TheVariants.{Left, Right}
 use Rattle.seg_rbtree.specs.declared.path.Step.{Step}
@@ -51,3 +55,26 @@ steps_of (layer ∷ layers) = steps_of layers ++ step_of layer ∷ []
 abbrev pub last_word : ℕ → List Step → ℕ
 last_word root [] = root
 last_word root (step ∷ steps) = last_word (side_word step.node step.side) steps
+
+-- how a node compares with one that it stands on a side of
+abbrev pub turn_of : Side → Ordering
+turn_of Left = Less
+turn_of Right = Greater
+
+-- from each layer the way goes on to the side where the node stands
+abbrev pub LeadBy : (ℕ → ℕ → Ordering) → ℕ → List Layer → Type 0
+LeadBy order node layers = AllByRecursion (λ layer. order node layer.at ≡ turn_of layer.side) layers
+
+-- nothing stands there, or a node that equals this one
+abbrev pub EndsAt : (ℕ → ℕ → Ordering) → ℕ → Tree → Type 0
+EndsAt order node leaf = ⊤
+EndsAt order node (fork left at colour right) = order node at ≡ Equal
+
+-- the steps lead to the node, or to the empty place where it would stand
+pub record IsWayTo (order : ℕ → ℕ → Ordering) (node : ℕ) (shape : Tree) (steps : List Step) : Type 0 where
+  pub layers : List Layer
+  pub rest : Tree
+  pub shape_is : plug rest layers ≡ shape
+  pub steps_are : steps ≡ steps_of layers
+  pub leads : LeadBy order node layers
+  pub ends : EndsAt order node rest
