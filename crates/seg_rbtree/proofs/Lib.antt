@@ -7,3 +7,5 @@ pub mod Keeping
 pub mod Turning
 pub mod Depth
 pub mod Walking
+pub mod Orders
+pub mod Balancing

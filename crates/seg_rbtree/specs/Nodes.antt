@@ -3,8 +3,10 @@
 --     colour_at bytes node                  the colour of a node, black where there is none
 --     shade colour                          the colour as shapes have it
 --     with_child, with_colour, with_new_node      the bytes with a child, a colour, or a red node without children
+--     raised bytes word node side           the same, with the node red and the child black
+--     straightened bytes word grandparent way parent turn      the bytes after two reds in a row below a black node were straightened
 --     rotated bytes word node side          the bytes after the node at a pointer word and its child on the other side changed places
-use Rattle.std.specs.Prelude.{ℕ, ◌+◌, ◌==◌, if◌then◌else◌, List, Option, None, Some}
+use Rattle.std.specs.Prelude.{ℕ, Bool, true, false, ◌+◌, ◌==◌, if◌then◌else◌, List, Option, None, Some}
 use Rattle.seg_spec.specs.Bytes.{word, set_word}
 use Rattle.seg_spec.specs.Pointer.{target, set_pointer}
 use Rattle.seg_spec.specs.Shapes
@@ -60,3 +62,26 @@ rotated_up bytes word node side (Some up) =
 -- the bytes after the node at a pointer word went down to a side, and its child on the other side came up
 abbrev pub rotated : List ℕ → ℕ → ℕ → Side → List ℕ
 rotated bytes word node side = rotated_up bytes word node side (target bytes (side_word node (opposite side)))
+
+-- the bytes with the node that came up black, and the other one red
+abbrev pub raised_up : List ℕ → ℕ → Option ℕ → List ℕ
+raised_up bytes node None = bytes
+raised_up bytes node (Some up) = with_colour (with_colour bytes up Black) node Red
+
+-- the bytes after the node at a pointer word went down to a side, red, and its child on the other side came up, black
+abbrev pub raised : List ℕ → ℕ → ℕ → Side → List ℕ
+raised bytes word node side = raised_up (rotated bytes word node side) node (target bytes (side_word node (opposite side)))
+
+abbrev pub is_same : Side → Side → Bool
+is_same Left Left = true
+is_same Left Right = false
+is_same Right Left = false
+is_same Right Right = true
+
+-- the bytes after the inner one of a node's grandchildren on a side came up, where the way turns
+abbrev pub turned_out : List ℕ → ℕ → Side → ℕ → Side → List ℕ
+turned_out bytes grandparent way parent turn = if is_same turn way then bytes else rotated bytes (side_word grandparent way) parent way
+
+-- the bytes after the middle one of three nodes came up to the pointer word
+abbrev pub straightened : List ℕ → ℕ → ℕ → Side → ℕ → Side → List ℕ
+straightened bytes word grandparent way parent turn = raised (turned_out bytes grandparent way parent turn) word grandparent (opposite way)
