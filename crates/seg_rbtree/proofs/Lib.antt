@@ -9,3 +9,6 @@ pub mod Depth
 pub mod Walking
 pub mod Orders
 pub mod Balancing
+pub mod Raising
+pub mod Settling
+pub mod Parting
