@@ -12,3 +12,4 @@ pub mod Balancing
 pub mod Raising
 pub mod Settling
 pub mod Parting
+pub mod Growing

@@ -1,5 +1,8 @@
-ghost use Rattle.std.specs.Prelude.{◌≡◌, ℕ, List};
+ghost use Rattle.std.specs.Prelude.{◌≡◌, ℕ, ◌+◌, ◌<◌, ◌^◌, List, ◌∷◌, length};
+ghost use Rattle.seg_spec.specs.Shapes.{nodes_of};
+ghost use Rattle.seg_spec.specs.Search.{Ascend, IsSearchTree};
 ghost use Rattle.seg_spec.specs.Window.{with_bytes};
+ghost use Rattle.seg_rbtree.specs.Changes.{StandApart, IsNew, with_node, Leaves};
 ghost use Rattle.seg_rbtree.specs.Nodes.{with_colour, raised, straightened};
 ghost use Rattle.seg_rbtree.specs.Rising.{IsRising, Settles};
 
@@ -18,7 +21,11 @@ impl Tree {
         order: &O,
         node: u32,
     )
-        ensures { w.new ≡ with_bytes w.old w.new.bytes }
+        ensures host { w.new ≡ with_bytes w.old w.new.bytes }
+        ensures added { O.exact → (shape : _) → IsSearchTree w.old.bytes self.root shape → Ascend (O.compare order.now w.old.bytes) (nodes_of shape)
+            → IsNew (O.compare order.now w.old.bytes) node (nodes_of shape) → StandApart (length w.old.bytes) self.root (node ∷ nodes_of shape)
+            → length (nodes_of shape) + 1 < 2 ^ 32
+            → Leaves w.old.bytes w.new.bytes self.root (node ∷ nodes_of shape) (with_node (O.compare order.now w.old.bytes) node (nodes_of shape)) }
     {
         let mut path = self.path_to(w, order, node);
         init(w, node);
