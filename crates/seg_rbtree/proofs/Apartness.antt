@@ -1,8 +1,8 @@
 -- Nodes that share no byte.
-use Rattle.std.proofs.Common.{◌≡◌, ℕ, ◌+◌, ◌≤◌, ◌⊎◌, inl, inr, List, [], ◌∷◌, ◌++◌, refl, arith}
+use Rattle.std.proofs.Common.{ℕ, ◌+◌, ◌≤◌, inl, inr, List, [], ◌∷◌, ◌++◌, arith}
 use Rattle.std.specs.List.{AllByRecursion}
 use Rattle.seg_spec.specs.Apart.{Separate}
-use Rattle.seg_spec.specs.Shapes.{Colour, Tree, fork, nodes_of}
+use Rattle.seg_spec.specs.Shapes.{Colour, Tree, nodes_of}
 use Rattle.seg_spec.proofs.Frame.{each_left, each_right, each_weaker}
 use Rattle.seg_rbtree.specs.declared.node.Side.{Side}
 use Rattle.seg_rbtree.specs.declared.node.Side.TheVariants.{Left, Right}

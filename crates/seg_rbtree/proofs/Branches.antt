@@ -1,7 +1,7 @@
 -- The parts of a tree, seen from a side.
 use Rattle.std.proofs.Common.{◌≡◌, ℕ, ◌+◌, List, [], ◌∷◌, ◌++◌, Option, Some, None, refl, sym, ap, subst, append_assoc}
 use Rattle.seg_spec.specs.Pointer.{target}
-use Rattle.seg_spec.specs.Shapes.{Colour, Tree, fork, nodes_of, HasColour, IsTree}
+use Rattle.seg_spec.specs.Shapes.{Colour, Tree, nodes_of, HasColour, IsTree}
 use Rattle.seg_rbtree.specs.declared.node.Side.{Side}
 use Rattle.seg_rbtree.specs.declared.node.Side.TheVariants.{Left, Right}
 use Rattle.seg_rbtree.specs.Nodes.{side_word, opposite}

@@ -1,12 +1,12 @@
 -- A tree while a node is added to it.
-use Rattle.std.proofs.Common.{◌≡◌, ◌≢◌, ℕ, suc, ◌+◌, ◌*◌, ◌^◌, ◌<◌, ◌≤◌, List, [], ◌∷◌, ◌++◌, length, Option, Some, None, MatchOption, refl, sym, ap, ◌∙◌, subst, arith}
+use Rattle.std.proofs.Common.{◌≡◌, ◌≢◌, ℕ, ◌+◌, ◌*◌, ◌^◌, ◌<◌, ◌≤◌, List, [], ◌∷◌, length, Option, Some, None, MatchOption, refl, sym, ap, ◌∙◌, subst, arith}
 use Rattle.std.specs.Cmp.{IsTotalOrder}
 use Rattle.std.specs.List.{AllByRecursion}
 use Rattle.std.specs.declared.cmp.Ordering.{Ordering}
 use Rattle.std.specs.declared.cmp.Ordering.TheVariants.{Equal}
 use Rattle.seg_spec.specs.Pointer.{target, set_pointer}
 use Rattle.seg_spec.specs.Apart.{Separate}
-use Rattle.seg_spec.specs.Shapes.{red, Tree, leaf, fork, nodes_of, IsTree, IsBlack, IsBalanced, IsRedBlack}
+use Rattle.seg_spec.specs.Shapes.{red, Tree, leaf, fork, nodes_of, IsTree, IsRedBlack}
 use Rattle.seg_spec.specs.Search.{Ascend, IsSearchTree}
 use Rattle.seg_spec.proofs.Frame.{each_left, each_right}
 use Rattle.seg_rbtree.specs.declared.node.Side.{Side}
@@ -24,7 +24,7 @@ use Rattle.seg_rbtree.proofs.Turning.{turns-new, turns-whole}
 use Rattle.seg_rbtree.proofs.Depth.{tall, deep-64, layers-deep}
 use Rattle.seg_rbtree.proofs.Walking.{length-steps}
 use Rattle.seg_rbtree.proofs.Orders.{nodes-added, each_with, apart-with_node, length-with_node}
-use Rattle.seg_rbtree.proofs.Balancing.{IsBalancedAt, balanced-down}
+use Rattle.seg_rbtree.proofs.Balancing.{balanced-down}
 
 -- what is true of each node is true of those that stand at a place
 pub each-down : (P : ℕ → Type 0) (tree : Tree) (layers : List Layer) → AllByRecursion P (nodes_of (plug tree layers)) → AllByRecursion P (nodes_of tree)
@@ -115,7 +115,7 @@ module _ (order : ℕ → ℕ → Ordering) (total : IsTotalOrder order) (old : 
               balanced = (tt, tt, refl, refl);
               wants = subst (Wants layers) low b.wants;
             },
-            short
+            short,
           );
         })
 

@@ -1,7 +1,7 @@
 -- What a write of a word keeps.
-use Rattle.std.proofs.Common.{◌≡◌, ◌≢◌, ℕ, ◌+◌, ◌^◌, ◌<◌, ◌≤◌, ◌⊎◌, inl, inr, List, [], ◌∷◌, ◌++◌, length, Option, Some, None, refl, sym, ap, ◌∙◌, subst, arith}
+use Rattle.std.proofs.Common.{◌≡◌, ◌≢◌, ℕ, ◌+◌, ◌≤◌, ◌⊎◌, inl, inr, List, [], ◌∷◌, ◌++◌, length, Option, Some, None, refl, sym, ◌∙◌, subst, arith}
 use Rattle.std.specs.List.{AllByRecursion}
-use Rattle.seg_spec.specs.Bytes.{slice, spelling, set_number, word, set_word, IsSame}
+use Rattle.seg_spec.specs.Bytes.{spelling, set_number, set_word, IsSame}
 use Rattle.seg_spec.specs.Pointer.{target, distance, set_pointer}
 use Rattle.seg_spec.specs.Apart.{Separate}
 use Rattle.seg_spec.specs.Shapes.{Colour, Tree, leaf, fork, nodes_of, HasColour, IsTree}
@@ -9,9 +9,6 @@ use Rattle.seg_spec.proofs.BytesLaws.{length-spelling, length-set_number}
 use Rattle.seg_spec.proofs.SliceLaws.{slice-put_other}
 use Rattle.seg_spec.proofs.PointerLaws.{target-set_same}
 use Rattle.seg_spec.proofs.Frame.{each_both, word-same, target-same, IsTree-same}
-use Rattle.seg_rbtree.specs.declared.node.Side.{Side}
-use Rattle.seg_rbtree.specs.declared.node.Side.TheVariants.{Left, Right}
-use Rattle.seg_rbtree.specs.Nodes.{side_word, opposite}
 use Rattle.seg_rbtree.specs.Changes.{StandApart, KeepsBeside}
 use Rattle.seg_rbtree.proofs.Apartness.{Clear, Beside, separate-swap, separate-part, nothing_beside}
 
@@ -105,6 +102,6 @@ root_of bytes (Some p) (fork l a c r) P h all t e =
 pub tree-hung : (bytes : List ℕ) (at : ℕ) (to : Option ℕ) (tree : Tree) → StandApart (length bytes) at (nodes_of tree) → IsTree bytes to tree → IsTree (set_pointer bytes at to) (target (set_pointer bytes at to) at) tree
 tree-hung bytes at to tree apart h =
     let names : target (set_pointer bytes at to) at ≡ to = target-set_same bytes at to apart.word_fits (omega (arith, apart.small, apart.word_fits)) (λ t e.
-        let fits : t + 16 ≤ length bytes = root_of bytes to tree (λ p. p + 16 ≤ length bytes) h apart.nodes_fit t e in
-        (omega (arith, apart.small), other_than_next at t (root_of bytes to tree (λ p. Separate at 4 p 16) h apart.word_apart t e))) in
+    let fits : t + 16 ≤ length bytes = root_of bytes to tree (λ p. p + 16 ≤ length bytes) h apart.nodes_fit t e in
+    (omega (arith, apart.small), other_than_next at t (root_of bytes to tree (λ p. Separate at 4 p 16) h apart.word_apart t e))) in
     subst (λ o. IsTree (set_pointer bytes at to) o tree) (sym names) (tree-word bytes at (distance at to) to tree apart.word_apart h)

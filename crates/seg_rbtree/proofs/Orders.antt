@@ -1,11 +1,11 @@
 -- The nodes of a tree with one more, in their order.
-use Rattle.std.proofs.Common.{◌≡◌, ◌≢◌, ℕ, suc, ◌+◌, ◌≤◌, Bool, true, false, List, [], ◌∷◌, ◌++◌, length, cond, refl, sym, ap, ◌∙◌, subst, arith}
+use Rattle.std.proofs.Common.{◌≡◌, ℕ, suc, ◌+◌, ◌≤◌, Bool, true, false, List, [], ◌∷◌, ◌++◌, length, refl, sym, ap, ◌∙◌, subst}
 use Rattle.std.specs.Cmp.{IsTotalOrder}
 use Rattle.std.specs.Ordering.{is_lt, ordering_reverse}
 use Rattle.std.specs.List.{AllByRecursion}
 use Rattle.std.specs.declared.cmp.Ordering.{Ordering}
 use Rattle.std.specs.declared.cmp.Ordering.TheVariants.{Less, Equal, Greater}
-use Rattle.seg_spec.specs.Shapes.{Tree, leaf, fork, red, nodes_of}
+use Rattle.seg_spec.specs.Shapes.{Tree, nodes_of}
 use Rattle.seg_spec.specs.Search.{Ascend}
 use Rattle.seg_spec.specs.Apart.{Separate}
 use Rattle.seg_spec.proofs.Frame.{each_left, each_right, each_weaker}
@@ -13,7 +13,7 @@ use Rattle.seg_rbtree.specs.declared.node.Side.{Side}
 use Rattle.seg_rbtree.specs.declared.node.Side.TheVariants.{Left, Right}
 use Rattle.seg_rbtree.specs.Ways.{Layer, branch, grow, plug, turn_of, LeadBy}
 use Rattle.seg_rbtree.specs.Changes.{NodesApart, StandApart, IsNew, with_node}
-use Rattle.seg_rbtree.proofs.Apartness.{Clear, separate-swap}
+use Rattle.seg_rbtree.proofs.Apartness.{separate-swap}
 
 -- ---- parts of what is in order
 

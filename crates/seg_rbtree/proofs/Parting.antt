@@ -1,5 +1,5 @@
 -- Two reds in a row below a black node: its red children become black, or it goes down.
-use Rattle.std.proofs.Common.{◌≡◌, ℕ, suc, ◌+◌, ◌≤◌, inl, inr, List, [], ◌∷◌, ◌++◌, length, Option, Some, None, refl, sym, ap, ◌∙◌, subst, length-append, arith}
+use Rattle.std.proofs.Common.{◌≡◌, ℕ, suc, ◌+◌, ◌≤◌, inl, List, [], ◌∷◌, ◌++◌, length, Option, Some, None, refl, sym, ap, ◌∙◌, subst, length-append, arith}
 use Rattle.seg_spec.specs.Pointer.{target}
 use Rattle.seg_spec.specs.Shapes
 use Rattle.seg_spec.specs.Shapes.{black, red, Tree, leaf, fork, nodes_of, HasColour, IsTree, IsBlack, IsBalanced}
@@ -12,14 +12,14 @@ use Rattle.seg_rbtree.specs.Ways.{Layer, branch, plug, place, steps_of, last_wor
 use Rattle.seg_rbtree.specs.Changes.{StandApart}
 use Rattle.seg_rbtree.specs.Turns.{Turns}
 use Rattle.seg_rbtree.specs.Balance.{Wants}
-use Rattle.seg_rbtree.specs.Rising.{IsRising, IsSettled, Settles}
+use Rattle.seg_rbtree.specs.Rising.{IsRising, Settles}
 use Rattle.seg_rbtree.proofs.Apartness.{parts-apart, apart-down}
 use Rattle.seg_rbtree.proofs.Branches.{branch-parts, branch-flip, nodes-branch, tree-down}
 use Rattle.seg_rbtree.proofs.Steps.{last_word-steps}
 use Rattle.seg_rbtree.proofs.Turning.{turns-then, turns-room, turns-up, turns-painted}
-use Rattle.seg_rbtree.proofs.Balancing.{IsBalancedAt, balanced-up, balanced-black, balanced-red, red-parts, black-branch}
-use Rattle.seg_rbtree.proofs.Raising.{Straightens, straightens}
-use Rattle.seg_rbtree.proofs.Settling.{read-red, read-black, Becomes, becomes, IsFamily}
+use Rattle.seg_rbtree.proofs.Balancing.{balanced-up, balanced-black, balanced-red, red-parts, black-branch}
+use Rattle.seg_rbtree.proofs.Raising.{straightens}
+use Rattle.seg_rbtree.proofs.Settling.{read-red, read-black, becomes, IsFamily}
 
 -- a change of the other child of a node
 pub turns-up_far : (old new : List ℕ) (at : ℕ) (side : Side) (node : ℕ) (colour : Shapes.Colour) (near x room y : Tree) → IsTree old (target old at) (branch side node colour near x) → StandApart (length old) at (nodes_of (branch side node colour near room))
@@ -154,8 +154,11 @@ module _ (bytes : List ℕ) (root : ℕ) (nodes : List ℕ) (node : ℕ) (parent
       let parent_now : IsBalanced (branch parent.side p black lower f.sibling) (suc f.height) = balanced-black parent.side p lower f.sibling f.height f.balanced f.sibling_balanced in
       record {
         kept = all.kept;
-        rises = (rising new root more nodes way g (branch parent.side p black lower f.sibling) (fork left u black right) f.layers (suc f.height) f.rest_are all.hangs all.nodes_are all.apart
-        (balanced-red way g (branch parent.side p black lower f.sibling) (fork left u black right) (suc f.height) (black-branch parent.side p lower f.sibling) tt parent_now uncle_now) f.wants, short);
+        rises = (
+          rising new root more nodes way g (branch parent.side p black lower f.sibling) (fork left u black right) f.layers (suc f.height) f.rest_are all.hangs all.nodes_are all.apart
+              (balanced-red way g (branch parent.side p black lower f.sibling) (fork left u black right) (suc f.height) (black-branch parent.side p lower f.sibling) tt parent_now uncle_now) f.wants,
+          short,
+        );
       }
 
   -- the uncle is red: the black node above becomes red, and both below it black

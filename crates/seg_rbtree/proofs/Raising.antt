@@ -1,5 +1,5 @@
 -- Two reds in a row below a black node are straightened.
-use Rattle.std.proofs.Common.{◌≡◌, ℕ, suc, List, length, Option, Some, refl, sym, ap, ◌∙◌, subst}
+use Rattle.std.proofs.Common.{◌≡◌, ℕ, suc, List, length, refl, sym, ap, ◌∙◌, subst}
 use Rattle.seg_spec.specs.Pointer.{target}
 use Rattle.seg_spec.specs.Shapes.{Colour, black, red, Tree, fork, nodes_of, IsTree, IsBlack, IsBalanced}
 use Rattle.seg_rbtree.specs.declared.node.Side.{Side}

@@ -1,26 +1,23 @@
 -- One turn of a red node that goes up a tree.
-use Rattle.std.proofs.Common.{◌≡◌, ℕ, suc, ◌+◌, ◌≤◌, ◌⊎◌, inl, inr, Bool, true, false, cond, eqb, List, [], ◌∷◌, ◌++◌, length, Option, Some, None, refl, sym, ap, ◌∙◌, subst, length-append, arith}
+use Rattle.std.proofs.Common.{◌≡◌, ℕ, suc, ◌+◌, inr, cond, eqb, List, [], ◌∷◌, ◌++◌, length, Some, None, refl, sym, ap, ◌∙◌, subst, length-append, arith}
 use Rattle.seg_spec.specs.Bytes.{word}
 use Rattle.seg_spec.specs.Pointer.{target}
 use Rattle.seg_spec.specs.Shapes
 use Rattle.seg_spec.specs.Shapes.{black, red, Tree, leaf, fork, nodes_of, HasColour, IsTree, IsBlack, IsBalanced, IsRedBlack}
 use Rattle.seg_rbtree.specs.declared.node.Side.{Side}
-use Rattle.seg_rbtree.specs.declared.node.Side.TheVariants.{Left, Right}
-use Rattle.seg_rbtree.specs.declared.node.Colour.{Colour}
+use Rattle.seg_rbtree.specs.declared.node.Side.TheVariants.{Left}
 use Rattle.seg_rbtree.specs.declared.node.Colour.TheVariants.{Black, Red}
 use Rattle.seg_rbtree.specs.declared.path.Step.{Step}
-use Rattle.seg_rbtree.specs.Nodes.{side_word, opposite, colour_at, with_colour, straightened}
+use Rattle.seg_rbtree.specs.Nodes.{colour_at, with_colour}
 use Rattle.seg_rbtree.specs.Ways.{Layer, branch, grow, plug, place, step_of, steps_of}
 use Rattle.seg_rbtree.specs.Changes.{StandApart, KeepsBeside}
 use Rattle.seg_rbtree.specs.Turns.{Turns}
 use Rattle.seg_rbtree.specs.Balance.{IsBelowBlack, height_above, SideFits, Wants}
-use Rattle.seg_rbtree.specs.Rising.{IsRising, IsSettled, Settles}
-use Rattle.seg_rbtree.proofs.Apartness.{parts-apart, apart-down}
-use Rattle.seg_rbtree.proofs.Branches.{branch-parts, branch-flip, nodes-branch, nodes-plug, tree-down}
+use Rattle.seg_rbtree.specs.Rising.{IsRising, Settles}
+use Rattle.seg_rbtree.proofs.Branches.{branch-parts, nodes-plug, tree-down}
 use Rattle.seg_rbtree.proofs.Keeping.{keeps-none}
-use Rattle.seg_rbtree.proofs.Turning.{turns-none, turns-then, turns-room, turns-up, turns-whole, turns-painted}
-use Rattle.seg_rbtree.proofs.Balancing.{IsBalancedAt, balanced-up, balanced-black, balanced-red, red-parts, black-branch}
-use Rattle.seg_rbtree.proofs.Raising.{Straightens, straightens}
+use Rattle.seg_rbtree.proofs.Turning.{turns-whole, turns-painted}
+use Rattle.seg_rbtree.proofs.Balancing.{balanced-up}
 
 -- ---- colours that are read
 

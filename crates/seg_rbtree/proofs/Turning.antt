@@ -1,10 +1,9 @@
 -- Changes at a place, and what they make of the whole tree.
-use Rattle.std.proofs.Common.{◌≡◌, ℕ, ◌+◌, ◌≤◌, ◌<◌, ◌^◌, List, [], ◌∷◌, ◌++◌, length, Option, Some, None, refl, sym, ap, ◌∙◌, subst, inl, inr, arith}
-use Rattle.std.specs.List.{AllByRecursion}
+use Rattle.std.proofs.Common.{◌≡◌, ℕ, ◌+◌, ◌≤◌, ◌<◌, ◌^◌, List, [], ◌∷◌, ◌++◌, length, Option, Some, None, refl, sym, ◌∙◌, subst, inl, inr, arith}
 use Rattle.seg_spec.specs.Bytes.{word, set_word}
 use Rattle.seg_spec.specs.Pointer.{target, distance, set_pointer}
 use Rattle.seg_spec.specs.Apart.{Separate}
-use Rattle.seg_spec.specs.Shapes.{Colour, black, red, colour_word, Tree, leaf, fork, nodes_of, HasColour, IsTree}
+use Rattle.seg_spec.specs.Shapes.{Colour, red, colour_word, Tree, leaf, fork, nodes_of, HasColour, IsTree}
 use Rattle.seg_spec.proofs.BytesLaws.{length-set_number, number-set_same, number-set_other}
 use Rattle.seg_spec.proofs.PointerLaws.{target-set_same}
 use Rattle.seg_rbtree.specs.declared.node.Side.{Side}
@@ -15,8 +14,8 @@ use Rattle.seg_rbtree.specs.Nodes.{side_word, opposite, colour_number, shade, wi
 use Rattle.seg_rbtree.specs.Ways.{Layer, branch, grow, plug, place}
 use Rattle.seg_rbtree.specs.Changes.{StandApart, KeepsBeside}
 use Rattle.seg_rbtree.specs.Turns.{Turns}
-use Rattle.seg_rbtree.proofs.Apartness.{Clear, Beside, PartsApart, parts-apart, apart-down, separate-swap, separate-part, clear-part, side_word-clear, side_word-apart, beside-swap}
-use Rattle.seg_rbtree.proofs.Branches.{IsBranch, branch-parts, branch-whole, branch-flip, opposite-twice, nodes-rotated, tree-down}
+use Rattle.seg_rbtree.proofs.Apartness.{Clear, parts-apart, apart-down, separate-swap, separate-part, clear-part, side_word-clear, side_word-apart}
+use Rattle.seg_rbtree.proofs.Branches.{branch-parts, branch-whole, branch-flip, opposite-twice, nodes-rotated, tree-down}
 use Rattle.seg_rbtree.proofs.Keeping.{keeps-none, keeps-trans, keeps-word, keeps-inside, keeps-wider, target-kept, colour-kept, tree-kept, tree-word, target-word, colour-word, tree-hung}
 
 -- ---- one after another
@@ -134,6 +133,7 @@ recolour bytes node side colour paint near far fits cn cf h =
     beside : (s : Side) → Separate (side_word node s) 4 (node + 8) 4
     beside Left = inl (omega arith)
     beside Right = inl (omega arith)
+
     zero : word bytes (node + 12) ≡ 0 → word (with_colour bytes node paint) (node + 12) ≡ 0
     zero z = number-set_other 4 4 bytes (node + 8) (colour_number paint) (node + 12) (inr (omega arith)) ∙ z
 

@@ -1,6 +1,6 @@
-use Rattle.std.proofs.Common.{◌≡◌, ℕ, List, true, false, Option, Some, None, [], ◌∷◌, ◌++◌, refl, sym, ap, ◌∙◌, subst}
+use Rattle.std.proofs.Common.{◌≡◌, true, false, Some, None, refl, sym, ap, ◌∙◌, subst}
 use Rattle.seg_spec.specs.Pointer.{target}
-use Rattle.seg_spec.specs.Window.{Placement, with_bytes}
+use Rattle.seg_spec.specs.Window.{Placement}
 use Rattle.seg_rbtree.specs.declared.node.Colour.TheVariants.{Black, Red}
 use Rattle.seg_rbtree.specs.Nodes.{side_word, opposite, colour_at}
 use Rattle.seg_rbtree.specs.Ways.{last_word}

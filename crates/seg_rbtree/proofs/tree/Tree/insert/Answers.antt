@@ -23,9 +23,9 @@ loop-init g c = record {
       let order = g.O.NodeOrder.compare c.args.order.now old in
       let steps = c.path_to-path.result.steps.items in
       let now : c.set.new.w.bytes ≡ set_pointer (with_new_node old node) (last_word root steps) (Some node) =
-          ap (λ (p : Placement). p.bytes) c.set.ensures
-          ∙ ap (λ (p : Placement). set_pointer p.bytes (last_word c.path_to-path.result.root steps) (Some node)) c.init.ensures
-          ∙ ap (λ (r : ℕ). set_pointer (with_new_node old node) (last_word r steps) (Some node)) c.path_to-path.ensures.root in
+      ap (λ (p : Placement). p.bytes) c.set.ensures
+      ∙ ap (λ (p : Placement). set_pointer p.bytes (last_word c.path_to-path.result.root steps) (Some node)) c.init.ensures
+      ∙ ap (λ (r : ℕ). set_pointer (with_new_node old node) (last_word r steps) (Some node)) c.path_to-path.ensures.root in
       subst (λ bs. IsGrowing old bs root (with_node order node (nodes_of shape)) steps (Some node) 0) (sym now)
       (growing_start order (g.met.O.NodeOrder.total exact c.args.order.now old) old root node shape f t a s steps n (c.path_to-path.ensures.way exact shape t));
 }

@@ -1,5 +1,4 @@
 use Rattle.std.proofs.Common.{◌≡◌, true, length, sym, ap, ◌∙◌, arith}
-use Rattle.std.specs.declared.cmp.Ordering.{Ordering}
 use Rattle.seg_spec.specs.Pointer.{target}
 use Rattle.seg_rbtree.specs.Ways.{last_word, turn_of}
 use Rattle.seg_rbtree.proofs.Walking.{walking_start, walking_room, walked, walked_to_end, walked_to_node, walked_all}
