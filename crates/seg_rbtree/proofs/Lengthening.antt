@@ -1,10 +1,8 @@
 -- What the steps that make a short part longer do to the bytes.
-use Rattle.std.proofs.Common.{◌≡◌, ℕ, suc, ◌+◌, ◌<◌, ◌≤◌, ◌↔◌, Bool, IsTrue, true, false, List, [], ◌∷◌, ◌++◌, length, Option, Some, None, refl, sym, ap, ◌∙◌, subst, arith}
+use Rattle.std.proofs.Common.{◌≡◌, ℕ, suc, ◌+◌, ◌<◌, ◌↔◌, Bool, IsTrue, true, false, List, [], ◌∷◌, ◌++◌, length, Option, Some, None, refl, sym, ap, ◌∙◌, subst, arith}
 use Rattle.std.proofs.lemmas.List.{length-append}
-use Rattle.std.proofs.lemmas.Bool.Decides.{nat_tests}
-use Rattle.seg_spec.specs.Bytes.{word}
 use Rattle.seg_spec.specs.Pointer.{target}
-use Rattle.seg_spec.specs.Shapes.{Colour, black, red, colour_word, Tree, leaf, fork, nodes_of, HasColour, IsTree, IsBlack, IsBalanced, IsRedBlack}
+use Rattle.seg_spec.specs.Shapes.{Colour, black, red, Tree, leaf, fork, nodes_of, HasColour, IsTree, IsBlack}
 use Rattle.seg_rbtree.specs.declared.node.Side.{Side}
 use Rattle.seg_rbtree.specs.declared.node.Side.TheVariants.{Left, Right}
 use Rattle.seg_rbtree.specs.declared.node.Colour.{Colour as Paint}
@@ -12,16 +10,16 @@ use Rattle.seg_rbtree.specs.declared.node.Colour.TheVariants.{Black, Red}
 use Rattle.seg_rbtree.specs.declared.path.Path.{Path}
 use Rattle.seg_rbtree.specs.declared.path.Step.{Step}
 use Rattle.seg_rbtree.specs.Nodes.{side_word, opposite, shade, colour_at, with_colour, rotated}
-use Rattle.seg_rbtree.specs.Ways.{Layer, branch, grow, plug, place, step_of, steps_of, last_word}
-use Rattle.seg_rbtree.specs.Changes.{StandApart, KeepsBeside}
+use Rattle.seg_rbtree.specs.Ways.{Layer, branch, plug, place, step_of, steps_of, last_word}
+use Rattle.seg_rbtree.specs.Changes.{StandApart}
 use Rattle.seg_rbtree.specs.Turns.{Turns}
-use Rattle.seg_rbtree.specs.Removing.{layer_at, StandsAt, ComesUp, Lowers, IsShort, IsWhole, Lengthens, turns}
+use Rattle.seg_rbtree.specs.Removing.{layer_at, StandsAt, ComesUp, Lowers, IsShort, Lengthens}
 use Rattle.seg_rbtree.proofs.Steps.{last_word-steps}
 use Rattle.seg_rbtree.proofs.Apartness.{parts-apart, apart-down}
-use Rattle.seg_rbtree.proofs.Branches.{branch-parts, branch-flip, opposite-twice, nodes-rotated, nodes-branch, tree-down}
+use Rattle.seg_rbtree.proofs.Branches.{branch-parts, nodes-rotated, tree-down}
 use Rattle.seg_rbtree.proofs.Turning.{turns-none, turns-then, turns-room, turns-up, turns-whole, turns-painted, turns-rotated}
 use Rattle.seg_rbtree.proofs.ShortSide.{not_red, red_is_not_black, lowered, lowered_sooner, shortened, shortened_sooner, inner_came_up, outer_came_up, painted_black, short_root, whole_red_black, sibling_stands, few_above}
-use Rattle.seg_rbtree.proofs.Unlinking.{plug_same, recoloured_nodes, rotated_nodes, inner_nodes, outer_nodes}
+use Rattle.seg_rbtree.proofs.Unlinking.{plug_same, recoloured_nodes, rotated_nodes, outer_nodes}
 
 pub snoc_parts : {X : Type 0} (xs ys : List X) (x y : X) → xs ++ x ∷ [] ≡ ys ++ y ∷ [] → (xs ≡ ys) × (x ≡ y)
 snoc_parts [] [] x y e = (refl, cc)
@@ -173,7 +171,7 @@ module _ (bytes one two new : List ℕ) (path : Path) (side : Side) (node up : �
       let same : read ≡ up = same_some (target bytes (side_word node (opposite side))) read up e high.named in
       let w = path_word bytes path layers (branch side node colour x (branch side up other m d)) s in
       let is : new ≡ with_colour (with_colour (rotated bytes at node side) up upper) node lower =
-          e3 ∙ ap (λ b. with_colour b node lower) (e2 ∙ ap (λ p. with_colour one p upper) same ∙ ap (λ b. with_colour b up upper) (e1 ∙ ap (λ q. rotated bytes q node side) w)) in
+      e3 ∙ ap (λ b. with_colour b node lower) (e2 ∙ ap (λ p. with_colour one p upper) same ∙ ap (λ b. with_colour b up upper) (e1 ∙ ap (λ q. rotated bytes q node side) w)) in
       turned_at bytes new path layers (branch side node colour x (branch side up other m d)) (branch side up (shade upper) (branch side node (shade lower) x m) d) s
       (subst (λ b. Turns bytes b at (branch side node colour x (branch side up other m d)) (branch side up (shade upper) (branch side node (shade lower) x m) d)) (sym is) (turned_painted bytes at side node up colour other x m d upper lower h a))
 
@@ -278,8 +276,11 @@ module _ (bytes new : List ℕ) (path : Path) (side : Side) (node sibling : ℕ)
     part = branch side node colour x (branch side sibling red m d);
     turned = sibling_painted e;
     nodes_are = plug_same layers (branch side node colour x (branch side sibling red m d)) both (outer_nodes side x (branch side sibling red m d) (branch side sibling black m d) node colour (recoloured_nodes side m d sibling red black));
-    state = (shortened side node sibling colour m d layers x bx (black_root bytes (target bytes (side_word sibling side)) m inner_hangs bm) (black_root bytes (target bytes (side_word sibling (opposite side))) d outer_hangs bd) short,
-        s.steps_are, shortened_sooner (layer_at side node colour (branch side sibling black m d)) layers x (branch side sibling red m d) bx);
+    state = (
+      shortened side node sibling colour m d layers x bx (black_root bytes (target bytes (side_word sibling side)) m inner_hangs bm) (black_root bytes (target bytes (side_word sibling (opposite side))) d outer_hangs bd) short,
+      s.steps_are,
+      shortened_sooner (layer_at side node colour (branch side sibling black m d)) layers x (branch side sibling red m d) bx,
+    );
   }
 
 module _ (bytes one : List ℕ) (path : Path) (side : Side) (node sibling : ℕ) (colour : Colour) (layers : List Layer) (x m : Tree) where
@@ -320,7 +321,7 @@ module _ (bytes one : List ℕ) (path : Path) (side : Side) (node sibling : ℕ)
       let same : outer ≡ f.at = same_some (target bytes (side_word sibling (opposite side))) outer f.at e f.named in
       let law = λ (s : StandsAt bytes path layers (branch side node colour x (branch side sibling black m (fork f.left f.at red f.right)))). by_outer_at new f.left f.right f.at s (e1 ∙ ap (λ p. with_colour bytes p Black) same) (up (fork f.left f.at black f.right)) in
       (subst (λ o. StandsAt bytes path layers (branch side node colour x (branch side sibling black m o)) → IsShort (layer_at side node colour (branch side sibling black m o) ∷ layers) x → IsBlack x
-          → Lengthens bytes new path (layer_at side node colour (branch side sibling black m o) ∷ layers) x false) (sym f.tree_is) law) s short bx
+      → Lengthens bytes new path (layer_at side node colour (branch side sibling black m o) ∷ layers) x false) (sym f.tree_is) law) s short bx
 
 -- a red tree, seen from a side
 pub record IsRedBranch (side : Side) (tree : Tree) (to : Option ℕ) : Type 0 where
@@ -344,8 +345,8 @@ module _ (bytes one : List ℕ) (path : Path) (side : Side) (node sibling : ℕ)
       let between = branch side node colour x turned_part in
       let after = branch side inner colour (branch side node black x near) (branch side sibling black far d) in
       let t : Turns bytes one path.root (plug old layers) (plug between layers) = sibling_turned bytes one path side node sibling colour layers x m d s turned_part
-          (subst (λ b. Turns bytes b (side_word node (opposite side)) (branch side sibling black m d) turned_part) (sym e)
-          (rotated_back bytes (side_word node (opposite side)) side sibling inner black red near far d (sibling_hangs bytes one path side node sibling colour layers x m d s) (sibling_apart bytes one path side node sibling colour layers x m d s))) in
+      (subst (λ b. Turns bytes b (side_word node (opposite side)) (branch side sibling black m d) turned_part) (sym e)
+      (rotated_back bytes (side_word node (opposite side)) side sibling inner black red near far d (sibling_hangs bytes one path side node sibling colour layers x m d s) (sibling_apart bytes one path side node sibling colour layers x m d s))) in
       let n : nodes_of (plug between layers) ≡ nodes_of (plug old layers) = plug_same layers between old (outer_nodes side x turned_part (branch side sibling black m d) node colour (rotated_nodes side near far d inner sibling red black red black)) in
       let u = up (stands_again bytes one path path layers layers old between s refl s.steps_are t n) in
       record {
@@ -365,7 +366,7 @@ module _ (bytes one : List ℕ) (path : Path) (side : Side) (node sibling : ℕ)
       let f = red_branch side m (target bytes (side_word sibling side)) (red_root bytes (target bytes (side_word sibling side)) m (inner_hangs bytes one path side node sibling colour layers x m d s) is_red) in
       let law = λ (s : StandsAt bytes path layers (branch side node colour x (branch side sibling black (branch side f.at red f.near f.far) d))). by_inner_at new f.at f.near f.far s e (up f.at f.near (branch side sibling black f.far d)) in
       (subst (λ o. StandsAt bytes path layers (branch side node colour x (branch side sibling black o d)) → IsShort (layer_at side node colour (branch side sibling black o d) ∷ layers) x → IsBlack x
-          → Lengthens bytes new path (layer_at side node colour (branch side sibling black o d) ∷ layers) x false) (sym f.tree_is) law) s short bx
+      → Lengthens bytes new path (layer_at side node colour (branch side sibling black o d) ∷ layers) x false) (sym f.tree_is) law) s short bx
 
 pub not_red_paint : (bytes : List ℕ) (to : Option ℕ) → (colour_at bytes to ≡ Red → ⊥) → colour_at bytes to ≡ Black
 not_red_paint bytes to n = go (colour_at bytes to) n
@@ -406,12 +407,12 @@ pub by_lower : (bytes new : List ℕ) (path last : Path) (side : Side) (node sib
 by_lower bytes new path last side node sibling e is_red low layers x other colour s short b =
     let f = painted_fork bytes side sibling (target bytes (side_word node (opposite side))) other Red e is_red (beside_hangs bytes path layers side node colour x other s) in
     let law = λ (s : StandsAt bytes path layers (branch side node colour x (branch side sibling red f.near f.far))) (short : IsShort (layer_at side node colour (branch side sibling red f.near f.far) ∷ layers) x).
-        lowering bytes new last side node sibling colour layers x f.near f.far (low layers x f.near f.far colour red s (short_few (layer_at side node colour (branch side sibling red f.near f.far)) layers x short)) short b in
+    lowering bytes new last side node sibling colour layers x f.near f.far (low layers x f.near f.far colour red s (short_few (layer_at side node colour (branch side sibling red f.near f.far)) layers x short)) short b in
     (subst (λ o. StandsAt bytes path layers (branch side node colour x o) → IsShort (layer_at side node colour o ∷ layers) x → Lengthens bytes new last (layer_at side node colour o ∷ layers) x true) (sym f.tree_is) law) s short
 
 pub by_borrow : (bytes new : List ℕ) (path last : Path) (side : Side) (node sibling : ℕ) (more : Bool) → target bytes (side_word node (opposite side)) ≡ Some sibling → colour_at bytes (Some sibling) ≡ Black
     → ((layers : List Layer) (x m d : Tree) (colour : Colour) → StandsAt bytes path layers (branch side node colour x (branch side sibling black m d)) → IsShort (layer_at side node colour (branch side sibling black m d) ∷ layers) x → IsBlack x
-        → Lengthens bytes new last (layer_at side node colour (branch side sibling black m d) ∷ layers) x more)
+    → Lengthens bytes new last (layer_at side node colour (branch side sibling black m d) ∷ layers) x more)
     → (layers : List Layer) (x other : Tree) (colour : Colour) → StandsAt bytes path layers (branch side node colour x other) → IsShort (layer_at side node colour other ∷ layers) x → IsBlack x → Lengthens bytes new last (layer_at side node colour other ∷ layers) x more
 by_borrow bytes new path last side node sibling more e is_black law layers x other colour s short b =
     let f = painted_fork bytes side sibling (target bytes (side_word node (opposite side))) other Black e is_black (beside_hangs bytes path layers side node colour x other s) in
@@ -432,15 +433,15 @@ red_part bytes new path to node e1 e2 is_red e3 layers x s short =
     let named : target bytes (place path.root layers) ≡ Some node = ap (target bytes) (sym (path_word bytes path layers x s)) ∙ sym e1 ∙ e2 in
     let f = painted_fork bytes Left node (target bytes (place path.root layers)) x Red named (ap (colour_at bytes) (sym e2) ∙ is_red) (here bytes path layers x s) in
     let law = λ (s : StandsAt bytes path layers (fork f.near node red f.far)) (short : IsShort layers (fork f.near node red f.far)).
-        let t : Turns bytes new (place path.root layers) (fork f.near node red f.far) (fork f.near node black f.far) = subst (λ b. Turns bytes b (place path.root layers) (fork f.near node red f.far) (fork f.near node black f.far)) (sym e3)
-            (turns-painted bytes (place path.root layers) Left node red Black f.near f.far (here bytes path layers (fork f.near node red f.far) s) (here_apart bytes path layers (fork f.near node red f.far) s)) in
-        let done : Lengthens bytes new path layers (fork f.near node red f.far) false = record {
-          above = layers;
-          part = fork f.near node black f.far;
-          turned = turned_at bytes new path layers (fork f.near node red f.far) (fork f.near node black f.far) s t;
-          nodes_are = plug_same layers (fork f.near node black f.far) (fork f.near node red f.far) refl;
-          state = whole_red_black layers (fork f.near node black f.far) (painted_black layers f.near f.far node short);
-        } in done in
+    let t : Turns bytes new (place path.root layers) (fork f.near node red f.far) (fork f.near node black f.far) = subst (λ b. Turns bytes b (place path.root layers) (fork f.near node red f.far) (fork f.near node black f.far)) (sym e3)
+    (turns-painted bytes (place path.root layers) Left node red Black f.near f.far (here bytes path layers (fork f.near node red f.far) s) (here_apart bytes path layers (fork f.near node red f.far) s)) in
+    let done : Lengthens bytes new path layers (fork f.near node red f.far) false = record {
+      above = layers;
+      part = fork f.near node black f.far;
+      turned = turned_at bytes new path layers (fork f.near node red f.far) (fork f.near node black f.far) s t;
+      nodes_are = plug_same layers (fork f.near node black f.far) (fork f.near node red f.far) refl;
+      state = whole_red_black layers (fork f.near node black f.far) (painted_black layers f.near f.far node short);
+    } in done in
     (subst (λ o. StandsAt bytes path layers o → IsShort layers o → Lengthens bytes new path layers o false) (sym f.tree_is) law) s short
 
 pub black_part : (bytes : List ℕ) (path : Path) (to : Option ℕ) → to ≡ target bytes (last_word path.root path.steps.items) → (colour_at bytes to ≡ Red → ⊥) → (layers : List Layer) (x : Tree) → StandsAt bytes path layers x → IsBlack x

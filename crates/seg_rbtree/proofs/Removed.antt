@@ -1,5 +1,5 @@
 -- A tree without one of its nodes.
-use Rattle.std.proofs.Common.{◌≡◌, ◌≢◌, ℕ, suc, ◌+◌, ◌^◌, ◌<◌, ◌≤◌, Bool, true, false, not, eqb, List, [], ◌∷◌, ◌++◌, length, Option, Some, None, refl, sym, ap, ◌∙◌, subst, arith}
+use Rattle.std.proofs.Common.{◌≡◌, ◌≢◌, ℕ, ◌+◌, ◌^◌, ◌<◌, Bool, true, false, not, eqb, List, [], ◌∷◌, ◌++◌, length, Option, Some, None, refl, sym, ap, ◌∙◌, subst, arith}
 use Rattle.std.proofs.lemmas.List.{length-append}
 use Rattle.std.proofs.lemmas.Bool.Decides.{nat_tests}
 use Rattle.std.specs.Option.{option_eq}
@@ -9,7 +9,7 @@ use Rattle.std.specs.List.{AllByRecursion}
 use Rattle.std.specs.declared.cmp.Ordering.{Ordering}
 use Rattle.std.specs.declared.cmp.Ordering.TheVariants.{Less, Equal, Greater}
 use Rattle.seg_spec.specs.Pointer.{target}
-use Rattle.seg_spec.specs.Shapes.{Colour, Tree, leaf, fork, nodes_of, IsTree, IsRedBlack}
+use Rattle.seg_spec.specs.Shapes.{Tree, leaf, fork, nodes_of, IsTree, IsRedBlack}
 use Rattle.seg_spec.specs.Search.{Ascend, IsSearchTree}
 use Rattle.seg_spec.specs.Apart.{Separate}
 use Rattle.seg_spec.proofs.Frame.{each_left, each_right, each_weaker}
@@ -17,11 +17,11 @@ use Rattle.seg_rbtree.specs.declared.node.Side.{Side}
 use Rattle.seg_rbtree.specs.declared.node.Side.TheVariants.{Left, Right}
 use Rattle.seg_rbtree.specs.declared.node.Colour.TheVariants.{Black, Red}
 use Rattle.seg_rbtree.specs.declared.path.Path.{Path}
-use Rattle.seg_rbtree.specs.Ways.{Layer, branch, grow, plug, place, steps_of, last_word, turn_of, LeadBy, EndsAt, IsWayTo}
-use Rattle.seg_rbtree.specs.Changes.{StandApart, NodesApart, KeepsBeside, Leaves, without_node}
+use Rattle.seg_rbtree.specs.Ways.{Layer, branch, grow, plug, place, last_word, turn_of, LeadBy, EndsAt, IsWayTo}
+use Rattle.seg_rbtree.specs.Changes.{StandApart, KeepsBeside, Leaves, without_node}
 use Rattle.seg_rbtree.specs.Turns.{Turns}
-use Rattle.seg_rbtree.specs.Removing.{StandsAt, IsShort, IsWhole, Loses, Unlinks, Restores}
-use Rattle.seg_rbtree.proofs.Apartness.{Clear, each_join}
+use Rattle.seg_rbtree.specs.Removing.{StandsAt, Loses, Unlinks, Restores}
+use Rattle.seg_rbtree.proofs.Apartness.{each_join}
 use Rattle.seg_rbtree.proofs.Keeping.{keeps-none, keeps-trans, keeps-wider}
 use Rattle.seg_rbtree.proofs.Orders.{ascend-parts, ascend-down}
 use Rattle.seg_rbtree.proofs.ShortSide.{whole_red_black}

@@ -1,5 +1,5 @@
 -- A part with one black node too few on each way down, and each way to give it one.
-use Rattle.std.proofs.Common.{◌≡◌, ℕ, suc, ◌+◌, ◌*◌, ◌^◌, ◌<◌, ◌≤◌, ◌⊎◌, inl, inr, List, [], ◌∷◌, ◌++◌, length, refl, sym, ap, ◌∙◌, subst, arith}
+use Rattle.std.proofs.Common.{◌≡◌, ℕ, suc, ◌+◌, ◌*◌, ◌^◌, ◌<◌, ◌≤◌, ◌⊎◌, inl, inr, List, [], ◌∷◌, length, refl, sym, ap, ◌∙◌, subst, arith}
 use Rattle.seg_spec.specs.Shapes.{Colour, black, red, Tree, leaf, fork, nodes_of, IsBlack, IsBalanced, IsRedBlack}
 use Rattle.std.proofs.lemmas.Bool.{cases_lt}
 use Rattle.std.proofs.Math.Pow.{pow_mono}
@@ -154,8 +154,11 @@ module _ (side : Side) (at sibling : ℕ) (colour : Colour) (inner outer : Tree)
       let above : colour ≡ black = not_red colour (λ e. red_is_not_black side inner outer sibling (s.wanted.1 e).0) in
       record {
         height = s.height;
-        wanted = (subst (λ h. IsBalanced inner h) (sym f.height_is) f.inner_is, λ _. ((f.below_red refl).0, refl),
-            (subst (λ h. IsBalanced outer h) (sym f.height_is) f.outer_is, λ e. cc, subst (λ c. Wants layers (height_over c (suc s.height))) above s.wanted.2));
+        wanted = (
+          subst (λ h. IsBalanced inner h) (sym f.height_is) f.inner_is,
+          λ _. ((f.below_red refl).0, refl),
+          (subst (λ h. IsBalanced outer h) (sym f.height_is) f.outer_is, λ e. cc, subst (λ c. Wants layers (height_over c (suc s.height))) above s.wanted.2),
+        );
         nearly = s.nearly;
         low = subst (λ c. height_over c (blacks layers) + s.height < 32) above s.low;
       }

@@ -1,11 +1,11 @@
 -- A node with one child at most is taken out; one with two gives its place to the next in order.
-use Rattle.std.proofs.Common.{◌≡◌, ℕ, suc, ◌+◌, ◌<◌, ◌≤◌, List, [], ◌∷◌, ◌++◌, length, refl, sym, ap, ◌∙◌, subst, arith, append_assoc}
+use Rattle.std.proofs.Common.{◌≡◌, ℕ, suc, ◌+◌, ◌<◌, ◌≤◌, List, [], ◌∷◌, ◌++◌, refl, sym, ap, ◌∙◌, subst, arith, append_assoc}
 use Rattle.std.proofs.lemmas.List.{append-nil}
-use Rattle.seg_spec.specs.Shapes.{Colour, black, red, Tree, leaf, fork, nodes_of, IsBlack, IsBalanced, IsRedBlack}
+use Rattle.seg_spec.specs.Shapes.{Colour, black, red, Tree, leaf, fork, nodes_of, IsBalanced}
 use Rattle.seg_rbtree.specs.declared.node.Side.{Side}
 use Rattle.seg_rbtree.specs.declared.node.Side.TheVariants.{Left, Right}
 use Rattle.seg_rbtree.specs.Ways.{Layer, branch, plug}
-use Rattle.seg_rbtree.specs.Removing.{height_over, TakesRed, MayHang, Wants, blacks, IsNearly, IsWhole, IsShort, AreLeft, Loses}
+use Rattle.seg_rbtree.specs.Removing.{height_over, TakesRed, MayHang, Wants, blacks, IsWhole, IsShort, AreLeft, Loses}
 use Rattle.seg_rbtree.proofs.ShortSide.{of_fork, black_hangs, balanced_nearly}
 
 -- ---- nodes around a place
