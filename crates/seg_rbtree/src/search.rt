@@ -1,9 +1,10 @@
 //! Searches down a tree.
 
-ghost use Rattle.std.specs.Prelude.{◌≡◌, ◌≤◌, nat_le, ◌&&◌, Some, None};
+ghost use Rattle.std.specs.Prelude.{◌≡◌, ◌+◌, ◌^◌, ◌≤◌, length};
 ghost use Rattle.std.specs.Ordering.{is_eq};
 ghost use Rattle.seg_spec.specs.Shapes.{nodes_of};
 ghost use Rattle.seg_spec.specs.Search.{reaches, Ascend, first_where, looks, IsSearchTree};
+ghost use Rattle.seg_rbtree.specs.Ways.{IsWayTo};
 
 use crate::node::{Side, child};
 use crate::order::NodeOrder;
@@ -62,7 +63,9 @@ impl Tree {
             → result.node ≡ first_where (λ node. reaches Ordering.Equal (O.compare_key order.now w.now.bytes node key)) (nodes_of shape) }
         ensures looks { O.exact → (shape : _) → IsSearchTree w.now.bytes self.root shape → Ascend (O.compare order.now w.now.bytes) (nodes_of shape)
             → result.looks ≡ looks (λ node. reaches Ordering.Equal (O.compare_key order.now w.now.bytes node key)) shape }
-        ensures bound { result.looks ≤ 64 }
+        ensures at_most { result.looks ≤ 64 }
+        ensures bound { O.exact → (shape : _) → IsSearchTree w.now.bytes self.root shape → Ascend (O.compare order.now w.now.bytes) (nodes_of shape)
+            → 2 ^ result.looks ≤ (length (nodes_of shape) + 1) ^ 2 }
     {
         self.first_from(w, order, key, Ordering::Equal)
     }
@@ -120,7 +123,10 @@ impl Tree {
         w: &Window<A>,
         order: &O,
         node: u32,
-    ) -> Path {
+    ) -> Path
+        ensures root { result.root ≡ self.root }
+        ensures way { O.exact → (shape : _) → IsSearchTree w.now.bytes self.root shape → IsWayTo (O.compare order.now w.now.bytes) node shape result.steps.items }
+    {
         let mut path = Path::new(self.root);
         for _ in 0..DEPTH {
             let Some(other) = path.node(w) else {
