@@ -1,4 +1,14 @@
-ghost use Rattle.std.specs.Prelude.{◌≤◌};
+ghost use Rattle.std.specs.Prelude.{◌≡◌, ◌≢◌, ◌≤◌, ◌<◌, ◌∷◌, ◌++◌, [], ℕ, ℤ, List, map, length, All, IfSome, IfNone, OnOk, FitsSigned};
+ghost use Rattle.std.specs.Int.{w32};
+ghost use Rattle.std.specs.Fmt.{decimal};
+ghost use Rattle.seg_spec.specs.Types.{Form, Table};
+ghost use Rattle.seg_layout.specs.Forms.{form_of, HasFewFields};
+ghost use Rattle.client_spec.specs.Code as code;
+ghost use Rattle.client_spec.specs.Grammar.{IsOperand, IsNumber};
+ghost use Rattle.client_spec.specs.Text as text;
+ghost use Rattle.client_spec.specs.Text.{words_of, type_word, type_words, operand_words, number_words, instruction_words, SpellsItem};
+ghost use Rattle.client_code.specs.Views.{operand_of, number_of, operation_of, instruction_of};
+ghost use Rattle.client_code.specs.Items.{item_of, item_bytes, IsWritten, NamesTypes, IsInSomeClient};
 
 use crate::constant::ConstantKind;
 use crate::escape::{Bytes, unescaped};
@@ -79,7 +89,10 @@ fn read_type(words: &mut Words) -> Option<Type> {
     }
 }
 
-fn read_part(words: &mut Words) -> Option<TypeId> {
+fn read_part(words: &mut Words) -> Option<TypeId>
+    ensures found { IfSome result (λ t. words_of words.old.line.now ≡ type_word t ∷ words_of words.new.line.now) }
+    ensures none { IfNone result ((t : ℕ) (rest : text.Words) → t < 256 → words_of words.old.line.now ≢ type_word t ∷ rest) }
+{
     index(b't', words.next()?)
 }
 
@@ -102,7 +115,10 @@ fn read_instruction(operation: Operation, words: &mut Words) -> Option<Instructi
     })
 }
 
-fn read_operand(operand: Operand, words: &mut Words) -> Option<u8> {
+fn read_operand(operand: Operand, words: &mut Words) -> Option<u8>
+    ensures found { IfSome result (λ n. words_of words.old.line.now ≡ operand_words (operand_of operand) n ++ words_of words.new.line.now) }
+    ensures none { IfNone result ((n : ℕ) (rest : text.Words) → IsOperand (operand_of operand) n → words_of words.old.line.now ≢ operand_words (operand_of operand) n ++ rest) }
+{
     match operand {
         Operand::Unused => Some(0),
         Operand::Register => read_register(words.next()?),
@@ -113,11 +129,21 @@ fn read_operand(operand: Operand, words: &mut Words) -> Option<u8> {
     }
 }
 
-fn read_register(word: &[u8]) -> Option<u8> {
-    index(b'r', word).filter(|register| *register < REGISTERS)
+fn read_register(word: &[u8]) -> Option<u8>
+    ensures found { IfSome result (λ n. (n < 16) × (word.now ≡ 114 ∷ decimal n)) }
+    ensures none { IfNone result ((n : ℕ) → n < 16 → word.now ≢ 114 ∷ decimal n) }
+{
+    match index(b'r', word)? {
+        register if register < REGISTERS => Some(register),
+        _ => None,
+    }
 }
 
-fn read_number(number: Number, words: &mut Words) -> Option<i32> {
+fn read_number(number: Number, words: &mut Words) -> Option<i32>
+    ensures found { IfSome result (λ n. words_of words.old.line.now ≡ number_words (number_of number) n ++ words_of words.new.line.now) }
+    ensures none { IfNone result ((types : Table) (constants : List code.Constant) (b : ℕ) (n : ℤ) (rest : text.Words) → length types ≤ 32 → length constants ≤ 256 → FitsSigned w32 n → IsNumber types constants b (number_of number) n
+        → words_of words.old.line.now ≢ number_words (number_of number) n ++ rest) }
+{
     match number {
         Number::Unused => Some(0),
         Number::Any | Number::Turns => signed(words.next()?),
