@@ -85,3 +85,9 @@ one_word line left word rest n m e l f some w r =
     let here : left ≡ drop (before_space false line) line = l ∙ rest_from line n ∙ ap (λ k. drop k line) e in
     let begins = subst BeginsWithWord (sym here) (word_next line (subst (λ xs. 0 < length xs) here some)) in
     skip_spaces line ∙ ap words_of (sym here) ∙ begins ∙ cc
+
+-- groups of words, read one behind the other
+pub joined : (a b c n w0 w1 w2 w3 w4 : Words) → w0 ≡ a ++ w1 → w1 ≡ b ++ w2 → w2 ≡ c ++ w3 → w3 ≡ n ++ w4 → w0 ≡ (((a ++ b) ++ c) ++ n) ++ w4
+joined a b c n w0 w1 w2 w3 w4 e0 e1 e2 e3 =
+    e0 ∙ ap (λ ws. a ++ ws) (e1 ∙ ap (λ ws. b ++ ws) (e2 ∙ ap (λ ws. c ++ ws) e3))
+    ∙ sym (append_assoc ((a ++ b) ++ c) n w4 ∙ append_assoc (a ++ b) c (n ++ w4) ∙ append_assoc a b (c ++ (n ++ w4)))

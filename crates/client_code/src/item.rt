@@ -7,7 +7,7 @@ ghost use Rattle.client_spec.specs.Code as code;
 ghost use Rattle.client_spec.specs.Grammar.{IsOperand, IsNumber};
 ghost use Rattle.client_spec.specs.Text as text;
 ghost use Rattle.client_spec.specs.Text.{words_of, type_word, type_words, operand_words, number_words, instruction_words, SpellsItem};
-ghost use Rattle.client_code.specs.Views.{operand_of, number_of, operation_of, instruction_of};
+ghost use Rattle.client_code.specs.Views.{operand_of, number_of, operation_of, definition, instruction_of};
 ghost use Rattle.client_code.specs.Items.{item_of, item_bytes, IsWritten, NamesTypes, IsInSomeClient};
 
 use crate::constant::ConstantKind;
@@ -69,13 +69,19 @@ impl Item {
     }
 }
 
-fn read_name(words: &mut Words) -> Option<Bytes> {
+fn read_name(words: &mut Words) -> Option<Bytes>
+    ensures found { IfSome result (λ name. words_of words.old.line.now ≡ name.items ∷ words_of words.new.line.now) }
+    ensures none { IfNone result ((name : List ℕ) (rest : text.Words) → length name ≤ 255 → words_of words.old.line.now ≢ name ∷ rest) }
+{
     let mut name = ArrayVec::new();
     name.try_extend_from_slice(words.next()?).ok()?;
     Some(name)
 }
 
-fn read_type(words: &mut Words) -> Option<Type> {
+fn read_type(words: &mut Words) -> Option<Type>
+    ensures found { IfSome result (λ t. words_of words.old.line.now ≡ type_words (form_of t) ++ words_of words.new.line.now) }
+    ensures none { IfNone result ((form : Form) → HasFewFields form → NamesTypes form → words_of words.old.line.now ≢ type_words form) }
+{
     match words.next()? {
         b"i64" => Some(Type::I64),
         b"str" => Some(Type::Str),
@@ -96,7 +102,10 @@ fn read_part(words: &mut Words) -> Option<TypeId>
     index(b't', words.next()?)
 }
 
-fn read_fields(words: &mut Words) -> Option<Fields> {
+fn read_fields(words: &mut Words) -> Option<Fields>
+    ensures found { IfSome result (λ fields. words_of words.old.line.now ≡ map type_word fields ++ words_of words.new.line.now) }
+    ensures none { IfNone result ((types : List ℕ) → 1 ≤ length types → length types ≤ 8 → All (λ t. t < 256) types → words_of words.old.line.now ≢ map type_word types) }
+{
     let mut fields: ArrayVec<TypeId, 8> = ArrayVec::new();
     while let Some(word) = words.next() {
         fields.try_push(index(b't', word)?).ok()?;
@@ -104,7 +113,10 @@ fn read_fields(words: &mut Words) -> Option<Fields> {
     Fields::new(fields.as_slice())
 }
 
-fn read_instruction(operation: Operation, words: &mut Words) -> Option<Instruction> {
+fn read_instruction(operation: Operation, words: &mut Words) -> Option<Instruction>
+    ensures found { IfSome result (λ i. (definition operation).word ∷ words_of words.old.line.now ≡ instruction_words (instruction_of i) ++ words_of words.new.line.now) }
+    ensures none { IfNone result ((i : code.Instruction) (rest : text.Words) → i.operation ≡ operation_of operation → IsInSomeClient i → (definition operation).word ∷ words_of words.old.line.now ≢ instruction_words i ++ rest) }
+{
     let row = operation.row();
     Some(Instruction {
         operation,
@@ -141,6 +153,7 @@ fn read_register(word: &[u8]) -> Option<u8>
 
 fn read_number(number: Number, words: &mut Words) -> Option<i32>
     ensures found { IfSome result (λ n. words_of words.old.line.now ≡ number_words (number_of number) n ++ words_of words.new.line.now) }
+    ensures range { IfSome result (λ n. FitsSigned w32 n) }
     ensures none { IfNone result ((types : Table) (constants : List code.Constant) (b : ℕ) (n : ℤ) (rest : text.Words) → length types ≤ 32 → length constants ≤ 256 → FitsSigned w32 n → IsNumber types constants b (number_of number) n
         → words_of words.old.line.now ≢ number_words (number_of number) n ++ rest) }
 {
@@ -152,7 +165,7 @@ fn read_number(number: Number, words: &mut Words) -> Option<i32>
         Number::TypedName => {
             let type_id = index(b't', words.next()?)?;
             let constant = index(b'k', words.next()?)?;
-            Some(i32::from_le_bytes([constant, type_id, 0, 0]))
+            Some(256 * i32::from(type_id) + i32::from(constant))
         }
     }
 }
