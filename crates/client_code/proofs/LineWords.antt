@@ -94,7 +94,6 @@ joined a b c n w0 w1 w2 w3 w4 e0 e1 e2 e3 =
     e0 ∙ ap (λ ws. a ++ ws) (e1 ∙ ap (λ ws. b ++ ws) (e2 ∙ ap (λ ws. c ++ ws) e3))
     ∙ sym (append_assoc ((a ++ b) ++ c) n w4 ∙ append_assoc (a ++ b) c (n ++ w4) ∙ append_assoc a b (c ++ (n ++ w4)))
 
-
 -- the words of a struct's types: one that is no type's word isn't among them
 pub not_types : (fields types : List ℕ) (word : List ℕ) (rest : Words) → All (λ t. t < 256) types → ((t : ℕ) → t < 256 → word ≡ type_word t → ⊥) → map type_word fields ++ word ∷ rest ≡ map type_word types → ⊥
 not_types [] [] word rest small none e = cc

@@ -1,14 +1,13 @@
-ghost use Rattle.std.specs.Prelude.{◌≡◌, ◌≢◌, ◌≤◌, ◌<◌, ◌∷◌, ◌++◌, [], ℕ, ℤ, List, map, length, All, IfSome, IfNone, OnOk, FitsSigned};
+ghost use Rattle.std.specs.Prelude.{◌≡◌, ◌≢◌, ◌≤◌, ◌<◌, ◌∷◌, ◌++◌, ℕ, ℤ, List, map, length, All, IfSome, IfNone, FitsSigned};
 ghost use Rattle.std.specs.Int.{w32};
 ghost use Rattle.std.specs.Fmt.{decimal};
-ghost use Rattle.seg_spec.specs.Types.{Form, Table};
-ghost use Rattle.seg_layout.specs.Forms.{form_of, HasFewFields};
+ghost use Rattle.seg_spec.specs.Types.{Table};
 ghost use Rattle.client_spec.specs.Code as code;
 ghost use Rattle.client_spec.specs.Grammar.{IsOperand, IsNumber};
 ghost use Rattle.client_spec.specs.Text as text;
-ghost use Rattle.client_spec.specs.Text.{words_of, type_word, type_words, operand_words, number_words, instruction_words, SpellsItem};
+ghost use Rattle.client_spec.specs.Text.{words_of, type_word, operand_words, number_words, instruction_words};
 ghost use Rattle.client_code.specs.Views.{operand_of, number_of, operation_of, definition, instruction_of};
-ghost use Rattle.client_code.specs.Items.{item_of, item_bytes, IsWritten, NamesTypes, IsInSomeClient};
+ghost use Rattle.client_code.specs.Items.{IsInSomeClient};
 
 use crate::constant::ConstantKind;
 use crate::escape::{Bytes, unescaped};
@@ -78,10 +77,7 @@ fn read_name(words: &mut Words) -> Option<Bytes>
     Some(name)
 }
 
-fn read_type(words: &mut Words) -> Option<Type>
-    ensures found { IfSome result (λ t. words_of words.old.line.now ≡ type_words (form_of t) ++ words_of words.new.line.now) }
-    ensures none { IfNone result ((form : Form) → HasFewFields form → NamesTypes form → words_of words.old.line.now ≢ type_words form) }
-{
+fn read_type(words: &mut Words) -> Option<Type> {
     match words.next()? {
         b"i64" => Some(Type::I64),
         b"str" => Some(Type::Str),
