@@ -1,11 +1,34 @@
 -- What a line of a text says.
---     IsInSomeClient i      operands and number of an instruction are right in some client
-use Rattle.std.specs.Prelude.{◌≤◌, List, length, FitsSigned}
+--     item_of item          an item of the program as the definitions know it
+--     IsWritten item        an item that may stand in a client, as far as it is known without the others
+--     item_bytes item       its bytes in a client file
+use Rattle.std.specs.Prelude.{⊤, ◌≤◌, ◌<◌, ℕ, List, length, All, FitsSigned}
 use Rattle.std.specs.Int.{w32}
-use Rattle.seg_spec.specs.Types.{Table}
+use Rattle.seg_spec.specs.Types.{Form, Table, form_bytes}
+use Rattle.seg_layout.specs.Forms.{form_of, HasFewFields}
 use Rattle.client_spec.specs.Code as code
 use Rattle.client_spec.specs.Operations.{row_of}
-use Rattle.client_spec.specs.Grammar.{IsOperand, IsNumber}
+use Rattle.client_spec.specs.Grammar.{IsConstant, IsOperand, IsNumber, constant_bytes, instruction_bytes}
+use Rattle.client_spec.specs.Text as text
+use Rattle.client_code.specs.declared.item.Item.{Item}
+use Rattle.client_code.specs.declared.item.Item.TheVariants as item
+use Rattle.client_code.specs.Views.{constant_by, instruction_of}
+
+abbrev pub item_of : Item → text.Item
+item_of (item.«Type» type) = text.type_item (form_of type)
+item_of (item.Constant kind bytes) = text.constant_item (constant_by kind bytes.items)
+item_of (item.Instruction i) = text.instruction_item (instruction_of i)
+
+-- the types that a form names have numbers of a byte
+abbrev pub NamesTypes : Form → Type 0
+NamesTypes Form.i64 = ⊤
+NamesTypes Form.str = ⊤
+NamesTypes (Form.vec U) = U < 256
+NamesTypes (Form.list U) = U < 256
+NamesTypes (Form.flat_map U) = U < 256
+NamesTypes (Form.map U) = U < 256
+NamesTypes (Form.own U) = U < 256
+NamesTypes (Form.struct Us) = All (λ U. U < 256) Us
 
 -- operands and number are right in some client
 pub record IsInSomeClient (i : code.Instruction) : Type 0 where
@@ -18,3 +41,13 @@ pub record IsInSomeClient (i : code.Instruction) : Type 0 where
   pub c : IsOperand (row_of i.operation).c i.c
   pub number : IsNumber types constants i.b (row_of i.operation).number i.number
   pub range : FitsSigned w32 i.number
+
+abbrev pub IsWritten : text.Item → Type 0
+IsWritten (text.type_item form) = HasFewFields form × NamesTypes form
+IsWritten (text.constant_item constant) = IsConstant constant
+IsWritten (text.instruction_item i) = IsInSomeClient i
+
+abbrev pub item_bytes : text.Item → List ℕ
+item_bytes (text.type_item form) = form_bytes form
+item_bytes (text.constant_item constant) = constant_bytes constant
+item_bytes (text.instruction_item i) = instruction_bytes i

@@ -1,13 +1,14 @@
-ghost use Rattle.std.specs.Prelude.{◌≡◌, ◌≢◌, ◌≤◌, ◌<◌, ◌∷◌, ◌++◌, ℕ, ℤ, List, map, length, All, IfSome, IfNone, FitsSigned};
+ghost use Rattle.std.specs.Prelude.{◌≡◌, ◌≢◌, ◌≤◌, ◌<◌, ◌∷◌, ◌++◌, [], ℕ, ℤ, List, map, codes, length, All, IfSome, IfNone, FitsSigned};
 ghost use Rattle.std.specs.Int.{w32};
 ghost use Rattle.std.specs.Fmt.{decimal};
-ghost use Rattle.seg_spec.specs.Types.{Table};
+ghost use Rattle.seg_spec.specs.Types.{Form, Table};
+ghost use Rattle.seg_layout.specs.Forms.{form_of, HasFewFields};
 ghost use Rattle.client_spec.specs.Code as code;
 ghost use Rattle.client_spec.specs.Grammar.{IsOperand, IsNumber};
 ghost use Rattle.client_spec.specs.Text as text;
-ghost use Rattle.client_spec.specs.Text.{words_of, type_word, operand_words, number_words, instruction_words};
+ghost use Rattle.client_spec.specs.Text.{words_of, type_word, type_words, operand_words, number_words, instruction_words};
 ghost use Rattle.client_code.specs.Views.{operand_of, number_of, operation_of, definition, instruction_of};
-ghost use Rattle.client_code.specs.Items.{IsInSomeClient};
+ghost use Rattle.client_code.specs.Items.{NamesTypes, IsInSomeClient};
 
 use crate::constant::ConstantKind;
 use crate::escape::{Bytes, unescaped};
@@ -77,17 +78,39 @@ fn read_name(words: &mut Words) -> Option<Bytes>
     Some(name)
 }
 
-fn read_type(words: &mut Words) -> Option<Type> {
-    match words.next()? {
-        b"i64" => Some(Type::I64),
-        b"str" => Some(Type::Str),
-        b"vec" => read_part(words).map(Type::Vec),
-        b"list" => read_part(words).map(Type::List),
-        b"flat_map" => read_part(words).map(Type::FlatMap),
-        b"map" => read_part(words).map(Type::Map),
-        b"own" => read_part(words).map(Type::Own),
-        b"struct" => read_fields(words).map(Type::Struct),
-        _ => None,
+fn read_type(words: &mut Words) -> Option<Type>
+    ensures found { IfSome result (λ t. words_of words.old.line.now ≡ type_words (form_of t) ++ words_of words.new.line.now) }
+    ensures none { IfNone result ((form : Form) → HasFewFields form → NamesTypes form → words_of words.old.line.now ≢ type_words form) }
+{
+    let word = words.next()?;
+    if word == b"i64".as_slice() {
+        Some(Type::I64)
+    } else if word == b"str".as_slice() {
+        Some(Type::Str)
+    } else if word == b"struct".as_slice() {
+        read_fields(words).map(Type::Struct)
+    } else {
+        container(word, read_part(words)?)
+    }
+}
+
+/// The type of what holds values of another type, by its word.
+fn container(word: &[u8], item: TypeId) -> Option<Type>
+    ensures found { IfSome result (λ t. type_words (form_of t) ≡ word.now ∷ type_word item ∷ []) }
+    ensures none { IfNone result ((form : Form) (part : ℕ) → word.now ≢ codes "struct" → type_words form ≢ word.now ∷ type_word part ∷ []) }
+{
+    if word == b"vec".as_slice() {
+        Some(Type::Vec(item))
+    } else if word == b"list".as_slice() {
+        Some(Type::List(item))
+    } else if word == b"flat_map".as_slice() {
+        Some(Type::FlatMap(item))
+    } else if word == b"map".as_slice() {
+        Some(Type::Map(item))
+    } else if word == b"own".as_slice() {
+        Some(Type::Own(item))
+    } else {
+        None
     }
 }
 
