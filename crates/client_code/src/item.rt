@@ -80,6 +80,7 @@ fn read_name(words: &mut Words) -> Option<Bytes>
 
 fn read_type(words: &mut Words) -> Option<Type>
     ensures found { IfSome result (λ t. words_of words.old.line.now ≡ type_words (form_of t) ++ words_of words.new.line.now) }
+    ensures whole { IfSome result (λ t. (form : Form) → words_of words.old.line.now ≡ type_words form → words_of words.new.line.now ≡ []) }
     ensures none { IfNone result ((form : Form) → HasFewFields form → NamesTypes form → words_of words.old.line.now ≢ type_words form) }
 {
     let word = words.next()?;
@@ -123,6 +124,7 @@ fn read_part(words: &mut Words) -> Option<TypeId>
 
 fn read_fields(words: &mut Words) -> Option<Fields>
     ensures found { IfSome result (λ fields. words_of words.old.line.now ≡ map type_word fields ++ words_of words.new.line.now) }
+    ensures whole { IfSome result (λ fields. words_of words.new.line.now ≡ []) }
     ensures none { IfNone result ((types : List ℕ) → 1 ≤ length types → length types ≤ 8 → All (λ t. t < 256) types → words_of words.old.line.now ≢ map type_word types) }
 {
     let mut fields: ArrayVec<TypeId, 8> = ArrayVec::new();
@@ -134,6 +136,7 @@ fn read_fields(words: &mut Words) -> Option<Fields>
 
 fn read_instruction(operation: Operation, words: &mut Words) -> Option<Instruction>
     ensures found { IfSome result (λ i. (definition operation).word ∷ words_of words.old.line.now ≡ instruction_words (instruction_of i) ++ words_of words.new.line.now) }
+    ensures whole { IfSome result (λ i. (j : code.Instruction) → j.operation ≡ operation_of operation → (definition operation).word ∷ words_of words.old.line.now ≡ instruction_words j → words_of words.new.line.now ≡ []) }
     ensures none { IfNone result ((i : code.Instruction) (rest : text.Words) → i.operation ≡ operation_of operation → IsInSomeClient i → (definition operation).word ∷ words_of words.old.line.now ≢ instruction_words i ++ rest) }
 {
     let row = operation.row();
