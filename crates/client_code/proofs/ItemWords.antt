@@ -1,11 +1,15 @@
 -- The words that a line begins with.
-use Rattle.std.proofs.Common.{◌≡◌, ◌≢◌, ℕ, Bool, true, false, nat_eq, List, [], ◌∷◌, length, map, refl, sym, ap, ◌∙◌, subst, arith}
+use Rattle.std.proofs.Common.{◌≡◌, ◌≢◌, ℕ, Bool, true, false, nat_eq, List, [], ◌∷◌, length, map, ◌++◌, ◌≤◌, append-nil, refl, sym, ap, ◌∙◌, subst, arith}
 use Rattle.std.specs.Prelude.{codes}
 use Rattle.std.proofs.lemmas.Slice.Eq.{slice_eq-Decides}
 use Rattle.std.proofs.lemmas.Bool.Decides.{Decides-eqb, not_from_Decides}
 use Rattle.seg_spec.specs.Types.{Form}
-use Rattle.client_spec.specs.Text.{type_word, type_words, Words}
-use Rattle.client_spec.proofs.TextWords.{tail_of}
+use Rattle.client_spec.specs.Code as code
+use Rattle.client_spec.specs.Code.{Constant, Operation}
+use Rattle.client_spec.specs.Operations.{row_of}
+use Rattle.client_spec.specs.Text.{Item, type_item, constant_item, instruction_item, type_word, type_words, instruction_words, Words, words_of, SpellsItem}
+use Rattle.client_spec.proofs.TextWords.{tail_of, same_operation, not_name}
+use Rattle.client_code.specs.Items.{IsWords, IsWritten, IsInSomeClient}
 
 pub other_word : (word slice text : List ℕ) (r : Bool) → r ≡ lib.Pointwise.pointwise nat_eq word slice → slice ≡ text → r ≡ false → word ≢ text
 other_word word slice text r e same f is = not_from_Decides r (slice_eq-Decides Decides-eqb word slice r e) f (is ∙ sym same)
@@ -21,3 +25,28 @@ no_container word v l f m o s (Form.flat_map U) part e = f (sym (tail_of _ _ _ _
 no_container word v l f m o s (Form.map U) part e = m (sym (tail_of _ _ _ _ e).0)
 no_container word v l f m o s (Form.own U) part e = o (sym (tail_of _ _ _ _ e).0)
 no_container word v l f m o s (Form.struct Us) part e = s (sym (tail_of _ _ _ _ e).0)
+
+-- a line that begins with `name` and goes on with no name
+pub no_name : (line word : List ℕ) (left : Words) → words_of line ≡ word ∷ left → word ≡ codes "name" → ((name : List ℕ) (rest : Words) → length name ≤ 255 → left ≢ name ∷ rest)
+    → (item : Item) → IsWords item → IsWritten item → SpellsItem line item → ⊥
+no_name line word left e n none (type_item form) w valid spells =
+    let z = (tail_of 116 110 _ _ (sym (tail_of word (codes "type") left (type_words form) (sym e ∙ spells)).0 ∙ n)).0 in absurd (omega arith)
+no_name line word left e n none (constant_item (Constant.Text bytes)) w valid spells = w
+no_name line word left e n none (constant_item (Constant.Name name)) w valid spells =
+    none name [] (let l = valid.1 in omega arith) (tail_of word (codes "name") left (name ∷ []) (sym e ∙ spells)).1
+no_name line word left e n none (constant_item (Constant.Family prefix)) w valid spells =
+    let z = (tail_of 102 110 _ _ (sym (tail_of word (codes "family") left (prefix ∷ []) (sym e ∙ spells)).0 ∙ n)).0 in absurd (omega arith)
+no_name line word left e n none (instruction_item i) w valid spells =
+    not_name i.operation (sym (tail_of word (row_of i.operation).word left _ (sym e ∙ spells)).0 ∙ n)
+
+-- a line that begins with an operation's word and goes on as none of its instructions
+pub no_instruction : (line word : List ℕ) (left : Words) (o : Operation) → words_of line ≡ word ∷ left → word ≢ codes "type" → word ≢ codes "name" → word ≢ codes "family" → (row_of o).word ≡ word
+    → ((i : code.Instruction) (rest : Words) → i.operation ≡ o → IsInSomeClient i → (row_of o).word ∷ left ≢ instruction_words i ++ rest)
+    → (item : Item) → IsWords item → IsWritten item → SpellsItem line item → ⊥
+no_instruction line word left o e t n f same none (type_item form) w valid spells = t (tail_of word (codes "type") left (type_words form) (sym e ∙ spells)).0
+no_instruction line word left o e t n f same none (constant_item (Constant.Text bytes)) w valid spells = w
+no_instruction line word left o e t n f same none (constant_item (Constant.Name name)) w valid spells = n (tail_of word (codes "name") left (name ∷ []) (sym e ∙ spells)).0
+no_instruction line word left o e t n f same none (constant_item (Constant.Family prefix)) w valid spells = f (tail_of word (codes "family") left (prefix ∷ []) (sym e ∙ spells)).0
+no_instruction line word left o e t n f same none (instruction_item i) w valid spells =
+    let first = (tail_of word (row_of i.operation).word left _ (sym e ∙ spells)).0 in
+    none i [] (same_operation i.operation o (sym first ∙ sym same)) valid (ap (λ x. x ∷ left) same ∙ sym e ∙ spells ∙ sym (append-nil (instruction_words i)))

@@ -2,6 +2,7 @@
 --     item_of item          an item of the program as the definitions know it
 --     IsWritten item        an item that may stand in a client, as far as it is known without the others
 --     item_bytes item       its bytes in a client file
+--     IsWords item          its line is words parted by spaces
 use Rattle.std.specs.Prelude.{⊤, ◌≤◌, ◌<◌, ℕ, List, length, All, FitsSigned}
 use Rattle.std.specs.Int.{w32}
 use Rattle.seg_spec.specs.Types.{Form, Table, form_bytes}
@@ -51,3 +52,8 @@ abbrev pub item_bytes : text.Item → List ℕ
 item_bytes (text.type_item form) = form_bytes form
 item_bytes (text.constant_item constant) = constant_bytes constant
 item_bytes (text.instruction_item i) = instruction_bytes i
+
+-- an item whose line is words
+abbrev pub IsWords : text.Item → Type 0
+IsWords (text.constant_item (code.Constant.Text bytes)) = ⊥
+IsWords item = ⊤

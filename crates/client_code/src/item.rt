@@ -1,4 +1,4 @@
-ghost use Rattle.std.specs.Prelude.{◌≡◌, ◌≢◌, ◌≤◌, ◌<◌, ◌∷◌, ◌++◌, [], ℕ, ℤ, List, map, codes, length, All, IfSome, IfNone, FitsSigned};
+ghost use Rattle.std.specs.Prelude.{◌≡◌, ◌≢◌, ◌≤◌, ◌<◌, ◌∷◌, ◌++◌, [], ℕ, ℤ, List, map, codes, length, All, IfSome, IfNone, OnOk, FitsSigned};
 ghost use Rattle.std.specs.Int.{w32};
 ghost use Rattle.std.specs.Fmt.{decimal};
 ghost use Rattle.seg_spec.specs.Types.{Form, Table};
@@ -6,9 +6,9 @@ ghost use Rattle.seg_layout.specs.Forms.{form_of, HasFewFields};
 ghost use Rattle.client_spec.specs.Code as code;
 ghost use Rattle.client_spec.specs.Grammar.{IsOperand, IsNumber};
 ghost use Rattle.client_spec.specs.Text as text;
-ghost use Rattle.client_spec.specs.Text.{words_of, type_word, type_words, operand_words, number_words, instruction_words};
+ghost use Rattle.client_spec.specs.Text.{words_of, type_word, type_words, operand_words, number_words, instruction_words, SpellsItem};
 ghost use Rattle.client_code.specs.Views.{operand_of, number_of, operation_of, definition, instruction_of};
-ghost use Rattle.client_code.specs.Items.{NamesTypes, IsInSomeClient};
+ghost use Rattle.client_code.specs.Items.{item_of, item_bytes, IsWritten, IsWords, NamesTypes, IsInSomeClient};
 
 use crate::constant::ConstantKind;
 use crate::escape::{Bytes, unescaped};
@@ -31,23 +31,45 @@ pub enum Item {
 
 impl Item {
     /// What a line says. `None` where no line of a client's text is so.
-    pub fn read(line: &[u8]) -> Option<Item> {
-        if let Some(spelling) = line.strip_prefix(b"text ") {
-            return Some(Item::Constant(ConstantKind::Text, unescaped(spelling)?));
+    pub fn read(line: &[u8]) -> Option<Item>
+        ensures found { IfSome result (λ item. SpellsItem line.now (item_of item)) }
+        ensures none { IfNone result ((item : text.Item) → IsWritten item → SpellsItem line.now item → ⊥) }
+    {
+        match line.strip_prefix(b"text ".as_slice()) {
+            Some(spelling) => Some(Item::Constant(ConstantKind::Text, unescaped(spelling)?)),
+            None => Item::read_words(line),
         }
+    }
+
+    /// What a line of words says.
+    fn read_words(line: &[u8]) -> Option<Item>
+        ensures found { IfSome result (λ item. SpellsItem line.now (item_of item)) }
+        ensures none { IfNone result ((item : text.Item) → IsWords item → IsWritten item → SpellsItem line.now item → ⊥) }
+    {
         let mut words = Words::new(line);
-        let item = match words.next()? {
-            b"type" => Item::Type(read_type(&mut words)?),
-            b"name" => Item::Constant(ConstantKind::Name, read_name(&mut words)?),
-            b"family" => Item::Constant(ConstantKind::Family, read_name(&mut words)?),
-            word => Item::Instruction(read_instruction(Operation::from_word(word)?, &mut words)?),
+        let word = words.next()?;
+        let item = if word == b"type".as_slice() {
+            Item::Type(read_type(&mut words)?)
+        } else if word == b"name".as_slice() {
+            Item::Constant(ConstantKind::Name, read_name(&mut words)?)
+        } else if word == b"family".as_slice() {
+            Item::Constant(ConstantKind::Family, read_name(&mut words)?)
+        } else {
+            Item::Instruction(read_instruction(
+                Operation::from_word(word)?,
+                &mut words,
+            )?)
         };
-        words.next().is_none().then_some(item)
+        match words.next() {
+            None => Some(item),
+            Some(_) => None,
+        }
     }
 
     /// The number of bytes that spell it in a client file.
     pub fn len(&self) -> usize
-        ensures { result ≤ 257 }
+        ensures short { result ≤ 257 }
+        ensures len { result ≡ length (item_bytes (item_of self.now)) }
     {
         match self {
             Item::Type(kind) => kind.entry().len(),
@@ -57,7 +79,9 @@ impl Item {
     }
 
     /// Adds its bytes to a client file.
-    pub fn append<A: Allocator>(&self, file: &mut Vec<u8, A>) -> Result<(), AllocError> {
+    pub fn append<A: Allocator>(&self, file: &mut Vec<u8, A>) -> Result<(), AllocError>
+        ensures { OnOk result (file.new.items ≡ file.old.items ++ item_bytes (item_of self.now)) }
+    {
         match self {
             Item::Type(kind) => file.extend_from_slice(&kind.entry()),
             Item::Constant(kind, bytes) => {
