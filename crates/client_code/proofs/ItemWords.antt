@@ -1,14 +1,15 @@
 -- The words that a line begins with.
-use Rattle.std.proofs.Common.{◌≡◌, ◌≢◌, ℕ, Bool, true, false, nat_eq, List, [], ◌∷◌, length, map, ◌++◌, ◌≤◌, append-nil, refl, sym, ap, ◌∙◌, subst, arith}
-use Rattle.std.specs.Prelude.{codes}
+use Rattle.std.proofs.Common.{◌≡◌, ◌≢◌, ℕ, Bool, true, false, nat_eq, List, [], ◌∷◌, length, map, take, drop, ◌++◌, ◌≤◌, append-nil, refl, sym, ap, ◌∙◌, subst, arith}
+use Rattle.std.specs.Prelude.{codes, ◌<◌, All}
+use Rattle.std.proofs.lemmas.List.{take-append-drop}
 use Rattle.std.proofs.lemmas.Slice.Eq.{slice_eq-Decides}
 use Rattle.std.proofs.lemmas.Bool.Decides.{Decides-eqb, not_from_Decides}
 use Rattle.seg_spec.specs.Types.{Form}
 use Rattle.client_spec.specs.Code as code
 use Rattle.client_spec.specs.Code.{Constant, Operation}
 use Rattle.client_spec.specs.Operations.{row_of}
-use Rattle.client_spec.specs.Text.{Item, type_item, constant_item, instruction_item, type_word, type_words, instruction_words, Words, words_of, SpellsItem}
-use Rattle.client_spec.proofs.TextWords.{tail_of, same_operation, not_name}
+use Rattle.client_spec.specs.Text.{Item, type_item, constant_item, instruction_item, type_word, type_words, instruction_words, Words, words_of, SpellsItem, SpellsText}
+use Rattle.client_spec.proofs.TextWords.{tail_of, front, same_operation, not_name, not_text}
 use Rattle.client_code.specs.Items.{IsWords, IsWritten, IsInSomeClient}
 
 pub other_word : (word slice text : List ℕ) (r : Bool) → r ≡ lib.Pointwise.pointwise nat_eq word slice → slice ≡ text → r ≡ false → word ≢ text
@@ -50,3 +51,27 @@ no_instruction line word left o e t n f same none (constant_item (Constant.Famil
 no_instruction line word left o e t n f same none (instruction_item i) w valid spells =
     let first = (tail_of word (row_of i.operation).word left _ (sym e ∙ spells)).0 in
     none i [] (same_operation i.operation o (sym first ∙ sym same)) valid (ap (λ x. x ∷ left) same ∙ sym e ∙ spells ∙ sym (append-nil (instruction_words i)))
+
+-- a line that begins with `text ` and goes on with no text
+text_first : (spelling : List ℕ) → words_of (codes "text " ++ spelling) ≡ codes "text" ∷ words_of spelling
+text_first spelling = refl
+
+begins : (line spelling word : List ℕ) (rest : Words) → line ≡ codes "text " ++ spelling → words_of line ≡ word ∷ rest → codes "text" ≡ word
+begins line spelling word rest e spells = (tail_of (codes "text") word (words_of spelling) rest (sym (text_first spelling) ∙ sym (ap words_of e) ∙ spells)).0
+
+pub no_text : (line spelling : List ℕ) → line ≡ codes "text " ++ spelling → ((bytes : List ℕ) → length bytes ≤ 255 → All (λ b. b < 256) bytes → SpellsText bytes spelling → ⊥)
+    → (item : Item) → IsWritten item → SpellsItem line item → ⊥
+no_text line spelling e none (type_item form) valid spells =
+    let z = (tail_of 101 121 _ _ (tail_of 116 116 _ _ (begins line spelling (codes "type") (type_words form) e spells)).1).0 in absurd (omega arith)
+no_text line spelling e none (constant_item (Constant.Text bytes)) valid (body, same, spells) =
+    none bytes valid.0 valid.1 (subst (SpellsText bytes) (front (codes "text ") (codes "text ") body spelling refl (sym same ∙ e)).1 spells)
+no_text line spelling e none (constant_item (Constant.Name name)) valid spells =
+    let z = (tail_of 116 110 _ _ (begins line spelling (codes "name") (name ∷ []) e spells)).0 in absurd (omega arith)
+no_text line spelling e none (constant_item (Constant.Family prefix)) valid spells =
+    let z = (tail_of 116 102 _ _ (begins line spelling (codes "family") (prefix ∷ []) e spells)).0 in absurd (omega arith)
+no_text line spelling e none (instruction_item i) valid spells = not_text i.operation (sym (begins line spelling (row_of i.operation).word _ e spells))
+
+-- what is left behind a prefix
+pub prefixed : (line prefix rest text : List ℕ) → prefix ≡ text → lib.Pointwise.pointwise nat_eq (take (length prefix) line) prefix ≡ true → rest ≡ drop (length prefix) line → line ≡ text ++ rest
+prefixed line prefix rest text same test left =
+    sym (take-append-drop (length prefix) line) ∙ ap (λ xs. xs ++ drop (length prefix) line) ((slice_eq-Decides Decides-eqb _ _ _ refl).0 test ∙ same) ∙ ap (λ xs. text ++ xs) (sym left)

@@ -110,12 +110,19 @@ operation_of_word-word Operation.NextKey = refl
 pub same_operation : (a b : Operation) → (row_of a).word ≡ (row_of b).word → a ≡ b
 same_operation a b e = sym (operation_of_word-word a) ∙ ap operation_of_word e ∙ operation_of_word-word b
 
--- no operation has the word of a name
+-- no operation has the word of a constant
 pub not_name : (o : Operation) → (row_of o).word ≡ codes "name" → ⊥
 unfolding operation_of_word
 not_name o e =
     let named : o ≡ Operation.NextKey = sym (operation_of_word-word o) ∙ ap operation_of_word e in
     let z : codes "NEXTK" ≡ codes "name" = ap (λ o. (row_of o).word) (sym named) ∙ e in
+    let l = ap length z in absurd (omega arith)
+
+pub not_text : (o : Operation) → (row_of o).word ≡ codes "text" → ⊥
+unfolding operation_of_word
+not_text o e =
+    let named : o ≡ Operation.NextKey = sym (operation_of_word-word o) ∙ ap operation_of_word e in
+    let z : codes "NEXTK" ≡ codes "text" = ap (λ o. (row_of o).word) (sym named) ∙ e in
     let l = ap length z in absurd (omega arith)
 
 -- ---- operands
