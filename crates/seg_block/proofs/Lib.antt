@@ -10,3 +10,9 @@ pub mod Splitting
 pub mod Joining
 pub mod Ends
 pub mod Requests
+pub mod FreeKept
+pub mod LiveChanges
+pub mod Resizing
+pub mod Expanding
+pub mod FreeTiles
+pub mod Extents

@@ -3,3 +3,4 @@ pub mod Blocks
 pub mod Tags
 pub mod Tiling
 pub mod Request
+pub mod FreeBlocks

@@ -1,0 +1,359 @@
+-- A heap that takes in the units behind it, whatever the allocator is.
+use Rattle.std.proofs.Common.{◌≡◌, ◌≢◌, ℕ, ◌+◌, ◌-◌, ◌*◌, ◌/◌, ◌%◌, ◌^◌, ◌<◌, ◌≤◌, Bool, true, false, List, [], ◌∷◌, ◌++◌, length, min, cond, eqb, ◌&&◌, refl, sym, ap, ◌∙◌, subst, arith, inl, inr, ◌⊎◌, ⊎_elim, zero-add}
+use Rattle.std.specs.Prelude.{Contains}
+use Rattle.std.proofs.lemmas.Bool.Decides.{nat_tests}
+use Rattle.std.proofs.lemmas.List.{length-take-le, append-nil}
+use Rattle.std.proofs.lemmas.List.Elements.{Contains-append_left, Contains-append_right, Contains-append_cases}
+use Rattle.seg_spec.specs.Bytes.{slice, word, set_word, Agrees, IsSame}
+use Rattle.seg_spec.specs.Heap.{Span, Tile, span_of, end_of, IsLive, is_live_at, Fill, AreHeaders, AreApart, HoldsGaps, live_of, free_of, heap_start, tiles, live, IsHeap, Gives, Extends, without, without_last, after_extend}
+use Rattle.seg_spec.proofs.BytesLaws.{part, Agrees-same, number-part, slice-part, number-set_same, number-set_other, number-agrees, Agrees-within, Agrees-trans, Agrees-set_number, length-set_number}
+use Rattle.seg_spec.proofs.SliceLaws.{IsSame-agrees, IsSame-trans}
+use Rattle.seg_spec.proofs.TileLaws.{Fill-le, Fill-append, AreHeaders-front, AreHeaders-back, AreApart-append, AreApart-front, AreApart-back, units_after, live_of-append, free_of-append}
+use Rattle.seg_spec.proofs.HeaderLaws.{IsHeader-same}
+use Rattle.seg_block.specs.Sizes.{size_word, set_size}
+use Rattle.seg_block.specs.Tiling.{tile, IsTiling}
+use Rattle.seg_block.specs.Blocks.{HasEnd}
+use Rattle.seg_block.proofs.SizeLaws.{set_size-headers, Agrees-set_size, length-set_size}
+use Rattle.seg_block.proofs.LiveTiles.{live_within}
+use Rattle.seg_block.proofs.Tiled.{around}
+use Rattle.seg_block.proofs.LiveBlocks.{without-other}
+use Rattle.seg_block.proofs.Heaps.{tiling_of_heap, heap_of_tiling, IsTiledHeap}
+use Rattle.seg_block.proofs.FreeKept.{HoldsGaps-kept, free_kept}
+
+-- ---- equal words
+
+pub AreHeaders-words : (a b : List ℕ) (ts : List Tile) (from to before : ℕ) → ((q : ℕ) → from ≤ q → q + 4 ≤ to → word b q ≡ word a q) → Fill from ts to → AreHeaders a before ts → AreHeaders b before ts
+AreHeaders-words a b [] from to before same f h = tt
+AreHeaders-words a b (t ∷ ts) from to before same f h =
+    let le = Fill-le ts (from + 16 * t.units) to f.2 in
+    let first = same t.at (omega (arith, f.0)) (omega (arith, f.0, f.1)) in
+    let back = same (t.at + 4) (omega (arith, f.0)) (omega (arith, f.0, f.1)) in
+    let tag = same (t.at + 8) (omega (arith, f.0)) (omega (arith, f.0, f.1)) in
+    (IsHeader-same a b before before t first (back ∙ h.0.before_is) tag h.0, AreHeaders-words a b ts (from + 16 * t.units) to t.units (λ q low high. same q (omega arith) high) f.2 h.1)
+
+-- the first bytes of a longer list
+pub front_same : (bytes : List ℕ) (end p n : ℕ) → end ≤ length bytes → p + n ≤ end → slice (part bytes 0 end) p n ≡ slice bytes p n
+front_same bytes end p n inside high = slice-part bytes 0 end p n (omega (arith, inside)) high ∙ ap (λ q. slice bytes q n) (zero-add p)
+
+-- ---- the blocks
+
+extend_test : (n e end : ℕ) → e ≢ end → (eqb n 1 && eqb e end) ≡ false
+extend_test n e end h = grind (arith, nat_tests)
+
+extend_not : (n e end : ℕ) → n ≢ 1 → (eqb n 1 && eqb e end) ≡ false
+extend_not n e end h = grind (arith, nat_tests)
+
+extend_yes : (e end : ℕ) → e ≡ end → (eqb 1 1 && eqb e end) ≡ true
+extend_yes e end h = grind (arith, nat_tests)
+
+after_extend-more : (bs : List Span) (end n : ℕ) → n ≢ 1 → after_extend bs end n ≡ bs
+after_extend-more [] end n h = refl
+after_extend-more (b ∷ bs) end n h = rw (extend_not n (end_of b) end h) (ap (λ l. b ∷ l) (after_extend-more bs end n h))
+
+after_extend-one : (xs : List Tile) (from at u end : ℕ) (l : Bool) → 2 ≤ u → Fill from xs at → at + 16 * u ≡ end → after_extend (live_of (xs ++ tile at u l ∷ [])) end 1 ≡ live_of (xs ++ tile at (u + 1) l ∷ [])
+after_extend-one [] from at u end true large f e = rw (extend_yes (at + 16 * u) end e) refl
+after_extend-one [] from at u end false large f e = refl
+after_extend-one (t ∷ xs) from at u end l large f e =
+    let le = Fill-le xs (from + 16 * t.units) at f.2 in
+    let rest = after_extend-one xs (from + 16 * t.units) at u end l large f.2 e in
+    elim t.live as (λ c. after_extend (cond c (span_of t ∷ live_of (xs ++ tile at u l ∷ [])) (live_of (xs ++ tile at u l ∷ []))) end 1 ≡ cond c (span_of t ∷ live_of (xs ++ tile at (u + 1) l ∷ [])) (live_of (xs ++ tile at (u + 1) l ∷ [])))
+    [ true ↦ rw (extend_test 1 (t.at + 16 * t.units) end (λ k. absurd (omega (arith, f.0)))) (ap (λ s. span_of t ∷ s) rest) | false ↦ rest ]
+
+-- ---- the heap before
+
+module _ {allocator : ℕ} (old : List ℕ) (n : ℕ) (small : length old ≤ 2 ^ 30) (room : 736 + 16 * n ≤ length old) (h : IsHeap allocator (without_last old n)) where
+  abbrev front : List ℕ
+  front = without_last old n
+
+  abbrev end : ℕ
+  end = length old - 16 * n
+
+  abbrev units : ℕ
+  units = length old / 16
+
+  abbrev pub sized : List ℕ
+  sized = set_word old 12 units
+
+  long : length front ≡ end
+  long = length-take-le end old (omega arith)
+
+  pub length-sized : length sized ≡ length old
+  length-sized = length-set_number 4 old 12 units
+
+  was : IsTiling allocator front (tiles front)
+  was = tiling_of_heap front h
+
+  pub filled : Fill heap_start (tiles front) end
+  filled = subst (λ e. Fill heap_start (tiles front) e) long was.tiled.filled
+
+  old_word : (q : ℕ) → q + 4 ≤ end → word old q ≡ word front q
+  old_word q high = ap (λ p. word old p) (sym (zero-add q)) ∙ sym (number-part 4 old 0 end q (omega arith) high)
+
+  sized_word : (q : ℕ) → 16 ≤ q → q + 4 ≤ end → word sized q ≡ word front q
+  sized_word q low high = number-set_other 4 4 old 12 units q (inr (omega arith)) ∙ old_word q high
+
+  pub headers : AreHeaders sized 0 (tiles front)
+  headers = AreHeaders-words front sized (tiles front) heap_start end 0 (λ q low high. sized_word q (omega arith) high) filled was.tiled.headers
+
+  agrees_sized : (from to : ℕ) → (to ≤ 12) ⊎ (16 ≤ from) → Agrees old sized from to
+  agrees_sized from to out = Agrees-set_number 4 old 12 units from to out
+
+  sized_same : (p m : ℕ) → 16 ≤ p → p + m ≤ end → IsSame front sized p m
+  sized_same p m low high = IsSame-agrees old sized p (p + m) p m (agrees_sized p (p + m) (inr low)) (omega arith) (omega arith) (omega arith) ∙ sym (front_same old end p m (omega arith) high)
+
+  -- the free structure, where a step keeps what lies in front of the new units
+  kept_free : (new : List ℕ) → ((p m : ℕ) → 16 ≤ p → p + m ≤ end → IsSame sized new p m) → HoldsGaps allocator new (free_of (tiles front))
+  kept_free new same =
+      let all = λ (p m : ℕ) (low : 16 ≤ p) (high : p + m ≤ end). IsSame-trans front sized new p m (sized_same p m low high) (same p m low high) in
+      HoldsGaps-kept front new allocator (free_of (tiles front)) (all 24 4 (omega arith) (omega arith)) (free_kept front new (tiles front) heap_start end (λ p m low high. all p m (omega arith) high) filled) was.free
+
+  pub free : HoldsGaps allocator sized (free_of (tiles front))
+  free = kept_free sized (λ p m low high. refl)
+
+  pub live_was : live front ≡ live_of (tiles front)
+  live_was = (heap_of_tiling front (tiles front) was h.apart).live_is
+
+  size_word_is : word sized 12 ≡ units
+  size_word_is = number-set_same 4 old 12 units (omega arith) (omega arith)
+
+  live_low : (b : Span) → Contains (live front) b → (704 ≤ b.at) × (end_of b ≤ end)
+  live_low b c = live_within (tiles front) heap_start end b filled (subst (λ l. Contains l b) live_was c)
+
+  -- ---- no units
+
+  pub extends_zero : n ≡ 0 → Extends allocator old sized n
+  extends_zero none =
+      let longer = length-sized in
+      let same : end ≡ length sized = omega arith in
+      let tiling : IsTiling allocator sized (tiles front) = record { tiled = record { small = omega arith; filled = subst (λ e. Fill heap_start (tiles front) e) same filled; headers = headers }; free = free } in
+      let now = heap_of_tiling sized (tiles front) tiling h.apart in
+      record {
+        heap = now.heap;
+        size_is = size_word_is ∙ ap (λ m. m / 16) (sym longer);
+        length_kept = longer;
+        front_kept = agrees_sized 0 12 (inl (omega arith));
+        words_kept = agrees_sized 16 24 (inr (omega arith));
+        back_kept = agrees_sized 28 heap_start (inr (omega arith));
+        blocks_kept = λ b c. agrees_sized (b.at + 8) (end_of b) (inr (let w = live_low b c in omega arith));
+        extends = now.live_is ∙ sym live_was ∙ sym (after_extend-more (live front) end n (λ e. absurd (omega arith)));
+      }
+
+  -- ---- one unit
+
+  module _ (xs : List Tile) (at u : ℕ) (l : Bool) (parts : tiles front ≡ xs ++ tile at u l ∷ []) where
+    ended : Fill heap_start (xs ++ tile at u l ∷ []) end
+    ended = subst (λ ts. Fill heap_start ts end) parts filled
+
+    pub places : (Fill heap_start xs at) × (2 ≤ u) × (at + 16 * u ≡ end)
+    places = around xs [] heap_start end at u l ended
+
+    pub last_headers : AreHeaders sized 0 (xs ++ tile at u l ∷ [])
+    last_headers = subst (λ ts. AreHeaders sized 0 ts) parts headers
+
+    pub last_live : is_live_at sized at ≡ l
+    last_live = (AreHeaders-back sized xs (tile at u l ∷ []) 0 last_headers).0.live_is
+
+    pub last_end : at + 16 * u ≡ end
+    last_end = places.2
+
+    pub last_free : HoldsGaps allocator sized (free_of (xs ++ tile at u l ∷ []))
+    last_free = subst (λ ts. HoldsGaps allocator sized (free_of ts)) parts free
+
+    last_apart : AreApart true (xs ++ tile at u l ∷ [])
+    last_apart = subst (λ ts. AreApart true ts) parts h.apart
+
+    abbrev pub grown : List ℕ
+    grown = set_size sized at (u + 1) l
+
+    pub length-grown : length grown ≡ length old
+    length-grown = length-set_size sized at (u + 1) l ∙ length-sized
+
+    pub grown_kept : (from to : ℕ) → (to ≤ at) ⊎ (at + 4 ≤ from) → to ≤ end → Agrees sized grown from to
+    grown_kept from to out high = let e = places.2 in Agrees-set_size sized at (u + 1) l from to out (inl (omega arith))
+
+    last_side : (b : Span) → Contains (live front) b → (end_of b ≤ at) ⊎ (at + 4 ≤ b.at + 8)
+    last_side b c =
+        ⊎_elim (λ x. inl (live_within xs heap_start at b places.0 x).1) (λ y. let w = live_within (tile at u l ∷ []) at end b (refl, places.1, places.2) y in inr (omega (arith, w.0)))
+        (Contains-append_cases (live_of xs) (live_of (tile at u l ∷ [])) b (subst (λ s. Contains s b) (live_was ∙ ap live_of parts ∙ live_of-append xs (tile at u l ∷ [])) c))
+
+    pub grown_headers : n ≡ 1 → AreHeaders grown 0 (xs ++ tile at (u + 1) l ∷ [])
+    grown_headers one =
+        let short = length-sized in
+        let e = places.2 in
+        let last = AreHeaders-back sized xs (tile at u l ∷ []) 0 last_headers in
+        set_size-headers sized xs [] at (u + 1) 0 l (omega arith) places.0 (omega (arith, places.1)) (omega arith) (AreHeaders-front sized xs (tile at u l ∷ []) 0 last_headers) tt last.0.before_is last.0.tag_is
+
+    -- from the bytes with the last tile's size to the new bytes, which keep what must be kept
+    pub extends_one : n ≡ 1 → (new : List ℕ) → length new ≡ length old → AreHeaders new 0 (xs ++ tile at (u + 1) l ∷ []) → HoldsGaps allocator new (free_of (xs ++ tile at (u + 1) l ∷ []))
+        → Agrees grown new 0 24 → Agrees grown new 28 heap_start → ((b : Span) → Contains (live front) b → Agrees grown new (b.at + 8) (end_of b)) → Extends allocator old new n
+    extends_one one new longer heads holds front_kept back_kept blocks =
+        let e = places.2 in
+        let low = Fill-le xs heap_start at places.0 in
+        let tiling : IsTiling allocator new (xs ++ tile at (u + 1) l ∷ []) = record {
+          tiled = record {
+            small = omega arith;
+            filled = Fill-append xs (tile at (u + 1) l ∷ []) heap_start at (length new) places.0 (refl, omega (arith, places.1), omega arith);
+            headers = heads;
+          };
+          free = holds;
+        } in
+        let apart : AreApart true (xs ++ tile at (u + 1) l ∷ []) = AreApart-append xs (tile at (u + 1) l ∷ []) true (AreApart-front xs (tile at u l ∷ []) true last_apart) (AreApart-back xs (tile at u l ∷ []) true last_apart) in
+        let now = heap_of_tiling new (xs ++ tile at (u + 1) l ∷ []) tiling apart in
+        let first = λ (from to : ℕ) (out : (to ≤ 12) ⊎ (16 ≤ from)) (beside : (to ≤ at) ⊎ (at + 4 ≤ from)) (high : to ≤ end). Agrees-trans old sized grown from to (agrees_sized from to out) (grown_kept from to beside (omega arith)) in
+        record {
+          heap = now.heap;
+          size_is = number-agrees grown new 0 24 4 12 front_kept (omega arith) (omega arith) ∙ number-agrees sized grown 12 16 4 12 (grown_kept 12 16 (inl (omega arith)) (omega arith)) (omega arith) (omega arith) ∙ size_word_is ∙ ap (λ m. m / 16) (sym longer);
+          length_kept = longer;
+          front_kept = Agrees-trans old grown new 0 12 (first 0 12 (inl (omega arith)) (inl (omega arith)) (omega arith)) (Agrees-within grown new 0 24 0 12 front_kept (omega arith) (omega arith));
+          words_kept = Agrees-trans old grown new 16 24 (first 16 24 (inr (omega arith)) (inl (omega arith)) (omega arith)) (Agrees-within grown new 0 24 16 24 front_kept (omega arith) (omega arith));
+          back_kept = Agrees-trans old grown new 28 heap_start (first 28 heap_start (inr (omega arith)) (inl low) (omega arith)) back_kept;
+          blocks_kept = λ b c. let w = live_low b c in Agrees-trans old grown new (b.at + 8) (end_of b) (first (b.at + 8) (end_of b) (inr (omega arith)) (last_side b c) w.1) (blocks b c);
+          extends = now.live_is ∙ sym (after_extend-one xs heap_start at u end l places.1 places.0 places.2) ∙ (λ i. after_extend (live_of (sym parts i)) end (sym one i)) ∙ ap (λ s. after_extend s end n) (sym live_was);
+        }
+
+    -- the last tile is live, so no gap changes
+    pub extends_live : n ≡ 1 → l ≡ true → Extends allocator old grown n
+    extends_live one is =
+        let e = places.2 in
+        let same : (u : ℕ) → free_of (xs ++ tile at u l ∷ []) ≡ free_of xs = λ u. free_of-append xs (tile at u l ∷ []) ∙ ap (λ b. free_of xs ++ free_of (tile at u b ∷ [])) is ∙ append-nil (free_of xs) in
+        let holds : HoldsGaps allocator sized (free_of xs) = subst (λ gs. HoldsGaps allocator sized gs) (same u) last_free in
+        let short = length-sized in
+        let low = Fill-le xs heap_start at places.0 in
+        let kept = λ (p m : ℕ) (high : p + m ≤ at). IsSame-agrees sized grown p (p + m) p m (grown_kept p (p + m) (inl high) (omega arith)) (omega arith) (omega arith) (omega arith) in
+        extends_one one grown length-grown (grown_headers one)
+        (subst (λ gs. HoldsGaps allocator grown gs) (sym (same (u + 1))) (HoldsGaps-kept sized grown allocator (free_of xs) (kept 24 4 (omega arith)) (free_kept sized grown xs heap_start at (λ p m a b. kept p m b) places.0) holds))
+        (Agrees-same grown 0 24) (Agrees-same grown 28 heap_start) (λ b c. Agrees-same grown (b.at + 8) (end_of b))
+
+  -- ---- more units
+
+  units_after-last : (xs : List Tile) (at u : ℕ) (l : Bool) (before : ℕ) → units_after before (xs ++ tile at u l ∷ []) ≡ u
+  units_after-last [] at u l before = refl
+  units_after-last (t ∷ xs) at u l before = units_after-last xs at u l t.units
+
+  module _ (xs : List Tile) (at u : ℕ) (l : Bool) (parts : tiles front ≡ xs ++ tile at u l ∷ []) (more : 2 ≤ n) where
+    abbrev repeated : List ℕ
+    repeated = set_word sized (end + 4) u
+
+    abbrev pub added : List ℕ
+    added = set_size repeated end n true
+
+    length-repeated : length repeated ≡ length old
+    length-repeated = length-set_number 4 sized (end + 4) u ∙ length-sized
+
+    length-added : length added ≡ length old
+    length-added = length-set_size repeated end n true ∙ length-repeated
+
+    added_kept : (from to : ℕ) → to ≤ end → Agrees sized added from to
+    added_kept from to high = Agrees-trans sized repeated added from to (Agrees-set_number 4 sized (end + 4) u from to (inl (omega arith))) (Agrees-set_size repeated end n true from to (inl high) (inl (omega arith)))
+
+    low_end : 704 < end
+    low_end = omega arith
+
+    size_small : u < 2 ^ 32
+    size_small =
+        let p = around xs [] heap_start end at u l (subst (λ ts. Fill heap_start ts end) parts filled) in
+        let e = p.2 in omega arith
+
+    added_tiling : IsTiling allocator added (tiles front ++ tile end n true ∷ [])
+    added_tiling =
+        let longer = length-added in
+        let short = length-repeated in
+        let sized_long = length-sized in
+        let back : Fill (end + 16 * n) [] (length repeated) = omega arith in
+        let fills : Fill heap_start (tiles front ++ tile end n true ∷ []) (length added) = Fill-append (tiles front) (tile end n true ∷ []) heap_start end (length added) filled (refl, more, omega arith) in
+        record {
+          tiled = record {
+            small = omega arith;
+            filled = fills;
+            headers = set_size-headers repeated (tiles front) [] end n 0 true (omega arith) filled more back
+                (AreHeaders-words sized repeated (tiles front) heap_start end 0 (λ q low high. number-set_other 4 4 sized (end + 4) u q (inl (omega arith))) filled headers) tt
+                (number-set_same 4 sized (end + 4) u (omega arith) size_small ∙ sym (ap (units_after 0) parts ∙ units_after-last xs at u l 0)) (λ e. absurd (never e));
+          };
+          free = subst (λ gs. HoldsGaps allocator added gs) (sym (free_of-append (tiles front) (tile end n true ∷ []) ∙ append-nil (free_of (tiles front))))
+              (kept_free added (λ p m low high. IsSame-agrees sized added p (p + m) p m (added_kept p (p + m) high) (omega arith) (omega arith) (omega arith)));
+        }
+      where
+        never : true ≡ false → ⊥
+        never e = cc
+
+    added_is : IsTiledHeap allocator added (tiles front ++ tile end n true ∷ [])
+    added_is = heap_of_tiling added (tiles front ++ tile end n true ∷ []) added_tiling (AreApart-append (tiles front) (tile end n true ∷ []) true h.apart ((λ _. refl), tt))
+
+    pub added_heap : IsHeap allocator added
+    added_heap = added_is.heap
+
+    added_live : live added ≡ live front ++ record { at = end; units = n } ∷ []
+    added_live = added_is.live_is ∙ live_of-append (tiles front) (tile end n true ∷ []) ∙ ap (λ s. s ++ record { at = end; units = n } ∷ []) (sym live_was)
+
+    pub added_block : Contains (live added) (record { at = end; units = n })
+    added_block = subst (λ s. Contains s (record { at = end; units = n })) (sym added_live) (Contains-append_right (live front) (record { at = end; units = n } ∷ []) (record { at = end; units = n }) (0, omega arith, refl))
+
+    agrees_added : (from to : ℕ) → (to ≤ 12) ⊎ (16 ≤ from) → to ≤ end → Agrees old added from to
+    agrees_added from to out high = Agrees-trans old sized added from to (agrees_sized from to out) (added_kept from to high)
+
+    pub extends_more : (new : List ℕ) → Gives allocator added new end → Extends allocator old new n
+    extends_more new g =
+        let long_new = g.kept.length_kept ∙ length-added in
+        let ended = low_end in
+        let left : live new ≡ live front =
+        g.given ∙ ap (λ s. without end s) (added_live ∙ ap (λ s. s ++ record { at = end; units = n } ∷ []) live_was) ∙ without-other end (tiles front) [] (record { at = end; units = n }) heap_start end refl filled (omega arith)
+        ∙ append-nil (live_of (tiles front)) ∙ sym live_was in
+        record {
+          heap = g.heap;
+          size_is = number-agrees added new 0 24 4 12 g.kept.front_kept (omega arith) (omega arith) ∙ number-agrees sized added 0 16 4 12 (added_kept 0 16 (omega arith)) (omega arith) (omega arith) ∙ size_word_is ∙ ap (λ m. m / 16) (sym long_new);
+          length_kept = long_new;
+          front_kept = Agrees-trans old added new 0 12 (agrees_added 0 12 (inl (omega arith)) (omega arith)) (Agrees-within added new 0 24 0 12 g.kept.front_kept (omega arith) (omega arith));
+          words_kept = Agrees-trans old added new 16 24 (agrees_added 16 24 (inr (omega arith)) (omega arith)) (Agrees-within added new 0 24 16 24 g.kept.front_kept (omega arith) (omega arith));
+          back_kept = Agrees-trans old added new 28 heap_start (agrees_added 28 heap_start (inr (omega arith)) (omega arith)) g.kept.back_kept;
+          blocks_kept = λ b c.
+              let w = live_low b c in
+              let still = g.kept.blocks_kept b b (subst (λ s. Contains s b) (sym added_live) (Contains-append_left (live front) (record { at = end; units = n } ∷ []) b c)) (subst (λ s. Contains s b) (sym left) c) refl in
+              Agrees-trans old added new (b.at + 8) (end_of b) (agrees_added (b.at + 8) (end_of b) (inr (omega arith)) w.1) (Agrees-within added new (b.at + 8) (b.at + 16 * min b.units b.units) (b.at + 8) (end_of b) still (omega arith) (omega arith));
+          extends = left ∙ sym (after_extend-more (live front) end n (λ e. absurd (omega arith)));
+        }
+
+-- ---- from what the steps ensure
+
+module _ {allocator : ℕ} (old after : List ℕ) (n len : ℕ) (small : length old ≤ 2 ^ 30) (room : 736 + 16 * n ≤ length old) (h : IsHeap allocator (without_last old n)) (len_is : len ≡ length old) (after_is : after ≡ set_word old 12 (len / 16)) where
+  pub sized_is : after ≡ sized old n small room h
+  sized_is = after_is ∙ ap (λ m. set_word old 12 (m / 16)) len_is
+
+  pub extended_zero : n ≡ 0 → Extends allocator old after n
+  extended_zero none = subst (λ b. Extends allocator old b n) (sym sized_is) (extends_zero old n small room h none)
+
+  pub end_never : ((ts : List Tile) → 704 < len - 16 * n → len - 16 * n ≤ length after → Fill 704 ts (len - 16 * n) → AreHeaders after 0 ts → ⊥) → ⊥
+  end_never last =
+      let e : length old - 16 * n ≡ len - 16 * n = ap (λ m. m - 16 * n) (sym len_is) in
+      last (tiles (without_last old n)) (omega arith) (omega (arith, ap length after_is, length-set_number 4 old 12 (len / 16)))
+      (subst (λ p. Fill heap_start (tiles (without_last old n)) p) e (filled old n small room h)) (subst (λ b. AreHeaders b 0 (tiles (without_last old n))) (sym sized_is) (headers old n small room h))
+
+  module _ (at u : ℕ) (last : (ts : List Tile) → 704 < len - 16 * n → len - 16 * n ≤ length after → Fill 704 ts (len - 16 * n) → AreHeaders after 0 ts → HasEnd after ts at u) where
+    pub the_end : HasEnd after (tiles (without_last old n)) at u
+    the_end =
+        let e : length old - 16 * n ≡ len - 16 * n = ap (λ m. m - 16 * n) (sym len_is) in
+        last (tiles (without_last old n)) (omega arith) (omega (arith, ap length after_is, length-set_number 4 old 12 (len / 16)))
+        (subst (λ p. Fill heap_start (tiles (without_last old n)) p) e (filled old n small room h)) (subst (λ b. AreHeaders b 0 (tiles (without_last old n))) (sym sized_is) (headers old n small room h))
+
+    -- whether the last tile is live
+    pub end_flag : is_live_at after at ≡ the_end.live
+    end_flag = let e = the_end in ap (λ b. is_live_at b at) sized_is ∙ last_live old n small room h e.front at u e.live e.parts
+
+    -- the units of the last tile and those behind it
+    pub end_units : n ≡ 1 → (len - at) / 16 ≡ u + 1
+    end_units one = let e = the_end in let end_is = last_end old n small room h e.front at u e.live e.parts in omega arith
+
+    pub extended_live : n ≡ 1 → (new : List ℕ) → is_live_at after at ≡ true → new ≡ set_size after at ((len - at) / 16) true → Extends allocator old new n
+    extended_live one new live new_is =
+        let e = the_end in
+        let flag : true ≡ e.live = sym live ∙ end_flag in
+        let is : new ≡ set_size (sized old n small room h) at (u + 1) e.live = new_is ∙ (λ i. set_size (sized_is i) at (end_units one i) (flag i)) in
+        subst (λ b. Extends allocator old b n) (sym is) (extends_live old n small room h e.front at u e.live e.parts one (sym flag))
+
+    pub extended_more : 2 ≤ n → (mid new : List ℕ) → mid ≡ set_size (set_word after (len - 16 * n + 4) u) (len - 16 * n) n true → (IsHeap allocator mid → IsLive mid (len - 16 * n) → Gives allocator mid new (len - 16 * n)) → Extends allocator old new n
+    extended_more more mid new mid_is gives =
+        let e = the_end in
+        let place : len - 16 * n ≡ length old - 16 * n = ap (λ m. m - 16 * n) len_is in
+        let is : mid ≡ added old n small room h e.front at u e.live e.parts more = mid_is ∙ (λ i. set_size (set_word (sized_is i) (place i + 4) u) (place i) n true) in
+        let given = subst (λ (p : List ℕ × ℕ). IsHeap allocator p.0 → IsLive p.0 p.1 → Gives allocator p.0 new p.1) (λ i. (is i, place i)) gives in
+        extends_more old n small room h e.front at u e.live e.parts more new
+        (given (added_heap old n small room h e.front at u e.live e.parts more) (n, added_block old n small room h e.front at u e.live e.parts more))
