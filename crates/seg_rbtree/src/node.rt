@@ -1,7 +1,7 @@
 ghost use Rattle.std.specs.Prelude.{◌≡◌};
 ghost use Rattle.seg_spec.specs.Pointer.{target};
 ghost use Rattle.seg_spec.specs.Window.{with_bytes};
-ghost use Rattle.seg_rbtree.specs.Nodes.{side_word};
+ghost use Rattle.seg_rbtree.specs.Nodes.{side_word, colour_at, with_child, with_colour, with_new_node};
 
 use seg_ptr::Window;
 use std::alloc::Allocator;
@@ -46,13 +46,15 @@ pub(crate) fn child<A: Allocator>(w: &Window<A>, node: u32, side: Side) -> Optio
 }
 
 pub(crate) fn set_child<A: Allocator>(w: &mut Window<A>, node: u32, side: Side, child: Option<u32>)
-    ensures { w.new ≡ with_bytes w.old w.new.bytes }
+    ensures { w.new ≡ with_bytes w.old (with_child w.old.bytes node side child) }
 {
     w.point(child_word(node, side), child);
 }
 
 /// The colour of a node. Where there is none it is black.
-pub(crate) fn colour_of<A: Allocator>(w: &Window<A>, node: Option<u32>) -> Colour {
+pub(crate) fn colour_of<A: Allocator>(w: &Window<A>, node: Option<u32>) -> Colour
+    ensures { result ≡ colour_at w.now.bytes node }
+{
     match node {
         Some(node) if w.get32(node as usize + 8) == Colour::Red as u32 => Colour::Red,
         _ => Colour::Black,
@@ -64,14 +66,14 @@ pub(crate) fn is_red<A: Allocator>(w: &Window<A>, node: Option<u32>) -> bool {
 }
 
 pub(crate) fn paint<A: Allocator>(w: &mut Window<A>, node: u32, colour: Colour)
-    ensures { w.new ≡ with_bytes w.old w.new.bytes }
+    ensures { w.new ≡ with_bytes w.old (with_colour w.old.bytes node colour) }
 {
     w.put32(node as usize + 8, colour as u32);
 }
 
 /// Makes a node a red one without children.
 pub(crate) fn init<A: Allocator>(w: &mut Window<A>, node: u32)
-    ensures { w.new ≡ with_bytes w.old w.new.bytes }
+    ensures { w.new ≡ with_bytes w.old (with_new_node w.old.bytes node) }
 {
     set_child(w, node, Side::Left, None);
     set_child(w, node, Side::Right, None);

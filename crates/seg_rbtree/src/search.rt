@@ -1,6 +1,6 @@
 //! Searches down a tree.
 
-ghost use Rattle.std.specs.Prelude.{◌≡◌, ◌≤◌, nat_le, ◌&&◌, Some, None};
+ghost use Rattle.std.specs.Prelude.{◌≡◌, ◌+◌, ◌^◌, ◌≤◌, length};
 ghost use Rattle.std.specs.Ordering.{is_eq};
 ghost use Rattle.seg_spec.specs.Shapes.{nodes_of};
 ghost use Rattle.seg_spec.specs.Search.{reaches, Ascend, first_where, looks, IsSearchTree};
@@ -62,7 +62,9 @@ impl Tree {
             → result.node ≡ first_where (λ node. reaches Ordering.Equal (O.compare_key order.now w.now.bytes node key)) (nodes_of shape) }
         ensures looks { O.exact → (shape : _) → IsSearchTree w.now.bytes self.root shape → Ascend (O.compare order.now w.now.bytes) (nodes_of shape)
             → result.looks ≡ looks (λ node. reaches Ordering.Equal (O.compare_key order.now w.now.bytes node key)) shape }
-        ensures bound { result.looks ≤ 64 }
+        ensures at_most { result.looks ≤ 64 }
+        ensures bound { O.exact → (shape : _) → IsSearchTree w.now.bytes self.root shape → Ascend (O.compare order.now w.now.bytes) (nodes_of shape)
+            → 2 ^ result.looks ≤ (length (nodes_of shape) + 1) ^ 2 }
     {
         self.first_from(w, order, key, Ordering::Equal)
     }
