@@ -6,10 +6,11 @@ use Rattle.std.proofs.lemmas.List.{length-take-le, append-nil}
 use Rattle.std.proofs.lemmas.List.Elements.{Contains-append_left, Contains-append_right, Contains-append_cases}
 use Rattle.seg_spec.specs.Bytes.{slice, word, set_word, Agrees, IsSame}
 use Rattle.seg_spec.specs.Heap.{Span, Tile, span_of, end_of, IsLive, is_live_at, Fill, AreHeaders, AreApart, HoldsGaps, live_of, free_of, heap_start, tiles, live, IsHeap, Gives, Extends, without, without_last, after_extend}
-use Rattle.seg_spec.proofs.BytesLaws.{part, Agrees-same, number-part, slice-part, number-set_same, number-set_other, number-agrees, Agrees-within, Agrees-trans, Agrees-set_number, length-set_number}
+use Rattle.seg_spec.proofs.BytesLaws.{part, number-part, slice-part, number-set_same, number-set_other, number-agrees, Agrees-within, Agrees-trans, Agrees-set_number, length-set_number}
 use Rattle.seg_spec.proofs.SliceLaws.{IsSame-agrees, IsSame-trans}
 use Rattle.seg_spec.proofs.TileLaws.{Fill-le, Fill-append, AreHeaders-front, AreHeaders-back, AreApart-append, AreApart-front, AreApart-back, units_after, live_of-append, free_of-append}
 use Rattle.seg_spec.proofs.HeaderLaws.{IsHeader-same}
+use Rattle.seg_block.specs.Extents.{Enlarges}
 use Rattle.seg_block.specs.Sizes.{size_word, set_size}
 use Rattle.seg_block.specs.Tiling.{tile, IsTiling}
 use Rattle.seg_block.specs.Blocks.{HasEnd}
@@ -116,7 +117,7 @@ module _ {allocator : ℕ} (old : List ℕ) (n : ℕ) (small : length old ≤ 2 
   size_word_is : word sized 12 ≡ units
   size_word_is = number-set_same 4 old 12 units (omega arith) (omega arith)
 
-  live_low : (b : Span) → Contains (live front) b → (704 ≤ b.at) × (end_of b ≤ end)
+  pub live_low : (b : Span) → Contains (live front) b → (704 ≤ b.at) × (end_of b ≤ end)
   live_low b c = live_within (tiles front) heap_start end b filled (subst (λ l. Contains l b) live_was c)
 
   -- ---- no units
@@ -141,7 +142,7 @@ module _ {allocator : ℕ} (old : List ℕ) (n : ℕ) (small : length old ≤ 2 
   -- ---- one unit
 
   module _ (xs : List Tile) (at u : ℕ) (l : Bool) (parts : tiles front ≡ xs ++ tile at u l ∷ []) where
-    ended : Fill heap_start (xs ++ tile at u l ∷ []) end
+    pub ended : Fill heap_start (xs ++ tile at u l ∷ []) end
     ended = subst (λ ts. Fill heap_start ts end) parts filled
 
     pub places : (Fill heap_start xs at) × (2 ≤ u) × (at + 16 * u ≡ end)
@@ -149,9 +150,6 @@ module _ {allocator : ℕ} (old : List ℕ) (n : ℕ) (small : length old ≤ 2 
 
     pub last_headers : AreHeaders sized 0 (xs ++ tile at u l ∷ [])
     last_headers = subst (λ ts. AreHeaders sized 0 ts) parts headers
-
-    pub last_live : is_live_at sized at ≡ l
-    last_live = (AreHeaders-back sized xs (tile at u l ∷ []) 0 last_headers).0.live_is
 
     pub last_end : at + 16 * u ≡ end
     last_end = places.2
@@ -162,67 +160,33 @@ module _ {allocator : ℕ} (old : List ℕ) (n : ℕ) (small : length old ≤ 2 
     last_apart : AreApart true (xs ++ tile at u l ∷ [])
     last_apart = subst (λ ts. AreApart true ts) parts h.apart
 
-    abbrev pub grown : List ℕ
-    grown = set_size sized at (u + 1) l
-
-    pub length-grown : length grown ≡ length old
-    length-grown = length-set_size sized at (u + 1) l ∙ length-sized
-
-    pub grown_kept : (from to : ℕ) → (to ≤ at) ⊎ (at + 4 ≤ from) → to ≤ end → Agrees sized grown from to
-    grown_kept from to out high = let e = places.2 in Agrees-set_size sized at (u + 1) l from to out (inl (omega arith))
-
-    last_side : (b : Span) → Contains (live front) b → (end_of b ≤ at) ⊎ (at + 4 ≤ b.at + 8)
-    last_side b c =
-        ⊎_elim (λ x. inl (live_within xs heap_start at b places.0 x).1) (λ y. let w = live_within (tile at u l ∷ []) at end b (refl, places.1, places.2) y in inr (omega (arith, w.0)))
-        (Contains-append_cases (live_of xs) (live_of (tile at u l ∷ [])) b (subst (λ s. Contains s b) (live_was ∙ ap live_of parts ∙ live_of-append xs (tile at u l ∷ [])) c))
-
-    pub grown_headers : n ≡ 1 → AreHeaders grown 0 (xs ++ tile at (u + 1) l ∷ [])
-    grown_headers one =
+    -- the last tile has the unit now
+    pub extends_one : n ≡ 1 → (new : List ℕ) → Enlarges allocator sized new xs at u (u + 1) l → Extends allocator old new n
+    extends_one one new g =
+        let e = places.2 in
         let short = length-sized in
-        let e = places.2 in
-        let last = AreHeaders-back sized xs (tile at u l ∷ []) 0 last_headers in
-        set_size-headers sized xs [] at (u + 1) 0 l (omega arith) places.0 (omega (arith, places.1)) (omega arith) (AreHeaders-front sized xs (tile at u l ∷ []) 0 last_headers) tt last.0.before_is last.0.tag_is
-
-    -- from the bytes with the last tile's size to the new bytes, which keep what must be kept
-    pub extends_one : n ≡ 1 → (new : List ℕ) → length new ≡ length old → AreHeaders new 0 (xs ++ tile at (u + 1) l ∷ []) → HoldsGaps allocator new (free_of (xs ++ tile at (u + 1) l ∷ []))
-        → Agrees grown new 0 24 → Agrees grown new 28 heap_start → ((b : Span) → Contains (live front) b → Agrees grown new (b.at + 8) (end_of b)) → Extends allocator old new n
-    extends_one one new longer heads holds front_kept back_kept blocks =
-        let e = places.2 in
-        let low = Fill-le xs heap_start at places.0 in
+        let longer = g.length_kept ∙ short in
         let tiling : IsTiling allocator new (xs ++ tile at (u + 1) l ∷ []) = record {
           tiled = record {
             small = omega arith;
             filled = Fill-append xs (tile at (u + 1) l ∷ []) heap_start at (length new) places.0 (refl, omega (arith, places.1), omega arith);
-            headers = heads;
+            headers = g.headers;
           };
-          free = holds;
+          free = g.free;
         } in
         let apart : AreApart true (xs ++ tile at (u + 1) l ∷ []) = AreApart-append xs (tile at (u + 1) l ∷ []) true (AreApart-front xs (tile at u l ∷ []) true last_apart) (AreApart-back xs (tile at u l ∷ []) true last_apart) in
         let now = heap_of_tiling new (xs ++ tile at (u + 1) l ∷ []) tiling apart in
-        let first = λ (from to : ℕ) (out : (to ≤ 12) ⊎ (16 ≤ from)) (beside : (to ≤ at) ⊎ (at + 4 ≤ from)) (high : to ≤ end). Agrees-trans old sized grown from to (agrees_sized from to out) (grown_kept from to beside (omega arith)) in
+        let front_kept = g.spared.front_kept in
         record {
           heap = now.heap;
-          size_is = number-agrees grown new 0 24 4 12 front_kept (omega arith) (omega arith) ∙ number-agrees sized grown 12 16 4 12 (grown_kept 12 16 (inl (omega arith)) (omega arith)) (omega arith) (omega arith) ∙ size_word_is ∙ ap (λ m. m / 16) (sym longer);
+          size_is = number-agrees sized new 0 24 4 12 front_kept (omega arith) (omega arith) ∙ size_word_is ∙ ap (λ m. m / 16) (sym longer);
           length_kept = longer;
-          front_kept = Agrees-trans old grown new 0 12 (first 0 12 (inl (omega arith)) (inl (omega arith)) (omega arith)) (Agrees-within grown new 0 24 0 12 front_kept (omega arith) (omega arith));
-          words_kept = Agrees-trans old grown new 16 24 (first 16 24 (inr (omega arith)) (inl (omega arith)) (omega arith)) (Agrees-within grown new 0 24 16 24 front_kept (omega arith) (omega arith));
-          back_kept = Agrees-trans old grown new 28 heap_start (first 28 heap_start (inr (omega arith)) (inl low) (omega arith)) back_kept;
-          blocks_kept = λ b c. let w = live_low b c in Agrees-trans old grown new (b.at + 8) (end_of b) (first (b.at + 8) (end_of b) (inr (omega arith)) (last_side b c) w.1) (blocks b c);
+          front_kept = Agrees-trans old sized new 0 12 (agrees_sized 0 12 (inl (omega arith))) (Agrees-within sized new 0 24 0 12 front_kept (omega arith) (omega arith));
+          words_kept = Agrees-trans old sized new 16 24 (agrees_sized 16 24 (inr (omega arith))) (Agrees-within sized new 0 24 16 24 front_kept (omega arith) (omega arith));
+          back_kept = Agrees-trans old sized new 28 heap_start (agrees_sized 28 heap_start (inr (omega arith))) g.spared.back_kept;
+          blocks_kept = λ b c. let w = live_low b c in Agrees-trans old sized new (b.at + 8) (end_of b) (agrees_sized (b.at + 8) (end_of b) (inr (omega arith))) (g.spared.tiles_kept b (subst (λ s. Contains s b) (live_was ∙ ap live_of parts) c));
           extends = now.live_is ∙ sym (after_extend-one xs heap_start at u end l places.1 places.0 places.2) ∙ (λ i. after_extend (live_of (sym parts i)) end (sym one i)) ∙ ap (λ s. after_extend s end n) (sym live_was);
         }
-
-    -- the last tile is live, so no gap changes
-    pub extends_live : n ≡ 1 → l ≡ true → Extends allocator old grown n
-    extends_live one is =
-        let e = places.2 in
-        let same : (u : ℕ) → free_of (xs ++ tile at u l ∷ []) ≡ free_of xs = λ u. free_of-append xs (tile at u l ∷ []) ∙ ap (λ b. free_of xs ++ free_of (tile at u b ∷ [])) is ∙ append-nil (free_of xs) in
-        let holds : HoldsGaps allocator sized (free_of xs) = subst (λ gs. HoldsGaps allocator sized gs) (same u) last_free in
-        let short = length-sized in
-        let low = Fill-le xs heap_start at places.0 in
-        let kept = λ (p m : ℕ) (high : p + m ≤ at). IsSame-agrees sized grown p (p + m) p m (grown_kept p (p + m) (inl high) (omega arith)) (omega arith) (omega arith) (omega arith) in
-        extends_one one grown length-grown (grown_headers one)
-        (subst (λ gs. HoldsGaps allocator grown gs) (sym (same (u + 1))) (HoldsGaps-kept sized grown allocator (free_of xs) (kept 24 4 (omega arith)) (free_kept sized grown xs heap_start at (λ p m a b. kept p m b) places.0) holds))
-        (Agrees-same grown 0 24) (Agrees-same grown 28 heap_start) (λ b c. Agrees-same grown (b.at + 8) (end_of b))
 
   -- ---- more units
 
@@ -334,20 +298,24 @@ module _ {allocator : ℕ} (old after : List ℕ) (n len : ℕ) (small : length 
         last (tiles (without_last old n)) (omega arith) (omega (arith, ap length after_is, length-set_number 4 old 12 (len / 16)))
         (subst (λ p. Fill heap_start (tiles (without_last old n)) p) e (filled old n small room h)) (subst (λ b. AreHeaders b 0 (tiles (without_last old n))) (sym sized_is) (headers old n small room h))
 
-    -- whether the last tile is live
-    pub end_flag : is_live_at after at ≡ the_end.live
-    end_flag = let e = the_end in ap (λ b. is_live_at b at) sized_is ∙ last_live old n small room h e.front at u e.live e.parts
-
     -- the units of the last tile and those behind it
-    pub end_units : n ≡ 1 → (len - at) / 16 ≡ u + 1
-    end_units one = let e = the_end in let end_is = last_end old n small room h e.front at u e.live e.parts in omega arith
-
-    pub extended_live : n ≡ 1 → (new : List ℕ) → is_live_at after at ≡ true → new ≡ set_size after at ((len - at) / 16) true → Extends allocator old new n
-    extended_live one new live new_is =
+    pub end_units : n ≡ 1 → ((len - at) / 16 ≡ u + 1) × (at + 16 * (u + 1) ≡ length after)
+    end_units one =
         let e = the_end in
-        let flag : true ≡ e.live = sym live ∙ end_flag in
-        let is : new ≡ set_size (sized old n small room h) at (u + 1) e.live = new_is ∙ (λ i. set_size (sized_is i) at (end_units one i) (flag i)) in
-        subst (λ b. Extends allocator old b n) (sym is) (extends_live old n small room h e.front at u e.live e.parts one (sym flag))
+        let end_is = last_end old n small room h e.front at u e.live e.parts in
+        let k = ap length after_is ∙ length-set_number 4 old 12 (len / 16) in
+        (omega arith, omega arith)
+
+    pub extended_one : n ≡ 1 → (new : List ℕ) → ((xs : List Tile) (l : Bool) → Fill 704 (xs ++ tile at u l ∷ []) (at + 16 * u) → AreHeaders after 0 (xs ++ tile at u l ∷ []) → HoldsGaps allocator after (free_of (xs ++ tile at u l ∷ [])) → Enlarges allocator after new xs at u ((len - at) / 16) l) → Extends allocator old new n
+    extended_one one new enlarges =
+        let e = the_end in
+        let sized_same = sym sized_is in
+        let end_is = last_end old n small room h e.front at u e.live e.parts in
+        let g = enlarges e.front e.live
+        (subst (λ p. Fill 704 (e.front ++ tile at u e.live ∷ []) p) (sym end_is) (ended old n small room h e.front at u e.live e.parts))
+        (subst (λ b. AreHeaders b 0 (e.front ++ tile at u e.live ∷ [])) sized_same (last_headers old n small room h e.front at u e.live e.parts))
+        (subst (λ b. HoldsGaps allocator b (free_of (e.front ++ tile at u e.live ∷ []))) sized_same (last_free old n small room h e.front at u e.live e.parts)) in
+        extends_one old n small room h e.front at u e.live e.parts one new (subst (λ (p : List ℕ × ℕ). Enlarges allocator p.0 new e.front at u p.1 e.live) (λ i. (sized_is i, (end_units one).0 i)) g)
 
     pub extended_more : 2 ≤ n → (mid new : List ℕ) → mid ≡ set_size (set_word after (len - 16 * n + 4) u) (len - 16 * n) n true → (IsHeap allocator mid → IsLive mid (len - 16 * n) → Gives allocator mid new (len - 16 * n)) → Extends allocator old new n
     extended_more more mid new mid_is gives =

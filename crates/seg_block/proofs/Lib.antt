@@ -16,3 +16,7 @@ pub mod Resizing
 pub mod Expanding
 pub mod FreeTiles
 pub mod Extents
+pub mod Relabelling
+pub mod ReadFree
+pub mod Cuttings
+pub mod Enlarging

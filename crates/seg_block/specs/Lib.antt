@@ -4,3 +4,4 @@ pub mod Tags
 pub mod Tiling
 pub mod Request
 pub mod FreeBlocks
+pub mod Extents
