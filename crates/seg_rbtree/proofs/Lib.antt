@@ -1,2 +1,15 @@
 pub mod Searching
 pub mod Finding
+pub mod Steps
+pub mod Apartness
+pub mod Branches
+pub mod Keeping
+pub mod Turning
+pub mod Depth
+pub mod Walking
+pub mod Orders
+pub mod Balancing
+pub mod Raising
+pub mod Settling
+pub mod Parting
+pub mod Growing

@@ -1,10 +1,16 @@
 -- The words of a node.
 --     side_word node side                   the position of the pointer to a child
 --     colour_at bytes node                  the colour of a node, black where there is none
+--     shade colour                          the colour as shapes have it
 --     with_child, with_colour, with_new_node      the bytes with a child, a colour, or a red node without children
-use Rattle.std.specs.Prelude.{ℕ, ◌+◌, ◌==◌, if◌then◌else◌, List, Option, None, Some}
+--     raised bytes word node side           the same, with the node red and the child black
+--     straightened bytes word grandparent way parent turn      the bytes after two reds in a row below a black node were straightened
+--     rotated bytes word node side          the bytes after the node at a pointer word and its child on the other side changed places
+use Rattle.std.specs.Prelude.{ℕ, Bool, true, false, ◌+◌, ◌==◌, if◌then◌else◌, List, Option, None, Some}
 use Rattle.seg_spec.specs.Bytes.{word, set_word}
-use Rattle.seg_spec.specs.Pointer.{set_pointer}
+use Rattle.seg_spec.specs.Pointer.{target, set_pointer}
+use Rattle.seg_spec.specs.Shapes
+use Rattle.seg_spec.specs.Shapes.{black, red}
 use Rattle.seg_rbtree.specs.declared.node.Side.{Side}
 use Rattle.seg_rbtree.specs.declared.node.Side.TheVariants.{Left, Right}
 use Rattle.seg_rbtree.specs.declared.node.Colour.{Colour}
@@ -15,6 +21,11 @@ abbrev pub side_word : ℕ → Side → ℕ
 side_word node Left = node
 side_word node Right = node + 4
 
+-- the other side
+abbrev pub opposite : Side → Side
+opposite Left = Right
+opposite Right = Left
+
 -- the colour of a node, black where there is none
 abbrev pub colour_at : List ℕ → Option ℕ → Colour
 colour_at bytes None = Black
@@ -24,6 +35,11 @@ colour_at bytes (Some node) = if word bytes (node + 8) == 1 then Red else Black
 abbrev pub colour_number : Colour → ℕ
 colour_number Black = 0
 colour_number Red = 1
+
+-- the colour as shapes have it
+abbrev pub shade : Colour → Shapes.Colour
+shade Black = black
+shade Red = red
 
 -- the bytes with a child of a node
 abbrev pub with_child : List ℕ → ℕ → Side → Option ℕ → List ℕ
@@ -36,3 +52,36 @@ with_colour bytes node colour = set_word bytes (node + 8) (colour_number colour)
 -- the bytes with a red node without children
 abbrev pub with_new_node : List ℕ → ℕ → List ℕ
 with_new_node bytes node = set_word (with_colour (with_child (with_child bytes node Left None) node Right None) node Red) (node + 12) 0
+
+-- the bytes after a node went down to a side of the node that comes up to its pointer word
+abbrev pub rotated_up : List ℕ → ℕ → ℕ → Side → Option ℕ → List ℕ
+rotated_up bytes word node side None = bytes
+rotated_up bytes word node side (Some up) =
+    set_pointer (with_child (with_child bytes node (opposite side) (target bytes (side_word up side))) up side (Some node)) word (Some up)
+
+-- the bytes after the node at a pointer word went down to a side, and its child on the other side came up
+abbrev pub rotated : List ℕ → ℕ → ℕ → Side → List ℕ
+rotated bytes word node side = rotated_up bytes word node side (target bytes (side_word node (opposite side)))
+
+-- the bytes with the node that came up black, and the other one red
+abbrev pub raised_up : List ℕ → ℕ → Option ℕ → List ℕ
+raised_up bytes node None = bytes
+raised_up bytes node (Some up) = with_colour (with_colour bytes up Black) node Red
+
+-- the bytes after the node at a pointer word went down to a side, red, and its child on the other side came up, black
+abbrev pub raised : List ℕ → ℕ → ℕ → Side → List ℕ
+raised bytes word node side = raised_up (rotated bytes word node side) node (target bytes (side_word node (opposite side)))
+
+abbrev pub is_same : Side → Side → Bool
+is_same Left Left = true
+is_same Left Right = false
+is_same Right Left = false
+is_same Right Right = true
+
+-- the bytes after the inner one of a node's grandchildren on a side came up, where the way turns
+abbrev pub turned_out : List ℕ → ℕ → Side → ℕ → Side → List ℕ
+turned_out bytes grandparent way parent turn = if is_same turn way then bytes else rotated bytes (side_word grandparent way) parent way
+
+-- the bytes after the middle one of three nodes came up to the pointer word
+abbrev pub straightened : List ℕ → ℕ → ℕ → Side → ℕ → Side → List ℕ
+straightened bytes word grandparent way parent turn = raised (turned_out bytes grandparent way parent turn) word grandparent (opposite way)

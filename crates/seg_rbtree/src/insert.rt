@@ -1,9 +1,14 @@
-ghost use Rattle.std.specs.Prelude.{◌≡◌};
+ghost use Rattle.std.specs.Prelude.{◌≡◌, ℕ, ◌+◌, ◌<◌, ◌^◌, List, ◌∷◌, length};
+ghost use Rattle.seg_spec.specs.Shapes.{nodes_of};
+ghost use Rattle.seg_spec.specs.Search.{Ascend, IsSearchTree};
 ghost use Rattle.seg_spec.specs.Window.{with_bytes};
+ghost use Rattle.seg_rbtree.specs.Changes.{StandApart, IsNew, with_node, Leaves};
+ghost use Rattle.seg_rbtree.specs.Nodes.{with_colour, raised, straightened};
+ghost use Rattle.seg_rbtree.specs.Rising.{IsRising, Settles};
 
-use crate::node::{Colour, Side, child, init, is_red, paint};
+use crate::node::{Colour, Side, child, child_word, init, is_red, paint, rotate};
 use crate::order::NodeOrder;
-use crate::path::{DEPTH, Path};
+use crate::path::{DEPTH, Path, Step};
 use crate::tree::Tree;
 use seg_ptr::Window;
 use std::alloc::Allocator;
@@ -16,7 +21,11 @@ impl Tree {
         order: &O,
         node: u32,
     )
-        ensures { w.new ≡ with_bytes w.old w.new.bytes }
+        ensures host { w.new ≡ with_bytes w.old w.new.bytes }
+        ensures added { O.exact → (shape : _) → IsSearchTree w.old.bytes self.root shape → Ascend (O.compare order.now w.old.bytes) (nodes_of shape)
+            → IsNew (O.compare order.now w.old.bytes) node (nodes_of shape) → StandApart (length w.old.bytes) self.root (node ∷ nodes_of shape)
+            → length (nodes_of shape) + 1 < 2 ^ 32
+            → Leaves w.old.bytes w.new.bytes self.root (node ∷ nodes_of shape) (with_node (O.compare order.now w.old.bytes) node (nodes_of shape)) }
     {
         let mut path = self.path_to(w, order, node);
         init(w, node);
@@ -33,7 +42,10 @@ impl Tree {
 
 /// Settles a red node whose parent may be red: here, or by a red node further up, which it answers.
 fn settle<A: Allocator>(w: &mut Window<A>, path: &mut Path, node: u32) -> Option<u32>
-    ensures { w.new ≡ with_bytes w.old w.new.bytes }
+    ensures host { w.new ≡ with_bytes w.old w.new.bytes }
+    ensures root { path.new.root ≡ path.old.root }
+    ensures settled { (nodes : List ℕ) → IsRising w.old.bytes path.old.root path.old.steps.items nodes node
+        → Settles w.old.bytes w.new.bytes path.old.root path.old.steps.items path.new.steps.items nodes result }
 {
     let Some(parent) = path.pop() else {
         paint(w, node, Colour::Black);
@@ -47,45 +59,42 @@ fn settle<A: Allocator>(w: &mut Window<A>, path: &mut Path, node: u32) -> Option
     let uncle = child(w, grandparent.node, grandparent.side.other());
     match uncle {
         Some(uncle) if is_red(w, Some(uncle)) => {
-            paint(w, parent.node, Colour::Black);
-            paint(w, uncle, Colour::Black);
-            paint(w, grandparent.node, Colour::Red);
+            part(w, parent.node, uncle, grandparent.node);
             Some(grandparent.node)
         }
         _ => {
-            straighten(w, path, grandparent.node, grandparent.side, parent.side);
+            straighten(w, path.word(), grandparent, parent);
             None
         }
     }
 }
 
-/// Ends two reds in a row below a black node: the middle one of the three comes up, black, and the others go below it, red.
-fn straighten<A: Allocator>(
-    w: &mut Window<A>,
-    path: &mut Path,
-    grandparent: u32,
-    side: Side,
-    inner: Side,
-)
-    ensures { w.new ≡ with_bytes w.old w.new.bytes }
+/// Paints two children of a node black, and the node red.
+fn part<A: Allocator>(w: &mut Window<A>, child: u32, other: u32, node: u32)
+    ensures { w.new ≡ with_bytes w.old (with_colour (with_colour (with_colour w.old.bytes child Colour.Black) other Colour.Black) node Colour.Red) }
 {
-    if inner != side {
-        bring_up(w, path, grandparent, side);
-    }
-    if let Some(up) = path.rotate(w, grandparent, side.other()) {
-        paint(w, up, Colour::Black);
-        paint(w, grandparent, Colour::Red);
-    }
+    paint(w, child, Colour::Black);
+    paint(w, other, Colour::Black);
+    paint(w, node, Colour::Red);
 }
 
-/// Lets the inner grandchild on a side take the place of its parent.
-fn bring_up<A: Allocator>(w: &mut Window<A>, path: &mut Path, grandparent: u32, side: Side)
-    ensures { w.new ≡ with_bytes w.old w.new.bytes }
+/// Ends two reds in a row below a black node: the middle one of the three comes up, black, and the others go below it, red.
+fn straighten<A: Allocator>(w: &mut Window<A>, word: usize, grandparent: Step, parent: Step)
+    ensures { w.new ≡ with_bytes w.old (straightened w.old.bytes word grandparent.node grandparent.side parent.node parent.side) }
 {
-    if path.push(grandparent, side) {
-        if let Some(parent) = path.node(w) {
-            let _ = path.rotate(w, parent, side);
-        }
-        let _ = path.pop();
+    let side = grandparent.side;
+    if parent.side != side {
+        let _ = rotate(w, child_word(grandparent.node, side), parent.node, side);
+    }
+    raise(w, word, grandparent.node, side.other());
+}
+
+/// Lets the node at a pointer word go down to a side, red, and its child on the other side come up, black.
+fn raise<A: Allocator>(w: &mut Window<A>, word: usize, node: u32, side: Side)
+    ensures { w.new ≡ with_bytes w.old (raised w.old.bytes word node side) }
+{
+    if let Some(up) = rotate(w, word, node, side) {
+        paint(w, up, Colour::Black);
+        paint(w, node, Colour::Red);
     }
 }

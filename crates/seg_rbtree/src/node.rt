@@ -1,7 +1,7 @@
-ghost use Rattle.std.specs.Prelude.{◌≡◌};
+ghost use Rattle.std.specs.Prelude.{◌≡◌, ◌↔◌, IsTrue};
 ghost use Rattle.seg_spec.specs.Pointer.{target};
 ghost use Rattle.seg_spec.specs.Window.{with_bytes};
-ghost use Rattle.seg_rbtree.specs.Nodes.{side_word, colour_at, with_child, with_colour, with_new_node};
+ghost use Rattle.seg_rbtree.specs.Nodes.{side_word, opposite, colour_at, with_child, with_colour, with_new_node, rotated};
 
 use seg_ptr::Window;
 use std::alloc::Allocator;
@@ -15,7 +15,9 @@ pub(crate) enum Side {
 }
 
 impl Side {
-    pub(crate) fn other(self) -> Side {
+    pub(crate) fn other(self) -> Side
+        ensures { result ≡ opposite self }
+    {
         match self {
             Side::Left => Side::Right,
             Side::Right => Side::Left,
@@ -61,7 +63,9 @@ pub(crate) fn colour_of<A: Allocator>(w: &Window<A>, node: Option<u32>) -> Colou
     }
 }
 
-pub(crate) fn is_red<A: Allocator>(w: &Window<A>, node: Option<u32>) -> bool {
+pub(crate) fn is_red<A: Allocator>(w: &Window<A>, node: Option<u32>) -> bool
+    ensures { IsTrue result ↔ (colour_at w.now.bytes node ≡ Colour.Red) }
+{
     colour_of(w, node) == Colour::Red
 }
 
@@ -79,4 +83,23 @@ pub(crate) fn init<A: Allocator>(w: &mut Window<A>, node: u32)
     set_child(w, node, Side::Right, None);
     paint(w, node, Colour::Red);
     w.put32(node as usize + 12, 0);
+}
+
+/// Lets the node at a pointer word and its child on the other side change places: the child comes up, the node goes down
+/// to `side`, and what was between them stays between them. Answers the child.
+pub(crate) fn rotate<A: Allocator>(
+    w: &mut Window<A>,
+    word: usize,
+    node: u32,
+    side: Side,
+) -> Option<u32>
+    ensures up { result ≡ target w.old.bytes (side_word node (opposite side)) }
+    ensures rotated { w.new ≡ with_bytes w.old (rotated w.old.bytes word node side) }
+{
+    let up = child(w, node, side.other())?;
+    let between = child(w, up, side);
+    set_child(w, node, side.other(), between);
+    set_child(w, up, side, Some(node));
+    w.point(word, Some(up));
+    Some(up)
 }

@@ -1,7 +1,10 @@
-ghost use Rattle.std.specs.Prelude.{◌≡◌};
+ghost use Rattle.std.specs.Prelude.{◌≡◌, ◌<◌, ◌≤◌, IsTrue, List, [], ◌∷◌, ◌++◌, length, take, Option, Some, MatchOption};
+ghost use Rattle.seg_spec.specs.Pointer.{target, set_pointer};
 ghost use Rattle.seg_spec.specs.Window.{with_bytes};
+ghost use Rattle.seg_rbtree.specs.Nodes.{side_word, opposite, rotated};
+ghost use Rattle.seg_rbtree.specs.Ways.{last_word};
 
-use crate::node::{Side, child_word, set_child};
+use crate::node::{Side, child_word, rotate};
 use arrayvec::ArrayVec;
 use seg_ptr::Window;
 use std::alloc::Allocator;
@@ -25,7 +28,10 @@ pub(crate) struct Path {
 
 impl Path {
     /// The place of the root itself, which this pointer word names.
-    pub(crate) fn new(root: usize) -> Path {
+    pub(crate) fn new(root: usize) -> Path
+        ensures root { result.root ≡ root }
+        ensures steps { result.steps.items ≡ [] }
+    {
         Path {
             root,
             steps: ArrayVec::new(),
@@ -33,17 +39,27 @@ impl Path {
     }
 
     /// One step down. False where the way is longer than any in a tree.
-    pub(crate) fn push(&mut self, node: u32, side: Side) -> bool {
+    pub(crate) fn push(&mut self, node: u32, side: Side) -> bool
+        ensures root { self.new.root ≡ self.old.root }
+        ensures room { length self.old.steps.items < 64 → IsTrue result }
+        ensures pushed { IsTrue result → self.new.steps.items ≡ self.old.steps.items ++ record { node = node; side = side } ∷ [] }
+    {
         self.steps.try_push(Step { node, side }).is_ok()
     }
 
     /// One step up: the node above the place, and the place's side of it.
-    pub(crate) fn pop(&mut self) -> Option<Step> {
+    pub(crate) fn pop(&mut self) -> Option<Step>
+        ensures root { self.new.root ≡ self.old.root }
+        ensures popped { MatchOption result (self.old.steps.items ≡ []) (λ step. self.old.steps.items ≡ self.new.steps.items ++ step ∷ []) }
+    {
         self.steps.pop()
     }
 
     /// How many nodes are above the place.
-    pub(crate) fn len(&self) -> usize {
+    pub(crate) fn len(&self) -> usize
+        ensures len { result ≡ length self.now.steps.items }
+        ensures at_most { result ≤ 64 }
+    {
         self.steps.len()
     }
 
@@ -55,32 +71,44 @@ impl Path {
     }
 
     /// The pointer word that leads to the place below so many steps.
-    fn word_below(&self, steps: usize) -> usize {
-        match steps.checked_sub(1).and_then(|i| self.steps.get(i)) {
+    fn word_below(&self, steps: usize) -> usize
+        ensures { steps ≤ length self.now.steps.items → result ≡ last_word self.now.root (take steps self.now.steps.items) }
+    {
+        if steps == 0 {
+            return self.root;
+        }
+        match self.steps.get(steps - 1) {
             Some(step) => child_word(step.node, step.side),
             None => self.root,
         }
     }
 
-    fn word(&self) -> usize {
+    /// The pointer word that leads to the place.
+    pub(crate) fn word(&self) -> usize
+        ensures { result ≡ last_word self.now.root self.now.steps.items }
+    {
         self.word_below(self.steps.len())
     }
 
     /// The node at the place.
-    pub(crate) fn node<A: Allocator>(&self, w: &Window<A>) -> Option<u32> {
+    pub(crate) fn node<A: Allocator>(&self, w: &Window<A>) -> Option<u32>
+        ensures { result ≡ target w.now.bytes (last_word self.now.root self.now.steps.items) }
+    {
         w.target(self.word())
     }
 
     /// Lets another node stand at the place.
     pub(crate) fn set<A: Allocator>(&self, w: &mut Window<A>, node: Option<u32>)
-        ensures { w.new ≡ with_bytes w.old w.new.bytes }
+        ensures { w.new ≡ with_bytes w.old (set_pointer w.old.bytes (last_word self.now.root self.now.steps.items) node) }
     {
         w.point(self.word(), node);
     }
 
     /// Lets another node stand at the place below so many steps.
     pub(crate) fn set_at<A: Allocator>(&self, w: &mut Window<A>, steps: usize, node: u32)
-        ensures { w.new ≡ with_bytes w.old w.new.bytes }
+        ensures host { w.new ≡ with_bytes w.old w.new.bytes }
+        ensures set { steps ≤ length self.now.steps.items
+            → w.new ≡ with_bytes w.old (set_pointer w.old.bytes (last_word self.now.root (take steps self.now.steps.items)) (Some node)) }
     {
         w.point(self.word_below(steps), Some(node));
     }
@@ -93,13 +121,9 @@ impl Path {
         node: u32,
         side: Side,
     ) -> Option<u32>
-        ensures { w.new ≡ with_bytes w.old w.new.bytes }
+        ensures up { result ≡ target w.old.bytes (side_word node (opposite side)) }
+        ensures rotated { w.new ≡ with_bytes w.old (rotated w.old.bytes (last_word self.now.root self.now.steps.items) node side) }
     {
-        let up = w.target(child_word(node, side.other()))?;
-        let between = w.target(child_word(up, side));
-        set_child(w, node, side.other(), between);
-        set_child(w, up, side, Some(node));
-        self.set(w, Some(up));
-        Some(up)
+        rotate(w, self.word(), node, side)
     }
 }

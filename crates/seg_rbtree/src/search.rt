@@ -4,6 +4,7 @@ ghost use Rattle.std.specs.Prelude.{◌≡◌, ◌+◌, ◌^◌, ◌≤◌, leng
 ghost use Rattle.std.specs.Ordering.{is_eq};
 ghost use Rattle.seg_spec.specs.Shapes.{nodes_of};
 ghost use Rattle.seg_spec.specs.Search.{reaches, Ascend, first_where, looks, IsSearchTree};
+ghost use Rattle.seg_rbtree.specs.Ways.{IsWayTo};
 
 use crate::node::{Side, child};
 use crate::order::NodeOrder;
@@ -122,7 +123,10 @@ impl Tree {
         w: &Window<A>,
         order: &O,
         node: u32,
-    ) -> Path {
+    ) -> Path
+        ensures root { result.root ≡ self.root }
+        ensures way { O.exact → (shape : _) → IsSearchTree w.now.bytes self.root shape → IsWayTo (O.compare order.now w.now.bytes) node shape result.steps.items }
+    {
         let mut path = Path::new(self.root);
         for _ in 0..DEPTH {
             let Some(other) = path.node(w) else {

@@ -1,0 +1,55 @@
+-- What a change of a tree does to its nodes and to the bytes.
+--     StandApart len word nodes          in so many bytes a pointer word and nodes have room, and share no byte
+--     IsNew order node nodes             the node equals none of the nodes
+--     with_node order node nodes         the nodes with one more, in front of the first that is above it
+--     without_node node nodes            the nodes without that one
+--     KeepsBeside old new word nodes     bytes beside a pointer word and the tree words of nodes are kept
+--     Leaves old new root touched nodes  a search tree of these nodes, and all bytes beside it and what was touched
+use Rattle.std.specs.Prelude.{◌≡◌, ◌≢◌, ℕ, ◌+◌, ◌^◌, ◌≤◌, ◌==◌, if◌then◌else◌, ⊤, List, [], ◌∷◌, length}
+use Rattle.std.specs.Ordering.{is_lt}
+use Rattle.std.specs.List.{AllByRecursion}
+use Rattle.std.specs.declared.cmp.Ordering.{Ordering}
+use Rattle.std.specs.declared.cmp.Ordering.TheVariants.{Equal}
+use Rattle.seg_spec.specs.Bytes.{IsSame}
+use Rattle.seg_spec.specs.Apart.{Separate}
+use Rattle.seg_spec.specs.Shapes.{Tree, nodes_of}
+use Rattle.seg_spec.specs.Search.{IsSearchTree}
+
+-- no two nodes share a byte of their tree words
+abbrev pub NodesApart : List ℕ → Type 0
+NodesApart [] = ⊤
+NodesApart (x ∷ xs) = AllByRecursion (λ y. Separate x 16 y 16) xs × NodesApart xs
+
+-- in so many bytes the pointer word and the tree words of the nodes have room, and share no byte
+pub record StandApart (len word : ℕ) (nodes : List ℕ) : Type 0 where
+  pub small : len ≤ 2 ^ 30
+  pub word_fits : word + 4 ≤ len
+  pub nodes_fit : AllByRecursion (λ p. p + 16 ≤ len) nodes
+  pub word_apart : AllByRecursion (λ p. Separate word 4 p 16) nodes
+  pub nodes_apart : NodesApart nodes
+
+-- the node equals none of the nodes
+abbrev pub IsNew : (ℕ → ℕ → Ordering) → ℕ → List ℕ → Type 0
+IsNew order node nodes = AllByRecursion (λ x. order node x ≢ Equal) nodes
+
+-- the nodes with one more, in front of the first that is above it
+abbrev pub with_node : (ℕ → ℕ → Ordering) → ℕ → List ℕ → List ℕ
+with_node order node [] = node ∷ []
+with_node order node (x ∷ xs) = if is_lt (order node x) then node ∷ x ∷ xs else x ∷ with_node order node xs
+
+-- the nodes without that one
+abbrev pub without_node : ℕ → List ℕ → List ℕ
+without_node node [] = []
+without_node node (x ∷ xs) = if node == x then xs else x ∷ without_node node xs
+
+-- there are as many bytes as before, and what lies beside the pointer word and the tree words of the nodes is kept
+pub record KeepsBeside (old new : List ℕ) (word : ℕ) (nodes : List ℕ) : Type 0 where
+  pub length_kept : length new ≡ length old
+  pub others : (p n : ℕ) → Separate p n word 4 → AllByRecursion (λ q. Separate p n q 16) nodes → IsSame old new p n
+
+-- a search tree of these nodes hangs at the pointer word `root`; beside it and what was touched all bytes are kept
+pub record Leaves (old new : List ℕ) (root : ℕ) (touched nodes : List ℕ) : Type 0 where
+  pub shape : Tree
+  pub tree : IsSearchTree new root shape
+  pub nodes_are : nodes_of shape ≡ nodes
+  pub kept : KeepsBeside old new root touched

@@ -1,0 +1,80 @@
+-- Ways down a tree.
+--     branch side at colour near far      a node with one tree on a side, and another on the other
+--     Layer                               a node above a place: the place's side of it, and the tree on its other side
+--     plug tree layers                    the whole tree, where one stands at a place below layers, the innermost first
+--     place root layers                   the position of the pointer to the place
+--     steps_of layers                     the layers as a path names them, the outermost first
+--     last_word root steps                the position of the pointer behind the last step
+--     IsWayTo order node shape steps      these steps lead to a node, or to the empty place where it would stand
+use Rattle.std.specs.Prelude.{◌≡◌, ℕ, ⊤, List, [], ◌∷◌, ◌++◌}
+use Rattle.std.specs.List.{AllByRecursion}
+use Rattle.std.specs.declared.cmp.Ordering.{Ordering}
+use Rattle.std.specs.declared.cmp.Ordering.TheVariants.{Less, Equal, Greater}
+use Rattle.seg_spec.specs.Shapes.{Colour, Tree, leaf, fork}
+use Rattle.seg_rbtree.specs.declared.node.Side.{Side}
+use Rattle.seg_rbtree.specs.declared.node.Side.TheVariants.{Left, Right}
+use Rattle.seg_rbtree.specs.declared.path.Step.{Step}
+use Rattle.seg_rbtree.specs.Nodes.{side_word}
+
+-- a node with one tree on a side, and another on the other
+abbrev pub branch : Side → ℕ → Colour → Tree → Tree → Tree
+branch Left at colour near far = fork near at colour far
+branch Right at colour near far = fork far at colour near
+
+-- a node above a place: the place's side of it, and the tree on its other side
+pub record Layer : Type 0 where
+  pub side : Side
+  pub at : ℕ
+  pub colour : Colour
+  pub other : Tree
+
+-- the tree that a layer makes of the one below it
+abbrev pub grow : Layer → Tree → Tree
+grow layer tree = branch layer.side layer.at layer.colour tree layer.other
+
+-- the whole tree, where one stands at the place below the layers
+abbrev pub plug : Tree → List Layer → Tree
+plug tree [] = tree
+plug tree (layer ∷ layers) = plug (grow layer tree) layers
+
+-- the position of the pointer to the place
+abbrev pub place : ℕ → List Layer → ℕ
+place root [] = root
+place root (layer ∷ layers) = side_word layer.at layer.side
+
+-- a layer as a path names it
+abbrev pub step_of : Layer → Step
+step_of layer = record { node = layer.at; side = layer.side }
+
+-- the layers as a path names them
+abbrev pub steps_of : List Layer → List Step
+steps_of [] = []
+steps_of (layer ∷ layers) = steps_of layers ++ step_of layer ∷ []
+
+-- the position of the pointer behind the last step
+abbrev pub last_word : ℕ → List Step → ℕ
+last_word root [] = root
+last_word root (step ∷ steps) = last_word (side_word step.node step.side) steps
+
+-- how a node compares with one that it stands on a side of
+abbrev pub turn_of : Side → Ordering
+turn_of Left = Less
+turn_of Right = Greater
+
+-- from each layer the way goes on to the side where the node stands
+abbrev pub LeadBy : (ℕ → ℕ → Ordering) → ℕ → List Layer → Type 0
+LeadBy order node layers = AllByRecursion (λ layer. order node layer.at ≡ turn_of layer.side) layers
+
+-- nothing stands there, or a node that equals this one
+abbrev pub EndsAt : (ℕ → ℕ → Ordering) → ℕ → Tree → Type 0
+EndsAt order node leaf = ⊤
+EndsAt order node (fork left at colour right) = order node at ≡ Equal
+
+-- the steps lead to the node, or to the empty place where it would stand
+pub record IsWayTo (order : ℕ → ℕ → Ordering) (node : ℕ) (shape : Tree) (steps : List Step) : Type 0 where
+  pub layers : List Layer
+  pub rest : Tree
+  pub shape_is : plug rest layers ≡ shape
+  pub steps_are : steps ≡ steps_of layers
+  pub leads : LeadBy order node layers
+  pub ends : EndsAt order node rest
