@@ -3,7 +3,7 @@ use Rattle.std.proofs.Common.{◌≡◌, ◌≢◌, ℕ, ◌+◌, ◌-◌, ◌*�
 use Rattle.std.specs.Prelude.{Contains}
 use Rattle.std.proofs.lemmas.Bool.Decides.{nat_tests}
 use Rattle.std.proofs.lemmas.List.{length-take-le, append-nil}
-use Rattle.seg_spec.specs.Bytes.{word, set_word, Agrees, IsSame}
+use Rattle.seg_spec.specs.Bytes.{word, set_word, Agrees}
 use Rattle.seg_spec.specs.Heap.{Span, Tile, span_of, end_of, is_live_at, Fill, AreHeaders, AreApart, HoldsGaps, live_of, free_of, heap_start, tiles, live, gaps, IsHeap, Cuts, without_last, units_to_cut}
 use Rattle.seg_spec.proofs.BytesLaws.{number-part, number-set_same, number-set_other, Agrees-set_number, length-set_number}
 use Rattle.seg_spec.proofs.SliceLaws.{IsSame-agrees}

@@ -1,17 +1,17 @@
 -- A heap that takes in the units behind it, whatever the allocator is.
-use Rattle.std.proofs.Common.{◌≡◌, ◌≢◌, ℕ, ◌+◌, ◌-◌, ◌*◌, ◌/◌, ◌%◌, ◌^◌, ◌<◌, ◌≤◌, Bool, true, false, List, [], ◌∷◌, ◌++◌, length, min, cond, eqb, ◌&&◌, refl, sym, ap, ◌∙◌, subst, arith, inl, inr, ◌⊎◌, ⊎_elim, zero-add}
+use Rattle.std.proofs.Common.{◌≡◌, ◌≢◌, ℕ, ◌+◌, ◌-◌, ◌*◌, ◌/◌, ◌^◌, ◌<◌, ◌≤◌, Bool, true, false, List, [], ◌∷◌, ◌++◌, length, min, cond, eqb, ◌&&◌, refl, sym, ap, ◌∙◌, subst, arith, inl, inr, ◌⊎◌, zero-add}
 use Rattle.std.specs.Prelude.{Contains}
 use Rattle.std.proofs.lemmas.Bool.Decides.{nat_tests}
 use Rattle.std.proofs.lemmas.List.{length-take-le, append-nil}
-use Rattle.std.proofs.lemmas.List.Elements.{Contains-append_left, Contains-append_right, Contains-append_cases}
+use Rattle.std.proofs.lemmas.List.Elements.{Contains-append_left, Contains-append_right}
 use Rattle.seg_spec.specs.Bytes.{slice, word, set_word, Agrees, IsSame}
-use Rattle.seg_spec.specs.Heap.{Span, Tile, span_of, end_of, IsLive, is_live_at, Fill, AreHeaders, AreApart, HoldsGaps, live_of, free_of, heap_start, tiles, live, IsHeap, Gives, Extends, without, without_last, after_extend}
+use Rattle.seg_spec.specs.Heap.{Span, Tile, span_of, end_of, IsLive, Fill, AreHeaders, AreApart, HoldsGaps, live_of, free_of, heap_start, tiles, live, IsHeap, Gives, Extends, without, without_last, after_extend}
 use Rattle.seg_spec.proofs.BytesLaws.{part, number-part, slice-part, number-set_same, number-set_other, number-agrees, Agrees-within, Agrees-trans, Agrees-set_number, length-set_number}
 use Rattle.seg_spec.proofs.SliceLaws.{IsSame-agrees, IsSame-trans}
-use Rattle.seg_spec.proofs.TileLaws.{Fill-le, Fill-append, AreHeaders-front, AreHeaders-back, AreApart-append, AreApart-front, AreApart-back, units_after, live_of-append, free_of-append}
+use Rattle.seg_spec.proofs.TileLaws.{Fill-le, Fill-append, AreApart-append, AreApart-front, AreApart-back, units_after, live_of-append, free_of-append}
 use Rattle.seg_spec.proofs.HeaderLaws.{IsHeader-same}
 use Rattle.seg_block.specs.Extents.{Enlarges}
-use Rattle.seg_block.specs.Sizes.{size_word, set_size}
+use Rattle.seg_block.specs.Sizes.{set_size}
 use Rattle.seg_block.specs.Tiling.{tile, IsTiling}
 use Rattle.seg_block.specs.Blocks.{HasEnd}
 use Rattle.seg_block.proofs.SizeLaws.{set_size-headers, Agrees-set_size, length-set_size}

@@ -1,5 +1,5 @@
 -- What a neighbour that was read says of the tiles.
-use Rattle.std.proofs.Common.{◌≡◌, ℕ, Bool, true, false, List, [], ◌∷◌, ◌++◌, Some, None, refl, ap, inl, inr, ◌⊎◌, ⊎_elim}
+use Rattle.std.proofs.Common.{◌≡◌, Bool, true, false, List, [], ◌∷◌, ◌++◌, Some, None, refl, ap, inl, inr, ◌⊎◌, ⊎_elim}
 use Rattle.seg_spec.specs.Heap.{Tile}
 use Rattle.seg_spec.proofs.TileLaws.{live_after}
 use Rattle.seg_block.specs.declared.block.Block.{Block}

@@ -1,6 +1,6 @@
 use Rattle.std.proofs.Common.{arith}
 use Rattle.seg_block.proofs.LiveBlocks.{unread, read_is}
-use Rattle.seg_seqfit.proofs.Expanding.{shrink_done}
+use Rattle.seg_block.proofs.Expanding.{shrink_done}
 use Rattle.seg_seqfit.proofs.seqfit.SeqFitFit.shrink.Goals as goal
 
 pub returns-in_default-clause-shrinks : goal.returns-in_default-clause-shrinks
