@@ -9,6 +9,14 @@ pub mod Depth
 pub mod Walking
 pub mod Orders
 pub mod Balancing
+pub mod ShortSide
+pub mod Unlinking
+pub mod WithoutNode
+pub mod Lengthening
+pub mod Restoring
+pub mod TakingOut
+pub mod NextNode
+pub mod Removed
 pub mod Raising
 pub mod Settling
 pub mod Parting

@@ -59,7 +59,7 @@ fn settle<A: Allocator>(w: &mut Window<A>, path: &mut Path, node: u32) -> Option
     let uncle = child(w, grandparent.node, grandparent.side.other());
     match uncle {
         Some(uncle) if is_red(w, Some(uncle)) => {
-            part(w, parent.node, uncle, grandparent.node);
+            push_red_up(w, grandparent.node, parent.node, uncle);
             Some(grandparent.node)
         }
         _ => {
@@ -69,8 +69,8 @@ fn settle<A: Allocator>(w: &mut Window<A>, path: &mut Path, node: u32) -> Option
     }
 }
 
-/// Paints two children of a node black, and the node red.
-fn part<A: Allocator>(w: &mut Window<A>, child: u32, other: u32, node: u32)
+/// Makes a node red and its two children black.
+fn push_red_up<A: Allocator>(w: &mut Window<A>, node: u32, child: u32, other: u32)
     ensures { w.new ≡ with_bytes w.old (with_colour (with_colour (with_colour w.old.bytes child Colour.Black) other Colour.Black) node Colour.Red) }
 {
     paint(w, child, Colour::Black);

@@ -1,4 +1,4 @@
-ghost use Rattle.std.specs.Prelude.{◌≡◌, ◌<◌, ◌≤◌, IsTrue, List, [], ◌∷◌, ◌++◌, length, take, Option, Some, MatchOption};
+ghost use Rattle.std.specs.Prelude.{slice_set, slice_index_or, ◌≡◌, ◌<◌, ◌≤◌, IsTrue, List, [], ◌∷◌, ◌++◌, length, take, Option, Some, MatchOption};
 ghost use Rattle.seg_spec.specs.Pointer.{target, set_pointer};
 ghost use Rattle.seg_spec.specs.Window.{with_bytes};
 ghost use Rattle.seg_rbtree.specs.Nodes.{side_word, opposite, rotated};
@@ -64,7 +64,11 @@ impl Path {
     }
 
     /// Puts another node at step `i` of the way.
-    pub(crate) fn replace(&mut self, i: usize, node: u32) {
+    pub(crate) fn replace(&mut self, i: usize, node: u32)
+        ensures root { self.new.root ≡ self.old.root }
+        ensures replaced { (step : _) → i < length self.old.steps.items → step ≡ slice_index_or self.old.steps.items i step
+            → self.new.steps.items ≡ slice_set self.old.steps.items i (record { node = node; side = step.side }) }
+    {
         if let Some(step) = self.steps.get_mut(i) {
             step.node = node;
         }

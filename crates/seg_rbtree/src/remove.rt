@@ -1,7 +1,15 @@
-ghost use Rattle.std.specs.Prelude.{◌≡◌};
+ghost use Rattle.std.specs.Prelude.{◌≡◌, ◌≢◌, ◌<◌, ◌^◌, ◌∷◌, length, Some, None, IfSome, IfNone};
+ghost use Rattle.std.specs.List.{AllByRecursion};
+ghost use Rattle.seg_spec.specs.Pointer.{target, set_pointer};
+ghost use Rattle.seg_spec.specs.Search.{Ascend, IsSearchTree};
+ghost use Rattle.seg_spec.specs.Shapes.{fork, black, nodes_of, IsBlack, IsRedBlack};
 ghost use Rattle.seg_spec.specs.Window.{with_bytes};
+ghost use Rattle.seg_rbtree.specs.Nodes.{side_word, opposite, colour_at};
+ghost use Rattle.seg_rbtree.specs.Changes.{StandApart, without_node, Leaves};
+ghost use Rattle.seg_rbtree.specs.Ways.{branch, plug, place, last_word};
+ghost use Rattle.seg_rbtree.specs.Removing.{layer_at, in_place_of, IsShort, StandsAt, Descends, Unlinks, Lowers, ComesUp, Lengthens, Restores};
 
-use crate::node::{Colour, Side, child, colour_of, is_red, paint, set_child};
+use crate::node::{Colour, Side, child, child_word, colour_of, is_red, paint, rotate, set_child};
 use crate::order::NodeOrder;
 use crate::path::{DEPTH, Path, Step};
 use crate::tree::Tree;
@@ -16,20 +24,20 @@ impl Tree {
         order: &O,
         node: u32,
     )
-        ensures { w.new ≡ with_bytes w.old w.new.bytes }
+        ensures host { w.new ≡ with_bytes w.old w.new.bytes }
+        ensures removed { O.exact → (shape : _) → IsSearchTree w.old.bytes self.root shape → Ascend (O.compare order.now w.old.bytes) (nodes_of shape)
+            → StandApart (length w.old.bytes) self.root (nodes_of shape)
+            → Leaves w.old.bytes w.new.bytes self.root (nodes_of shape) (without_node node (nodes_of shape)) }
+        ensures stays { O.exact → (shape : _) → IsSearchTree w.old.bytes self.root shape → Ascend (O.compare order.now w.old.bytes) (nodes_of shape)
+            → AllByRecursion (λ x. node ≢ x) (nodes_of shape) → w.new ≡ w.old }
     {
         let mut path = self.path_to(w, order, node);
         if path.node(w) != Some(node) {
             return;
         }
-        let gone = unlink(w, &mut path, node);
-        if gone == Colour::Red {
-            return;
-        }
-        for _ in 0..DEPTH {
-            if !lengthen(w, &mut path) {
-                break;
-            }
+        match unlink(w, &mut path, node) {
+            Colour::Black => restore(w, &mut path),
+            Colour::Red => {}
         }
     }
 }
@@ -37,30 +45,44 @@ impl Tree {
 /// Takes a node out of the place that a path leads to, which then leads to where a node is missing. Answers the colour that
 /// is missing there.
 fn unlink<A: Allocator>(w: &mut Window<A>, path: &mut Path, node: u32) -> Colour
-    ensures { w.new ≡ with_bytes w.old w.new.bytes }
+    ensures host { w.new ≡ with_bytes w.old w.new.bytes }
+    ensures root { path.new.root ≡ path.old.root }
+    ensures unlinked { (layers : _) (tree : _) → StandsAt w.old.bytes path.old layers tree → IsRedBlack (plug tree layers) → length (nodes_of (plug tree layers)) < 2 ^ 32
+        → target w.old.bytes (place path.old.root layers) ≡ Some node → Unlinks w.old.bytes w.new.bytes path.new layers tree node result }
 {
-    let left = child(w, node, Side::Left);
-    let right = child(w, node, Side::Right);
-    match (left, right) {
-        (Some(_), Some(_)) => unlink_by_next(w, path, node),
-        (only, None) | (None, only) => {
-            path.set(w, only);
-            colour_of(w, Some(node))
-        }
+    if child(w, node, Side::Left).is_none() {
+        return unlink_lone(w, path, node, Side::Left);
     }
+    if child(w, node, Side::Right).is_none() {
+        return unlink_lone(w, path, node, Side::Right);
+    }
+    unlink_by_next(w, path, node)
+}
+
+/// Takes a node with nothing on a side out of the place that a path leads to. Answers its colour.
+fn unlink_lone<A: Allocator>(w: &mut Window<A>, path: &Path, node: u32, empty: Side) -> Colour
+    ensures gone { result ≡ colour_at w.old.bytes (Some node) }
+    ensures set { w.new ≡ with_bytes w.old (set_pointer w.old.bytes (last_word path.now.root path.now.steps.items) (target w.old.bytes (side_word node (opposite empty)))) }
+{
+    let gone = colour_of(w, Some(node));
+    let only = child(w, node, empty.other());
+    path.set(w, only);
+    gone
 }
 
 /// Takes out a node with two children: the next node in order comes to its place, in its colour.
 fn unlink_by_next<A: Allocator>(w: &mut Window<A>, path: &mut Path, node: u32) -> Colour
-    ensures { w.new ≡ with_bytes w.old w.new.bytes }
+    ensures host { w.new ≡ with_bytes w.old w.new.bytes }
+    ensures root { path.new.root ≡ path.old.root }
+    ensures unlinked { (layers : _) (left right : _) (colour : _) → StandsAt w.old.bytes path.old layers (fork left node colour right)
+        → IsRedBlack (plug (fork left node colour right) layers) → length (nodes_of (plug (fork left node colour right) layers)) < 2 ^ 32
+        → target w.old.bytes (side_word node Side.Right) ≢ None → Unlinks w.old.bytes w.new.bytes path.new layers (fork left node colour right) node result }
 {
     let depth = path.len();
     let Some(next) = descend_to_next(w, path, node) else {
         return Colour::Red;
     };
-    let gone = colour_of(w, Some(next));
-    let behind = child(w, next, Side::Right);
-    path.set(w, behind);
+    let gone = unlink_lone(w, path, next, Side::Left);
     take_place(w, node, next);
     path.replace(depth, next);
     path.set_at(w, depth, next);
@@ -68,23 +90,42 @@ fn unlink_by_next<A: Allocator>(w: &mut Window<A>, path: &mut Path, node: u32) -
 }
 
 /// Goes on from a node to the next one in order, which has no left child.
-fn descend_to_next<A: Allocator>(w: &Window<A>, path: &mut Path, node: u32) -> Option<u32> {
-    if !path.push(node, Side::Right) {
-        return None;
+fn descend_to_next<A: Allocator>(w: &Window<A>, path: &mut Path, node: u32) -> Option<u32>
+    ensures root { path.new.root ≡ path.old.root }
+    ensures descended { (layers : _) (left right : _) (colour : _) → StandsAt w.now.bytes path.old layers (fork left node colour right)
+        → IsRedBlack (plug (fork left node colour right) layers) → length (nodes_of (plug (fork left node colour right) layers)) < 2 ^ 32
+        → target w.now.bytes (side_word node Side.Right) ≢ None → Descends path.new (layer_at Side.Right node colour left ∷ layers) right result }
+{
+    if path.push(node, Side::Right) {
+        descend_to_first(w, path)
+    } else {
+        None
     }
-    let mut next = path.node(w)?;
+}
+
+/// Goes on to the first node below a place.
+fn descend_to_first<A: Allocator>(w: &Window<A>, path: &mut Path) -> Option<u32>
+    ensures root { path.new.root ≡ path.old.root }
+    ensures descended { (layers : _) (tree : _) → StandsAt w.now.bytes path.old layers tree
+        → IsRedBlack (plug tree layers) → length (nodes_of (plug tree layers)) < 2 ^ 32
+        → target w.now.bytes (place path.old.root layers) ≢ None → Descends path.new layers tree result }
+{
+    let mut first = path.node(w)?;
     for _ in 0..DEPTH {
-        match child(w, next, Side::Left) {
-            Some(left) if path.push(next, Side::Left) => next = left,
-            _ => break,
+        let Some(left) = child(w, first, Side::Left) else {
+            return Some(first);
+        };
+        if !path.push(first, Side::Left) {
+            return None;
         }
+        first = left;
     }
-    Some(next)
+    None
 }
 
 /// Gives a node the children and the colour of another.
 fn take_place<A: Allocator>(w: &mut Window<A>, from: u32, to: u32)
-    ensures { w.new ≡ with_bytes w.old w.new.bytes }
+    ensures { w.new ≡ with_bytes w.old (in_place_of w.old.bytes from to) }
 {
     let left = child(w, from, Side::Left);
     let right = child(w, from, Side::Right);
@@ -94,71 +135,112 @@ fn take_place<A: Allocator>(w: &mut Window<A>, from: u32, to: u32)
     paint(w, to, colour);
 }
 
-/// Makes good that the part at the end of a path has one black node too few on every way: here, or by one step, after which
-/// it answers that there is more to do.
-fn lengthen<A: Allocator>(w: &mut Window<A>, path: &mut Path) -> bool
-    ensures { w.new ≡ with_bytes w.old w.new.bytes }
+/// Makes good that the part at the end of a path has one black node too few on every way.
+fn restore<A: Allocator>(w: &mut Window<A>, path: &mut Path)
+    ensures host { w.new ≡ with_bytes w.old w.new.bytes }
+    ensures restored { (layers : _) (tree : _) → StandsAt w.old.bytes path.old layers tree → IsShort layers tree
+        → Restores w.old.bytes w.new.bytes path.old.root (plug tree layers) }
 {
-    if let Some(node) = path.node(w) {
-        if is_red(w, Some(node)) {
-            paint(w, node, Colour::Black);
-            return false;
+    for _ in 0..DEPTH {
+        if !lengthen(w, path) {
+            return;
         }
     }
-    let Some(short) = path.pop() else {
+}
+
+/// ... here, or by one step, after which it answers that there is more to do.
+fn lengthen<A: Allocator>(w: &mut Window<A>, path: &mut Path) -> bool
+    ensures host { w.new ≡ with_bytes w.old w.new.bytes }
+    ensures root { path.new.root ≡ path.old.root }
+    ensures lengthened { (layers : _) (tree : _) → StandsAt w.old.bytes path.old layers tree → IsShort layers tree
+        → Lengthens w.old.bytes w.new.bytes path.new layers tree result }
+{
+    let here = path.node(w);
+    if is_red(w, here) {
+        if let Some(node) = here {
+            paint(w, node, Colour::Black);
+        }
+        return false;
+    }
+    match path.pop() {
+        Some(short) => lengthen_beside(w, path, short),
+        None => false,
+    }
+}
+
+/// ... with the help of the node beside it.
+fn lengthen_beside<A: Allocator>(w: &mut Window<A>, path: &mut Path, short: Step) -> bool
+    ensures host { w.new ≡ with_bytes w.old w.new.bytes }
+    ensures root { path.new.root ≡ path.old.root }
+    ensures lengthened { (layers : _) (tree other : _) (colour : _) → StandsAt w.old.bytes path.old layers (branch short.side short.node colour tree other)
+        → IsShort (layer_at short.side short.node colour other ∷ layers) tree → IsBlack tree
+        → Lengthens w.old.bytes w.new.bytes path.new (layer_at short.side short.node colour other ∷ layers) tree result }
+{
+    let Some(sibling) = child(w, short.node, short.side.other()) else {
         return false;
     };
-    match child(w, short.node, short.side.other()) {
-        Some(sibling) if is_red(w, Some(sibling)) => {
-            lower(w, path, short, sibling);
-            true
-        }
-        Some(sibling) => borrow(w, path, short, sibling),
-        None => false,
+    if is_red(w, Some(sibling)) {
+        lower(w, path, short, sibling);
+        true
+    } else {
+        borrow(w, path, short, sibling)
     }
 }
 
 /// Lets a red sibling come up, so that the short part has a black one.
 fn lower<A: Allocator>(w: &mut Window<A>, path: &mut Path, short: Step, sibling: u32)
-    ensures { w.new ≡ with_bytes w.old w.new.bytes }
+    ensures host { w.new ≡ with_bytes w.old w.new.bytes }
+    ensures root { path.new.root ≡ path.old.root }
+    ensures lowered { (layers : _) (tree inner outer : _) (colour other : _) → StandsAt w.old.bytes path.old layers (branch short.side short.node colour tree (branch short.side sibling other inner outer))
+        → length layers < 63 → Lowers w.old.bytes w.new.bytes path.new short.side short.node sibling colour other layers tree inner outer }
 {
     let _ = path.rotate(w, short.node, short.side);
     paint(w, sibling, Colour::Black);
     paint(w, short.node, Colour::Red);
-    let _ = path.push(sibling, short.side) && path.push(short.node, short.side);
+    let _ = path.push(sibling, short.side);
+    let _ = path.push(short.node, short.side);
 }
 
 /// Takes a black node for the short part from a red child of its black sibling. Where it has none, the sibling's part is
 /// shortened too, and the part above both is short.
 fn borrow<A: Allocator>(w: &mut Window<A>, path: &mut Path, short: Step, sibling: u32) -> bool
-    ensures { w.new ≡ with_bytes w.old w.new.bytes }
+    ensures host { w.new ≡ with_bytes w.old w.new.bytes }
+    ensures root { path.new.root ≡ path.old.root }
+    ensures lengthened { (layers : _) (tree inner outer : _) (colour : _) → StandsAt w.old.bytes path.old layers (branch short.side short.node colour tree (branch short.side sibling black inner outer))
+        → IsShort (layer_at short.side short.node colour (branch short.side sibling black inner outer) ∷ layers) tree → IsBlack tree
+        → Lengthens w.old.bytes w.new.bytes path.new (layer_at short.side short.node colour (branch short.side sibling black inner outer) ∷ layers) tree result }
 {
     let far = short.side.other();
-    let outer = child(w, sibling, far);
-    match outer {
-        Some(outer) if is_red(w, Some(outer)) => {
-            paint(w, outer, Colour::Black);
-            come_up(w, path, short);
-            false
-        }
-        _ if is_red(w, child(w, sibling, short.side)) => {
-            if path.push(short.node, far) {
-                let _ = path.rotate(w, sibling, far);
-                let _ = path.pop();
-            }
-            come_up(w, path, short);
-            false
-        }
-        _ => {
-            paint(w, sibling, Colour::Red);
-            true
-        }
+    if let Some(outer) = red_child(w, sibling, far) {
+        paint(w, outer, Colour::Black);
+        come_up(w, path, short);
+        return false;
+    }
+    if is_red(w, child(w, sibling, short.side)) {
+        let _ = rotate(w, child_word(short.node, far), sibling, far);
+        come_up(w, path, short);
+        return false;
+    }
+    paint(w, sibling, Colour::Red);
+    true
+}
+
+/// The child on a side, if it is red.
+fn red_child<A: Allocator>(w: &Window<A>, node: u32, side: Side) -> Option<u32>
+    ensures red { IfSome result (λ child. (target w.now.bytes (side_word node side) ≡ Some child) × (colour_at w.now.bytes (Some child) ≡ Colour.Red)) }
+    ensures none { IfNone result (colour_at w.now.bytes (target w.now.bytes (side_word node side)) ≡ Colour.Black) }
+{
+    match child(w, node, side) {
+        Some(child) if is_red(w, Some(child)) => Some(child),
+        _ => None,
     }
 }
 
 /// Lets the node beside a short part come up in its parent's colour, and the parent go down, black.
 fn come_up<A: Allocator>(w: &mut Window<A>, path: &Path, short: Step)
-    ensures { w.new ≡ with_bytes w.old w.new.bytes }
+    ensures host { w.new ≡ with_bytes w.old w.new.bytes }
+    ensures came_up { (layers : _) (tree inner outer : _) (up : _) (colour other : _) → StandsAt w.old.bytes path.now layers (branch short.side short.node colour tree (branch short.side up other inner outer))
+        → ComesUp w.old.bytes w.new.bytes path.now.root short.side short.node up colour other layers tree inner outer }
 {
     let top = colour_of(w, Some(short.node));
     if let Some(up) = path.rotate(w, short.node, short.side) {

@@ -1,0 +1,150 @@
+-- A node with one child at most is taken out; one with two gives its place to the next in order.
+use Rattle.std.proofs.Common.{◌≡◌, ℕ, suc, ◌+◌, ◌<◌, ◌≤◌, List, [], ◌∷◌, ◌++◌, length, refl, sym, ap, ◌∙◌, subst, arith, append_assoc}
+use Rattle.std.proofs.lemmas.List.{append-nil}
+use Rattle.seg_spec.specs.Shapes.{Colour, black, red, Tree, leaf, fork, nodes_of, IsBlack, IsBalanced, IsRedBlack}
+use Rattle.seg_rbtree.specs.declared.node.Side.{Side}
+use Rattle.seg_rbtree.specs.declared.node.Side.TheVariants.{Left, Right}
+use Rattle.seg_rbtree.specs.Ways.{Layer, branch, plug}
+use Rattle.seg_rbtree.specs.Removing.{height_over, TakesRed, MayHang, Wants, blacks, IsNearly, IsWhole, IsShort, AreLeft, Loses}
+use Rattle.seg_rbtree.proofs.ShortSide.{of_fork, black_hangs, balanced_nearly}
+
+-- ---- nodes around a place
+
+pub nodes_before : Side → Tree → ℕ → List ℕ
+nodes_before Left other at = []
+nodes_before Right other at = nodes_of other ++ at ∷ []
+
+pub nodes_behind : Side → Tree → ℕ → List ℕ
+nodes_behind Left other at = at ∷ nodes_of other
+nodes_behind Right other at = []
+
+pub before : List Layer → List ℕ
+before [] = []
+before (l ∷ ls) = before ls ++ nodes_before l.side l.other l.at
+
+pub behind : List Layer → List ℕ
+behind [] = []
+behind (l ∷ ls) = nodes_behind l.side l.other l.at ++ behind ls
+
+nodes_fork : (side : Side) (inner outer : Tree) (at : ℕ) (colour : Colour) → nodes_of (branch side at colour inner outer) ≡ nodes_before side outer at ++ (nodes_of inner ++ nodes_behind side outer at)
+unfolding nodes_before nodes_behind
+nodes_fork Left inner outer at colour = refl
+nodes_fork Right inner outer at colour = simp (append_assoc, append-nil)
+
+five : (a b c d e : List ℕ) → a ++ ((b ++ (c ++ d)) ++ e) ≡ (a ++ b) ++ (c ++ (d ++ e))
+five a b c d e = simp append_assoc
+
+pub nodes_plug : (layers : List Layer) (tree : Tree) → nodes_of (plug tree layers) ≡ before layers ++ (nodes_of tree ++ behind layers)
+unfolding before behind
+nodes_plug [] tree = sym (append-nil (nodes_of tree))
+nodes_plug (l ∷ ls) tree =
+    nodes_plug ls (branch l.side l.at l.colour tree l.other)
+    ∙ ap (λ ns. before ls ++ (ns ++ behind ls)) (nodes_fork l.side tree l.other l.at l.colour)
+    ∙ five (before ls) (nodes_before l.side l.other l.at) (nodes_of tree) (nodes_behind l.side l.other l.at) (behind ls)
+
+-- other parts with the same nodes make trees with the same nodes
+pub plug_same : (layers : List Layer) (tree other : Tree) → nodes_of tree ≡ nodes_of other → nodes_of (plug tree layers) ≡ nodes_of (plug other layers)
+plug_same layers tree other e = nodes_plug layers tree ∙ ap (λ ns. before layers ++ (ns ++ behind layers)) e ∙ sym (nodes_plug layers other)
+
+pub recoloured_nodes : (side : Side) (inner outer : Tree) (at : ℕ) (colour other : Colour) → nodes_of (branch side at colour inner outer) ≡ nodes_of (branch side at other inner outer)
+recoloured_nodes Left inner outer at colour other = refl
+recoloured_nodes Right inner outer at colour other = refl
+
+-- colours beside, a node and its child change places
+pub rotated_nodes : (side : Side) (inner between outer : Tree) (at up : ℕ) (a b c d : Colour)
+    → nodes_of (branch side at a inner (branch side up b between outer)) ≡ nodes_of (branch side up d (branch side at c inner between) outer)
+rotated_nodes Left inner between outer at up a b c d = simp append_assoc
+rotated_nodes Right inner between outer at up a b c d = simp append_assoc
+
+pub inner_nodes : (side : Side) (inner outer other : Tree) (at : ℕ) (colour : Colour) → nodes_of inner ≡ nodes_of other → nodes_of (branch side at colour inner outer) ≡ nodes_of (branch side at colour other outer)
+inner_nodes Left inner outer other at colour e = ap (λ ns. ns ++ at ∷ nodes_of outer) e
+inner_nodes Right inner outer other at colour e = ap (λ ns. nodes_of outer ++ at ∷ ns) e
+
+pub outer_nodes : (side : Side) (inner outer other : Tree) (at : ℕ) (colour : Colour) → nodes_of outer ≡ nodes_of other → nodes_of (branch side at colour inner outer) ≡ nodes_of (branch side at colour inner other)
+outer_nodes Left inner outer other at colour e = ap (λ ns. nodes_of inner ++ at ∷ ns) e
+outer_nodes Right inner outer other at colour e = ap (λ ns. ns ++ at ∷ nodes_of inner) e
+
+-- ---- a node with one child at most
+
+pub lone_lost : (layers : List Layer) (side : Side) (only : Tree) (node : ℕ) (colour : Colour) → Loses node (nodes_of (plug (branch side node colour leaf only) layers)) (nodes_of (plug only layers))
+lone_lost layers Left only node colour = record {
+  front = before layers;
+  back = nodes_of only ++ behind layers;
+  old_is = nodes_plug layers (fork leaf node colour only);
+  new_is = nodes_plug layers only;
+}
+lone_lost layers Right only node colour = record {
+  front = before layers ++ nodes_of only;
+  back = behind layers;
+  old_is = nodes_plug layers (fork only node colour leaf) ∙ simp append_assoc;
+  new_is = nodes_plug layers only ∙ sym (append_assoc (before layers) (nodes_of only) (behind layers));
+}
+
+-- red: what is left is whole
+pub red_unlinked : (layers : List Layer) (side : Side) (only : Tree) (node : ℕ) → IsWhole layers (branch side node red leaf only) → IsWhole layers only
+red_unlinked layers side only node w =
+    let f = of_fork side leaf only node red w.height w.balanced in
+    record { height = w.height; wanted = w.wanted; balanced = subst (λ h. IsBalanced only h) (sym f.height_is) f.outer_is; hangs = black_hangs layers only (f.below_red refl).1 }
+
+-- black: what is left is short
+pub black_unlinked : (layers : List Layer) (side : Side) (only : Tree) (node : ℕ) (w : IsWhole layers (branch side node black leaf only)) → blacks layers + w.height ≤ 32 → IsShort layers only
+black_unlinked layers side only node w low =
+    let f = of_fork side leaf only node black w.height w.balanced in
+    record { height = f.below; wanted = subst (λ h. Wants layers h) f.height_is w.wanted; nearly = balanced_nearly only f.below f.outer_is; low = omega (arith, f.height_is, low) }
+
+-- ---- a node with two children
+
+module _ (node next : ℕ) (colour : Colour) (side : Side) (other : Tree) (layers : List Layer) where
+  abbrev pub around : ℕ → List Layer
+  around at = record { side = side; at = at; colour = colour; other = other } ∷ layers
+
+  takes_red : (lower : List Layer) → TakesRed (lower ++ around node) → TakesRed (lower ++ around next)
+  takes_red [] t = t
+  takes_red (l ∷ ls) t = t
+
+  -- what a place wants doesn't depend on which nodes are above
+  pub renamed_wants : (lower : List Layer) (h : ℕ) → Wants (lower ++ around node) h → Wants (lower ++ around next) h
+  renamed_wants [] h w = w
+  renamed_wants (l ∷ ls) h w = (w.0, λ e. ((w.1 e).0, takes_red ls (w.1 e).1), renamed_wants ls (height_over l.colour h) w.2)
+
+  pub renamed_blacks : (lower : List Layer) → blacks (lower ++ around node) ≡ blacks (lower ++ around next)
+  renamed_blacks [] = refl
+  renamed_blacks (l ∷ ls) = ap (height_over l.colour) (renamed_blacks ls)
+
+  pub renamed_hangs : (lower : List Layer) (tree : Tree) → MayHang (lower ++ around node) tree → MayHang (lower ++ around next) tree
+  renamed_hangs lower leaf m = tt
+  renamed_hangs lower (fork left at black right) m = tt
+  renamed_hangs lower (fork left at red right) m = takes_red lower m
+
+  pub renamed_whole : (lower : List Layer) (tree : Tree) → IsWhole (lower ++ around node) tree → IsWhole (lower ++ around next) tree
+  renamed_whole lower tree w = record { height = w.height; wanted = renamed_wants lower w.height w.wanted; balanced = w.balanced; hangs = renamed_hangs lower tree w.hangs }
+
+  pub renamed_short : (lower : List Layer) (tree : Tree) → IsShort (lower ++ around node) tree → IsShort (lower ++ around next) tree
+  renamed_short lower tree s = record { height = s.height; wanted = renamed_wants lower (suc s.height) s.wanted; nearly = s.nearly; low = subst (λ n. n + s.height < 32) (renamed_blacks lower) s.low }
+
+module _ (colour : Colour) (other : Tree) (layers : List Layer) where
+  abbrev right_of : ℕ → List Layer
+  right_of at = record { side = Right; at = at; colour = colour; other = other } ∷ layers
+
+  before_next : (lower : List Layer) (at : ℕ) → AreLeft lower → before (lower ++ right_of at) ≡ before layers ++ (nodes_of other ++ at ∷ [])
+  unfolding before nodes_before
+  before_next [] at a = refl
+  before_next (l ∷ ls) at a = ap (λ s. before (ls ++ right_of at) ++ nodes_before s l.other l.at) a.0 ∙ append-nil (before (ls ++ right_of at)) ∙ before_next ls at a.1
+
+  behind_next : (lower : List Layer) (x y : ℕ) → behind (lower ++ right_of x) ≡ behind (lower ++ right_of y)
+  unfolding behind nodes_behind
+  behind_next [] x y = refl
+  behind_next (l ∷ ls) x y = ap (λ ns. nodes_behind l.side l.other l.at ++ ns) (behind_next ls x y)
+
+  -- the next node stands in the place of the one that it follows
+  pub next_lost : (lower : List Layer) (node next : ℕ) (tint : Colour) (only : Tree) → AreLeft lower
+      → Loses node (nodes_of (plug (fork leaf next tint only) (lower ++ right_of node))) (nodes_of (plug only (lower ++ right_of next)))
+  next_lost lower node next tint only a =
+      let rest = behind (lower ++ right_of node) in
+      record {
+        front = before layers ++ nodes_of other;
+        back = next ∷ nodes_of only ++ rest;
+        old_is = nodes_plug (lower ++ right_of node) (fork leaf next tint only) ∙ ap (λ xs. xs ++ (next ∷ nodes_of only ++ rest)) (before_next lower node a) ∙ simp append_assoc;
+        new_is = nodes_plug (lower ++ right_of next) only ∙ ap (λ xs. xs ++ (nodes_of only ++ behind (lower ++ right_of next))) (before_next lower next a)
+            ∙ ap (λ ys. (before layers ++ (nodes_of other ++ next ∷ [])) ++ (nodes_of only ++ ys)) (behind_next lower next node) ∙ simp append_assoc;
+      }

@@ -1,0 +1,12 @@
+use Rattle.std.proofs.Common.{◌≡◌, ◌<◌, ◌^◌, length, List}
+use Rattle.seg_spec.specs.Shapes.{Tree, nodes_of, IsRedBlack}
+use Rattle.seg_rbtree.specs.Ways.{Layer, plug}
+use Rattle.seg_rbtree.specs.Removing.{StandsAt}
+use Rattle.seg_rbtree.proofs.TakingOut.{IsDescending}
+use Rattle.seg_rbtree.proofs.remove.descend_to_first.Given as goal
+
+abbrev pub invariant-loop : goal.invariant-loop
+invariant-loop g l = record {
+  root : l.path.root ≡ l.fn.path.root;
+  descending : (layers : List Layer) (tree : Tree) → StandsAt l.w.bytes l.fn.path layers tree → IsDescending l.w.bytes l.path layers tree l.first l.counter;
+}

@@ -1,0 +1,153 @@
+-- Taking a node out of a tree.
+--     Wants layers h                      around the place a red-black tree wants a part of h black nodes on each way down
+--     IsWhole layers tree                 the part at the place is as the tree around it wants it
+--     IsShort layers tree                 it has one black node too few on each way down
+--     turns layers tree                   so many turns make that good at most
+--     StandsAt bytes path layers tree     a tree stands at the place that a path leads to
+--     Lengthens, Unlinks ..               what the steps do
+use Rattle.std.specs.Prelude.{◌≡◌, ℕ, suc, ◌+◌, ◌<◌, ⊤, Bool, MatchBool, List, [], ◌∷◌, ◌++◌, length, Option, Some}
+use Rattle.seg_spec.specs.Pointer.{target}
+use Rattle.seg_spec.specs.Shapes.{Colour, black, red, Tree, leaf, fork, nodes_of, IsTree, IsBlack, IsBalanced, IsRedBlack}
+use Rattle.seg_rbtree.specs.declared.node.Side.{Side}
+use Rattle.seg_rbtree.specs.declared.node.Side.TheVariants.{Left, Right}
+use Rattle.seg_rbtree.specs.declared.node.Colour.{Colour as Tint}
+use Rattle.seg_rbtree.specs.declared.node.Colour.TheVariants.{Black, Red}
+use Rattle.seg_rbtree.specs.declared.path.Path.{Path}
+use Rattle.seg_rbtree.specs.Nodes.{colour_at, with_child, with_colour}
+use Rattle.seg_rbtree.specs.Changes.{StandApart}
+use Rattle.seg_rbtree.specs.Ways.{Layer, branch, plug, steps_of}
+use Rattle.seg_rbtree.specs.Turns.{Turns}
+
+-- the black nodes on each way down from a node of a colour, where each child has h
+abbrev pub height_over : Colour → ℕ → ℕ
+height_over black h = suc h
+height_over red h = h
+
+-- a red node may hang at the place
+abbrev pub TakesRed : List Layer → Type 0
+TakesRed [] = ⊥
+TakesRed (l ∷ ls) = l.colour ≡ black
+
+abbrev pub MayHang : List Layer → Tree → Type 0
+MayHang ls leaf = ⊤
+MayHang ls (fork left at black right) = ⊤
+MayHang ls (fork left at red right) = TakesRed ls
+
+-- around the place a red-black tree wants a part with h black nodes on each way down
+abbrev pub Wants : List Layer → ℕ → Type 0
+Wants [] h = ⊤
+Wants (l ∷ ls) h = IsBalanced l.other h × (l.colour ≡ red → IsBlack l.other × TakesRed ls) × Wants ls (height_over l.colour h)
+
+-- each way down meets h black nodes; a red root may have red children
+abbrev pub IsNearly : Tree → ℕ → Type 0
+IsNearly leaf h = h ≡ 0
+IsNearly (fork left at black right) h = IsBalanced (fork left at black right) h
+IsNearly (fork left at red right) h = IsBalanced left h × IsBalanced right h
+
+-- the black nodes above a place
+abbrev pub blacks : List Layer → ℕ
+blacks [] = 0
+blacks (l ∷ ls) = height_over l.colour (blacks ls)
+
+-- the part at the place is as the tree around it wants it
+pub record IsWhole (layers : List Layer) (tree : Tree) : Type 0 where
+  pub height : ℕ
+  pub wanted : Wants layers height
+  pub balanced : IsBalanced tree height
+  pub hangs : MayHang layers tree
+
+-- the part at the place has one black node too few on each way down
+pub record IsShort (layers : List Layer) (tree : Tree) : Type 0 where
+  pub height : ℕ
+  pub wanted : Wants layers (suc height)
+  pub nearly : IsNearly tree height
+  pub low : blacks layers + height < 32
+
+-- how many turns it takes at most to lengthen a short part, where a layer of a colour is the innermost
+abbrev pub turns_over : Colour → List Layer → ℕ
+turns_over black layers = blacks layers + 3
+turns_over red layers = 2
+
+abbrev pub turns_above : List Layer → ℕ
+turns_above [] = 1
+turns_above (layer ∷ layers) = turns_over layer.colour layers
+
+abbrev pub turns : List Layer → Tree → ℕ
+turns layers leaf = turns_above layers
+turns layers (fork left at black right) = turns_above layers
+turns layers (fork left at red right) = 1
+
+-- every way on is to the left
+abbrev pub AreLeft : List Layer → Type 0
+AreLeft [] = ⊤
+AreLeft (layer ∷ layers) = (layer.side ≡ Left) × AreLeft layers
+
+-- the nodes without one of them
+pub record Loses (node : ℕ) (old new : List ℕ) : Type 0 where
+  pub front : List ℕ
+  pub back : List ℕ
+  pub old_is : old ≡ front ++ node ∷ back
+  pub new_is : new ≡ front ++ back
+
+abbrev pub layer_at : Side → ℕ → Colour → Tree → Layer
+layer_at side at colour other = record { side = side; at = at; colour = colour; other = other }
+
+-- the bytes with the children and the colour of a node given to another
+abbrev pub in_place_of : List ℕ → ℕ → ℕ → List ℕ
+in_place_of bytes from to = with_colour (with_child (with_child bytes to Left (target bytes from)) to Right (target bytes (from + 4))) to (colour_at bytes (Some from))
+
+-- a tree stands at the place that a path leads to, below layers
+pub record StandsAt (bytes : List ℕ) (path : Path) (layers : List Layer) (tree : Tree) : Type 0 where
+  pub steps_are : path.steps.items ≡ steps_of layers
+  pub hangs : IsTree bytes (target bytes path.root) (plug tree layers)
+  pub apart : StandApart (length bytes) path.root (nodes_of (plug tree layers))
+
+-- what a removed node of a colour leaves
+abbrev pub IsLeft : Tint → List Layer → Tree → Type 0
+IsLeft Black layers tree = IsShort layers tree
+IsLeft Red layers tree = IsWhole layers tree
+
+-- a node is taken out of a tree, which may be short then at the place that the path leads to
+pub record Unlinks (old new : List ℕ) (path : Path) (layers : List Layer) (tree : Tree) (node : ℕ) (gone : Tint) : Type 0 where
+  pub above : List Layer
+  pub part : Tree
+  pub steps_are : path.steps.items ≡ steps_of above
+  pub turned : Turns old new path.root (plug tree layers) (plug part above)
+  pub lost : Loses node (nodes_of (plug tree layers)) (nodes_of (plug part above))
+  pub state : IsLeft gone above part
+
+-- a short part is made longer, or a larger one around it is short, or one for which it is easier
+pub record Lengthens (old new : List ℕ) (path : Path) (layers : List Layer) (tree : Tree) (more : Bool) : Type 0 where
+  pub above : List Layer
+  pub part : Tree
+  pub turned : Turns old new path.root (plug tree layers) (plug part above)
+  pub nodes_are : nodes_of (plug part above) ≡ nodes_of (plug tree layers)
+  pub state : MatchBool more (IsShort above part × (path.steps.items ≡ steps_of above) × (turns above part < turns layers tree)) (IsRedBlack (plug part above))
+
+-- from a place below layers a path goes on to the first node below it
+pub record Descends (path : Path) (layers : List Layer) (tree : Tree) (result : Option ℕ) : Type 0 where
+  pub lower : List Layer
+  pub next : ℕ
+  pub tint : Colour
+  pub only : Tree
+  pub result_is : result ≡ Some next
+  pub tree_is : tree ≡ plug (fork leaf next tint only) lower
+  pub leftward : AreLeft lower
+  pub steps_are : path.steps.items ≡ steps_of (lower ++ layers)
+
+-- the sibling comes up, black, and the path goes on to the part beside it
+pub record Lowers (old new : List ℕ) (path : Path) (side : Side) (node sibling : ℕ) (colour other : Colour) (layers : List Layer) (tree inner outer : Tree) : Type 0 where
+  pub turned : Turns old new path.root (plug (branch side node colour tree (branch side sibling other inner outer)) layers) (plug (branch side sibling black (branch side node red tree inner) outer) layers)
+  pub steps_are : path.steps.items ≡ steps_of (layer_at side node red inner ∷ layer_at side sibling black outer ∷ layers)
+
+-- the node beside a part comes up in the colour of the node above both, which goes down, black
+abbrev pub ComesUp : List ℕ → List ℕ → ℕ → Side → ℕ → ℕ → Colour → Colour → List Layer → Tree → Tree → Tree → Type 0
+ComesUp old new root side node up colour other layers tree inner outer =
+    Turns old new root (plug (branch side node colour tree (branch side up other inner outer)) layers) (plug (branch side up colour (branch side node black tree inner) outer) layers)
+
+-- the rules of colour hold again
+pub record Restores (old new : List ℕ) (root : ℕ) (whole : Tree) : Type 0 where
+  pub shape : Tree
+  pub turned : Turns old new root whole shape
+  pub nodes_are : nodes_of shape ≡ nodes_of whole
+  pub red_black : IsRedBlack shape
