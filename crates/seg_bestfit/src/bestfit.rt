@@ -37,8 +37,6 @@ pub fn locate<A: Allocator>(w: &Window<A>, need: u32) -> (Option<u32>, u32)
 impl Fit for BestFit {
     ghost code = { 1 };
 
-    ghost exact = { Unit {0} };
-
     fn word() -> u32 {
         1
     }

@@ -9,12 +9,12 @@ use Rattle.seg_block.proofs.Taken.{takes_none}
 use Rattle.seg_bestfit.proofs.bestfit.BestFitFit.allocate.Goals as goal
 
 pub returns-in_err-gap-clause-takes : goal.returns-in_err-gap-clause-takes
-returns-in_err-gap-clause-takes g c = λ e h.
+returns-in_err-gap-clause-takes g c = λ h.
     let old = c.args.w.now.bytes in
     takes_none old c.args.need c.from_residual.result h (c.in_err-gap.ensures.best (gaps old) h.free (heap_free_blocks old h) (Fill-le (tiles old) heap_start (length old) h.filled) h.small) c.from_residual.ensures
 
 pub returns-clause-takes : goal.returns-clause-takes
-returns-clause-takes g c = λ e h.
+returns-clause-takes g c = λ h.
     let old = c.args.w.now.bytes in
     let gap = c.in_ok-gap.gap in
     let bytes = λ (p : Placement). p.bytes in

@@ -7,7 +7,7 @@ use Rattle.seg_bestfit.proofs.Beginning.{one_block, begins}
 use Rattle.seg_bestfit.proofs.bestfit.BestFitFit.init.Goals as goal
 
 pub returns-clause-begins : goal.returns-clause-begins
-returns-clause-begins g c = λ e large whole.
+returns-clause-begins g c = λ large whole.
     let old = c.args.w.now.bytes in
     let u = c.saturating_sub-units.result / 16 in
     let bytes = λ (p : Placement). p.bytes in

@@ -7,12 +7,12 @@ use Rattle.seg_seqfit.proofs.Places.{Place, place_of_gap}
 use Rattle.seg_seqfit.proofs.seqfit.SeqFitFit.allocate.Goals as goal
 
 pub returns-in_err-link-clause-takes : goal.returns-in_err-link-clause-takes
-returns-in_err-link-clause-takes g c = λ e h.
+returns-in_err-link-clause-takes g c = λ h.
     let old = c.args.w.now.bytes in
     takes_none old c.args.need c.from_residual.result h (c.in_err-link.ensures.first (gaps old) h.free (heap_free_blocks old h)) c.from_residual.ensures
 
 pub returns-clause-takes : goal.returns-clause-takes
-returns-clause-takes g c = λ e h.
+returns-clause-takes g c = λ h.
     let old = c.args.w.now.bytes in
     let link = c.in_ok-link.field-0.link in
     let gap = c.in_ok-link.field-0.block in
