@@ -1,10 +1,12 @@
 -- The words of a line, one by one.
 use Rattle.std.proofs.Common.{◌≡◌, ◌≢◌, ℕ, zero, suc, ◌+◌, ◌-◌, ◌<◌, ◌≤◌, Bool, true, false, nat_eq, List, [], ◌∷◌, ◌++◌, length, take, drop, get_or, refl, sym, ap, ◌∙◌, subst, arith, append_assoc, append-nil}
-use Rattle.std.specs.Prelude.{not, ◌==◌, if◌then◌else◌}
+use Rattle.std.specs.Prelude.{All, map, Option, Some, None, MatchOption, IfSome, not, ◌==◌, if◌then◌else◌}
 use Rattle.std.proofs.Math.Bool.{beq}
 use Rattle.std.proofs.lemmas.List.{at_drop_more, take_all, length-drop, nil_from_length}
 use Rattle.std.proofs.Math.ListN.{drop_of_length-le}
-use Rattle.client_spec.specs.Text.{Words, words_of, words_from}
+use Rattle.std.proofs.lemmas.List.Elements.{All-head, All-tail}
+use Rattle.client_spec.specs.Text.{Words, words_of, words_from, type_word}
+use Rattle.client_spec.proofs.TextWords.{tail_of}
 use Rattle.client_code.specs.Texts.{before_space}
 
 same_test : (x y : Bool) → beq x y ≡ (if x then y else not y)
@@ -85,3 +87,20 @@ one_word line left word rest n m e l f some w r =
     let here : left ≡ drop (before_space false line) line = l ∙ rest_from line n ∙ ap (λ k. drop k line) e in
     let begins = subst BeginsWithWord (sym here) (word_next line (subst (λ xs. 0 < length xs) here some)) in
     skip_spaces line ∙ ap words_of (sym here) ∙ begins ∙ cc
+
+-- groups of words, read one behind the other
+pub joined : (a b c n w0 w1 w2 w3 w4 : Words) → w0 ≡ a ++ w1 → w1 ≡ b ++ w2 → w2 ≡ c ++ w3 → w3 ≡ n ++ w4 → w0 ≡ (((a ++ b) ++ c) ++ n) ++ w4
+joined a b c n w0 w1 w2 w3 w4 e0 e1 e2 e3 =
+    e0 ∙ ap (λ ws. a ++ ws) (e1 ∙ ap (λ ws. b ++ ws) (e2 ∙ ap (λ ws. c ++ ws) e3))
+    ∙ sym (append_assoc ((a ++ b) ++ c) n w4 ∙ append_assoc (a ++ b) c (n ++ w4) ∙ append_assoc a b (c ++ (n ++ w4)))
+
+-- the words of a struct's types: one that is no type's word isn't among them
+pub not_types : (fields types : List ℕ) (word : List ℕ) (rest : Words) → All (λ t. t < 256) types → ((t : ℕ) → t < 256 → word ≡ type_word t → ⊥) → map type_word fields ++ word ∷ rest ≡ map type_word types → ⊥
+not_types [] [] word rest small none e = cc
+not_types [] (t ∷ types) word rest small none e = none t (All-head (λ t. t < 256) t types small) (tail_of word (type_word t) rest (map type_word types) e).0
+not_types (f ∷ fields) [] word rest small none e = cc
+not_types (f ∷ fields) (t ∷ types) word rest small none e = not_types fields types word rest (All-tail (λ t. t < 256) t types small) none (tail_of (type_word f) (type_word t) (map type_word fields ++ word ∷ rest) (map type_word types) e).1
+
+pub some_given : {T : Type 0} (X : Type 0) (P Q : T → Type 0) (r : Option T) → MatchOption r X P → ((x : T) → P x → Q x) → IfSome r Q
+some_given X P Q None given f = tt
+some_given X P Q (Some x) given f = f x given

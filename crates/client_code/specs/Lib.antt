@@ -3,3 +3,4 @@ pub mod Files
 pub mod Parts
 pub mod Clients
 pub mod Texts
+pub mod Items

@@ -1,4 +1,13 @@
-ghost use Rattle.std.specs.Prelude.{◌≤◌};
+ghost use Rattle.std.specs.Prelude.{◌≡◌, ◌≢◌, ◌≤◌, ◌<◌, ◌∷◌, ◌++◌, ℕ, ℤ, List, map, length, All, IfSome, IfNone, FitsSigned};
+ghost use Rattle.std.specs.Int.{w32};
+ghost use Rattle.std.specs.Fmt.{decimal};
+ghost use Rattle.seg_spec.specs.Types.{Table};
+ghost use Rattle.client_spec.specs.Code as code;
+ghost use Rattle.client_spec.specs.Grammar.{IsOperand, IsNumber};
+ghost use Rattle.client_spec.specs.Text as text;
+ghost use Rattle.client_spec.specs.Text.{words_of, type_word, operand_words, number_words, instruction_words};
+ghost use Rattle.client_code.specs.Views.{operand_of, number_of, operation_of, definition, instruction_of};
+ghost use Rattle.client_code.specs.Items.{IsInSomeClient};
 
 use crate::constant::ConstantKind;
 use crate::escape::{Bytes, unescaped};
@@ -59,7 +68,10 @@ impl Item {
     }
 }
 
-fn read_name(words: &mut Words) -> Option<Bytes> {
+fn read_name(words: &mut Words) -> Option<Bytes>
+    ensures found { IfSome result (λ name. words_of words.old.line.now ≡ name.items ∷ words_of words.new.line.now) }
+    ensures none { IfNone result ((name : List ℕ) (rest : text.Words) → length name ≤ 255 → words_of words.old.line.now ≢ name ∷ rest) }
+{
     let mut name = ArrayVec::new();
     name.try_extend_from_slice(words.next()?).ok()?;
     Some(name)
@@ -79,11 +91,17 @@ fn read_type(words: &mut Words) -> Option<Type> {
     }
 }
 
-fn read_part(words: &mut Words) -> Option<TypeId> {
+fn read_part(words: &mut Words) -> Option<TypeId>
+    ensures found { IfSome result (λ t. words_of words.old.line.now ≡ type_word t ∷ words_of words.new.line.now) }
+    ensures none { IfNone result ((t : ℕ) (rest : text.Words) → t < 256 → words_of words.old.line.now ≢ type_word t ∷ rest) }
+{
     index(b't', words.next()?)
 }
 
-fn read_fields(words: &mut Words) -> Option<Fields> {
+fn read_fields(words: &mut Words) -> Option<Fields>
+    ensures found { IfSome result (λ fields. words_of words.old.line.now ≡ map type_word fields ++ words_of words.new.line.now) }
+    ensures none { IfNone result ((types : List ℕ) → 1 ≤ length types → length types ≤ 8 → All (λ t. t < 256) types → words_of words.old.line.now ≢ map type_word types) }
+{
     let mut fields: ArrayVec<TypeId, 8> = ArrayVec::new();
     while let Some(word) = words.next() {
         fields.try_push(index(b't', word)?).ok()?;
@@ -91,7 +109,10 @@ fn read_fields(words: &mut Words) -> Option<Fields> {
     Fields::new(fields.as_slice())
 }
 
-fn read_instruction(operation: Operation, words: &mut Words) -> Option<Instruction> {
+fn read_instruction(operation: Operation, words: &mut Words) -> Option<Instruction>
+    ensures found { IfSome result (λ i. (definition operation).word ∷ words_of words.old.line.now ≡ instruction_words (instruction_of i) ++ words_of words.new.line.now) }
+    ensures none { IfNone result ((i : code.Instruction) (rest : text.Words) → i.operation ≡ operation_of operation → IsInSomeClient i → (definition operation).word ∷ words_of words.old.line.now ≢ instruction_words i ++ rest) }
+{
     let row = operation.row();
     Some(Instruction {
         operation,
@@ -102,7 +123,10 @@ fn read_instruction(operation: Operation, words: &mut Words) -> Option<Instructi
     })
 }
 
-fn read_operand(operand: Operand, words: &mut Words) -> Option<u8> {
+fn read_operand(operand: Operand, words: &mut Words) -> Option<u8>
+    ensures found { IfSome result (λ n. words_of words.old.line.now ≡ operand_words (operand_of operand) n ++ words_of words.new.line.now) }
+    ensures none { IfNone result ((n : ℕ) (rest : text.Words) → IsOperand (operand_of operand) n → words_of words.old.line.now ≢ operand_words (operand_of operand) n ++ rest) }
+{
     match operand {
         Operand::Unused => Some(0),
         Operand::Register => read_register(words.next()?),
@@ -113,11 +137,22 @@ fn read_operand(operand: Operand, words: &mut Words) -> Option<u8> {
     }
 }
 
-fn read_register(word: &[u8]) -> Option<u8> {
-    index(b'r', word).filter(|register| *register < REGISTERS)
+fn read_register(word: &[u8]) -> Option<u8>
+    ensures found { IfSome result (λ n. (n < 16) × (word.now ≡ 114 ∷ decimal n)) }
+    ensures none { IfNone result ((n : ℕ) → n < 16 → word.now ≢ 114 ∷ decimal n) }
+{
+    match index(b'r', word)? {
+        register if register < REGISTERS => Some(register),
+        _ => None,
+    }
 }
 
-fn read_number(number: Number, words: &mut Words) -> Option<i32> {
+fn read_number(number: Number, words: &mut Words) -> Option<i32>
+    ensures found { IfSome result (λ n. words_of words.old.line.now ≡ number_words (number_of number) n ++ words_of words.new.line.now) }
+    ensures range { IfSome result (λ n. FitsSigned w32 n) }
+    ensures none { IfNone result ((types : Table) (constants : List code.Constant) (b : ℕ) (n : ℤ) (rest : text.Words) → length types ≤ 32 → length constants ≤ 256 → FitsSigned w32 n → IsNumber types constants b (number_of number) n
+        → words_of words.old.line.now ≢ number_words (number_of number) n ++ rest) }
+{
     match number {
         Number::Unused => Some(0),
         Number::Any | Number::Turns => signed(words.next()?),
@@ -126,7 +161,7 @@ fn read_number(number: Number, words: &mut Words) -> Option<i32> {
         Number::TypedName => {
             let type_id = index(b't', words.next()?)?;
             let constant = index(b'k', words.next()?)?;
-            Some(i32::from_le_bytes([constant, type_id, 0, 0]))
+            Some(256 * i32::from(type_id) + i32::from(constant))
         }
     }
 }

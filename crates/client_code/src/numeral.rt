@@ -25,8 +25,8 @@ pub fn signed(word: &[u8]) -> Option<i32>
 
 /// The number behind a letter, as in `r3`.
 pub fn index(letter: u8, word: &[u8]) -> Option<u8>
-    ensures found { IfSome result (λ n. word.now ≡ letter ∷ decimal n) }
-    ensures none { IfNone result ((n : ℕ) → n < 2 ^ 8 → word.now ≢ letter ∷ decimal n) }
+    ensures found { IfSome result (λ n. (n < 256) × (word.now ≡ letter ∷ decimal n)) }
+    ensures none { IfNone result ((n : ℕ) → n < 256 → word.now ≢ letter ∷ decimal n) }
 {
     match word {
         [first, digits @ ..] if *first == letter => u8::try_from(decimal(digits)?).ok(),

@@ -33,6 +33,7 @@ impl<'a> Words<'a> {
         ensures found { IfSome result (λ word. words_of self.old.line.now ≡ word.now ∷ words_of self.new.line.now) }
         ensures shorter { IfSome result (λ word. length self.new.line.now < length self.old.line.now) }
         ensures none { IfNone result (words_of self.old.line.now ≡ []) }
+        ensures stays { IfNone result (self.new.line.now ≡ self.old.line.now) }
     {
         let line = &self.line[before_space(self.line, false)..];
         if line.is_empty() {
