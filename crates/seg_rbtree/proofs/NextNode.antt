@@ -1,30 +1,28 @@
 -- A node with two children gives its place to the next one in order.
-use Rattle.std.proofs.Common.{◌≡◌, ◌≢◌, ℕ, suc, ◌+◌, ◌^◌, ◌<◌, ◌≤◌, List, [], ◌∷◌, ◌++◌, length, take, get_or, set, slice_index_or, slice_set, Option, Some, None, refl, sym, ap, ◌∙◌, subst, arith, append_assoc}
+use Rattle.std.proofs.Common.{◌≡◌, ℕ, ◌+◌, ◌^◌, ◌<◌, ◌≤◌, List, [], ◌∷◌, ◌++◌, length, take, get_or, set, slice_index_or, slice_set, Option, Some, None, sym, ap, ◌∙◌, subst, arith, append_assoc}
 use Rattle.std.proofs.Math.Seq.{set-append_seam, take-append_seam, get_or-append_seam}
 use Rattle.std.proofs.lemmas.List.{length-append}
 use Rattle.seg_spec.specs.Pointer.{target, distance, set_pointer}
 use Rattle.seg_spec.specs.Apart.{Separate}
-use Rattle.seg_spec.specs.Shapes.{Colour, black, red, Tree, leaf, fork, nodes_of, HasColour, IsTree, IsRedBlack}
+use Rattle.seg_spec.specs.Shapes.{Colour, Tree, leaf, fork, nodes_of, HasColour, IsTree, IsRedBlack}
 use Rattle.seg_spec.proofs.BytesLaws.{length-set_number}
-use Rattle.seg_rbtree.specs.declared.node.Side.{Side}
 use Rattle.seg_rbtree.specs.declared.node.Side.TheVariants.{Left, Right}
 use Rattle.seg_rbtree.specs.declared.node.Colour.{Colour as Paint}
 use Rattle.seg_rbtree.specs.declared.node.Colour.TheVariants.{Black, Red}
 use Rattle.seg_rbtree.specs.declared.path.Path.{Path}
 use Rattle.seg_rbtree.specs.declared.path.Step.{Step}
-use Rattle.seg_rbtree.specs.Nodes.{side_word, opposite, shade, colour_at, colour_number, with_child, with_colour}
-use Rattle.seg_rbtree.specs.Ways.{Layer, branch, grow, plug, place, step_of, steps_of, last_word}
-use Rattle.seg_rbtree.specs.Changes.{StandApart, KeepsBeside}
+use Rattle.seg_rbtree.specs.Nodes.{shade, colour_at, colour_number, with_child}
+use Rattle.seg_rbtree.specs.Ways.{Layer, plug, place, step_of, steps_of, last_word}
+use Rattle.seg_rbtree.specs.Changes.{StandApart}
 use Rattle.seg_rbtree.specs.Turns.{Turns}
-use Rattle.seg_rbtree.specs.Removing.{layer_at, in_place_of, StandsAt, IsShort, IsWhole, IsLeft, Loses, AreLeft, Unlinks, Descends, blacks}
+use Rattle.seg_rbtree.specs.Removing.{layer_at, in_place_of, StandsAt, IsLeft, Loses, AreLeft, Unlinks, Descends}
 use Rattle.seg_rbtree.proofs.Apartness.{Clear, parts-apart, apart-down, separate-swap, separate-part, clear-part}
 use Rattle.seg_rbtree.proofs.Branches.{branch-parts, tree-down}
 use Rattle.seg_rbtree.proofs.Keeping.{keeps-trans, keeps-inside, colour-word, target-word, tree-word}
 use Rattle.seg_rbtree.proofs.Turning.{turns-up, turns-whole, turns-hung, relink, recolour, clear-parts}
 use Rattle.seg_rbtree.proofs.Steps.{last_word-steps}
-use Rattle.seg_rbtree.proofs.ShortSide.{red_black_whole, whole_low}
 use Rattle.seg_rbtree.proofs.Unlinking.{next_lost, red_unlinked, black_unlinked, renamed_whole, renamed_short}
-use Rattle.seg_rbtree.proofs.Lengthening.{colour_read, length_steps, turned_at, here, here_apart}
+use Rattle.seg_rbtree.proofs.Lengthening.{colour_read, turned_at, here, here_apart}
 use Rattle.seg_rbtree.proofs.TakingOut.{plug_on, place_on, steps_on, apart_lost, each_lost, lone_turned}
 
 -- ---- below the node's pointer word
@@ -128,12 +126,9 @@ path_renamed xs ys zs depth node next items after e d replaced =
 state_renamed : (node next : ℕ) (colour : Colour) (left only : Tree) (lower layers : List Layer) (gone : Paint) → IsRedBlack (plug (fork leaf next (shade gone) only) (lower ++ layer_at Right node colour left ∷ layers))
     → length (nodes_of (plug (fork leaf next (shade gone) only) (lower ++ layer_at Right node colour left ∷ layers))) < 2 ^ 32 → IsLeft gone (lower ++ layer_at Right next colour left ∷ layers) only
 state_renamed node next colour left only lower layers Black r few =
-    let above = lower ++ layer_at Right node colour left ∷ layers in
-    let w = red_black_whole above (fork leaf next black only) r in
-    renamed_short node next colour Right left layers lower only (black_unlinked above Left only next w (whole_low above (fork leaf next black only) w few))
+    renamed_short node next colour Right left layers lower only (black_unlinked (lower ++ layer_at Right node colour left ∷ layers) Left only next r few)
 state_renamed node next colour left only lower layers Red r few =
-    let above = lower ++ layer_at Right node colour left ∷ layers in
-    renamed_whole node next colour Right left layers lower only (red_unlinked above Left only next (red_black_whole above (fork leaf next red only) r))
+    renamed_whole node next colour Right left layers lower only (red_unlinked (lower ++ layer_at Right node colour left ∷ layers) Left only next r)
 
 module _ (b b1 b2 b3 : List ℕ) (path one two : Path) (node depth : ℕ) (gone : Paint) (layers lower : List Layer) (left only : Tree) (colour tint : Colour) (next : ℕ) where
   abbrev whole : Tree
@@ -191,7 +186,7 @@ pub by_next : (b b1 b2 b3 : List ℕ) (path one two : Path) (node read depth : �
 by_next b b1 b2 b3 path one two node read depth gone result d r1 r2 er eg e1 e2 replaced e3 layers left right colour s r few to =
     let same : read ≡ to.next = named_alike result read to.next er to.result_is in
     let law = at_next b b1 b2 b3 path one two node depth gone layers to.lower left to.only colour to.tint to.next d r1 r2 (eg ∙ ap (λ p. colour_at b (Some p)) same) (e1 ∙ ap (λ p. set_pointer b (last_word one.root one.steps.items) (target b (p + 4))) same) (e2 ∙ ap (λ p. in_place_of b1 node p) same)
-        (λ step low at. replaced step low at ∙ ap (λ p. set one.steps.items depth (record { node = p; side = step.side })) same) (λ low. e3 low ∙ ap (λ p. set_pointer b2 (last_word two.root (take depth two.steps.items)) (Some p)) same) to.leftward to.steps_are in
+    (λ step low at. replaced step low at ∙ ap (λ p. set one.steps.items depth (record { node = p; side = step.side })) same) (λ low. e3 low ∙ ap (λ p. set_pointer b2 (last_word two.root (take depth two.steps.items)) (Some p)) same) to.leftward to.steps_are in
     (subst (λ t. StandsAt b path layers (fork left node colour t) → IsRedBlack (plug (fork left node colour t) layers) → length (nodes_of (plug (fork left node colour t) layers)) < 2 ^ 32 → Unlinks b b3 two layers (fork left node colour t) node gone) (sym to.tree_is) law) s r few
 
 -- there is a next node

@@ -1,5 +1,5 @@
 -- The nodes of a tree with one more, in their order.
-use Rattle.std.proofs.Common.{◌≡◌, ℕ, suc, ◌+◌, ◌≤◌, Bool, true, false, List, [], ◌∷◌, ◌++◌, length, refl, sym, ap, ◌∙◌, subst}
+use Rattle.std.proofs.Common.{◌≡◌, ℕ, suc, ◌+◌, ◌≤◌, Bool, true, false, List, [], ◌∷◌, ◌++◌, length, refl, sym, ap, ◌∙◌, subst, cond, eqb}
 use Rattle.std.specs.Cmp.{IsTotalOrder}
 use Rattle.std.specs.Ordering.{is_lt, ordering_reverse}
 use Rattle.std.specs.List.{AllByRecursion}
@@ -12,7 +12,7 @@ use Rattle.seg_spec.proofs.Frame.{each_left, each_right, each_weaker}
 use Rattle.seg_rbtree.specs.declared.node.Side.{Side}
 use Rattle.seg_rbtree.specs.declared.node.Side.TheVariants.{Left, Right}
 use Rattle.seg_rbtree.specs.Ways.{Layer, branch, grow, plug, turn_of, LeadBy}
-use Rattle.seg_rbtree.specs.Changes.{NodesApart, StandApart, IsNew, with_node}
+use Rattle.seg_rbtree.specs.Changes.{NodesApart, StandApart, IsNew, with_node, without_node}
 use Rattle.seg_rbtree.proofs.Apartness.{separate-swap}
 
 -- ---- parts of what is in order
@@ -80,14 +80,6 @@ module _ (order : ℕ → ℕ → Ordering) (node : ℕ) where
       go true e k = subst (AllByRecursion P) (sym (here x ns e)) (p, h)
       go false e k = subst (AllByRecursion P) (sym (later x ns e)) (h.0, k)
 
-  pub each_without_new : (P : ℕ → Type 0) (ns : List ℕ) → AllByRecursion P (with_node order node ns) → AllByRecursion P (node ∷ ns)
-  each_without_new P [] h = h
-  each_without_new P (x ∷ ns) h = go (is_lt (order node x)) refl (λ k. each_without_new P ns k)
-    where
-      go : (b : Bool) → is_lt (order node x) ≡ b → (AllByRecursion P (with_node order node ns) → AllByRecursion P (node ∷ ns)) → AllByRecursion P (node ∷ x ∷ ns)
-      go true e f = subst (AllByRecursion P) (here x ns e) h
-      go false e f = let k = subst (AllByRecursion P) (later x ns e) h in let r = f k.1 in (r.0, (k.0, r.1))
-
   apart_with : (ns : List ℕ) → NodesApart (node ∷ ns) → NodesApart (with_node order node ns)
   apart_with [] h = h
   apart_with (x ∷ ns) h = go (is_lt (order node x)) refl (apart_with ns (h.0.1, h.1.1))
@@ -152,3 +144,16 @@ module _ (order : ℕ → ℕ → Ordering) (node : ℕ) where
         go Less e h = subst (Ascend order) (sym (here x ns (less x e))) ((e, above_all x ns e a.0), a)
         go Equal e h = absurd (new.0 e)
         go Greater e h = subst (Ascend order) (sym (later x ns (not_less x e))) (each_with (λ y. order x y ≡ Less) ns (back node x e) a.0, h)
+
+-- ---- one less
+
+each_but : (node : ℕ) (P : ℕ → Type 0) (ns : List ℕ) → AllByRecursion P ns → AllByRecursion P (without_node node ns)
+each_but node P [] h = tt
+each_but node P (x ∷ ns) h =
+    elim (eqb node x) as (λ b. AllByRecursion P (cond b ns (x ∷ without_node node ns))) [ true ↦ h.1 | false ↦ (h.0, each_but node P ns h.1) ]
+
+-- the others stay in order
+pub Ascend-without_node : (order : ℕ → ℕ → Ordering) (node : ℕ) (ns : List ℕ) → Ascend order ns → Ascend order (without_node node ns)
+Ascend-without_node order node [] a = tt
+Ascend-without_node order node (x ∷ ns) a =
+    elim (eqb node x) as (λ b. Ascend order (cond b ns (x ∷ without_node node ns))) [ true ↦ a.1 | false ↦ (each_but node _ ns a.0, Ascend-without_node order node ns a.1) ]

@@ -1,5 +1,5 @@
 -- A tree without one of its nodes.
-use Rattle.std.proofs.Common.{◌≡◌, ◌≢◌, ℕ, suc, ◌+◌, ◌^◌, ◌<◌, ◌≤◌, Bool, true, false, not, eqb, List, [], ◌∷◌, ◌++◌, length, Option, Some, None, refl, sym, ap, ◌∙◌, subst, arith}
+use Rattle.std.proofs.Common.{◌≡◌, ◌≢◌, ℕ, ◌+◌, ◌^◌, ◌<◌, Bool, true, false, not, eqb, List, [], ◌∷◌, ◌++◌, length, Option, Some, None, refl, sym, ap, ◌∙◌, subst, arith}
 use Rattle.std.proofs.lemmas.List.{length-append}
 use Rattle.std.proofs.lemmas.Bool.Decides.{nat_tests}
 use Rattle.std.specs.Option.{option_eq}
@@ -9,7 +9,7 @@ use Rattle.std.specs.List.{AllByRecursion}
 use Rattle.std.specs.declared.cmp.Ordering.{Ordering}
 use Rattle.std.specs.declared.cmp.Ordering.TheVariants.{Less, Equal, Greater}
 use Rattle.seg_spec.specs.Pointer.{target}
-use Rattle.seg_spec.specs.Shapes.{Colour, Tree, leaf, fork, nodes_of, IsTree, IsRedBlack}
+use Rattle.seg_spec.specs.Shapes.{Tree, leaf, fork, nodes_of, IsTree, IsRedBlack}
 use Rattle.seg_spec.specs.Search.{Ascend, IsSearchTree}
 use Rattle.seg_spec.specs.Apart.{Separate}
 use Rattle.seg_spec.proofs.Frame.{each_left, each_right, each_weaker}
@@ -17,14 +17,13 @@ use Rattle.seg_rbtree.specs.declared.node.Side.{Side}
 use Rattle.seg_rbtree.specs.declared.node.Side.TheVariants.{Left, Right}
 use Rattle.seg_rbtree.specs.declared.node.Colour.TheVariants.{Black, Red}
 use Rattle.seg_rbtree.specs.declared.path.Path.{Path}
-use Rattle.seg_rbtree.specs.Ways.{Layer, branch, grow, plug, place, steps_of, last_word, turn_of, LeadBy, EndsAt, IsWayTo}
-use Rattle.seg_rbtree.specs.Changes.{StandApart, NodesApart, KeepsBeside, Leaves, without_node}
+use Rattle.seg_rbtree.specs.Ways.{Layer, branch, grow, plug, place, last_word, turn_of, LeadBy, EndsAt, IsWayTo}
+use Rattle.seg_rbtree.specs.Changes.{StandApart, KeepsBeside, Leaves, without_node}
 use Rattle.seg_rbtree.specs.Turns.{Turns}
-use Rattle.seg_rbtree.specs.Removing.{StandsAt, IsShort, IsWhole, Loses, Unlinks, Restores}
-use Rattle.seg_rbtree.proofs.Apartness.{Clear, each_join}
+use Rattle.seg_rbtree.specs.Removing.{StandsAt, Loses, Unlinks, Restores}
+use Rattle.seg_rbtree.proofs.Apartness.{each_join}
 use Rattle.seg_rbtree.proofs.Keeping.{keeps-none, keeps-trans, keeps-wider}
 use Rattle.seg_rbtree.proofs.Orders.{ascend-parts, ascend-down}
-use Rattle.seg_rbtree.proofs.ShortSide.{whole_red_black}
 use Rattle.seg_rbtree.proofs.Unlinking.{before, behind, nodes_plug}
 use Rattle.seg_rbtree.proofs.WithoutNode.{without_lost, without_later}
 use Rattle.seg_rbtree.proofs.Steps.{last_word-steps}
@@ -149,7 +148,7 @@ module _ (bytes one : List ℕ) (root : ℕ) (path last : Path) (order : ℕ →
       let turned : Turns bytes one root shape (plug u.part u.above) = subst (λ w. Turns bytes one w shape (plug u.part u.above)) (q ∙ r) (subst (λ s. Turns bytes one last.root s (plug u.part u.above)) way.shape_is u.turned) in
       record {
         shape = plug u.part u.above;
-        tree = record { is_tree = turned.hangs; red_black = whole_red_black u.above u.part u.state; few = fewer node (nodes_of shape) (nodes_of (plug u.part u.above)) lost t.few };
+        tree = record { is_tree = turned.hangs; red_black = u.state; few = fewer node (nodes_of shape) (nodes_of (plug u.part u.above)) lost t.few };
         nodes_are = sym (without_lost node (nodes_of shape) (nodes_of (plug u.part u.above)) a.nodes_apart lost);
         kept = turned.kept;
       }

@@ -1,6 +1,6 @@
 -- A short part is made longer turn by turn.
-use Rattle.std.proofs.Common.{◌≡◌, ℕ, ◌+◌, ◌<◌, ◌≤◌, Bool, true, false, List, [], ◌∷◌, length, refl, sym, ap, ◌∙◌, subst, arith}
-use Rattle.seg_spec.specs.Shapes.{Tree, nodes_of, IsRedBlack}
+use Rattle.std.proofs.Common.{◌≡◌, ℕ, ◌+◌, ◌≤◌, true, false, List, refl, ◌∙◌, subst, arith}
+use Rattle.seg_spec.specs.Shapes.{Tree, nodes_of}
 use Rattle.seg_rbtree.specs.declared.path.Path.{Path}
 use Rattle.seg_rbtree.specs.Ways.{Layer, plug, steps_of}
 use Rattle.seg_rbtree.specs.Turns.{Turns}

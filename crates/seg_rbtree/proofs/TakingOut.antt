@@ -1,30 +1,27 @@
 -- What taking a node out of a tree does to the bytes.
-use Rattle.std.proofs.Common.{◌≡◌, ◌≢◌, ℕ, suc, ◌+◌, ◌*◌, ◌^◌, ◌<◌, ◌≤◌, Bool, not, IsTrue, true, false, List, [], ◌∷◌, ◌++◌, length, take, Option, Some, None, refl, sym, ap, ◌∙◌, subst, arith, append_assoc}
+use Rattle.std.proofs.Common.{◌≡◌, ◌≢◌, ℕ, ◌+◌, ◌^◌, ◌<◌, Bool, not, true, false, List, [], ◌∷◌, ◌++◌, length, Option, Some, None, refl, sym, ap, ◌∙◌, subst, arith, append_assoc}
 use Rattle.std.proofs.lemmas.List.{length-append, append-nil}
 use Rattle.std.specs.List.{AllByRecursion}
 use Rattle.std.specs.Option.{is_some}
 use Rattle.seg_spec.specs.Pointer.{target, set_pointer}
-use Rattle.seg_spec.specs.Shapes.{Colour, black, red, Tree, leaf, fork, nodes_of, HasColour, IsTree, IsBlack, IsBalanced, IsRedBlack}
-use Rattle.seg_spec.proofs.Frame.{each_left, each_right}
+use Rattle.seg_spec.specs.Shapes.{Colour, Tree, leaf, fork, nodes_of, IsTree, IsRedBlack}
 use Rattle.seg_rbtree.specs.declared.node.Side.{Side}
 use Rattle.seg_rbtree.specs.declared.node.Side.TheVariants.{Left, Right}
 use Rattle.seg_rbtree.specs.declared.node.Colour.{Colour as Paint}
 use Rattle.seg_rbtree.specs.declared.node.Colour.TheVariants.{Black, Red}
 use Rattle.seg_rbtree.specs.declared.path.Path.{Path}
-use Rattle.seg_rbtree.specs.declared.path.Step.{Step}
-use Rattle.seg_rbtree.specs.Nodes.{side_word, opposite, shade, colour_at, with_child, with_colour}
+use Rattle.seg_rbtree.specs.Nodes.{side_word, opposite, shade, colour_at}
 use Rattle.seg_rbtree.specs.Ways.{Layer, branch, grow, plug, place, step_of, steps_of, last_word}
-use Rattle.seg_rbtree.specs.Changes.{StandApart, NodesApart, KeepsBeside}
+use Rattle.seg_rbtree.specs.Changes.{StandApart, NodesApart}
 use Rattle.seg_rbtree.specs.Turns.{Turns}
-use Rattle.seg_rbtree.specs.Removing.{layer_at, StandsAt, IsShort, IsWhole, IsLeft, Loses, AreLeft, Unlinks, Descends, blacks}
-use Rattle.seg_rbtree.proofs.Apartness.{Clear, parts-apart, apart-down}
-use Rattle.seg_rbtree.proofs.Branches.{branch-parts, tree-down}
-use Rattle.seg_rbtree.proofs.Keeping.{keeps-trans, keeps-word, keeps-inside}
-use Rattle.seg_rbtree.proofs.Turning.{turns-then, turns-room, turns-up, turns-whole, turns-hung, relink, recolour, clear-parts}
-use Rattle.seg_rbtree.proofs.Depth.{tall, deep-64, layers-deep}
-use Rattle.seg_rbtree.proofs.ShortSide.{red_black_whole, whole_low}
-use Rattle.seg_rbtree.proofs.Unlinking.{lone_lost, next_lost, red_unlinked, black_unlinked, renamed_whole, renamed_short}
-use Rattle.seg_rbtree.proofs.Lengthening.{length_steps, path_word, turned_at, here, here_apart, no_tree, painted_fork, IsPainted, fork_at}
+use Rattle.seg_rbtree.specs.Removing.{layer_at, StandsAt, IsLeft, Loses, AreLeft, Unlinks, Descends}
+use Rattle.seg_rbtree.proofs.Apartness.{parts-apart}
+use Rattle.seg_rbtree.proofs.Branches.{branch-parts}
+use Rattle.seg_rbtree.proofs.Turning.{turns-hung}
+use Rattle.seg_rbtree.proofs.Depth.{deep-64, layers-deep}
+use Rattle.seg_rbtree.proofs.Unlinking.{lone_lost, red_unlinked, black_unlinked}
+use Rattle.seg_rbtree.proofs.Walking.{length-steps}
+use Rattle.seg_rbtree.proofs.Lengthening.{path_word, turned_at, here, here_apart, no_tree, painted_fork, fork_at}
 
 -- ---- ways one behind the other
 
@@ -81,10 +78,8 @@ lone_turned bytes at side node colour only h a =
     turns-hung bytes at (target bytes (side_word node (opposite side))) (branch side node colour leaf only) only apart (branch-parts bytes (target bytes at) side node colour leaf only h).far_hangs
 
 left_state : (layers : List Layer) (side : Side) (only : Tree) (node : ℕ) (gone : Paint) → IsRedBlack (plug (branch side node (shade gone) leaf only) layers) → length (nodes_of (plug (branch side node (shade gone) leaf only) layers)) < 2 ^ 32 → IsLeft gone layers only
-left_state layers side only node Black r few =
-    let w = red_black_whole layers (branch side node black leaf only) r in
-    black_unlinked layers side only node w (whole_low layers (branch side node black leaf only) w few)
-left_state layers side only node Red r few = red_unlinked layers side only node (red_black_whole layers (branch side node red leaf only) r)
+left_state layers side only node Black r few = black_unlinked layers side only node r few
+left_state layers side only node Red r few = red_unlinked layers side only node r
 
 -- a tree whose root has nothing on a side
 pub record IsLone (side : Side) (node : ℕ) (colour : Colour) (tree : Tree) : Type 0 where
@@ -105,17 +100,17 @@ lone_unlinked bytes new path node empty gone eg en e3 layers tree s r few named 
     let f = lone_root bytes empty node (target bytes (place path.root layers)) tree gone named eg en (here bytes path layers tree s) in
     let old = branch empty node (shade gone) leaf f.only in
     let law = λ (s : StandsAt bytes path layers old) (r : IsRedBlack (plug old layers)) (few : length (nodes_of (plug old layers)) < 2 ^ 32).
-        let w = path_word bytes path layers old s in
-        let t : Turns bytes new (place path.root layers) old f.only = subst (λ b. Turns bytes b (place path.root layers) old f.only) (sym (e3 ∙ ap (λ q. set_pointer bytes q (target bytes (side_word node (opposite empty)))) w))
-            (lone_turned bytes (place path.root layers) empty node (shade gone) f.only (here bytes path layers old s) (here_apart bytes path layers old s)) in
-        let done : Unlinks bytes new path layers old node gone = record {
-          above = layers;
-          part = f.only;
-          steps_are = s.steps_are;
-          turned = turned_at bytes new path layers old f.only s t;
-          lost = lone_lost layers empty f.only node (shade gone);
-          state = left_state layers empty f.only node gone r few;
-        } in done in
+    let w = path_word bytes path layers old s in
+    let t : Turns bytes new (place path.root layers) old f.only = subst (λ b. Turns bytes b (place path.root layers) old f.only) (sym (e3 ∙ ap (λ q. set_pointer bytes q (target bytes (side_word node (opposite empty)))) w))
+    (lone_turned bytes (place path.root layers) empty node (shade gone) f.only (here bytes path layers old s) (here_apart bytes path layers old s)) in
+    let done : Unlinks bytes new path layers old node gone = record {
+      above = layers;
+      part = f.only;
+      steps_are = s.steps_are;
+      turned = turned_at bytes new path layers old f.only s t;
+      lost = lone_lost layers empty f.only node (shade gone);
+      state = left_state layers empty f.only node gone r few;
+    } in done in
     (subst (λ o. StandsAt bytes path layers o → IsRedBlack (plug o layers) → length (nodes_of (plug o layers)) < 2 ^ 32 → Unlinks bytes new path layers o node gone) (sym f.tree_is) law) s r few
 
 -- ---- the way to the first node below a place
@@ -177,13 +172,13 @@ descended bytes path layers tree first count to e n d =
 pub descending_room : (bytes : List ℕ) (path : Path) (layers : List Layer) (tree : Tree) (first count : ℕ) → IsRedBlack (plug tree layers) → length (nodes_of (plug tree layers)) < 2 ^ 32 → IsDescending bytes path layers tree first count → length path.steps.items < 64
 descending_room bytes path layers tree first count r few d =
     let same : plug tree layers ≡ plug (fork d.left first d.tint d.right) (d.lower ++ layers) = ap (λ t. plug t layers) d.tree_is ∙ sym (plug_on (fork d.left first d.tint d.right) d.lower layers) in
-    let long : length path.steps.items ≡ length (d.lower ++ layers) = ap length d.steps_are ∙ length_steps (d.lower ++ layers) in
+    let long : length path.steps.items ≡ length (d.lower ++ layers) = ap length d.steps_are ∙ length-steps (d.lower ++ layers) in
     let room : length (d.lower ++ layers) < 64 = room_above (d.lower ++ layers) d.left d.right first d.tint (subst (λ t. IsRedBlack t) same r) (subst (λ t. length (nodes_of t) < 2 ^ 32) same few) in
     omega arith
 
 pub descending_few : (bytes : List ℕ) (path : Path) (layers : List Layer) (tree : Tree) (first count : ℕ) → IsRedBlack (plug tree layers) → length (nodes_of (plug tree layers)) < 2 ^ 32 → IsDescending bytes path layers tree first count → count < 64
 descending_few bytes path layers tree first count r few d =
-    let long : length path.steps.items ≡ length (d.lower ++ layers) = ap length d.steps_are ∙ length_steps (d.lower ++ layers) in
+    let long : length path.steps.items ≡ length (d.lower ++ layers) = ap length d.steps_are ∙ length-steps (d.lower ++ layers) in
     omega (arith, descending_room bytes path layers tree first count r few d, length-append d.lower layers, d.count_is)
 
 -- one step to the right
@@ -196,13 +191,13 @@ stepped bytes path next layers left right node colour s r p = record {
 }
 
 pub step_room : (bytes : List ℕ) (path : Path) (layers : List Layer) (left right : Tree) (node : ℕ) (colour : Colour) → StandsAt bytes path layers (fork left node colour right) → IsRedBlack (plug (fork left node colour right) layers) → length (nodes_of (plug (fork left node colour right) layers)) < 2 ^ 32 → length path.steps.items < 64
-step_room bytes path layers left right node colour s r few = let long : length path.steps.items ≡ length layers = ap length s.steps_are ∙ length_steps layers in omega (arith, room_above layers left right node colour r few)
+step_room bytes path layers left right node colour s r few = let long : length path.steps.items ≡ length layers = ap length s.steps_are ∙ length-steps layers in omega (arith, room_above layers left right node colour r few)
 
 -- ---- any node
 
 pub any_unlinked : (bytes new : List ℕ) (path last : Path) (node : ℕ) (gone : Paint) → (target bytes (node + 4) ≡ None → ⊥)
     → ((layers : List Layer) (left right : Tree) (colour : Colour) → StandsAt bytes path layers (fork left node colour right) → IsRedBlack (plug (fork left node colour right) layers) → length (nodes_of (plug (fork left node colour right) layers)) < 2 ^ 32
-        → target bytes (node + 4) ≢ None → Unlinks bytes new last layers (fork left node colour right) node gone)
+    → target bytes (node + 4) ≢ None → Unlinks bytes new last layers (fork left node colour right) node gone)
     → (layers : List Layer) (tree : Tree) → StandsAt bytes path layers tree → IsRedBlack (plug tree layers) → length (nodes_of (plug tree layers)) < 2 ^ 32 → target bytes (place path.root layers) ≡ Some node → Unlinks bytes new last layers tree node gone
 any_unlinked bytes new path last node gone some law layers tree s r few named =
     let f = fork_at bytes Left node (target bytes (place path.root layers)) tree named (here bytes path layers tree s) in

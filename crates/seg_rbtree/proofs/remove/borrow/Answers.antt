@@ -1,6 +1,6 @@
 use Rattle.std.proofs.Common.{◌≡◌, ℕ, Option, ap, sym, ◌∙◌}
 use Rattle.seg_spec.specs.Pointer.{target}
-use Rattle.seg_spec.specs.Shapes.{black, red, fork}
+use Rattle.seg_spec.specs.Shapes.{black, red}
 use Rattle.seg_spec.specs.Window.{Placement}
 use Rattle.seg_rbtree.specs.declared.node.Side.{Side}
 use Rattle.seg_rbtree.specs.declared.node.Colour.TheVariants.{Red}

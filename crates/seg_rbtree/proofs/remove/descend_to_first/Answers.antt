@@ -1,4 +1,4 @@
-use Rattle.std.proofs.Common.{◌≡◌, ℕ, ◌∙◌, ap, sym, subst, arith, refl}
+use Rattle.std.proofs.Common.{ℕ, ◌∙◌, ap, sym, arith, refl}
 use Rattle.seg_spec.specs.Pointer.{target}
 use Rattle.seg_rbtree.proofs.Lengthening.{path_word}
 use Rattle.seg_rbtree.proofs.TakingOut.{descending_start, descending_on, descended, descending_room, descending_few}

@@ -1,6 +1,6 @@
-use Rattle.std.proofs.Common.{◌≡◌, ◌<◌, ◌^◌, length, List}
-use Rattle.seg_spec.specs.Shapes.{Tree, nodes_of, IsRedBlack}
-use Rattle.seg_rbtree.specs.Ways.{Layer, plug}
+use Rattle.std.proofs.Common.{◌≡◌, List}
+use Rattle.seg_spec.specs.Shapes.{Tree}
+use Rattle.seg_rbtree.specs.Ways.{Layer}
 use Rattle.seg_rbtree.specs.Removing.{StandsAt}
 use Rattle.seg_rbtree.proofs.TakingOut.{IsDescending}
 use Rattle.seg_rbtree.proofs.remove.descend_to_first.Given as goal

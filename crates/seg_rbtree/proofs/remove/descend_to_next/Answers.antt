@@ -1,4 +1,4 @@
-use Rattle.std.proofs.Common.{◌≡◌, ℕ, ◌∷◌, ◌∙◌, ap, sym, subst, arith, refl}
+use Rattle.std.proofs.Common.{◌∷◌}
 use Rattle.seg_rbtree.specs.declared.node.Side.TheVariants.{Right}
 use Rattle.seg_rbtree.specs.Removing.{layer_at}
 use Rattle.seg_rbtree.proofs.TakingOut.{stepped, step_room}

@@ -1,9 +1,8 @@
-use Rattle.std.proofs.Common.{◌≡◌, ℕ, Option, Some, List, ap, sym, ◌∙◌}
-use Rattle.seg_spec.specs.Pointer.{target}
+use Rattle.std.proofs.Common.{◌≡◌, List, ap}
 use Rattle.seg_spec.specs.Shapes.{Tree, IsBlack}
 use Rattle.seg_spec.specs.Window.{Placement}
 use Rattle.seg_rbtree.specs.declared.node.Colour.TheVariants.{Red}
-use Rattle.seg_rbtree.specs.Nodes.{side_word, colour_at}
+use Rattle.seg_rbtree.specs.Nodes.{colour_at}
 use Rattle.seg_rbtree.specs.Ways.{Layer}
 use Rattle.seg_rbtree.specs.Removing.{IsShort, Lengthens}
 use Rattle.seg_rbtree.proofs.Lengthening.{red_part, black_part, short_whole, step_up, holds_if, fails_if}

@@ -1,4 +1,4 @@
-use Rattle.std.proofs.Common.{ap, sym, ◌∙◌}
+use Rattle.std.proofs.Common.{ap}
 use Rattle.seg_spec.specs.Window.{Placement}
 use Rattle.seg_rbtree.proofs.Lengthening.{lowered_whole}
 use Rattle.seg_rbtree.proofs.remove.lower.Goals as goal

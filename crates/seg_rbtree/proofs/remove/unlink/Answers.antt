@@ -1,4 +1,4 @@
-use Rattle.std.proofs.Common.{◌≡◌, ℕ, ◌∙◌, ap, sym, subst, arith, refl}
+use Rattle.std.proofs.Common.{◌∙◌, ap, sym}
 use Rattle.seg_spec.specs.Window.{Placement}
 use Rattle.seg_rbtree.specs.declared.node.Side.TheVariants.{Left, Right}
 use Rattle.seg_rbtree.proofs.TakingOut.{lone_unlinked, any_unlinked, nothing_there, something_there}

@@ -1,7 +1,6 @@
-use Rattle.std.proofs.Common.{◌≡◌, ℕ, ◌∷◌, ◌∙◌, ap, sym, subst, arith, refl}
+use Rattle.std.proofs.Common.{◌∷◌, ap}
 use Rattle.seg_spec.specs.Window.{Placement}
 use Rattle.seg_rbtree.proofs.NextNode.{by_next, no_next}
-use Rattle.seg_rbtree.specs.Ways.{Layer}
 use Rattle.seg_rbtree.specs.declared.node.Side.TheVariants.{Right}
 use Rattle.seg_rbtree.specs.Removing.{layer_at}
 use Rattle.seg_rbtree.proofs.remove.unlink_by_next.Goals as goal

@@ -1,4 +1,4 @@
-use Rattle.std.proofs.Common.{◌≡◌, ℕ, ◌∙◌, ap, sym, subst, arith, refl}
+use Rattle.std.proofs.Common.{◌∙◌, sym}
 use Rattle.seg_rbtree.proofs.Removed.{begins, left_alone, not_absent, named_there, whole_red, whole_few, red_left, short_stands, black_left, not_named, named}
 use Rattle.seg_rbtree.proofs.tree.Tree.remove.Goals as goal
 
@@ -18,7 +18,7 @@ returns-in-Black-clause-removed g c = λ exact shape t a apart.
     let way = c.path_to-path.ensures.way exact shape t in
     let there = named_there bytes root path order c.args.node shape c.path_to-path.ensures.root way (sym c.node.ensures ∙ named c.node.result c.ne.result c.args.node c.ne.ensures c.if-ne.false) in
     let u = c.in-Black.ensures.unlinked way.layers way.rest (begins bytes root path order c.args.node shape c.path_to-path.ensures.root way t apart) (whole_red bytes root path order c.args.node shape c.path_to-path.ensures.root way t)
-        (whole_few bytes root path order c.args.node shape c.path_to-path.ensures.root way t) there in
+    (whole_few bytes root path order c.args.node shape c.path_to-path.ensures.root way t) there in
     let stands = short_stands bytes c.unlink.new.w.bytes root path c.unlink.new.path order c.args.node shape c.path_to-path.ensures.root way c.unlink.ensures.root t apart u in
     black_left bytes c.unlink.new.w.bytes root path c.unlink.new.path order c.args.node shape c.path_to-path.ensures.root way c.unlink.ensures.root t apart c.restore.new.w.bytes u (c.restore.ensures.restored u.above u.part stands u.state)
 
@@ -31,7 +31,7 @@ returns-in-Red-clause-removed g c = λ exact shape t a apart.
     let way = c.path_to-path.ensures.way exact shape t in
     let there = named_there bytes root path order c.args.node shape c.path_to-path.ensures.root way (sym c.node.ensures ∙ named c.node.result c.ne.result c.args.node c.ne.ensures c.if-ne.false) in
     let u = c.in-Red.ensures.unlinked way.layers way.rest (begins bytes root path order c.args.node shape c.path_to-path.ensures.root way t apart) (whole_red bytes root path order c.args.node shape c.path_to-path.ensures.root way t)
-        (whole_few bytes root path order c.args.node shape c.path_to-path.ensures.root way t) there in
+    (whole_few bytes root path order c.args.node shape c.path_to-path.ensures.root way t) there in
     red_left bytes c.unlink.new.w.bytes root path c.unlink.new.path order c.args.node shape c.path_to-path.ensures.root way c.unlink.ensures.root t apart u
 
 pub returns-in-Black-clause-stays : goal.returns-in-Black-clause-stays
