@@ -1,0 +1,2 @@
+pub mod FreeTree
+pub mod Joining

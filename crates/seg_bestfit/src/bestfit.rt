@@ -1,12 +1,19 @@
-ghost use Rattle.std.specs.Prelude.{◌≡◌, ◌+◌, ◌*◌, ◌^◌, ◌<◌, ◌≤◌, length};
+ghost use Rattle.std.specs.Prelude.{◌≡◌, ◌+◌, ◌-◌, ◌*◌, ◌^◌, ◌≤◌, nat_le, Bool, List, [], ◌∷◌, ◌++◌, length};
+ghost use Rattle.std.specs.Option.{option_map};
 ghost use Rattle.seg_spec.specs.Window.{with_bytes};
+ghost use Rattle.seg_spec.specs.Heap.{Tile, Fill, AreHeaders, HoldsGaps, IsHeap, free_of, gaps, best_fit, units_at};
+ghost use Rattle.seg_spec.specs.Search.{looks};
+ghost use Rattle.seg_block.specs.Extents.{Enlarges};
+ghost use Rattle.seg_block.specs.Tiling.{tile};
 
-use crate::free_tree::{BySize, add, block_of, free_tree, take_out};
+use crate::free_tree::{BySize, best_fit, free_tree, put_in, release, take, take_out};
+use crate::live::{absorb, cut, join_before, resize};
 use seg_block::{
-    Block, Fit, HEAP_START, UNIT, block_at, expanded, free_before, free_behind, granted, is_live,
+    Block, Fit, HEAP_START, UNIT, UNITS_BEFORE, block_at, block_of, expanded, granted, is_live,
     last_block, room_behind, set_size, shrunk,
 };
-use seg_ptr::{Window, header};
+use seg_ptr::Window;
+use seg_ptr::header::{FREE, SIZE};
 use seg_rbtree::{Looked, TREE_WORDS};
 use std::alloc::Allocator;
 
@@ -15,16 +22,20 @@ pub struct BestFit;
 
 /// The gap that an allocation of `need` units would take, by the position of its header, and how many free blocks are looked at
 /// for it.
-pub fn locate<A: Allocator>(w: &Window<A>, need: u32) -> (Option<u32>, u32) {
+pub fn locate<A: Allocator>(w: &Window<A>, need: u32) -> (Option<u32>, u32)
+    ensures gap { IsHeap 1 w.now.bytes → result.0 ≡ option_map (λ g. g.at) (best_fit (gaps w.now.bytes) need) }
+    ensures looks { (h : IsHeap 1 w.now.bytes) → result.1 ≡ looks (λ node. nat_le need (units_at w.now.bytes (node - 16))) h.free.tree }
+    ensures few { IsHeap 1 w.now.bytes → 2 ^ result.1 ≤ (length (gaps w.now.bytes) + 1) ^ 2 }
+{
     let Looked { node, looks } = free_tree().first_at_least(w, &BySize, need);
-    (node.and_then(|node| node.checked_sub(UNIT)), looks)
+    match node {
+        Some(node) => (Some(block_of(node)), looks),
+        None => (None, looks),
+    }
 }
 
 impl Fit for BestFit {
     ghost code = { 1 };
-
-    // not proved yet
-    ghost exact = { ⊥ };
 
     fn word() -> u32 {
         1
@@ -35,54 +46,42 @@ impl Fit for BestFit {
     }
 
     fn init<A: Allocator>(w: &mut Window<A>) {
-        w.put32(HEAP_START as usize + 4, 0);
-        w.point(header::FREE, None);
         let units = w.len().saturating_sub(HEAP_START) / UNIT;
-        if units >= 2 {
-            let at = HEAP_START;
-            add(w, Block { at, units });
-        }
+        w.put32(HEAP_START as usize + UNITS_BEFORE, 0);
+        w.point(FREE, None);
+        set_size(w, HEAP_START, units, true);
+        let at = HEAP_START;
+        release(w, Block { at, units });
     }
 
     fn allocate<A: Allocator>(w: &mut Window<A>, need: u32) -> Option<u32> {
-        let found = free_tree().first_at_least(w, &BySize, need).node?;
-        let gap = block_of(w, found)?;
-        if gap.units < need {
-            return None;
-        }
-        take_out(w, gap);
-        give(w, gap, granted(gap.units, need));
-        w.point(gap.at as usize + 12, None);
+        let gap = best_fit(w, need)?;
+        take(w, gap);
+        cut(w, gap, granted(gap.units, need));
         Some(gap.at)
     }
 
     fn free<A: Allocator>(w: &mut Window<A>, block: u32) {
-        let Some(mut whole) = block_at(w, block) else {
+        let Some(block) = block_at(w, block) else {
             return;
         };
-        if let Some(gap) = free_behind(w, whole) {
-            take_out(w, gap);
-            whole.units += gap.units;
-        }
-        if let Some(gap) = free_before(w, whole) {
-            take_out(w, gap);
-            whole.at = gap.at;
-            whole.units += gap.units;
-        }
-        add(w, whole);
+        let room = room_behind(w, block);
+        absorb(w, block, room);
+        let units = block.units + room;
+        let whole = join_before(w, Block { units, ..block });
+        release(w, whole);
     }
 
     fn expand<A: Allocator>(w: &mut Window<A>, block: u32, need: u32) -> bool {
         let Some(block) = block_at(w, block) else {
             return false;
         };
-        match expanded(block.units, room_behind(w, block), need) {
-            Some(units) => {
-                resize(w, block, units);
-                true
-            }
-            None => false,
-        }
+        let room = room_behind(w, block);
+        let Some(units) = expanded(block.units, room, need) else {
+            return false;
+        };
+        resize(w, block, room, units);
+        true
     }
 
     fn shrink<A: Allocator>(w: &mut Window<A>, block: u32, need: u32) {
@@ -92,91 +91,65 @@ impl Fit for BestFit {
         if need > block.units {
             return;
         }
-        let units = shrunk(block.units, room_behind(w, block), need);
-        resize(w, block, units);
+        let room = room_behind(w, block);
+        resize(w, block, room, shrunk(block.units, room, need));
     }
 
     fn extend_end<A: Allocator>(w: &mut Window<A>, units: u32) {
         let len = w.len();
         let end = len - UNIT * units;
-        w.put32(header::SIZE, len / UNIT);
+        w.put32(SIZE, len / UNIT);
+        if units == 0 {
+            return;
+        }
         let Some(last) = last_block(w, end) else {
             return;
         };
-        if units >= 2 {
-            w.put32(end as usize + 4, last.units);
+        if units == 1 {
+            enlarge(w, last, (len - last.at) / UNIT);
+        } else {
+            w.put32(end as usize + UNITS_BEFORE, last.units);
             set_size(w, end, units, true);
             Self::free(w, end);
-        } else if units == 1 {
-            enlarge(w, last);
         }
     }
 
     fn cut_end<A: Allocator>(w: &mut Window<A>) -> u32 {
         let len = w.len();
-        let cut = match last_block(w, len) {
-            Some(last) if !is_live(w, last.at) => cut_gap(w, last),
-            _ => 0,
+        let Some(last) = last_block(w, len) else {
+            return 0;
         };
-        w.put32(header::SIZE, (len / UNIT).saturating_sub(cut));
-        cut
+        if is_live(w, last.at) {
+            w.put32(SIZE, len / UNIT);
+            return 0;
+        }
+        take_out(w, last);
+        if last.at <= HEAP_START {
+            w.put32(SIZE, HEAP_START / UNIT + 2);
+            set_size(w, HEAP_START, 2, false);
+            let at = HEAP_START;
+            put_in(w, Block { at, units: 2 });
+            return last.units - 2;
+        }
+        w.put32(SIZE, last.at / UNIT);
+        last.units
     }
 }
 
-/// Makes the front of units that are in no tree a live block, and what is left, if anything is, a free one.
-fn give<A: Allocator>(w: &mut Window<A>, whole: Block, units: u32)
-    requires { units < 2 ^ 31 }
-    ensures { w.new ≡ with_bytes w.old w.new.bytes }
+/// Gives the last block of a heap more units, up to the end of the segment.
+fn enlarge<A: Allocator>(w: &mut Window<A>, last: Block, units: u32)
+    requires inside { last.at + 16 * units ≤ 2 ^ 30 }
+    requires more { last.units ≤ units }
+    ensures host { w.new ≡ with_bytes w.old w.new.bytes }
+    ensures enlarges { (xs : List Tile) (l : Bool) → Fill 704 (xs ++ tile last.at last.units l ∷ []) (last.at + 16 * last.units) → AreHeaders w.old.bytes 0 (xs ++ tile last.at last.units l ∷ [])
+        → HoldsGaps 1 w.old.bytes (free_of (xs ++ tile last.at last.units l ∷ [])) → last.at + 16 * units ≡ length w.old.bytes
+        → Enlarges 1 w.old.bytes w.new.bytes xs last.at last.units units l }
 {
-    set_size(w, whole.at, units, true);
-    let rest = Block {
-        at: whole.at.saturating_add(UNIT.saturating_mul(units)),
-        units: whole.units.saturating_sub(units),
-    };
-    if rest.units > 0 {
-        add(w, rest);
-    }
-}
-
-/// Gives a live block other units, at the cost or in favour of the gap behind it.
-fn resize<A: Allocator>(w: &mut Window<A>, block: Block, units: u32)
-    requires inside { block.at + 16 * block.units ≤ 2 ^ 30 }
-    requires few { units < 2 ^ 31 }
-    ensures { w.new ≡ with_bytes w.old w.new.bytes }
-{
-    if units == block.units {
-        return;
-    }
-    let mut whole = block;
-    if let Some(gap) = free_behind(w, block) {
-        take_out(w, gap);
-        whole.units += gap.units;
-    }
-    give(w, whole, units);
-}
-
-/// Gives the last block of a heap all units to the end of the segment.
-fn enlarge<A: Allocator>(w: &mut Window<A>, last: Block)
-    ensures { w.new ≡ with_bytes w.old w.new.bytes }
-{
-    let units = w.len().saturating_sub(last.at) / UNIT;
     if is_live(w, last.at) {
         set_size(w, last.at, units, true);
     } else {
         take_out(w, last);
-        add(w, Block { units, ..last });
+        set_size(w, last.at, units, false);
+        put_in(w, Block { units, ..last });
     }
-}
-
-/// Cuts a gap at the heap's end, and answers its units, but for 2 where it is the whole heap.
-fn cut_gap<A: Allocator>(w: &mut Window<A>, last: Block) -> u32
-    requires { 2 ≤ last.units }
-    ensures { w.new ≡ with_bytes w.old w.new.bytes }
-{
-    take_out(w, last);
-    if last.at > HEAP_START {
-        return last.units;
-    }
-    add(w, Block { units: 2, ..last });
-    last.units - 2
 }

@@ -1,11 +1,15 @@
-ghost use Rattle.std.specs.Prelude.{◌≡◌, ◌+◌, ◌-◌, ◌*◌, ◌^◌, ◌<◌, ◌≤◌, length, IfSome, ⊤};
-ghost use Rattle.std.specs.Ordering.{nat_cmp, ordering_then};
+ghost use Rattle.std.specs.Prelude.{◌≡◌, ◌+◌, ◌-◌, ◌*◌, ◌^◌, ◌<◌, ◌≤◌, List, [], ◌∷◌, ◌++◌, true, false, length, IfSome, IsSomeAnd, MatchOption, Some, None, ⊤};
+ghost use Rattle.std.specs.Ordering.{nat_cmp};
 ghost use Rattle.std.specs.Cmp.{on_total, then_total, nat_cmp_total};
-ghost use Rattle.seg_spec.specs.Heap.{units_at};
+ghost use Rattle.seg_spec.specs.Heap.{Span, Tile, units_at, link_at, best_fit, IsFreeTree};
 ghost use Rattle.seg_spec.specs.Window.{with_bytes};
 ghost use Rattle.seg_spec.proofs.OrderSteps.{then_steps_up};
+ghost use Rattle.seg_block.specs.Blocks.{IsBlock};
+ghost use Rattle.seg_block.specs.FreeBlocks.{AreFreeBlocks};
+ghost use Rattle.seg_block.specs.Tiling.{tile, IsTiling, Retiles};
+ghost use Rattle.seg_bestfit.specs.FreeTree.{by_units, Leaves, Joins};
 
-use seg_block::{Block, UNIT, block_at, set_size, units};
+use seg_block::{Block, LINK, TAG, UNIT, block_at, set_size, units};
 use seg_ptr::{Window, header};
 use seg_rbtree::{NodeOrder, Tree};
 use std::alloc::Allocator;
@@ -24,7 +28,7 @@ fn size<A: Allocator>(w: &Window<A>, node: u32) -> u32
 impl NodeOrder<u32> for BySize {
     ghost exact = { ⊤ };
 
-    ghost compare = { λ _ bytes x y. ordering_then (nat_cmp (units_at bytes (x - 16)) (units_at bytes (y - 16))) (nat_cmp x y) };
+    ghost compare = { λ _ bytes. by_units bytes };
 
     ghost compare_key = { λ _ bytes x key. nat_cmp (units_at bytes (x - 16)) key };
 
@@ -42,34 +46,78 @@ impl NodeOrder<u32> for BySize {
 }
 
 /// The tree of free blocks.
-pub(crate) fn free_tree() -> Tree {
+pub(crate) fn free_tree() -> Tree
+    ensures { result.root ≡ 24 }
+{
     Tree::new(header::FREE)
 }
 
 /// The block with this node.
-pub(crate) fn block_of<A: Allocator>(w: &Window<A>, node: u32) -> Option<Block>
-    ensures { IfSome result (λ f. (2 ≤ f.units) × (f.at + 16 * f.units ≤ length w.now.bytes) × (length w.now.bytes ≤ 2 ^ 30)) }
+fn node_block<A: Allocator>(w: &Window<A>, node: u32) -> Option<Block>
+    ensures bounds { IfSome result (λ f. (2 ≤ f.units) × (f.at + 16 * f.units ≤ length w.now.bytes) × (length w.now.bytes ≤ 2 ^ 30)) }
+    ensures read { (g : Span) → node ≡ g.at + 16 → IsBlock w.now.bytes g → IsSomeAnd result (λ f. (f.at ≡ g.at) × (f.units ≡ g.units)) }
 {
     block_at(w, node.checked_sub(UNIT)?)
 }
 
-/// Makes units of the heap a free block, in the tree. Nothing changes where they don't lie in the segment.
-pub(crate) fn add<A: Allocator>(w: &mut Window<A>, block: Block)
-    ensures { w.new ≡ with_bytes w.old w.new.bytes }
+/// The smallest gap of at least `need` units, the lowest among equals.
+pub(crate) fn best_fit<A: Allocator>(w: &Window<A>, need: u32) -> Option<Block>
+    ensures bounds { IfSome result (λ f. (need ≤ f.units) × (2 ≤ f.units) × (f.at + 16 * f.units ≤ length w.now.bytes) × (length w.now.bytes ≤ 2 ^ 30)) }
+    ensures best { (gs : List Span) → IsFreeTree w.now.bytes gs → AreFreeBlocks w.now.bytes 704 gs → 704 ≤ length w.now.bytes → length w.now.bytes ≤ 2 ^ 30
+        → MatchOption result (best_fit gs need ≡ None) (λ f. best_fit gs need ≡ Some (record { at = f.at; units = f.units })) }
 {
-    let len = w.len();
-    if block.at > len || block.units > (len - block.at) / UNIT {
-        return;
+    let Some(node) = free_tree().first_at_least(w, &BySize, need).node else {
+        return None;
+    };
+    let Some(gap) = node_block(w, node) else {
+        return None;
+    };
+    if gap.units < need {
+        return None;
     }
-    set_size(w, block.at, block.units, false);
-    w.put32(block.at as usize + 8, 0);
-    w.point(block.at as usize + 12, None);
-    free_tree().insert(w, &BySize, block.at + UNIT);
+    Some(gap)
 }
 
 /// Takes a free block out of the tree.
 pub(crate) fn take_out<A: Allocator>(w: &mut Window<A>, block: Block)
-    ensures { w.new ≡ with_bytes w.old w.new.bytes }
+    requires { block.at + 16 * block.units ≤ 2 ^ 30 }
+    ensures host { w.new ≡ with_bytes w.old w.new.bytes }
+    ensures leaves { length w.old.bytes ≤ 2 ^ 30 → (xs ys : List Span) → AreFreeBlocks w.old.bytes 704 (xs ++ record { at = block.at; units = block.units } ∷ ys) → IsFreeTree w.old.bytes (xs ++ record { at = block.at; units = block.units } ∷ ys)
+        → Leaves w.old.bytes w.new.bytes xs (record { at = block.at; units = block.units }) ys }
 {
-    free_tree().remove(w, &BySize, block.at.saturating_add(UNIT));
+    free_tree().remove(w, &BySize, block.at + UNIT);
+}
+
+/// Puts a free block into the tree.
+pub(crate) fn put_in<A: Allocator>(w: &mut Window<A>, block: Block)
+    requires { block.at + 16 * block.units ≤ 2 ^ 30 }
+    ensures host { w.new ≡ with_bytes w.old w.new.bytes }
+    ensures joins { length w.old.bytes ≤ 2 ^ 30 → (xs ys : List Span) → AreFreeBlocks w.old.bytes 704 (xs ++ record { at = block.at; units = block.units } ∷ ys) → IsFreeTree w.old.bytes (xs ++ ys) → link_at w.old.bytes block.at ≡ None
+        → Joins w.old.bytes w.new.bytes xs (record { at = block.at; units = block.units }) ys }
+{
+    free_tree().insert(w, &BySize, block.at + UNIT);
+}
+
+/// Makes a free block live.
+pub(crate) fn take<A: Allocator>(w: &mut Window<A>, block: Block)
+    requires { block.at + 16 * block.units ≤ 2 ^ 30 }
+    ensures host { w.new ≡ with_bytes w.old w.new.bytes }
+    ensures tiles { (xs ys : List Tile) → IsTiling 1 w.old.bytes (xs ++ tile block.at block.units false ∷ ys)
+        → Retiles 1 w.old.bytes w.new.bytes xs (tile block.at block.units true ∷ []) ys × (link_at w.new.bytes block.at ≡ None) }
+{
+    take_out(w, block);
+    set_size(w, block.at, block.units, true);
+}
+
+/// Makes a live block free.
+pub(crate) fn release<A: Allocator>(w: &mut Window<A>, block: Block)
+    requires { block.at + 16 * block.units ≤ 2 ^ 30 }
+    ensures host { w.new ≡ with_bytes w.old w.new.bytes }
+    ensures tiles { (xs ys : List Tile) → IsTiling 1 w.old.bytes (xs ++ tile block.at block.units true ∷ ys)
+        → Retiles 1 w.old.bytes w.new.bytes xs (tile block.at block.units false ∷ []) ys }
+{
+    w.put32(block.at as usize + TAG, 0);
+    w.point(block.at as usize + LINK, None);
+    set_size(w, block.at, block.units, false);
+    put_in(w, block);
 }

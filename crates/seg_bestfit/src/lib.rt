@@ -4,6 +4,7 @@
 
 mod bestfit;
 mod free_tree;
+mod live;
 
 pub use bestfit::{BestFit, locate};
 

@@ -10,3 +10,13 @@ pub mod Splitting
 pub mod Joining
 pub mod Ends
 pub mod Requests
+pub mod FreeKept
+pub mod LiveChanges
+pub mod Resizing
+pub mod Expanding
+pub mod FreeTiles
+pub mod Extents
+pub mod Relabelling
+pub mod ReadFree
+pub mod Cuttings
+pub mod Enlarging

@@ -3,3 +3,5 @@ pub mod Blocks
 pub mod Tags
 pub mod Tiling
 pub mod Request
+pub mod FreeBlocks
+pub mod Extents

@@ -16,10 +16,11 @@ use Rattle.seg_rbtree.specs.Turns.{Turns}
 use Rattle.seg_rbtree.specs.Removing.{layer_at, StandsAt, ComesUp, Lowers, IsShort, Lengthens}
 use Rattle.seg_rbtree.proofs.Steps.{last_word-steps}
 use Rattle.seg_rbtree.proofs.Apartness.{parts-apart, apart-down}
-use Rattle.seg_rbtree.proofs.Branches.{branch-parts, nodes-rotated, tree-down}
+use Rattle.seg_rbtree.proofs.Branches.{branch-parts, nodes-rotated, nodes-branch, nodes-plug, tree-down}
 use Rattle.seg_rbtree.proofs.Turning.{turns-none, turns-then, turns-room, turns-up, turns-whole, turns-painted, turns-rotated}
-use Rattle.seg_rbtree.proofs.ShortSide.{not_red, red_is_not_black, lowered, lowered_sooner, shortened, shortened_sooner, inner_came_up, outer_came_up, painted_black, short_root, whole_red_black, sibling_stands, few_above}
-use Rattle.seg_rbtree.proofs.Unlinking.{plug_same, recoloured_nodes, rotated_nodes, outer_nodes}
+use Rattle.seg_rbtree.proofs.ShortSide.{above_red, lowered, lowered_sooner, shortened, shortened_sooner, inner_came_up, outer_came_up, painted_black, short_root, sibling_stands, few_above}
+use Rattle.seg_rbtree.proofs.Walking.{length-steps}
+use Rattle.seg_rbtree.proofs.Unlinking.{outer_nodes}
 
 pub snoc_parts : {X : Type 0} (xs ys : List X) (x y : X) → xs ++ x ∷ [] ≡ ys ++ y ∷ [] → (xs ≡ ys) × (x ≡ y)
 snoc_parts [] [] x y e = (refl, cc)
@@ -120,7 +121,7 @@ module _ (bytes : List ℕ) (at : ℕ) (side : Side) (node up : ℕ) (colour oth
       let n1 : nodes_of t1 ≡ nodes_of t0 = nodes-rotated side node up colour other colour other x m d in
       let apart1 : StandApart (length b1) at (nodes_of t1) = apart_again bytes b1 at t0 t1 one.kept.length_kept n1 apart in
       let two : Turns b1 b2 at t1 t2 = turns-painted b1 at side up other upper (branch side node colour x m) d one.hangs apart1 in
-      let n2 : nodes_of t2 ≡ nodes_of t1 = recoloured_nodes side (branch side node colour x m) d up (shade upper) other in
+      let n2 : nodes_of t2 ≡ nodes_of t1 = nodes-branch side up (shade upper) other (branch side node colour x m) (branch side node colour x m) d refl in
       let apart2 : StandApart (length b2) at (nodes_of t2) = apart_again b1 b2 at t1 t2 two.kept.length_kept n2 apart1 in
       let low = branch-parts b2 (target b2 at) side up (shade upper) (branch side node colour x m) d two.hangs in
       let p = parts-apart (length b2) at side up (shade upper) (branch side node colour x m) d apart2 in
@@ -132,10 +133,6 @@ module _ (bytes : List ℕ) (at : ℕ) (side : Side) (node up : ℕ) (colour oth
 
 pub path_word : (bytes : List ℕ) (path : Path) (layers : List Layer) (tree : Tree) → StandsAt bytes path layers tree → last_word path.root path.steps.items ≡ place path.root layers
 path_word bytes path layers tree s = ap (last_word path.root) s.steps_are ∙ last_word-steps path.root layers
-
-pub length_steps : (layers : List Layer) → length (steps_of layers) ≡ length layers
-length_steps [] = refl
-length_steps (layer ∷ layers) = omega (arith, length-append (steps_of layers) (step_of layer ∷ []), length_steps layers)
 
 pub stands_again : (old new : List ℕ) (path other : Path) (layers above : List Layer) (tree part : Tree) → StandsAt old path layers tree → other.root ≡ path.root → other.steps.items ≡ steps_of above
     → Turns old new path.root (plug tree layers) (plug part above) → nodes_of (plug part above) ≡ nodes_of (plug tree layers) → StandsAt new other above part
@@ -197,7 +194,7 @@ pub lowered_whole : (bytes one two new : List ℕ) (path next last : Path) (side
     → last.root ≡ next.root → (length next.steps.items < 64 → IsTrue q) → (IsTrue q → last.steps.items ≡ next.steps.items ++ record { node = node; side = side } ∷ [])
     → (layers : List Layer) (x m d : Tree) (colour other : Colour) → StandsAt bytes path layers (branch side node colour x (branch side sibling other m d)) → length layers < 63 → Lowers bytes new last side node sibling colour other layers x m d
 lowered_whole bytes one two new path next last side node sibling r q e1 e2 e3 r1 room1 push1 r2 room2 push2 layers x m d colour other s few =
-    let long : length path.steps.items ≡ length layers = ap length s.steps_are ∙ length_steps layers in
+    let long : length path.steps.items ≡ length layers = ap length s.steps_are ∙ length-steps layers in
     let first : next.steps.items ≡ path.steps.items ++ record { node = sibling; side = side } ∷ [] = push1 (room1 (omega arith)) in
     let longer : length next.steps.items ≡ length path.steps.items + 1 = ap length first ∙ omega (arith, length-append path.steps.items (record { node = sibling; side = side } ∷ [])) in
     let second : last.steps.items ≡ next.steps.items ++ record { node = node; side = side } ∷ [] = push2 (room2 (omega arith)) in
@@ -210,12 +207,12 @@ lowered_whole bytes one two new path next last side node sibling r q e1 e2 e3 r1
 pub lowering : (old new : List ℕ) (path : Path) (side : Side) (node sibling : ℕ) (colour : Colour) (layers : List Layer) (x m d : Tree) → Lowers old new path side node sibling colour red layers x m d
     → IsShort (layer_at side node colour (branch side sibling red m d) ∷ layers) x → IsBlack x → Lengthens old new path (layer_at side node colour (branch side sibling red m d) ∷ layers) x true
 lowering old new path side node sibling colour layers x m d l s b =
-    let above : colour ≡ black = not_red colour (λ e. red_is_not_black side m d sibling (s.wanted.1 e).0) in
+    let above : colour ≡ black = above_red side node sibling colour m d layers x s in
     record {
       above = layer_at side node red m ∷ layer_at side sibling black d ∷ layers;
       part = x;
       turned = l.turned;
-      nodes_are = plug_same layers (branch side sibling black (branch side node red x m) d) (branch side node colour x (branch side sibling red m d)) (sym (rotated_nodes side x m d node sibling colour red red black));
+      nodes_are = nodes-plug (branch side sibling black (branch side node red x m) d) (branch side node colour x (branch side sibling red m d)) layers (nodes-rotated side node sibling colour red red black x m d);
       state = (lowered side node sibling colour m d layers x s, l.steps_are, lowered_sooner (layer_at side sibling black d) (layer_at side node red m) layers x (layer_at side node colour (branch side sibling red m d)) b refl above);
     }
 
@@ -275,7 +272,7 @@ module _ (bytes new : List ℕ) (path : Path) (side : Side) (node sibling : ℕ)
     above = layers;
     part = branch side node colour x (branch side sibling red m d);
     turned = sibling_painted e;
-    nodes_are = plug_same layers (branch side node colour x (branch side sibling red m d)) both (outer_nodes side x (branch side sibling red m d) (branch side sibling black m d) node colour (recoloured_nodes side m d sibling red black));
+    nodes_are = nodes-plug (branch side node colour x (branch side sibling red m d)) both layers (outer_nodes side x (branch side sibling red m d) (branch side sibling black m d) node colour (nodes-branch side sibling red black m m d refl));
     state = (
       shortened side node sibling colour m d layers x bx (black_root bytes (target bytes (side_word sibling side)) m inner_hangs bm) (black_root bytes (target bytes (side_word sibling (opposite side))) d outer_hangs bd) short,
       s.steps_are,
@@ -292,7 +289,7 @@ module _ (bytes one : List ℕ) (path : Path) (side : Side) (node sibling : ℕ)
       (turns-painted bytes (side_word sibling (opposite side)) Left outer red Black l r (outer_hangs bytes one path side node sibling colour layers x m (fork l outer red r) s) (outer_apart bytes one path side node sibling colour layers x m (fork l outer red r) s)))
 
   outer_same : (l r : Tree) (outer : ℕ) → nodes_of (plug (branch side node colour x (branch side sibling black m (fork l outer black r))) layers) ≡ nodes_of (plug (branch side node colour x (branch side sibling black m (fork l outer red r))) layers)
-  outer_same l r outer = plug_same layers _ _ (outer_nodes side x (branch side sibling black m (fork l outer black r)) (branch side sibling black m (fork l outer red r)) node colour (outer_nodes side m (fork l outer black r) (fork l outer red r) sibling black refl))
+  outer_same l r outer = nodes-plug _ _ layers (outer_nodes side x (branch side sibling black m (fork l outer black r)) (branch side sibling black m (fork l outer red r)) node colour (outer_nodes side m (fork l outer black r) (fork l outer red r) sibling black refl))
 
   by_outer_at : (new : List ℕ) (l r : Tree) (outer : ℕ) (s : StandsAt bytes path layers (branch side node colour x (branch side sibling black m (fork l outer red r)))) → one ≡ with_colour bytes outer Black
       → (StandsAt one path layers (branch side node colour x (branch side sibling black m (fork l outer black r))) → ComesUp one new path.root side node sibling colour black layers x m (fork l outer black r))
@@ -307,8 +304,8 @@ module _ (bytes one : List ℕ) (path : Path) (side : Side) (node sibling : ℕ)
         part = after;
         turned = turns-then bytes one new path.root (plug (branch side node colour x (branch side sibling black m (fork l outer red r))) layers) (plug (branch side node colour x (branch side sibling black m (fork l outer black r))) layers) (plug after layers) t
             (turns-room one new path.root (plug (branch side node colour x (branch side sibling black m (fork l outer black r))) layers) (plug (branch side node colour x (branch side sibling black m (fork l outer red r))) layers) (plug after layers) n u);
-        nodes_are = plug_same layers after (branch side node colour x (branch side sibling black m (fork l outer black r))) (sym (rotated_nodes side x m (fork l outer black r) node sibling colour black black colour)) ∙ n;
-        state = whole_red_black layers after (outer_came_up side node sibling outer colour m l r layers x bx short);
+        nodes_are = nodes-plug after (branch side node colour x (branch side sibling black m (fork l outer black r))) layers (nodes-rotated side node sibling colour black black colour x m (fork l outer black r)) ∙ n;
+        state = outer_came_up side node sibling outer colour m l r layers x bx short;
       }
 
   -- a red outer child lends its node
@@ -347,14 +344,14 @@ module _ (bytes one : List ℕ) (path : Path) (side : Side) (node sibling : ℕ)
       let t : Turns bytes one path.root (plug old layers) (plug between layers) = sibling_turned bytes one path side node sibling colour layers x m d s turned_part
       (subst (λ b. Turns bytes b (side_word node (opposite side)) (branch side sibling black m d) turned_part) (sym e)
       (rotated_back bytes (side_word node (opposite side)) side sibling inner black red near far d (sibling_hangs bytes one path side node sibling colour layers x m d s) (sibling_apart bytes one path side node sibling colour layers x m d s))) in
-      let n : nodes_of (plug between layers) ≡ nodes_of (plug old layers) = plug_same layers between old (outer_nodes side x turned_part (branch side sibling black m d) node colour (rotated_nodes side near far d inner sibling red black red black)) in
+      let n : nodes_of (plug between layers) ≡ nodes_of (plug old layers) = nodes-plug between old layers (outer_nodes side x turned_part (branch side sibling black m d) node colour (sym (nodes-rotated side inner sibling red black red black near far d))) in
       let u = up (stands_again bytes one path path layers layers old between s refl s.steps_are t n) in
       record {
         above = layers;
         part = after;
         turned = turns-then bytes one new path.root (plug old layers) (plug between layers) (plug after layers) t (turns-room one new path.root (plug between layers) (plug old layers) (plug after layers) n u);
-        nodes_are = plug_same layers after between (sym (rotated_nodes side x near (branch side sibling black far d) node inner colour red black colour)) ∙ n;
-        state = whole_red_black layers after (inner_came_up side node sibling inner colour near far d layers x bx short);
+        nodes_are = nodes-plug after between layers (nodes-rotated side node inner colour red black colour x near (branch side sibling black far d)) ∙ n;
+        state = inner_came_up side node sibling inner colour near far d layers x bx short;
       }
 
   -- a red inner child lends its node
@@ -439,8 +436,8 @@ red_part bytes new path to node e1 e2 is_red e3 layers x s short =
       above = layers;
       part = fork f.near node black f.far;
       turned = turned_at bytes new path layers (fork f.near node red f.far) (fork f.near node black f.far) s t;
-      nodes_are = plug_same layers (fork f.near node black f.far) (fork f.near node red f.far) refl;
-      state = whole_red_black layers (fork f.near node black f.far) (painted_black layers f.near f.far node short);
+      nodes_are = nodes-plug (fork f.near node black f.far) (fork f.near node red f.far) layers refl;
+      state = painted_black layers f.near f.far node short;
     } in done in
     (subst (λ o. StandsAt bytes path layers o → IsShort layers o → Lengthens bytes new path layers o false) (sym f.tree_is) law) s short
 
@@ -456,11 +453,11 @@ short_whole bytes path last e r [] x s short b = record {
   part = x;
   turned = subst (λ root. Turns bytes bytes root x x) (sym r) (turns-none bytes path.root x x s.hangs);
   nodes_are = refl;
-  state = whole_red_black [] x (short_root x b short);
+  state = short_root x b short;
 }
 short_whole bytes path last e r (layer ∷ layers) x s short b =
     let long : length (steps_of (layer ∷ layers)) ≡ 0 = sym (ap length s.steps_are) ∙ ap length e in
-    absurd (omega (arith, length_steps (layer ∷ layers)))
+    absurd (omega (arith, length-steps (layer ∷ layers)))
 
 -- the last step of a path is that of the innermost layer
 pub step_up : (bytes : List ℕ) (path last : Path) (step : Step) (P : List Layer → Tree → Type 0) → path.steps.items ≡ last.steps.items ++ step ∷ [] → last.root ≡ path.root

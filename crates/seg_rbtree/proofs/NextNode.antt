@@ -4,7 +4,7 @@ use Rattle.std.proofs.Math.Seq.{set-append_seam, take-append_seam, get_or-append
 use Rattle.std.proofs.lemmas.List.{length-append}
 use Rattle.seg_spec.specs.Pointer.{target, distance, set_pointer}
 use Rattle.seg_spec.specs.Apart.{Separate}
-use Rattle.seg_spec.specs.Shapes.{Colour, black, red, Tree, leaf, fork, nodes_of, HasColour, IsTree, IsRedBlack}
+use Rattle.seg_spec.specs.Shapes.{Colour, Tree, leaf, fork, nodes_of, HasColour, IsTree, IsRedBlack}
 use Rattle.seg_spec.proofs.BytesLaws.{length-set_number}
 use Rattle.seg_rbtree.specs.declared.node.Side.TheVariants.{Left, Right}
 use Rattle.seg_rbtree.specs.declared.node.Colour.{Colour as Paint}
@@ -21,7 +21,6 @@ use Rattle.seg_rbtree.proofs.Branches.{branch-parts, tree-down}
 use Rattle.seg_rbtree.proofs.Keeping.{keeps-trans, keeps-inside, colour-word, target-word, tree-word}
 use Rattle.seg_rbtree.proofs.Turning.{turns-up, turns-whole, turns-hung, relink, recolour, clear-parts}
 use Rattle.seg_rbtree.proofs.Steps.{last_word-steps}
-use Rattle.seg_rbtree.proofs.ShortSide.{red_black_whole, whole_low}
 use Rattle.seg_rbtree.proofs.Unlinking.{next_lost, red_unlinked, black_unlinked, renamed_whole, renamed_short}
 use Rattle.seg_rbtree.proofs.Lengthening.{colour_read, turned_at, here, here_apart}
 use Rattle.seg_rbtree.proofs.TakingOut.{plug_on, place_on, steps_on, apart_lost, each_lost, lone_turned}
@@ -127,12 +126,9 @@ path_renamed xs ys zs depth node next items after e d replaced =
 state_renamed : (node next : ℕ) (colour : Colour) (left only : Tree) (lower layers : List Layer) (gone : Paint) → IsRedBlack (plug (fork leaf next (shade gone) only) (lower ++ layer_at Right node colour left ∷ layers))
     → length (nodes_of (plug (fork leaf next (shade gone) only) (lower ++ layer_at Right node colour left ∷ layers))) < 2 ^ 32 → IsLeft gone (lower ++ layer_at Right next colour left ∷ layers) only
 state_renamed node next colour left only lower layers Black r few =
-    let above = lower ++ layer_at Right node colour left ∷ layers in
-    let w = red_black_whole above (fork leaf next black only) r in
-    renamed_short node next colour Right left layers lower only (black_unlinked above Left only next w (whole_low above (fork leaf next black only) w few))
+    renamed_short node next colour Right left layers lower only (black_unlinked (lower ++ layer_at Right node colour left ∷ layers) Left only next r few)
 state_renamed node next colour left only lower layers Red r few =
-    let above = lower ++ layer_at Right node colour left ∷ layers in
-    renamed_whole node next colour Right left layers lower only (red_unlinked above Left only next (red_black_whole above (fork leaf next red only) r))
+    renamed_whole node next colour Right left layers lower only (red_unlinked (lower ++ layer_at Right node colour left ∷ layers) Left only next r)
 
 module _ (b b1 b2 b3 : List ℕ) (path one two : Path) (node depth : ℕ) (gone : Paint) (layers lower : List Layer) (left only : Tree) (colour tint : Colour) (next : ℕ) where
   abbrev whole : Tree

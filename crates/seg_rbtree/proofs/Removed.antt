@@ -24,7 +24,6 @@ use Rattle.seg_rbtree.specs.Removing.{StandsAt, Loses, Unlinks, Restores}
 use Rattle.seg_rbtree.proofs.Apartness.{each_join}
 use Rattle.seg_rbtree.proofs.Keeping.{keeps-none, keeps-trans, keeps-wider}
 use Rattle.seg_rbtree.proofs.Orders.{ascend-parts, ascend-down}
-use Rattle.seg_rbtree.proofs.ShortSide.{whole_red_black}
 use Rattle.seg_rbtree.proofs.Unlinking.{before, behind, nodes_plug}
 use Rattle.seg_rbtree.proofs.WithoutNode.{without_lost, without_later}
 use Rattle.seg_rbtree.proofs.Steps.{last_word-steps}
@@ -149,7 +148,7 @@ module _ (bytes one : List ℕ) (root : ℕ) (path last : Path) (order : ℕ →
       let turned : Turns bytes one root shape (plug u.part u.above) = subst (λ w. Turns bytes one w shape (plug u.part u.above)) (q ∙ r) (subst (λ s. Turns bytes one last.root s (plug u.part u.above)) way.shape_is u.turned) in
       record {
         shape = plug u.part u.above;
-        tree = record { is_tree = turned.hangs; red_black = whole_red_black u.above u.part u.state; few = fewer node (nodes_of shape) (nodes_of (plug u.part u.above)) lost t.few };
+        tree = record { is_tree = turned.hangs; red_black = u.state; few = fewer node (nodes_of shape) (nodes_of (plug u.part u.above)) lost t.few };
         nodes_are = sym (without_lost node (nodes_of shape) (nodes_of (plug u.part u.above)) a.nodes_apart lost);
         kept = turned.kept;
       }

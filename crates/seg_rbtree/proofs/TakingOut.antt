@@ -4,7 +4,7 @@ use Rattle.std.proofs.lemmas.List.{length-append, append-nil}
 use Rattle.std.specs.List.{AllByRecursion}
 use Rattle.std.specs.Option.{is_some}
 use Rattle.seg_spec.specs.Pointer.{target, set_pointer}
-use Rattle.seg_spec.specs.Shapes.{Colour, black, red, Tree, leaf, fork, nodes_of, IsTree, IsRedBlack}
+use Rattle.seg_spec.specs.Shapes.{Colour, Tree, leaf, fork, nodes_of, IsTree, IsRedBlack}
 use Rattle.seg_rbtree.specs.declared.node.Side.{Side}
 use Rattle.seg_rbtree.specs.declared.node.Side.TheVariants.{Left, Right}
 use Rattle.seg_rbtree.specs.declared.node.Colour.{Colour as Paint}
@@ -19,9 +19,9 @@ use Rattle.seg_rbtree.proofs.Apartness.{parts-apart}
 use Rattle.seg_rbtree.proofs.Branches.{branch-parts}
 use Rattle.seg_rbtree.proofs.Turning.{turns-hung}
 use Rattle.seg_rbtree.proofs.Depth.{deep-64, layers-deep}
-use Rattle.seg_rbtree.proofs.ShortSide.{red_black_whole, whole_low}
 use Rattle.seg_rbtree.proofs.Unlinking.{lone_lost, red_unlinked, black_unlinked}
-use Rattle.seg_rbtree.proofs.Lengthening.{length_steps, path_word, turned_at, here, here_apart, no_tree, painted_fork, fork_at}
+use Rattle.seg_rbtree.proofs.Walking.{length-steps}
+use Rattle.seg_rbtree.proofs.Lengthening.{path_word, turned_at, here, here_apart, no_tree, painted_fork, fork_at}
 
 -- ---- ways one behind the other
 
@@ -78,10 +78,8 @@ lone_turned bytes at side node colour only h a =
     turns-hung bytes at (target bytes (side_word node (opposite side))) (branch side node colour leaf only) only apart (branch-parts bytes (target bytes at) side node colour leaf only h).far_hangs
 
 left_state : (layers : List Layer) (side : Side) (only : Tree) (node : ℕ) (gone : Paint) → IsRedBlack (plug (branch side node (shade gone) leaf only) layers) → length (nodes_of (plug (branch side node (shade gone) leaf only) layers)) < 2 ^ 32 → IsLeft gone layers only
-left_state layers side only node Black r few =
-    let w = red_black_whole layers (branch side node black leaf only) r in
-    black_unlinked layers side only node w (whole_low layers (branch side node black leaf only) w few)
-left_state layers side only node Red r few = red_unlinked layers side only node (red_black_whole layers (branch side node red leaf only) r)
+left_state layers side only node Black r few = black_unlinked layers side only node r few
+left_state layers side only node Red r few = red_unlinked layers side only node r
 
 -- a tree whose root has nothing on a side
 pub record IsLone (side : Side) (node : ℕ) (colour : Colour) (tree : Tree) : Type 0 where
@@ -174,13 +172,13 @@ descended bytes path layers tree first count to e n d =
 pub descending_room : (bytes : List ℕ) (path : Path) (layers : List Layer) (tree : Tree) (first count : ℕ) → IsRedBlack (plug tree layers) → length (nodes_of (plug tree layers)) < 2 ^ 32 → IsDescending bytes path layers tree first count → length path.steps.items < 64
 descending_room bytes path layers tree first count r few d =
     let same : plug tree layers ≡ plug (fork d.left first d.tint d.right) (d.lower ++ layers) = ap (λ t. plug t layers) d.tree_is ∙ sym (plug_on (fork d.left first d.tint d.right) d.lower layers) in
-    let long : length path.steps.items ≡ length (d.lower ++ layers) = ap length d.steps_are ∙ length_steps (d.lower ++ layers) in
+    let long : length path.steps.items ≡ length (d.lower ++ layers) = ap length d.steps_are ∙ length-steps (d.lower ++ layers) in
     let room : length (d.lower ++ layers) < 64 = room_above (d.lower ++ layers) d.left d.right first d.tint (subst (λ t. IsRedBlack t) same r) (subst (λ t. length (nodes_of t) < 2 ^ 32) same few) in
     omega arith
 
 pub descending_few : (bytes : List ℕ) (path : Path) (layers : List Layer) (tree : Tree) (first count : ℕ) → IsRedBlack (plug tree layers) → length (nodes_of (plug tree layers)) < 2 ^ 32 → IsDescending bytes path layers tree first count → count < 64
 descending_few bytes path layers tree first count r few d =
-    let long : length path.steps.items ≡ length (d.lower ++ layers) = ap length d.steps_are ∙ length_steps (d.lower ++ layers) in
+    let long : length path.steps.items ≡ length (d.lower ++ layers) = ap length d.steps_are ∙ length-steps (d.lower ++ layers) in
     omega (arith, descending_room bytes path layers tree first count r few d, length-append d.lower layers, d.count_is)
 
 -- one step to the right
@@ -193,7 +191,7 @@ stepped bytes path next layers left right node colour s r p = record {
 }
 
 pub step_room : (bytes : List ℕ) (path : Path) (layers : List Layer) (left right : Tree) (node : ℕ) (colour : Colour) → StandsAt bytes path layers (fork left node colour right) → IsRedBlack (plug (fork left node colour right) layers) → length (nodes_of (plug (fork left node colour right) layers)) < 2 ^ 32 → length path.steps.items < 64
-step_room bytes path layers left right node colour s r few = let long : length path.steps.items ≡ length layers = ap length s.steps_are ∙ length_steps layers in omega (arith, room_above layers left right node colour r few)
+step_room bytes path layers left right node colour s r few = let long : length path.steps.items ≡ length layers = ap length s.steps_are ∙ length-steps layers in omega (arith, room_above layers left right node colour r few)
 
 -- ---- any node
 

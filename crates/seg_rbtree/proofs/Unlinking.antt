@@ -1,12 +1,14 @@
 -- A node with one child at most is taken out; one with two gives its place to the next in order.
-use Rattle.std.proofs.Common.{◌≡◌, ℕ, suc, ◌+◌, ◌<◌, ◌≤◌, List, [], ◌∷◌, ◌++◌, refl, sym, ap, ◌∙◌, subst, arith, append_assoc}
+use Rattle.std.proofs.Common.{◌≡◌, ℕ, suc, ◌+◌, ◌^◌, ◌<◌, ◌⊎◌, inl, inr, List, [], ◌∷◌, ◌++◌, length, refl, sym, ap, ◌∙◌, subst, arith, append_assoc}
 use Rattle.std.proofs.lemmas.List.{append-nil}
-use Rattle.seg_spec.specs.Shapes.{Colour, black, red, Tree, leaf, fork, nodes_of, IsBalanced}
+use Rattle.seg_spec.specs.Shapes.{Colour, black, red, Tree, leaf, fork, nodes_of, IsBlack, IsRedBlack}
 use Rattle.seg_rbtree.specs.declared.node.Side.{Side}
 use Rattle.seg_rbtree.specs.declared.node.Side.TheVariants.{Left, Right}
 use Rattle.seg_rbtree.specs.Ways.{Layer, branch, plug}
-use Rattle.seg_rbtree.specs.Removing.{height_over, TakesRed, MayHang, Wants, blacks, IsWhole, IsShort, AreLeft, Loses}
-use Rattle.seg_rbtree.proofs.ShortSide.{of_fork, black_hangs, balanced_nearly}
+use Rattle.seg_rbtree.specs.Balance.{IsBelowBlack, height_above, SideFits, Wants}
+use Rattle.seg_rbtree.specs.Removing.{blacks, IsShort, AreLeft, Loses}
+use Rattle.seg_rbtree.proofs.Balancing.{black-parts, red-parts, balanced-down, balanced-up}
+use Rattle.seg_rbtree.proofs.ShortSide.{balanced_nearly, whole_low}
 
 -- ---- nodes around a place
 
@@ -42,24 +44,7 @@ nodes_plug (l ∷ ls) tree =
     ∙ ap (λ ns. before ls ++ (ns ++ behind ls)) (nodes_fork l.side tree l.other l.at l.colour)
     ∙ five (before ls) (nodes_before l.side l.other l.at) (nodes_of tree) (nodes_behind l.side l.other l.at) (behind ls)
 
--- other parts with the same nodes make trees with the same nodes
-pub plug_same : (layers : List Layer) (tree other : Tree) → nodes_of tree ≡ nodes_of other → nodes_of (plug tree layers) ≡ nodes_of (plug other layers)
-plug_same layers tree other e = nodes_plug layers tree ∙ ap (λ ns. before layers ++ (ns ++ behind layers)) e ∙ sym (nodes_plug layers other)
-
-pub recoloured_nodes : (side : Side) (inner outer : Tree) (at : ℕ) (colour other : Colour) → nodes_of (branch side at colour inner outer) ≡ nodes_of (branch side at other inner outer)
-recoloured_nodes Left inner outer at colour other = refl
-recoloured_nodes Right inner outer at colour other = refl
-
--- colours beside, a node and its child change places
-pub rotated_nodes : (side : Side) (inner between outer : Tree) (at up : ℕ) (a b c d : Colour)
-    → nodes_of (branch side at a inner (branch side up b between outer)) ≡ nodes_of (branch side up d (branch side at c inner between) outer)
-rotated_nodes Left inner between outer at up a b c d = simp append_assoc
-rotated_nodes Right inner between outer at up a b c d = simp append_assoc
-
-pub inner_nodes : (side : Side) (inner outer other : Tree) (at : ℕ) (colour : Colour) → nodes_of inner ≡ nodes_of other → nodes_of (branch side at colour inner outer) ≡ nodes_of (branch side at colour other outer)
-inner_nodes Left inner outer other at colour e = ap (λ ns. ns ++ at ∷ nodes_of outer) e
-inner_nodes Right inner outer other at colour e = ap (λ ns. nodes_of outer ++ at ∷ ns) e
-
+-- a part on the far side with the same nodes
 pub outer_nodes : (side : Side) (inner outer other : Tree) (at : ℕ) (colour : Colour) → nodes_of outer ≡ nodes_of other → nodes_of (branch side at colour inner outer) ≡ nodes_of (branch side at colour inner other)
 outer_nodes Left inner outer other at colour e = ap (λ ns. nodes_of inner ++ at ∷ ns) e
 outer_nodes Right inner outer other at colour e = ap (λ ns. ns ++ at ∷ nodes_of inner) e
@@ -80,17 +65,19 @@ lone_lost layers Right only node colour = record {
   new_is = nodes_plug layers only ∙ sym (append_assoc (before layers) (nodes_of only) (behind layers));
 }
 
--- red: what is left is whole
-pub red_unlinked : (layers : List Layer) (side : Side) (only : Tree) (node : ℕ) → IsWhole layers (branch side node red leaf only) → IsWhole layers only
-red_unlinked layers side only node w =
-    let f = of_fork side leaf only node red w.height w.balanced in
-    record { height = w.height; wanted = w.wanted; balanced = subst (λ h. IsBalanced only h) (sym f.height_is) f.outer_is; hangs = black_hangs layers only (f.below_red refl).1 }
+-- red: the rules of colour hold
+pub red_unlinked : (layers : List Layer) (side : Side) (only : Tree) (node : ℕ) → IsRedBlack (plug (branch side node red leaf only) layers) → IsRedBlack (plug only layers)
+red_unlinked layers side only node r =
+    let w = balanced-down (branch side node red leaf only) layers r in
+    let f = red-parts side node leaf only w.height w.balanced in
+    balanced-up only layers (record { height = w.height; balanced = f.far_balanced; wants = w.wants; top = inl f.far_black })
 
 -- black: what is left is short
-pub black_unlinked : (layers : List Layer) (side : Side) (only : Tree) (node : ℕ) (w : IsWhole layers (branch side node black leaf only)) → blacks layers + w.height ≤ 32 → IsShort layers only
-black_unlinked layers side only node w low =
-    let f = of_fork side leaf only node black w.height w.balanced in
-    record { height = f.below; wanted = subst (λ h. Wants layers h) f.height_is w.wanted; nearly = balanced_nearly only f.below f.outer_is; low = omega (arith, f.height_is, low) }
+pub black_unlinked : (layers : List Layer) (side : Side) (only : Tree) (node : ℕ) → IsRedBlack (plug (branch side node black leaf only) layers) → length (nodes_of (plug (branch side node black leaf only) layers)) < 2 ^ 32 → IsShort layers only
+black_unlinked layers side only node r few =
+    let w = balanced-down (branch side node black leaf only) layers r in
+    let f = black-parts side node leaf only w.height w.balanced in
+    record { height = f.below; wanted = subst (λ h. Wants layers h) f.height_is w.wants; nearly = balanced_nearly only f.below f.far_balanced; low = omega (arith, f.height_is, whole_low layers (branch side node black leaf only) w few) }
 
 -- ---- a node with two children
 
@@ -98,26 +85,31 @@ module _ (node next : ℕ) (colour : Colour) (side : Side) (other : Tree) (layer
   abbrev pub around : ℕ → List Layer
   around at = record { side = side; at = at; colour = colour; other = other } ∷ layers
 
-  takes_red : (lower : List Layer) → TakesRed (lower ++ around node) → TakesRed (lower ++ around next)
-  takes_red [] t = t
-  takes_red (l ∷ ls) t = t
+  below_black : (lower : List Layer) → IsBelowBlack (lower ++ around node) → IsBelowBlack (lower ++ around next)
+  below_black [] t = t
+  below_black (l ∷ ls) t = t
+
+  side_renamed : (lower : List Layer) (c : Colour) (beside : Tree) (h : ℕ) → SideFits c beside (lower ++ around node) h → SideFits c beside (lower ++ around next) h
+  side_renamed lower black beside h s = s
+  side_renamed lower red beside h s = (s.0, s.1, below_black lower s.2)
 
   -- what a place wants doesn't depend on which nodes are above
-  pub renamed_wants : (lower : List Layer) (h : ℕ) → Wants (lower ++ around node) h → Wants (lower ++ around next) h
+  renamed_wants : (lower : List Layer) (h : ℕ) → Wants (lower ++ around node) h → Wants (lower ++ around next) h
   renamed_wants [] h w = w
-  renamed_wants (l ∷ ls) h w = (w.0, λ e. ((w.1 e).0, takes_red ls (w.1 e).1), renamed_wants ls (height_over l.colour h) w.2)
+  renamed_wants (l ∷ ls) h w = (side_renamed ls l.colour l.other h w.0, renamed_wants ls (height_above l.colour h) w.1)
 
-  pub renamed_blacks : (lower : List Layer) → blacks (lower ++ around node) ≡ blacks (lower ++ around next)
+  renamed_blacks : (lower : List Layer) → blacks (lower ++ around node) ≡ blacks (lower ++ around next)
   renamed_blacks [] = refl
-  renamed_blacks (l ∷ ls) = ap (height_over l.colour) (renamed_blacks ls)
+  renamed_blacks (l ∷ ls) = ap (height_above l.colour) (renamed_blacks ls)
 
-  pub renamed_hangs : (lower : List Layer) (tree : Tree) → MayHang (lower ++ around node) tree → MayHang (lower ++ around next) tree
-  renamed_hangs lower leaf m = tt
-  renamed_hangs lower (fork left at black right) m = tt
-  renamed_hangs lower (fork left at red right) m = takes_red lower m
+  renamed_top : (lower : List Layer) (tree : Tree) → IsBlack tree ⊎ IsBelowBlack (lower ++ around node) → IsBlack tree ⊎ IsBelowBlack (lower ++ around next)
+  renamed_top lower tree (inl b) = inl b
+  renamed_top lower tree (inr b) = inr (below_black lower b)
 
-  pub renamed_whole : (lower : List Layer) (tree : Tree) → IsWhole (lower ++ around node) tree → IsWhole (lower ++ around next) tree
-  renamed_whole lower tree w = record { height = w.height; wanted = renamed_wants lower w.height w.wanted; balanced = w.balanced; hangs = renamed_hangs lower tree w.hangs }
+  pub renamed_whole : (lower : List Layer) (tree : Tree) → IsRedBlack (plug tree (lower ++ around node)) → IsRedBlack (plug tree (lower ++ around next))
+  renamed_whole lower tree r =
+      let w = balanced-down tree (lower ++ around node) r in
+      balanced-up tree (lower ++ around next) (record { height = w.height; balanced = w.balanced; wants = renamed_wants lower w.height w.wants; top = renamed_top lower tree w.top })
 
   pub renamed_short : (lower : List Layer) (tree : Tree) → IsShort (lower ++ around node) tree → IsShort (lower ++ around next) tree
   renamed_short lower tree s = record { height = s.height; wanted = renamed_wants lower (suc s.height) s.wanted; nearly = s.nearly; low = subst (λ n. n + s.height < 32) (renamed_blacks lower) s.low }

@@ -1,13 +1,11 @@
 -- Taking a node out of a tree.
---     Wants layers h                      around the place a red-black tree wants a part of h black nodes on each way down
---     IsWhole layers tree                 the part at the place is as the tree around it wants it
 --     IsShort layers tree                 it has one black node too few on each way down
 --     turns layers tree                   so many turns make that good at most
 --     StandsAt bytes path layers tree     a tree stands at the place that a path leads to
 --     Lengthens, Unlinks ..               what the steps do
 use Rattle.std.specs.Prelude.{◌≡◌, ℕ, suc, ◌+◌, ◌<◌, ⊤, Bool, MatchBool, List, [], ◌∷◌, ◌++◌, length, Option, Some}
 use Rattle.seg_spec.specs.Pointer.{target}
-use Rattle.seg_spec.specs.Shapes.{Colour, black, red, Tree, leaf, fork, nodes_of, IsTree, IsBlack, IsBalanced, IsRedBlack}
+use Rattle.seg_spec.specs.Shapes.{Colour, black, red, Tree, leaf, fork, nodes_of, IsTree, IsBalanced, IsRedBlack}
 use Rattle.seg_rbtree.specs.declared.node.Side.{Side}
 use Rattle.seg_rbtree.specs.declared.node.Side.TheVariants.{Left, Right}
 use Rattle.seg_rbtree.specs.declared.node.Colour.{Colour as Tint}
@@ -17,26 +15,7 @@ use Rattle.seg_rbtree.specs.Nodes.{colour_at, with_child, with_colour}
 use Rattle.seg_rbtree.specs.Changes.{StandApart}
 use Rattle.seg_rbtree.specs.Ways.{Layer, branch, plug, steps_of}
 use Rattle.seg_rbtree.specs.Turns.{Turns}
-
--- the black nodes on each way down from a node of a colour, where each child has h
-abbrev pub height_over : Colour → ℕ → ℕ
-height_over black h = suc h
-height_over red h = h
-
--- a red node may hang at the place
-abbrev pub TakesRed : List Layer → Type 0
-TakesRed [] = ⊥
-TakesRed (l ∷ ls) = l.colour ≡ black
-
-abbrev pub MayHang : List Layer → Tree → Type 0
-MayHang ls leaf = ⊤
-MayHang ls (fork left at black right) = ⊤
-MayHang ls (fork left at red right) = TakesRed ls
-
--- around the place a red-black tree wants a part with h black nodes on each way down
-abbrev pub Wants : List Layer → ℕ → Type 0
-Wants [] h = ⊤
-Wants (l ∷ ls) h = IsBalanced l.other h × (l.colour ≡ red → IsBlack l.other × TakesRed ls) × Wants ls (height_over l.colour h)
+use Rattle.seg_rbtree.specs.Balance.{height_above, Wants}
 
 -- each way down meets h black nodes; a red root may have red children
 abbrev pub IsNearly : Tree → ℕ → Type 0
@@ -47,14 +26,7 @@ IsNearly (fork left at red right) h = IsBalanced left h × IsBalanced right h
 -- the black nodes above a place
 abbrev pub blacks : List Layer → ℕ
 blacks [] = 0
-blacks (l ∷ ls) = height_over l.colour (blacks ls)
-
--- the part at the place is as the tree around it wants it
-pub record IsWhole (layers : List Layer) (tree : Tree) : Type 0 where
-  pub height : ℕ
-  pub wanted : Wants layers height
-  pub balanced : IsBalanced tree height
-  pub hangs : MayHang layers tree
+blacks (l ∷ ls) = height_above l.colour (blacks ls)
 
 -- the part at the place has one black node too few on each way down
 pub record IsShort (layers : List Layer) (tree : Tree) : Type 0 where
@@ -105,7 +77,7 @@ pub record StandsAt (bytes : List ℕ) (path : Path) (layers : List Layer) (tree
 -- what a removed node of a colour leaves
 abbrev pub IsLeft : Tint → List Layer → Tree → Type 0
 IsLeft Black layers tree = IsShort layers tree
-IsLeft Red layers tree = IsWhole layers tree
+IsLeft Red layers tree = IsRedBlack (plug tree layers)
 
 -- a node is taken out of a tree, which may be short then at the place that the path leads to
 pub record Unlinks (old new : List ℕ) (path : Path) (layers : List Layer) (tree : Tree) (node : ℕ) (gone : Tint) : Type 0 where

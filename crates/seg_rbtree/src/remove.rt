@@ -148,7 +148,7 @@ fn restore<A: Allocator>(w: &mut Window<A>, path: &mut Path)
     }
 }
 
-/// ... here, or by one step, after which it answers that there is more to do.
+/// One turn of that: it is made good, or a part further up is short then, and the answer is that there is more to do.
 fn lengthen<A: Allocator>(w: &mut Window<A>, path: &mut Path) -> bool
     ensures host { w.new ≡ with_bytes w.old w.new.bytes }
     ensures root { path.new.root ≡ path.old.root }
@@ -168,7 +168,7 @@ fn lengthen<A: Allocator>(w: &mut Window<A>, path: &mut Path) -> bool
     }
 }
 
-/// ... with the help of the node beside it.
+/// A turn for a part whose root is black, below a node that a path leads to: the node beside it helps.
 fn lengthen_beside<A: Allocator>(w: &mut Window<A>, path: &mut Path, short: Step) -> bool
     ensures host { w.new ≡ with_bytes w.old w.new.bytes }
     ensures root { path.new.root ≡ path.old.root }

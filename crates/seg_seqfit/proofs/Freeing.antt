@@ -12,24 +12,10 @@ use Rattle.seg_block.proofs.Tiled.{around}
 use Rattle.seg_block.proofs.Heaps.{Spares-trans, Spares-same}
 use Rattle.seg_block.proofs.LiveBlocks.{HasLive, block, block_tiling, block_behind, block_front, gives, read_is, read_held}
 use Rattle.seg_seqfit.specs.Retiling.{link_behind, JoinsBehind}
-use Rattle.seg_seqfit.proofs.Predecessor.{HasLast, last_cases}
+use Rattle.seg_block.proofs.ReadFree.{found_never, read_is_free, read_is_live, HasLast, last_cases, live_after-last}
 
 never : true ≡ false → ⊥
 never e = cc
-
-found_never : {X : Type 0} (x : X) → Some x ≡ None → ⊥
-found_never x e = cc
-
--- a tile that was read as free is free
-read_is_free : (t : Tile) (f : Block) → IsReadFree t (Some f) → (t.live ≡ false) × ((f.at ≡ t.at) × (f.units ≡ t.units))
-read_is_free t f r =
-    let go = elim t.live as (λ b. t.live ≡ b → (t.live ≡ false) × ((f.at ≡ t.at) × (f.units ≡ t.units))) [ true ↦ (λ e. absurd (found_never f (r.live e))) | false ↦ (λ e. (e, r.free e)) ] in
-    go refl
-
-read_is_live : (t : Tile) → IsReadFree t None → t.live ≡ true
-read_is_live t r =
-    let go = elim t.live as (λ b. t.live ≡ b → t.live ≡ true) [ true ↦ (λ e. e) | false ↦ (λ e. absurd (r.free e)) ] in
-    go refl
 
 -- ---- the join with what is behind
 
@@ -105,12 +91,8 @@ module _ (old : List ℕ) (at u : ℕ) (h : IsHeap 0 old) (held : Contains (live
 
     -- what was read before it
     pub freed_none : ((zs vs : List Tile) (l : Bool) (t : Tile) → IsTiled joined (zs ++ (t ∷ tile at n l ∷ vs)) → IsReadFree t None) → Gives 0 old joined at
-    freed_none read = freed_alone (⊎_elim (λ e. ap (live_after true) e) (λ (l : HasLast xs). ap (live_after true) l.parts ∙ last_live l.front l.last true ∙ read_is_live l.last (read l.front j.rest false l.last (before l))) (last_cases xs))
+    freed_none read = freed_alone (⊎_elim (λ e. ap (live_after true) e) (λ (l : HasLast xs). ap (live_after true) l.parts ∙ live_after-last l.front l.last true ∙ read_is_live l.last (read l.front j.rest false l.last (before l))) (last_cases xs))
       where
-        last_live : (ts : List Tile) (t : Tile) (b : Bool) → live_after b (ts ++ t ∷ []) ≡ t.live
-        last_live [] t b = refl
-        last_live (s ∷ ts) t b = last_live ts t s.live
-
         before : (l : HasLast xs) → IsTiled joined (l.front ++ (l.last ∷ merged))
         before l = subst (λ ts. IsTiled joined ts) (ap (λ ts. ts ++ merged) l.parts ∙ append_assoc l.front (l.last ∷ []) merged) j.tiling.tiled
 

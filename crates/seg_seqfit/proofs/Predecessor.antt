@@ -1,5 +1,5 @@
 -- The free block before a block in the list: along the list, and down the tiles.
-use Rattle.std.proofs.Common.{◌≡◌, ℕ, ◌+◌, ◌*◌, ◌≤◌, Bool, true, false, List, [], ◌∷◌, ◌++◌, length, cond, Some, None, refl, sym, ap, ◌∙◌, subst, arith, inl, inr, ◌⊎◌, ⊎_elim}
+use Rattle.std.proofs.Common.{◌≡◌, ℕ, ◌+◌, ◌*◌, ◌≤◌, Bool, true, false, List, [], ◌∷◌, ◌++◌, length, cond, Some, None, refl, sym, ap, ◌∙◌, subst, arith, ⊎_elim}
 use Rattle.std.proofs.lemmas.List.{append_assoc}
 use Rattle.seg_spec.specs.Heap.{Tile, span_of, is_live_at, Fill, Links, free_of, heap_start}
 use Rattle.seg_spec.proofs.TileLaws.{Fill-le, free_of-append}
@@ -7,10 +7,12 @@ use Rattle.seg_block.specs.declared.block.Block.{Block}
 use Rattle.seg_block.specs.Tiling.{tile, IsTiled, IsTiling}
 use Rattle.seg_block.proofs.Tiled.{around}
 use Rattle.seg_block.proofs.Neighbours.{own_flag}
-use Rattle.seg_seqfit.specs.FreeBlocks.{AreFreeBlocks, link_after}
+use Rattle.seg_block.specs.FreeBlocks.{AreFreeBlocks}
+use Rattle.seg_seqfit.specs.FreeBlocks.{link_after}
 use Rattle.seg_seqfit.specs.Retiling.{link_behind}
 use Rattle.seg_seqfit.proofs.LinkLaws.{link_behind-append}
-use Rattle.seg_seqfit.proofs.FreeTiles.{free_blocks}
+use Rattle.seg_block.proofs.FreeTiles.{free_blocks}
+use Rattle.seg_block.proofs.ReadFree.{HasLast, last_cases}
 use Rattle.seg_seqfit.proofs.Walks.{AreBelow, AreAbove, IsPassed, passed_none}
 
 -- ---- along the list
@@ -38,21 +40,10 @@ pub passed_first : (bytes : List ℕ) (xs ys : List Tile) (at u : ℕ) (l : Bool
 passed_first bytes xs ys at u l was =
     let parts = around xs ys heap_start (length bytes) at u l was.tiled.filled in
     let split = free_of-append xs (tile at u l ∷ ys) in
-    passed_none bytes (free_of xs) (free_of (tile at u l ∷ ys)) at (subst (λ gs. Links bytes 24 gs None) split was.free) (subst (λ gs. AreFreeBlocks bytes 704 gs) split (free_blocks bytes (xs ++ tile at u l ∷ ys) was))
+    passed_none bytes (free_of xs) (free_of (tile at u l ∷ ys)) at (subst (λ gs. Links bytes 24 gs None) split was.free) (subst (λ gs. AreFreeBlocks bytes 704 gs) split (free_blocks bytes (xs ++ tile at u l ∷ ys) was.tiled))
     (AreBelow-free_of xs heap_start at parts.0) (AreAbove-free_of (tile at u l ∷ ys) at at (length bytes) (omega arith) (refl, parts.1, parts.2))
 
 -- ---- down the tiles
-
--- no tile is there, or there is a last one
-pub record HasLast (xs : List Tile) : Type 0 where
-  pub front : List Tile
-  pub last : Tile
-  pub parts : xs ≡ front ++ last ∷ []
-
-pub last_cases : (xs : List Tile) → (xs ≡ []) ⊎ HasLast xs
-last_cases [] = inl refl
-last_cases (t ∷ xs) =
-    ⊎_elim (λ e. inr (record { front = []; last = t; parts = ap (λ l. t ∷ l) e })) (λ h. inr (record { front = t ∷ h.front; last = h.last; parts = ap (λ l. t ∷ l) h.parts })) (last_cases xs)
 
 -- the tiles from this one up to the tiles xs are live
 pub record IsNear (bytes : List ℕ) (xs : List Tile) (near : Block) : Type 0 where

@@ -6,7 +6,8 @@ use Rattle.std.specs.Prelude.{⊤}
 use Rattle.seg_spec.specs.Pointer.{target}
 use Rattle.seg_spec.specs.Heap.{Span, end_of, Links, first_fit}
 use Rattle.seg_block.specs.Blocks.{IsBlock}
-use Rattle.seg_seqfit.specs.FreeBlocks.{AreFreeBlocks, link_after, IsFirstFit}
+use Rattle.seg_block.specs.FreeBlocks.{AreFreeBlocks}
+use Rattle.seg_seqfit.specs.FreeBlocks.{link_after, IsFirstFit}
 
 -- the free blocks before a pointer word were seen, and none of them has u units
 pub record IsSearched (bytes : List ℕ) (gs : List Span) (u link low : ℕ) : Type 0 where

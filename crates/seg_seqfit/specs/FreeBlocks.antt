@@ -1,12 +1,6 @@
--- Free blocks in ascending position, and the pointer words that name them.
-use Rattle.std.specs.Prelude.{◌≡◌, ℕ, ◌+◌, ◌≤◌, List, [], ◌∷◌, ◌++◌, Some, ⊤}
-use Rattle.seg_spec.specs.Heap.{Span, end_of, first_fit, span}
-use Rattle.seg_block.specs.Blocks.{IsBlock}
-
--- free blocks from a position on, each behind the one before
-abbrev pub AreFreeBlocks : List ℕ → ℕ → List Span → Type 0
-AreFreeBlocks bytes from [] = ⊤
-AreFreeBlocks bytes from (g ∷ gs) = (from ≤ g.at) × IsBlock bytes g × AreFreeBlocks bytes (end_of g) gs
+-- Free blocks, and the pointer words that name them.
+use Rattle.std.specs.Prelude.{◌≡◌, ℕ, ◌+◌, List, [], ◌∷◌, ◌++◌, Some}
+use Rattle.seg_spec.specs.Heap.{Span, first_fit, span}
 
 -- the pointer word behind these free blocks
 abbrev pub link_after : ℕ → List Span → ℕ

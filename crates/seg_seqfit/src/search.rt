@@ -4,8 +4,9 @@ ghost use Rattle.std.specs.Prelude.{◌≡◌, ◌+◌, ◌-◌, ◌*◌, ◌/�
 ghost use Rattle.seg_spec.specs.Pointer.{target};
 ghost use Rattle.seg_spec.specs.Heap.{Span, Tile, Links, first_fit};
 ghost use Rattle.seg_block.specs.Blocks.{IsBlock};
+ghost use Rattle.seg_block.specs.FreeBlocks.{AreFreeBlocks};
 ghost use Rattle.seg_block.specs.Tiling.{tile, IsTiling};
-ghost use Rattle.seg_seqfit.specs.FreeBlocks.{AreFreeBlocks, IsFirstFit};
+ghost use Rattle.seg_seqfit.specs.FreeBlocks.{IsFirstFit};
 ghost use Rattle.seg_seqfit.specs.Retiling.{link_behind};
 
 use seg_block::{Block, HEAP_START, LINK, UNIT, block_at, is_live, previous};

@@ -16,8 +16,6 @@ pub struct SeqFit;
 impl Fit for SeqFit {
     ghost code = { 0 };
 
-    ghost exact = { Unit {0} };
-
     fn word() -> u32 {
         0
     }

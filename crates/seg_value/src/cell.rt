@@ -19,11 +19,18 @@ pub fn start<A: Allocator>(w: &Window<A>, cell: u32) -> u32 {
 /// Writes the default value of a type: 0 for numbers, empty or null for all else.
 pub fn init_default<A: Allocator>(w: &mut Window<A>, table: &TypeTable, t: TypeId, at: u32) {
     w.fill(at as usize, table.size(t) as usize, 0);
-    // a list of cells costs more than all else here, and most values are numbers
     match table.kind(t) {
         None | Some(Type::I64) => {}
-        Some(_) => set_null(w, table.pointers(t).as_slice(), at),
+        Some(Type::Struct(_)) => empty_fields(w, table, t, at),
+        Some(_) => w.point(at as usize, None),
     }
+}
+
+/// Lets the fields of a struct name nothing. Not inlined: a list of cells takes 4 KiB, which a loop over numbers would clear
+/// each time, unused.
+#[inline(never)]
+fn empty_fields<A: Allocator>(w: &mut Window<A>, table: &TypeTable, t: TypeId, at: u32) {
+    set_null(w, table.pointers(t).as_slice(), at);
 }
 
 /// Lets these cells of a value name nothing.

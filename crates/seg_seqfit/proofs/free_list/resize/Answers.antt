@@ -2,7 +2,8 @@ use Rattle.std.proofs.Common.{ap, subst, sym}
 use Rattle.seg_spec.specs.Window.{Placement}
 use Rattle.seg_block.specs.Blocks.{IsResized}
 use Rattle.seg_block.proofs.Resized.{resized_not}
-use Rattle.seg_seqfit.proofs.Expanding.{resized}
+use Rattle.seg_block.proofs.Expanding.{resized}
+use Rattle.seg_seqfit.proofs.Places.{Place, place_of_block}
 use Rattle.seg_seqfit.proofs.free_list.resize.Goals as goal
 
 pub returns-then-units-block-clause-resized : goal.returns-then-units-block-clause-resized
@@ -13,5 +14,6 @@ returns-then-units-block-clause-resized g c = λ h held room_is.
 pub returns-clause-resized : goal.returns-clause-resized
 returns-clause-resized g c = λ h held room_is.
     let bytes = λ (p : Placement). p.bytes in
-    resized c.args.w.now.bytes c.absorb.new.w.bytes c.cut.new.w.bytes c.args.block.at c.args.block.units c.args.room c.args.units c.link_before-link.result h held room_is c.link_before-link.ensures
+    resized (Place c.link_before-link.result) c.args.w.now.bytes c.absorb.new.w.bytes c.cut.new.w.bytes c.args.block.at c.args.block.units c.args.room c.args.units h held room_is
+    (place_of_block c.args.w.now.bytes c.args.block.at c.args.block.units c.link_before-link.result h held c.link_before-link.ensures)
     (λ e. ap bytes (c.absorb.ensures.none e)) c.absorb.ensures.tiles (λ e. ap bytes (c.cut.ensures.whole e)) c.cut.ensures.tiles c.if-units-block.false c.requires.rest

@@ -1,6 +1,6 @@
 use Rattle.std.proofs.Common.{◌≤◌, ◌-◌, List, length, None}
 use Rattle.seg_spec.specs.Heap.{Span, Links}
-use Rattle.seg_seqfit.specs.FreeBlocks.{AreFreeBlocks}
+use Rattle.seg_block.specs.FreeBlocks.{AreFreeBlocks}
 use Rattle.seg_seqfit.proofs.Walks.{IsSearched}
 use Rattle.seg_seqfit.proofs.search.first_fit.Given as goal
 

@@ -1,29 +1,39 @@
-use Rattle.std.proofs.Common.{◌-◌, ◌*◌, ◌/◌, length, true, ap, ◌∙◌, arith}
+use Rattle.std.proofs.Common.{◌≡◌, ◌-◌, ◌*◌, ◌/◌, length, true, ap, ◌∙◌, arith}
 use Rattle.seg_spec.proofs.BytesLaws.{length-set_number}
 use Rattle.seg_spec.specs.Window.{Placement}
 use Rattle.seg_block.specs.Sizes.{set_size}
-use Rattle.seg_seqfit.proofs.Extents.{extended_zero, end_never, extended_one, extended_more}
+use Rattle.seg_block.proofs.Extents.{extended_zero, end_never, end_units, extended_one, extended_more}
+use Rattle.seg_seqfit.proofs.Enlarging.{enlarged}
 use Rattle.seg_seqfit.proofs.seqfit.SeqFitFit.extend_end.Goals as goal
 
 pub returns-then-units-eq0-clause-extends : goal.returns-then-units-eq0-clause-extends
-returns-then-units-eq0-clause-extends g c = λ e room h.
+returns-then-units-eq0-clause-extends g c = λ room h.
     extended_zero c.args.w.now.bytes c.put32.new.self.bytes c.args.units c.len-len.result (omega arith) room h c.len-len.ensures.len (ap (λ (p : Placement). p.bytes) c.put32.ensures) c.if-units-eq0.true
 
 pub returns-in_default-clause-extends : goal.returns-in_default-clause-extends
-returns-in_default-clause-extends g c = λ e room h.
+returns-in_default-clause-extends g c = λ room h.
     absurd (end_never c.args.w.now.bytes c.put32.new.self.bytes c.args.units c.len-len.result (omega arith) room h c.len-len.ensures.len (ap (λ (p : Placement). p.bytes) c.put32.ensures) c.in_default.ensures.last)
 
 pub returns-then-units-eq1-clause-extends : goal.returns-then-units-eq1-clause-extends
-returns-then-units-eq1-clause-extends g c = λ e room h.
-    extended_one c.args.w.now.bytes c.put32.new.self.bytes c.args.units c.len-len.result (omega arith) room h c.len-len.ensures.len (ap (λ (p : Placement). p.bytes) c.put32.ensures)
-    c.in-Some.last.at c.in-Some.last.units c.in-Some.ensures.last c.if-units-eq1.true c.set_size.new.w.bytes c.is_live-live.result c.is_live-live.ensures (ap (λ (p : Placement). p.bytes) c.set_size.ensures)
+returns-then-units-eq1-clause-extends g c = λ room h.
+    let one = c.if-units-eq1.true in
+    let bytes = λ (p : Placement). p.bytes in
+    let sized = ap bytes c.put32.ensures in
+    let old = c.args.w.now.bytes in
+    let after = c.put32.new.self.bytes in
+    let last = c.in-Some.last in
+    let n = (c.len-len.result - last.at) / 16 in
+    let long : length after ≡ length old = ap length sized ∙ length-set_number 4 old 12 (c.len-len.result / 16) in
+    let u = end_units old after c.args.units c.len-len.result (omega arith) room h c.len-len.ensures.len sized last.at last.units c.in-Some.ensures.last one in
+    extended_one old after c.args.units c.len-len.result (omega arith) room h c.len-len.ensures.len sized last.at last.units c.in-Some.ensures.last one c.set_size.new.w.bytes
+    (λ xs l filled heads holds. enlarged after c.set_size.new.w.bytes xs last.at last.units n l c.is_live-live.result (omega arith) (omega (arith, u.0)) filled heads holds (omega (arith, u.0, u.1)) c.is_live-live.ensures (ap bytes c.set_size.ensures))
 
 pub returns-else-units-eq1-clause-extends : goal.returns-else-units-eq1-clause-extends
-returns-else-units-eq1-clause-extends g c = λ e room h.
+returns-else-units-eq1-clause-extends g c = λ room h.
     let end = c.len-len.result - 16 * c.args.units in
     extended_more c.args.w.now.bytes c.put32.new.self.bytes c.args.units c.len-len.result (omega arith) room h c.len-len.ensures.len (ap (λ (p : Placement). p.bytes) c.put32.ensures)
     c.in-Some.last.at c.in-Some.last.units c.in-Some.ensures.last (omega arith) c.set_size-else-units-eq1.new.w.bytes c.free.new.w.bytes
-    (ap (λ (p : Placement). p.bytes) c.set_size-else-units-eq1.ensures ∙ ap (λ (p : Placement). set_size p.bytes end c.args.units true) c.put32-else-units-eq1.ensures) (c.free.ensures.gives tt)
+    (ap (λ (p : Placement). p.bytes) c.set_size-else-units-eq1.ensures ∙ ap (λ (p : Placement). set_size p.bytes end c.args.units true) c.put32-else-units-eq1.ensures) c.free.ensures.gives
 
 pub overflow_sub-len : goal.overflow_sub-len
 overflow_sub-len g c =

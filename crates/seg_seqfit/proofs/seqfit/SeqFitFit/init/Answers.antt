@@ -8,7 +8,7 @@ use Rattle.seg_seqfit.proofs.Beginning.{begins}
 use Rattle.seg_seqfit.proofs.seqfit.SeqFitFit.init.Goals as goal
 
 pub returns-clause-begins : goal.returns-clause-begins
-returns-clause-begins g c = λ e large whole.
+returns-clause-begins g c = λ large whole.
     let old = c.args.w.now.bytes in
     let u = c.saturating_sub-units.result / 16 in
     let bytes = λ (p : Placement). p.bytes in

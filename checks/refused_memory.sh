@@ -1,0 +1,64 @@
+#!/usr/bin/env bash
+# Runs each command of the program once for each request for host memory that it makes, with that request refused. Then the
+# status is 1, the error `fault 1`, and each file as before; or, where the program can do without, all is as with that memory.
+# Needs a C compiler, and the program that `rt run` leaves in crates/segtool/out.
+set -eu
+here=$(cd "$(dirname "$0")" && pwd)
+segtool=$(realpath "${1:-$here/../crates/segtool/out/segtool}")
+work=$(mktemp -d)
+trap 'rm -rf "$work"' EXIT
+
+cc -O1 -shared -fPIC -o "$work/refuse.so" "$here/refuse.c" -ldl
+mkdir "$work/files"
+cp "$here"/../examples/{counter.image,increment.client,increment.text} "$work/files"
+"$segtool" new "$work/files/table.image" 1024 best tree
+
+# a fresh copy of the files
+renew() {
+  rm -rf "$work/now"
+  cp -r "$work/files" "$work/now"
+  cd "$work/now"
+}
+
+is_refused() {
+  [ "$1" = 1 ] && [ "$(cat "$work/err")" = "fault 1" ] && diff -r "$work/files" "$work/now" > "$work/diff"
+}
+
+is_done() {
+  [ "$1" = 0 ] && cmp -s "$work/wanted_out" "$work/out" && diff -r "$work/wanted" "$work/now" > "$work/diff"
+}
+
+# tries a command: first with all memory, which counts the requests, and then once for each of them
+try() {
+  local all n status refused=0
+  renew
+  REQUESTS="$work/requests" LD_PRELOAD="$work/refuse.so" "$segtool" "$@" > "$work/wanted_out"
+  all=$(cat "$work/requests")
+  rm -rf "$work/wanted"
+  cp -r "$work/now" "$work/wanted"
+  for n in $(seq 1 "$all"); do
+    renew
+    status=0
+    REFUSE=$n LD_PRELOAD="$work/refuse.so" "$segtool" "$@" > "$work/out" 2> "$work/err" || status=$?
+    if is_refused "$status"; then
+      refused=$((refused + 1))
+    elif ! is_done "$status"; then
+      echo "$*: request $n of $all: status $status" >&2
+      cat "$work/err" "$work/diff" >&2
+      exit 1
+    fi
+  done
+  echo "$*: $all requests, $refused of them needed"
+}
+
+try new fresh.image 1024 seq flat
+try check counter.image
+try verify counter.image increment.client
+try run counter.image saved.image increment.client
+try run table.image table.image increment.client --room 4096 --base 64
+try stat counter.image
+try list counter.image
+try grow counter.image 64
+try shrink table.image
+try asm increment.text assembled.client
+try print increment.client

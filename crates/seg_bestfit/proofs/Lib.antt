@@ -1,0 +1,12 @@
+pub mod SizeOrder
+pub mod FreeGaps
+pub mod Listing
+pub mod TreeFrame
+pub mod Taking
+pub mod Releasing
+pub mod Searching
+pub mod JoiningBefore
+pub mod Freeing
+pub mod Beginning
+pub mod Enlarging
+pub mod Cuttings

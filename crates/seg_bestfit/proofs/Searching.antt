@@ -1,0 +1,117 @@
+-- The gap that the search down the tree finds.
+use Rattle.std.proofs.Common.{◌≡◌, ℕ, suc, ◌+◌, ◌-◌, ◌*◌, ◌^◌, ◌<◌, ◌≤◌, Bool, cond, leb, List, [], ◌∷◌, ◌++◌, length, Option, Some, None, refl, sym, ap, ◌∙◌, subst, arith}
+use Rattle.std.proofs.lemmas.List.{length-map}
+use Rattle.std.specs.Prelude.{IsSomeAnd}
+use Rattle.std.specs.Option.{option_map}
+use Rattle.std.specs.Ordering.{nat_cmp}
+use Rattle.std.specs.declared.cmp.Ordering.TheVariants.{Equal}
+use Rattle.seg_spec.specs.Heap.{Span, units_at, heap_start, tiles, gaps, by_size, best_fit, IsHeap, IsFreeTree}
+use Rattle.seg_spec.specs.Search.{reaches, Ascend, first_where, looks, IsSearchTree}
+use Rattle.seg_spec.specs.Shapes.{Tree, leaf, fork, nodes_of}
+use Rattle.seg_spec.proofs.PickLaws.{best_fit-smallest}
+use Rattle.seg_spec.proofs.TileLaws.{Fill-le}
+use Rattle.seg_block.proofs.FreeTiles.{heap_free_blocks}
+use Rattle.seg_block.specs.declared.block.Block.{Block}
+use Rattle.seg_block.specs.Blocks.{IsBlock}
+use Rattle.seg_block.specs.FreeBlocks.{AreFreeBlocks}
+use Rattle.seg_bestfit.specs.FreeTree.{by_units}
+use Rattle.seg_bestfit.proofs.SizeOrder.{node_of, fits_is}
+use Rattle.seg_bestfit.proofs.FreeGaps.{length-by_size}
+use Rattle.seg_bestfit.proofs.Listing.{search_tree, tree_ascends, best_node}
+
+block_in : (bytes : List ℕ) (from : ℕ) (xs : List Span) (g : Span) (ys : List Span) → AreFreeBlocks bytes from (xs ++ g ∷ ys) → IsBlock bytes g
+block_in bytes from [] g ys a = a.1
+block_in bytes from (x ∷ xs) g ys a = block_in bytes (x.at + 16 * x.units) xs g ys a.2
+
+-- searches by two tests that agree
+looks-same : (p q : ℕ → Bool) → ((x : ℕ) → p x ≡ q x) → (tree : Tree) → looks p tree ≡ looks q tree
+looks-same p q same leaf = refl
+looks-same p q same (fork left at colour right) =
+    let l = looks-same p q same left in
+    let r = looks-same p q same right in
+    ap (λ b. suc (cond b (looks p left) (looks p right))) (same at) ∙ (λ i. suc (cond (q at) (l i) (r i)))
+
+-- what the search down the tree at the word `root` ensures
+abbrev pub Finds : List ℕ → ℕ → ℕ → Option ℕ → Type 0
+Finds bytes root u node = (shape : Tree) → IsSearchTree bytes root shape → Ascend (by_units bytes) (nodes_of shape) → node ≡ first_where (λ x. reaches Equal (nat_cmp (units_at bytes (x - 16)) u)) (nodes_of shape)
+
+-- what reading the block of a node ensures
+abbrev pub Reads : List ℕ → ℕ → Option Block → Type 0
+Reads bytes node result = (g : Span) → node ≡ g.at + 16 → IsBlock bytes g → IsSomeAnd result (λ f. (f.at ≡ g.at) × (f.units ≡ g.units))
+
+module _ (bytes : List ℕ) (root u : ℕ) (node : Option ℕ) (root_is : root ≡ 24) (finds : Finds bytes root u node) (gs : List Span) (holds : IsFreeTree bytes gs) (free : AreFreeBlocks bytes 704 gs) (low : 704 ≤ length bytes) (small : length bytes ≤ 2 ^ 30) where
+  pub node_is : node ≡ option_map node_of (best_fit gs u)
+  node_is = subst (λ r. Finds bytes r u node) root_is finds holds.tree (search_tree bytes gs low small free holds) (tree_ascends bytes gs low small free holds) ∙ best_node bytes gs low small free holds u
+
+  pub finds_none : node ≡ None → best_fit gs u ≡ None
+  finds_none e = go (best_fit gs u) (sym node_is ∙ e)
+    where
+      go : (o : Option Span) → option_map node_of o ≡ None → o ≡ None
+      go None e = cc
+      go (Some g) e = absurd (no e)
+        where
+          no : Some (node_of g) ≡ None → ⊥
+          no e = cc
+
+  -- the gap of the node that was found
+  pub record IsBest (at : ℕ) : Type 0 where
+    pub gap : Span
+    pub is_best : best_fit gs u ≡ Some gap
+    pub place : at ≡ gap.at + 16
+    pub fits : u ≤ gap.units
+    pub block : IsBlock bytes gap
+
+  pub finds_some : (at : ℕ) → node ≡ Some at → IsBest at
+  finds_some at e = go (best_fit gs u) (sym node_is ∙ e) (λ g k. k)
+    where
+      go : (o : Option Span) → option_map node_of o ≡ Some at → ((g : Span) → o ≡ Some g → best_fit gs u ≡ Some g) → IsBest at
+      go None e same = absurd (no e)
+        where
+          no : None ≡ Some at → ⊥
+          no e = cc
+      go (Some g) e same =
+          let s = best_fit-smallest gs u g (same g refl) in
+          record { gap = g; is_best = same g refl; place = sym (some_same e); fits = s.fits; block = block_in bytes 704 s.before g s.after (subst (λ l. AreFreeBlocks bytes 704 l) s.gaps_are free) }
+        where
+          some_same : Some (node_of g) ≡ Some at → node_of g ≡ at
+          some_same e = cc
+
+  module _ (at : ℕ) (found : node ≡ Some at) where
+    pub never_unread : Reads bytes at None → ⊥
+    never_unread read = let b = finds_some at found in read b.gap b.place b.block
+
+    pub never_small : (f : Block) → Reads bytes at (Some f) → f.units < u → ⊥
+    never_small f read small = let b = finds_some at found in let r = read b.gap b.place b.block in omega (arith, b.fits, r.1)
+
+    pub finds_best : (f : Block) → Reads bytes at (Some f) → best_fit gs u ≡ Some (record { at = f.at; units = f.units })
+    finds_best f read = let b = finds_some at found in let r = read b.gap b.place b.block in b.is_best ∙ (λ i. Some (record { at = sym r.0 i; units = sym r.1 i }))
+
+-- ---- the gap that an allocation would take
+
+module _ (bytes : List ℕ) (root u count : ℕ) (node : Option ℕ) (root_is : root ≡ 24) (h : IsHeap 1 bytes) where
+  low : 704 ≤ length bytes
+  low = Fill-le (tiles bytes) heap_start (length bytes) h.filled
+
+  free : AreFreeBlocks bytes 704 (gaps bytes)
+  free = heap_free_blocks bytes h
+
+  pub located : Finds bytes root u node → option_map (λ n. n - 16) node ≡ option_map (λ (g : Span). g.at) (best_fit (gaps bytes) u)
+  located finds = ap (option_map (λ n. n - 16)) (node_is bytes root u node root_is finds (gaps bytes) h.free free low h.small) ∙ go (best_fit (gaps bytes) u)
+    where
+      go : (o : Option Span) → option_map (λ n. n - 16) (option_map node_of o) ≡ option_map (λ (g : Span). g.at) o
+      go None = refl
+      go (Some g) = let place : g.at + 16 - 16 ≡ g.at = omega arith in ap Some place
+
+  tree_here : IsSearchTree bytes root h.free.tree
+  tree_here = subst (λ r. IsSearchTree bytes r h.free.tree) (sym root_is) (search_tree bytes (gaps bytes) low h.small free h.free)
+
+  pub looked : ((shape : Tree) → IsSearchTree bytes root shape → Ascend (by_units bytes) (nodes_of shape) → count ≡ looks (λ x. reaches Equal (nat_cmp (units_at bytes (x - 16)) u)) shape)
+      → count ≡ looks (λ node. leb u (units_at bytes (node - 16))) h.free.tree
+  looked is =
+      is h.free.tree tree_here (tree_ascends bytes (gaps bytes) low h.small free h.free)
+      ∙ looks-same (λ x. reaches Equal (nat_cmp (units_at bytes (x - 16)) u)) (λ node. leb u (units_at bytes (node - 16))) (λ x. fits_is (units_at bytes (x - 16)) u) h.free.tree
+
+  pub few_looked : ((shape : Tree) → IsSearchTree bytes root shape → Ascend (by_units bytes) (nodes_of shape) → 2 ^ count ≤ (length (nodes_of shape) + 1) ^ 2) → 2 ^ count ≤ (length (gaps bytes) + 1) ^ 2
+  few_looked is =
+      let long : length (nodes_of h.free.tree) ≡ length (gaps bytes) = ap length h.free.nodes_are ∙ length-map (by_size (gaps bytes)) node_of ∙ length-by_size (gaps bytes) in
+      subst (λ n. 2 ^ count ≤ (n + 1) ^ 2) long (is h.free.tree tree_here (tree_ascends bytes (gaps bytes) low h.small free h.free))

@@ -1,0 +1,158 @@
+-- The nodes of the tree compare as the gaps are ordered: by size, then by position.
+use Rattle.std.proofs.Common.{◌≡◌, ◌≢◌, ℕ, ◌+◌, ◌-◌, ◌<◌, ◌≤◌, ◌⊎◌, inl, inr, ⊎_elim, Bool, true, false, leb, eqb, List, [], ◌∷◌, map, cond, Some, refl, sym, ap, ◌∙◌, arith, le-leb}
+use Rattle.std.proofs.lemmas.Bool.{cases_lt}
+use Rattle.std.proofs.lemmas.Bool.Decides.{nat_tests}
+use Rattle.std.specs.Cmp.{nat_cmp_is}
+use Rattle.std.specs.List.{AllByRecursion}
+use Rattle.std.specs.Option.{option_map}
+use Rattle.std.specs.Ordering.{nat_cmp, ordering_then, is_lt}
+use Rattle.std.specs.declared.cmp.Ordering.TheVariants.{Less, Equal, Greater}
+use Rattle.seg_spec.specs.Heap.{Span, units_at, is_smaller, insert_by_size, AreBySize, first_fit}
+use Rattle.seg_spec.specs.Search.{reaches, Ascend, first_where}
+use Rattle.seg_spec.proofs.Frame.{each_map, each_both, each_weaker}
+use Rattle.seg_spec.proofs.FreeLaws.{IsBefore, smaller_is, not_smaller_is}
+use Rattle.seg_rbtree.specs.Changes.{IsNew, with_node, without_node}
+use Rattle.seg_bestfit.specs.FreeTree.{by_units}
+
+-- the node of a gap
+abbrev pub node_of : Span → ℕ
+node_of g = g.at + 16
+
+test_same : (m n : ℕ) → m ≡ n → eqb m n ≡ true
+test_same m n e = grind (arith, nat_tests)
+
+test_other : (m n : ℕ) → m ≢ n → eqb m n ≡ false
+test_other m n e = grind (arith, nat_tests)
+
+leb_no : (a b : ℕ) → b < a → leb a b ≡ false
+leb_no a b h = grind (arith, nat_tests)
+
+-- ---- numbers
+
+pub cmp_less : (x y : ℕ) → x < y → nat_cmp x y ≡ Less
+cmp_less x y h = sym (nat_cmp_is x y Less h)
+
+pub cmp_equal : (x y : ℕ) → x ≡ y → nat_cmp x y ≡ Equal
+cmp_equal x y h = sym (nat_cmp_is x y Equal h)
+
+pub cmp_greater : (x y : ℕ) → y < x → nat_cmp x y ≡ Greater
+cmp_greater x y h = sym (nat_cmp_is x y Greater h)
+
+before_trans : (f g h : Span) → IsBefore f g → IsBefore g h → IsBefore f h
+before_trans f g h (inl a) (inl b) = inl (omega arith)
+before_trans f g h (inl a) (inr b) = inl (omega (arith, b.0))
+before_trans f g h (inr a) (inl b) = inl (omega (arith, a.0))
+before_trans f g h (inr a) (inr b) = inr (a.0 ∙ b.0, omega (arith, a.1, b.1))
+
+-- what each gap of a list in order is before
+before_all : (g : Span) (hs : List Span) → AreBySize (g ∷ hs) → AllByRecursion (λ h. IsBefore g h) hs
+before_all g [] a = tt
+before_all g (h ∷ hs) a = let first = smaller_is g h a.0 in (first, each_weaker _ _ (λ k l. before_trans g h k first l) hs (before_all h hs a.1))
+
+tail_of : (g : Span) (hs : List Span) → AreBySize (g ∷ hs) → AreBySize hs
+tail_of g [] a = tt
+tail_of g (h ∷ hs) a = a.1
+
+-- being at or above a number of units
+pub fits_is : (x u : ℕ) → reaches Equal (nat_cmp x u) ≡ leb u x
+fits_is x u = go (cases_lt x u) (cases_lt u x)
+  where
+    go : (x < u) ⊎ (u ≤ x) → (u < x) ⊎ (x ≤ u) → reaches Equal (nat_cmp x u) ≡ leb u x
+    go (inl l) b = ap (λ r. reaches Equal r) (cmp_less x u l) ∙ sym (leb_no u x l)
+    go (inr l) (inl m) = ap (λ r. reaches Equal r) (cmp_greater x u m) ∙ sym (le-leb u x l)
+    go (inr l) (inr m) = ap (λ r. reaches Equal r) (cmp_equal x u (omega arith)) ∙ sym (le-leb u x l)
+
+-- ---- nodes
+
+module _ (bytes : List ℕ) where
+  -- the headers of gaps state their sizes
+  abbrev pub HasSize : Span → Type 0
+  HasSize g = units_at bytes g.at ≡ g.units
+
+  abbrev pub HaveSizes : List Span → Type 0
+  HaveSizes gs = AllByRecursion HasSize gs
+
+  node_size : (g : Span) → HasSize g → units_at bytes (g.at + 16 - 16) ≡ g.units
+  node_size g e = let place : g.at + 16 - 16 ≡ g.at = omega arith in ap (units_at bytes) place ∙ e
+
+  by_sizes : (g h : Span) → HasSize g → HasSize h → by_units bytes (node_of g) (node_of h) ≡ ordering_then (nat_cmp g.units h.units) (nat_cmp (node_of g) (node_of h))
+  by_sizes g h e f = λ i. ordering_then (nat_cmp (node_size g e i) (node_size h f i)) (nat_cmp (node_of g) (node_of h))
+
+  pub node_less : (g h : Span) → HasSize g → HasSize h → IsBefore g h → by_units bytes (node_of g) (node_of h) ≡ Less
+  node_less g h e f (inl l) = by_sizes g h e f ∙ ap (λ r. ordering_then r (nat_cmp (node_of g) (node_of h))) (cmp_less g.units h.units l)
+  node_less g h e f (inr l) = by_sizes g h e f ∙ ap (λ r. ordering_then r (nat_cmp (node_of g) (node_of h))) (cmp_equal g.units h.units l.0) ∙ cmp_less (node_of g) (node_of h) (omega (arith, l.1))
+
+  pub node_greater : (g h : Span) → HasSize g → HasSize h → IsBefore h g → by_units bytes (node_of g) (node_of h) ≡ Greater
+  node_greater g h e f (inl l) = by_sizes g h e f ∙ ap (λ r. ordering_then r (nat_cmp (node_of g) (node_of h))) (cmp_greater g.units h.units l)
+  node_greater g h e f (inr l) = by_sizes g h e f ∙ ap (λ r. ordering_then r (nat_cmp (node_of g) (node_of h))) (cmp_equal g.units h.units (sym l.0)) ∙ cmp_greater (node_of g) (node_of h) (omega (arith, l.1))
+
+  node_equal : (g h : Span) → HasSize g → HasSize h → g.units ≡ h.units → g.at ≡ h.at → by_units bytes (node_of g) (node_of h) ≡ Equal
+  node_equal g h e f u a = by_sizes g h e f ∙ ap (λ r. ordering_then r (nat_cmp (node_of g) (node_of h))) (cmp_equal g.units h.units u) ∙ cmp_equal (node_of g) (node_of h) (omega (arith, a))
+
+  -- one node is below another where its gap is smaller, or equally large and lower
+  pub below_is : (g h : Span) → HasSize g → HasSize h → is_lt (by_units bytes (node_of g) (node_of h)) ≡ is_smaller g h
+  below_is g h e f = go (is_smaller g h) refl
+    where
+      not_below : (h.units < g.units) ⊎ ((g.units ≡ h.units) × (h.at ≤ g.at)) → is_lt (by_units bytes (node_of g) (node_of h)) ≡ false
+      not_below (inl l) = ap is_lt (node_greater g h e f (inl l))
+      not_below (inr l) = ⊎_elim (λ k. ap is_lt (node_greater g h e f (inr (sym l.0, k)))) (λ k. ap is_lt (node_equal g h e f l.0 (omega (arith, l.1, k)))) (cases_lt h.at g.at)
+
+      go : (b : Bool) → is_smaller g h ≡ b → is_lt (by_units bytes (node_of g) (node_of h)) ≡ b
+      go true s = ap is_lt (node_less g h e f (smaller_is g h s))
+      go false s = not_below (not_smaller_is g h s)
+
+  -- gaps at two positions never compare as equal
+  pub node_new : (g h : Span) → HasSize g → HasSize h → h.at ≢ g.at → by_units bytes (node_of g) (node_of h) ≢ Equal
+  node_new g h e f ne is = go (cases_lt g.units h.units) (cases_lt h.units g.units) (cases_lt g.at h.at) (cases_lt h.at g.at)
+    where
+      no_less : by_units bytes (node_of g) (node_of h) ≡ Less → ⊥
+      no_less l = cc
+
+      no_greater : by_units bytes (node_of g) (node_of h) ≡ Greater → ⊥
+      no_greater l = cc
+
+      go : (g.units < h.units) ⊎ (h.units ≤ g.units) → (h.units < g.units) ⊎ (g.units ≤ h.units) → (g.at < h.at) ⊎ (h.at ≤ g.at) → (h.at < g.at) ⊎ (g.at ≤ h.at) → ⊥
+      go (inl l) b c d = no_less (node_less g h e f (inl l))
+      go (inr l) (inl m) c d = no_greater (node_greater g h e f (inl m))
+      go (inr l) (inr m) (inl c) d = no_less (node_less g h e f (inr (omega arith, c)))
+      go (inr l) (inr m) (inr c) (inl d) = no_greater (node_greater g h e f (inr (omega arith, d)))
+      go (inr l) (inr m) (inr c) (inr d) = ne (omega arith)
+
+  -- ---- lists of nodes
+
+  pub nodes_ascend : (hs : List Span) → HaveSizes hs → AreBySize hs → Ascend (by_units bytes) (map node_of hs)
+  nodes_ascend [] s a = tt
+  nodes_ascend (g ∷ hs) s a =
+      (each_map (λ y. by_units bytes (node_of g) y ≡ Less) node_of hs (each_both HasSize (λ h. IsBefore g h) (λ h. by_units bytes (node_of g) (node_of h) ≡ Less) (λ h e l. node_less g h s.0 e l) hs s.1 (before_all g hs a)), nodes_ascend hs s.1 (tail_of g hs a))
+
+  pub node_is_new : (g : Span) (hs : List Span) → HasSize g → HaveSizes hs → AllByRecursion (λ (h : Span). h.at ≢ g.at) hs → IsNew (by_units bytes) (node_of g) (map node_of hs)
+  node_is_new g hs e s ne = each_map (λ y. by_units bytes (node_of g) y ≢ Equal) node_of hs (each_both HasSize (λ h. h.at ≢ g.at) (λ h. by_units bytes (node_of g) (node_of h) ≢ Equal) (λ h f n. node_new g h e f n) hs s ne)
+
+  pub with_gap : (g : Span) (hs : List Span) → HasSize g → HaveSizes hs → with_node (by_units bytes) (node_of g) (map node_of hs) ≡ map node_of (insert_by_size g hs)
+  with_gap g [] e s = refl
+  with_gap g (h ∷ hs) e s =
+      let rest = with_gap g hs e s.1 in
+      let go = elim (is_smaller g h) as (λ b. cond b (node_of g ∷ node_of h ∷ map node_of hs) (node_of h ∷ with_node (by_units bytes) (node_of g) (map node_of hs)) ≡ map node_of (cond b (g ∷ h ∷ hs) (h ∷ insert_by_size g hs))) [ true ↦ refl | false ↦ ap (λ l. node_of h ∷ l) rest ] in
+      ap (λ b. cond b (node_of g ∷ node_of h ∷ map node_of hs) (node_of h ∷ with_node (by_units bytes) (node_of g) (map node_of hs))) (below_is g h e s.0) ∙ go
+
+  -- ---- a search
+
+  -- the first node of enough units is that of the first gap that fits
+  pub first_node : (hs : List Span) (u : ℕ) → HaveSizes hs → first_where (λ x. reaches Equal (nat_cmp (units_at bytes (x - 16)) u)) (map node_of hs) ≡ option_map node_of (first_fit hs u)
+  first_node [] u s = refl
+  first_node (h ∷ hs) u s =
+      let rest = first_node hs u s.1 in
+      let found = first_where (λ x. reaches Equal (nat_cmp (units_at bytes (x - 16)) u)) (map node_of hs) in
+      let test = ap (λ x. reaches Equal (nat_cmp x u)) (node_size h s.0) ∙ fits_is h.units u in
+      let go = elim (leb u h.units) as (λ b. cond b (Some (node_of h)) found ≡ option_map node_of (cond b (Some h) (first_fit hs u))) [ true ↦ refl | false ↦ rest ] in
+      ap (λ b. cond b (Some (node_of h)) found) test ∙ go
+
+-- without the node of a gap
+pub without_gap : (g : Span) (hs : List Span) → AllByRecursion (λ (h : Span). h.at ≢ g.at) hs → without_node (node_of g) (map node_of (insert_by_size g hs)) ≡ map node_of hs
+without_gap g [] ne = ap (λ b. cond b [] (node_of g ∷ [])) (test_same (node_of g) (node_of g) refl)
+without_gap g (h ∷ hs) ne =
+    let rest = without_gap g hs ne.1 in
+    elim (is_smaller g h) as (λ b. without_node (node_of g) (map node_of (cond b (g ∷ h ∷ hs) (h ∷ insert_by_size g hs))) ≡ node_of h ∷ map node_of hs) [
+      | true ↦ ap (λ b. cond b (node_of h ∷ map node_of hs) (node_of g ∷ without_node (node_of g) (node_of h ∷ map node_of hs))) (test_same (node_of g) (node_of g) refl)
+      | false ↦ ap (λ b. cond b (map node_of (insert_by_size g hs)) (node_of h ∷ without_node (node_of g) (map node_of (insert_by_size g hs)))) (test_other (node_of g) (node_of h) (λ e. ne.0 (omega (arith, e)))) ∙ ap (λ l. node_of h ∷ l) rest
+    ]

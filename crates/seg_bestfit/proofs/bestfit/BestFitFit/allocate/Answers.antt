@@ -1,0 +1,24 @@
+use Rattle.std.proofs.Common.{length, ap, arith}
+use Rattle.std.specs.Prelude.{⊤}
+use Rattle.seg_spec.specs.Window.{Placement}
+use Rattle.seg_spec.specs.Heap.{heap_start, tiles, gaps}
+use Rattle.seg_spec.proofs.PickLaws.{best_fit-smallest}
+use Rattle.seg_spec.proofs.TileLaws.{Fill-le}
+use Rattle.seg_block.proofs.FreeTiles.{heap_free_blocks, takes_gap}
+use Rattle.seg_block.proofs.Taken.{takes_none}
+use Rattle.seg_bestfit.proofs.bestfit.BestFitFit.allocate.Goals as goal
+
+pub returns-in_err-gap-clause-takes : goal.returns-in_err-gap-clause-takes
+returns-in_err-gap-clause-takes g c = λ h.
+    let old = c.args.w.now.bytes in
+    takes_none old c.args.need c.from_residual.result h (c.in_err-gap.ensures.best (gaps old) h.free (heap_free_blocks old h) (Fill-le (tiles old) heap_start (length old) h.filled) h.small) c.from_residual.ensures
+
+pub returns-clause-takes : goal.returns-clause-takes
+returns-clause-takes g c = λ h.
+    let old = c.args.w.now.bytes in
+    let gap = c.in_ok-gap.gap in
+    let bytes = λ (p : Placement). p.bytes in
+    let best = c.in_ok-gap.ensures.best (gaps old) h.free (heap_free_blocks old h) (Fill-le (tiles old) heap_start (length old) h.filled) h.small in
+    let s = best_fit-smallest (gaps old) c.args.need (record { at = gap.at; units = gap.units }) best in
+    takes_gap (λ _. ⊤) old c.args.need gap.at gap.units h best s.before s.after s.gaps_are c.cut.new.w.bytes c.granted.result c.take.new.w.bytes tt c.granted.ensures c.requires (omega (arith, c.in_ok-gap.ensures.bounds))
+    (λ xs ys _ t. c.take.ensures.tiles xs ys t) (λ k. ap bytes (c.cut.ensures.whole k)) (λ more xs ys _ t. c.cut.ensures.tiles more xs ys t)

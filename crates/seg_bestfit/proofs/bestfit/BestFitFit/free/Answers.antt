@@ -1,0 +1,14 @@
+use Rattle.std.proofs.Common.{ap}
+use Rattle.seg_spec.specs.Window.{Placement}
+use Rattle.seg_block.proofs.LiveBlocks.{unread}
+use Rattle.seg_bestfit.proofs.Freeing.{freed_named}
+use Rattle.seg_bestfit.proofs.bestfit.BestFitFit.free.Goals as goal
+
+pub returns-in_default-clause-gives : goal.returns-in_default-clause-gives
+returns-in_default-clause-gives g c = λ h held. absurd (unread c.args.w.now.bytes c.args.block held.0 h held.1 c.in_default.ensures.read)
+
+pub returns-clause-gives : goal.returns-clause-gives
+returns-clause-gives g c = λ h held.
+    let whole = c.join_before-whole.result in
+    freed_named c.args.w.now.bytes c.absorb.new.w.bytes c.join_before-whole.new.w.bytes c.release.new.w.bytes c.args.block c.in-Some.block.at c.in-Some.block.units c.room_behind-room.result whole.at whole.units h held
+    c.in-Some.ensures.read c.room_behind-room.ensures.room (λ k. ap (λ (p : Placement). p.bytes) (c.absorb.ensures.none k)) c.absorb.ensures.tiles c.join_before-whole.ensures.joins c.release.ensures.tiles

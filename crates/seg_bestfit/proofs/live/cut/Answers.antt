@@ -1,0 +1,12 @@
+use Rattle.std.proofs.Common.{◌-◌, ap, arith}
+use Rattle.std.specs.Prelude.{⊤}
+use Rattle.seg_spec.specs.Window.{Placement}
+use Rattle.seg_block.proofs.Resizing.{cuts}
+use Rattle.seg_bestfit.proofs.live.cut.Goals as goal
+
+pub returns-then-units-block-clause-tiles : goal.returns-then-units-block-clause-tiles
+returns-then-units-block-clause-tiles g c = λ enough xs ys was.
+    let n = c.args.block.units in
+    let u = c.args.units in
+    cuts (λ _. ⊤) (λ _ _ _ _. tt) c.args.w.now.bytes c.split.new.w.bytes c.release.new.w.bytes xs ys c.args.block.at n u (n - u) tt was (omega arith) c.requires.front (omega arith)
+    (ap (λ (p : Placement). p.bytes) c.split.ensures.bytes) (λ zs _ t. c.release.ensures.tiles zs ys t)
