@@ -55,10 +55,7 @@ impl Item {
         } else if word == b"family".as_slice() {
             Item::Constant(ConstantKind::Family, read_name(&mut words)?)
         } else {
-            Item::Instruction(read_instruction(
-                Operation::from_word(word)?,
-                &mut words,
-            )?)
+            Item::Instruction(read_instruction(Operation::from_word(word)?, &mut words)?)
         };
         match words.next() {
             None => Some(item),
