@@ -1,4 +1,5 @@
 pub mod Views
+pub mod Checks
 pub mod Files
 pub mod Parts
 pub mod Clients

@@ -1,7 +1,8 @@
-ghost use Rattle.std.specs.Prelude.{◌≡◌, ◌≢◌, ◌%◌, ◌/◌, ◌↔◌, ℕ, length, slice_get, IsTrue, IfSome, IfNone, FitsSigned};
+ghost use Rattle.std.specs.Prelude.{◌≡◌, ◌≢◌, ◌%◌, ◌/◌, ◌↔◌, ℕ, pos, length, slice_get, IsTrue, IfSome, IfNone, FitsSigned};
 ghost use Rattle.std.specs.Int.{w32};
 ghost use Rattle.seg_spec.specs.Types.{Table};
 ghost use Rattle.client_spec.specs.Code as code;
+ghost use Rattle.client_spec.specs.Operations as table;
 ghost use Rattle.client_spec.specs.Grammar.{IsOperand, IsText, NamesBy, IsNumber, IsInstruction, instruction_bytes};
 ghost use Rattle.client_code.specs.Views.{operand_of, number_of, definition, constants_of, instruction_of};
 
@@ -81,7 +82,10 @@ impl Instruction {
     }
 
     /// The type that the number names, by itself or before a constant.
-    pub fn type_id(self) -> TypeId {
+    pub fn type_id(self) -> TypeId
+        ensures before { (definition self.operation).number ≡ table.Number.TypedName → (n : ℕ) → self.number ≡ pos n → result ≡ n / 256 % 256 }
+        ensures alone { (definition self.operation).number ≢ table.Number.TypedName → (n : ℕ) → self.number ≡ pos n → result ≡ n % 256 }
+    {
         let [low, high, _, _] = self.number.to_le_bytes();
         match self.operation.row().number {
             Number::TypedName => high,
@@ -90,7 +94,9 @@ impl Instruction {
     }
 
     /// The constant that the number names, by itself or behind a type.
-    pub fn constant(self) -> u8 {
+    pub fn constant(self) -> u8
+        ensures { (n : ℕ) → self.number ≡ pos n → result ≡ n % 256 }
+    {
         let [low, _, _, _] = self.number.to_le_bytes();
         low
     }

@@ -1,5 +1,6 @@
 ghost use Rattle.std.specs.Prelude.{◌≡◌, ◌≢◌, ◌≤◌, map, IfSome, IfNone};
 ghost use Rattle.client_code.specs.Views.{row_view, definition, operations};
+ghost use Rattle.client_code.specs.Checks.{checks_of, checks_in};
 ghost use Rattle.client_spec.specs.Code as code;
 ghost use Rattle.client_spec.specs.Operations.{row_of};
 
@@ -220,6 +221,7 @@ pub static ROWS: [Row; 50] = [
 fn rows() -> &'static [Row; 50]
     ensures same { map (λ row. row.operation) result.now ≡ operations }
     ensures rows { map row_view result.now ≡ map definition operations }
+    ensures checks { map checks_in result.now ≡ map checks_of operations }
 {
     &ROWS
 }
@@ -229,6 +231,7 @@ impl Operation {
     pub fn row(self) -> &'static Row
         ensures same { result.now.operation ≡ self }
         ensures row { row_view result.now ≡ definition self }
+        ensures checks { checks_in result.now ≡ checks_of self }
     {
         &rows()[self.number() as usize - 1]
     }
