@@ -5,3 +5,4 @@ pub mod Parts
 pub mod Clients
 pub mod Texts
 pub mod Items
+pub mod Pieces

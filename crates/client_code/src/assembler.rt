@@ -1,47 +1,48 @@
+ghost use Rattle.std.specs.Prelude.{◌≡◌, ◌⊎◌, ℕ, IfOk, IfErr, IfSome, IfNone, IsTrue};
+ghost use Rattle.client_spec.specs.Code as code;
+ghost use Rattle.client_spec.specs.Grammar.{IsClient, Spells, spelling};
+ghost use Rattle.client_spec.specs.Text.{SpellsInText, text_of};
+
 use crate::item::Item;
-use crate::outline::{header_of, is_skipped};
+use crate::outline::is_skipped;
 use crate::parser::parse;
 use crate::types::TYPES_AT;
+use crate::writer::write;
 use seg_raw::Fault;
-use std::alloc::{AllocError, Allocator};
+use std::alloc::Allocator;
 
 /// The client file that a text spells, or `BadLine` with the first line, counted from 1, that is outside the grammar or against
 /// the rules of the file. Where an `END` is missing that is the line behind the last. `Memory` where memory was refused.
-pub fn assemble<A: Allocator>(alloc: A, text: &[u8]) -> Result<Vec<u8, A>, Fault> {
+pub fn assemble<A: Allocator>(alloc: A, text: &[u8]) -> Result<Vec<u8, A>, Fault>
+    ensures found { IfOk result (λ file. (tree : code.Client) × Spells file.items tree × SpellsInText text.now tree) }
+    ensures canonical { IfOk result (λ file. (tree : code.Client) → IsClient tree → text.now ≡ text_of tree → file.items ≡ spelling tree) }
+    ensures wrong { IfErr result (λ fault. (line : ℕ) → fault ≡ Fault.BadLine line → (tree : code.Client) → SpellsInText text.now tree → ⊥) }
+    ensures fault { IfErr result (λ fault. (fault ≡ Fault.Memory) ⊎ ((line : ℕ) × (fault ≡ Fault.BadLine line))) }
+{
     let mut file = Vec::new(alloc);
-    write(&mut file, text)?;
-    let (is_client, place) = match parse(file.as_slice()) {
-        Ok(client) => (true, client.end()),
-        Err(Fault::BadCode(at)) => (false, at),
-        Err(fault) => return Err(fault),
-    };
-    match line_at(text, place) {
-        None if is_client => Ok(file),
-        None => Err(Fault::BadLine(line_count(text).saturating_add(1))),
-        Some(line) => Err(Fault::BadLine(line)),
+    let is_whole = write(&mut file, text)?;
+    match wrong_place(file.as_slice(), is_whole) {
+        None => Ok(file),
+        Some(place) => Err(Fault::BadLine(line_at(text, place))),
     }
 }
 
-/// Writes a file: the header of its lines, and what its lines say, up to the first that says nothing of a client.
-fn write<A: Allocator>(file: &mut Vec<u8, A>, text: &[u8]) -> Result<(), AllocError> {
-    let header = header_of(text);
-    header.append(file)?;
-    let mut left = header.entries();
-    for line in text.split(|byte| *byte == b'\n') {
-        if is_skipped(line) {
-            continue;
-        }
-        match Item::read(line) {
-            Some(item) if left > 0 => item.append(file)?,
-            _ => break,
-        }
-        left -= 1;
+/// The position of the first field of a file that isn't a client's, or the file's end where lines lack. `None` where it is a
+/// client's file and has all lines.
+fn wrong_place(file: &[u8], is_whole: bool) -> Option<u32>
+    ensures right { IfNone result (IsTrue is_whole × ∥ ((tree : code.Client) × Spells file.now tree) ∥₁) }
+    ensures wrong { IfSome result (λ _. IsTrue is_whole → (tree : code.Client) → Spells file.now tree → ⊥) }
+{
+    match parse(file) {
+        Ok(_) if is_whole => None,
+        Ok(client) => Some(client.end()),
+        Err(Fault::BadCode(place)) => Some(place),
+        Err(_) => Some(0),
     }
-    Ok(())
 }
 
-/// The line whose item begins at a position of the file, or would.
-fn line_at(text: &[u8], at: u32) -> Option<u32> {
+/// The line whose item begins at a position of the file, or would; the line behind the last where there is none.
+fn line_at(text: &[u8], at: u32) -> u32 {
     let mut place = TYPES_AT as usize;
     let mut number = 0u32;
     for line in text.split(|byte| *byte == b'\n') {
@@ -50,11 +51,11 @@ fn line_at(text: &[u8], at: u32) -> Option<u32> {
             continue;
         }
         if place >= at as usize {
-            return Some(number);
+            return number;
         }
         place += Item::read(line).map_or(0, |item| item.len());
     }
-    None
+    line_count(text).saturating_add(1)
 }
 
 /// The number of lines. The last may lack its end.

@@ -8,7 +8,7 @@ ghost use Rattle.client_spec.specs.Grammar.{IsOperand, IsNumber};
 ghost use Rattle.client_spec.specs.Text as text;
 ghost use Rattle.client_spec.specs.Text.{words_of, type_word, type_words, operand_words, number_words, instruction_words, SpellsItem};
 ghost use Rattle.client_code.specs.Views.{operand_of, number_of, operation_of, definition, instruction_of};
-ghost use Rattle.client_code.specs.Items.{item_of, item_bytes, IsWritten, IsWords, NamesTypes, IsInSomeClient};
+ghost use Rattle.client_code.specs.Items.{item_of, item_bytes, IsWritten, IsReadable, IsTold, IsWords, NamesTypes, IsInSomeClient};
 
 use crate::constant::ConstantKind;
 use crate::escape::{Bytes, unescaped};
@@ -33,6 +33,7 @@ impl Item {
     /// What a line says. `None` where no line of a client's text is so.
     pub fn read(line: &[u8]) -> Option<Item>
         ensures found { IfSome result (λ item. SpellsItem line.now (item_of item)) }
+        ensures readable { IfSome result (λ item. IsReadable (item_of item)) }
         ensures none { IfNone result ((item : text.Item) → IsWritten item → SpellsItem line.now item → ⊥) }
     {
         match line.strip_prefix(b"text ".as_slice()) {
@@ -44,6 +45,7 @@ impl Item {
     /// What a line of words says.
     fn read_words(line: &[u8]) -> Option<Item>
         ensures found { IfSome result (λ item. SpellsItem line.now (item_of item)) }
+        ensures readable { IfSome result (λ item. IsReadable (item_of item)) }
         ensures none { IfNone result ((item : text.Item) → IsWords item → IsWritten item → SpellsItem line.now item → ⊥) }
     {
         let mut words = Words::new(line);
@@ -157,6 +159,7 @@ fn read_fields(words: &mut Words) -> Option<Fields>
 
 fn read_instruction(operation: Operation, words: &mut Words) -> Option<Instruction>
     ensures found { IfSome result (λ i. (definition operation).word ∷ words_of words.old.line.now ≡ instruction_words (instruction_of i) ++ words_of words.new.line.now) }
+    ensures readable { IfSome result (λ i. IsReadable (text.instruction_item (instruction_of i))) }
     ensures whole { IfSome result (λ i. (j : code.Instruction) → j.operation ≡ operation_of operation → (definition operation).word ∷ words_of words.old.line.now ≡ instruction_words j → words_of words.new.line.now ≡ []) }
     ensures none { IfNone result ((i : code.Instruction) (rest : text.Words) → i.operation ≡ operation_of operation → IsInSomeClient i → (definition operation).word ∷ words_of words.old.line.now ≢ instruction_words i ++ rest) }
 {
@@ -172,6 +175,7 @@ fn read_instruction(operation: Operation, words: &mut Words) -> Option<Instructi
 
 fn read_operand(operand: Operand, words: &mut Words) -> Option<u8>
     ensures found { IfSome result (λ n. words_of words.old.line.now ≡ operand_words (operand_of operand) n ++ words_of words.new.line.now) }
+    ensures right { IfSome result (λ n. IsOperand (operand_of operand) n) }
     ensures none { IfNone result ((n : ℕ) (rest : text.Words) → IsOperand (operand_of operand) n → words_of words.old.line.now ≢ operand_words (operand_of operand) n ++ rest) }
 {
     match operand {
@@ -196,6 +200,7 @@ fn read_register(word: &[u8]) -> Option<u8>
 
 fn read_number(number: Number, words: &mut Words) -> Option<i32>
     ensures found { IfSome result (λ n. words_of words.old.line.now ≡ number_words (number_of number) n ++ words_of words.new.line.now) }
+    ensures told { IfSome result (λ n. IsTold (number_of number) n) }
     ensures range { IfSome result (λ n. FitsSigned w32 n) }
     ensures none { IfNone result ((types : Table) (constants : List code.Constant) (b : ℕ) (n : ℤ) (rest : text.Words) → length types ≤ 32 → length constants ≤ 256 → FitsSigned w32 n → IsNumber types constants b (number_of number) n
         → words_of words.old.line.now ≢ number_words (number_of number) n ++ rest) }

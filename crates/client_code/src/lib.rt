@@ -17,6 +17,7 @@ mod printer;
 mod table;
 mod types;
 mod words;
+mod writer;
 
 pub use assembler::assemble;
 pub use client::{Client, Constants};

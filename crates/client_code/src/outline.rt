@@ -1,3 +1,6 @@
+ghost use Rattle.std.specs.Prelude.{◌≡◌, not};
+ghost use Rattle.client_spec.specs.Text.{is_meant};
+
 use crate::header::{Header, MOST_CONSTANTS, MOST_INSTRUCTIONS};
 use crate::types::MOST_TYPES;
 use crate::words::Words;
@@ -22,8 +25,10 @@ impl Section {
 }
 
 /// Whether a line of the text says nothing.
-pub fn is_skipped(line: &[u8]) -> bool {
-    line.first() == Some(&b';') || line.iter().all(|byte| *byte == b' ')
+pub fn is_skipped(line: &[u8]) -> bool
+    ensures { result ≡ not (is_meant line.now) }
+{
+    line.first() == Some(&b';') || Words::new(line).next().is_none()
 }
 
 /// The header that counts the lines of a text, up to the first line that stands behind a later section or is one too many.

@@ -1,0 +1,4 @@
+pub mod Views
+pub mod Passing
+pub mod Verifiers
+pub mod Refusals

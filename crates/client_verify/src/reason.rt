@@ -1,3 +1,7 @@
+ghost use Rattle.std.specs.Prelude.{◌≡◌};
+ghost use Rattle.client_spec.specs.Typed.{reason_number};
+ghost use Rattle.client_verify.specs.Views.{reason_of};
+
 /// Why an instruction is rejected.
 #[derive(Debug, Clone, Copy, PartialEq, Eq)]
 pub enum Reason {
@@ -13,7 +17,9 @@ pub enum Reason {
 
 impl Reason {
     /// The number that is printed.
-    pub fn number(self) -> u8 {
+    pub fn number(self) -> u8
+        ensures { result ≡ reason_number (reason_of self) }
+    {
         self as u8
     }
 }

@@ -1,3 +1,8 @@
+ghost use Rattle.std.specs.Prelude.{◌≡◌};
+ghost use Rattle.client_spec.specs.Typed as typed;
+ghost use Rattle.client_verify.specs.Views.{class_of, known_of, checked};
+
+use crate::reason::Reason;
 use seg_layout::TypeId;
 
 /// What a reference leads into. References of one class may lead to one value.
@@ -27,23 +32,46 @@ pub enum RegisterType {
 
 impl RegisterType {
     /// Whether the register owns an object.
-    pub fn is_owner(self) -> bool {
+    pub fn is_owner(self) -> bool
+        ensures { result ≡ typed.is_owner (known_of self) }
+    {
         matches!(self, RegisterType::Owner(_))
     }
 
-    /// Whether it is a reference of the class.
-    pub fn is_in(self, class: Class) -> bool {
-        matches!(self, RegisterType::Reference(own, _) if own == class)
+    /// The same, unless it is a reference of the class, of which nothing is known any more.
+    pub fn without(self, class: Class) -> RegisterType
+        ensures { known_of result ≡ typed.without_class (class_of class) (known_of self) }
+    {
+        match self {
+            RegisterType::Reference(own, _) if own == class => RegisterType::Undefined,
+            _ => self,
+        }
     }
 
-    /// At the `END` of an opener: what is known in both parts. `None` where an owner would be lost.
-    pub fn joined(self, other: RegisterType) -> Option<RegisterType> {
+    /// At the `END` of an opener: what is known in both parts. `OwnerLost` where an owner is in one only.
+    pub fn joined(self, other: RegisterType) -> Result<RegisterType, Reason>
+        ensures { checked known_of result ≡ typed.joined_one (known_of self) (known_of other) }
+    {
         if self == other {
-            Some(self)
+            Ok(self)
         } else if self.is_owner() || other.is_owner() {
-            None
+            Err(Reason::OwnerLost)
         } else {
-            Some(RegisterType::Undefined)
+            Ok(RegisterType::Undefined)
         }
+    }
+
+    /// At the `END` of a loop's body, where this was known in front of it: whether that may be known now.
+    pub fn keeps(self, after: RegisterType) -> Result<(), Reason>
+        ensures { checked (λ x. x) result ≡ typed.kept_one (known_of self) (known_of after) }
+    {
+        if self == RegisterType::Undefined {
+            if after.is_owner() {
+                return Err(Reason::OwnerLost);
+            }
+        } else if self != after {
+            return Err(Reason::ChangedInLoop);
+        }
+        Ok(())
     }
 }

@@ -1,17 +1,32 @@
+ghost use Rattle.std.specs.Prelude.{◌≡◌, replicate, slice_set};
+ghost use Rattle.client_spec.specs.Typed as typed;
+ghost use Rattle.client_verify.specs.Views.{class_of, known_of, registers_of, checked};
+
 use crate::reason::Reason;
 use crate::register::{Class, RegisterType};
 
 const COUNT: usize = 16;
 
 /// What is known of each register at a place of the code.
-#[derive(Debug, Clone, Copy, PartialEq, Eq, Default)]
+#[derive(Debug, Clone, Copy, PartialEq, Eq)]
 pub struct Registers {
     types: [RegisterType; COUNT],
 }
 
 impl Registers {
+    /// Nothing is known of any register.
+    pub fn new() -> Registers
+        ensures { registers_of result ≡ replicate 16 typed.RegisterType.Undefined }
+    {
+        Registers {
+            types: [RegisterType::Undefined; COUNT],
+        }
+    }
+
     /// What is known of a register; nothing of one past the last.
-    pub fn get(&self, register: u8) -> RegisterType {
+    pub fn get(&self, register: u8) -> RegisterType
+        ensures { known_of result ≡ typed.known (registers_of self.now) register }
+    {
         self.types
             .get(usize::from(register))
             .copied()
@@ -19,55 +34,57 @@ impl Registers {
     }
 
     /// Makes it known that a register holds this.
-    pub fn set(&mut self, register: u8, to: RegisterType) {
+    pub fn set(&mut self, register: u8, to: RegisterType)
+        ensures { registers_of self.new ≡ slice_set (registers_of self.old) register (known_of to) }
+    {
         if let Some(place) = self.types.get_mut(usize::from(register)) {
             *place = to;
         }
     }
 
     /// Ends the references of a class.
-    pub fn end(&mut self, class: Class) {
+    pub fn end(&mut self, class: Class)
+        ensures { registers_of self.new ≡ typed.ended (class_of class) (registers_of self.old) }
+    {
         for register in self.types.iter_mut() {
-            if register.is_in(class) {
-                *register = RegisterType::Undefined;
-            }
+            *register = register.without(class);
         }
     }
 
     /// Ends the references of a class, but for the one in a register.
-    pub fn end_others(&mut self, class: Class, register: u8) {
+    pub fn end_others(&mut self, class: Class, register: u8)
+        ensures { registers_of self.new ≡ typed.others_ended (class_of class) register (registers_of self.old) }
+    {
         let kept = self.get(register);
         self.end(class);
         self.set(register, kept);
     }
 
     /// Ends the references into the object of a register, which owns it no more.
-    pub fn empty(&mut self, register: u8) {
+    pub fn empty(&mut self, register: u8)
+        ensures { registers_of self.new ≡ slice_set (typed.ended (typed.Class.Register register) (registers_of self.old)) register typed.RegisterType.Undefined }
+    {
         self.end(Class::Register(register));
         self.set(register, RegisterType::Undefined);
     }
 
     /// What is known behind the `END` of an opener, from what is known at the ends of its two parts.
-    pub fn joined(&self, other: &Registers) -> Result<Registers, Reason> {
-        let mut both = Registers::default();
+    pub fn joined(&self, other: &Registers) -> Result<Registers, Reason>
+        ensures { checked registers_of result ≡ typed.joined (registers_of self.now) (registers_of other.now) }
+    {
+        let mut both = Registers::new();
         for i in 0..COUNT {
-            both.types[i] = self.types[i]
-                .joined(other.types[i])
-                .ok_or(Reason::OwnerLost)?;
+            both.types[i] = self.types[i].joined(other.types[i])?;
         }
         Ok(both)
     }
 
     /// Whether a loop's body, which found these registers, may leave those.
-    pub fn keeps(&self, after: &Registers) -> Result<(), Reason> {
+    pub fn keeps(&self, after: &Registers) -> Result<(), Reason>
+        ensures { checked (λ x. x) result ≡ typed.kept (registers_of self.now) (registers_of after.now) }
+    {
         for i in 0..COUNT {
-            let before = self.types[i];
-            if before == RegisterType::Undefined && after.types[i].is_owner() {
-                return Err(Reason::OwnerLost);
-            }
-            if before != RegisterType::Undefined && before != after.types[i] {
-                return Err(Reason::ChangedInLoop);
-            }
+            self.types[i].keeps(after.types[i])?;
         }
         Ok(())
     }

@@ -1,3 +1,11 @@
+ghost use Rattle.std.specs.Prelude.{◌≡◌, List};
+ghost use Rattle.client_spec.specs.Code as code;
+ghost use Rattle.client_spec.specs.Grammar.{IsInstruction};
+ghost use Rattle.client_code.specs.Views.{instruction_of, definition};
+ghost use Rattle.client_code.specs.Checks.{checks_in, checks_of};
+ghost use Rattle.client_verify.specs.Views.{registers_of, both_of, checked};
+ghost use Rattle.client_verify.specs.Passing.{rule_at};
+
 use crate::reason::Reason;
 use crate::register::{Class, RegisterType};
 use crate::registers::Registers;
@@ -18,10 +26,15 @@ pub struct Rule<'a> {
     before: &'a Registers,
     instruction: Instruction,
     row: &'static Row,
+    ghost own: { checks_in row.now ≡ checks_of instruction.operation },
 }
 
 impl<'a> Rule<'a> {
-    pub fn new(types: &'a TypeTable, before: &'a Registers, instruction: Instruction) -> Rule<'a> {
+    pub fn new(types: &'a TypeTable, before: &'a Registers, instruction: Instruction) -> Rule<'a>
+        ensures types { result.types.now ≡ types.now }
+        ensures before { result.before.now ≡ before.now }
+        ensures instruction { result.instruction ≡ instruction }
+    {
         let row = instruction.operation.row();
         Rule {
             types,
@@ -32,7 +45,10 @@ impl<'a> Rule<'a> {
     }
 
     /// What is known behind the instruction, or the first reason to reject it.
-    pub fn apply(&self) -> Result<After, Reason> {
+    pub fn apply(&self) -> Result<After, Reason>
+        ensures { (constants : List code.Constant) → IsInstruction self.now.types.now constants (definition self.now.instruction.operation).place (instruction_of self.now.instruction)
+            → checked both_of result ≡ rule_at self.now.types.now constants (instruction_of self.now.instruction) (registers_of self.now.before.now) }
+    {
         self.check()?;
         let ended = self.ended();
         let mut after = After {

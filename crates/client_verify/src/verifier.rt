@@ -1,3 +1,12 @@
+ghost use Rattle.std.specs.Prelude.{◌≡◌, List, replicate, [], IfOk, IfErr, Ok, Err};
+ghost use Rattle.client_spec.specs.Code as code;
+ghost use Rattle.client_spec.specs.Grammar.{IsInstruction};
+ghost use Rattle.client_spec.specs.Typed as typed;
+ghost use Rattle.client_code.specs.Views.{instruction_of, definition};
+ghost use Rattle.client_verify.specs.Views.{reason_of};
+ghost use Rattle.client_verify.specs.Passing.{passes};
+ghost use Rattle.client_verify.specs.Verifiers.{progress_of};
+
 use crate::reason::Reason;
 use crate::registers::Registers;
 use crate::rule::Rule;
@@ -27,7 +36,7 @@ impl Default for Open {
     fn default() -> Open {
         Open {
             part: Part::Success {
-                otherwise: Registers::default(),
+                otherwise: Registers::new(),
             },
             steps: 0,
         }
@@ -46,22 +55,33 @@ pub struct Verifier<'a> {
 
 impl<'a> Verifier<'a> {
     /// In front of the code.
-    pub fn new(types: &'a TypeTable) -> Verifier<'a> {
+    pub fn new(types: &'a TypeTable) -> Verifier<'a>
+        ensures types { result.types.now ≡ types.now }
+        ensures start { progress_of result ≡ record { known = replicate 16 typed.RegisterType.Undefined; steps = 0; parts = [] } }
+    {
         Verifier {
             types,
-            registers: Registers::default(),
+            registers: Registers::new(),
             steps: 0,
             parts: ArrayVec::new(),
         }
     }
 
     /// The most steps of the code so far.
-    pub fn steps(&self) -> u64 {
+    pub fn steps(&self) -> u64
+        ensures { result ≡ self.now.steps }
+    {
         self.steps
     }
 
     /// Goes past an instruction.
-    pub fn pass(&mut self, instruction: Instruction) -> Result<(), Reason> {
+    pub fn pass(&mut self, instruction: Instruction) -> Result<(), Reason>
+        ensures types { self.new.types.now ≡ self.old.types.now }
+        ensures passed { IfOk result (λ _. (constants : List code.Constant) → IsInstruction self.old.types.now constants (definition instruction.operation).place (instruction_of instruction)
+            → passes self.old.types.now constants (progress_of self.old) (instruction_of instruction) ≡ Ok (progress_of self.new)) }
+        ensures refused { IfErr result (λ reason. (constants : List code.Constant) → IsInstruction self.old.types.now constants (definition instruction.operation).place (instruction_of instruction)
+            → passes self.old.types.now constants (progress_of self.old) (instruction_of instruction) ≡ Err (reason_of reason)) }
+    {
         match instruction.operation.row().place {
             Place::Plain => self.perform(instruction),
             Place::Opener => self.open(instruction),
