@@ -104,3 +104,9 @@ not_types (f ∷ fields) (t ∷ types) word rest small none e = not_types fields
 pub some_given : {T : Type 0} (X : Type 0) (P Q : T → Type 0) (r : Option T) → MatchOption r X P → ((x : T) → P x → Q x) → IfSome r Q
 some_given X P Q None given f = tt
 some_given X P Q (Some x) given f = f x given
+
+-- fields that are few, of types with numbers of a byte
+pub few_small : (A : Type 0) (types : List ℕ) (fields : Option (List ℕ)) → MatchOption fields A (λ found. found ≡ types) → IfSome fields (λ found. (1 ≤ length found) × (length found ≤ 8)) → All (λ U. U < 256) types
+    → IfSome fields (λ found. (1 ≤ length found) × (length found ≤ 8) × All (λ U. U < 256) found)
+few_small A types None same few small = tt
+few_small A types (Some fields) same few small = (few.0, few.1, subst (All (λ U. U < 256)) (sym same) small)

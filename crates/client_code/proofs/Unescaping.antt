@@ -2,7 +2,7 @@
 use Rattle.std.proofs.Common.{◌≡◌, ℕ, ◌/◌, ◌%◌, ◌<◌, ◌≤◌, true, List, [], ◌∷◌, ◌++◌, length, refl, sym, ap, ◌∙◌, subst, arith, inl, inr, append_assoc, append-nil, length-append, All}
 use Rattle.std.specs.Prelude.{◌⊎◌, Option, Some, None, Result, Ok, Err, OnOk, OnErr}
 use Rattle.std.specs.Result.{result_ok}
-use Rattle.std.proofs.lemmas.List.Elements.{All-head, All-tail}
+use Rattle.std.proofs.lemmas.List.Elements.{All-nil, All-cons, All-append, All-head, All-tail}
 use Rattle.client_spec.specs.Text.{SpellsText, is_plain, escaped, hex_digit}
 use Rattle.client_spec.proofs.TextWords.{tail_of}
 use Rattle.client_spec.proofs.OneText.{not_plain, escape_one}
@@ -28,15 +28,17 @@ not_empty b behind s (inr e) none = let z : [] ≡ escaped b ++ behind = sym non
 
 -- what a text is from here on: these bytes, and a tail that the rest spells
 pub record Reads (spelling bytes rest : List ℕ) : Type 0 where
+  pub small : All (λ b. b < 256) bytes
   pub forth : (tail : List ℕ) → SpellsText tail rest → SpellsText (bytes ++ tail) spelling
   pub back : (all : List ℕ) → All (λ b. b < 256) all → SpellsText all spelling → (tail : List ℕ) × (all ≡ bytes ++ tail) × All (λ b. b < 256) tail × SpellsText tail rest
 
 pub begin : (spelling : List ℕ) → Reads spelling [] spelling
-begin spelling = record { forth = λ tail spells. spells; back = λ all bytes spells. (all, refl, bytes, spells) }
+begin spelling = record { small = All-nil (λ b. b < 256); forth = λ tail spells. spells; back = λ all bytes spells. (all, refl, bytes, spells) }
 
 -- one byte further
 pub further : (spelling bytes rest : List ℕ) (b : ℕ) (behind : List ℕ) → b < 256 → Reads spelling bytes rest → SpellsByte b behind rest → Reads spelling (bytes ++ b ∷ []) behind
 further spelling bytes rest b behind small reads here = record {
+  small = All-append (λ x. x < 256) bytes (b ∷ []) reads.small (All-cons (λ x. x < 256) b [] small (All-nil (λ x. x < 256)));
   forth = λ tail spells. subst (λ xs. SpellsText xs spelling) (sym (append_assoc bytes (b ∷ []) tail)) (reads.forth (b ∷ tail) (behind, spells, here));
   back = λ all bounded spells. let (tail, e, below, rest_spells) = reads.back all bounded spells in
       split all tail e below rest_spells;

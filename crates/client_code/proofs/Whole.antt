@@ -10,6 +10,7 @@ use Rattle.seg_spec.proofs.EntryLaws.{length-table, one_table}
 use Rattle.client_spec.specs.Code.{Constant, Statements, Client}
 use Rattle.client_spec.specs.Grammar.{word, constant_bytes, instruction_bytes, listing, Spells}
 use Rattle.client_spec.specs.Code.{Instruction}
+use Rattle.client_spec.specs.Pieces.{pieces_of}
 use Rattle.client_spec.proofs.OneClient.{constant_front, instruction_front, IsWord, words, all_long, spelling_is, behind}
 use Rattle.std.specs.Int.{w32}
 use Rattle.std.specs.Option.{option_map}
@@ -75,7 +76,7 @@ module _ (file : List ℕ) (client : Client) (place : ℕ) (parts : AreParts fil
   word_is : (at n : ℕ) → at + 4 ≤ length file → number 4 file at ≡ n → slice file at 4 ≡ word n
   word_is at n h e = word_back file at h small ∙ ap word e
 
-  file_is : file ≡ codes "SEGC" ++ (word 1 ++ behind client)
+  file_is : file ≡ codes "SEGC" ++ (word 1 ++ behind (pieces_of client))
   file_is =
       let h = parts.header in
       let whole = h.whole in

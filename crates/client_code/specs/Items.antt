@@ -2,14 +2,13 @@
 --     item_of item          an item of the program as the definitions know it
 --     IsWritten item        an item that may stand in a client, as far as it is known without the others
 --     item_bytes item       its bytes in a client file
---     IsReadable item       an item that the reader of lines makes: a line spells no two of them
 --     IsWords item          its line is words parted by spaces
-use Rattle.std.specs.Prelude.{◌≡◌, ⊤, ◌≤◌, ◌<◌, ℕ, ℤ, pos, negsuc, List, length, All, FitsSigned}
+use Rattle.std.specs.Prelude.{⊤, ◌≤◌, ◌<◌, ℕ, List, length, All, FitsSigned}
 use Rattle.std.specs.Int.{w32}
 use Rattle.seg_spec.specs.Types.{Form, Table, form_bytes}
 use Rattle.seg_layout.specs.Forms.{form_of, HasFewFields}
 use Rattle.client_spec.specs.Code as code
-use Rattle.client_spec.specs.Operations.{Number, row_of}
+use Rattle.client_spec.specs.Operations.{row_of}
 use Rattle.client_spec.specs.Grammar.{IsConstant, IsOperand, IsNumber, constant_bytes, instruction_bytes}
 use Rattle.client_spec.specs.Text as text
 use Rattle.client_code.specs.declared.item.Item.{Item}
@@ -53,32 +52,6 @@ abbrev pub item_bytes : text.Item → List ℕ
 item_bytes (text.type_item form) = form_bytes form
 item_bytes (text.constant_item constant) = constant_bytes constant
 item_bytes (text.instruction_item i) = instruction_bytes i
-
--- what a constant holds
-abbrev pub held_by : code.Constant → List ℕ
-held_by (code.Constant.Text bytes) = bytes
-held_by (code.Constant.Name name) = name
-held_by (code.Constant.Family prefix) = prefix
-
--- a number whose words tell it
-abbrev pub IsTold : Number → ℤ → Type 0
-IsTold Number.Unused n = n ≡ pos 0
-IsTold Number.Any n = ⊤
-IsTold Number.Turns n = ⊤
-IsTold form (pos n) = ⊤
-IsTold form (negsuc n) = ⊥
-
-pub record IsReadableInstruction (i : code.Instruction) : Type 0 where
-  pub a : IsOperand (row_of i.operation).a i.a
-  pub b : IsOperand (row_of i.operation).b i.b
-  pub c : IsOperand (row_of i.operation).c i.c
-  pub number : IsTold (row_of i.operation).number i.number
-  pub range : FitsSigned w32 i.number
-
-abbrev pub IsReadable : text.Item → Type 0
-IsReadable (text.type_item form) = HasFewFields form × NamesTypes form
-IsReadable (text.constant_item constant) = (length (held_by constant) ≤ 255) × All (λ b. b < 256) (held_by constant)
-IsReadable (text.instruction_item i) = IsReadableInstruction i
 
 -- an item whose line is words
 abbrev pub IsWords : text.Item → Type 0

@@ -5,4 +5,3 @@ pub mod Parts
 pub mod Clients
 pub mod Texts
 pub mod Items
-pub mod Pieces

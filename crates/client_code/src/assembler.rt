@@ -30,7 +30,7 @@ pub fn assemble<A: Allocator>(alloc: A, text: &[u8]) -> Result<Vec<u8, A>, Fault
 /// The position of the first field of a file that isn't a client's, or the file's end where lines lack. `None` where it is a
 /// client's file and has all lines.
 fn wrong_place(file: &[u8], is_whole: bool) -> Option<u32>
-    ensures right { IfNone result (IsTrue is_whole × ∥ ((tree : code.Client) × Spells file.now tree) ∥₁) }
+    ensures right { IfNone result (IsTrue is_whole × (tree : code.Client) × Spells file.now tree) }
     ensures wrong { IfSome result (λ _. IsTrue is_whole → (tree : code.Client) → Spells file.now tree → ⊥) }
 {
     match parse(file) {

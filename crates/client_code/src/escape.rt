@@ -58,6 +58,7 @@ fn first(spelling: &[u8]) -> Option<(u8, &[u8])>
 /// The bytes that a spelling of a text stands for, if they aren't too many.
 pub fn unescaped(spelling: &[u8]) -> Option<Bytes>
     ensures found { IfSome result (λ bytes. SpellsText bytes.items spelling.now) }
+    ensures bytes { IfSome result (λ bytes. All (λ b. b < 256) bytes.items) }
     ensures none { IfNone result ((bytes : List ℕ) → length bytes ≤ LONGEST → All (λ b. b < 256) bytes → SpellsText bytes spelling.now → ⊥) }
 {
     let mut bytes = ArrayVec::new();

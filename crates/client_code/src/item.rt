@@ -1,14 +1,15 @@
 ghost use Rattle.std.specs.Prelude.{◌≡◌, ◌≢◌, ◌≤◌, ◌<◌, ◌∷◌, ◌++◌, [], ℕ, ℤ, List, map, codes, length, All, IfSome, IfNone, OnOk, FitsSigned};
 ghost use Rattle.std.specs.Int.{w32};
 ghost use Rattle.std.specs.Fmt.{decimal};
-ghost use Rattle.seg_spec.specs.Types.{Form, Table};
+ghost use Rattle.seg_spec.specs.Types.{Form, IsForm, Table};
 ghost use Rattle.seg_layout.specs.Forms.{form_of, HasFewFields};
 ghost use Rattle.client_spec.specs.Code as code;
 ghost use Rattle.client_spec.specs.Grammar.{IsOperand, IsNumber};
 ghost use Rattle.client_spec.specs.Text as text;
 ghost use Rattle.client_spec.specs.Text.{words_of, type_word, type_words, operand_words, number_words, instruction_words, SpellsItem};
+ghost use Rattle.client_spec.specs.Pieces.{IsReadable, IsTold, IsToldInstruction};
 ghost use Rattle.client_code.specs.Views.{operand_of, number_of, operation_of, definition, instruction_of};
-ghost use Rattle.client_code.specs.Items.{item_of, item_bytes, IsWritten, IsReadable, IsTold, IsWords, NamesTypes, IsInSomeClient};
+ghost use Rattle.client_code.specs.Items.{item_of, item_bytes, IsWritten, IsWords, NamesTypes, IsInSomeClient};
 
 use crate::constant::ConstantKind;
 use crate::escape::{Bytes, unescaped};
@@ -103,6 +104,7 @@ fn read_name(words: &mut Words) -> Option<Bytes>
 
 fn read_type(words: &mut Words) -> Option<Type>
     ensures found { IfSome result (λ t. words_of words.old.line.now ≡ type_words (form_of t) ++ words_of words.new.line.now) }
+    ensures readable { IfSome result (λ t. IsForm 256 256 (form_of t)) }
     ensures whole { IfSome result (λ t. (form : Form) → words_of words.old.line.now ≡ type_words form → words_of words.new.line.now ≡ []) }
     ensures none { IfNone result ((form : Form) → HasFewFields form → NamesTypes form → words_of words.old.line.now ≢ type_words form) }
 {
@@ -112,7 +114,7 @@ fn read_type(words: &mut Words) -> Option<Type>
     } else if word == b"str".as_slice() {
         Some(Type::Str)
     } else if word == b"struct".as_slice() {
-        read_fields(words).map(Type::Struct)
+        Some(Type::Struct(read_fields(words)?))
     } else {
         container(word, read_part(words)?)
     }
@@ -121,6 +123,7 @@ fn read_type(words: &mut Words) -> Option<Type>
 /// The type of what holds values of another type, by its word.
 fn container(word: &[u8], item: TypeId) -> Option<Type>
     ensures found { IfSome result (λ t. type_words (form_of t) ≡ word.now ∷ type_word item ∷ []) }
+    ensures readable { IfSome result (λ t. IsForm 256 256 (form_of t)) }
     ensures none { IfNone result ((form : Form) (part : ℕ) → word.now ≢ codes "struct" → type_words form ≢ word.now ∷ type_word part ∷ []) }
 {
     if word == b"vec".as_slice() {
@@ -147,6 +150,7 @@ fn read_part(words: &mut Words) -> Option<TypeId>
 
 fn read_fields(words: &mut Words) -> Option<Fields>
     ensures found { IfSome result (λ fields. words_of words.old.line.now ≡ map type_word fields ++ words_of words.new.line.now) }
+    ensures readable { IfSome result (λ fields. (1 ≤ length fields) × (length fields ≤ 8) × All (λ U. U < 256) fields) }
     ensures whole { IfSome result (λ fields. words_of words.new.line.now ≡ []) }
     ensures none { IfNone result ((types : List ℕ) → 1 ≤ length types → length types ≤ 8 → All (λ t. t < 256) types → words_of words.old.line.now ≢ map type_word types) }
 {
@@ -159,7 +163,7 @@ fn read_fields(words: &mut Words) -> Option<Fields>
 
 fn read_instruction(operation: Operation, words: &mut Words) -> Option<Instruction>
     ensures found { IfSome result (λ i. (definition operation).word ∷ words_of words.old.line.now ≡ instruction_words (instruction_of i) ++ words_of words.new.line.now) }
-    ensures readable { IfSome result (λ i. IsReadable (text.instruction_item (instruction_of i))) }
+    ensures readable { IfSome result (λ i. IsToldInstruction (instruction_of i)) }
     ensures whole { IfSome result (λ i. (j : code.Instruction) → j.operation ≡ operation_of operation → (definition operation).word ∷ words_of words.old.line.now ≡ instruction_words j → words_of words.new.line.now ≡ []) }
     ensures none { IfNone result ((i : code.Instruction) (rest : text.Words) → i.operation ≡ operation_of operation → IsInSomeClient i → (definition operation).word ∷ words_of words.old.line.now ≢ instruction_words i ++ rest) }
 {

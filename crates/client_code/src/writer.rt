@@ -1,7 +1,7 @@
 ghost use Rattle.std.specs.Prelude.{◌≡◌, ◌++◌, IfOk, IsTrue, IsFalse};
 ghost use Rattle.client_spec.specs.Code as code;
 ghost use Rattle.client_spec.specs.Text.{SpellsInText};
-ghost use Rattle.client_code.specs.Pieces.{Pieces, Says, file_of};
+ghost use Rattle.client_spec.specs.Pieces.{Pieces, Says, file_of};
 
 use crate::item::Item;
 use crate::outline::{header_of, is_skipped};

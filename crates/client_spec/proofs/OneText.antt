@@ -1,36 +1,21 @@
 -- A text spells one client at most.
 use Rattle.std.proofs.Common.{◌≡◌, ℕ, suc, ◌+◌, ◌/◌, ◌%◌, ◌^◌, ◌<◌, ◌≤◌, ℤ, pos, negsuc, Bool, true, false, List, [], ◌∷◌, ◌++◌, length, map, refl, sym, ap, ◌∙◌, subst, arith, inl, inr, append-nil, append_assoc, length-append}
-use Rattle.std.specs.Prelude.{⊤, if◌then◌else◌, nat_lt, codes, flat_map, FitsSigned, All}
+use Rattle.std.specs.Prelude.{if◌then◌else◌, nat_lt, codes, flat_map, FitsSigned}
 use Rattle.std.specs.List.{AllByRecursion}
 use Rattle.std.specs.Int.{w32}
 use Rattle.std.specs.Fmt.{decimal, signed_decimal}
 use Rattle.std.proofs.lemmas.Fmt.{decimal_by_steps}
-use Rattle.std.proofs.lemmas.Int.{ints}
 use Rattle.std.proofs.lemmas.Bool.{ltb-true}
-use Rattle.std.proofs.lemmas.List.Elements.{All-head, All-tail}
-use Rattle.seg_spec.specs.Types.{Form, Table, IsForm}
-use Rattle.seg_spec.proofs.TypesLaws.{all_forms}
-use Rattle.seg_spec.proofs.MoreTypes.{below_length}
+use Rattle.seg_spec.specs.Types.{Form, IsForm}
 use Rattle.client_spec.specs.Code.{Constant, Operation, Instruction, Client}
 use Rattle.client_spec.specs.Machine.{same_name}
 use Rattle.client_spec.specs.Operations.{Number, row_of}
-use Rattle.client_spec.specs.Grammar.{IsConstant, IsOperand, IsNumber, IsCode, IsClient, listing}
-use Rattle.client_spec.specs.Text.{Item, type_item, constant_item, instruction_item, items_of, Words, operand_words, type_word, constant_word, number_words, instruction_words, type_words, words_of, SpellsText, is_plain, escaped, hex_digit, SpellsItem, EachSpells, SpellsInText}
-use Rattle.client_spec.proofs.Listed.{all_two, all_listed}
-use Rattle.client_spec.proofs.OneTree.{one_code}
+use Rattle.client_spec.specs.Text.{Item, type_item, constant_item, instruction_item, Words, operand_words, type_word, constant_word, number_words, instruction_words, type_words, words_of, SpellsText, is_plain, escaped, hex_digit, SpellsItem, EachSpells, SpellsInText}
+use Rattle.client_spec.specs.Pieces.{Pieces, pieces_of, items_in, IsTold, IsToldInstruction, IsReadable, Says}
+use Rattle.client_spec.proofs.Listed.{all_two}
+use Rattle.client_spec.proofs.Readable.{each_of, of_client}
+use Rattle.client_spec.proofs.OneClient.{one_tree}
 use Rattle.client_spec.proofs.TextWords.{tail_of, front, decimal_one, lettered_one, word_one, types_one, same_operation, operand_length, operand_one}
-
--- ---- instructions that are right with some types and constants
-
-record IsRight (types : Table) (constants : List Constant) (o : Operation) (a b c : ℕ) (n : ℤ) : Type 0 where
-  at_a : IsOperand (row_of o).a a
-  at_b : IsOperand (row_of o).b b
-  at_c : IsOperand (row_of o).c c
-  at_number : IsNumber types constants b (row_of o).number n
-  range : FitsSigned w32 n
-
-abbrev Right : Table → List Constant → Instruction → Type 0
-Right types constants i = IsRight types constants i.operation i.a i.b i.c i.number
 
 -- ---- numbers
 
@@ -48,52 +33,54 @@ signed_one (negsuc n) (negsuc m) h k e =
 divided : (n m : ℕ) → n / 256 ≡ m / 256 → n % 256 ≡ m % 256 → n ≡ m
 divided n m e f = omega arith
 
-module _ (types : Table) (constants : List Constant) (types2 : Table) (constants2 : List Constant) where
-  number_one : (form : Number) (b c : ℕ) (x y : ℤ) → IsNumber types constants b form x → IsNumber types2 constants2 c form y → FitsSigned w32 x → FitsSigned w32 y → number_words form x ≡ number_words form y → x ≡ y
-  number_one Number.Unused b c x y h k f g e = h ∙ sym k
-  number_one Number.Any b c x y h k f g e = signed_one x y f g (word_one _ _ e)
-  number_one Number.Turns b c x y h k f g e = signed_one x y f g (word_one _ _ e)
-  number_one Number.TypeId b c (pos n) (pos m) h k f g e = ap pos (lettered_one 116 n m (omega (arith, f.sfits)) (omega (arith, g.sfits)) (word_one _ _ e))
-  number_one Number.TypeId b c (pos n) (negsuc m) h k f g e = absurd k
-  number_one Number.TypeId b c (negsuc n) y h k f g e = absurd h
-  number_one Number.Text b c (pos n) (pos m) h k f g e = ap pos (lettered_one 107 n m (omega (arith, f.sfits)) (omega (arith, g.sfits)) (word_one _ _ e))
-  number_one Number.Text b c (pos n) (negsuc m) h k f g e = absurd k
-  number_one Number.Text b c (negsuc n) y h k f g e = absurd h
-  number_one Number.TypedName b c (pos n) (pos m) h k f g e =
-      let p = tail_of (type_word (n / 256)) (type_word (m / 256)) (constant_word (n % 256) ∷ []) (constant_word (m % 256) ∷ []) e in
-      let a = lettered_one 116 (n / 256) (m / 256) (omega (arith, f.sfits)) (omega (arith, g.sfits)) p.0 in
-      let d = lettered_one 107 (n % 256) (m % 256) (omega arith) (omega arith) (word_one _ _ p.1) in
-      ap pos (divided n m a d)
-  number_one Number.TypedName b c (pos n) (negsuc m) h k f g e = absurd k
-  number_one Number.TypedName b c (negsuc n) y h k f g e = absurd h
+number_one : (form : Number) (x y : ℤ) → IsTold form x → IsTold form y → FitsSigned w32 x → FitsSigned w32 y → number_words form x ≡ number_words form y → x ≡ y
+number_one Number.Unused x y h k f g e = h ∙ sym k
+number_one Number.Any x y h k f g e = signed_one x y f g (word_one _ _ e)
+number_one Number.Turns x y h k f g e = signed_one x y f g (word_one _ _ e)
+number_one Number.TypeId (pos n) (pos m) h k f g e = ap pos (lettered_one 116 n m (omega (arith, f.sfits)) (omega (arith, g.sfits)) (word_one _ _ e))
+number_one Number.TypeId (pos n) (negsuc m) h k f g e = absurd k
+number_one Number.TypeId (negsuc n) y h k f g e = absurd h
+number_one Number.Text (pos n) (pos m) h k f g e = ap pos (lettered_one 107 n m (omega (arith, f.sfits)) (omega (arith, g.sfits)) (word_one _ _ e))
+number_one Number.Text (pos n) (negsuc m) h k f g e = absurd k
+number_one Number.Text (negsuc n) y h k f g e = absurd h
+number_one Number.TypedName (pos n) (pos m) h k f g e =
+    let p = tail_of (type_word (n / 256)) (type_word (m / 256)) (constant_word (n % 256) ∷ []) (constant_word (m % 256) ∷ []) e in
+    let a = lettered_one 116 (n / 256) (m / 256) (omega (arith, f.sfits)) (omega (arith, g.sfits)) p.0 in
+    let d = lettered_one 107 (n % 256) (m % 256) (omega arith) (omega arith) (word_one _ _ p.1) in
+    ap pos (divided n m a d)
+number_one Number.TypedName (pos n) (negsuc m) h k f g e = absurd k
+number_one Number.TypedName (negsuc n) y h k f g e = absurd h
 
-  -- ---- instructions
+-- ---- instructions
 
-  abbrev rest_words : Operation → ℕ → ℕ → ℕ → ℤ → Words
-  rest_words o a b c n = ((operand_words (row_of o).a a ++ operand_words (row_of o).b b) ++ operand_words (row_of o).c c) ++ number_words (row_of o).number n
+abbrev of : Operation → ℕ → ℕ → ℕ → ℤ → Instruction
+of o a b c n = record { operation = o; a = a; b = b; c = c; number = n }
 
-  length_two : (xs ys us vs : Words) → length xs ≡ length ys → length us ≡ length vs → length (xs ++ us) ≡ length (ys ++ vs)
-  length_two xs ys us vs e f = simp length-append (omega arith)
+abbrev rest_words : Operation → ℕ → ℕ → ℕ → ℤ → Words
+rest_words o a b c n = ((operand_words (row_of o).a a ++ operand_words (row_of o).b b) ++ operand_words (row_of o).c c) ++ number_words (row_of o).number n
 
-  fields_one : (o : Operation) (a b c a' b' c' : ℕ) (n n' : ℤ) → IsRight types constants o a b c n → IsRight types2 constants2 o a' b' c' n' → rest_words o a b c n ≡ rest_words o a' b' c' n' → (a ≡ a') × (b ≡ b') × (c ≡ c') × (n ≡ n')
-  fields_one o a b c a' b' c' n n' h k e =
-      let la = operand_length (row_of o).a a a' in
-      let lb = operand_length (row_of o).b b b' in
-      let lc = operand_length (row_of o).c c c' in
-      let lab = length_two (operand_words (row_of o).a a) (operand_words (row_of o).a a') (operand_words (row_of o).b b) (operand_words (row_of o).b b') la lb in
-      let labc = length_two (operand_words (row_of o).a a ++ operand_words (row_of o).b b) (operand_words (row_of o).a a' ++ operand_words (row_of o).b b') (operand_words (row_of o).c c) (operand_words (row_of o).c c') lab lc in
-      let p = front _ _ (number_words (row_of o).number n) (number_words (row_of o).number n') labc e in
-      let q = front _ _ (operand_words (row_of o).c c) (operand_words (row_of o).c c') lab p.0 in
-      let r = front _ _ (operand_words (row_of o).b b) (operand_words (row_of o).b b') la q.0 in
-      (operand_one (row_of o).a a a' h.at_a k.at_a r.0, operand_one (row_of o).b b b' h.at_b k.at_b r.1, operand_one (row_of o).c c c' h.at_c k.at_c q.1, number_one (row_of o).number b b' n n' h.at_number k.at_number h.range k.range p.1)
+length_two : (xs ys us vs : Words) → length xs ≡ length ys → length us ≡ length vs → length (xs ++ us) ≡ length (ys ++ vs)
+length_two xs ys us vs e f = simp length-append (omega arith)
 
-  instruction_one : (i j : Instruction) → Right types constants i → Right types2 constants2 j → instruction_words i ≡ instruction_words j → i ≡ j
-  instruction_one i j h k e =
-      let p = tail_of (row_of i.operation).word (row_of j.operation).word (rest_words i.operation i.a i.b i.c i.number) (rest_words j.operation j.a j.b j.c j.number) e in
-      let o = same_operation i.operation j.operation p.0 in
-      let k' = subst (λ o. IsRight types2 constants2 o j.a j.b j.c j.number) (sym o) k in
-      let f = fields_one i.operation i.a i.b i.c j.a j.b j.c i.number j.number h k' (p.1 ∙ ap (λ o. rest_words o j.a j.b j.c j.number) (sym o)) in
-      λ t. record { operation = o t; a = f.0 t; b = f.1 t; c = f.2 t; number = f.3 t }
+fields_one : (o : Operation) (a b c a' b' c' : ℕ) (n n' : ℤ) → IsToldInstruction (of o a b c n) → IsToldInstruction (of o a' b' c' n') → rest_words o a b c n ≡ rest_words o a' b' c' n' → (a ≡ a') × (b ≡ b') × (c ≡ c') × (n ≡ n')
+fields_one o a b c a' b' c' n n' h k e =
+    let la = operand_length (row_of o).a a a' in
+    let lb = operand_length (row_of o).b b b' in
+    let lc = operand_length (row_of o).c c c' in
+    let lab = length_two (operand_words (row_of o).a a) (operand_words (row_of o).a a') (operand_words (row_of o).b b) (operand_words (row_of o).b b') la lb in
+    let labc = length_two (operand_words (row_of o).a a ++ operand_words (row_of o).b b) (operand_words (row_of o).a a' ++ operand_words (row_of o).b b') (operand_words (row_of o).c c) (operand_words (row_of o).c c') lab lc in
+    let p = front _ _ (number_words (row_of o).number n) (number_words (row_of o).number n') labc e in
+    let q = front _ _ (operand_words (row_of o).c c) (operand_words (row_of o).c c') lab p.0 in
+    let r = front _ _ (operand_words (row_of o).b b) (operand_words (row_of o).b b') la q.0 in
+    (operand_one (row_of o).a a a' h.a k.a r.0, operand_one (row_of o).b b b' h.b k.b r.1, operand_one (row_of o).c c c' h.c k.c q.1, number_one (row_of o).number n n' h.number k.number h.range k.range p.1)
+
+instruction_one : (i j : Instruction) → IsToldInstruction i → IsToldInstruction j → instruction_words i ≡ instruction_words j → i ≡ j
+instruction_one i j h k e =
+    let p = tail_of (row_of i.operation).word (row_of j.operation).word (rest_words i.operation i.a i.b i.c i.number) (rest_words j.operation j.a j.b j.c j.number) e in
+    let o = same_operation i.operation j.operation p.0 in
+    let k' = subst (λ o. IsToldInstruction (of o j.a j.b j.c j.number)) (sym o) k in
+    let f = fields_one i.operation i.a i.b i.c j.a j.b j.c i.number j.number h k' (p.1 ∙ ap (λ o. rest_words o j.a j.b j.c j.number) (sym o)) in
+    λ t. record { operation = o t; a = f.0 t; b = f.1 t; c = f.2 t; number = f.3 t }
 
 -- ---- types
 
@@ -122,21 +109,17 @@ tag_is (Form.map U) = refl
 tag_is (Form.own U) = refl
 tag_is (Form.struct Us) = refl
 
-form_one : (n k m l : ℕ) (f g : Form) → n ≤ 32 → k ≤ 32 → m ≤ 32 → l ≤ 32 → IsForm n k f → IsForm m l g → tag f ≡ tag g → type_words f ≡ type_words g → f ≡ g
+form_one : (f g : Form) → IsForm 256 256 f → IsForm 256 256 g → tag f ≡ tag g → type_words f ≡ type_words g → f ≡ g
 unfolding tag
-form_one n k m l Form.i64 Form.i64 a b c d h j t e = refl
-form_one n k m l Form.str Form.str a b c d h j t e = refl
-form_one n k m l (Form.vec U) (Form.vec V) a b c d h j t e = ap Form.vec (lettered_one 116 U V (omega arith) (omega arith) (word_one _ _ (tail_of _ _ _ _ e).1))
-form_one n k m l (Form.list U) (Form.list V) a b c d h j t e = ap Form.list (lettered_one 116 U V (omega arith) (omega arith) (word_one _ _ (tail_of _ _ _ _ e).1))
-form_one n k m l (Form.flat_map U) (Form.flat_map V) a b c d h j t e = ap Form.flat_map (lettered_one 116 U V (omega arith) (omega arith) (word_one _ _ (tail_of _ _ _ _ e).1))
-form_one n k m l (Form.map U) (Form.map V) a b c d h j t e = ap Form.map (lettered_one 116 U V (omega arith) (omega arith) (word_one _ _ (tail_of _ _ _ _ e).1))
-form_one n k m l (Form.own U) (Form.own V) a b c d h j t e = ap Form.own (lettered_one 116 U V (omega arith) (omega arith) (word_one _ _ (tail_of _ _ _ _ e).1))
-form_one n k m l (Form.struct Us) (Form.struct Vs) a b c d h j t e = ap Form.struct (types_one Us Vs k l (omega arith) (omega arith) (all_below Us k h.2) (all_below Vs l j.2) (tail_of _ _ _ _ e).1)
-  where
-    all_below : (Us : List ℕ) (k : ℕ) → All (λ U. U < k) Us → AllByRecursion (λ U. U < k) Us
-    all_below [] k h = tt
-    all_below (U ∷ Us) k h = (All-head (λ U. U < k) U Us h, all_below Us k (All-tail (λ U. U < k) U Us h))
-form_one n k m l f g a b c d h j t e = absurd (omega arith)
+form_one Form.i64 Form.i64 h j t e = refl
+form_one Form.str Form.str h j t e = refl
+form_one (Form.vec U) (Form.vec V) h j t e = ap Form.vec (lettered_one 116 U V (omega arith) (omega arith) (word_one _ _ (tail_of _ _ _ _ e).1))
+form_one (Form.list U) (Form.list V) h j t e = ap Form.list (lettered_one 116 U V (omega arith) (omega arith) (word_one _ _ (tail_of _ _ _ _ e).1))
+form_one (Form.flat_map U) (Form.flat_map V) h j t e = ap Form.flat_map (lettered_one 116 U V (omega arith) (omega arith) (word_one _ _ (tail_of _ _ _ _ e).1))
+form_one (Form.map U) (Form.map V) h j t e = ap Form.map (lettered_one 116 U V (omega arith) (omega arith) (word_one _ _ (tail_of _ _ _ _ e).1))
+form_one (Form.own U) (Form.own V) h j t e = ap Form.own (lettered_one 116 U V (omega arith) (omega arith) (word_one _ _ (tail_of _ _ _ _ e).1))
+form_one (Form.struct Us) (Form.struct Vs) h j t e = ap Form.struct (types_one Us Vs 256 256 (omega arith) (omega arith) (each_of (λ U. U < 256) Us h.2) (each_of (λ V. V < 256) Vs j.2) (tail_of _ _ _ _ e).1)
+form_one f g h j t e = absurd (omega arith)
 
 -- ---- texts
 
@@ -180,14 +163,6 @@ text_one (b ∷ xs) (c ∷ ys) s p q (us, h, inr e) (vs, k, inr d) =
     ap (λ z. z ∷ xs) r.0 ∙ ap (λ zs. c ∷ zs) (text_one xs ys vs p.1 q.1 (subst (SpellsText xs) r.1 h) k)
 
 -- ---- items
-
--- the item is right with some types and constants
-abbrev IsItem : Item → Type 0
-IsItem (type_item f) = (n : ℕ) × (k : ℕ) × (n ≤ 32) × (k ≤ 32) × IsForm n k f
-IsItem (constant_item (Constant.Text bytes)) = AllByRecursion (λ b. b < 256) bytes
-IsItem (constant_item (Constant.Name name)) = ⊤
-IsItem (constant_item (Constant.Family prefix)) = ⊤
-IsItem (instruction_item i) = (types : Table) × (constants : List Constant) × Right types constants i
 
 -- the first word of an item's line
 abbrev first_word : Item → List ℕ
@@ -283,19 +258,19 @@ kind_is (instruction_item i) = kind_of_operation i.operation
 same_kind : (line : List ℕ) (x y : Item) → SpellsItem line x → SpellsItem line y → kind x ≡ kind y
 same_kind line x y h k = sym (kind_is x) ∙ ap kind_of_word (sym (first_is line x h) ∙ first_is line y k) ∙ kind_is y
 
-item_one : (line : List ℕ) (x y : Item) → IsItem x → IsItem y → kind x ≡ kind y → SpellsItem line x → SpellsItem line y → x ≡ y
+item_one : (line : List ℕ) (x y : Item) → IsReadable x → IsReadable y → kind x ≡ kind y → SpellsItem line x → SpellsItem line y → x ≡ y
 unfolding kind
 item_one line (type_item f) (type_item g) p q e h k =
     let words = (tail_of (codes "type") (codes "type") (type_words f) (type_words g) (sym h ∙ k)).1 in
-    ap type_item (form_one p.0 p.1 q.0 q.1 f g p.2 p.3 q.2 q.3 p.4 q.4 (sym (tag_is f) ∙ ap tag_of_words words ∙ tag_is g) words)
+    ap type_item (form_one f g p q (sym (tag_is f) ∙ ap tag_of_words words ∙ tag_is g) words)
 item_one line (constant_item (Constant.Text xs)) (constant_item (Constant.Text ys)) p q e h k =
     let body = (front (codes "text ") (codes "text ") h.0 k.0 refl (sym h.1 ∙ k.1)).1 in
-    ap (λ bytes. constant_item (Constant.Text bytes)) (text_one xs ys k.0 p q (subst (SpellsText xs) body h.2) k.2)
+    ap (λ bytes. constant_item (Constant.Text bytes)) (text_one xs ys k.0 (each_of (λ b. b < 256) xs p) (each_of (λ b. b < 256) ys q) (subst (SpellsText xs) body h.2) k.2)
 item_one line (constant_item (Constant.Name x)) (constant_item (Constant.Name y)) p q e h k =
     ap (λ name. constant_item (Constant.Name name)) (word_one x y (tail_of (codes "name") (codes "name") (x ∷ []) (y ∷ []) (sym h ∙ k)).1)
 item_one line (constant_item (Constant.Family x)) (constant_item (Constant.Family y)) p q e h k =
     ap (λ name. constant_item (Constant.Family name)) (word_one x y (tail_of (codes "family") (codes "family") (x ∷ []) (y ∷ []) (sym h ∙ k)).1)
-item_one line (instruction_item i) (instruction_item j) p q e h k = ap instruction_item (instruction_one p.0 p.1 q.0 q.1 i j p.2 q.2 (sym h ∙ k))
+item_one line (instruction_item i) (instruction_item j) p q e h k = ap instruction_item (instruction_one i j p q (sym h ∙ k))
 item_one line (type_item f) (constant_item (Constant.Text ys)) p q e h k = absurd (omega arith)
 item_one line (type_item f) (constant_item (Constant.Name ys)) p q e h k = absurd (omega arith)
 item_one line (type_item f) (constant_item (Constant.Family ys)) p q e h k = absurd (omega arith)
@@ -317,7 +292,7 @@ item_one line (instruction_item i) (constant_item (Constant.Text ys)) p q e h k 
 item_one line (instruction_item i) (constant_item (Constant.Name ys)) p q e h k = absurd (omega arith)
 item_one line (instruction_item i) (constant_item (Constant.Family ys)) p q e h k = absurd (omega arith)
 
-items_one : (lines : List (List ℕ)) (xs ys : List Item) → AllByRecursion IsItem xs → AllByRecursion IsItem ys → EachSpells lines xs → EachSpells lines ys → xs ≡ ys
+items_one : (lines : List (List ℕ)) (xs ys : List Item) → AllByRecursion IsReadable xs → AllByRecursion IsReadable ys → EachSpells lines xs → EachSpells lines ys → xs ≡ ys
 items_one [] [] [] p q h k = refl
 items_one [] [] (y ∷ ys) p q h k = absurd k
 items_one [] (x ∷ xs) ys p q h k = absurd h
@@ -326,7 +301,7 @@ items_one (line ∷ lines) (x ∷ xs) [] p q h k = absurd k
 items_one (line ∷ lines) (x ∷ xs) (y ∷ ys) p q h k =
     ap (λ z. z ∷ xs) (item_one line x y p.0 q.0 (same_kind line x y h.0 k.0) h.0 k.0) ∙ ap (λ zs. y ∷ zs) (items_one lines xs ys p.1 q.1 h.1 k.1)
 
--- ---- clients
+-- ---- pieces
 
 module _ {A : Type 0} (see : Item → List A) where
   picked : List Item → List A
@@ -362,72 +337,46 @@ instructions_in (type_item f) = []
 instructions_in (constant_item c) = []
 instructions_in (instruction_item i) = i ∷ []
 
-three : {A : Type 0} (see : Item → List A) (client : Client) → picked see (items_of client) ≡ (picked see (map type_item client.types) ++ picked see (map constant_item client.constants)) ++ picked see (map instruction_item (listing client.code))
-three see client =
-    picked_two see (map type_item client.types ++ map constant_item client.constants) (map instruction_item (listing client.code))
-    ∙ ap (λ zs. zs ++ picked see (map instruction_item (listing client.code))) (picked_two see (map type_item client.types) (map constant_item client.constants))
+three : {A : Type 0} (see : Item → List A) (pieces : Pieces) → picked see (items_in pieces) ≡ (picked see (map type_item pieces.types) ++ picked see (map constant_item pieces.constants)) ++ picked see (map instruction_item pieces.instructions)
+three see pieces =
+    picked_two see (map type_item pieces.types ++ map constant_item pieces.constants) (map instruction_item pieces.instructions)
+    ∙ ap (λ zs. zs ++ picked see (map instruction_item pieces.instructions)) (picked_two see (map type_item pieces.types) (map constant_item pieces.constants))
 
-types_of : (client : Client) → picked forms_in (items_of client) ≡ client.types
-types_of client =
-    three forms_in client
-    ∙ ap (λ zs. (zs ++ picked forms_in (map constant_item client.constants)) ++ picked forms_in (map instruction_item (listing client.code))) (picked_all forms_in type_item (λ f. refl) client.types)
-    ∙ ap (λ zs. (client.types ++ zs) ++ picked forms_in (map instruction_item (listing client.code))) (picked_none forms_in constant_item (λ c. refl) client.constants)
-    ∙ ap (λ zs. (client.types ++ []) ++ zs) (picked_none forms_in instruction_item (λ i. refl) (listing client.code))
-    ∙ append-nil (client.types ++ []) ∙ append-nil client.types
+types_of : (pieces : Pieces) → picked forms_in (items_in pieces) ≡ pieces.types
+types_of pieces =
+    three forms_in pieces
+    ∙ ap (λ zs. (zs ++ picked forms_in (map constant_item pieces.constants)) ++ picked forms_in (map instruction_item pieces.instructions)) (picked_all forms_in type_item (λ f. refl) pieces.types)
+    ∙ ap (λ zs. (pieces.types ++ zs) ++ picked forms_in (map instruction_item pieces.instructions)) (picked_none forms_in constant_item (λ c. refl) pieces.constants)
+    ∙ ap (λ zs. (pieces.types ++ []) ++ zs) (picked_none forms_in instruction_item (λ i. refl) pieces.instructions)
+    ∙ append-nil (pieces.types ++ []) ∙ append-nil pieces.types
 
-constants_of : (client : Client) → picked constants_in (items_of client) ≡ client.constants
-constants_of client =
-    three constants_in client
-    ∙ ap (λ zs. (zs ++ picked constants_in (map constant_item client.constants)) ++ picked constants_in (map instruction_item (listing client.code))) (picked_none constants_in type_item (λ f. refl) client.types)
-    ∙ ap (λ zs. zs ++ picked constants_in (map instruction_item (listing client.code))) (picked_all constants_in constant_item (λ c. refl) client.constants)
-    ∙ ap (λ zs. client.constants ++ zs) (picked_none constants_in instruction_item (λ i. refl) (listing client.code))
-    ∙ append-nil client.constants
+constants_of : (pieces : Pieces) → picked constants_in (items_in pieces) ≡ pieces.constants
+constants_of pieces =
+    three constants_in pieces
+    ∙ ap (λ zs. (zs ++ picked constants_in (map constant_item pieces.constants)) ++ picked constants_in (map instruction_item pieces.instructions)) (picked_none constants_in type_item (λ f. refl) pieces.types)
+    ∙ ap (λ zs. zs ++ picked constants_in (map instruction_item pieces.instructions)) (picked_all constants_in constant_item (λ c. refl) pieces.constants)
+    ∙ ap (λ zs. pieces.constants ++ zs) (picked_none constants_in instruction_item (λ i. refl) pieces.instructions)
+    ∙ append-nil pieces.constants
 
-listing_of : (client : Client) → picked instructions_in (items_of client) ≡ listing client.code
-listing_of client =
-    three instructions_in client
-    ∙ ap (λ zs. (zs ++ picked instructions_in (map constant_item client.constants)) ++ picked instructions_in (map instruction_item (listing client.code))) (picked_none instructions_in type_item (λ f. refl) client.types)
-    ∙ ap (λ zs. zs ++ picked instructions_in (map instruction_item (listing client.code))) (picked_none instructions_in constant_item (λ c. refl) client.constants)
-    ∙ picked_all instructions_in instruction_item (λ i. refl) (listing client.code)
+instructions_of : (pieces : Pieces) → picked instructions_in (items_in pieces) ≡ pieces.instructions
+instructions_of pieces =
+    three instructions_in pieces
+    ∙ ap (λ zs. (zs ++ picked instructions_in (map constant_item pieces.constants)) ++ picked instructions_in (map instruction_item pieces.instructions)) (picked_none instructions_in type_item (λ f. refl) pieces.types)
+    ∙ ap (λ zs. zs ++ picked instructions_in (map instruction_item pieces.instructions)) (picked_none instructions_in constant_item (λ c. refl) pieces.constants)
+    ∙ picked_all instructions_in instruction_item (λ i. refl) pieces.instructions
 
-right_map : {A : Type 0} (P : A → Type 0) (put : A → Item) → ((x : A) → P x → IsItem (put x)) → (xs : List A) → AllByRecursion P xs → AllByRecursion IsItem (map put xs)
-right_map P put g [] h = tt
-right_map P put g (x ∷ xs) h = (g x h.0, right_map P put g xs h.1)
-
-constant_right : (c : Constant) → IsConstant c → IsItem (constant_item c)
-constant_right (Constant.Text bytes) h = bytes_all bytes h.1
-  where
-    bytes_all : (bytes : List ℕ) → All (λ b. b < 256) bytes → AllByRecursion (λ b. b < 256) bytes
-    bytes_all [] h = tt
-    bytes_all (b ∷ bytes) h = (All-head (λ b. b < 256) b bytes h, bytes_all bytes (All-tail (λ b. b < 256) b bytes h))
-constant_right (Constant.Name name) h = tt
-constant_right (Constant.Family prefix) h = tt
-
-constants_right : (cs : List Constant) → All IsConstant cs → AllByRecursion IsConstant cs
-constants_right [] h = tt
-constants_right (c ∷ cs) h = (All-head IsConstant c cs h, constants_right cs (All-tail IsConstant c cs h))
-
-fits_zero : FitsSigned w32 (pos 0)
-fits_zero = search (arith, ints)
-
-items_right : (client : Client) → IsClient client → AllByRecursion IsItem (items_of client)
-items_right client h =
-    let table = client.types in
-    let forms = all_forms (λ f. IsItem (type_item f)) table (λ T f e. (length table, T, h.types.few, (let l = below_length table T f e in omega (arith, l, h.types.few)), h.types.forms T f e)) in
-    let right = all_listed table client.constants (Right table client.constants) (λ place i g. record { at_a = g.a; at_b = g.b; at_c = g.c; at_number = g.number; range = g.range })
-    (record { at_a = refl; at_b = refl; at_c = refl; at_number = refl; range = fits_zero }) (record { at_a = refl; at_b = refl; at_c = refl; at_number = refl; range = fits_zero }) client.code h.code in
-    all_two IsItem (map type_item table ++ map constant_item client.constants) (map instruction_item (listing client.code))
-    (all_two IsItem (map type_item table) (map constant_item client.constants)
-    (right_map (λ f. IsItem (type_item f)) type_item (λ f g. g) table forms)
-    (right_map IsConstant constant_item constant_right client.constants (constants_right client.constants h.constants)))
-    (right_map (Right table client.constants) instruction_item (λ i g. (table, client.constants, g)) (listing client.code) right)
-
-pub one_text : (text : List ℕ) (x y : Client) → SpellsInText text x → SpellsInText text y → x ≡ y
-one_text text x y h k =
-    let items = items_one _ (items_of x) (items_of y) (items_right x h.valid) (items_right y k.valid) h.lines k.lines in
+-- a text says one client's pieces at most
+pub one_pieces : (text : List ℕ) (x y : Pieces) → Says text x → Says text y → x ≡ y
+one_pieces text x y h k =
+    let items = items_one _ (items_in x) (items_in y) (each_of IsReadable (items_in x) h.each.readable) (each_of IsReadable (items_in y) k.each.readable) h.lines k.lines in
     let types = sym (types_of x) ∙ ap (picked forms_in) items ∙ types_of y in
     let constants = sym (constants_of x) ∙ ap (picked constants_in) items ∙ constants_of y in
-    let list = sym (listing_of x) ∙ ap (picked instructions_in) items ∙ listing_of y in
-    let other = subst (λ t. IsCode t x.constants y.code) (sym types) (subst (λ c. IsCode y.types c y.code) (sym constants) k.valid.code) in
-    let code = (one_code x.types x.constants x.code y.code h.valid.code other [] [] tt tt (append-nil (listing x.code) ∙ list ∙ sym (append-nil (listing y.code)))).0 in
-    λ j. record { types = types j; constants = constants j; code = code j }
+    let instructions = sym (instructions_of x) ∙ ap (picked instructions_in) items ∙ instructions_of y in
+    λ j. record { types = types j; constants = constants j; instructions = instructions j }
+
+-- the text of a client says its pieces
+pub says : (text : List ℕ) (x : Client) → SpellsInText text x → Says text (pieces_of x)
+says text x h = record { each = of_client x h.valid; lines = h.lines }
+
+pub one_text : (text : List ℕ) (x y : Client) → SpellsInText text x → SpellsInText text y → x ≡ y
+one_text text x y h k = one_tree x y h.valid k.valid (one_pieces text (pieces_of x) (pieces_of y) (says text x h) (says text y k))

@@ -27,3 +27,6 @@ pub returns-clause-found : goal.returns-clause-found
 returns-clause-found c =
     subst (λ bytes. SpellsText bytes c.args.spelling.now) (append-nil c.loop-rest.bytes.items)
     (c.loop-rest.invariant.forth [] (nil_from_length c.loop-rest.rest.now (eqb-true _ 0 (sym c.is_empty.ensures ∙ c.loop-rest-test.false))))
+
+pub returns-clause-bytes : goal.returns-clause-bytes
+returns-clause-bytes c = c.loop-rest.invariant.small
