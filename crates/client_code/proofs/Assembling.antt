@@ -29,5 +29,5 @@ canonical_file text file tree client spells said valid e =
 -- no client, where the file isn't one's or lacks lines
 pub no_client : (is_whole : Bool) (text file : List ℕ) → (IsTrue is_whole → (pieces : Pieces) × Says text pieces × (file ≡ file_of pieces)) → (IsFalse is_whole → (tree : Client) → SpellsInText text tree → ⊥)
     → (IsTrue is_whole → (tree : Client) → Spells file tree → ⊥) → (tree : Client) → SpellsInText text tree → ⊥
-no_client true text file whole cut wrong tree spells = let (pieces, said, e) = whole tt in wrong tt tree (file_spells text file pieces tree said e spells)
+no_client true text file whole cut wrong tree spells = let (pieces, said, e) = whole refl in wrong refl tree (file_spells text file pieces tree said e spells)
 no_client false text file whole cut wrong tree spells = cut refl tree spells

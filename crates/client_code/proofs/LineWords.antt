@@ -101,9 +101,6 @@ not_types [] (t ∷ types) word rest small none e = none t (All-head (λ t. t < 
 not_types (f ∷ fields) [] word rest small none e = cc
 not_types (f ∷ fields) (t ∷ types) word rest small none e = not_types fields types word rest (All-tail (λ t. t < 256) t types small) none (tail_of (type_word f) (type_word t) (map type_word fields ++ word ∷ rest) (map type_word types) e).1
 
-pub some_given : {T : Type 0} (X : Type 0) (P Q : T → Type 0) (r : Option T) → MatchOption r X P → ((x : T) → P x → Q x) → IfSome r Q
-some_given X P Q None given f = tt
-some_given X P Q (Some x) given f = f x given
 
 -- fields that are few, of types with numbers of a byte
 pub few_small : (A : Type 0) (types : List ℕ) (fields : Option (List ℕ)) → MatchOption fields A (λ found. found ≡ types) → IfSome fields (λ found. (1 ≤ length found) × (length found ≤ 8)) → All (λ U. U < 256) types

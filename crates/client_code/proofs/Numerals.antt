@@ -8,10 +8,6 @@ use Rattle.std.specs.Result.{result_ok, OkIff}
 use Rattle.std.proofs.lemmas.List.{take_all}
 use Rattle.std.specs.Str.{IsUtf8}
 
-pub on_none : {T : Type 0} (r : Option T) (Q : Type 0) → Q → IfNone r Q
-on_none (Some x) Q q = tt
-on_none None Q q = q
-
 -- bytes are a text or they aren't
 pub is_text : {E : Type 0} (W : E → Type 0) (r : Result (Bor (List ℕ)) E) (x : Bor (List ℕ)) (bytes : List ℕ) → MatchResult r (λ s. (s.now ≡ bytes) × IsUtf8 bytes) W → result_ok r ≡ Some x → x.now ≡ bytes
 is_text W (Ok y) x bytes m some = let a = m.0 in cc
@@ -21,19 +17,6 @@ pub not_text : {E : Type 0} (P : Bor (List ℕ) → Type 0) (W : E → Type 0) (
 not_text P W (Ok x) bytes m none utf8 = cc
 not_text P W (Err e) bytes m none utf8 = m.0 utf8
 
--- what doesn't parse is no numeral, and what does is the numeral of one number
-pub not_parsed : {N E : Type 0} (r : Result N E) (n : N) → result_ok r ≡ None → r ≡ Ok n → ⊥
-not_parsed (Ok x) n none same = cc
-not_parsed (Err e) n none same = cc
-
-pub parsed_one : {N E : Type 0} (r : Result N E) (m n : N) → result_ok r ≡ Some m → r ≡ Ok n → m ≡ n
-parsed_one (Ok x) m n given same = cc
-parsed_one (Err e) m n given same = cc
-
--- there is no answer only where a test failed
-pub failed_test : {N : Type 0} (test : Bool) (n : N) (r : Option N) (Q : Type 0) → r ≡ then_some test n → (test ≡ false → Q) → IfNone r Q
-failed_test true n r Q same q = subst (λ r. IfNone r Q) (sym same) tt
-failed_test false n r Q same q = subst (λ r. IfNone r Q) (sym same) (q refl)
 
 -- a number of 32 bits has few digits
 pub within : (z : ℤ) → FitsSigned w32 z → mag z < 2 ^ 63
@@ -43,8 +26,3 @@ within (negsuc n) fits = omega arith
 -- the digits behind a letter
 pub behind_letter : (letter : ℕ) (word digits : List ℕ) → word ≡ letter ∷ digits → take (length word - 1) (drop 1 word) ≡ digits
 behind_letter letter word digits same = subst (λ w. take (length w - 1) (drop 1 w) ≡ digits) (sym same) (take_all (length (letter ∷ digits) - 1) digits (omega arith))
-
--- a number that is small enough is there
-pub fails_large : {E : Type 0} (P Q : Type 0) (m : ℕ) (o : Option ℕ) (r : Result ℕ E) → OkIff r P m → o ≡ result_ok r → ((P → ⊥) → Q) → IfNone o Q
-fails_large P Q m o (Ok x) given same q = subst (λ o. IfNone o Q) (sym same) tt
-fails_large P Q m o (Err e) given same q = subst (λ o. IfNone o Q) (sym same) (q given)

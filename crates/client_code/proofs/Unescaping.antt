@@ -8,13 +8,7 @@ use Rattle.client_spec.proofs.TextWords.{tail_of}
 use Rattle.client_spec.proofs.OneText.{not_plain, escape_one}
 use Rattle.client_code.specs.Texts.{SpellsByte}
 
-pub was_ok : {T E : Type 0} (r : Result T E) (x : T) (P : Type 0) → OnOk r P → result_ok r ≡ Some x → P
-was_ok (Ok y) x P p same = p
-was_ok (Err e) x P p same = cc
 
-pub was_err : {T E : Type 0} (r : Result T E) (P : Type 0) → OnErr r P → result_ok r ≡ None → P
-was_err (Ok y) P p same = cc
-was_err (Err e) P p same = p
 
 byte_one : (b c : ℕ) (us vs s : List ℕ) → b < 256 → c < 256 → SpellsByte b us s → SpellsByte c vs s → (b ≡ c) × (us ≡ vs)
 byte_one b c us vs s h k (inl (f, e)) (inl (g, d)) = tail_of b c us vs (sym e ∙ d)

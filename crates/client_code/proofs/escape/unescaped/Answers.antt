@@ -1,9 +1,9 @@
-use Rattle.std.proofs.Common.{[], sym, ap, ◌∙◌, subst, arith, append-nil}
+use Rattle.std.proofs.Common.{[], sym, ◌∙◌, subst, arith, append-nil}
 use Rattle.std.proofs.lemmas.Bool.{eqb-true, eqb-false}
 use Rattle.std.proofs.lemmas.List.{nil_from_length}
 use Rattle.client_spec.specs.Text.{SpellsText}
-use Rattle.client_code.proofs.Numerals.{on_none}
-use Rattle.client_code.proofs.Unescaping.{Reads, was_ok, was_err, begin, further, stuck, too_long}
+use Rattle.client_code.proofs.Outcomes.{on_none, was_ok, was_err}
+use Rattle.client_code.proofs.Unescaping.{Reads, begin, further, stuck, too_long}
 use Rattle.client_code.proofs.escape.unescaped.Goals as goal
 
 pub loop-rest-init : goal.loop-rest-init

@@ -1,7 +1,7 @@
-use Rattle.std.proofs.Common.{◌≡◌, ◌<◌, ◌++◌, [], All, map, subst, sym, ap, ◌∙◌, append-nil}
+use Rattle.std.proofs.Common.{◌<◌, ◌++◌, All, map, subst, sym, ap, ◌∙◌}
 use Rattle.client_spec.specs.Text.{words_of, type_word}
-use Rattle.client_code.proofs.Numerals.{on_none}
-use Rattle.client_code.proofs.LineWords.{not_types, some_given, few_small}
+use Rattle.client_code.proofs.Outcomes.{on_none, some_given}
+use Rattle.client_code.proofs.LineWords.{not_types, few_small}
 use Rattle.client_code.proofs.item.read_fields.Goals as goal
 
 pub returns-in_err-index-clause-none : goal.returns-in_err-index-clause-none

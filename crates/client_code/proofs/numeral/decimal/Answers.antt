@@ -1,11 +1,12 @@
-use Rattle.std.proofs.Common.{◌^◌, ◌<◌, ◌∙◌, sym, ap, subst, arith, false, true}
+use Rattle.std.proofs.Common.{◌∙◌, sym, ap, subst, arith}
 use Rattle.std.specs.Fmt.{decimal}
 use Rattle.std.specs.Str.{IsUtf8}
 use Rattle.std.proofs.lemmas.Str.{IsUtf8-from_ascii}
 use Rattle.std.proofs.lemmas.Fmt.{IsAscii-decimal, parse-decimal}
 use Rattle.std.proofs.lemmas.Slice.Eq.{slice_eq-Decides}
 use Rattle.std.proofs.lemmas.Bool.Decides.{Decides-eqb, not_from_Decides}
-use Rattle.client_code.proofs.Numerals.{on_none, is_text, not_text, not_parsed, parsed_one, failed_test}
+use Rattle.client_code.proofs.Outcomes.{on_none, not_parsed, parsed_one, failed_test}
+use Rattle.client_code.proofs.Numerals.{is_text, not_text}
 use Rattle.client_code.proofs.numeral.decimal.Goals as goal
 
 pub returns-in_err-ok-clause-none : goal.returns-in_err-ok-clause-none

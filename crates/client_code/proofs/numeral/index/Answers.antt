@@ -1,7 +1,8 @@
-use Rattle.std.proofs.Common.{◌<◌, ◌^◌, ◌∙◌, sym, subst, arith}
+use Rattle.std.proofs.Common.{◌<◌, ◌∙◌, sym, subst, arith}
 use Rattle.std.specs.Fmt.{decimal}
 use Rattle.client_spec.proofs.TextWords.{decimal_one}
-use Rattle.client_code.proofs.Numerals.{behind_letter, fails_large}
+use Rattle.client_code.proofs.Outcomes.{fails_large}
+use Rattle.client_code.proofs.Numerals.{behind_letter}
 use Rattle.client_code.proofs.numeral.index.Goals as goal
 
 pub returns-in_ok-decimal-in-len1-up-clause-none : goal.returns-in_ok-decimal-in-len1-up-clause-none

@@ -1,5 +1,5 @@
 use Rattle.std.proofs.lemmas.Int.{to_z-of_z}
-use Rattle.std.proofs.Common.{FitsSigned, ◌^◌, ◌<◌, ◌∙◌, sym, ap, subst, arith, false, true}
+use Rattle.std.proofs.Common.{FitsSigned, ◌∙◌, sym, ap, subst}
 use Rattle.std.specs.Fmt.{signed_decimal}
 use Rattle.std.specs.Int.{w32}
 use Rattle.std.specs.Str.{IsUtf8}
@@ -7,7 +7,8 @@ use Rattle.std.proofs.lemmas.Str.{IsUtf8-from_ascii}
 use Rattle.std.proofs.lemmas.Fmt.{IsAscii-signed, parse-signed_decimal}
 use Rattle.std.proofs.lemmas.Slice.Eq.{slice_eq-Decides}
 use Rattle.std.proofs.lemmas.Bool.Decides.{Decides-eqb, not_from_Decides}
-use Rattle.client_code.proofs.Numerals.{within, on_none, is_text, not_text, not_parsed, parsed_one, failed_test}
+use Rattle.client_code.proofs.Outcomes.{on_none, not_parsed, parsed_one, failed_test}
+use Rattle.client_code.proofs.Numerals.{within, is_text, not_text}
 use Rattle.client_code.proofs.numeral.signed.Goals as goal
 
 pub returns-in_err-ok-clause-none : goal.returns-in_err-ok-clause-none

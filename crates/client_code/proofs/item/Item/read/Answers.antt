@@ -1,5 +1,4 @@
-use Rattle.std.proofs.Common.{refl, sym, ◌∙◌}
-use Rattle.client_code.proofs.Numerals.{on_none}
+use Rattle.client_code.proofs.Outcomes.{on_none}
 use Rattle.client_code.proofs.ItemWords.{no_text, prefixed}
 use Rattle.client_code.proofs.item.Item.read.Goals as goal
 

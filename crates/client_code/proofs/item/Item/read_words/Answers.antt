@@ -3,7 +3,7 @@ use Rattle.client_spec.specs.Text.{words_of}
 use Rattle.std.proofs.lemmas.Slice.Eq.{slice_eq-Decides}
 use Rattle.std.proofs.lemmas.Bool.Decides.{Decides-eqb}
 use Rattle.client_code.specs.Views.{operation_of}
-use Rattle.client_code.proofs.Numerals.{on_none}
+use Rattle.client_code.proofs.Outcomes.{on_none}
 use Rattle.client_code.proofs.ItemWords.{other_word, no_name, no_instruction}
 use Rattle.client_code.proofs.item.Item.read_words.Goals as goal
 
