@@ -99,8 +99,8 @@ of_client client h =
       few_constants = h.few_constants;
       few_instructions = h.few_instructions;
       readable = All-append IsReadable (map type_item client.types ++ map constant_item client.constants) (map instruction_item (listing client.code))
-        (All-append IsReadable (map type_item client.types) (map constant_item client.constants)
-        (All-map IsReadable type_item client.types (all_of (IsForm 256 256) client.types (forms_readable client.types h.types)))
-        (All-map IsReadable constant_item client.constants (λ i d l. of_constant (slice_index_or client.constants i d) (h.constants i d l))))
-        (All-map IsReadable instruction_item (listing client.code) (all_of IsToldInstruction (listing client.code) (instructions_told client h)));
+          (All-append IsReadable (map type_item client.types) (map constant_item client.constants)
+          (All-map IsReadable type_item client.types (all_of (IsForm 256 256) client.types (forms_readable client.types h.types)))
+          (All-map IsReadable constant_item client.constants (λ i d l. of_constant (slice_index_or client.constants i d) (h.constants i d l))))
+          (All-map IsReadable instruction_item (listing client.code) (all_of IsToldInstruction (listing client.code) (instructions_told client h)));
     }

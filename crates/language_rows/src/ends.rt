@@ -205,7 +205,7 @@ fn parts_that_end_apart(rt: HostRuntime) {
 // An owner that a part makes is dropped within that part, so no code comes to these.
 #[test]
 fn owners_at_the_end_of_a_part(rt: HostRuntime) {
-    let undefined = Registers::default();
+    let undefined = Registers::new();
     let mut owner = undefined;
     owner.set(3, RegisterType::Owner(0));
     assert_eq!(rt; undefined.keeps(&owner), Err(Reason::OwnerLost));
