@@ -6,3 +6,6 @@ pub mod Clients
 pub mod Texts
 pub mod Items
 pub mod Pieces
+pub mod Lines
+pub mod Headers
+pub mod Outlines

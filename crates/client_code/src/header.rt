@@ -1,6 +1,7 @@
-ghost use Rattle.std.specs.Prelude.{◌≡◌, ◌≤◌, ◌<◌, ◌+◌, ◌*◌, ℕ, length, IfOk, IfErr, MatchOption};
+ghost use Rattle.std.specs.Prelude.{◌≡◌, ◌≤◌, ◌<◌, ◌+◌, ◌*◌, ◌++◌, ℕ, length, IfOk, IfErr, OnOk, MatchOption};
 ghost use Rattle.seg_spec.specs.Bytes as bytes;
 ghost use Rattle.client_code.specs.Files.{IsHeader};
+ghost use Rattle.client_code.specs.Headers.{header_bytes};
 ghost use Rattle.client_code.specs.declared.header.TheConstants.{MOST_CONSTANTS, MOST_INSTRUCTIONS};
 ghost use Rattle.client_code.specs.declared.types.TheConstants.{MOST_TYPES};
 
@@ -75,7 +76,9 @@ impl Header {
     }
 
     /// Adds the header's bytes to a file.
-    pub fn append<A: Allocator>(&self, file: &mut Vec<u8, A>) -> Result<(), AllocError> {
+    pub fn append<A: Allocator>(&self, file: &mut Vec<u8, A>) -> Result<(), AllocError>
+        ensures { OnOk result (file.new.items ≡ file.old.items ++ header_bytes self.now.types self.now.constants self.now.instructions) }
+    {
         file.extend_from_slice(MAGIC)?;
         for word in [VERSION, self.types, self.constants, self.instructions] {
             file.extend_from_slice(&word.to_le_bytes())?;
@@ -84,7 +87,9 @@ impl Header {
     }
 
     /// The number of types, constants and instructions together.
-    pub fn entries(&self) -> u32 {
+    pub fn entries(&self) -> u32
+        ensures { result ≡ self.now.types + self.now.constants + self.now.instructions }
+    {
         self.types + self.constants + self.instructions
     }
 

@@ -4,7 +4,8 @@ ghost use Rattle.client_spec.specs.Text.{SpellsInText};
 ghost use Rattle.client_code.specs.Pieces.{Pieces, Says, file_of};
 
 use crate::item::Item;
-use crate::outline::{header_of, is_skipped};
+use crate::lines::Lines;
+use crate::outline::header_of;
 use std::alloc::{AllocError, Allocator};
 
 /// Writes a file: the header of its lines, and what its lines say, up to the first that says nothing of a client. True where
@@ -15,16 +16,12 @@ pub fn write<A: Allocator>(file: &mut Vec<u8, A>, text: &[u8]) -> Result<bool, A
 {
     let header = header_of(text);
     header.append(file)?;
-    let mut left = header.entries();
-    for line in text.split(|byte| *byte == b'\n') {
-        if is_skipped(line) {
-            continue;
+    let mut lines = Lines::new(text);
+    for _ in 0..header.entries() {
+        match lines.next_meant().and_then(Item::read) {
+            Some(item) => item.append(file)?,
+            None => return Ok(false),
         }
-        match Item::read(line) {
-            Some(item) if left > 0 => item.append(file)?,
-            _ => return Ok(false),
-        }
-        left -= 1;
     }
-    Ok(true)
+    Ok(lines.next_meant().is_none())
 }
