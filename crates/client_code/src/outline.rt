@@ -1,5 +1,5 @@
-ghost use Rattle.std.specs.Prelude.{◌≡◌, ◌+◌, ◌∷◌, ◌++◌, [], ◌≤◌, List, length, map, take, IsTrue, IsFalse};
-ghost use Rattle.client_spec.specs.Text.{Item, SpellsItem, EachSpells};
+ghost use Rattle.std.specs.Prelude.{◌≡◌, ◌+◌, ◌∷◌, ◌++◌, [], ◌≤◌, ℕ, List, length, map, take, IsTrue, IsFalse};
+ghost use Rattle.client_spec.specs.Text.{Item, words_of, SpellsItem, EachSpells};
 ghost use Rattle.client_code.specs.Outlines.{section_of, IsOutline, outline_of, entries_of};
 ghost use Rattle.client_code.specs.Pieces.{meant};
 
@@ -30,7 +30,9 @@ impl Section {
     }
 
     /// The section of the lines that begin with a word.
-    fn by(word: &[u8]) -> Section {
+    fn by(word: &[u8]) -> Section
+        ensures { (line : List ℕ) (rest : List (List ℕ)) (item : Item) → words_of line ≡ word.now ∷ rest → SpellsItem line item → result ≡ section_of item }
+    {
         if word == b"type".as_slice() {
             Section::Types
         } else if word == b"text".as_slice() || word == b"name".as_slice() || word == b"family".as_slice() {
