@@ -27,7 +27,7 @@ past xs ys n x e = sym (drop-drop 1 n xs) ∙ ap (drop 1) e
 pub not_past : {A : Type 0} (xs ys : List A) (n : ℕ) (x : A) → drop n xs ≡ x ∷ ys → n + 1 ≤ length xs
 not_past xs ys n x e = let l = length-drop n xs in let m = ap length e in omega arith
 
-one_more : {A : Type 0} (xs ys : List A) (n : ℕ) (x : A) → drop n xs ≡ x ∷ ys → take (n + 1) xs ≡ take n xs ++ x ∷ []
+pub one_more : {A : Type 0} (xs ys : List A) (n : ℕ) (x : A) → drop n xs ≡ x ∷ ys → take (n + 1) xs ≡ take n xs ++ x ∷ []
 one_more xs ys n x e = take-add n 1 xs ∙ ap (λ zs. take n xs ++ take 1 zs) e
 
 parts : {A : Type 0} (xs ys : List A) (n : ℕ) (x : A) → drop n xs ≡ x ∷ ys → xs ≡ take n xs ++ x ∷ ys
@@ -65,6 +65,6 @@ module _ (lines left : List (List ℕ)) (items : List Item) (n : ℕ) (line : Li
   pub not_counted : ((behind : List Section) → IsOutline (before ++ s ∷ behind) → ⊥) → IsOutline (map section_of items) → ⊥
   not_counted refused outline =
       refused (map section_of next.rest) (subst IsOutline (
-          ap (map section_of) (parts items next.rest n next.item next.here) ∙ map-append section_of (take n items) (next.item ∷ next.rest)
-          ∙ ap (λ ss. ss ++ section_of next.item ∷ map section_of next.rest) so_far ∙ ap (λ t. before ++ t ∷ map section_of next.rest) (sym (is next.item next.spells))
+      ap (map section_of) (parts items next.rest n next.item next.here) ∙ map-append section_of (take n items) (next.item ∷ next.rest)
+      ∙ ap (λ ss. ss ++ section_of next.item ∷ map section_of next.rest) so_far ∙ ap (λ t. before ++ t ∷ map section_of next.rest) (sym (is next.item next.spells))
       ) outline)

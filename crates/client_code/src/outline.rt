@@ -3,10 +3,9 @@ ghost use Rattle.client_spec.specs.Text.{Item, words_of, SpellsItem, EachSpells}
 ghost use Rattle.client_code.specs.Outlines.{section_of, IsOutline, outline_of, entries_of};
 ghost use Rattle.client_code.specs.Pieces.{meant};
 
-pub use crate::lines::is_skipped;
-
 use crate::header::{Header, MOST_CONSTANTS, MOST_INSTRUCTIONS};
 use crate::lines::Lines;
+pub use crate::lines::is_skipped;
 use crate::types::MOST_TYPES;
 use crate::words::Words;
 
@@ -35,7 +34,10 @@ impl Section {
     {
         if word == b"type".as_slice() {
             Section::Types
-        } else if word == b"text".as_slice() || word == b"name".as_slice() || word == b"family".as_slice() {
+        } else if word == b"text".as_slice()
+            || word == b"name".as_slice()
+            || word == b"family".as_slice()
+        {
             Section::Constants
         } else {
             Section::Instructions

@@ -14,7 +14,7 @@ loop-line-preserved c =
       within = (let l = not_past lines _ n _ here in omega arith);
       rest = sym (ap (λ k. drop k lines) one ∙ past lines _ n _ here);
       counted = λ items spells. ap (λ k. map section_of (take k items)) one
-      ∙ counted_more lines _ items n c.in-Some.line.now _ c.of.result spells here (c.loop-line.invariant.counted items spells) c.of.ensures ∙ sym (c.if-not-add.ensures.counted refl);
+          ∙ counted_more lines _ items n c.in-Some.line.now _ c.of.result spells here (c.loop-line.invariant.counted items spells) c.of.ensures ∙ sym (c.if-not-add.ensures.counted refl);
     }
 
 pub returns-then-not-add-clause-all : goal.returns-then-not-add-clause-all
