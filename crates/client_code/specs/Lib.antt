@@ -5,3 +5,6 @@ pub mod Parts
 pub mod Clients
 pub mod Texts
 pub mod Items
+pub mod Lines
+pub mod Headers
+pub mod Outlines

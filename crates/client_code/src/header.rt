@@ -1,6 +1,8 @@
-ghost use Rattle.std.specs.Prelude.{◌≡◌, ◌≤◌, ◌<◌, ◌+◌, ◌*◌, ℕ, length, IfOk, IfErr, MatchOption};
+ghost use Rattle.std.specs.Prelude.{◌≡◌, ◌≤◌, ◌<◌, ◌+◌, ◌*◌, ◌++◌, ℕ, length, IfOk, IfErr, OnOk, MatchOption};
 ghost use Rattle.seg_spec.specs.Bytes as bytes;
+ghost use Rattle.seg_spec.specs.Bytes.{spelling};
 ghost use Rattle.client_code.specs.Files.{IsHeader};
+ghost use Rattle.client_code.specs.Headers.{header_bytes};
 ghost use Rattle.client_code.specs.declared.header.TheConstants.{MOST_CONSTANTS, MOST_INSTRUCTIONS};
 ghost use Rattle.client_code.specs.declared.types.TheConstants.{MOST_TYPES};
 
@@ -51,6 +53,13 @@ fn count(file: &[u8], at: u32, most: u32) -> Result<u32, Fault>
     }
 }
 
+/// Adds the bytes of a word to a file.
+fn append_word<A: Allocator>(file: &mut Vec<u8, A>, word: u32) -> Result<(), AllocError>
+    ensures { OnOk result (file.new.items ≡ file.old.items ++ spelling 4 word) }
+{
+    file.extend_from_slice(&word.to_le_bytes())
+}
+
 impl Header {
     /// The header of a file, or the position of the first field that is wrong or cut.
     pub fn read(file: &[u8]) -> Result<Header, Fault>
@@ -75,16 +84,20 @@ impl Header {
     }
 
     /// Adds the header's bytes to a file.
-    pub fn append<A: Allocator>(&self, file: &mut Vec<u8, A>) -> Result<(), AllocError> {
+    pub fn append<A: Allocator>(&self, file: &mut Vec<u8, A>) -> Result<(), AllocError>
+        ensures { OnOk result (file.new.items ≡ file.old.items ++ header_bytes self.now.types self.now.constants self.now.instructions) }
+    {
         file.extend_from_slice(MAGIC)?;
-        for word in [VERSION, self.types, self.constants, self.instructions] {
-            file.extend_from_slice(&word.to_le_bytes())?;
-        }
-        Ok(())
+        append_word(file, VERSION)?;
+        append_word(file, self.types)?;
+        append_word(file, self.constants)?;
+        append_word(file, self.instructions)
     }
 
     /// The number of types, constants and instructions together.
-    pub fn entries(&self) -> u32 {
+    pub fn entries(&self) -> u32
+        ensures { result ≡ self.now.types + self.now.constants + self.now.instructions }
+    {
         self.types + self.constants + self.instructions
     }
 

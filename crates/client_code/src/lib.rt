@@ -8,6 +8,7 @@ mod escape;
 mod header;
 mod instruction;
 mod item;
+mod lines;
 mod nesting;
 mod numeral;
 mod operation;

@@ -1,7 +1,11 @@
-ghost use Rattle.std.specs.Prelude.{◌≡◌, not};
-ghost use Rattle.client_spec.specs.Text.{is_meant};
+ghost use Rattle.std.specs.Prelude.{◌≡◌, ◌+◌, ◌∷◌, ◌++◌, [], ◌≤◌, ℕ, List, length, map, take, IsTrue, IsFalse};
+ghost use Rattle.client_spec.specs.Text.{Item, words_of, SpellsItem, EachSpells};
+ghost use Rattle.client_code.specs.Outlines.{section_of, IsOutline, outline_of, entries_of};
+ghost use Rattle.client_spec.specs.Pieces.{meant};
 
 use crate::header::{Header, MOST_CONSTANTS, MOST_INSTRUCTIONS};
+use crate::lines::Lines;
+pub use crate::lines::is_skipped;
 use crate::types::MOST_TYPES;
 use crate::words::Words;
 
@@ -15,31 +19,46 @@ enum Section {
 
 impl Section {
     /// The section that a line belongs to, by its first word.
-    fn of(line: &[u8]) -> Section {
+    fn of(line: &[u8]) -> Section
+        ensures { (item : Item) → SpellsItem line.now item → result ≡ section_of item }
+    {
         match Words::new(line).next() {
-            Some(b"type") => Section::Types,
-            Some(b"text" | b"name" | b"family") => Section::Constants,
-            _ => Section::Instructions,
+            Some(word) => Section::by(word),
+            None => Section::Instructions,
+        }
+    }
+
+    /// The section of the lines that begin with a word.
+    fn by(word: &[u8]) -> Section
+        ensures { (line : List ℕ) (rest : List (List ℕ)) (item : Item) → words_of line ≡ word.now ∷ rest → SpellsItem line item → result ≡ section_of item }
+    {
+        if word == b"type".as_slice() {
+            Section::Types
+        } else if word == b"text".as_slice()
+            || word == b"name".as_slice()
+            || word == b"family".as_slice()
+        {
+            Section::Constants
+        } else {
+            Section::Instructions
         }
     }
 }
 
-/// Whether a line of the text says nothing.
-pub fn is_skipped(line: &[u8]) -> bool
-    ensures { result ≡ not (is_meant line.now) }
+/// The header that counts the lines of a text, up to the first that stands behind a later section or is one too many.
+pub fn header_of(text: &[u8]) -> Header
+    ensures within { entries_of result ≤ length (meant text.now) }
+    ensures counted { (items : List Item) → EachSpells (meant text.now) items → map section_of (take (entries_of result) items) ≡ outline_of result }
+    ensures all { (items : List Item) → EachSpells (meant text.now) items → IsOutline (map section_of items) → length items ≡ entries_of result }
 {
-    line.first() == Some(&b';') || Words::new(line).next().is_none()
-}
-
-/// The header that counts the lines of a text, up to the first line that stands behind a later section or is one too many.
-pub fn header_of(text: &[u8]) -> Header {
     let mut header = Header {
         types: 0,
         constants: 0,
         instructions: 0,
     };
-    for line in text.split(|byte| *byte == b'\n') {
-        if !is_skipped(line) && !add(&mut header, Section::of(line)) {
+    let mut lines = Lines::new(text);
+    while let Some(line) = lines.next_meant() {
+        if !add(&mut header, Section::of(line)) {
             break;
         }
     }
@@ -47,7 +66,12 @@ pub fn header_of(text: &[u8]) -> Header {
 }
 
 /// Counts a line, if it may stand behind the others.
-fn add(header: &mut Header, section: Section) -> bool {
+fn add(header: &mut Header, section: Section) -> bool
+    ensures counted { IsTrue result → outline_of header.new ≡ outline_of header.old ++ section ∷ [] }
+    ensures one { IsTrue result → entries_of header.new ≡ entries_of header.old + 1 }
+    ensures refused { IsFalse result → (behind : List Section) → IsOutline (outline_of header.old ++ section ∷ behind) → ⊥ }
+    ensures kept { IsFalse result → header.new ≡ header.old }
+{
     let is_code = header.instructions > 0;
     match section {
         Section::Types if !is_code && header.constants == 0 && header.types < MOST_TYPES =>

@@ -1,11 +1,23 @@
-ghost use Rattle.std.specs.Prelude.{◌≡◌, ◌++◌, IfOk, IsTrue, IsFalse};
+ghost use Rattle.std.specs.Prelude.{◌≡◌, ◌++◌, ◌∷◌, ℕ, List, IfOk, IfSome, IfNone, IsTrue, IsFalse};
 ghost use Rattle.client_spec.specs.Code as code;
-ghost use Rattle.client_spec.specs.Text.{SpellsInText};
-ghost use Rattle.client_spec.specs.Pieces.{Pieces, Says, file_of};
+ghost use Rattle.client_spec.specs.Text as text;
+ghost use Rattle.client_spec.specs.Text.{SpellsItem, SpellsInText};
+ghost use Rattle.client_spec.specs.Pieces.{IsReadable, meant, Pieces, Says, file_of};
+ghost use Rattle.client_code.specs.Items.{item_of, IsWritten};
 
 use crate::item::Item;
-use crate::outline::{header_of, is_skipped};
+use crate::lines::Lines;
+use crate::outline::header_of;
 use std::alloc::{AllocError, Allocator};
+
+/// What the next line says that isn't skipped. `None` where there is none, or where no line of a client's text is so.
+fn next_item(lines: &mut Lines) -> Option<Item>
+    ensures found { IfSome result (λ item. (line : List ℕ) × (meant lines.old.text.now ≡ line ∷ meant lines.new.text.now) × SpellsItem line (item_of item)) }
+    ensures readable { IfSome result (λ item. IsReadable (item_of item)) }
+    ensures none { IfNone result ((line : List ℕ) (rest : List (List ℕ)) (item : text.Item) → meant lines.old.text.now ≡ line ∷ rest → IsWritten item → SpellsItem line item → ⊥) }
+{
+    Item::read(lines.next_meant()?)
+}
 
 /// Writes a file: the header of its lines, and what its lines say, up to the first that says nothing of a client. True where
 /// the file has all lines.
@@ -15,16 +27,12 @@ pub fn write<A: Allocator>(file: &mut Vec<u8, A>, text: &[u8]) -> Result<bool, A
 {
     let header = header_of(text);
     header.append(file)?;
-    let mut left = header.entries();
-    for line in text.split(|byte| *byte == b'\n') {
-        if is_skipped(line) {
-            continue;
+    let mut lines = Lines::new(text);
+    for _ in 0..header.entries() {
+        match next_item(&mut lines) {
+            Some(item) => item.append(file)?,
+            None => return Ok(false),
         }
-        match Item::read(line) {
-            Some(item) if left > 0 => item.append(file)?,
-            _ => return Ok(false),
-        }
-        left -= 1;
     }
-    Ok(true)
+    Ok(lines.next_meant().is_none())
 }
