@@ -1,5 +1,5 @@
 -- The words of a line, one by one.
-use Rattle.std.proofs.Common.{◌≡◌, ◌≢◌, ℕ, zero, suc, ◌+◌, ◌-◌, ◌<◌, ◌≤◌, Bool, true, false, nat_eq, List, [], ◌∷◌, ◌++◌, length, take, drop, get_or, refl, sym, ap, ◌∙◌, subst, arith, append_assoc, append-nil}
+use Rattle.std.proofs.Common.{◌≡◌, ℕ, suc, ◌+◌, ◌-◌, ◌<◌, ◌≤◌, Bool, true, false, nat_eq, List, [], ◌∷◌, ◌++◌, length, take, drop, get_or, refl, sym, ap, ◌∙◌, subst, arith, append_assoc, append-nil}
 use Rattle.std.specs.Prelude.{All, map, Option, Some, None, MatchOption, IfSome, not, ◌==◌, if◌then◌else◌}
 use Rattle.std.proofs.Math.Bool.{beq}
 use Rattle.std.proofs.lemmas.List.{at_drop_more, take_all, length-drop, nil_from_length}
@@ -100,7 +100,6 @@ not_types [] [] word rest small none e = cc
 not_types [] (t ∷ types) word rest small none e = none t (All-head (λ t. t < 256) t types small) (tail_of word (type_word t) rest (map type_word types) e).0
 not_types (f ∷ fields) [] word rest small none e = cc
 not_types (f ∷ fields) (t ∷ types) word rest small none e = not_types fields types word rest (All-tail (λ t. t < 256) t types small) none (tail_of (type_word f) (type_word t) (map type_word fields ++ word ∷ rest) (map type_word types) e).1
-
 
 -- fields that are few, of types with numbers of a byte
 pub few_small : (A : Type 0) (types : List ℕ) (fields : Option (List ℕ)) → MatchOption fields A (λ found. found ≡ types) → IfSome fields (λ found. (1 ≤ length found) × (length found ≤ 8)) → All (λ U. U < 256) types

@@ -1,10 +1,8 @@
 -- Numbers in a text, as they are printed.
-use Rattle.std.proofs.Common.{◌≡◌, ℕ, ℤ, pos, negsuc, ◌<◌, ◌^◌, FitsSigned, arith, sym, ◌∷◌, ◌-◌, length, take, drop, ◌+◌, refl, subst, Bool, true, false, List, Option, Some, None, Result, Ok, Err, IfNone, MatchResult, Bor}
-use Rattle.std.specs.Bool.{⊤}
+use Rattle.std.proofs.Common.{◌≡◌, ℕ, ℤ, pos, negsuc, ◌<◌, ◌^◌, FitsSigned, arith, sym, ◌∷◌, ◌-◌, length, take, drop, subst, List, Some, None, Result, Ok, Err, MatchResult, Bor}
 use Rattle.std.specs.Int.{w32}
 use Rattle.std.specs.Int.Signed.{mag}
-use Rattle.std.specs.Bool.{then_some}
-use Rattle.std.specs.Result.{result_ok, OkIff}
+use Rattle.std.specs.Result.{result_ok}
 use Rattle.std.proofs.lemmas.List.{take_all}
 use Rattle.std.specs.Str.{IsUtf8}
 
@@ -16,7 +14,6 @@ is_text W (Err e) x bytes m some = cc
 pub not_text : {E : Type 0} (P : Bor (List ℕ) → Type 0) (W : E → Type 0) (r : Result (Bor (List ℕ)) E) (bytes : List ℕ) → MatchResult r P (λ e. (IsUtf8 bytes → ⊥) × W e) → result_ok r ≡ None → IsUtf8 bytes → ⊥
 not_text P W (Ok x) bytes m none utf8 = cc
 not_text P W (Err e) bytes m none utf8 = m.0 utf8
-
 
 -- a number of 32 bits has few digits
 pub within : (z : ℤ) → FitsSigned w32 z → mag z < 2 ^ 63

@@ -1,5 +1,5 @@
 -- The sections of a client's lines, in order.
-use Rattle.std.proofs.Common.{◌≡◌, ◌≢◌, ◌⊎◌, ℕ, zero, suc, ◌+◌, ◌<◌, ◌≤◌, List, [], ◌∷◌, ◌++◌, length, map, take, drop, get_or, replicate, refl, sym, ap, ◌∙◌, subst, arith, inl, inr, append_assoc, append-nil}
+use Rattle.std.proofs.Common.{◌≡◌, ◌⊎◌, ℕ, zero, suc, ◌<◌, ◌≤◌, List, ◌∷◌, ◌++◌, replicate, refl, sym, ◌∙◌, arith, inl, inr, append_assoc}
 use Rattle.client_spec.proofs.TextWords.{tail_of}
 use Rattle.client_code.specs.declared.outline.Section.{Section}
 use Rattle.client_code.specs.declared.outline.Section.TheVariants as section

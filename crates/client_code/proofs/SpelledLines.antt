@@ -2,7 +2,6 @@
 use Rattle.std.proofs.Common.{◌≡◌, ℕ, zero, suc, ◌+◌, ◌≤◌, List, [], ◌∷◌, ◌++◌, length, map, take, drop, refl, sym, ap, ◌∙◌, subst, arith, take-add}
 use Rattle.std.proofs.lemmas.List.{drop-drop, take-append-drop, length-drop, map-append}
 use Rattle.client_spec.specs.Text.{Item, SpellsItem, EachSpells}
-use Rattle.client_spec.proofs.TextWords.{tail_of}
 use Rattle.client_code.specs.declared.outline.Section.{Section}
 use Rattle.client_code.specs.Outlines.{section_of, IsOutline}
 

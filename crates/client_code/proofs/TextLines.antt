@@ -1,12 +1,11 @@
 -- The lines of a text, one by one.
 use Rattle.std.proofs.Common.{◌≡◌, ℕ, suc, ◌+◌, ◌-◌, ◌<◌, ◌≤◌, Bool, true, false, nat_eq, List, [], ◌∷◌, ◌++◌, length, take, drop, get_or, refl, sym, ap, ◌∙◌, arith, min, append_assoc, append-nil}
-use Rattle.std.specs.Prelude.{◌==◌, if◌then◌else◌, filter, not}
+use Rattle.std.specs.Prelude.{◌==◌, if◌then◌else◌}
 use Rattle.std.proofs.lemmas.List.{at_drop_more, drop-drop}
 use Rattle.std.proofs.Math.ListN.{drop_of_length-le}
-use Rattle.client_spec.specs.Text.{lines_from, is_meant}
+use Rattle.client_spec.specs.Text.{lines_from}
 use Rattle.client_code.proofs.LineWords.{rest_from}
 use Rattle.client_code.specs.Lines.{line_length}
-use Rattle.client_spec.specs.Pieces.{meant}
 
 at_first : (t : Bool) (b : ℕ) (text : List ℕ) → (b == 10) ≡ t → line_length (b ∷ text) ≡ (if t then 0 else suc (line_length text))
 at_first t b text e = ap (λ test. if test then 0 else suc (line_length text)) e

@@ -1,14 +1,10 @@
 -- A text has one reading, byte by byte.
-use Rattle.std.proofs.Common.{◌≡◌, ℕ, ◌/◌, ◌%◌, ◌<◌, ◌≤◌, true, List, [], ◌∷◌, ◌++◌, length, refl, sym, ap, ◌∙◌, subst, arith, inl, inr, append_assoc, append-nil, length-append, All}
-use Rattle.std.specs.Prelude.{◌⊎◌, Option, Some, None, Result, Ok, Err, OnOk, OnErr}
-use Rattle.std.specs.Result.{result_ok}
+use Rattle.std.proofs.Common.{◌≡◌, ℕ, ◌/◌, ◌%◌, ◌<◌, ◌≤◌, List, [], ◌∷◌, ◌++◌, length, refl, sym, ap, ◌∙◌, subst, arith, inl, inr, append_assoc, length-append, All}
 use Rattle.std.proofs.lemmas.List.Elements.{All-nil, All-cons, All-append, All-head, All-tail}
-use Rattle.client_spec.specs.Text.{SpellsText, is_plain, escaped, hex_digit}
+use Rattle.client_spec.specs.Text.{SpellsText, escaped, hex_digit}
 use Rattle.client_spec.proofs.TextWords.{tail_of}
 use Rattle.client_spec.proofs.OneText.{not_plain, escape_one}
 use Rattle.client_code.specs.Texts.{SpellsByte}
-
-
 
 byte_one : (b c : ℕ) (us vs s : List ℕ) → b < 256 → c < 256 → SpellsByte b us s → SpellsByte c vs s → (b ≡ c) × (us ≡ vs)
 byte_one b c us vs s h k (inl (f, e)) (inl (g, d)) = tail_of b c us vs (sym e ∙ d)

@@ -1,11 +1,11 @@
 -- The items of a valid client may stand in a text, and are in order.
-use Rattle.std.proofs.Common.{◌≡◌, ℕ, ◌<◌, ◌≤◌, List, [], ◌∷◌, ◌++◌, length, map, drop, suc, ◌+◌, replicate, get_or, refl, ap, ◌∙◌, subst, arith, append_assoc, All}
+use Rattle.std.proofs.Common.{◌≡◌, ℕ, ◌<◌, ◌≤◌, List, [], ◌∷◌, ◌++◌, length, map, drop, suc, replicate, get_or, refl, ap, ◌∙◌, subst, arith, append_assoc, All}
 use Rattle.std.proofs.lemmas.List.{map-append}
 use Rattle.std.proofs.lemmas.List.Elements.{All-weaker, All-map, All-append, All-drop, All-head, All-from_recursion}
 use Rattle.std.proofs.lemmas.Option.{slice_get-get_or}
 use Rattle.std.proofs.Math.Seq.{drop-cons}
 use Rattle.seg_spec.specs.Types.{Form, Table, IsForm, IsTable}
-use Rattle.client_spec.specs.Code.{Constant, Operation, Instruction, Client}
+use Rattle.client_spec.specs.Code.{Operation, Instruction, Client}
 use Rattle.client_spec.specs.Operations.{Place}
 use Rattle.client_spec.specs.Grammar.{mark, listing, IsClient, IsInstruction}
 use Rattle.client_spec.specs.Text.{Item, type_item, constant_item, instruction_item, items_of, SpellsItem, EachSpells, SpellsInText}

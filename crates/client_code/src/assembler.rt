@@ -4,7 +4,7 @@ ghost use Rattle.client_spec.specs.Grammar.{IsClient, Spells, spelling};
 ghost use Rattle.client_spec.specs.Text.{SpellsInText, text_of};
 
 use crate::item::Item;
-use crate::outline::is_skipped;
+use crate::lines::{Lines, is_skipped};
 use crate::parser::parse;
 use crate::types::TYPES_AT;
 use crate::writer::write;
@@ -44,27 +44,16 @@ fn wrong_place(file: &[u8], is_whole: bool) -> Option<u32>
 /// The line whose item begins at a position of the file, or would; the line behind the last where there is none.
 fn line_at(text: &[u8], at: u32) -> u32 {
     let mut place = TYPES_AT as usize;
-    let mut number = 0u32;
-    for line in text.split(|byte| *byte == b'\n') {
+    let mut number = 1u32;
+    let mut lines = Lines::new(text);
+    while let Some(line) = lines.next() {
+        if !is_skipped(line) {
+            if place >= at as usize {
+                break;
+            }
+            place += Item::read(line).map_or(0, |item| item.len());
+        }
         number = number.saturating_add(1);
-        if is_skipped(line) {
-            continue;
-        }
-        if place >= at as usize {
-            return number;
-        }
-        place += Item::read(line).map_or(0, |item| item.len());
     }
-    line_count(text).saturating_add(1)
-}
-
-/// The number of lines. The last may lack its end.
-fn line_count(text: &[u8]) -> u32 {
-    let ends = text.iter().filter(|byte| **byte == b'\n').count();
-    let lines = if text.is_empty() || text.ends_with(b"\n") {
-        ends
-    } else {
-        ends.saturating_add(1)
-    };
-    u32::try_from(lines).unwrap_or(u32::MAX)
+    number
 }

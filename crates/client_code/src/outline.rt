@@ -5,7 +5,6 @@ ghost use Rattle.client_spec.specs.Pieces.{meant};
 
 use crate::header::{Header, MOST_CONSTANTS, MOST_INSTRUCTIONS};
 use crate::lines::Lines;
-pub use crate::lines::is_skipped;
 use crate::types::MOST_TYPES;
 use crate::words::Words;
 

@@ -1,4 +1,4 @@
-use Rattle.std.proofs.Common.{◌++◌, sym, ap, ◌∙◌, subst}
+use Rattle.std.proofs.Common.{◌++◌, ap, ◌∙◌, subst}
 use Rattle.client_spec.specs.Grammar.{Spells}
 use Rattle.client_spec.specs.Pieces.{file_of}
 use Rattle.client_code.proofs.Assembling.{text_spells, canonical_file, no_client}

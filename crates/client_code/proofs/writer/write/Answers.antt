@@ -1,4 +1,4 @@
-use Rattle.std.proofs.Common.{◌≡◌, ℕ, ◌≤◌, ◌∷◌, Bool, true, false, not, length, map, take, drop, sym, ap, ◌∙◌, arith, Some, None}
+use Rattle.std.proofs.Common.{◌≡◌, ℕ, ◌≤◌, ◌∷◌, Bool, true, false, not, map, take, drop, sym, ap, ◌∙◌, arith, Some, None}
 use Rattle.std.specs.Prelude.{Option, IfSome, IfNone}
 use Rattle.std.specs.Option.{is_some}
 use Rattle.std.proofs.lemmas.Bool.{true≢false, false≢true}
@@ -6,7 +6,7 @@ use Rattle.client_code.specs.Outlines.{section_of, entries_of}
 use Rattle.client_spec.specs.Pieces.{meant}
 use Rattle.client_code.proofs.SpelledLines.{past}
 use Rattle.client_code.proofs.ValidItems.{line_says, none_behind}
-use Rattle.client_code.proofs.WrittenFiles.{begin, further, ends}
+use Rattle.client_code.proofs.WrittenFiles.{further, ends}
 use Rattle.client_code.proofs.writer.write.Goals as goal
 
 pub returns-in-None-clause-cut : goal.returns-in-None-clause-cut
