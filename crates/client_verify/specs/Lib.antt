@@ -2,3 +2,5 @@ pub mod Views
 pub mod Passing
 pub mod Verifiers
 pub mod Refusals
+pub mod Checking
+pub mod Steps

@@ -2,13 +2,14 @@
 --     Progress                           what is known there
 --     passes types constants p i         behind an instruction, or the reason to refuse it
 --     passes_all types constants p is    behind several
+--     start                              in front of the code
 --     rule_at types constants i ks       what is known behind an instruction by itself, or in front of each of its parts
 --     at_most n                          n, or the most steps that the verifier counts
-use Rattle.std.specs.Prelude.{⊤, ℕ, ◌+◌, ◌*◌, ◌^◌, ◌-◌, min, max, nat_abs, List, [], ◌∷◌, length, nat_lt, if◌then◌else◌, Ok, Err}
+use Rattle.std.specs.Prelude.{ℕ, ◌+◌, ◌*◌, ◌^◌, ◌-◌, min, max, nat_abs, List, [], ◌∷◌, length, replicate, nat_lt, if◌then◌else◌, Ok}
 use Rattle.seg_spec.specs.Types.{Table}
 use Rattle.client_spec.specs.Code.{Constant, Instruction}
 use Rattle.client_spec.specs.Operations.{Place, row_of}
-use Rattle.client_spec.specs.Typed.{Checked, ◌>>=◌, RegisterTypes, Rule, known, known_after, integer_needed, rule_of, joined, kept}
+use Rattle.client_spec.specs.Typed.{Checked, ◌>>=◌, RegisterType, RegisterTypes, Rule, known, known_after, integer_needed, rule_of, joined, kept}
 
 -- a part of the code that is open, and what its end needs: what was known where its other part begins or ended, the
 -- steps of that part, or what was known in front of a loop and its turns; and the steps of the code in front of it
@@ -22,6 +23,9 @@ pub record Progress : Type 0 where
   pub known : RegisterTypes
   pub steps : ℕ
   pub parts : List Open
+
+abbrev pub start : Progress
+start = record { known = replicate 16 RegisterType.Undefined; steps = 0; parts = [] }
 
 abbrev pub at_most : ℕ → ℕ
 at_most n = min n (2 ^ 64 - 1)
@@ -38,6 +42,20 @@ inside ks part parts = record { known = ks; steps = 0; parts = with_part part pa
 abbrev pub behind : RegisterTypes → (before steps : ℕ) → List Open → Progress
 behind ks before steps parts = record { known = ks; steps = at_most (before + steps); parts = parts }
 
+-- from the success part to the else part
+abbrev pub turned : Progress → List Open → Progress
+turned p (in_success otherwise before ∷ parts) = inside otherwise (in_else p.known p.steps before) parts
+turned p (in_else success steps before ∷ parts) = record p { parts = parts }
+turned p (in_body found turns before ∷ parts) = record p { parts = parts }
+turned p [] = p
+
+-- behind the innermost part
+abbrev pub closed : Progress → List Open → Checked Progress
+closed p (in_success otherwise before ∷ parts) = Ok (behind p.known before p.steps parts)
+closed p (in_else success steps before ∷ parts) = joined success p.known >>= λ both. Ok (behind both before (max p.steps steps) parts)
+closed p (in_body found turns before ∷ parts) = kept found p.known >>= λ _. Ok (behind found before (at_most (turns * at_most (p.steps + 1))) parts)
+closed p [] = Ok p
+
 module _ (types : Table) (constants : List Constant) where
   abbrev pub rule_by : Place → Instruction → RegisterTypes → Rule
   rule_by Place.Plain i ks = rule_of types constants i ks
@@ -48,20 +66,6 @@ module _ (types : Table) (constants : List Constant) where
 
   abbrev pub rule_at : Instruction → RegisterTypes → Rule
   rule_at i ks = rule_by (row_of i.operation).place i ks
-
-  -- from the success part to the else part
-  abbrev pub turned : Progress → List Open → Progress
-  turned p (in_success otherwise before ∷ parts) = inside otherwise (in_else p.known p.steps before) parts
-  turned p (in_else success steps before ∷ parts) = record p { parts = parts }
-  turned p (in_body found turns before ∷ parts) = record p { parts = parts }
-  turned p [] = p
-
-  -- behind the innermost part
-  abbrev pub closed : Progress → List Open → Checked Progress
-  closed p (in_success otherwise before ∷ parts) = Ok (behind p.known before p.steps parts)
-  closed p (in_else success steps before ∷ parts) = joined success p.known >>= λ both. Ok (behind both before (max p.steps steps) parts)
-  closed p (in_body found turns before ∷ parts) = kept found p.known >>= λ _. Ok (behind found before (at_most (turns * at_most (p.steps + 1))) parts)
-  closed p [] = Ok p
 
   abbrev pub passes_by : Place → Progress → Instruction → Checked Progress
   passes_by Place.Plain p i = rule_at i p.known >>= λ after. Ok (record p { known = after.0; steps = at_most (p.steps + 1) })

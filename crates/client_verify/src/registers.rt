@@ -37,8 +37,9 @@ impl Registers {
     pub fn set(&mut self, register: u8, to: RegisterType)
         ensures { registers_of self.new ≡ slice_set (registers_of self.old) register (known_of to) }
     {
-        if let Some(place) = self.types.get_mut(usize::from(register)) {
-            *place = to;
+        let place = usize::from(register);
+        if place < COUNT {
+            self.types[place] = to;
         }
     }
 
@@ -46,8 +47,8 @@ impl Registers {
     pub fn end(&mut self, class: Class)
         ensures { registers_of self.new ≡ typed.ended (class_of class) (registers_of self.old) }
     {
-        for register in self.types.iter_mut() {
-            *register = register.without(class);
+        for i in 0..COUNT {
+            self.types[i] = self.types[i].without(class);
         }
     }
 

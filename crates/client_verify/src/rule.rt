@@ -1,7 +1,8 @@
-ghost use Rattle.std.specs.Prelude.{◌≡◌, List};
+ghost use Rattle.std.specs.Prelude.{◌≡◌, ◌≢◌, ◌≤◌, ◌/◌, ◌%◌, ℕ, List, pos, length};
 ghost use Rattle.client_spec.specs.Code as code;
+ghost use Rattle.client_spec.specs.Operations as table;
 ghost use Rattle.client_spec.specs.Grammar.{IsInstruction};
-ghost use Rattle.client_code.specs.Views.{instruction_of, definition};
+ghost use Rattle.client_code.specs.Views.{instruction_of, definition, place_of};
 ghost use Rattle.client_code.specs.Checks.{checks_in, checks_of};
 ghost use Rattle.client_verify.specs.Views.{registers_of, both_of, checked};
 ghost use Rattle.client_verify.specs.Passing.{rule_at};
@@ -10,7 +11,7 @@ use crate::reason::Reason;
 use crate::register::{Class, RegisterType};
 use crate::registers::Registers;
 use client_code::{Ends, Gives, Instruction, Kinds, Need, Place, Row};
-use seg_layout::{Type, TypeId, TypeTable};
+use seg_layout::{Fields, Type, TypeId, TypeTable};
 
 /// What is known behind an instruction: in its success part, and in its else part. Both are the same where it has no parts.
 #[derive(Debug, Clone, Copy)]
@@ -26,21 +27,39 @@ pub struct Rule<'a> {
     before: &'a Registers,
     instruction: Instruction,
     row: &'static Row,
+    type_id: TypeId,
+    constant: u8,
     ghost own: { checks_in row.now ≡ checks_of instruction.operation },
+    ghost place: { place_of row.now.place ≡ (definition instruction.operation).place },
+    ghost named: { (definition instruction.operation).number ≡ table.Number.TypedName → (n : ℕ) → instruction.number ≡ pos n → type_id ≡ n / 256 % 256 },
+    ghost unique: { (definition instruction.operation).number ≢ table.Number.TypedName → (n : ℕ) → instruction.number ≡ pos n → type_id ≡ n % 256 },
+    ghost name: { (n : ℕ) → instruction.number ≡ pos n → constant ≡ n % 256 },
+    ghost few: { length types.now ≤ 32 },
 }
 
 impl<'a> Rule<'a> {
+    ghost use Rattle.std.specs.Option.{option_map};
+    ghost use Rattle.seg_spec.specs.Types.{form_at};
+    ghost use Rattle.seg_layout.specs.Forms.{form_of};
+    ghost use Rattle.client_verify.specs.Views.{class_of, known_of};
+    ghost use Rattle.client_verify.specs.Checking.{referred, field_at, part_of, is_kind, is_kind_at, is_inside, is_lost, part_known, owned_by, otherwise_by, others, held, part as part_in, meets as meets_in, given as given_in, ended_in, checked_first, known_behind};
+    ghost use Rattle.client_verify.specs.Steps.{step_of};
+
+    /// The rule of an instruction, in front of which this is known.
     pub fn new(types: &'a TypeTable, before: &'a Registers, instruction: Instruction) -> Rule<'a>
         ensures types { result.types.now ≡ types.now }
         ensures before { result.before.now ≡ before.now }
         ensures instruction { result.instruction ≡ instruction }
     {
-        let row = instruction.operation.row();
+        // a table is short, so that a byte of the number is the whole id of a type
+        let _ = types.len();
         Rule {
             types,
             before,
             instruction,
-            row,
+            row: instruction.operation.row(),
+            type_id: instruction.type_id(),
+            constant: instruction.constant(),
         }
     }
 
@@ -50,6 +69,13 @@ impl<'a> Rule<'a> {
             → checked both_of result ≡ rule_at self.now.types.now constants (instruction_of self.now.instruction) (registers_of self.now.before.now) }
     {
         self.check()?;
+        Ok(self.after())
+    }
+
+    /// What is known behind the instruction where there is no reason to reject it.
+    fn after(&self) -> After
+        ensures { both_of result ≡ known_behind (step_of self.now) }
+    {
         let ended = self.ended();
         let mut after = After {
             success: ended,
@@ -59,51 +85,92 @@ impl<'a> Rule<'a> {
             after.success.set(register, holds);
             after.otherwise.set(register, self.otherwise(holds));
         }
-        Ok(after)
+        after
     }
 
     /// The reasons in their order.
-    fn check(&self) -> Result<(), Reason> {
+    fn check(&self) -> Result<(), Reason>
+        ensures { checked (λ x. x) result ≡ checked_first (step_of self.now) }
+    {
         let Instruction { b, c, .. } = self.instruction;
         if !self.meets(self.row.needs_b, b) || !self.meets(self.row.needs_c, c) {
             return Err(Reason::WrongOperand);
         }
-        if self.row.ends == Ends::Moved && self.class() == Some(Class::Register(c)) {
+        if self.is_inside() {
             return Err(Reason::PutIntoItself);
         }
-        match self.given() {
-            Some((register, _)) if self.before.get(register).is_owner() => Err(Reason::OwnerLost),
-            _ => Ok(()),
+        if self.loses_owner() {
+            return Err(Reason::OwnerLost);
         }
+        Ok(())
     }
 
-    /// Whether a register holds what is needed.
-    fn meets(&self, need: Need, register: u8) -> bool {
-        let holds = self.before.get(register);
-        match (need, holds) {
-            (Need::Nothing, _) => true,
-            (Need::IntOrNone, _) if register == Instruction::NONE => true,
-            (Need::Int | Need::IntOrNone | Need::Copyable, RegisterType::Int) => true,
-            (Need::Copyable, RegisterType::Reference(_, _)) => true,
-            (Need::Owner, RegisterType::Owner(_)) => true,
-            (Need::Content, RegisterType::Owner(owned)) => self.part() == Some(owned),
-            (Need::Reference(kinds), RegisterType::Reference(_, to)) => self.is_of(kinds, to),
+    /// Whether the object of register c is to be put into a part of itself.
+    fn is_inside(&self) -> bool
+        ensures { result ≡ is_inside (step_of self.now).checks.ends (referred (held (step_of self.now))) self.now.instruction.c }
+    {
+        match (self.row.ends, self.reference()) {
+            (Ends::Moved, Some((class, _))) => class == Class::Register(self.instruction.c),
             _ => false,
         }
     }
 
-    /// Whether a type is of these kinds.
-    fn is_of(&self, kinds: Kinds, type_id: TypeId) -> bool {
-        let Some(kind) = self.types.kind(type_id) else {
-            return false;
-        };
+    /// Whether the register that changes owns an object.
+    fn loses_owner(&self) -> bool
+        ensures { result ≡ is_lost (given_in (step_of self.now)) (registers_of self.now.before.now) }
+    {
+        match self.given() {
+            Some((register, _)) => self.before.get(register).is_owner(),
+            None => false,
+        }
+    }
+
+    /// Whether a register holds what is needed.
+    fn meets(&self, need: Need, register: u8) -> bool
+        ensures { result ≡ meets_in (step_of self.now) need register }
+    {
+        let holds = self.before.get(register);
+        match need {
+            Need::Nothing => true,
+            Need::Int => holds == RegisterType::Int,
+            Need::IntOrNone => register == Instruction::NONE || holds == RegisterType::Int,
+            Need::Copyable => matches!(holds, RegisterType::Int | RegisterType::Reference(_, _)),
+            Need::Owner => holds.is_owner(),
+            Need::Content => match holds {
+                RegisterType::Owner(owned) => self.part() == Some(owned),
+                _ => false,
+            },
+            Need::Reference(kinds) => match holds {
+                RegisterType::Reference(_, to) => self.is_of(kinds, to),
+                _ => false,
+            },
+        }
+    }
+
+    /// Whether a type is of these kinds. One past the table's end is of any kind, and of no other.
+    fn is_of(&self, kinds: Kinds, type_id: TypeId) -> bool
+        ensures { result ≡ is_kind_at self.now.instruction.number kinds (form_at self.now.types.now type_id) }
+    {
+        match self.types.kind(type_id) {
+            Some(kind) => self.is_kind(kinds, kind),
+            None => kinds == Kinds::Any,
+        }
+    }
+
+    /// The same, where the table says what the type is.
+    fn is_kind(&self, kinds: Kinds, kind: Type) -> bool
+        ensures { result ≡ is_kind self.now.instruction.number kinds (form_of kind) }
+    {
         match kinds {
             Kinds::Any => true,
-            Kinds::I64 => kind == Type::I64,
-            Kinds::Str => kind == Type::Str,
+            Kinds::I64 => matches!(kind, Type::I64),
+            Kinds::Str => matches!(kind, Type::Str),
             Kinds::List => matches!(kind, Type::List(_)),
             Kinds::Own => matches!(kind, Type::Own(_)),
-            Kinds::Struct => matches!(kind, Type::Struct(_)) && self.part_of(kind).is_some(),
+            Kinds::Struct => match kind {
+                Type::Struct(fields) => self.field(&fields).is_some(),
+                _ => false,
+            },
             Kinds::Sequence => matches!(kind, Type::Vec(_) | Type::List(_)),
             Kinds::Indexed => matches!(kind, Type::Str | Type::Vec(_) | Type::List(_)),
             Kinds::Buffered => matches!(kind, Type::Str | Type::Vec(_) | Type::FlatMap(_)),
@@ -112,8 +179,20 @@ impl<'a> Rule<'a> {
         }
     }
 
+    /// The type of the field of the instruction's number.
+    fn field(&self, fields: &Fields) -> Option<TypeId>
+        ensures { result ≡ field_at self.now.instruction.number fields.now }
+    {
+        match usize::try_from(self.instruction.number) {
+            Ok(index) => fields.get(index),
+            Err(_) => None,
+        }
+    }
+
     /// The type of an item, a map's value, an object, or the field of the instruction's number.
-    fn part_of(&self, kind: Type) -> Option<TypeId> {
+    fn part_of(&self, kind: Type) -> Option<TypeId>
+        ensures { result ≡ part_of self.now.instruction.number (form_of kind) }
+    {
         match kind {
             Type::I64 | Type::Str => None,
             Type::Vec(part)
@@ -121,44 +200,41 @@ impl<'a> Rule<'a> {
             | Type::FlatMap(part)
             | Type::Map(part)
             | Type::Own(part) => Some(part),
-            Type::Struct(fields) => fields.get(usize::try_from(self.instruction.number).ok()?),
+            Type::Struct(fields) => self.field(&fields),
         }
     }
 
     /// The reference in register b.
-    fn reference(&self) -> Option<(Class, TypeId)> {
+    fn reference(&self) -> Option<(Class, TypeId)>
+        ensures { option_map (λ x. (class_of x.0, x.1)) result ≡ referred (held (step_of self.now)) }
+    {
         match self.before.get(self.instruction.b) {
             RegisterType::Reference(class, to) => Some((class, to)),
             _ => None,
         }
     }
 
-    fn class(&self) -> Option<Class> {
-        let (class, _) = self.reference()?;
-        Some(class)
-    }
-
     /// The type of a part of what register b leads to.
-    fn part(&self) -> Option<TypeId> {
+    fn part(&self) -> Option<TypeId>
+        ensures { result ≡ part_in (step_of self.now) }
+    {
         let (_, to) = self.reference()?;
         self.part_of(self.types.kind(to)?)
     }
 
     /// The register that changes, and what it holds after success.
-    fn given(&self) -> Option<(u8, RegisterType)> {
+    fn given(&self) -> Option<(u8, RegisterType)>
+        ensures { option_map (λ x. (x.0, known_of x.1)) result ≡ given_in (step_of self.now) }
+    {
         let Instruction { a, b, .. } = self.instruction;
-        let type_id = self.instruction.type_id();
         let holds = match self.row.gives {
             Gives::Nothing => return None,
             Gives::Forgotten => return Some((b, RegisterType::Undefined)),
             Gives::Int => RegisterType::Int,
             Gives::Copy => self.before.get(b),
-            Gives::Named => RegisterType::Reference(
-                Class::Name(self.instruction.constant()),
-                type_id,
-            ),
-            Gives::Unique => RegisterType::Reference(Class::Unique(type_id), type_id),
-            Gives::Owner => RegisterType::Owner(type_id),
+            Gives::Named => RegisterType::Reference(Class::Name(self.constant), self.type_id),
+            Gives::Unique => RegisterType::Reference(Class::Unique(self.type_id), self.type_id),
+            Gives::Owner => RegisterType::Owner(self.type_id),
             Gives::Owned => self.owned(),
             Gives::Content => self
                 .part()
@@ -169,7 +245,9 @@ impl<'a> Rule<'a> {
     }
 
     /// A reference to the object that register b owns.
-    fn owned(&self) -> RegisterType {
+    fn owned(&self) -> RegisterType
+        ensures { known_of result ≡ owned_by self.now.instruction.b (held (step_of self.now)) }
+    {
         let b = self.instruction.b;
         match self.before.get(b) {
             RegisterType::Owner(owned) => RegisterType::Reference(Class::Register(b), owned),
@@ -178,15 +256,19 @@ impl<'a> Rule<'a> {
     }
 
     /// A reference to a part of what register b leads to. A part of a text is a number.
-    fn part_reference(&self) -> RegisterType {
-        match (self.class(), self.part()) {
-            (Some(class), Some(part)) => RegisterType::Reference(class, part),
+    fn part_reference(&self) -> RegisterType
+        ensures { known_of result ≡ part_known (referred (held (step_of self.now))) (part_in (step_of self.now)) }
+    {
+        match (self.reference(), self.part()) {
+            (Some((class, _)), Some(part)) => RegisterType::Reference(class, part),
             _ => RegisterType::Int,
         }
     }
 
     /// What the register that changes holds in the else part: the code.
-    fn otherwise(&self, holds: RegisterType) -> RegisterType {
+    fn otherwise(&self, holds: RegisterType) -> RegisterType
+        ensures { known_of result ≡ otherwise_by (step_of self.now).place (known_of holds) }
+    {
         match self.row.place {
             Place::Opener => RegisterType::Int,
             _ => holds,
@@ -194,14 +276,16 @@ impl<'a> Rule<'a> {
     }
 
     /// What is known once references have ended, and a register was emptied.
-    fn ended(&self) -> Registers {
+    fn ended(&self) -> Registers
+        ensures { registers_of result ≡ ended_in (step_of self.now) }
+    {
         let Instruction { b, c, .. } = self.instruction;
         let mut registers = *self.before;
         match self.row.ends {
             Ends::Nothing => {}
             Ends::Others => self.end_others(&mut registers),
-            Ends::Name => registers.end(Class::Name(self.instruction.constant())),
-            Ends::Unique => registers.end(Class::Unique(self.instruction.type_id())),
+            Ends::Name => registers.end(Class::Name(self.constant)),
+            Ends::Unique => registers.end(Class::Unique(self.type_id)),
             Ends::Dropped => registers.empty(b),
             Ends::Moved => {
                 self.end_others(&mut registers);
@@ -211,8 +295,11 @@ impl<'a> Rule<'a> {
         registers
     }
 
-    fn end_others(&self, registers: &mut Registers) {
-        if let Some(class) = self.class() {
+    /// Ends the references of the class of the one in register b, but for that one.
+    fn end_others(&self, registers: &mut Registers)
+        ensures { registers_of registers.new ≡ others (referred (held (step_of self.now))) self.now.instruction.b (registers_of registers.old) }
+    {
+        if let Some((class, _)) = self.reference() {
             registers.end_others(class, self.instruction.b);
         }
     }

@@ -8,7 +8,7 @@ ghost use Rattle.client_spec.specs.Clients.{IsVerified};
 ghost use Rattle.client_code.specs.Clients.{bytes_of};
 ghost use Rattle.client_spec.specs.Typed.{Reason, reason_number};
 ghost use Rattle.client_verify.specs.Passing.{at_most};
-ghost use Rattle.client_verify.specs.Refusals.{IsRefused, IsRejected};
+ghost use Rattle.client_verify.specs.Refusals.{IsRefused, IsRejected, IsRejectedAt};
 ghost use Rattle.client_verify.specs.declared.verified.TheConstants.{MOST_STEPS};
 
 use crate::verifier::Verifier;
@@ -86,17 +86,17 @@ pub fn verify<'a>(client: Client<'a>, table: &TypeTable) -> Result<Verified<'a>,
 /// The most steps of a client's code, or the first instruction that is rejected.
 fn bound_of(client: Client, types: &TypeTable) -> Result<u64, Fault>
     ensures accepted { IfOk result (λ bound. (tree : code.Client) → Spells (bytes_of client.entry) tree → types.now ≡ tree.types → IsAccepted tree × (bound ≡ at_most (run.bound tree.code))) }
-    ensures rejected { IfErr result (λ fault. (tree : code.Client) → Spells (bytes_of client.entry) tree → types.now ≡ tree.types → (i : ℕ) × (reason : Reason) × (fault ≡ Fault.Rejected i (reason_number reason)) × IsRejected tree reason) }
+    ensures rejected { IfErr result (λ fault. (tree : code.Client) → Spells (bytes_of client.entry) tree → types.now ≡ tree.types → (i : ℕ) × (reason : Reason) × (fault ≡ Fault.Rejected i (reason_number reason)) × IsRejected tree reason × IsRejectedAt tree i reason) }
 {
     let mut verifier = Verifier::new(types);
     for i in 0..client.instruction_count() {
         if let Some(instruction) = client.instruction(i) {
-            verifier
-                .pass(instruction)
-                .map_err(|reason| Fault::Rejected {
+            if let Err(reason) = verifier.pass(instruction) {
+                return Err(Fault::Rejected {
                     instruction: i,
                     reason: reason.number(),
-                })?;
+                });
+            }
         }
     }
     Ok(verifier.steps())

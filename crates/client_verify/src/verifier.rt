@@ -1,11 +1,12 @@
-ghost use Rattle.std.specs.Prelude.{◌≡◌, List, replicate, [], IfOk, IfErr, Ok, Err};
+ghost use Rattle.std.specs.Prelude.{◌≡◌, ◌+◌, List, replicate, [], IfOk, IfErr, Ok, Err};
 ghost use Rattle.client_spec.specs.Code as code;
 ghost use Rattle.client_spec.specs.Grammar.{IsInstruction};
+ghost use Rattle.client_spec.specs.Operations as table;
 ghost use Rattle.client_spec.specs.Typed as typed;
 ghost use Rattle.client_code.specs.Views.{instruction_of, definition};
-ghost use Rattle.client_verify.specs.Views.{reason_of};
-ghost use Rattle.client_verify.specs.Passing.{passes};
-ghost use Rattle.client_verify.specs.Verifiers.{progress_of};
+ghost use Rattle.client_verify.specs.Views.{reason_of, registers_of, checked};
+ghost use Rattle.client_verify.specs.Passing.{passes, at_most, inside, turned, closed};
+ghost use Rattle.client_verify.specs.Verifiers.{part_of, progress_of, PassesBy};
 
 use crate::reason::Reason;
 use crate::registers::Registers;
@@ -91,7 +92,10 @@ impl<'a> Verifier<'a> {
         }
     }
 
-    fn perform(&mut self, instruction: Instruction) -> Result<(), Reason> {
+    fn perform(&mut self, instruction: Instruction) -> Result<(), Reason>
+        ensures types { self.new.types.now ≡ self.old.types.now }
+        ensures passes { PassesBy table.Place.Plain self.old instruction self.new result }
+    {
         self.registers = Rule::new(self.types, &self.registers, instruction)
             .apply()?
             .success;
@@ -99,7 +103,10 @@ impl<'a> Verifier<'a> {
         Ok(())
     }
 
-    fn open(&mut self, instruction: Instruction) -> Result<(), Reason> {
+    fn open(&mut self, instruction: Instruction) -> Result<(), Reason>
+        ensures types { self.new.types.now ≡ self.old.types.now }
+        ensures passes { PassesBy table.Place.Opener self.old instruction self.new result }
+    {
         let after = Rule::new(self.types, &self.registers, instruction).apply()?;
         self.push(Part::Success {
             otherwise: after.otherwise,
@@ -108,7 +115,10 @@ impl<'a> Verifier<'a> {
         Ok(())
     }
 
-    fn enter(&mut self, instruction: Instruction) -> Result<(), Reason> {
+    fn enter(&mut self, instruction: Instruction) -> Result<(), Reason>
+        ensures types { self.new.types.now ≡ self.old.types.now }
+        ensures passes { PassesBy table.Place.Loop self.old instruction self.new result }
+    {
         Rule::new(self.types, &self.registers, instruction).apply()?;
         let turns = u64::from(instruction.number.unsigned_abs());
         self.push(Part::Body {
@@ -119,14 +129,20 @@ impl<'a> Verifier<'a> {
     }
 
     /// Opens a part behind an instruction. There is room, since a client's nesting has a limit.
-    fn push(&mut self, part: Part) {
+    fn push(&mut self, part: Part)
+        ensures types { self.new.types.now ≡ self.old.types.now }
+        ensures inside { progress_of self.new ≡ inside (registers_of self.old.registers) (part_of part (at_most (self.old.steps + 1))) (progress_of self.old).parts }
+    {
         let steps = self.steps.saturating_add(1);
         let _ = self.parts.try_push(Open { part, steps });
         self.steps = 0;
     }
 
     /// From the success part to the else part.
-    fn turn(&mut self) -> Result<(), Reason> {
+    fn turn(&mut self) -> Result<(), Reason>
+        ensures types { self.new.types.now ≡ self.old.types.now }
+        ensures turned { checked (λ _. progress_of self.new) result ≡ Ok (turned (progress_of self.old) (progress_of self.old).parts) }
+    {
         if let Some(
             Open {
                 part: Part::Success { otherwise },
@@ -146,7 +162,10 @@ impl<'a> Verifier<'a> {
     }
 
     /// Behind an `END`.
-    fn close(&mut self) -> Result<(), Reason> {
+    fn close(&mut self) -> Result<(), Reason>
+        ensures types { self.new.types.now ≡ self.old.types.now }
+        ensures closed { checked (λ _. progress_of self.new) result ≡ closed (progress_of self.old) (progress_of self.old).parts }
+    {
         let Some(Open { part, steps }) = self.parts.pop() else {
             return Ok(());
         };

@@ -1,0 +1,9 @@
+pub mod Places
+pub mod Owners
+pub mod Forms
+pub mod Needs
+pub mod Shapes
+pub mod Rules
+pub mod Counting
+pub mod Walking
+pub mod Accepting

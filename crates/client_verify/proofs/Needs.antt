@@ -1,0 +1,91 @@
+-- What an instruction needs of its registers, by the columns of the instruction table and by its rule: the same.
+--     integer_same, name_same, text_same     a number, the number of a name, a text
+--     reference_same, any_reference_same     a reference to a value of a kind, or of any
+--     owner_same, content_same, copy_same    an owner, one of an object of a type, and what may be copied
+use Rattle.std.proofs.Common.{◌≡◌, ℕ, refl, sym, ap, ◌∙◌, arith, Bool, true, false, Option, Some, None, Ok}
+use Rattle.std.specs.Prelude.{ℤ, ◌==◌, if◌then◌else◌}
+use Rattle.std.specs.Option.{is_some, option_and_then}
+use Rattle.seg_spec.specs.Types.{Form, Table, form_at}
+use Rattle.client_spec.specs.Code.{Constant}
+use Rattle.client_spec.specs.Grammar.{NamesBy, IsText}
+use Rattle.client_spec.specs.Typed.{Class, RegisterType, RegisterTypes, Reason, ◌>>=◌, Rule, known, is_owner, integer_needed, reference_needed, owner_needed, copy_needed, some_needed, name_needed, text_needed, integer_or_none, form_needed, required}
+use Rattle.client_code.specs.declared.table.Kinds.{Kinds}
+use Rattle.client_code.specs.declared.table.Kinds.TheVariants as kinds
+use Rattle.client_verify.specs.Checking.{is_kind, is_kind_at, is_integer, is_copyable, is_content, leads_to}
+use Rattle.client_verify.proofs.Forms.{AreForms}
+
+-- ---- numbers and texts
+
+pub integer_same : (k : RegisterType) (x y : Rule) → x ≡ y → (required (is_integer k) Reason.WrongOperand >>= λ _. x) ≡ (integer_needed k >>= λ _. y)
+integer_same RegisterType.Undefined x y e = refl
+integer_same RegisterType.Int x y e = e
+integer_same (RegisterType.Reference z t) x y e = refl
+integer_same (RegisterType.Owner t) x y e = refl
+
+pub optional_same : (c : ℕ) (ks : RegisterTypes) (x y : Rule) → x ≡ y → (required (if c == 16 then true else is_integer (known ks c)) Reason.WrongOperand >>= λ _. x) ≡ (integer_or_none c ks >>= λ _. y)
+optional_same c ks x y e = by_none (c == 16)
+  where
+    by_none : (none : Bool) → (required (if none then true else is_integer (known ks c)) Reason.WrongOperand >>= λ _. x) ≡ ((if none then Ok tt else integer_needed (known ks c)) >>= λ _. y)
+    by_none true = e
+    by_none false = integer_same (known ks c) x y e
+
+-- a family's name has its number in register b, and an exact name has none
+pub name_same : (o : Option Constant) (b : ℕ) (k : RegisterType) (x y : Rule) → NamesBy o b → x ≡ y → (required (if b == 16 then true else is_integer k) Reason.WrongOperand >>= λ _. x) ≡ (name_needed o k >>= λ _. y)
+name_same None b k x y h e = absurd h
+name_same (Some (Constant.Text bytes)) b k x y h e = absurd h
+name_same (Some (Constant.Name name)) b k x y h e = ap (λ n. required (if n == 16 then true else is_integer k) Reason.WrongOperand >>= λ _. x) h ∙ e
+name_same (Some (Constant.Family prefix)) b k x y h e =
+    let other : (b == 16) ≡ false = grind arith in
+    ap (λ none. required (if none then true else is_integer k) Reason.WrongOperand >>= λ _. x) other ∙ integer_same k x y e
+
+pub text_same : (o : Option Constant) (x y : Rule) → IsText o → x ≡ y → x ≡ (text_needed o >>= λ _. y)
+text_same None x y h e = absurd h
+text_same (Some (Constant.Text bytes)) x y h e = e
+text_same (Some (Constant.Name name)) x y h e = absurd h
+text_same (Some (Constant.Family prefix)) x y h e = absurd h
+
+-- ---- references
+
+some_same : {A : Type 0} (o : Option A) (b : Bool) (x : Rule) (rest : A → Rule) → is_some o ≡ b → ((y : A) → o ≡ Some y → x ≡ rest y) → (required b Reason.WrongOperand >>= λ _. x) ≡ (some_needed o >>= rest)
+some_same None b x rest e same = ap (λ v. required v Reason.WrongOperand >>= λ _. x) (sym e)
+some_same (Some y) b x rest e same = ap (λ v. required v Reason.WrongOperand >>= λ _. x) (sym e) ∙ same y refl
+
+form_same : {A : Type 0} (number : ℤ) (kinds : Kinds) (f : Form → Option A) (o : Option Form) (x : Rule) (rest : A → Rule) → AreForms number kinds f → ((y : A) → option_and_then f o ≡ Some y → x ≡ rest y) → (required (is_kind_at number kinds o) Reason.WrongOperand >>= λ _. x) ≡ (some_needed (option_and_then f o) >>= rest)
+form_same number kinds f None x rest are same = ap (λ v. required v Reason.WrongOperand >>= λ _. x) are.1
+form_same number kinds f (Some form) x rest are same = some_same (f form) (is_kind number kinds form) x rest (are.0 form) same
+
+pub reference_same : {A : Type 0} (types : Table) (number : ℤ) (kinds : Kinds) (f : Class → Form → Option A) (k : RegisterType) (behind : RegisterType → Rule) (rest : Class × ℕ → A → Rule) → ((x : Class) → AreForms number kinds (f x)) → ((x : Class) (t : ℕ) (y : A) → option_and_then (f x) (form_at types t) ≡ Some y → behind (RegisterType.Reference x t) ≡ rest (x, t) y) → (required (leads_to types number kinds k) Reason.WrongOperand >>= λ _. behind k) ≡ (reference_needed k >>= λ x. form_needed (f x.0) types x.1 >>= λ y. rest x y)
+reference_same types number kinds f RegisterType.Undefined behind rest are same = refl
+reference_same types number kinds f RegisterType.Int behind rest are same = refl
+reference_same types number kinds f (RegisterType.Reference x t) behind rest are same = form_same number kinds (f x) (form_at types t) (behind (RegisterType.Reference x t)) (rest (x, t)) (are x) (same x t)
+reference_same types number kinds f (RegisterType.Owner t) behind rest are same = refl
+
+any_kind : (number : ℤ) (o : Option Form) → is_kind_at number kinds.Any o ≡ true
+any_kind number None = refl
+any_kind number (Some form) = refl
+
+pub any_reference_same : (types : Table) (number : ℤ) (k : RegisterType) (behind : RegisterType → Rule) (rest : Class × ℕ → Rule) → ((x : Class) (t : ℕ) → behind (RegisterType.Reference x t) ≡ rest (x, t)) → (required (leads_to types number kinds.Any k) Reason.WrongOperand >>= λ _. behind k) ≡ (reference_needed k >>= rest)
+any_reference_same types number RegisterType.Undefined behind rest same = refl
+any_reference_same types number RegisterType.Int behind rest same = refl
+any_reference_same types number (RegisterType.Reference x t) behind rest same = ap (λ v. required v Reason.WrongOperand >>= λ _. behind (RegisterType.Reference x t)) (any_kind number (form_at types t)) ∙ same x t
+any_reference_same types number (RegisterType.Owner t) behind rest same = refl
+
+-- ---- owners and copies
+
+pub owner_same : (k : RegisterType) (behind : RegisterType → Rule) (rest : ℕ → Rule) → ((t : ℕ) → behind (RegisterType.Owner t) ≡ rest t) → (required (is_owner k) Reason.WrongOperand >>= λ _. behind k) ≡ (owner_needed k >>= rest)
+owner_same RegisterType.Undefined behind rest same = refl
+owner_same RegisterType.Int behind rest same = refl
+owner_same (RegisterType.Reference x t) behind rest same = refl
+owner_same (RegisterType.Owner t) behind rest same = same t
+
+pub content_same : (t : ℕ) (k : RegisterType) (x : Rule) → (required (is_content (Some t) k) Reason.WrongOperand >>= λ _. x) ≡ (owner_needed k >>= λ u. required (t == u) Reason.WrongOperand >>= λ _. x)
+content_same t RegisterType.Undefined x = refl
+content_same t RegisterType.Int x = refl
+content_same t (RegisterType.Reference y u) x = refl
+content_same t (RegisterType.Owner u) x = refl
+
+pub copy_same : (k : RegisterType) (behind rest : RegisterType → Rule) → ((k : RegisterType) → behind k ≡ rest k) → (required (is_copyable k) Reason.WrongOperand >>= λ _. behind k) ≡ (copy_needed k >>= rest)
+copy_same RegisterType.Undefined behind rest same = refl
+copy_same RegisterType.Int behind rest same = same RegisterType.Int
+copy_same (RegisterType.Reference x t) behind rest same = same (RegisterType.Reference x t)
+copy_same (RegisterType.Owner t) behind rest same = refl

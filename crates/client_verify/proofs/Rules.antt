@@ -1,0 +1,165 @@
+-- The rule of each operation, and the rule by its columns: the same.
+--     rule_same     where the columns are those of the operation
+use Rattle.std.proofs.Common.{◌≡◌, ◌≢◌, ◌≤◌, ◌/◌, ◌%◌, ℕ, length, arith, refl, sym, ap, ◌∙◌, Option, Some, List}
+use Rattle.std.specs.Prelude.{⊤, ℤ, pos, negsuc, nat_abs, not, slice_get, slice_set}
+use Rattle.seg_spec.specs.Types.{Table, form_at}
+use Rattle.client_spec.specs.Answer.{type_operand, constant_operand}
+use Rattle.client_spec.specs.Code.{Constant, Instruction}
+use Rattle.client_spec.specs.Operations.{Number}
+use Rattle.client_spec.specs.Grammar.{IsNumber, IsInstruction}
+use Rattle.client_spec.specs.Typed.{Class, RegisterType, RegisterTypes, Reason, ◌>>=◌, Rule, known, same_class, is_owner, required, ended, others_ended, combines, item_known, rule, known_after, gives, opens}
+use Rattle.client_code.specs.declared.operation.Operation.{Operation}
+use Rattle.client_code.specs.declared.operation.Operation.TheVariants as op
+use Rattle.client_code.specs.declared.table.Kinds.TheVariants as kinds
+use Rattle.client_code.specs.Views.{operation_of, definition}
+use Rattle.client_code.specs.Checks.{checks_of}
+use Rattle.client_verify.specs.Passing.{rule_at}
+use Rattle.client_verify.specs.Checking.{Step, part_known, is_integer, is_content, content_of, emptied, applied}
+use Rattle.client_verify.proofs.Shapes.{unless_lost, behind, from_first, in_turn, gives_same, opens_same}
+use Rattle.client_verify.proofs.Owners.{owner_kept, owner_kept_but}
+use Rattle.client_verify.proofs.Needs.{integer_same, optional_same, name_same, text_same, reference_same, any_reference_same, owner_same, content_same, copy_same}
+use Rattle.client_verify.proofs.Forms.{i64_forms, str_forms, list_forms, own_forms, sequence_forms, item_forms, pop_forms, buffered_forms, map_forms, value_forms, sized_forms, struct_forms, owned_part, sequence_part, list_part, value_part, field_part, item_part}
+
+-- the type and the constant that a number names
+abbrev pub AreNamed : Number → ℤ → (type_id constant : ℕ) → Type 0
+AreNamed Number.TypedName number t k = (t ≡ type_operand number) × (k ≡ constant_operand number)
+AreNamed Number.TypeId number t k = t ≡ nat_abs number
+AreNamed form number t k = ⊤
+
+-- a table is short, so a byte of the number is the whole type
+pub are_named : (types : Table) (constants : List Constant) (b t k : ℕ) (form : Number) (number : ℤ) → length types ≤ 32 → IsNumber types constants b form number
+    → (form ≡ Number.TypedName → (n : ℕ) → number ≡ pos n → t ≡ n / 256 % 256) → (form ≢ Number.TypedName → (n : ℕ) → number ≡ pos n → t ≡ n % 256) → ((n : ℕ) → number ≡ pos n → k ≡ n % 256)
+    → AreNamed form number t k
+are_named types constants b t k Number.TypedName (pos n) few right typed alone name =
+    let e = typed refl n refl in
+    let within = right.0 in
+    (omega arith, name n refl)
+are_named types constants b t k Number.TypedName (negsuc n) few right typed alone name = absurd right
+are_named types constants b t k Number.TypeId (pos n) few right typed alone name =
+    let e = alone (λ same. cc) n refl in
+    omega arith
+are_named types constants b t k Number.TypeId (negsuc n) few right typed alone name = absurd right
+are_named types constants b t k form number few right typed alone name = tt
+
+module _ (types : Table) (constants : List Constant) (a b c t k : ℕ) (ks : RegisterTypes) where
+  abbrev step : Operation → ℤ → Step
+  step operation number = record { types = types; before = ks; checks = checks_of operation; place = (definition operation).place; a = a; b = b; c = c; number = number; type_id = t; constant = k }
+
+  abbrev instruction : Operation → ℤ → Instruction
+  instruction operation number = record { operation = operation_of operation; a = a; b = b; c = c; number = number }
+
+  -- ---- shapes of several operations
+
+  abbrev IsSame : Operation → ℤ → Type 0
+  IsSame operation number = from_first (step operation number) ≡ rule_at types constants (instruction operation number) ks
+
+  opens_int : unless_lost (is_owner (known ks a)) (slice_set ks a RegisterType.Int, slice_set ks a RegisterType.Int) ≡ opens a RegisterType.Int ks
+  opens_int = opens_same a RegisterType.Int ks ks refl
+
+  gives_int : unless_lost (is_owner (known ks a)) (slice_set ks a RegisterType.Int, slice_set ks a RegisterType.Int) ≡ gives a RegisterType.Int ks
+  gives_int = gives_same a RegisterType.Int ks ks refl
+
+  combines_same : (required (is_integer (known ks b)) Reason.WrongOperand >>= λ _. required (is_integer (known ks c)) Reason.WrongOperand >>= λ _. unless_lost (is_owner (known ks a)) (slice_set ks a RegisterType.Int, slice_set ks a RegisterType.Int)) ≡ combines a b c ks
+  combines_same = integer_same (known ks b) _ _ (integer_same (known ks c) _ _ gives_int)
+
+  -- a register gets a reference by name, and one to a unique instance
+  opens_named : (number : ℤ) → AreNamed Number.TypedName number t k → unless_lost (is_owner (known ks a)) (slice_set ks a (RegisterType.Reference (Class.Name k) t), slice_set ks a RegisterType.Int) ≡ opens a (RegisterType.Reference (Class.Name (constant_operand number)) (type_operand number)) ks
+  opens_named number named =
+      opens_same a (RegisterType.Reference (Class.Name k) t) ks ks refl
+      ∙ ap (λ u. opens a (RegisterType.Reference (Class.Name k) u) ks) named.0
+      ∙ ap (λ l. opens a (RegisterType.Reference (Class.Name l) (type_operand number)) ks) named.1
+
+  opens_unique : (number : ℤ) → t ≡ nat_abs number → unless_lost (is_owner (known ks a)) (slice_set ks a (RegisterType.Reference (Class.Unique t) t), slice_set ks a RegisterType.Int) ≡ opens a (RegisterType.Reference (Class.Unique (nat_abs number)) (nat_abs number)) ks
+  opens_unique number e = opens_same a (RegisterType.Reference (Class.Unique t) t) ks ks refl ∙ ap (λ u. opens a (RegisterType.Reference (Class.Unique u) u) ks) e
+
+  -- a register gets a reference to a part, after others have ended or not
+  opens_part : (es : RegisterTypes) (x : Class) (u y : ℕ) (part : Option ℕ) → is_owner (known es a) ≡ is_owner (known ks a) → part ≡ Some y → unless_lost (is_owner (known ks a)) (slice_set es a (part_known (Some (x, u)) part), slice_set es a RegisterType.Int) ≡ opens a (RegisterType.Reference x y) es
+  opens_part es x u y part kept e =
+      ap (λ p. unless_lost (is_owner (known ks a)) (slice_set es a (part_known (Some (x, u)) p), slice_set es a RegisterType.Int)) e
+      ∙ opens_same a (RegisterType.Reference x y) es ks (sym kept)
+
+  gives_part : (x : Class) (u y : ℕ) (part : Option ℕ) → part ≡ Some y → unless_lost (is_owner (known ks a)) (slice_set ks a (part_known (Some (x, u)) part), slice_set ks a (part_known (Some (x, u)) part)) ≡ gives a (RegisterType.Reference x y) ks
+  gives_part x u y part e =
+      ap (λ p. unless_lost (is_owner (known ks a)) (slice_set ks a (part_known (Some (x, u)) p), slice_set ks a (part_known (Some (x, u)) p))) e
+      ∙ gives_same a (RegisterType.Reference x y) ks ks refl
+
+  -- ---- each operation
+
+  same : (operation : Operation) (number : ℤ) → IsInstruction types constants (definition operation).place (instruction operation number) → AreNamed (definition operation).number number t k → IsSame operation number
+  unfolding rule
+  same op.Const number right named = gives_int
+  same op.Mov number right named = copy_same (known ks b) (behind (step op.Mov number)) (λ x. gives a x ks) (λ x. gives_same a x ks ks refl)
+  same op.Add number right named = combines_same
+  same op.Sub number right named = combines_same
+  same op.Mul number right named = combines_same
+  same op.Less number right named = combines_same
+  same op.Equal number right named = combines_same
+  same op.If number right named = integer_same (known ks b) _ _ refl
+  same op.While number right named = integer_same (known ks b) _ _ refl
+  same op.OutInt number right named = integer_same (known ks b) _ _ refl
+  same op.Else number right named = refl
+  same op.End number right named = refl
+  same op.OutStr number right named = reference_same types number kinds.Str _ (known ks b) (behind (step op.OutStr number)) _ (λ x. str_forms number) (λ x u y e. refl)
+  same op.OutConst (pos n) right named = text_same (slice_get constants n) _ _ right.number refl
+  same op.GetByte number right named = opens_int
+  same op.Make (pos n) right named = name_same (slice_get constants (n % 256)) b (known ks b) _ _ right.number.1 (optional_same c ks _ _ (opens_named (pos n) named))
+  same op.Find (pos n) right named = name_same (slice_get constants (n % 256)) b (known ks b) _ _ right.number.1 (optional_same c ks _ _ (opens_named (pos n) named))
+  same op.FindOrMake (pos n) right named = name_same (slice_get constants (n % 256)) b (known ks b) _ _ right.number.1 (opens_named (pos n) named)
+  same op.Count (pos n) right named = name_same (slice_get constants (n % 256)) b (known ks b) _ _ right.number.1 opens_int
+  same op.Kill (pos n) right named = name_same (slice_get constants (n % 256)) b (known ks b) _ _ right.number.1 (gives_same a RegisterType.Int (ended (Class.Name k) ks) ks (sym (owner_kept (Class.Name k) ks a)) ∙ ap (λ l. gives a RegisterType.Int (ended (Class.Name l) ks)) named.1)
+  same op.MakeUnique number right named = opens_unique number named
+  same op.FindUnique number right named = opens_unique number named
+  same op.FindOrMakeUnique number right named = opens_unique number named
+  same op.KillUnique number right named = gives_same a RegisterType.Int (ended (Class.Unique t) ks) ks (sym (owner_kept (Class.Unique t) ks a)) ∙ ap (λ u. gives a RegisterType.Int (ended (Class.Unique u) ks)) named
+  same op.New number right named = opens_same a (RegisterType.Owner t) ks ks refl ∙ ap (λ u. opens a (RegisterType.Owner u) ks) named
+  same op.Drop number right named = owner_same (known ks b) (behind (step op.Drop number)) _ (λ u. refl)
+  same op.Ref number right named = owner_same (known ks b) (behind (step op.Ref number)) _ (λ u. gives_same a (RegisterType.Reference (Class.Register b) u) ks ks refl)
+  same op.Put number right named = reference_same types number kinds.Own _ (known ks b) (behind (step op.Put number)) _ (λ x. own_forms number) (λ x u y e.
+      ap (λ part. required (is_content part (known ks c)) Reason.WrongOperand >>= λ _. moved x) (owned_part number (form_at types u) y e) ∙ content_same y (known ks c) (moved x))
+    where
+      moved : Class → Rule
+      moved x = required (not (same_class x (Class.Register c))) Reason.PutIntoItself >>= λ _. known_after (emptied c (others_ended x b ks))
+  same op.Take number right named = reference_same types number kinds.Own _ (known ks b) (behind (step op.Take number)) _ (λ x. own_forms number) (λ x u y e.
+      ap (λ part. unless_lost (is_owner (known ks a)) (slice_set (others_ended x b ks) a (content_of part), slice_set (others_ended x b ks) a RegisterType.Int)) (owned_part number (form_at types u) y e)
+      ∙ opens_same a (RegisterType.Owner y) (others_ended x b ks) ks (sym (owner_kept_but x b ks a)))
+  same op.Content number right named = reference_same types number kinds.Own _ (known ks b) (behind (step op.Content number)) _ (λ x. own_forms number) (λ x u y e. opens_part ks x u y _ refl (owned_part number (form_at types u) y e))
+  same op.Clear number right named = any_reference_same types number (known ks b) (behind (step op.Clear number)) _ (λ x u. refl)
+  same op.Forget number right named = gives_same b RegisterType.Undefined ks ks refl
+  same op.Load number right named = reference_same types number kinds.I64 _ (known ks b) (behind (step op.Load number)) _ (λ x. i64_forms number) (λ x u y e. gives_int)
+  same op.Store number right named = reference_same types number kinds.I64 _ (known ks b) (behind (step op.Store number)) _ (λ x. i64_forms number) (λ x u y e. integer_same (known ks c) _ _ refl)
+  same op.Field number right named = reference_same types number kinds.Struct _ (known ks b) (behind (step op.Field number)) _ (λ x. struct_forms number) (λ x u y e. gives_part x u y _ (field_part number (form_at types u) y e))
+  same op.Len number right named = reference_same types number kinds.Sized _ (known ks b) (behind (step op.Len number)) _ (λ x. sized_forms number) (λ x u y e. gives_int)
+  same op.At number right named = reference_same types number kinds.Indexed item_known (known ks b) (behind (step op.At number)) _ (item_forms number) (λ x u y e. integer_same (known ks c) _ _ (
+      ap (λ z. unless_lost (is_owner (known ks a)) (slice_set ks a z, slice_set ks a RegisterType.Int)) (item_part number x u (form_at types u) y e) ∙ opens_same a y ks ks refl))
+  same op.PushBack number right named = reference_same types number kinds.Sequence _ (known ks b) (behind (step op.PushBack number)) _ (λ x. sequence_forms number) (λ x u y e. opens_part (others_ended x b ks) x u y _ (owner_kept_but x b ks a) (sequence_part number (form_at types u) y e))
+  same op.PushFront number right named = reference_same types number kinds.List _ (known ks b) (behind (step op.PushFront number)) _ (λ x. list_forms number) (λ x u y e. opens_part (others_ended x b ks) x u y _ (owner_kept_but x b ks a) (list_part number (form_at types u) y e))
+  same op.PopBack number right named = reference_same types number kinds.Indexed _ (known ks b) (behind (step op.PopBack number)) _ (λ x. pop_forms number) (λ x u y e. opens_same a RegisterType.Int (others_ended x b ks) ks (sym (owner_kept_but x b ks a)))
+  same op.PopFront number right named = reference_same types number kinds.List _ (known ks b) (behind (step op.PopFront number)) _ (λ x. list_forms number) (λ x u y e. opens_same a RegisterType.Int (others_ended x b ks) ks (sym (owner_kept_but x b ks a)))
+  same op.SetStr (pos n) right named = reference_same types (pos n) kinds.Str _ (known ks b) (behind (step op.SetStr (pos n))) _ (λ x. str_forms (pos n)) (λ x u y e. text_same (slice_get constants n) _ _ right.number opens_int)
+  same op.AddStr (pos n) right named = reference_same types (pos n) kinds.Str _ (known ks b) (behind (step op.AddStr (pos n))) _ (λ x. str_forms (pos n)) (λ x u y e. text_same (slice_get constants n) _ _ right.number opens_int)
+  same op.AddByte number right named = reference_same types number kinds.Str _ (known ks b) (behind (step op.AddByte number)) _ (λ x. str_forms number) (λ x u y e. integer_same (known ks c) _ _ opens_int)
+  same op.Shrink number right named = reference_same types number kinds.Buffered _ (known ks b) (behind (step op.Shrink number)) _ (λ x. buffered_forms number) (λ x u y e. refl)
+  same op.GetKey number right named = reference_same types number kinds.Map _ (known ks b) (behind (step op.GetKey number)) _ (λ x. value_forms number) (λ x u y e. integer_same (known ks c) _ _ (opens_part ks x u y _ refl (value_part number (form_at types u) y e)))
+  same op.PutKey number right named = reference_same types number kinds.Map _ (known ks b) (behind (step op.PutKey number)) _ (λ x. value_forms number) (λ x u y e. integer_same (known ks c) _ _ (opens_part (others_ended x b ks) x u y _ (owner_kept_but x b ks a) (value_part number (form_at types u) y e)))
+  same op.DeleteKey number right named = reference_same types number kinds.Map _ (known ks b) (behind (step op.DeleteKey number)) _ (λ x. map_forms number) (λ x u y e. integer_same (known ks c) _ _ (gives_same a RegisterType.Int (others_ended x b ks) ks (sym (owner_kept_but x b ks a))))
+  same op.FirstKey number right named = reference_same types number kinds.Map _ (known ks b) (behind (step op.FirstKey number)) _ (λ x. map_forms number) (λ x u y e. opens_int)
+  same op.NextKey number right named = reference_same types number kinds.Map _ (known ks b) (behind (step op.NextKey number)) _ (λ x. map_forms number) (λ x u y e. integer_same (known ks c) _ _ opens_int)
+  same op.OutConst (negsuc n) right named = absurd right.number
+  same op.Make (negsuc n) right named = absurd right.number
+  same op.Find (negsuc n) right named = absurd right.number
+  same op.FindOrMake (negsuc n) right named = absurd right.number
+  same op.Count (negsuc n) right named = absurd right.number
+  same op.Kill (negsuc n) right named = absurd right.number
+  same op.SetStr (negsuc n) right named = absurd right.number
+  same op.AddStr (negsuc n) right named = absurd right.number
+
+-- the columns of an operation say its rule
+pub rule_same : (s : Step) (constants : List Constant) (operation : Operation) → s.checks ≡ checks_of operation → s.place ≡ (definition operation).place
+    → IsInstruction s.types constants (definition operation).place (record { operation = operation_of operation; a = s.a; b = s.b; c = s.c; number = s.number })
+    → AreNamed (definition operation).number s.number s.type_id s.constant
+    → applied s ≡ rule_at s.types constants (record { operation = operation_of operation; a = s.a; b = s.b; c = s.c; number = s.number }) s.before
+rule_same s constants operation checks place right named =
+    in_turn s
+    ∙ ap (λ columns. from_first (record s { checks = columns })) checks
+    ∙ ap (λ standing. from_first (record s { checks = checks_of operation; place = standing })) place
+    ∙ same s.types constants s.a s.b s.c s.type_id s.constant s.before operation s.number right named

@@ -1,0 +1,224 @@
+-- What the verifier makes of an instruction by the columns of the instruction table.
+--     Step     what it reads: the columns, the operands, and what is known in front of the instruction
+--     meets, given, ended_in     whether a register holds what is needed, what a register gets, what is known once references have ended
+--     checked_first, known_behind, applied     the first reason to refuse the instruction, what is known behind it in both parts, or either
+use Rattle.std.specs.Prelude.{⊤, ℕ, ℤ, pos, negsuc, List, Bool, true, false, not, ◌==◌, if◌then◌else◌, Option, Some, None, Ok, slice_get, slice_set}
+use Rattle.std.specs.Option.{is_some, option_and_then}
+use Rattle.seg_spec.specs.Types.{Form, Table, form_at}
+use Rattle.client_spec.specs.Operations.{Place}
+use Rattle.client_spec.specs.Typed.{Class, RegisterType, RegisterTypes, Reason, Checked, ◌>>=◌, Rule, known, same_class, is_owner, required, ended, others_ended}
+use Rattle.client_code.specs.declared.table.Need.{Need}
+use Rattle.client_code.specs.declared.table.Need.TheVariants as need
+use Rattle.client_code.specs.declared.table.Kinds.{Kinds}
+use Rattle.client_code.specs.declared.table.Kinds.TheVariants as kinds
+use Rattle.client_code.specs.declared.table.Gives.{Gives}
+use Rattle.client_code.specs.declared.table.Gives.TheVariants as gives
+use Rattle.client_code.specs.declared.table.Ends.{Ends}
+use Rattle.client_code.specs.declared.table.Ends.TheVariants as ends
+use Rattle.client_code.specs.Checks.{Checks}
+
+-- an instruction, with the type and the constant that its number names, and what is known in front of it
+pub record Step : Type 0 where
+  pub types : Table
+  pub before : RegisterTypes
+  pub checks : Checks
+  pub place : Place
+  pub a : ℕ
+  pub b : ℕ
+  pub c : ℕ
+  pub number : ℤ
+  pub type_id : ℕ
+  pub constant : ℕ
+
+-- ---- what register b leads to
+
+abbrev pub referred : RegisterType → Option (Class × ℕ)
+referred RegisterType.Undefined = None
+referred RegisterType.Int = None
+referred (RegisterType.Reference x t) = Some (x, t)
+referred (RegisterType.Owner t) = None
+
+abbrev pub field_at : ℤ → List ℕ → Option ℕ
+field_at (pos n) fields = slice_get fields n
+field_at (negsuc n) fields = None
+
+-- the type of an item, a map's value, an object, or the field of this number
+abbrev pub part_of : ℤ → Form → Option ℕ
+part_of number Form.i64 = None
+part_of number Form.str = None
+part_of number (Form.vec t) = Some t
+part_of number (Form.list t) = Some t
+part_of number (Form.flat_map t) = Some t
+part_of number (Form.map t) = Some t
+part_of number (Form.own t) = Some t
+part_of number (Form.struct fields) = field_at number fields
+
+-- the type of a part of what a reference leads to
+abbrev pub part_in : Table → ℤ → RegisterType → Option ℕ
+part_in types number RegisterType.Undefined = None
+part_in types number RegisterType.Int = None
+part_in types number (RegisterType.Reference x t) = option_and_then (part_of number) (form_at types t)
+part_in types number (RegisterType.Owner t) = None
+
+-- ---- what a register has to hold
+
+abbrev pub is_kind : ℤ → Kinds → Form → Bool
+is_kind number kinds.Any k = true
+is_kind number kinds.I64 Form.i64 = true
+is_kind number kinds.Str Form.str = true
+is_kind number kinds.List (Form.list t) = true
+is_kind number kinds.Own (Form.own t) = true
+is_kind number kinds.Struct (Form.struct fields) = is_some (field_at number fields)
+is_kind number kinds.Sequence (Form.vec t) = true
+is_kind number kinds.Sequence (Form.list t) = true
+is_kind number kinds.Indexed Form.str = true
+is_kind number kinds.Indexed (Form.vec t) = true
+is_kind number kinds.Indexed (Form.list t) = true
+is_kind number kinds.Buffered Form.str = true
+is_kind number kinds.Buffered (Form.vec t) = true
+is_kind number kinds.Buffered (Form.flat_map t) = true
+is_kind number kinds.Map (Form.flat_map t) = true
+is_kind number kinds.Map (Form.map t) = true
+is_kind number kinds.Sized Form.i64 = false
+is_kind number kinds.Sized (Form.own t) = false
+is_kind number kinds.Sized (Form.struct fields) = false
+is_kind number kinds.Sized k = true
+is_kind number kinds k = false
+
+-- any type, also one that the table doesn't have, or one of these kinds
+abbrev pub is_kind_at : ℤ → Kinds → Option Form → Bool
+is_kind_at number kinds (Some form) = is_kind number kinds form
+is_kind_at number kinds.Any None = true
+is_kind_at number kinds None = false
+
+abbrev pub is_integer : RegisterType → Bool
+is_integer RegisterType.Int = true
+is_integer k = false
+
+abbrev pub is_copyable : RegisterType → Bool
+is_copyable RegisterType.Int = true
+is_copyable (RegisterType.Reference x t) = true
+is_copyable k = false
+
+abbrev pub is_same : Option ℕ → ℕ → Bool
+is_same None t = false
+is_same (Some u) t = u == t
+
+-- an owner of an object of this type
+abbrev pub is_content : Option ℕ → RegisterType → Bool
+is_content part (RegisterType.Owner t) = is_same part t
+is_content part k = false
+
+abbrev pub leads_to : Table → ℤ → Kinds → RegisterType → Bool
+leads_to types number kinds (RegisterType.Reference x t) = is_kind_at number kinds (form_at types t)
+leads_to types number kinds k = false
+
+-- what is held in register b, and in this one
+abbrev pub meets_by : Table → ℤ → RegisterType → Need → ℕ → RegisterType → Bool
+meets_by types number held need.Nothing r k = true
+meets_by types number held need.Int r k = is_integer k
+meets_by types number held need.IntOrNone r k = if r == 16 then true else is_integer k
+meets_by types number held need.Copyable r k = is_copyable k
+meets_by types number held need.Owner r k = is_owner k
+meets_by types number held need.Content r k = is_content (part_in types number held) k
+meets_by types number held (need.Reference kinds) r k = leads_to types number kinds k
+
+-- ---- what a register gets
+
+abbrev pub owned_by : ℕ → RegisterType → RegisterType
+owned_by b (RegisterType.Owner t) = RegisterType.Reference (Class.Register b) t
+owned_by b k = RegisterType.Undefined
+
+abbrev pub content_of : Option ℕ → RegisterType
+content_of None = RegisterType.Undefined
+content_of (Some t) = RegisterType.Owner t
+
+-- a part of a text is a number
+abbrev pub part_known : Option (Class × ℕ) → Option ℕ → RegisterType
+part_known (Some x) (Some t) = RegisterType.Reference x.0 t
+part_known x t = RegisterType.Int
+
+-- in the else part the register holds the code
+abbrev pub otherwise_by : Place → RegisterType → RegisterType
+otherwise_by Place.Opener k = RegisterType.Int
+otherwise_by place k = k
+
+abbrev pub changed : Option (ℕ × RegisterType) → RegisterTypes → RegisterTypes
+changed None ks = ks
+changed (Some x) ks = slice_set ks x.0 x.1
+
+abbrev pub changed_by : Place → Option (ℕ × RegisterType) → RegisterTypes → RegisterTypes
+changed_by place None ks = ks
+changed_by place (Some x) ks = slice_set ks x.0 (otherwise_by place x.1)
+
+-- an owner would be lost
+abbrev pub is_lost : Option (ℕ × RegisterType) → RegisterTypes → Bool
+is_lost None ks = false
+is_lost (Some x) ks = is_owner (known ks x.0)
+
+-- ---- which references end
+
+abbrev pub others : Option (Class × ℕ) → ℕ → RegisterTypes → RegisterTypes
+others None b ks = ks
+others (Some x) b ks = others_ended x.0 b ks
+
+abbrev pub emptied : ℕ → RegisterTypes → RegisterTypes
+emptied r ks = slice_set (ended (Class.Register r) ks) r RegisterType.Undefined
+
+-- an object would be put into itself
+abbrev pub is_inside : Ends → Option (Class × ℕ) → ℕ → Bool
+is_inside ends.Moved (Some x) c = same_class x.0 (Class.Register c)
+is_inside ends x c = false
+
+-- ---- the rule by the columns
+
+module _ (s : Step) where
+  abbrev pub held : RegisterType
+  held = known s.before s.b
+
+  abbrev pub meets : Need → ℕ → Bool
+  meets need r = meets_by s.types s.number held need r (known s.before r)
+
+  abbrev pub part : Option ℕ
+  part = part_in s.types s.number held
+
+  -- the register that changes, and what it gets, where this is held in register b
+  abbrev pub given_by : RegisterType → Gives → Option (ℕ × RegisterType)
+  given_by h gives.Nothing = None
+  given_by h gives.Int = Some (s.a, RegisterType.Int)
+  given_by h gives.Copy = Some (s.a, h)
+  given_by h gives.Named = Some (s.a, RegisterType.Reference (Class.Name s.constant) s.type_id)
+  given_by h gives.Unique = Some (s.a, RegisterType.Reference (Class.Unique s.type_id) s.type_id)
+  given_by h gives.Owner = Some (s.a, RegisterType.Owner s.type_id)
+  given_by h gives.Owned = Some (s.a, owned_by s.b h)
+  given_by h gives.Content = Some (s.a, content_of (part_in s.types s.number h))
+  given_by h gives.Part = Some (s.a, part_known (referred h) (part_in s.types s.number h))
+  given_by h gives.Forgotten = Some (s.b, RegisterType.Undefined)
+
+  abbrev pub given : Option (ℕ × RegisterType)
+  given = given_by held s.checks.gives
+
+  abbrev pub ended_by : RegisterType → Ends → RegisterTypes
+  ended_by h ends.Nothing = s.before
+  ended_by h ends.Others = others (referred h) s.b s.before
+  ended_by h ends.Name = ended (Class.Name s.constant) s.before
+  ended_by h ends.Unique = ended (Class.Unique s.type_id) s.before
+  ended_by h ends.Dropped = emptied s.b s.before
+  ended_by h ends.Moved = emptied s.c (others (referred h) s.b s.before)
+
+  abbrev pub ended_in : RegisterTypes
+  ended_in = ended_by held s.checks.ends
+
+  abbrev pub checked_first : Checked (⊤)
+  checked_first = do
+    _ ← required (meets s.checks.needs_b s.b) Reason.WrongOperand
+    _ ← required (meets s.checks.needs_c s.c) Reason.WrongOperand
+    _ ← required (not (is_inside s.checks.ends (referred held) s.c)) Reason.PutIntoItself
+    required (not (is_lost given s.before)) Reason.OwnerLost
+
+  -- in the success part, and in the else part
+  abbrev pub known_behind : RegisterTypes × RegisterTypes
+  known_behind = (changed given ended_in, changed_by s.place given ended_in)
+
+  abbrev pub applied : Rule
+  applied = checked_first >>= λ _. Ok known_behind
