@@ -1,6 +1,7 @@
 -- A client file, part by part.
 --     code_place client                              where the code of a client begins
 --     IsHeader file types constants instructions     the header says so
+--     AreRight file place                            the header's fields in front of a position are right
 --     AreTypes file table                            these types stand behind it
 --     AreConstants file at constants behind          these constants stand there, and the rest behind them
 --     IsCodeAt file at table constants code          this code stands there, up to the end
@@ -20,6 +21,13 @@ pub record IsHeader (file : List ℕ) (types constants instructions : ℕ) : Typ
   pub of_types : bytes.word file 8 ≡ types
   pub of_constants : bytes.word file 12 ≡ constants
   pub of_instructions : bytes.word file 16 ≡ instructions
+
+pub record AreRight (file : List ℕ) (place : ℕ) : Type 0 where
+  pub magic : 4 ≤ place → take 4 file ≡ codes "SEGC"
+  pub version : 8 ≤ place → (8 ≤ length file) × (bytes.word file 4 ≡ 1)
+  pub of_types : 12 ≤ place → (12 ≤ length file) × (bytes.word file 8 ≤ 32)
+  pub of_constants : 16 ≤ place → (16 ≤ length file) × (bytes.word file 12 ≤ 256)
+  pub of_instructions : 20 ≤ place → (20 ≤ length file) × (bytes.word file 16 ≤ 4096)
 
 pub record AreConstants (file : List ℕ) (at : ℕ) (constants : List Constant) (behind : ℕ) : Type 0 where
   pub spelled : drop at file ≡ flat_map constant_bytes constants ++ drop behind file

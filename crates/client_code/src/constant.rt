@@ -38,15 +38,6 @@ impl ConstantKind {
             _ => None,
         }
     }
-
-    /// The word in front of the constant in the assembler text.
-    pub fn word(self) -> &'static str {
-        match self {
-            ConstantKind::Text => "text",
-            ConstantKind::Name => "name",
-            ConstantKind::Family => "family",
-        }
-    }
 }
 
 /// A constant of a client. It borrows its bytes.

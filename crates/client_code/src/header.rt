@@ -1,7 +1,7 @@
 ghost use Rattle.std.specs.Prelude.{◌≡◌, ◌≤◌, ◌<◌, ◌+◌, ◌*◌, ◌++◌, ℕ, length, IfOk, IfErr, OnOk, MatchOption};
 ghost use Rattle.seg_spec.specs.Bytes as bytes;
 ghost use Rattle.seg_spec.specs.Bytes.{spelling};
-ghost use Rattle.client_code.specs.Files.{IsHeader};
+ghost use Rattle.client_code.specs.Files.{IsHeader, AreRight};
 ghost use Rattle.client_code.specs.Headers.{header_bytes};
 ghost use Rattle.client_code.specs.declared.header.TheConstants.{MOST_CONSTANTS, MOST_INSTRUCTIONS};
 ghost use Rattle.client_code.specs.declared.types.TheConstants.{MOST_TYPES};
@@ -45,7 +45,7 @@ fn count(file: &[u8], at: u32, most: u32) -> Result<u32, Fault>
     requires { at ≤ 16 }
     ensures found { IfOk result (λ n. (n ≤ most) × (at + 4 ≤ length file.now) × (n ≡ bytes.word file.now at)) }
     ensures wrong { IfErr result (λ fault. at + 4 ≤ length file.now → bytes.word file.now at ≤ most → ⊥) }
-    ensures fault { IfErr result (λ fault. (place : ℕ) × (fault ≡ Fault.BadCode place)) }
+    ensures fault { IfErr result (λ fault. fault ≡ Fault.BadCode at) }
 {
     match word(file, at) {
         Some(n) if n <= most => Ok(n),
@@ -65,7 +65,7 @@ impl Header {
     pub fn read(file: &[u8]) -> Result<Header, Fault>
         ensures found { IfOk result (λ h. IsHeader file.now h.types h.constants h.instructions) }
         ensures wrong { IfErr result (λ fault. (t c i : ℕ) → t ≤ MOST_TYPES → c ≤ MOST_CONSTANTS → i ≤ MOST_INSTRUCTIONS → IsHeader file.now t c i → ⊥) }
-        ensures fault { IfErr result (λ fault. (place : ℕ) × (fault ≡ Fault.BadCode place)) }
+        ensures fault { IfErr result (λ fault. (place : ℕ) × (fault ≡ Fault.BadCode place) × AreRight file.now place × (AreRight file.now (place + 4) → ⊥)) }
     {
         if !file.starts_with(MAGIC) {
             return Err(Fault::BadCode(0));

@@ -20,7 +20,8 @@ use std::fmt::Write;
 
 /// The canonical text of a client. `Memory` where memory was refused.
 pub fn print<A: Allocator>(alloc: A, client: &Client) -> Result<Vec<u8, A>, Fault>
-    ensures { IfOk result (λ text. (tree : code.Client) → Spells (bytes_of client.now) tree → text.items ≡ text_of tree) }
+    ensures text { IfOk result (λ text. (tree : code.Client) → Spells (bytes_of client.now) tree → text.items ≡ text_of tree) }
+    ensures fault { IfErr result (λ fault. fault ≡ Fault.Memory) }
 {
     let mut text = String::new(alloc);
     print_types(&mut text, &client.types())?;

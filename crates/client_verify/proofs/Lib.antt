@@ -3,6 +3,7 @@ pub mod Owners
 pub mod Forms
 pub mod Needs
 pub mod Shapes
+pub mod Numbers
 pub mod Rules
 pub mod Counting
 pub mod Walking

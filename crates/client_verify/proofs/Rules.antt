@@ -1,12 +1,12 @@
 -- The rule of each operation, and the rule by its columns: the same.
 --     rule_same     where the columns are those of the operation
-use Rattle.std.proofs.Common.{◌≡◌, ◌≢◌, ◌≤◌, ◌/◌, ◌%◌, ℕ, length, arith, refl, sym, ap, ◌∙◌, Option, Some, List}
-use Rattle.std.specs.Prelude.{⊤, ℤ, pos, negsuc, nat_abs, not, slice_get, slice_set}
+use Rattle.std.proofs.Common.{◌≡◌, ◌%◌, ℕ, refl, sym, ap, ◌∙◌, Option, Some, List}
+use Rattle.std.specs.Prelude.{ℤ, pos, negsuc, nat_abs, not, slice_get, slice_set}
 use Rattle.seg_spec.specs.Types.{Table, form_at}
 use Rattle.client_spec.specs.Answer.{type_operand, constant_operand}
 use Rattle.client_spec.specs.Code.{Constant, Instruction}
 use Rattle.client_spec.specs.Operations.{Number}
-use Rattle.client_spec.specs.Grammar.{IsNumber, IsInstruction}
+use Rattle.client_spec.specs.Grammar.{IsInstruction}
 use Rattle.client_spec.specs.Typed.{Class, RegisterType, RegisterTypes, Reason, ◌>>=◌, Rule, known, same_class, is_owner, required, ended, others_ended, combines, item_known, rule, known_after, gives, opens}
 use Rattle.client_code.specs.declared.operation.Operation.{Operation}
 use Rattle.client_code.specs.declared.operation.Operation.TheVariants as op
@@ -16,30 +16,10 @@ use Rattle.client_code.specs.Checks.{checks_of}
 use Rattle.client_verify.specs.Passing.{rule_at}
 use Rattle.client_verify.specs.Checking.{Step, part_known, is_integer, is_content, content_of, emptied, applied}
 use Rattle.client_verify.proofs.Shapes.{unless_lost, behind, from_first, in_turn, gives_same, opens_same}
+use Rattle.client_verify.proofs.Numbers.{AreNamed}
 use Rattle.client_verify.proofs.Owners.{owner_kept, owner_kept_but}
 use Rattle.client_verify.proofs.Needs.{integer_same, optional_same, name_same, text_same, reference_same, any_reference_same, owner_same, content_same, copy_same}
 use Rattle.client_verify.proofs.Forms.{i64_forms, str_forms, list_forms, own_forms, sequence_forms, item_forms, pop_forms, buffered_forms, map_forms, value_forms, sized_forms, struct_forms, owned_part, sequence_part, list_part, value_part, field_part, item_part}
-
--- the type and the constant that a number names
-abbrev pub AreNamed : Number → ℤ → (type_id constant : ℕ) → Type 0
-AreNamed Number.TypedName number t k = (t ≡ type_operand number) × (k ≡ constant_operand number)
-AreNamed Number.TypeId number t k = t ≡ nat_abs number
-AreNamed form number t k = ⊤
-
--- a table is short, so a byte of the number is the whole type
-pub are_named : (types : Table) (constants : List Constant) (b t k : ℕ) (form : Number) (number : ℤ) → length types ≤ 32 → IsNumber types constants b form number
-    → (form ≡ Number.TypedName → (n : ℕ) → number ≡ pos n → t ≡ n / 256 % 256) → (form ≢ Number.TypedName → (n : ℕ) → number ≡ pos n → t ≡ n % 256) → ((n : ℕ) → number ≡ pos n → k ≡ n % 256)
-    → AreNamed form number t k
-are_named types constants b t k Number.TypedName (pos n) few right typed alone name =
-    let e = typed refl n refl in
-    let within = right.0 in
-    (omega arith, name n refl)
-are_named types constants b t k Number.TypedName (negsuc n) few right typed alone name = absurd right
-are_named types constants b t k Number.TypeId (pos n) few right typed alone name =
-    let e = alone (λ same. cc) n refl in
-    omega arith
-are_named types constants b t k Number.TypeId (negsuc n) few right typed alone name = absurd right
-are_named types constants b t k form number few right typed alone name = tt
 
 module _ (types : Table) (constants : List Constant) (a b c t k : ℕ) (ks : RegisterTypes) where
   abbrev step : Operation → ℤ → Step
@@ -53,34 +33,38 @@ module _ (types : Table) (constants : List Constant) (a b c t k : ℕ) (ks : Reg
   abbrev IsSame : Operation → ℤ → Type 0
   IsSame operation number = from_first (step operation number) ≡ rule_at types constants (instruction operation number) ks
 
-  opens_int : unless_lost (is_owner (known ks a)) (slice_set ks a RegisterType.Int, slice_set ks a RegisterType.Int) ≡ opens a RegisterType.Int ks
+  -- register a gets this, and in the else part that, unless it owns an object
+  abbrev gets : RegisterTypes → (good bad : RegisterType) → Rule
+  gets es good bad = unless_lost (is_owner (known ks a)) (slice_set es a good, slice_set es a bad)
+
+  opens_int : gets ks RegisterType.Int RegisterType.Int ≡ opens a RegisterType.Int ks
   opens_int = opens_same a RegisterType.Int ks ks refl
 
-  gives_int : unless_lost (is_owner (known ks a)) (slice_set ks a RegisterType.Int, slice_set ks a RegisterType.Int) ≡ gives a RegisterType.Int ks
+  gives_int : gets ks RegisterType.Int RegisterType.Int ≡ gives a RegisterType.Int ks
   gives_int = gives_same a RegisterType.Int ks ks refl
 
-  combines_same : (required (is_integer (known ks b)) Reason.WrongOperand >>= λ _. required (is_integer (known ks c)) Reason.WrongOperand >>= λ _. unless_lost (is_owner (known ks a)) (slice_set ks a RegisterType.Int, slice_set ks a RegisterType.Int)) ≡ combines a b c ks
+  combines_same : (required (is_integer (known ks b)) Reason.WrongOperand >>= λ _. required (is_integer (known ks c)) Reason.WrongOperand >>= λ _. gets ks RegisterType.Int RegisterType.Int) ≡ combines a b c ks
   combines_same = integer_same (known ks b) _ _ (integer_same (known ks c) _ _ gives_int)
 
   -- a register gets a reference by name, and one to a unique instance
-  opens_named : (number : ℤ) → AreNamed Number.TypedName number t k → unless_lost (is_owner (known ks a)) (slice_set ks a (RegisterType.Reference (Class.Name k) t), slice_set ks a RegisterType.Int) ≡ opens a (RegisterType.Reference (Class.Name (constant_operand number)) (type_operand number)) ks
+  opens_named : (number : ℤ) → AreNamed Number.TypedName number t k → gets ks (RegisterType.Reference (Class.Name k) t) RegisterType.Int ≡ opens a (RegisterType.Reference (Class.Name (constant_operand number)) (type_operand number)) ks
   opens_named number named =
       opens_same a (RegisterType.Reference (Class.Name k) t) ks ks refl
       ∙ ap (λ u. opens a (RegisterType.Reference (Class.Name k) u) ks) named.0
       ∙ ap (λ l. opens a (RegisterType.Reference (Class.Name l) (type_operand number)) ks) named.1
 
-  opens_unique : (number : ℤ) → t ≡ nat_abs number → unless_lost (is_owner (known ks a)) (slice_set ks a (RegisterType.Reference (Class.Unique t) t), slice_set ks a RegisterType.Int) ≡ opens a (RegisterType.Reference (Class.Unique (nat_abs number)) (nat_abs number)) ks
+  opens_unique : (number : ℤ) → t ≡ nat_abs number → gets ks (RegisterType.Reference (Class.Unique t) t) RegisterType.Int ≡ opens a (RegisterType.Reference (Class.Unique (nat_abs number)) (nat_abs number)) ks
   opens_unique number e = opens_same a (RegisterType.Reference (Class.Unique t) t) ks ks refl ∙ ap (λ u. opens a (RegisterType.Reference (Class.Unique u) u) ks) e
 
   -- a register gets a reference to a part, after others have ended or not
-  opens_part : (es : RegisterTypes) (x : Class) (u y : ℕ) (part : Option ℕ) → is_owner (known es a) ≡ is_owner (known ks a) → part ≡ Some y → unless_lost (is_owner (known ks a)) (slice_set es a (part_known (Some (x, u)) part), slice_set es a RegisterType.Int) ≡ opens a (RegisterType.Reference x y) es
+  opens_part : (es : RegisterTypes) (x : Class) (u y : ℕ) (part : Option ℕ) → is_owner (known es a) ≡ is_owner (known ks a) → part ≡ Some y → gets es (part_known (Some (x, u)) part) RegisterType.Int ≡ opens a (RegisterType.Reference x y) es
   opens_part es x u y part kept e =
-      ap (λ p. unless_lost (is_owner (known ks a)) (slice_set es a (part_known (Some (x, u)) p), slice_set es a RegisterType.Int)) e
+      ap (λ p. gets es (part_known (Some (x, u)) p) RegisterType.Int) e
       ∙ opens_same a (RegisterType.Reference x y) es ks (sym kept)
 
-  gives_part : (x : Class) (u y : ℕ) (part : Option ℕ) → part ≡ Some y → unless_lost (is_owner (known ks a)) (slice_set ks a (part_known (Some (x, u)) part), slice_set ks a (part_known (Some (x, u)) part)) ≡ gives a (RegisterType.Reference x y) ks
+  gives_part : (x : Class) (u y : ℕ) (part : Option ℕ) → part ≡ Some y → gets ks (part_known (Some (x, u)) part) (part_known (Some (x, u)) part) ≡ gives a (RegisterType.Reference x y) ks
   gives_part x u y part e =
-      ap (λ p. unless_lost (is_owner (known ks a)) (slice_set ks a (part_known (Some (x, u)) p), slice_set ks a (part_known (Some (x, u)) p))) e
+      ap (λ p. gets ks (part_known (Some (x, u)) p) (part_known (Some (x, u)) p)) e
       ∙ gives_same a (RegisterType.Reference x y) ks ks refl
 
   -- ---- each operation
@@ -120,7 +104,7 @@ module _ (types : Table) (constants : List Constant) (a b c t k : ℕ) (ks : Reg
       moved : Class → Rule
       moved x = required (not (same_class x (Class.Register c))) Reason.PutIntoItself >>= λ _. known_after (emptied c (others_ended x b ks))
   same op.Take number right named = reference_same types number kinds.Own _ (known ks b) (behind (step op.Take number)) _ (λ x. own_forms number) (λ x u y e.
-      ap (λ part. unless_lost (is_owner (known ks a)) (slice_set (others_ended x b ks) a (content_of part), slice_set (others_ended x b ks) a RegisterType.Int)) (owned_part number (form_at types u) y e)
+      ap (λ part. gets (others_ended x b ks) (content_of part) RegisterType.Int) (owned_part number (form_at types u) y e)
       ∙ opens_same a (RegisterType.Owner y) (others_ended x b ks) ks (sym (owner_kept_but x b ks a)))
   same op.Content number right named = reference_same types number kinds.Own _ (known ks b) (behind (step op.Content number)) _ (λ x. own_forms number) (λ x u y e. opens_part ks x u y _ refl (owned_part number (form_at types u) y e))
   same op.Clear number right named = any_reference_same types number (known ks b) (behind (step op.Clear number)) _ (λ x u. refl)
@@ -130,7 +114,7 @@ module _ (types : Table) (constants : List Constant) (a b c t k : ℕ) (ks : Reg
   same op.Field number right named = reference_same types number kinds.Struct _ (known ks b) (behind (step op.Field number)) _ (λ x. struct_forms number) (λ x u y e. gives_part x u y _ (field_part number (form_at types u) y e))
   same op.Len number right named = reference_same types number kinds.Sized _ (known ks b) (behind (step op.Len number)) _ (λ x. sized_forms number) (λ x u y e. gives_int)
   same op.At number right named = reference_same types number kinds.Indexed item_known (known ks b) (behind (step op.At number)) _ (item_forms number) (λ x u y e. integer_same (known ks c) _ _ (
-      ap (λ z. unless_lost (is_owner (known ks a)) (slice_set ks a z, slice_set ks a RegisterType.Int)) (item_part number x u (form_at types u) y e) ∙ opens_same a y ks ks refl))
+      ap (λ z. gets ks z RegisterType.Int) (item_part number x u (form_at types u) y e) ∙ opens_same a y ks ks refl))
   same op.PushBack number right named = reference_same types number kinds.Sequence _ (known ks b) (behind (step op.PushBack number)) _ (λ x. sequence_forms number) (λ x u y e. opens_part (others_ended x b ks) x u y _ (owner_kept_but x b ks a) (sequence_part number (form_at types u) y e))
   same op.PushFront number right named = reference_same types number kinds.List _ (known ks b) (behind (step op.PushFront number)) _ (λ x. list_forms number) (λ x u y e. opens_part (others_ended x b ks) x u y _ (owner_kept_but x b ks a) (list_part number (form_at types u) y e))
   same op.PopBack number right named = reference_same types number kinds.Indexed _ (known ks b) (behind (step op.PopBack number)) _ (λ x. pop_forms number) (λ x u y e. opens_same a RegisterType.Int (others_ended x b ks) ks (sym (owner_kept_but x b ks a)))

@@ -3,7 +3,7 @@
 --     registers_of                      what is known of each register
 --     both_of                           what is known behind an instruction, in both parts
 --     checked                           an answer, or the reason
-use Rattle.std.specs.Prelude.{⊤, ℕ, map, Option, Some, None, Result, Ok, Err}
+use Rattle.std.specs.Prelude.{map, Result, Ok, Err}
 use Rattle.client_spec.specs.Typed as typed
 use Rattle.client_verify.specs.declared.reason.Reason.{Reason}
 use Rattle.client_verify.specs.declared.reason.Reason.TheVariants as reason

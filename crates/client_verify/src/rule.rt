@@ -27,6 +27,7 @@ pub struct Rule<'a> {
     before: &'a Registers,
     instruction: Instruction,
     row: &'static Row,
+    // what the number names, where the operation has such a number
     type_id: TypeId,
     constant: u8,
     ghost own: { checks_in row.now ≡ checks_of instruction.operation },

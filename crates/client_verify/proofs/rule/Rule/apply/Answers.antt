@@ -9,7 +9,8 @@ use Rattle.client_verify.specs.Views.{registers_of, both_of, checked}
 use Rattle.client_verify.specs.Passing.{rule_at}
 use Rattle.client_verify.specs.Checking.{known_behind, applied}
 use Rattle.client_verify.specs.Steps.{step_of}
-use Rattle.client_verify.proofs.Rules.{are_named, rule_same}
+use Rattle.client_verify.proofs.Numbers.{are_named}
+use Rattle.client_verify.proofs.Rules.{rule_same}
 use Rattle.client_verify.proofs.rule.Rule.apply.Goals as goal
 
 columns_say : (r : Rule) (constants : List Constant) → IsInstruction r.types.now constants (definition r.instruction.operation).place (instruction_of r.instruction) → applied (step_of r) ≡ rule_at r.types.now constants (instruction_of r.instruction) (registers_of r.before.now)
