@@ -140,10 +140,10 @@ opened_some parts part f h = chosen (nat_lt (length parts) 8) (length parts) (pa
 
 -- ---- from instructions to code
 
-two_parts : (a b xs : List Instruction) (m n : Instruction) → ((a ++ m ∷ b) ++ n ∷ []) ++ xs ≡ a ++ m ∷ (b ++ n ∷ xs)
+pub two_parts : (a b xs : List Instruction) (m n : Instruction) → ((a ++ m ∷ b) ++ n ∷ []) ++ xs ≡ a ++ m ∷ (b ++ n ∷ xs)
 two_parts a b xs m n = simp append_assoc
 
-one_part : (a xs : List Instruction) (n : Instruction) → (a ++ n ∷ []) ++ xs ≡ a ++ n ∷ xs
+pub one_part : (a xs : List Instruction) (n : Instruction) → (a ++ n ∷ []) ++ xs ≡ a ++ n ∷ xs
 one_part a xs n = simp append_assoc
 
 placed_two : (a b xs : List Place) → ((a ++ Place.Else ∷ b) ++ Place.End ∷ []) ++ xs ≡ a ++ Place.Else ∷ (b ++ Place.End ∷ xs)

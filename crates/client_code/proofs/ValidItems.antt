@@ -1,16 +1,17 @@
 -- The items of a valid client may stand in a text, and are in order.
-use Rattle.std.proofs.Common.{◌≡◌, ℕ, ◌<◌, ◌≤◌, List, [], ◌∷◌, ◌++◌, length, map, drop, suc, replicate, get_or, refl, ap, ◌∙◌, subst, arith, append_assoc, All}
+use Rattle.std.proofs.Common.{◌≡◌, ℕ, ◌<◌, List, [], ◌∷◌, ◌++◌, length, map, drop, suc, replicate, get_or, refl, ap, ◌∙◌, subst, arith, append_assoc, All}
 use Rattle.std.proofs.lemmas.List.{map-append}
-use Rattle.std.proofs.lemmas.List.Elements.{All-weaker, All-map, All-append, All-drop, All-head, All-from_recursion}
+use Rattle.std.proofs.lemmas.List.Elements.{All-map, All-append, All-drop, All-head, All-from_recursion}
 use Rattle.std.proofs.lemmas.Option.{slice_get-get_or}
 use Rattle.std.proofs.Math.Seq.{drop-cons}
-use Rattle.seg_spec.specs.Types.{Form, Table, IsForm, IsTable}
+use Rattle.seg_spec.specs.Types.{Table, IsTable}
 use Rattle.client_spec.specs.Code.{Operation, Instruction, Client}
 use Rattle.client_spec.specs.Operations.{Place}
 use Rattle.client_spec.specs.Grammar.{mark, listing, IsClient, IsInstruction}
 use Rattle.client_spec.specs.Text.{Item, type_item, constant_item, instruction_item, items_of, SpellsItem, EachSpells, SpellsInText}
 use Rattle.client_spec.proofs.Listed.{all_listed}
 use Rattle.client_spec.proofs.OneClient.{mark_word}
+use Rattle.client_spec.proofs.Readable.{wider}
 use Rattle.client_code.specs.Items.{IsWritten, IsInSomeClient}
 use Rattle.client_code.specs.declared.outline.Section.{Section}
 use Rattle.client_code.specs.declared.outline.Section.TheVariants as section
@@ -18,19 +19,9 @@ use Rattle.client_code.specs.Outlines.{section_of, IsOutline}
 use Rattle.client_spec.specs.Pieces.{meant}
 use Rattle.client_code.proofs.SpelledLines.{same_count, not_past, next_item}
 
-form_written : (n k : ℕ) (form : Form) → k < n → n ≤ 32 → IsForm n k form → IsWritten (type_item form)
-form_written n k Form.i64 h few is = (tt, tt)
-form_written n k Form.str h few is = (tt, tt)
-form_written n k (Form.vec U) h few is = (tt, omega arith)
-form_written n k (Form.list U) h few is = (tt, omega arith)
-form_written n k (Form.flat_map U) h few is = (tt, omega arith)
-form_written n k (Form.map U) h few is = (tt, omega arith)
-form_written n k (Form.own U) h few is = (tt, omega arith)
-form_written n k (Form.struct fields) h few is = ((is.0, is.1), All-weaker (λ U. U < k) (λ U. U < 256) (λ U below. omega arith) fields is.2)
-
 types_written : (types : Table) → IsTable types → All IsWritten (map type_item types)
 types_written types table =
-    All-map IsWritten type_item types (λ k d h. form_written (length types) k (get_or types k d) h table.few (table.forms k (get_or types k d) (slice_get-get_or types k d h)))
+    All-map IsWritten type_item types (λ k d h. wider (length types) k (get_or types k d) (let few = table.few in omega arith) (let few = table.few in omega arith) (table.forms k (get_or types k d) (slice_get-get_or types k d h)))
 
 module _ (client : Client) (valid : IsClient client) where
   in_client : (place : Place) (i : Instruction) → IsInstruction client.types client.constants place i → IsInSomeClient i

@@ -3,10 +3,10 @@
 --     IsWritten item        an item that may stand in a client, as far as it is known without the others
 --     item_bytes item       its bytes in a client file
 --     IsWords item          its line is words parted by spaces
-use Rattle.std.specs.Prelude.{⊤, ◌≤◌, ◌<◌, ℕ, List, length, All, FitsSigned}
+use Rattle.std.specs.Prelude.{⊤, ◌≤◌, ℕ, List, length, FitsSigned}
 use Rattle.std.specs.Int.{w32}
-use Rattle.seg_spec.specs.Types.{Form, Table, form_bytes}
-use Rattle.seg_layout.specs.Forms.{form_of, HasFewFields}
+use Rattle.seg_spec.specs.Types.{Table, IsForm, form_bytes}
+use Rattle.seg_layout.specs.Forms.{form_of}
 use Rattle.client_spec.specs.Code as code
 use Rattle.client_spec.specs.Operations.{row_of}
 use Rattle.client_spec.specs.Grammar.{IsConstant, IsOperand, IsNumber, constant_bytes, instruction_bytes}
@@ -19,17 +19,6 @@ abbrev pub item_of : Item → text.Item
 item_of (item.«Type» type) = text.type_item (form_of type)
 item_of (item.Constant kind bytes) = text.constant_item (constant_by kind bytes.items)
 item_of (item.Instruction i) = text.instruction_item (instruction_of i)
-
--- the types that a form names have numbers of a byte
-abbrev pub NamesTypes : Form → Type 0
-NamesTypes Form.i64 = ⊤
-NamesTypes Form.str = ⊤
-NamesTypes (Form.vec U) = U < 256
-NamesTypes (Form.list U) = U < 256
-NamesTypes (Form.flat_map U) = U < 256
-NamesTypes (Form.map U) = U < 256
-NamesTypes (Form.own U) = U < 256
-NamesTypes (Form.struct Us) = All (λ U. U < 256) Us
 
 -- operands and number are right in some client
 pub record IsInSomeClient (i : code.Instruction) : Type 0 where
@@ -44,7 +33,7 @@ pub record IsInSomeClient (i : code.Instruction) : Type 0 where
   pub range : FitsSigned w32 i.number
 
 abbrev pub IsWritten : text.Item → Type 0
-IsWritten (text.type_item form) = HasFewFields form × NamesTypes form
+IsWritten (text.type_item form) = IsForm 256 256 form
 IsWritten (text.constant_item constant) = IsConstant constant
 IsWritten (text.instruction_item i) = IsInSomeClient i
 

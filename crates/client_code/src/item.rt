@@ -2,14 +2,14 @@ ghost use Rattle.std.specs.Prelude.{◌≡◌, ◌≢◌, ◌≤◌, ◌<◌, �
 ghost use Rattle.std.specs.Int.{w32};
 ghost use Rattle.std.specs.Fmt.{decimal};
 ghost use Rattle.seg_spec.specs.Types.{Form, IsForm, Table};
-ghost use Rattle.seg_layout.specs.Forms.{form_of, HasFewFields};
+ghost use Rattle.seg_layout.specs.Forms.{form_of};
 ghost use Rattle.client_spec.specs.Code as code;
 ghost use Rattle.client_spec.specs.Grammar.{IsOperand, IsNumber};
 ghost use Rattle.client_spec.specs.Text as text;
 ghost use Rattle.client_spec.specs.Text.{words_of, type_word, type_words, operand_words, number_words, instruction_words, SpellsItem};
 ghost use Rattle.client_spec.specs.Pieces.{IsReadable, IsTold, IsToldInstruction};
 ghost use Rattle.client_code.specs.Views.{operand_of, number_of, operation_of, definition, instruction_of};
-ghost use Rattle.client_code.specs.Items.{item_of, item_bytes, IsWritten, IsWords, NamesTypes, IsInSomeClient};
+ghost use Rattle.client_code.specs.Items.{item_of, item_bytes, IsWritten, IsWords, IsInSomeClient};
 
 use crate::constant::ConstantKind;
 use crate::escape::{Bytes, unescaped};
@@ -106,7 +106,7 @@ fn read_type(words: &mut Words) -> Option<Type>
     ensures found { IfSome result (λ t. words_of words.old.line.now ≡ type_words (form_of t) ++ words_of words.new.line.now) }
     ensures readable { IfSome result (λ t. IsForm 256 256 (form_of t)) }
     ensures whole { IfSome result (λ t. (form : Form) → words_of words.old.line.now ≡ type_words form → words_of words.new.line.now ≡ []) }
-    ensures none { IfNone result ((form : Form) → HasFewFields form → NamesTypes form → words_of words.old.line.now ≢ type_words form) }
+    ensures none { IfNone result ((form : Form) → IsForm 256 256 form → words_of words.old.line.now ≢ type_words form) }
 {
     let word = words.next()?;
     if word == b"i64".as_slice() {

@@ -8,6 +8,7 @@ use Rattle.client_spec.specs.Operations.{Place, row_of}
 use Rattle.client_spec.specs.Grammar.{mark, listing, listing_one, IsCode, IsStatement, depth, depth_one}
 use Rattle.client_spec.specs.Run.{bound, bound_one}
 use Rattle.client_spec.specs.Typed.{Checked, ◌>>=◌, RegisterTypes, known, known_after, integer_needed, rule_of, joined, kept, types_after, types_after_one}
+use Rattle.client_code.proofs.Nested.{two_parts, one_part}
 use Rattle.client_verify.specs.Passing.{Open, in_success, in_else, in_body, Progress, at_most, with_part, inside, rule_by, passes_by, passes_all}
 use Rattle.client_verify.proofs.Counting.{no_steps, more_steps, steps_of_parts, steps_of_turns}
 
@@ -26,13 +27,7 @@ alike : {A B : Type 0} (r : Checked A) (g h : A → Checked B) → ((x : A) → 
 alike (Ok x) g h same = same x
 alike (Err e) g h same = refl
 
--- ---- lists
-
-two_parts : (a b xs : List Instruction) (m n : Instruction) → ((a ++ m ∷ b) ++ n ∷ []) ++ xs ≡ a ++ m ∷ (b ++ n ∷ xs)
-two_parts a b xs m n = simp append_assoc
-
-one_part : (a xs : List Instruction) (n : Instruction) → (a ++ n ∷ []) ++ xs ≡ a ++ n ∷ xs
-one_part a xs n = simp append_assoc
+-- ---- room
 
 lt_true : (m n : ℕ) → m < n → nat_lt m n ≡ true
 lt_true m n h = search rules

@@ -1,11 +1,10 @@
-ghost use Rattle.std.specs.Prelude.{◌≡◌, ◌+◌, List, replicate, [], IfOk, IfErr, Ok, Err};
+ghost use Rattle.std.specs.Prelude.{◌≡◌, ◌+◌, List, IfOk, IfErr, Ok, Err};
 ghost use Rattle.client_spec.specs.Code as code;
 ghost use Rattle.client_spec.specs.Grammar.{IsInstruction};
 ghost use Rattle.client_spec.specs.Operations as table;
-ghost use Rattle.client_spec.specs.Typed as typed;
 ghost use Rattle.client_code.specs.Views.{instruction_of, definition};
 ghost use Rattle.client_verify.specs.Views.{reason_of, registers_of, checked};
-ghost use Rattle.client_verify.specs.Passing.{passes, at_most, inside, turned, closed};
+ghost use Rattle.client_verify.specs.Passing.{start, passes, at_most, inside, turned, closed};
 ghost use Rattle.client_verify.specs.Verifiers.{part_of, progress_of, PassesBy};
 
 use crate::reason::Reason;
@@ -58,7 +57,7 @@ impl<'a> Verifier<'a> {
     /// In front of the code.
     pub fn new(types: &'a TypeTable) -> Verifier<'a>
         ensures types { result.types.now ≡ types.now }
-        ensures start { progress_of result ≡ record { known = replicate 16 typed.RegisterType.Undefined; steps = 0; parts = [] } }
+        ensures start { progress_of result ≡ start }
     {
         Verifier {
             types,
@@ -87,7 +86,10 @@ impl<'a> Verifier<'a> {
             Place::Plain => self.perform(instruction),
             Place::Opener => self.open(instruction),
             Place::Loop => self.enter(instruction),
-            Place::Else => self.turn(),
+            Place::Else => {
+                self.turn();
+                Ok(())
+            }
             Place::End => self.close(),
         }
     }
@@ -139,9 +141,9 @@ impl<'a> Verifier<'a> {
     }
 
     /// From the success part to the else part.
-    fn turn(&mut self) -> Result<(), Reason>
+    fn turn(&mut self)
         ensures types { self.new.types.now ≡ self.old.types.now }
-        ensures turned { checked (λ _. progress_of self.new) result ≡ Ok (turned (progress_of self.old) (progress_of self.old).parts) }
+        ensures turned { progress_of self.new ≡ turned (progress_of self.old) (progress_of self.old).parts }
     {
         if let Some(
             Open {
@@ -158,7 +160,6 @@ impl<'a> Verifier<'a> {
             self.registers = otherwise;
             self.steps = 0;
         }
-        Ok(())
     }
 
     /// Behind an `END`.
