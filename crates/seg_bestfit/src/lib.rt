@@ -7,6 +7,3 @@ mod free_tree;
 mod live;
 
 pub use bestfit::{BestFit, locate};
-
-#[cfg(test)]
-mod tests;

@@ -17,6 +17,3 @@ pub use order::NodeOrder;
 pub use path::DEPTH;
 pub use search::Looked;
 pub use tree::{TREE_WORDS, Tree};
-
-#[cfg(test)]
-mod tests;

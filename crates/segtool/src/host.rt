@@ -1,4 +1,4 @@
-use crate::files::{FileFault, Files};
+use seg_command::{FileFault, Files};
 use std::alloc::Global;
 use std::fs::{self, File, OpenFile};
 use std::io::{self, ErrorKind, Read, Write};

@@ -1,23 +1,14 @@
-//! The program `segtool`: checks images of managed segments, and runs clients on them.
+//! The program `segtool`: checks images of managed segments, and runs clients on them. Here the host's words, files and
+//! outputs are put behind the commands.
 #![tactic(auto)]
 
 ghost use Rattle.std.specs.Prelude.{◌≡◌, false};
 
-mod clients;
-mod command;
-mod command_line;
-mod failure;
-mod files;
 mod host;
-mod image;
-mod images;
-mod run;
-#[cfg(test)]
-mod tests;
 
 use client_vm::{Sink, Through, write_all};
-use command::command;
 use host::HostFiles;
+use seg_command::command;
 use std::process::ExitCode;
 use std::rt::Env;
 use std::{env, io};

@@ -1,4 +1,0 @@
-use Rattle.language_rows.proofs.random.Writer.+part.Given as goal
-
-abbrev pub decreases-part : goal.decreases-part
-decreases-part l = l.depth

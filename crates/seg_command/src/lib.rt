@@ -1,0 +1,14 @@
+//! The commands of the program `segtool`, over any files and any output.
+#![tactic(auto)]
+
+mod clients;
+mod command_line;
+mod failure;
+mod files;
+mod image;
+mod images;
+mod program;
+mod run;
+
+pub use files::{FileFault, Files};
+pub use program::command;

@@ -1,0 +1,15 @@
+//! What the tests of several crates use: numbers that look random, images and clients written by hand from their formats,
+//! and an output that ends where it is told to.
+#![tactic(auto)]
+
+mod clients;
+mod examples;
+mod images;
+mod output;
+mod random;
+
+pub use clients::{INCREMENT, INCREMENT_FILE, chain};
+pub use examples::{CACHE, CONFIGURE, COUNT, SETTINGS};
+pub use images::{counter, counter_with, write, write_words};
+pub use output::Limited;
+pub use random::Random;

@@ -1,0 +1,9 @@
+mod blocks;
+mod bytes;
+mod image;
+mod lists;
+mod made;
+mod maps;
+mod names;
+mod order;
+mod values;

@@ -1,0 +1,95 @@
+use client_vm::Through;
+use seg_command::{FileFault, Files, command};
+use std::alloc::{AllocError, Global};
+use support_data::Limited;
+
+/// Files in memory. The read and the write with these numbers, counted from 1, fail.
+#[derive(Drop)]
+pub struct Stored {
+    files: Vec<(&'static str, Vec<u8>)>,
+    pub failing_read: usize,
+    pub failing_write: usize,
+    reads: usize,
+    writes: usize,
+}
+
+impl Stored {
+    pub fn new(alloc: Global) -> Stored {
+        Stored {
+            files: Vec::new(alloc),
+            failing_read: 0,
+            failing_write: 0,
+            reads: 0,
+            writes: 0,
+        }
+    }
+
+    pub fn add(&mut self, name: &'static str, bytes: &[u8]) -> Result<(), AllocError> {
+        let alloc = *self.files.allocator();
+        self.files.push((name, Vec::from_slice(alloc, bytes)?))?;
+        Ok(())
+    }
+
+    /// The bytes that were written last to a file, none where there is no such file.
+    pub fn get(&self, name: &str) -> &[u8] {
+        for (other, bytes) in self.files.iter().rev() {
+            if *other == name {
+                return bytes.as_slice();
+            }
+        }
+        &[]
+    }
+
+    pub fn has(&self, name: &str) -> bool {
+        self.files.iter().any(|file| file.0 == name)
+    }
+}
+
+impl Files for Stored {
+    fn read(&mut self, alloc: Global, name: &str, limit: u64) -> Result<Vec<u8>, FileFault> {
+        self.reads = self.reads.saturating_add(1);
+        let bytes = self.get(name);
+        if self.reads == self.failing_read || !self.has(name) || bytes.len() as u64 > limit {
+            return Err(FileFault::Failed);
+        }
+        Vec::from_slice(alloc, bytes).map_err(|_| FileFault::Memory)
+    }
+
+    fn write(&mut self, name: &str, bytes: &[u8]) -> Result<(), FileFault> {
+        self.writes = self.writes.saturating_add(1);
+        if self.writes == self.failing_write || name != "saved" {
+            return Err(FileFault::Failed);
+        }
+        self.add("saved", bytes).map_err(|_| FileFault::Memory)
+    }
+}
+
+/// What a command printed.
+#[derive(Drop)]
+pub struct Printed {
+    pub status: u8,
+    pub out: Vec<u8>,
+    pub err: Vec<u8>,
+}
+
+/// Runs the program on these words.
+pub fn run(alloc: Global, words: &[&str], files: &mut Stored) -> Printed {
+    run_into(
+        alloc,
+        words,
+        files,
+        Limited::new(alloc, usize::MAX, usize::MAX),
+    )
+}
+
+/// Runs the program on these words with this output.
+pub fn run_into(alloc: Global, words: &[&str], files: &mut Stored, out: Limited) -> Printed {
+    let mut out = Through::new(out);
+    let mut err = Through::new(Vec::new(alloc));
+    let status = command(alloc, words, files, &mut out, &mut err);
+    Printed {
+        status,
+        out: out.into_inner().bytes,
+        err: err.into_inner(),
+    }
+}

@@ -1,0 +1,109 @@
+use crate::tests::clients::client;
+use crate::tests::files::{Printed, Stored, run};
+use std::process::Abort;
+use std::test::Fail;
+use support_data::{INCREMENT, INCREMENT_FILE, counter};
+
+fn is(rt: &impl Abort, printed: &Printed, status: u8, out: &str, err: &str) {
+    assert_eq!(rt; printed.out.as_slice(), out.as_bytes());
+    assert_eq!(rt; printed.err.as_slice(), err.as_bytes());
+    assert_eq!(rt; printed.status, status);
+}
+
+#[test]
+fn assembles_and_prints(rt: HostRuntime) -> Result<(), Fail> {
+    let alloc = rt.alloc();
+    let mut files = Stored::new(alloc);
+    files.add("text", INCREMENT.as_bytes())?;
+    let printed = run(
+        alloc,
+        ["segtool", "asm", "text", "saved"].as_slice(),
+        &mut files,
+    );
+    is(&rt, &printed, 0, "", "");
+    assert_eq!(rt; files.get("saved"), INCREMENT_FILE.as_slice());
+    let printed = run(alloc, ["segtool", "print", "saved"].as_slice(), &mut files);
+    is(&rt, &printed, 0, INCREMENT, "");
+    Ok(())
+}
+
+/// The fault says which line is wrong, and the line itself stands below.
+#[test]
+fn points_to_a_wrong_line(rt: HostRuntime) -> Result<(), Fail> {
+    let alloc = rt.alloc();
+    for (text, err) in [
+        ("ADD r1 r16 r2", "fault 21 1\n1: ADD r1 r16 r2\n"),
+        (
+            "; adds\n\nADD r1 r16 r2\nEND",
+            "fault 21 3\n3: ADD r1 r16 r2\n",
+        ),
+        ("GETB r0\nELSE\n", "fault 21 3\n"),
+    ] {
+        let mut files = Stored::new(alloc);
+        files.add("text", text.as_bytes())?;
+        let printed = run(
+            alloc,
+            ["segtool", "asm", "text", "saved"].as_slice(),
+            &mut files,
+        );
+        is(&rt, &printed, 1, "", err);
+        assert!(rt; !files.has("saved"));
+    }
+    Ok(())
+}
+
+const TOO_LONG: &str = "CONST r0 1
+WHILE r0 1000
+WHILE r0 1000
+WHILE r0 1000
+WHILE r0 1000
+WHILE r0 1000
+WHILE r0 1000
+WHILE r0 1000
+OUTI r0
+END
+END
+END
+END
+END
+END
+END
+";
+
+#[test]
+fn verifies(rt: HostRuntime) -> Result<(), Fail> {
+    let alloc = rt.alloc();
+    for (text, status, out, err) in [
+        (INCREMENT, 0, "steps 6\n", ""),
+        (
+            "CONST r0 0\nWHILE r0 5\nOUTI r0\nEND\n",
+            0,
+            "steps 12\n",
+            "",
+        ),
+        ("type str\n", 1, "", "fault 4 0\n"),
+        ("LOAD r0 r1\n", 1, "", "fault 22 0 1\n"),
+        (TOO_LONG, 1, "", "fault 23\n"),
+    ] {
+        let mut files = Stored::new(alloc);
+        files.add("image", counter(alloc)?.as_slice())?;
+        files.add("client", client(alloc, text)?.as_slice())?;
+        let words = ["segtool", "verify", "image", "client"];
+        let printed = run(alloc, words.as_slice(), &mut files);
+        is(&rt, &printed, status, out, err);
+    }
+    Ok(())
+}
+
+#[test]
+fn refuses_wrong_files(rt: HostRuntime) -> Result<(), Fail> {
+    let alloc = rt.alloc();
+    let mut files = Stored::new(alloc);
+    files.add("image", counter(alloc)?.as_slice())?;
+    let printed = run(alloc, ["segtool", "print", "image"].as_slice(), &mut files);
+    is(&rt, &printed, 1, "", "fault 20 0\n");
+    let words = ["segtool", "verify", "image", "image"];
+    let printed = run(alloc, words.as_slice(), &mut files);
+    is(&rt, &printed, 1, "", "fault 20 0\n");
+    Ok(())
+}

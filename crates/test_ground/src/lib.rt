@@ -1,0 +1,5 @@
+//! Tests of what the heap and the values stand on: regions, windows, type tables and trees.
+#![tactic(auto)]
+
+#[cfg(test)]
+mod tests;

@@ -1,0 +1,4 @@
+mod regions;
+mod trees;
+mod types;
+mod windows;

@@ -1,0 +1,88 @@
+use seg_raw::{Code, Fault, Region};
+use std::alloc::Global;
+use std::fmt::InlineText;
+use std::process::Abort;
+use std::test::Fail;
+
+fn prints(rt: &impl Abort, fault: Fault, code: u8, line: &str) {
+    let printed = InlineText::<64>::of(fault);
+    assert_eq!(rt; printed.as_str(), line);
+    assert!(rt; fault.code() == code, "the code of {line}");
+}
+
+#[test]
+fn prints_faults(rt: HostRuntime) {
+    let rejected = Fault::Rejected {
+        instruction: 3,
+        reason: 2,
+    };
+    for (fault, code, line) in [
+        (Fault::Memory, 1, "fault 1"),
+        (Fault::Misplaced, 2, "fault 2"),
+        (Fault::BadType(31), 3, "fault 3 31"),
+        (Fault::TypeMismatch(0), 4, "fault 4 0"),
+        (Fault::BadSize, 5, "fault 5"),
+        (Fault::NoHostRoom, 6, "fault 6"),
+        (Fault::BadHeader, 10, "fault 10"),
+        (Fault::BadBlock(704), 11, "fault 11 704"),
+        (Fault::BadFree(24), 12, "fault 12 24"),
+        (Fault::BadIndex(752), 13, "fault 13 752"),
+        (Fault::BadPointer(720), 14, "fault 14 720"),
+        (Fault::DoubleOwner(704), 15, "fault 15 704"),
+        (Fault::Unowned(704), 16, "fault 16 704"),
+        (Fault::BadValue(u32::MAX), 17, "fault 17 4294967295"),
+        (Fault::BadCode(95), 20, "fault 20 95"),
+        (Fault::BadLine(1), 21, "fault 21 1"),
+        (rejected, 22, "fault 22 3 2"),
+        (Fault::TooLong, 23, "fault 23"),
+        (Fault::BadMove(1), 24, "fault 24 1"),
+    ] {
+        prints(&rt, fault, code, line);
+    }
+}
+
+#[test]
+fn numbers_codes(rt: HostRuntime) {
+    for (code, number) in [
+        (Code::AlreadyExists, 1),
+        (Code::BadAlloc, 2),
+        (Code::Absent, 3),
+        (Code::OtherType, 4),
+        (Code::OutOfRange, 5),
+        (Code::Null, 6),
+    ] {
+        assert_eq!(rt; code.number(), number);
+    }
+}
+
+/// Each call once, on bytes that are easy to follow.
+#[test]
+fn reads_what_it_wrote(rt: HostRuntime) -> Result<(), Fail> {
+    let mut region: Region<Global> = Region::new(rt.alloc(), 24)?;
+    assert_eq!(rt; region.len(), 24);
+    assert!(rt; !region.is_empty());
+    region.put32(4, 0x0403_0201);
+    assert_eq!(rt; region.slice(4, 4), [1, 2, 3, 4].as_slice());
+    assert_eq!(rt; region.get8(5), 2);
+    assert_eq!(rt; region.get32(4), 0x0403_0201);
+    region.move_within(4, 6, 4);
+    assert_eq!(rt; region.slice(4, 6), [1, 2, 1, 2, 3, 4].as_slice());
+    region.move_within(6, 5, 4);
+    assert_eq!(rt; region.slice(4, 6), [1, 1, 2, 3, 4, 4].as_slice());
+    region.fill(0, 24, 7);
+    region.put8(23, 8);
+    region.copy_in(20, &[5, 6]);
+    assert_eq!(rt; region.slice(18, 6), [7, 7, 5, 6, 7, 8].as_slice());
+    region.put64(8, 0x0807_0605_0403_0201);
+    assert_eq!(rt; region.slice(8, 8), [1, 2, 3, 4, 5, 6, 7, 8].as_slice());
+    assert_eq!(rt; region.get64(8), 0x0807_0605_0403_0201);
+    Ok(())
+}
+
+#[test]
+fn may_be_empty(rt: HostRuntime) -> Result<(), Fail> {
+    let region: Region<Global> = Region::new(rt.alloc(), 0)?;
+    assert_eq!(rt; region.len(), 0);
+    assert!(rt; region.is_empty());
+    Ok(())
+}

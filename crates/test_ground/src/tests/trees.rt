@@ -1,0 +1,179 @@
+ghost use Rattle.std.specs.Prelude.{◌≡◌, ◌+◌, ⊤};
+ghost use Rattle.std.specs.Ordering.{nat_cmp};
+ghost use Rattle.std.specs.Cmp.{on_total, nat_cmp_total};
+ghost use Rattle.seg_spec.specs.Bytes.{word};
+ghost use Rattle.seg_spec.proofs.OrderSteps.{steps_up};
+
+use seg_ptr::Window;
+use seg_raw::Region;
+use seg_rbtree::{NodeOrder, TREE_WORDS, Tree};
+use std::alloc::{AllocError, Allocator, Global};
+use std::cmp::Ordering;
+use std::process::Abort;
+use std::test::Fail;
+use support_data::Random;
+
+/// Nodes of 32 bytes with a number behind the tree words.
+const NODE: u32 = 32;
+
+/// By that number.
+struct ByNumber;
+
+fn number<A: Allocator>(w: &Window<A>, node: u32) -> u32
+    ensures { result ≡ word w.now.bytes (node + 16) }
+{
+    w.get32(node as usize + TREE_WORDS as usize)
+}
+
+impl NodeOrder<u32> for ByNumber {
+    ghost exact = { ⊤ };
+
+    ghost compare = { λ _ bytes x y. nat_cmp (word bytes (x + 16)) (word bytes (y + 16)) };
+
+    ghost compare_key = { λ _ bytes x key. nat_cmp (word bytes (x + 16)) key };
+
+    fn nodes<A: Allocator>(&self, w: &Window<A>, node: u32, other: u32) -> Ordering {
+        number(w, node).cmp(&number(w, other))
+    }
+
+    fn key<A: Allocator>(&self, w: &Window<A>, node: u32, key: u32) -> Ordering {
+        number(w, node).cmp(&key)
+    }
+
+    ghost total = { λ _ _ bytes. on_total (λ x. word bytes (x + 16)) nat_cmp_total };
+
+    ghost keyed = { λ _ _ bytes x y key less. steps_up nat_cmp_total (word bytes (x + 16)) (word bytes (y + 16)) key less };
+}
+
+/// A window with the root word at 0, and room for nodes from 32 on.
+fn window(alloc: Global, nodes: u32) -> Result<Window<Global>, Fail> {
+    let len = NODE * (nodes.min(1 << 20) + 1);
+    match Window::place(Region::new(alloc, len)?, 0, len) {
+        Ok(mut w) => {
+            w.point(0, None);
+            Ok(w)
+        }
+        Err(_) => Err(Fail::from("misplaced")),
+    }
+}
+
+/// The black nodes on each way down from a node, and the nodes on the longest, where colours, heights and zero words are right.
+fn height(w: &Window<Global>, node: Option<u32>, above_is_red: bool, fuel: u32) -> Option<u32> {
+    let Some(node) = node else {
+        return Some(0);
+    };
+    if fuel == 0 || w.get32(node as usize + 12) != 0 {
+        return None;
+    }
+    let is_red = match w.get32(node as usize + 8) {
+        0 => false,
+        1 if !above_is_red => true,
+        _ => return None,
+    };
+    let left = height(w, w.target(node as usize), is_red, fuel - 1)?;
+    let right = height(w, w.target(node as usize + 4), is_red, fuel - 1)?;
+    if left == right {
+        Some(if is_red { left } else { left.saturating_add(1) })
+    } else {
+        None
+    }
+}
+
+/// The numbers of the nodes below one, in order.
+fn collect(
+    w: &Window<Global>,
+    node: Option<u32>,
+    fuel: u32,
+    numbers: &mut Vec<u32>,
+) -> Result<(), AllocError> {
+    if let Some(node) = node {
+        if fuel > 0 {
+            collect(w, w.target(node as usize), fuel - 1, numbers)?;
+            numbers.push(number(w, node))?;
+            collect(w, w.target(node as usize + 4), fuel - 1, numbers)?;
+        }
+    }
+    Ok(())
+}
+
+/// The tree has these numbers in order, and keeps the rules of colour.
+fn holds(rt: &(impl Abort + AllocGlobal), w: &Window<Global>, wanted: &[u32]) -> Result<(), Fail> {
+    let mut numbers = Vec::new(rt.alloc());
+    collect(w, w.target(0), 64, &mut numbers)?;
+    assert_eq!(rt; numbers.as_slice(), wanted);
+    // the root is black: it stands below no red node, and may have none as a child of one
+    assert!(rt; height(w, w.target(0), true, 64).is_some());
+    Ok(())
+}
+
+/// What searches for a number find among numbers in order, within the bound on their looks.
+fn searches(rt: &(impl Abort + AllocGlobal), w: &Window<Global>, numbers: &[u32], key: u32) {
+    let tree = Tree::new(0);
+    let found = |node: Option<u32>| node.map(|node| number(w, node));
+    let at_least = tree.first_at_least(w, &ByNumber, key);
+    assert_eq!(rt;
+        found(at_least.node),
+        numbers.iter().copied().find(|n| *n >= key)
+    );
+    let most = (numbers.len() as u64).saturating_add(1);
+    assert!(rt; at_least.looks < 64 && 1u64 << at_least.looks <= most.saturating_mul(most));
+    let next = tree.next_after(w, &ByNumber, key);
+    assert_eq!(rt; found(next), numbers.iter().copied().find(|n| *n > key));
+    let same = tree.find(w, &ByNumber, key);
+    assert_eq!(rt; found(same), numbers.iter().copied().find(|n| *n == key));
+    assert_eq!(rt; found(tree.first(w)), numbers.first().copied());
+    assert_eq!(rt; tree.is_empty(w), numbers.is_empty());
+}
+
+/// Adds or removes the node of a number.
+fn toggle(w: &mut Window<Global>, numbers: &mut Vec<u32>, n: u32) -> Result<(), Fail> {
+    let node = NODE.saturating_mul(n.saturating_add(1));
+    match numbers.binary_search(&n) {
+        Ok(i) => {
+            Tree::new(0).remove(w, &ByNumber, node);
+            if i < numbers.len() {
+                numbers.remove(i);
+            }
+        }
+        Err(i) => {
+            w.put32(node as usize + TREE_WORDS as usize, n);
+            Tree::new(0).insert(w, &ByNumber, node);
+            if i <= numbers.len() {
+                numbers.insert(i, n)?;
+            }
+        }
+    }
+    Ok(())
+}
+
+#[test]
+fn keeps_nodes_in_order(rt: HostRuntime) -> Result<(), Fail> {
+    let mut random = Random::new(1);
+    for size in [1, 2, 3, 5, 8, 40, 300] {
+        let mut w = window(rt.alloc(), size)?;
+        let mut numbers = Vec::new(rt.alloc());
+        for _ in 0..400 {
+            toggle(&mut w, &mut numbers, random.below(size))?;
+            holds(&rt, &w, numbers.as_slice())?;
+            searches(&rt, &w, numbers.as_slice(), random.below(size));
+        }
+    }
+    Ok(())
+}
+
+#[test]
+fn is_safe_on_any_bytes(rt: HostRuntime) -> Result<(), Fail> {
+    let mut random = Random::new(2);
+    for _ in 0..200 {
+        let mut w = window(rt.alloc(), 16)?;
+        for at in 0..136usize {
+            w.put32(4 * at, random.below(1 << 10));
+        }
+        let tree = Tree::new(0);
+        tree.insert(&mut w, &ByNumber, 32);
+        tree.remove(&mut w, &ByNumber, 64);
+        let _ = tree.first_at_least(&w, &ByNumber, 5);
+        let _ = tree.first(&w);
+    }
+    Ok(())
+}

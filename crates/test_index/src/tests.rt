@@ -1,0 +1,5 @@
+mod any_bytes;
+mod examples;
+mod model;
+mod random;
+mod support;

@@ -1,0 +1,227 @@
+use crate::tests::every;
+use client_code::{Instruction, Operation, assemble, parse, print};
+use seg_raw::Fault;
+use std::alloc::{AllocError, Global};
+use std::process::Abort;
+use std::test::Fail;
+use support_data::{INCREMENT, INCREMENT_FILE};
+
+/// Where the field of the increment client begins that a file of this length cuts.
+fn cut_field(len: u32) -> u32 {
+    match len {
+        0..20 => len / 4 * 4,
+        20..36 => 20,
+        36..39 => 36,
+        _ => 39 + len.saturating_sub(39) / 8 * 8,
+    }
+}
+
+#[test]
+fn a_cut_file_is_wrong_at_the_cut_field(rt: HostRuntime) {
+    for len in 0..103u32 {
+        let wanted = Some(Fault::BadCode(cut_field(len)));
+        assert_eq!(rt;
+            parse(&INCREMENT_FILE[..len as usize]).err(),
+            wanted,
+            "{len}"
+        );
+    }
+    assert_eq!(rt; cut_field(102), 95);
+}
+
+#[test]
+fn the_increment_in_bytes_and_text(rt: HostRuntime) -> Result<(), Fail> {
+    let file = assemble(rt.alloc(), INCREMENT.as_bytes())?;
+    assert!(rt; file.as_slice() == INCREMENT_FILE.as_slice());
+    let client = parse(file.as_slice())?;
+    assert!(rt; print(rt.alloc(), &client)?.as_slice() == INCREMENT.as_bytes());
+    assert_eq!(rt; client.type_count(), 1);
+    assert_eq!(rt; client.constants().len(), 1);
+    assert_eq!(rt; client.instruction(8), None);
+    let find = Instruction {
+        operation: Operation::Find,
+        a: 0,
+        b: 16,
+        c: 16,
+        number: 0,
+    };
+    assert_eq!(rt; client.instruction(0), Some(find));
+    let load = Instruction {
+        operation: Operation::Load,
+        a: 1,
+        b: 0,
+        c: 0,
+        number: 0,
+    };
+    assert_eq!(rt; client.instruction(1), Some(load));
+    Ok(())
+}
+
+/// Where a file is wrong. The text of a client spells the same file.
+fn place_of_fault(rt: &(impl Abort + AllocGlobal), file: &[u8]) -> Result<Option<u32>, Fault> {
+    match parse(file) {
+        Err(Fault::BadCode(at)) => Ok(Some(at)),
+        Err(fault) => Err(fault),
+        Ok(client) => {
+            let text = print(rt.alloc(), &client)?;
+            let again = assemble(rt.alloc(), text.as_slice())?;
+            assert!(rt; again.as_slice() == file);
+            Ok(None)
+        }
+    }
+}
+
+/// The number of files that are clients, and the sum of the positions at which the others are wrong.
+#[derive(Debug, Clone, Copy, PartialEq, Eq)]
+struct Count {
+    clients: u32,
+    positions: u64,
+}
+
+/// Counts one more file.
+fn with_file(rt: &(impl Abort + AllocGlobal), file: &[u8], so_far: Count) -> Result<Count, Fault> {
+    let Count { clients, positions } = so_far;
+    match place_of_fault(rt, file)? {
+        None => Ok(Count {
+            clients: clients.wrapping_add(1),
+            positions,
+        }),
+        Some(at) => Ok(Count {
+            clients,
+            positions: positions.wrapping_add(u64::from(at)),
+        }),
+    }
+}
+
+/// Counts the files in which one byte is combined by `^` with each of these.
+fn count_changes(
+    rt: &(impl Abort + AllocGlobal),
+    file: &mut [u8],
+    changes: &[u8],
+) -> Result<Count, Fault> {
+    let mut so_far = Count {
+        clients: 0,
+        positions: 0,
+    };
+    for at in 0..file.len() {
+        let byte = file[at];
+        for change in changes {
+            file[at] = byte ^ *change;
+            so_far = with_file(rt, file, so_far)?;
+        }
+        file[at] = byte;
+    }
+    Ok(so_far)
+}
+
+// The counts are those of a model of the format, written by itself from its rules.
+#[test]
+fn each_byte_changed_to_each_value(rt: HostRuntime) -> Result<(), Fail> {
+    let mut changes = [0; 256];
+    for value in 0..=255u8 {
+        changes[usize::from(value)] = value;
+    }
+    let mut file = INCREMENT_FILE;
+    let count = count_changes(&rt, file.as_mut_slice(), &changes)?;
+    assert_eq!(rt;
+        count,
+        Count {
+            clients: 1426,
+            positions: 1204682
+        }
+    );
+    Ok(())
+}
+
+#[test]
+fn every_operation_with_each_bit_changed(rt: HostRuntime) -> Result<(), Fail> {
+    let changes = [1, 2, 4, 8, 16, 32, 64, 128];
+    let mut file = assemble(rt.alloc(), every::TEXT.as_bytes())?;
+    let count = count_changes(&rt, file.as_mut_slice(), &changes)?;
+    assert_eq!(rt;
+        count,
+        Count {
+            clients: 632,
+            positions: 3263368
+        }
+    );
+    Ok(())
+}
+
+static OTHER_FILES: [(&[u8], u32); 9] = [
+    (b"", 0),
+    (b"SEG", 0),
+    (b"SEGD\x01\0\0\0", 0),
+    (b"SEGC\x02\0\0\0", 4),
+    (b"SEGC\x01\0\0\0\x21\0\0\0\0\0\0\0\0\0\0\0", 8),
+    (b"SEGC\x01\0\0\0\0\0\0\0\x01\x01\0\0\0\0\0\0", 12),
+    (b"SEGC\x01\0\0\0\0\0\0\0\0\0\0\0\x01\x10\0\0", 16),
+    // one byte too many
+    (b"SEGC\x01\0\0\0\0\0\0\0\0\0\0\0\0\0\0\0\0", 20),
+    // no END, and one byte too many behind
+    (
+        b"SEGC\x01\0\0\0\0\0\0\0\0\0\0\0\x01\0\0\0\x08\0\0\0\0\0\0\0\0",
+        28,
+    ),
+];
+
+#[test]
+fn other_wrong_files(rt: HostRuntime) {
+    for (file, at) in &OTHER_FILES {
+        assert_eq!(rt; parse(file).err(), Some(Fault::BadCode(*at)), "{file:?}");
+    }
+}
+
+/// A file of two type entries, of which the second is cut behind so many bytes.
+fn two_types(alloc: Global, first: &[u8], second: &[u8]) -> Result<Vec<u8>, AllocError> {
+    let mut file = Vec::from_slice(alloc, b"SEGC\x01\0\0\0\x02\0\0\0\0\0\0\0\0\0\0\0")?;
+    for byte in 0..16usize {
+        file.push(first.get(byte).copied().unwrap_or(0))
+            .map_err(AllocError::from)?;
+    }
+    file.extend_from_slice(second)?;
+    Ok(file)
+}
+
+#[test]
+fn types_that_name_a_cut_or_an_unused_one(rt: HostRuntime) -> Result<(), Fail> {
+    let cut = two_types(rt.alloc(), b"\x03\x01\x01", b"")?;
+    assert_eq!(rt;
+        parse(cut.as_slice()).err(),
+        Some(Fault::BadCode(36)),
+        "vec t1, and t1 is cut"
+    );
+    let cut = two_types(rt.alloc(), b"\x03\x01\x01", b"\x01\0\0")?;
+    assert_eq!(rt;
+        parse(cut.as_slice()).err(),
+        Some(Fault::BadCode(36)),
+        "vec t1, and t1 is cut"
+    );
+    let past = two_types(rt.alloc(), b"\x03\x01\x02", b"")?;
+    assert_eq!(rt;
+        parse(past.as_slice()).err(),
+        Some(Fault::BadCode(20)),
+        "vec t2, and there is no t2"
+    );
+    let unused = two_types(
+        rt.alloc(),
+        b"\x03\x01\x01",
+        b"\0\0\0\0\0\0\0\0\0\0\0\0\0\0\0\0",
+    )?;
+    assert_eq!(rt;
+        parse(unused.as_slice()).err(),
+        Some(Fault::BadCode(20)),
+        "vec t1, and t1 is unused"
+    );
+    let alone = two_types(
+        rt.alloc(),
+        b"\x03\x01\0",
+        b"\0\0\0\0\0\0\0\0\0\0\0\0\0\0\0\0",
+    )?;
+    assert_eq!(rt;
+        parse(alone.as_slice()).err(),
+        Some(Fault::BadCode(36)),
+        "t1 is unused"
+    );
+    Ok(())
+}

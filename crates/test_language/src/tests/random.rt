@@ -1,0 +1,136 @@
+use client_code::{Number, Operand, Operation, Place, assemble, parse, print};
+use std::alloc::AllocError;
+use std::process::Abort;
+use std::test::Fail;
+use support_data::Random;
+
+/// Types, and constants of each kind: two texts, two names, two families.
+const FRONT: &str = "type i64
+type struct t0 t0
+type own t3
+type map t1
+text \\5c \\00
+text plain
+name x
+name y
+family p
+family q
+";
+
+const TYPES: u32 = 4;
+
+const FIRST_NAME: u32 = 2;
+
+const FIRST_FAMILY: u32 = 4;
+
+/// The texts of random code: nothing but what the instruction table asks of operands, and parts at most 8 deep.
+#[derive(Drop)]
+struct Writer<'a> {
+    random: &'a mut Random,
+    text: &'a mut String,
+}
+
+impl Writer<'_> {
+    fn register(&mut self) -> Result<(), AllocError> {
+        let n = self.random.below(16);
+        write!(self.text, " r{n}")
+    }
+
+    /// An operand. Register b is none exactly where the constant is an exact name.
+    fn operand(&mut self, operand: Operand, is_none: bool) -> Result<(), AllocError> {
+        match operand {
+            Operand::Unused => Ok(()),
+            Operand::Register => self.register(),
+            Operand::Optional if is_none => self.text.push_str(" -"),
+            Operand::Optional => self.register(),
+        }
+    }
+
+    fn number(&mut self, number: Number, is_exact: bool) -> Result<(), AllocError> {
+        let t = self.random.below(TYPES);
+        let k = self.random.below(2);
+        match number {
+            Number::Unused => Ok(()),
+            Number::Any => {
+                let n = i64::from(self.random.below(u32::MAX)) - 2_147_483_648;
+                write!(self.text, " {n}")
+            }
+            Number::Turns => {
+                let n = self.random.below(1_000_000_000) + 1;
+                write!(self.text, " {n}")
+            }
+            Number::Type => write!(self.text, " t{t}"),
+            Number::Text => write!(self.text, " k{k}"),
+            Number::TypedName => {
+                let k = k + if is_exact { FIRST_NAME } else { FIRST_FAMILY };
+                write!(self.text, " t{t} k{k}")
+            }
+        }
+    }
+
+    /// A line, and what stands between parts.
+    fn line(&mut self, operation: Operation) -> Result<(), AllocError> {
+        let row = operation.row();
+        let is_exact = self.random.below(2) == 0;
+        let has_count = self.random.below(2) == 0;
+        self.text.push_str(row.text)?;
+        self.operand(row.a, false)?;
+        self.operand(row.b, is_exact)?;
+        self.operand(row.c, has_count)?;
+        self.number(row.number, is_exact)?;
+        self.text.push_str("\n")
+    }
+
+    /// The statements of a part that may have parts so deep.
+    fn part(&mut self, depth: u32) -> Result<(), AllocError> {
+        for _ in 0..self.random.below(4) {
+            let number = self.random.below(50) as u8 + 1;
+            let Some(operation) = Operation::from_number(number) else {
+                continue;
+            };
+            match operation.row().place {
+                Place::Plain => self.line(operation)?,
+                Place::Opener if depth > 0 => {
+                    self.line(operation)?;
+                    self.part(depth - 1)?;
+                    self.text.push_str("ELSE\n")?;
+                    self.part(depth - 1)?;
+                    self.text.push_str("END\n")?;
+                }
+                Place::Loop if depth > 0 => {
+                    self.line(operation)?;
+                    self.part(depth - 1)?;
+                    self.text.push_str("END\n")?;
+                }
+                _ => {}
+            }
+        }
+        Ok(())
+    }
+}
+
+/// A canonical text is that of its file, and its file that of the text.
+fn goes_round(rt: &(impl Abort + AllocGlobal), text: &str) -> Result<(), Fail> {
+    let alloc = rt.alloc();
+    let file = assemble(alloc, text.as_bytes())?;
+    let printed = print(alloc, &parse(file.as_slice())?)?;
+    assert_eq!(rt; printed.as_slice(), text.as_bytes());
+    let again = assemble(alloc, printed.as_slice())?;
+    assert_eq!(rt; again.as_slice(), file.as_slice());
+    Ok(())
+}
+
+#[test]
+fn random_texts_go_round(rt: HostRuntime) -> Result<(), Fail> {
+    let mut random = Random::new(1);
+    for _ in 0..2000 {
+        let mut text = String::from_str(rt.alloc(), FRONT)?;
+        let mut writer = Writer {
+            random: &mut random,
+            text: &mut text,
+        };
+        writer.part(8)?;
+        goes_round(&rt, text.as_str())?;
+    }
+    Ok(())
+}

@@ -1,0 +1,15 @@
+mod abstract_openers;
+mod abstract_plain;
+mod abstract_run;
+mod containers;
+mod generator;
+mod hostile;
+mod hosts;
+mod model;
+mod mutations;
+mod objects;
+mod owners;
+mod random_clients;
+mod runs;
+mod sizes;
+mod uses;

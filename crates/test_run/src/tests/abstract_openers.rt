@@ -1,0 +1,296 @@
+//! Instructions that succeed or are refused, on objects without bytes.
+
+use crate::tests::abstract_run::{AbstractRun, Register};
+use crate::tests::model::{Content, Object, Objects, Shape};
+use client_code::{Instruction, Operation};
+use std::ops::Bound;
+use std::test::Fail;
+
+const EXISTS: i64 = 1;
+
+const NO_ROOM: i64 = 2;
+
+const ABSENT: i64 = 3;
+
+const OTHER_TYPE: i64 = 4;
+
+const OUT_OF_RANGE: i64 = 5;
+
+const NONE: i64 = 6;
+
+/// What an opener gives, or its code.
+type Answer = Result<Register, i64>;
+
+impl AbstractRun<'_> {
+    /// Performs an opener: whether it succeeded.
+    pub(crate) fn open(&mut self, objects: &mut Objects, i: Instruction) -> Result<bool, Fail> {
+        if i.operation == Operation::If {
+            return Ok(self.number(i.b) != 0);
+        }
+        match self.answer(objects, i)? {
+            Ok(content) => {
+                self.set(i.a, content);
+                Ok(true)
+            }
+            Err(code) => {
+                self.give(i, code);
+                Ok(false)
+            }
+        }
+    }
+
+    fn answer(&mut self, objects: &mut Objects, i: Instruction) -> Result<Answer, Fail> {
+        match i.operation {
+            Operation::GetByte => Ok(self.read_byte()),
+            Operation::Make => self.make(objects, i),
+            Operation::Find => self.find(objects, i),
+            Operation::FindOrMake => self.find_or_make(objects, i),
+            Operation::Count => self.count(objects, i),
+            Operation::MakeUnique | Operation::FindUnique | Operation::FindOrMakeUnique => {
+                self.unique(objects, i)
+            }
+            Operation::New => self.with_room(objects, usize::from(i.type_id())),
+            Operation::PushBack | Operation::PushFront => self.push(objects, i),
+            Operation::PutKey => self.put_key(objects, i),
+            _ => Ok(self.on_content(objects, i)?),
+        }
+    }
+
+    fn read_byte(&mut self) -> Answer {
+        let (first, rest) = self.input.split_first().ok_or(NONE)?;
+        self.input = rest;
+        Ok(Register::Number(i64::from(*first)))
+    }
+
+    /// A new value where the real run found room for it.
+    fn with_room(&self, objects: &mut Objects, t: usize) -> Result<Answer, Fail> {
+        if self.found_room() {
+            Ok(Ok(Register::Value(objects.make(t)?)))
+        } else {
+            Ok(Err(NO_ROOM))
+        }
+    }
+
+    /// Makes the object of a name where the real run found room for it.
+    fn make_named(
+        &self,
+        objects: &mut Objects,
+        i: Instruction,
+        count: i64,
+    ) -> Result<Answer, Fail> {
+        if !self.found_room() {
+            return Ok(Err(NO_ROOM));
+        }
+        let object = objects.make_object(usize::from(i.type_id()), count)?;
+        let first = object.values.first().copied().unwrap_or(usize::MAX);
+        let _ = objects.named.insert(self.name(i)?, object)?;
+        Ok(Ok(Register::Value(first)))
+    }
+
+    fn make(&self, objects: &mut Objects, i: Instruction) -> Result<Answer, Fail> {
+        let count = if i.c == Instruction::NONE {
+            1
+        } else {
+            self.number(i.c)
+        };
+        if !(1..=65_535).contains(&count) {
+            return Ok(Err(OUT_OF_RANGE));
+        }
+        if objects.named.contains_key(&self.name(i)?) {
+            return Ok(Err(EXISTS));
+        }
+        self.make_named(objects, i, count)
+    }
+
+    /// The object of a name, if it has the instruction's type.
+    fn named<'o>(
+        &self,
+        objects: &'o Objects,
+        i: Instruction,
+    ) -> Result<Result<&'o Object, i64>, Fail> {
+        let name = self.name(i)?;
+        Ok(match objects.named.get(&name) {
+            None => Err(ABSENT),
+            Some(object) if object.t != usize::from(i.type_id()) => Err(OTHER_TYPE),
+            Some(object) => Ok(object),
+        })
+    }
+
+    fn find(&self, objects: &Objects, i: Instruction) -> Result<Answer, Fail> {
+        let item = if i.c == Instruction::NONE {
+            0
+        } else {
+            self.number(i.c)
+        };
+        self.item(objects, i, item)
+    }
+
+    /// A value of a name's object.
+    fn item(&self, objects: &Objects, i: Instruction, item: i64) -> Result<Answer, Fail> {
+        Ok(match self.named(objects, i)? {
+            Err(code) => Err(code),
+            Ok(object) => place(object.values.as_slice(), item),
+        })
+    }
+
+    fn find_or_make(&self, objects: &mut Objects, i: Instruction) -> Result<Answer, Fail> {
+        match self.item(objects, i, 0)? {
+            Err(ABSENT) => self.make_named(objects, i, 1),
+            found => Ok(found),
+        }
+    }
+
+    fn count(&self, objects: &Objects, i: Instruction) -> Result<Answer, Fail> {
+        Ok(match self.named(objects, i)? {
+            Err(code) => Err(code),
+            Ok(object) => Ok(Register::Number(object.values.len() as i64)),
+        })
+    }
+
+    fn unique(&self, objects: &mut Objects, i: Instruction) -> Result<Answer, Fail> {
+        let t = usize::from(i.type_id());
+        if let Some(value) = objects.uniques.get(&t).copied() {
+            return Ok(match i.operation {
+                Operation::MakeUnique => Err(EXISTS),
+                _ => Ok(Register::Value(value)),
+            });
+        }
+        if i.operation == Operation::FindUnique {
+            return Ok(Err(ABSENT));
+        }
+        let answer = self.with_room(objects, t)?;
+        if let Ok(Register::Value(value)) = answer {
+            let _ = objects.uniques.insert(t, value)?;
+        }
+        Ok(answer)
+    }
+
+    fn push(&self, objects: &mut Objects, i: Instruction) -> Result<Answer, Fail> {
+        let container = self.value(i.b);
+        let Shape::Sequence(item) = objects.shape(container) else {
+            return Err(Fail::from("no sequence"));
+        };
+        let answer = self.with_room(objects, item)?;
+        if let (Ok(Register::Value(value)), Some(Content::Items(items))) = (
+            answer,
+            objects.content(container),
+        ) {
+            if i.operation == Operation::PushFront {
+                items.insert(0, value)?;
+            } else {
+                items.push(value)?;
+            }
+        }
+        Ok(answer)
+    }
+
+    fn put_key(&self, objects: &mut Objects, i: Instruction) -> Result<Answer, Fail> {
+        let (map, key) = (self.value(i.b), self.number(i.c));
+        let Shape::Keyed(item) = objects.shape(map) else {
+            return Err(Fail::from("no map"));
+        };
+        if let Some(Content::Keyed(entries)) = objects.content(map) {
+            if let Some(value) = entries.get(&key) {
+                return Ok(Ok(Register::Value(*value)));
+            }
+        }
+        let answer = self.with_room(objects, item)?;
+        if let (Ok(Register::Value(value)), Some(Content::Keyed(entries))) = (
+            answer,
+            objects.content(map),
+        ) {
+            let _ = entries.insert(key, value)?;
+        }
+        Ok(answer)
+    }
+
+    /// An opener on what the value of register b holds.
+    fn on_content(&self, objects: &mut Objects, i: Instruction) -> Result<Answer, Fail> {
+        match objects.content(self.value(i.b)) {
+            Some(Content::Text(text)) => self.on_text(text, i),
+            Some(Content::Items(items)) => Ok(self.on_items(items, i)),
+            Some(Content::Held(held)) => Ok(on_held(held, i)),
+            Some(Content::Keyed(entries)) => {
+                let key = self.number(i.c);
+                Ok(match i.operation {
+                    Operation::GetKey => entries
+                        .get(&key)
+                        .map(|value| Register::Value(*value))
+                        .ok_or(ABSENT),
+                    Operation::FirstKey => entries
+                        .first_key_value()
+                        .map(|entry| Register::Number(*entry.0))
+                        .ok_or(NONE),
+                    _ => entries
+                        .range((Bound::Excluded(key), Bound::Unbounded))
+                        .next()
+                        .map(|entry| Register::Number(*entry.0))
+                        .ok_or(NONE),
+                })
+            }
+            _ => Err(Fail::from("no meaning")),
+        }
+    }
+
+    fn on_text(&self, text: &mut Vec<u8>, i: Instruction) -> Result<Answer, Fail> {
+        let c = self.number(i.c);
+        match i.operation {
+            Operation::At => {
+                let byte = usize::try_from(c)
+                    .ok()
+                    .and_then(|index| text.get(index).copied());
+                return Ok(
+                    byte.map(|byte| Register::Number(i64::from(byte)))
+                        .ok_or(OUT_OF_RANGE),
+                );
+            }
+            Operation::PopBack => {
+                if text.pop().is_none() {
+                    return Ok(Err(NONE));
+                }
+                return Ok(Ok(Register::Number(text.len() as i64)));
+            }
+            Operation::AddByte if u8::try_from(c).is_err() => return Ok(Err(OUT_OF_RANGE)),
+            _ if !self.found_room() => return Ok(Err(NO_ROOM)),
+            Operation::AddByte => text.push(u8::try_from(c).unwrap_or(0))?,
+            Operation::AddStr => text.extend_from_slice(self.constant(i))?,
+            _ => {
+                text.clear();
+                text.extend_from_slice(self.constant(i))?;
+            }
+        }
+        Ok(Ok(Register::Number(text.len() as i64)))
+    }
+
+    fn on_items(&self, items: &mut Vec<usize>, i: Instruction) -> Answer {
+        if i.operation == Operation::At {
+            return place(items.as_slice(), self.number(i.c));
+        }
+        if items.is_empty() {
+            return Err(NONE);
+        }
+        if i.operation == Operation::PopFront {
+            let _ = items.remove(0);
+        } else {
+            let _ = items.pop();
+        }
+        Ok(Register::Number(items.len() as i64))
+    }
+}
+
+/// The value at an index.
+fn place(values: &[usize], index: i64) -> Answer {
+    usize::try_from(index)
+        .ok()
+        .and_then(|index| values.get(index).copied())
+        .map(|value| Register::Value(value))
+        .ok_or(OUT_OF_RANGE)
+}
+
+fn on_held(held: &mut Option<usize>, i: Instruction) -> Answer {
+    let value = held.ok_or(NONE)?;
+    if i.operation == Operation::Take {
+        *held = None;
+    }
+    Ok(Register::Value(value))
+}

@@ -1,0 +1,108 @@
+//! Instructions that stand by themselves, on objects without bytes.
+
+use crate::tests::abstract_run::{AbstractRun, Register};
+use crate::tests::model::{Content, Objects};
+use client_code::{Instruction, Operation};
+use std::test::Fail;
+
+impl AbstractRun<'_> {
+    /// Performs an instruction that stands by itself.
+    pub(crate) fn act(&mut self, objects: &mut Objects, i: Instruction) -> Result<(), Fail> {
+        let (b, c) = (self.number(i.b), self.number(i.c));
+        match i.operation {
+            Operation::Const => self.give(i, i64::from(i.number)),
+            Operation::Mov => self.set(i.a, self.register(i.b)),
+            Operation::Add => self.give(i, b.wrapping_add(c)),
+            Operation::Sub => self.give(i, b.wrapping_sub(c)),
+            Operation::Mul => self.give(i, b.wrapping_mul(c)),
+            Operation::Less => self.give(i, i64::from(b < c)),
+            Operation::Equal => self.give(i, i64::from(b == c)),
+            Operation::OutInt => return self.print_number(b),
+            Operation::OutConst => return self.print(self.constant(i)),
+            Operation::OutStr => return self.print_text(objects, i),
+            Operation::Kill => return self.kill(objects, i),
+            Operation::KillUnique => {
+                let removed = objects.uniques.remove(&usize::from(i.type_id()));
+                self.give(i, i64::from(removed.is_some()));
+            }
+            Operation::Drop | Operation::Forget => self.set(i.b, Register::Undefined),
+            Operation::Ref => self.set(i.a, self.register(i.b)),
+            Operation::Shrink => {}
+            _ => return self.act_on_value(objects, i),
+        }
+        Ok(())
+    }
+
+    pub(crate) fn give(&mut self, i: Instruction, number: i64) {
+        self.set(i.a, Register::Number(number));
+    }
+
+    fn print_text(&mut self, objects: &mut Objects, i: Instruction) -> Result<(), Fail> {
+        match objects.content(self.value(i.b)) {
+            Some(Content::Text(text)) => self.print(text.as_slice()),
+            _ => Err(Fail::from("no text")),
+        }
+    }
+
+    fn kill(&mut self, objects: &mut Objects, i: Instruction) -> Result<(), Fail> {
+        let name = self.name(i)?;
+        let t = usize::from(i.type_id());
+        let is_there = objects.named.get(&name).is_some_and(|object| object.t == t);
+        if is_there {
+            let _ = objects.named.remove(&name);
+        }
+        self.give(i, i64::from(is_there));
+        Ok(())
+    }
+
+    /// An instruction on the value of register b.
+    fn act_on_value(&mut self, objects: &mut Objects, i: Instruction) -> Result<(), Fail> {
+        let value = self.value(i.b);
+        let c = self.register(i.c);
+        if i.operation == Operation::Clear {
+            objects.clear(value)?;
+            return Ok(());
+        }
+        match (i.operation, objects.content(value)) {
+            (Operation::Load, Some(Content::Number(number))) => {
+                let number = *number;
+                self.give(i, number);
+            }
+            (Operation::Store, Some(Content::Number(number))) => *number = self.number(i.c),
+            (Operation::Field, Some(Content::Fields(fields))) => {
+                let field = usize::try_from(i.number)
+                    .ok()
+                    .and_then(|index| fields.get(index).copied())
+                    .unwrap_or(usize::MAX);
+                self.set(i.a, Register::Value(field));
+            }
+            (Operation::Put, Some(Content::Held(held))) => {
+                if let Register::Value(object) = c {
+                    *held = Some(object);
+                }
+                self.set(i.c, Register::Undefined);
+            }
+            (Operation::DeleteKey, Some(Content::Keyed(entries))) => {
+                let removed = entries.remove(&self.number(i.c)).is_some();
+                self.give(i, i64::from(removed));
+            }
+            (Operation::Len, Some(content)) => {
+                let len = length(content);
+                self.give(i, len);
+            }
+            _ => return Err(Fail::from("no meaning")),
+        }
+        Ok(())
+    }
+}
+
+/// The length of a text or a container.
+pub(crate) fn length(content: &Content) -> i64 {
+    let len = match content {
+        Content::Text(text) => text.len(),
+        Content::Items(items) => items.len(),
+        Content::Keyed(entries) => entries.len(),
+        Content::Number(_) | Content::Held(_) | Content::Fields(_) => 0,
+    };
+    len as i64
+}

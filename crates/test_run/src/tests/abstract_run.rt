@@ -1,0 +1,225 @@
+//! A client's run on objects without bytes, beside what a real run printed. Want of room is taken from there: an opener that
+//! succeeds prints a mark first. All else must be as printed.
+
+use crate::tests::model::Objects;
+use client_code::{Client, ConstantKind, Instruction, Place};
+use itoa::Buffer;
+use std::alloc::Global;
+use std::test::Fail;
+
+/// What an opener prints first where it succeeds.
+const MARK: &[u8] = b"+\n";
+
+/// What a register holds.
+#[derive(Debug, Clone, Copy, PartialEq, Eq, Default)]
+pub(crate) enum Register {
+    #[default]
+    Undefined,
+    Number(i64),
+    /// A value, referred to or owned.
+    Value(usize),
+}
+
+/// A part that the run is in.
+#[derive(Debug, Clone, Copy)]
+enum Part {
+    Opener,
+    Loop { start: u32, turns: i32 },
+}
+
+/// A run of a client.
+#[derive(Drop)]
+pub(crate) struct AbstractRun<'a> {
+    pub(crate) alloc: Global,
+    pub(crate) client: Client<'a>,
+    registers: [Register; 16],
+    parts: Vec<Part>,
+    at: u32,
+    pub(crate) steps: u64,
+    pub(crate) input: &'a [u8],
+    /// What the real run printed from here on.
+    pub(crate) printed: &'a [u8],
+}
+
+impl<'a> AbstractRun<'a> {
+    pub(crate) fn new(
+        alloc: Global,
+        client: Client<'a>,
+        input: &'a [u8],
+        printed: &'a [u8],
+    ) -> AbstractRun<'a> {
+        AbstractRun {
+            alloc,
+            client,
+            registers: [Register::Undefined; 16],
+            parts: Vec::new(alloc),
+            at: 0,
+            steps: 0,
+            input,
+            printed,
+        }
+    }
+
+    pub(crate) fn register(&self, r: u8) -> Register {
+        self.registers.get(r as usize).copied().unwrap_or_default()
+    }
+
+    pub(crate) fn number(&self, r: u8) -> i64 {
+        match self.register(r) {
+            Register::Number(number) => number,
+            _ => 0,
+        }
+    }
+
+    /// The value that a register leads to. An accepted client asks for none that isn't there.
+    pub(crate) fn value(&self, r: u8) -> usize {
+        match self.register(r) {
+            Register::Value(value) => value,
+            _ => usize::MAX,
+        }
+    }
+
+    pub(crate) fn set(&mut self, r: u8, content: Register) {
+        if let Some(slot) = self.registers.get_mut(r as usize) {
+            *slot = content;
+        }
+    }
+
+    /// Whether the real run found room for what the instruction at hand asks for.
+    pub(crate) fn found_room(&self) -> bool {
+        self.printed.starts_with(MARK)
+    }
+
+    /// The real run printed these bytes next.
+    pub(crate) fn print(&mut self, bytes: &[u8]) -> Result<(), Fail> {
+        match self.printed.strip_prefix(bytes) {
+            Some(rest) => {
+                self.printed = rest;
+                Ok(())
+            }
+            None => Err(Fail::from("the run printed something else")),
+        }
+    }
+
+    pub(crate) fn print_number(&mut self, number: i64) -> Result<(), Fail> {
+        self.print(Buffer::new().format(number).as_bytes())?;
+        self.print(b"\n")
+    }
+
+    /// The bytes of a constant.
+    pub(crate) fn constant(&self, i: Instruction) -> &'a [u8] {
+        let constants = self.client.constants();
+        constants
+            .get(i.constant() as usize)
+            .map_or(&[], |constant| constant.bytes)
+    }
+
+    /// The name that an instruction gives.
+    pub(crate) fn name(&self, i: Instruction) -> Result<Vec<u8>, Fail> {
+        let constants = self.client.constants();
+        let Some(constant) = constants.get(i.constant() as usize) else {
+            return Err(Fail::from("no such constant"));
+        };
+        let mut name = Vec::from_slice(self.alloc, constant.bytes)?;
+        if constant.kind == ConstantKind::Family {
+            name.push(b'#')?;
+            name.extend_from_slice(Buffer::new().format(self.number(i.b)).as_bytes())?;
+        }
+        Ok(name)
+    }
+
+    /// Runs to the end of the code.
+    pub(crate) fn to_end(&mut self, objects: &mut Objects) -> Result<(), Fail> {
+        for _ in 0..1_000_000 {
+            let Some(i) = self.client.instruction(self.at) else {
+                return Ok(());
+            };
+            self.turn(objects, i)?;
+        }
+        Err(Fail::from("the run doesn't end"))
+    }
+
+    fn turn(&mut self, objects: &mut Objects, i: Instruction) -> Result<(), Fail> {
+        match i.operation.row().place {
+            Place::Plain => {
+                self.count_step();
+                self.act(objects, i)?;
+                self.go_behind(self.at);
+            }
+            Place::Opener => {
+                self.count_step();
+                let opens = self.open(objects, i)?;
+                self.parts.push(Part::Opener)?;
+                self.go_behind(if opens {
+                    self.at
+                } else {
+                    self.mark(Place::Else)
+                });
+            }
+            Place::Loop => {
+                self.count_step();
+                self.parts.push(Part::Loop {
+                    start: self.at,
+                    turns: i.number,
+                })?;
+                self.at = self.mark(Place::End);
+            }
+            Place::Else => {
+                let _ = self.parts.pop();
+                self.go_behind(self.mark(Place::End));
+            }
+            Place::End => self.end()?,
+        }
+        Ok(())
+    }
+
+    fn count_step(&mut self) {
+        self.steps = self.steps.wrapping_add(1);
+    }
+
+    fn go_behind(&mut self, at: u32) {
+        self.at = at.wrapping_add(1);
+    }
+
+    /// The end of a part: a loop makes another turn while its number isn't 0.
+    fn end(&mut self) -> Result<(), Fail> {
+        if let Some(Part::Loop { start, turns }) = self.parts.pop() {
+            let test = self
+                .client
+                .instruction(start)
+                .map_or(0, |i| self.number(i.b));
+            if test != 0 && turns > 0 {
+                self.count_step();
+                self.parts.push(Part::Loop {
+                    start,
+                    turns: turns.wrapping_sub(1),
+                })?;
+                self.go_behind(start);
+                return Ok(());
+            }
+        }
+        self.go_behind(self.at);
+        Ok(())
+    }
+
+    /// The `ELSE` or the `END` that belongs to the instruction at hand.
+    fn mark(&self, wanted: Place) -> u32 {
+        let mut depth = 0u32;
+        let end = self.client.instruction_count();
+        for at in self.at.wrapping_add(1)..end {
+            let Some(i) = self.client.instruction(at) else {
+                break;
+            };
+            let place = i.operation.row().place;
+            if depth == 0 && place == wanted {
+                return at;
+            }
+            match place {
+                Place::Opener | Place::Loop => depth = depth.wrapping_add(1),
+                Place::End => depth = depth.wrapping_sub(1),
+                Place::Plain | Place::Else => {}
+            }
+        }
+        end
+    }
+}

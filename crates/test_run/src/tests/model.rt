@@ -1,0 +1,149 @@
+//! The objects of a segment without its bytes: names and unique types to values. A value is named by its place in a list of
+//! all that were ever made.
+
+use std::alloc::{AllocError, Global};
+use std::collections::BTreeMap;
+
+/// What a type is, with what it is of.
+#[derive(Debug, Clone, Copy, PartialEq, Eq)]
+pub(crate) enum Shape {
+    Number,
+    Text,
+    /// A vector or a list.
+    Sequence(usize),
+    /// A map of either kind.
+    Keyed(usize),
+    Own(usize),
+    Struct(&'static [usize]),
+}
+
+/// The types of the random clients, in order. [`HEADER`](crate::tests::generator::HEADER) spells them.
+pub(crate) const SHAPES: [Shape; 9] = [
+    Shape::Number,
+    Shape::Text,
+    Shape::Sequence(1),
+    Shape::Sequence(0),
+    Shape::Keyed(1),
+    Shape::Keyed(2),
+    Shape::Own(7),
+    Shape::Struct(&[0, 6, 1]),
+    Shape::Sequence(7),
+];
+
+/// The shape of a type.
+pub(crate) fn shape_of(t: usize) -> Shape {
+    SHAPES.get(t).copied().unwrap_or(Shape::Number)
+}
+
+/// What a value holds.
+#[derive(Debug, Drop)]
+pub(crate) enum Content {
+    Number(i64),
+    Text(Vec<u8>),
+    Items(Vec<usize>),
+    Keyed(BTreeMap<i64, usize>),
+    Held(Option<usize>),
+    Fields(Vec<usize>),
+}
+
+/// A value: its type, and what it holds.
+#[derive(Debug, Drop)]
+pub(crate) struct Value {
+    pub(crate) t: usize,
+    pub(crate) content: Content,
+}
+
+/// A named object: its type and its values.
+#[derive(Debug, Drop)]
+pub(crate) struct Object {
+    pub(crate) t: usize,
+    pub(crate) values: Vec<usize>,
+}
+
+/// The objects of a segment.
+#[derive(Drop)]
+pub(crate) struct Objects {
+    alloc: Global,
+    values: Vec<Value>,
+    pub(crate) named: BTreeMap<Vec<u8>, Object>,
+    pub(crate) uniques: BTreeMap<usize, usize>,
+}
+
+impl Objects {
+    pub(crate) fn new(alloc: Global) -> Objects {
+        Objects {
+            alloc,
+            values: Vec::new(alloc),
+            named: BTreeMap::new(alloc),
+            uniques: BTreeMap::new(alloc),
+        }
+    }
+
+    pub(crate) fn get(&self, value: usize) -> Option<&Value> {
+        self.values.get(value)
+    }
+
+    pub(crate) fn content(&mut self, value: usize) -> Option<&mut Content> {
+        Some(&mut self.values.get_mut(value)?.content)
+    }
+
+    pub(crate) fn type_of(&self, value: usize) -> usize {
+        self.values.get(value).map_or(0, |value| value.t)
+    }
+
+    pub(crate) fn shape(&self, value: usize) -> Shape {
+        shape_of(self.type_of(value))
+    }
+
+    /// A new value, the default of a type. Fields of structs are no structs here.
+    pub(crate) fn make(&mut self, t: usize) -> Result<usize, AllocError> {
+        let content = self.default_of(t)?;
+        let value = self.values.len();
+        self.values.push(Value { t, content })?;
+        Ok(value)
+    }
+
+    /// Lets a value be the default of its type.
+    pub(crate) fn clear(&mut self, value: usize) -> Result<(), AllocError> {
+        let content = self.default_of(self.type_of(value))?;
+        if let Some(slot) = self.values.get_mut(value) {
+            slot.content = content;
+        }
+        Ok(())
+    }
+
+    fn default_of(&mut self, t: usize) -> Result<Content, AllocError> {
+        match shape_of(t) {
+            Shape::Struct(fields) => {
+                let mut values = Vec::new(self.alloc);
+                for field in fields {
+                    let content = simple_default(self.alloc, *field);
+                    values.push(self.values.len())?;
+                    self.values.push(Value { t: *field, content })?;
+                }
+                Ok(Content::Fields(values))
+            }
+            _ => Ok(simple_default(self.alloc, t)),
+        }
+    }
+
+    /// An object of so many new values.
+    pub(crate) fn make_object(&mut self, t: usize, count: i64) -> Result<Object, AllocError> {
+        let mut values = Vec::new(self.alloc);
+        for _ in 0..count {
+            values.push(self.make(t)?)?;
+        }
+        Ok(Object { t, values })
+    }
+}
+
+/// The default of a type that is no struct.
+fn simple_default(alloc: Global, t: usize) -> Content {
+    match shape_of(t) {
+        Shape::Number | Shape::Struct(_) => Content::Number(0),
+        Shape::Text => Content::Text(Vec::new(alloc)),
+        Shape::Sequence(_) => Content::Items(Vec::new(alloc)),
+        Shape::Keyed(_) => Content::Keyed(BTreeMap::new(alloc)),
+        Shape::Own(_) => Content::Held(None),
+    }
+}

@@ -1,0 +1,99 @@
+use crate::tests::runs::{KINDS, run_anew};
+use crate::tests::sizes::MAKE_EACH_KIND;
+use arrayvec::ArrayVec;
+use seg_bestfit::BestFit;
+use seg_block::Fit;
+use seg_check::open;
+use seg_manager::Segment;
+use seg_ptr::{Window, header};
+use seg_raw::{Fault, Region};
+use seg_seqfit::SeqFit;
+use std::alloc::Global;
+use std::process::Abort;
+use std::test::Fail;
+
+/// How a byte is changed: one bit, all bits, every second bit.
+const CHANGES: [u8; 11] = [1, 2, 4, 8, 16, 32, 64, 128, 0xff, 0x55, 0xaa];
+
+/// A window on an image.
+fn window(alloc: Global, image: &[u8]) -> Result<Window<Global>, Fail> {
+    let len = u32::try_from(image.len()).map_err(|_| Fault::BadHeader)?;
+    match Window::place(Region::new(alloc, len.min(1 << 16))?, 0, len) {
+        Ok(mut window) => {
+            window.copy_in(0, image);
+            Ok(window)
+        }
+        Err(_) => Err(Fail::from("misplaced")),
+    }
+}
+
+/// Destroys each named object of a segment.
+fn destroy_named<F: Fit>(rt: &impl Abort, segment: &mut Segment<F, Global>) -> Result<(), Fail> {
+    for _ in 0..segment.num_named() {
+        let Some(named) = segment.first_name() else {
+            return Err(Fail::from("a name is missing"));
+        };
+        let (t, count) = (named.type_id, named.count);
+        let mut name: ArrayVec<u8, 63> = ArrayVec::new();
+        for byte in named.name {
+            let _ = name.try_push(*byte);
+        }
+        assert_eq!(rt; segment.find(name.as_slice(), t)?.count, count);
+        assert!(rt; segment.destroy(name.as_slice(), t));
+    }
+    Ok(())
+}
+
+/// Opens an image, if it is accepted, and destroys all that is in it. The heap is one gap then.
+fn use_up<F: Fit>(rt: &(impl Abort + AllocGlobal), image: &[u8]) -> Result<bool, Fail> {
+    let Ok(mut segment) = open::<F, Global, Global>(rt.alloc(), window(rt.alloc(), image)?) else {
+        return Ok(false);
+    };
+    destroy_named(rt, &mut segment)?;
+    for t in 0..32 {
+        let _ = segment.destroy_unique(t);
+    }
+    assert!(rt; segment.all_memory_deallocated());
+    Ok(true)
+}
+
+/// Uses an image up by the allocator that it names.
+fn use_image(rt: &(impl Abort + AllocGlobal), image: &[u8]) -> Result<bool, Fail> {
+    if window(rt.alloc(), image)?.get32(header::ALLOCATOR) == BestFit::word() {
+        use_up::<BestFit>(rt, image)
+    } else {
+        use_up::<SeqFit>(rt, image)
+    }
+}
+
+/// An image that holds every kind, with each byte changed in several ways, and cut at each length: it is refused, or all
+/// that is in it can be found and destroyed.
+#[test]
+fn changed_images_are_refused_or_usable(rt: HostRuntime) -> Result<(), Fail> {
+    for kind in KINDS {
+        let mut image = run_anew(rt.alloc(), 2048, kind, &[MAKE_EACH_KIND])?.image;
+        assert!(rt; use_image(&rt, image.as_slice())?);
+        let mut accepted = 0usize;
+        for at in 0..image.len() {
+            for change in CHANGES {
+                flip(&mut image, at, change);
+                if use_image(&rt, image.as_slice())? {
+                    accepted = accepted.saturating_add(1);
+                }
+                flip(&mut image, at, change);
+            }
+        }
+        assert!(rt; accepted > 0);
+        for len in 0..image.len() {
+            let cut = image.as_slice().get(..len).unwrap_or(&[]);
+            assert!(rt; !use_up::<SeqFit>(&rt, cut)? && !use_up::<BestFit>(&rt, cut)?);
+        }
+    }
+    Ok(())
+}
+
+fn flip(image: &mut Vec<u8>, at: usize, change: u8) {
+    if let Some(byte) = image.as_mut_slice().get_mut(at) {
+        *byte ^= change;
+    }
+}

@@ -1,0 +1,183 @@
+use client_code::assemble;
+use client_vm::{Ended, Move, Place, Report, Through, run_bytes};
+use seg_bestfit::BestFit;
+use seg_block::Fit;
+use seg_check::{check, save};
+use seg_manager::{IndexKind, Segment};
+use seg_ptr::Window;
+use seg_raw::{Fault, Region};
+use seg_seqfit::SeqFit;
+use std::alloc::Global;
+use std::process::Abort;
+use std::test::Fail;
+use support_data::Limited;
+
+/// How a segment keeps its free blocks and its names.
+#[derive(Debug, Clone, Copy, PartialEq, Eq)]
+pub(crate) struct Kind {
+    pub(crate) is_best_fit: bool,
+    pub(crate) index: IndexKind,
+}
+
+pub(crate) const SEQ_FLAT: Kind = Kind {
+    is_best_fit: false,
+    index: IndexKind::Flat,
+};
+
+pub(crate) const SEQ_TREE: Kind = Kind {
+    is_best_fit: false,
+    index: IndexKind::Tree,
+};
+
+pub(crate) const BEST_FLAT: Kind = Kind {
+    is_best_fit: true,
+    index: IndexKind::Flat,
+};
+
+pub(crate) const BEST_TREE: Kind = Kind {
+    is_best_fit: true,
+    index: IndexKind::Tree,
+};
+
+pub(crate) const KINDS: [Kind; 4] = [SEQ_FLAT, SEQ_TREE, BEST_FLAT, BEST_TREE];
+
+/// The image of an empty segment.
+pub(crate) fn empty(alloc: Global, size: u32, kind: Kind) -> Result<Vec<u8>, Fail> {
+    if kind.is_best_fit {
+        empty_on::<BestFit>(alloc, size, kind.index)
+    } else {
+        empty_on::<SeqFit>(alloc, size, kind.index)
+    }
+}
+
+fn empty_on<F: Fit>(alloc: Global, size: u32, index: IndexKind) -> Result<Vec<u8>, Fail> {
+    let region = Region::new(alloc, size.min(1 << 21))?;
+    match Segment::<F, Global>::create(region, 0, size, index) {
+        Ok(segment) => Ok(save(alloc, &segment)?),
+        Err((fault, _)) => Err(Fail::from(fault)),
+    }
+}
+
+/// What a run of clients came to.
+#[derive(Drop)]
+pub(crate) struct Ran {
+    pub(crate) out: Vec<u8>,
+    pub(crate) image: Vec<u8>,
+    pub(crate) reports: Vec<Report>,
+    pub(crate) ended: Ended,
+}
+
+/// What a run is given beside the image and the clients.
+#[derive(Clone, Copy)]
+pub(crate) struct Setting<'a> {
+    pub(crate) input: &'a [u8],
+    pub(crate) room: u32,
+    pub(crate) base: u32,
+    pub(crate) moves: &'a [Move],
+    pub(crate) at_a_time: usize,
+    pub(crate) limit: usize,
+}
+
+/// A region of 2 MiB, no input, and an output that takes all.
+pub(crate) const PLAIN: Setting<'static> = Setting {
+    input: &[],
+    room: 1 << 21,
+    base: 0,
+    moves: &[],
+    at_a_time: usize::MAX,
+    limit: usize::MAX,
+};
+
+/// Runs the clients that the texts spell. The saved image must be one that is accepted.
+pub(crate) fn run_in(
+    alloc: Global,
+    image: &[u8],
+    texts: &[&str],
+    setting: Setting,
+) -> Result<Ran, Fail> {
+    let mut files = Vec::new(alloc);
+    for text in texts {
+        files.push(assemble(alloc, text.as_bytes())?)?;
+    }
+    let clients: Vec<&[u8]> = files.iter().map(|file| file.as_slice()).collect(alloc)?;
+    run_files(alloc, image, clients.as_slice(), setting)
+}
+
+/// Runs clients. The saved image must be one that is accepted.
+pub(crate) fn run_files(
+    alloc: Global,
+    image: &[u8],
+    clients: &[&[u8]],
+    setting: Setting,
+) -> Result<Ran, Fail> {
+    let place = Place {
+        room: setting.room,
+        base: setting.base,
+        moves: setting.moves,
+    };
+    let mut out = Through::new(Limited::new(alloc, setting.at_a_time, setting.limit));
+    match run_bytes(alloc, image, clients, setting.input, &place, &mut out) {
+        Ok(outcome) => {
+            let _ = statistics_of(alloc, outcome.image.as_slice())?;
+            Ok(Ran {
+                out: out.into_inner().bytes,
+                image: outcome.image,
+                reports: outcome.reports,
+                ended: outcome.ended,
+            })
+        }
+        Err(refused) => Err(Fail::from(refused.fault)),
+    }
+}
+
+/// Runs the clients that the texts spell on an image.
+pub(crate) fn run_on(alloc: Global, image: &[u8], texts: &[&str]) -> Result<Ran, Fail> {
+    run_in(alloc, image, texts, PLAIN)
+}
+
+/// Runs the clients that the texts spell on an empty segment.
+pub(crate) fn run_anew(alloc: Global, size: u32, kind: Kind, texts: &[&str]) -> Result<Ran, Fail> {
+    run_on(alloc, empty(alloc, size, kind)?.as_slice(), texts)
+}
+
+/// What an image holds, in numbers.
+#[derive(Debug, Clone, Copy, PartialEq, Eq)]
+pub(crate) struct Statistics {
+    pub(crate) free: u32,
+    pub(crate) largest: u32,
+    pub(crate) named: u32,
+    pub(crate) unique: usize,
+}
+
+/// What an image holds, which must be one that is accepted.
+pub(crate) fn statistics_of(alloc: Global, image: &[u8]) -> Result<Statistics, Fail> {
+    let len = u32::try_from(image.len()).map_err(|_| Fault::BadHeader)?;
+    let region = Region::new(alloc, len.min(1 << 21))?;
+    let mut window = Window::place(region, 0, len).map_err(|_| Fault::BadHeader)?;
+    window.copy_in(0, image);
+    let types = check(alloc, &window)?;
+    // the numbers don't depend on the allocator
+    let segment = Segment::<SeqFit, Global>::new(window, types);
+    Ok(Statistics {
+        free: segment.free_memory(),
+        largest: segment.largest_gap(),
+        named: segment.num_named(),
+        unique: segment.num_unique(),
+    })
+}
+
+/// The clients print this, and leave so many bytes free and so many names.
+pub(crate) fn leaves(
+    rt: &(impl Abort + AllocGlobal),
+    ran: &Ran,
+    printed: &str,
+    free: u32,
+    named: u32,
+) -> Result<(), Fail> {
+    assert_eq!(rt; ran.out.as_slice(), printed.as_bytes());
+    let left = statistics_of(rt.alloc(), ran.image.as_slice())?;
+    assert_eq!(rt; left.free, free);
+    assert_eq!(rt; left.named, named);
+    assert!(rt; ran.ended == Ended::Done);
+    Ok(())
+}

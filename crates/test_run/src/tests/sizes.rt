@@ -1,0 +1,194 @@
+use crate::tests::runs::{KINDS, SEQ_FLAT, run_anew, statistics_of};
+use client_vm::Ended;
+use std::process::Abort;
+use std::test::Fail;
+
+/// Makes an object of each kind, asks for room in each way, and prints each code.
+pub(crate) const MAKE_EACH_KIND: &str = "type i64
+    type str
+    type vec t1
+    type list t0
+    type flat_map t0
+    type map t1
+    type own t7
+    type struct t0 t1
+    name a
+    name b
+    name c
+    name d
+    name e
+    family f
+text a text of forty bytes, which is 3 units.
+    CONST r1 7
+    CONST r2 65
+    MAKE r0 - r1 t0 k0
+    ELSE
+      OUTI r0
+    END
+    FINDOR r0 - t1 k1
+      SETS r3 r0 k6
+      ELSE
+        OUTI r3
+      END
+      ADDS r3 r0 k6
+      ELSE
+        OUTI r3
+      END
+      ADDB r3 r0 r2
+      ELSE
+        OUTI r3
+      END
+    ELSE
+      OUTI r0
+    END
+    MAKE r0 - - t2 k2
+      PUSH r3 r0
+        SETS r4 r3 k6
+        ELSE
+          OUTI r4
+        END
+      ELSE
+        OUTI r3
+      END
+      PUSH r3 r0
+      ELSE
+        OUTI r3
+      END
+    ELSE
+      OUTI r0
+    END
+    MAKE r0 - - t3 k3
+      PUSH r3 r0
+      ELSE
+        OUTI r3
+      END
+      PUSHF r3 r0
+      ELSE
+        OUTI r3
+      END
+    ELSE
+      OUTI r0
+    END
+    MAKE r0 - - t4 k4
+      PUTK r3 r0 r1
+      ELSE
+        OUTI r3
+      END
+      PUTK r3 r0 r2
+      ELSE
+        OUTI r3
+      END
+    ELSE
+      OUTI r0
+    END
+    MAKE r0 r1 - t5 k5
+      PUTK r3 r0 r1
+        ADDS r4 r3 k6
+        ELSE
+          OUTI r4
+        END
+      ELSE
+        OUTI r3
+      END
+    ELSE
+      OUTI r0
+    END
+    UMAKE r0 t6
+      NEW r3 t7
+        REF r4 r3
+        FIELD r4 r4 1
+        SETS r5 r4 k6
+        ELSE
+          OUTI r5
+        END
+        PUT r0 r3
+      ELSE
+        OUTI r3
+      END
+    ELSE
+      OUTI r0
+    END
+    UFINDOR r0 t7
+    ELSE
+      OUTI r0
+    END
+";
+
+/// Destroys what [`MAKE_EACH_KIND`] made.
+const KILL_EACH_KIND: &str = "KILL r0 - t0 k0
+    KILL r0 - t1 k1
+    KILL r0 - t2 k2
+    KILL r0 - t3 k3
+    KILL r0 - t4 k4
+    KILL r0 r1 t5 k5
+    UKILL r0 t6
+    UKILL r0 t7";
+
+/// Whether each line of an output is the code for want of room. How many there are.
+fn codes(rt: &impl Abort, out: &[u8]) -> usize {
+    for line in out.chunks(2) {
+        assert_eq!(rt; line, b"2\n".as_slice());
+    }
+    out.len() / 2
+}
+
+/// On each size there is either room or a code, and nothing is left. The smallest segment has room for nothing but the
+/// objects by themselves, the largest for all.
+#[test]
+fn leaves_nothing_on_each_size(rt: HostRuntime) -> Result<(), Fail> {
+    let text = format!(in rt.alloc(); "{MAKE_EACH_KIND}{KILL_EACH_KIND}")?;
+    for kind in KINDS {
+        let mut refused = 0;
+        for units in 46..=256 {
+            let ran = run_anew(rt.alloc(), 16 * units, kind, &[text.as_str()])?;
+            refused = codes(&rt, ran.out.as_slice());
+            if units == 46 {
+                // six named objects, the object for the own, and the second unique one
+                assert_eq!(rt; refused, 8);
+            }
+            assert!(rt; ran.ended == Ended::Done);
+            let left = statistics_of(rt.alloc(), ran.image.as_slice())?;
+            assert_eq!(rt; left.largest, 16 * units - 704);
+            assert_eq!(rt; left.named, 0);
+            assert_eq!(rt; left.unique, 0);
+        }
+        assert_eq!(rt; refused, 0);
+    }
+    Ok(())
+}
+
+/// The object has 2 units, or 3; the index 2 or 3; the vector's buffer 3 for four numbers, or 2 for one.
+#[test]
+fn first_push_by_size(rt: HostRuntime) -> Result<(), Fail> {
+    let text = "type i64
+        type vec t0
+        name v
+        MAKE r0 - - t1 k0
+          PUSH r1 r0
+            LEN r2 r0
+            OUTI r2
+          ELSE
+            OUTI r1
+          END
+        ELSE
+          OUTI r0
+        END";
+    for (size, printed, named, free) in [
+        (736, "2\n", 0, 32),
+        (752, "2\n", 0, 48),
+        (768, "2\n", 1, 0),
+        (784, "2\n", 1, 0),
+        (800, "2\n", 1, 0),
+        (816, "1\n", 1, 0),
+        (832, "1\n", 1, 0),
+        (848, "1\n", 1, 0),
+        (864, "1\n", 1, 32),
+    ] {
+        let ran = run_anew(rt.alloc(), size, SEQ_FLAT, &[text])?;
+        assert_eq!(rt; ran.out.as_slice(), printed.as_bytes());
+        let left = statistics_of(rt.alloc(), ran.image.as_slice())?;
+        assert_eq!(rt; left.named, named);
+        assert_eq!(rt; left.free, free);
+    }
+    Ok(())
+}

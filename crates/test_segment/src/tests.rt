@@ -1,0 +1,5 @@
+mod examples;
+mod model;
+mod random_calls;
+mod support;
+mod values;

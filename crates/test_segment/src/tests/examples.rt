@@ -1,0 +1,376 @@
+use crate::tests::support::{I64, NUMBER, map, pair, segment, used_region};
+use seg_bestfit::BestFit;
+use seg_block::Fit;
+use seg_check::{check, open, save};
+use seg_manager::{Found, IndexKind, Named, Segment};
+use seg_ptr::Window;
+use seg_raw::{Code, Fault};
+use seg_seqfit::SeqFit;
+use std::alloc::Global;
+use std::process::Abort;
+use std::test::Fail;
+use support_data::counter;
+
+const BOTH: [IndexKind; 2] = [IndexKind::Flat, IndexKind::Tree];
+
+/// The checker accepts the segment, and these bytes of it are free.
+fn is_sound<F: Fit>(
+    rt: &(impl Abort + AllocGlobal),
+    segment: &Segment<F, Global>,
+    free: u32,
+) -> Result<(), Fail> {
+    check(rt.alloc(), &segment.window)?;
+    assert_eq!(rt; segment.free_memory(), free);
+    Ok(())
+}
+
+/// Which of these counts a segment of numbers has after `x` was asked for: the code, or none, the names, and free bytes.
+#[derive(Drop)]
+struct Asked {
+    size: u32,
+    refused: Option<Code>,
+    named: u32,
+    free: u32,
+}
+
+fn asks_for_x<F: Fit>(
+    rt: &(impl Abort + AllocGlobal),
+    index: IndexKind,
+    asked: &[Asked],
+) -> Result<(), Fail> {
+    for wanted in asked {
+        let mut segment = segment::<F>(rt.alloc(), wanted.size, index, &[I64])?;
+        let made = segment.construct(b"x", NUMBER, 1);
+        assert_eq!(rt; made.err(), wanted.refused);
+        assert_eq!(rt; segment.num_named(), wanted.named);
+        is_sound(rt, &segment, wanted.free)?;
+    }
+    Ok(())
+}
+
+/// The object has 2 units, a flat index asks for 3 and takes 2 at its limit.
+fn flat_index_takes_what_is_there<F: Fit>(rt: &(impl Abort + AllocGlobal)) -> Result<(), Fail> {
+    let no_room = Some(Code::BadAlloc);
+    asks_for_x::<F>(
+        rt,
+        IndexKind::Flat,
+        &[
+            Asked {
+                size: 1024,
+                refused: None,
+                named: 1,
+                free: 240,
+            },
+            Asked {
+                size: 784,
+                refused: None,
+                named: 1,
+                free: 0,
+            },
+            Asked {
+                size: 768,
+                refused: None,
+                named: 1,
+                free: 0,
+            },
+            Asked {
+                size: 752,
+                refused: no_room,
+                named: 0,
+                free: 48,
+            },
+            Asked {
+                size: 736,
+                refused: no_room,
+                named: 0,
+                free: 32,
+            },
+        ],
+    )
+}
+
+/// A node of the tree has 3 units.
+fn tree_takes_three_units<F: Fit>(rt: &(impl Abort + AllocGlobal)) -> Result<(), Fail> {
+    let no_room = Some(Code::BadAlloc);
+    asks_for_x::<F>(
+        rt,
+        IndexKind::Tree,
+        &[
+            Asked {
+                size: 1024,
+                refused: None,
+                named: 1,
+                free: 240,
+            },
+            Asked {
+                size: 784,
+                refused: None,
+                named: 1,
+                free: 0,
+            },
+            Asked {
+                size: 768,
+                refused: no_room,
+                named: 0,
+                free: 64,
+            },
+            Asked {
+                size: 752,
+                refused: no_room,
+                named: 0,
+                free: 48,
+            },
+            Asked {
+                size: 736,
+                refused: no_room,
+                named: 0,
+                free: 32,
+            },
+        ],
+    )
+}
+
+#[test]
+fn index_takes_what_is_there(rt: HostRuntime) -> Result<(), Fail> {
+    flat_index_takes_what_is_there::<SeqFit>(&rt)?;
+    flat_index_takes_what_is_there::<BestFit>(&rt)?;
+    tree_takes_three_units::<SeqFit>(&rt)?;
+    tree_takes_three_units::<BestFit>(&rt)
+}
+
+/// What `first_name` and `next_name` must answer for a number.
+fn number(name: &[u8]) -> Option<Named<'_>> {
+    Some(Named {
+        name,
+        type_id: NUMBER,
+        count: 1,
+    })
+}
+
+/// Names come in order of their bytes, a prefix first.
+fn names_come_in_order<F: Fit>(
+    rt: &(impl Abort + AllocGlobal),
+    index: IndexKind,
+    free: u32,
+) -> Result<(), Fail> {
+    let mut segment = segment::<F>(rt.alloc(), 1024, index, &[I64])?;
+    assert_eq!(rt; segment.first_name(), None);
+    segment.construct(b"y", NUMBER, 1)?;
+    segment.construct(b"x", NUMBER, 1)?;
+    is_sound(rt, &segment, free)?;
+    assert_eq!(rt; segment.first_name(), number(b"x"));
+    assert_eq!(rt; segment.next_name(b"x"), number(b"y"));
+    assert_eq!(rt; segment.next_name(b"xx"), number(b"y"));
+    assert_eq!(rt; segment.next_name(b"y"), None);
+    assert!(rt; segment.destroy(b"x", NUMBER));
+    assert!(rt; segment.destroy(b"y", NUMBER));
+    assert!(rt; !segment.destroy(b"y", NUMBER));
+    assert!(rt; segment.all_memory_deallocated());
+    is_sound(rt, &segment, 320)
+}
+
+#[test]
+fn names_in_order(rt: HostRuntime) -> Result<(), Fail> {
+    names_come_in_order::<SeqFit>(&rt, IndexKind::Flat, 208)?;
+    names_come_in_order::<BestFit>(&rt, IndexKind::Flat, 208)?;
+    names_come_in_order::<SeqFit>(&rt, IndexKind::Tree, 160)?;
+    names_come_in_order::<BestFit>(&rt, IndexKind::Tree, 160)
+}
+
+/// A wrong name or count comes before a name that is there, and that before want of room.
+#[test]
+fn refusals_in_order(rt: HostRuntime) -> Result<(), Fail> {
+    for index in BOTH {
+        let mut segment = segment::<SeqFit>(rt.alloc(), 1024, index, &[I64, map(NUMBER)])?;
+        segment.construct(b"x", NUMBER, 2)?;
+        for count in [0, 65_536, u32::MAX] {
+            assert_eq!(rt;
+                segment.construct(b"x", NUMBER, count),
+                Err(Code::OutOfRange)
+            );
+        }
+        for name in [b"".as_slice(), b"a b", b"\x7f", &[b'a'; 64]] {
+            assert_eq!(rt; segment.construct(name, NUMBER, 1), Err(Code::OutOfRange));
+            assert_eq!(rt;
+                segment.find_or_construct(name, NUMBER),
+                Err(Code::OutOfRange)
+            );
+            assert_eq!(rt; segment.find(name, NUMBER), Err(Code::Absent));
+        }
+        assert_eq!(rt;
+            segment.construct(b"x", 1, 65_535),
+            Err(Code::AlreadyExists)
+        );
+        assert_eq!(rt; segment.construct(b"y", 1, 65_535), Err(Code::BadAlloc));
+        assert_eq!(rt; segment.find(b"x", 1), Err(Code::OtherType));
+        assert_eq!(rt; segment.find_or_construct(b"x", 1), Err(Code::OtherType));
+        assert!(rt; !segment.destroy(b"x", 1));
+        assert_eq!(rt; segment.find(b"x", NUMBER)?.count, 2);
+        assert_eq!(rt; segment.num_named(), 1);
+        segment.construct(&[b'a'; 63], NUMBER, 1)?;
+        check(rt.alloc(), &segment.window)?;
+    }
+    Ok(())
+}
+
+#[test]
+fn one_unique_object_of_a_type(rt: HostRuntime) -> Result<(), Fail> {
+    let types = [I64, pair(NUMBER, NUMBER)];
+    let mut segment = segment::<SeqFit>(rt.alloc(), 1024, IndexKind::Flat, &types)?;
+    assert_eq!(rt; segment.find_unique(1), Err(Code::Absent));
+    let at = segment.construct_unique(1)?;
+    assert_eq!(rt; at, 720);
+    assert_eq!(rt; segment.construct_unique(1), Err(Code::AlreadyExists));
+    assert_eq!(rt; segment.find_unique(1), Ok(at));
+    assert_eq!(rt; segment.find_or_construct_unique(1), Ok(at));
+    assert_eq!(rt; segment.num_unique(), 1);
+    is_sound(&rt, &segment, 288)?;
+    assert!(rt; segment.destroy_unique(1));
+    assert!(rt; !segment.destroy_unique(1));
+    assert_eq!(rt; segment.num_unique(), 0);
+    is_sound(&rt, &segment, 320)
+}
+
+/// What the library makes anew has none of the bytes that the host had there.
+#[test]
+fn new_segments_are_empty(rt: HostRuntime) -> Result<(), Fail> {
+    for index in BOTH {
+        let segment = segment::<SeqFit>(rt.alloc(), 1024, index, &[])?;
+        is_sound(&rt, &segment, 320)?;
+        assert_eq!(rt; segment.largest_gap(), 320);
+        assert_eq!(rt; segment.num_named(), 0);
+        assert!(rt; segment.all_memory_deallocated());
+        assert!(rt; segment.window.slice(720, 304).iter().all(|byte| *byte == 0));
+    }
+    for (base, size, fault) in [
+        (0, 720, Fault::BadSize),
+        (0, 1000, Fault::BadSize),
+        (8, 1024, Fault::Misplaced),
+        (16, 1024, Fault::Misplaced),
+    ] {
+        let region = used_region(rt.alloc(), 1024)?;
+        match Segment::<SeqFit, Global>::create(region, base, size, IndexKind::Flat) {
+            Ok(_) => return Err(Fail::from("made")),
+            Err((refused, region)) => {
+                assert_eq!(rt; refused, fault);
+                let bytes = region.slice(0, region.len() as usize);
+                assert!(rt; bytes.iter().all(|byte| *byte == 0xa5));
+            }
+        }
+    }
+    Ok(())
+}
+
+/// Sequential fit uses no byte of a gap behind its header.
+#[test]
+fn free_memory_is_zeroed(rt: HostRuntime) -> Result<(), Fail> {
+    for index in BOTH {
+        let mut segment = segment::<SeqFit>(rt.alloc(), 1024, index, &[I64])?;
+        segment.window.fill(720, 304, 0xa5);
+        segment.zero_free_memory();
+        assert!(rt; segment.window.slice(720, 304).iter().all(|byte| *byte == 0));
+        is_sound(&rt, &segment, 320)?;
+        segment.construct(b"x", NUMBER, 1)?;
+        segment.window.put64(720, u64::MAX);
+        segment.zero_free_memory();
+        assert_eq!(rt; segment.window.get64(720), u64::MAX);
+        is_sound(&rt, &segment, 240)?;
+    }
+    Ok(())
+}
+
+/// Best fit keeps the tree's words behind the header of a gap.
+#[test]
+fn free_tree_stays(rt: HostRuntime) -> Result<(), Fail> {
+    let mut segment = segment::<BestFit>(rt.alloc(), 1024, IndexKind::Flat, &[I64])?;
+    segment.window.fill(736, 288, 0xa5);
+    segment.zero_free_memory();
+    assert!(rt; segment.window.slice(736, 288).iter().all(|byte| *byte == 0));
+    is_sound(&rt, &segment, 320)
+}
+
+/// A segment in a larger region, with the number x, that can't shrink.
+fn full_segment<F: Fit>(alloc: Global, room: u32) -> Result<Segment<F, Global>, Fail> {
+    let region = used_region(alloc, room)?;
+    match Segment::<F, Global>::create(region, 0, 784, IndexKind::Flat) {
+        Ok(mut segment) => {
+            segment.add_types(&crate::tests::support::table(alloc, &[I64])?)?;
+            segment.construct(b"x", NUMBER, 1)?;
+            Ok(segment)
+        }
+        Err((fault, _)) => Err(Fail::from(fault)),
+    }
+}
+
+/// A single unit goes to the last block, two are a gap.
+fn grows<F: Fit>(rt: &(impl Abort + AllocGlobal)) -> Result<(), Fail> {
+    for (room, extra, grown, free, shrunk) in [
+        (1024, 0, Ok(784), 0, 784),
+        (1024, 16, Ok(800), 0, 800),
+        (1024, 32, Ok(816), 32, 784),
+        (1024, 240, Ok(1024), 240, 784),
+        (1024, 24, Err(Fault::BadSize), 0, 784),
+        (1024, 256, Err(Fault::NoHostRoom), 0, 784),
+        (784, 16, Err(Fault::NoHostRoom), 0, 784),
+        (784, 1 << 30, Err(Fault::BadSize), 0, 784),
+    ] {
+        let mut segment = full_segment::<F>(rt.alloc(), room)?;
+        assert_eq!(rt; segment.grow(extra), grown);
+        assert_eq!(rt; segment.window.len(), grown.unwrap_or(784));
+        assert_eq!(rt; segment.num_named(), 1);
+        is_sound(rt, &segment, free)?;
+        assert_eq!(rt; segment.shrink_to_fit(), shrunk);
+        is_sound(rt, &segment, 0)?;
+    }
+    Ok(())
+}
+
+#[test]
+fn segments_grow(rt: HostRuntime) -> Result<(), Fail> {
+    grows::<SeqFit>(&rt)?;
+    grows::<BestFit>(&rt)
+}
+
+/// An empty segment keeps two units, one with the number x what that needs.
+fn shrinks<F: Fit>(rt: &(impl Abort + AllocGlobal)) -> Result<(), Fail> {
+    let mut empty = segment::<F>(rt.alloc(), 1024, IndexKind::Flat, &[I64])?;
+    assert_eq!(rt; empty.shrink_to_fit(), 736);
+    is_sound(rt, &empty, 32)?;
+    assert_eq!(rt; empty.grow(288), Ok(1024));
+    is_sound(rt, &empty, 320)?;
+    empty.construct(b"x", NUMBER, 1)?;
+    assert_eq!(rt; empty.shrink_to_fit(), 784);
+    is_sound(rt, &empty, 0)
+}
+
+#[test]
+fn segments_shrink(rt: HostRuntime) -> Result<(), Fail> {
+    shrinks::<SeqFit>(&rt)?;
+    shrinks::<BestFit>(&rt)
+}
+
+/// The counter's image opened: x at 720, one value; saved, it is the same bytes. It isn't an image of best fit.
+#[test]
+fn opens_and_saves_the_counter(rt: HostRuntime) -> Result<(), Fail> {
+    let image = counter(rt.alloc())?;
+    let mut window = match Window::place(used_region(rt.alloc(), 784)?, 0, 784) {
+        Ok(window) => window,
+        Err(_) => return Err(Fail::from("misplaced")),
+    };
+    window.copy_in(0, image.as_slice());
+    let window = match open::<BestFit, Global, Global>(rt.alloc(), window) {
+        Ok(_) => return Err(Fail::from("opened")),
+        Err((fault, window)) => {
+            assert_eq!(rt; fault, Fault::BadHeader);
+            window
+        }
+    };
+    match open::<SeqFit, Global, Global>(rt.alloc(), window) {
+        Ok(segment) => {
+            assert_eq!(rt; segment.find(b"x", NUMBER)?, Found { at: 720, count: 1 });
+            assert_eq!(rt; save(rt.alloc(), &segment)?.as_slice(), image.as_slice());
+            Ok(())
+        }
+        Err((fault, _)) => Err(Fail::from(fault)),
+    }
+}

@@ -1,0 +1,11 @@
+mod any_bytes;
+mod blocks;
+mod examples;
+mod items;
+mod lists;
+mod maps;
+mod owners;
+mod picture;
+mod strings;
+mod support;
+mod trial;

@@ -1,0 +1,83 @@
+use seg_block::Fit;
+use seg_layout::{TypeId, TypeTable};
+use seg_ptr::Window;
+use seg_raw::Region;
+use seg_value::init_default;
+use std::alloc::{AllocError, Global};
+use std::marker::PhantomData;
+use std::test::Fail;
+use support_data::Random;
+
+/// Where the root value stands, before the heap: the heap's live blocks are those that it owns.
+pub(crate) const ROOT: u32 = 64;
+
+/// A kind, the number of parts, and the parts; zeros follow.
+pub(crate) type Spelled = [u8; 10];
+
+pub(crate) const I64: Spelled = [1, 0, 0, 0, 0, 0, 0, 0, 0, 0];
+
+pub(crate) const STR: Spelled = [2, 0, 0, 0, 0, 0, 0, 0, 0, 0];
+
+/// A type of this kind with one part.
+pub(crate) fn of(kind: u8, part: TypeId) -> Spelled {
+    [kind, 1, part, 0, 0, 0, 0, 0, 0, 0]
+}
+
+/// A struct of two fields.
+pub(crate) fn pair(first: TypeId, second: TypeId) -> Spelled {
+    [8, 2, first, second, 0, 0, 0, 0, 0, 0]
+}
+
+/// A segment with a root value, whose heap an allocator keeps.
+#[derive(Drop)]
+pub(crate) struct Segment<F> {
+    pub(crate) w: Window<Global>,
+    pub(crate) table: TypeTable,
+    pub(crate) root: TypeId,
+    pub(crate) fit: PhantomData<F>,
+}
+
+fn spelled(alloc: Global, types: &[Spelled]) -> Result<Vec<u8>, AllocError> {
+    let mut bytes = Vec::new(alloc);
+    for entry in types {
+        bytes.extend_from_slice(entry)?;
+        bytes.extend_from_slice(&[0; 6])?;
+    }
+    Ok(bytes)
+}
+
+/// A segment of these types, whose heap is one gap, with the default of the type `root`.
+pub(crate) fn new_segment<F: Fit>(
+    alloc: Global,
+    len: u32,
+    types: &[Spelled],
+    root: TypeId,
+) -> Result<Segment<F>, Fail> {
+    let table = TypeTable::read(&spelled(alloc, types)?)?;
+    let len = len.min(1 << 20);
+    match Window::place(Region::new(alloc, len)?, 0, len) {
+        Ok(mut w) => {
+            F::init(&mut w);
+            init_default(&mut w, &table, root, ROOT);
+            Ok(Segment {
+                w,
+                table,
+                root,
+                fit: PhantomData,
+            })
+        }
+        Err(_) => Err(Fail::from("misplaced")),
+    }
+}
+
+/// A text of 0 to 40 bytes.
+pub(crate) fn some_text(random: &mut Random) -> &'static [u8] {
+    match random.below(6) {
+        0 => b"",
+        1 => b"a",
+        2 => b"hello",
+        3 => b"seventeen letters",
+        4 => b"twenty-four letters long",
+        _ => b"a text of forty bytes, which is 3 units.",
+    }
+}
