@@ -24,47 +24,59 @@ pub fn command_line<'a>(alloc: Global) -> Result<Command<'a>, AllocError> {
         .subcommand(print_line(alloc)?)
 }
 
+fn argument<'a>(alloc: Global, id: &'a str, help: &'a str) -> Arg<'a> {
+    Arg::new(alloc, id).help(help)
+}
+
 /// A required word.
 fn required<'a>(alloc: Global, id: &'a str, help: &'a str) -> Arg<'a> {
-    Arg::new(alloc, id).help(help).required(true)
+    argument(alloc, id, help).required(true)
+}
+
+/// The argument, whose value is a number of bytes.
+fn in_bytes<'a>(argument: Arg<'a>) -> Arg<'a> {
+    argument.value_parser(value_parser!(u32))
 }
 
 /// A required number of bytes.
 fn bytes<'a>(alloc: Global, id: &'a str, help: &'a str) -> Arg<'a> {
-    required(alloc, id, help).value_parser(value_parser!(u32))
+    in_bytes(required(alloc, id, help))
 }
 
-fn number<'a>(alloc: Global, name: &'a str, help: &'a str) -> Arg<'a> {
-    Arg::new(alloc, name)
-        .long(name)
-        .value_name("N")
-        .value_parser(value_parser!(u32))
-        .help(help)
+/// An option with a value that help calls by this name.
+fn option<'a>(alloc: Global, name: &'a str, value: &'a str, help: &'a str) -> Arg<'a> {
+    argument(alloc, name, help).long(name).value_name(value)
 }
 
 fn run_line<'a>(alloc: Global) -> Result<Command<'a>, AllocError> {
     let clients = required(alloc, "CLIENT", "The clients, run one after the other").num_args(
         ValueRange::new(1..),
     );
-    let input = Arg::new(alloc, "input")
-        .long("input")
-        .value_name("FILE")
-        .help("The bytes that the clients read, none if left out");
+    let base = option(
+        alloc,
+        "base",
+        "N",
+        "Where the segment lies in the host region, a multiple of 16 [default: 0]",
+    );
+    let room = option(
+        alloc,
+        "room",
+        "N",
+        "The bytes of the host region [default: as many as the segment needs]",
+    );
+    let input = option(
+        alloc,
+        "input",
+        "FILE",
+        "The bytes that the clients read, none if left out",
+    );
     Command::new(alloc, "run")
         .about("Runs clients on an image, prints their output and saves the image")
         .arg(required(alloc, "IMAGE", "The image that the clients run on"))?
         .arg(required(alloc, "OUT", "The file that the saved image is written to"))?
         .arg(clients)?
-        .arg(number(
-            alloc,
-            "base",
-            "Where the segment lies in the host region, a multiple of 16 [default: 0]",
-        ))?
-        .arg(number(
-            alloc,
-            "room",
-            "The bytes of the host region [default: as many as the segment needs]",
-        ))?
+        .arg(in_bytes(base))?
+        .arg(in_bytes(room))?
         .arg(input)
 }
 

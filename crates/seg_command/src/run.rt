@@ -18,7 +18,8 @@ pub fn run<'a, F: Files, O: Sink>(
     requires works { O.has_failed out.old ≡ false }
 {
     let image = read(alloc, files, word(arguments, "IMAGE"), MAX_IMAGE)?;
-    let clients = read_clients(alloc, arguments, files)?;
+    let names = arguments.get_strs("CLIENT").unwrap_or(&[]);
+    let clients = read_all(alloc, names, files)?;
     let input = match arguments.get_str("input") {
         Some(name) => read(alloc, files, name, MAX_FILE)?,
         None => Vec::new(alloc),
@@ -43,17 +44,18 @@ pub fn run<'a, F: Files, O: Sink>(
     }
 }
 
-/// The bytes of each client.
-fn read_clients<'a, F: Files>(
+/// The bytes of each file.
+fn read_all<'a, F: Files>(
     alloc: Global,
-    arguments: &ArgMatches<'a>,
+    names: &[&'a str],
     files: &mut F,
 ) -> Result<Vec<Vec<u8>>, Failure<'a>> {
-    let mut clients = Vec::new(alloc);
-    for name in arguments.get_strs("CLIENT").unwrap_or(&[]) {
-        clients.push(read(alloc, files, name, MAX_FILE)?)?;
+    let mut all = Vec::new(alloc);
+    for name in names {
+        let bytes = read(alloc, files, name, MAX_FILE)?;
+        all.push(bytes)?;
     }
-    Ok(clients)
+    Ok(all)
 }
 
 /// Where the segment lies: at 0 in a region of its own length, where the words say nothing else.

@@ -1,3 +1,5 @@
+ghost use Rattle.std.specs.Prelude.{◌≡◌, length, IfOk};
+
 use seg_raw::{Code, Fault, Region};
 use std::alloc::Global;
 use std::fmt::InlineText;
@@ -55,27 +57,53 @@ fn numbers_codes(rt: HostRuntime) {
     }
 }
 
-/// Each call once, on bytes that are easy to follow.
+/// A region of 24 zeros.
+fn region(alloc: Global) -> Result<Region<Global>, Fault>
+    ensures { IfOk result (λ r. length r ≡ 24) }
+{
+    Region::new(alloc, 24)
+}
+
 #[test]
 fn reads_what_it_wrote(rt: HostRuntime) -> Result<(), Fail> {
-    let mut region: Region<Global> = Region::new(rt.alloc(), 24)?;
+    let mut region = region(rt.alloc())?;
     assert_eq!(rt; region.len(), 24);
     assert!(rt; !region.is_empty());
     region.put32(4, 0x0403_0201);
-    assert_eq!(rt; region.slice(4, 4), [1, 2, 3, 4].as_slice());
+    region.put8(8, 5);
+    assert_eq!(rt; region.slice(4, 5), [1, 2, 3, 4, 5].as_slice());
     assert_eq!(rt; region.get8(5), 2);
     assert_eq!(rt; region.get32(4), 0x0403_0201);
+    Ok(())
+}
+
+#[test]
+fn reads_what_it_wrote_in_long(rt: HostRuntime) -> Result<(), Fail> {
+    let mut region = region(rt.alloc())?;
+    region.put64(8, 0x0807_0605_0403_0201);
+    assert_eq!(rt; region.slice(8, 8), [1, 2, 3, 4, 5, 6, 7, 8].as_slice());
+    assert_eq!(rt; region.get64(8), 0x0807_0605_0403_0201);
+    Ok(())
+}
+
+/// The places of a move overlap, to either side.
+#[test]
+fn moves_bytes(rt: HostRuntime) -> Result<(), Fail> {
+    let mut region = region(rt.alloc())?;
+    region.put32(4, 0x0403_0201);
     region.move_within(4, 6, 4);
     assert_eq!(rt; region.slice(4, 6), [1, 2, 1, 2, 3, 4].as_slice());
     region.move_within(6, 5, 4);
     assert_eq!(rt; region.slice(4, 6), [1, 1, 2, 3, 4, 4].as_slice());
+    Ok(())
+}
+
+#[test]
+fn copies_and_fills(rt: HostRuntime) -> Result<(), Fail> {
+    let mut region = region(rt.alloc())?;
     region.fill(0, 24, 7);
-    region.put8(23, 8);
     region.copy_in(20, &[5, 6]);
-    assert_eq!(rt; region.slice(18, 6), [7, 7, 5, 6, 7, 8].as_slice());
-    region.put64(8, 0x0807_0605_0403_0201);
-    assert_eq!(rt; region.slice(8, 8), [1, 2, 3, 4, 5, 6, 7, 8].as_slice());
-    assert_eq!(rt; region.get64(8), 0x0807_0605_0403_0201);
+    assert_eq!(rt; region.slice(18, 6), [7, 7, 5, 6, 7, 7].as_slice());
     Ok(())
 }
 

@@ -106,22 +106,39 @@ fn holds(rt: &(impl Abort + AllocGlobal), w: &Window<Global>, wanted: &[u32]) ->
     Ok(())
 }
 
+/// The number of a node that was found.
+fn found(w: &Window<Global>, node: Option<u32>) -> Option<u32> {
+    Some(number(w, node?))
+}
+
+/// The first number that is at least the key.
+fn at_least(numbers: &[u32], key: u32) -> Option<u32> {
+    numbers.iter().copied().find(|n| *n >= key)
+}
+
+/// Whether so many looks are few among so many nodes.
+fn are_few(looks: u32, nodes: usize) -> bool {
+    let most = (nodes as u64).saturating_add(1);
+    looks < 64 && 1u64 << looks <= most.saturating_mul(most)
+}
+
 /// What searches for a number find among numbers in order, within the bound on their looks.
-fn searches(rt: &(impl Abort + AllocGlobal), w: &Window<Global>, numbers: &[u32], key: u32) {
+fn searches(rt: &impl Abort, w: &Window<Global>, numbers: &[u32], key: u32) {
     let tree = Tree::new(0);
-    let found = |node: Option<u32>| node.map(|node| number(w, node));
-    let at_least = tree.first_at_least(w, &ByNumber, key);
-    assert_eq!(rt;
-        found(at_least.node),
-        numbers.iter().copied().find(|n| *n >= key)
-    );
-    let most = (numbers.len() as u64).saturating_add(1);
-    assert!(rt; at_least.looks < 64 && 1u64 << at_least.looks <= most.saturating_mul(most));
+    let looked = tree.first_at_least(w, &ByNumber, key);
+    assert_eq!(rt; found(w, looked.node), at_least(numbers, key));
+    assert!(rt; are_few(looked.looks, numbers.len()));
     let next = tree.next_after(w, &ByNumber, key);
-    assert_eq!(rt; found(next), numbers.iter().copied().find(|n| *n > key));
+    assert_eq!(rt; found(w, next), at_least(numbers, key.saturating_add(1)));
     let same = tree.find(w, &ByNumber, key);
-    assert_eq!(rt; found(same), numbers.iter().copied().find(|n| *n == key));
-    assert_eq!(rt; found(tree.first(w)), numbers.first().copied());
+    assert!(rt; same.is_some() == numbers.contains(&key));
+    assert!(rt; same.is_none() || found(w, same) == Some(key));
+}
+
+/// The tree's first node has the first number.
+fn begins(rt: &impl Abort, w: &Window<Global>, numbers: &[u32]) {
+    let tree = Tree::new(0);
+    assert_eq!(rt; found(w, tree.first(w)), numbers.first().copied());
     assert_eq!(rt; tree.is_empty(w), numbers.is_empty());
 }
 
@@ -156,6 +173,7 @@ fn keeps_nodes_in_order(rt: HostRuntime) -> Result<(), Fail> {
             toggle(&mut w, &mut numbers, random.below(size))?;
             holds(&rt, &w, numbers.as_slice())?;
             searches(&rt, &w, numbers.as_slice(), random.below(size));
+            begins(&rt, &w, numbers.as_slice());
         }
     }
     Ok(())

@@ -1,4 +1,4 @@
-use seg_layout::{Cell, TypeTable};
+use seg_layout::{Cell, TypeId, TypeTable};
 use seg_raw::Fault;
 use std::alloc::{AllocError, Global};
 use std::process::Abort;
@@ -64,9 +64,19 @@ fn keeps_the_limits(rt: HostRuntime) -> Result<(), Fail> {
     check_file(&rt, &[I64; 33], Err(Fault::BadType(32)))?;
     check_file(&rt, &[UNUSED; 32], Ok(0))?;
     check_read(&rt, &[1, 0, 0], Err(Fault::BadType(0)));
-    let eights = [8, 8, 0, 0, 0, 0, 0, 0, 0, 0];
-    let sixty_fours = [8, 8, 1, 1, 1, 1, 1, 1, 1, 1];
-    let five_hundreds = [8, 8, 2, 2, 2, 2, 2, 2, 2, 2];
+    Ok(())
+}
+
+/// A struct of eight of the type 0, one of eight of those, and one of eight of these: 512 cells.
+const EIGHTS: [Spelled; 3] = [
+    [8, 8, 0, 0, 0, 0, 0, 0, 0, 0],
+    [8, 8, 1, 1, 1, 1, 1, 1, 1, 1],
+    [8, 8, 2, 2, 2, 2, 2, 2, 2, 2],
+];
+
+#[test]
+fn keeps_the_largest_size(rt: HostRuntime) -> Result<(), Fail> {
+    let [eights, sixty_fours, five_hundreds] = EIGHTS;
     let one_more = [8, 2, 3, 0, 0, 0, 0, 0, 0, 0];
     check_file(&rt, &[I64, eights, sixty_fours, five_hundreds], Ok(4))?;
     check_file(
@@ -74,82 +84,86 @@ fn keeps_the_limits(rt: HostRuntime) -> Result<(), Fail> {
         &[I64, eights, sixty_fours, five_hundreds, one_more],
         Err(Fault::BadType(4)),
     )?;
-    let bytes = file(rt.alloc(), &[STR, eights, sixty_fours, five_hundreds])?;
-    let table = TypeTable::read(&bytes)?;
+    Ok(())
+}
+
+#[test]
+fn lists_the_most_pointers(rt: HostRuntime) -> Result<(), Fail> {
+    let [eights, sixty_fours, five_hundreds] = EIGHTS;
+    let table = table(rt.alloc(), &[STR, eights, sixty_fours, five_hundreds])?;
     assert_eq!(rt; table.size(3), 4096);
     let cells = table.pointers(3);
     assert_eq!(rt; cells.len(), 512);
-    assert_eq!(rt;
-        cells.as_slice().last().copied(),
-        Some(Cell {
-            from: 4088,
-            type_id: 0
-        })
-    );
+    assert_eq!(rt; cells.as_slice().last().copied(), Some(cell(4088, 0)));
     Ok(())
 }
 
 /// i64; str; struct of i64, str, i64; vector of those; struct of such a struct, the vector, the struct again, i64.
-fn check_nested(rt: &impl Abort, table: &TypeTable) {
+const NESTED: [Spelled; 5] = [
+    I64,
+    STR,
+    [8, 3, 0, 1, 0, 0, 0, 0, 0, 0],
+    [3, 1, 2, 0, 0, 0, 0, 0, 0, 0],
+    [8, 4, 2, 3, 2, 0, 0, 0, 0, 0],
+];
+
+fn table(alloc: Global, entries: &[Spelled]) -> Result<TypeTable, Fail> {
+    let bytes = file(alloc, entries)?;
+    Ok(TypeTable::read(&bytes)?)
+}
+
+fn cell(from: u32, type_id: TypeId) -> Cell {
+    Cell { from, type_id }
+}
+
+#[test]
+fn lays_out_structs(rt: HostRuntime) -> Result<(), Fail> {
+    let table = table(rt.alloc(), &NESTED)?;
     assert_eq!(rt; table.size(2), 24);
     assert_eq!(rt; table.size(4), 64);
-    assert_eq!(rt;
-        table.field(4, 2),
-        Some(Cell {
-            from: 32,
-            type_id: 2
-        })
-    );
-    assert_eq!(rt;
-        table.field(4, 3),
-        Some(Cell {
-            from: 56,
-            type_id: 0
-        })
-    );
-    assert_eq!(rt; table.field(4, 4), None);
-    assert_eq!(rt; table.field(3, 0), None);
-    let cells = [
-        Cell {
-            from: 8,
-            type_id: 1,
-        },
-        Cell {
-            from: 24,
-            type_id: 3,
-        },
-        Cell {
-            from: 40,
-            type_id: 1,
-        },
-    ];
+    for (t, index, field) in [
+        (4, 2, Some(cell(32, 2))),
+        (4, 3, Some(cell(56, 0))),
+        (4, 4, None),
+        (3, 0, None),
+    ] {
+        assert!(rt; table.field(t, index) == field, "field {index} of {t}");
+    }
+    Ok(())
+}
+
+#[test]
+fn lists_pointers(rt: HostRuntime) -> Result<(), Fail> {
+    let table = table(rt.alloc(), &NESTED)?;
+    let cells = [cell(8, 1), cell(24, 3), cell(40, 1)];
     assert_eq!(rt; table.pointers(4).as_slice(), cells.as_slice());
     assert!(rt; table.pointers(0).is_empty());
     assert!(rt; table.pointers(5).is_empty());
+    Ok(())
+}
+
+#[test]
+fn writes_entries(rt: HostRuntime) -> Result<(), Fail> {
+    let table = table(rt.alloc(), &NESTED)?;
     assert_eq!(rt;
         table.entry(3),
         [3, 1, 2, 0, 0, 0, 0, 0, 0, 0, 0, 0, 0, 0, 0, 0]
     );
     assert_eq!(rt; table.entry(5), [0; 16]);
+    Ok(())
 }
 
 #[test]
-fn lays_out_structs(rt: HostRuntime) -> Result<(), Fail> {
-    let inner = [8, 3, 0, 1, 0, 0, 0, 0, 0, 0];
-    let vec_2 = [3, 1, 2, 0, 0, 0, 0, 0, 0, 0];
-    let outer = [8, 4, 2, 3, 2, 0, 0, 0, 0, 0];
-    let bytes = file(rt.alloc(), &[I64, STR, inner, vec_2, outer])?;
-    let table = TypeTable::read(&bytes)?;
-    check_nested(&rt, &table);
-    let two = file(rt.alloc(), &[I64, STR])?;
-    let two = TypeTable::read(&two)?;
-    assert_eq!(rt; two.extends(&table)?.len(), 5);
-    assert_eq!(rt; table.extends(&two)?.len(), 5);
-    let other = file(rt.alloc(), &[I64, I64])?;
-    let other = TypeTable::read(&other)?;
-    assert_eq!(rt;
-        table.extends(&other).map(|longer| longer.len()),
-        Err(Fault::TypeMismatch(1))
+fn extends_tables(rt: HostRuntime) -> Result<(), Fail> {
+    let nested = table(rt.alloc(), &NESTED)?;
+    let two = table(rt.alloc(), &[I64, STR])?;
+    let other = table(rt.alloc(), &[I64, I64])?;
+    assert_eq!(rt; two.extends(&nested)?.len(), 5);
+    assert_eq!(rt; nested.extends(&two)?.len(), 5);
+    assert!(rt;
+        nested
+            .extends(&other)
+            .is_err_and(|fault| fault == Fault::TypeMismatch(1))
     );
     assert!(rt; TypeTable::new().is_empty());
     assert_eq!(rt; TypeTable::new().extends(&other)?.kind(1), other.kind(0));
