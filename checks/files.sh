@@ -1,7 +1,7 @@
 #!/usr/bin/env bash
 # Runs the program where its files are links, devices, kept from others or past what the disk takes, and prints each thing that
-# isn't as it should be. Needs the program that `rt run` leaves in crates/segtool/out, or another that is given. Where root
-# starts it, the program runs as a user without rights, since a folder that may not be written holds nobody else back.
+# isn't as it should be. Needs a C compiler, and the program that `rt run` leaves in crates/segtool/out, or another that is given.
+# Where root starts it, the program runs as a user without rights, since a folder that may not be written does not hold root back.
 set -u
 here=$(cd "$(dirname "$0")" && pwd)
 program=$(realpath "${1:-$here/../crates/segtool/out/segtool}") || exit 2
@@ -18,6 +18,8 @@ chmod 755 "$work"
 install -m 755 "$program" "$work/segtool"
 install -m 644 "$here/../examples/counter.image" "$work/image"
 install -m 644 "$here/../examples/increment.client" "$work/client"
+cc -O1 -shared -fPIC -o "$work/fail.so" "$here/fail.c" -ldl || exit 2
+chmod 755 "$work/fail.so"
 
 # the image behind the client: its number, at 720, is 42
 cp "$work/image" "$work/saved"
@@ -258,6 +260,29 @@ segtool new image 4096 best tree
 ulimit -Sf "$limit"
 trap - XFSZ
 refused image
+expect "something is left" holds . "image "
+
+case_of "the order of calls"
+echo old > image2
+own
+install -m 666 /dev/null "$work/calls"
+CALLS=$work/calls LD_PRELOAD=$work/fail.so save_to image2
+saved image2
+expect "not in this order: permissions, file to disk, renamed, folder to disk" \
+  says "permissions sync-file rename sync-folder" <(paste -sd ' ' "$work/calls")
+
+for call in permissions sync-file rename; do
+  case_of "a call that fails: $call"
+  FAIL=$call LD_PRELOAD=$work/fail.so save_to image
+  refused image
+  expect "something is left" holds . "image "
+done
+
+case_of "a call that fails: sync-folder"
+FAIL=sync-folder LD_PRELOAD=$work/fail.so save_to image
+expect "no error" has_status 3
+expect "not told of" says "file image" "$work/err"
+expect "not the new image" cmp -s "$work/saved" image
 expect "something is left" holds . "image "
 
 case_of "the standard output as a pipe"

@@ -85,7 +85,7 @@ impl<'a, R: rt::Files<File = File> + AllocGlobal> HostFiles<'a, R> {
             // the error that counts is the first
             let _ = fs::remove_file(self.rt, beside.as_str());
         }
-        placed.and_then(|()| folder.sync_all())
+        placed.and_then(|()| sync_folder(&folder))
     }
 
     /// Makes the file `NAME.1.new`, or the first of `NAME.2.new` and so on that is not there. What stands under such a name,
@@ -131,6 +131,18 @@ fn keep_access(file: &File, old: &Metadata) -> io::Result<()> {
     let _ = fchown(file, None, Some(old.gid()));
     let _ = fchown(file, Some(old.uid()), None);
     file.set_permissions(Permissions::from_mode(old.mode() & ACCESS))
+}
+
+/// Brings a renaming to the disk, where the file system has a way to: some have none for a folder.
+fn sync_folder(folder: &File) -> io::Result<()> {
+    match folder.sync_all() {
+        Err(error) if has_no_way(error.kind()) => Ok(()),
+        synced => synced,
+    }
+}
+
+fn has_no_way(kind: ErrorKind) -> bool {
+    matches!(kind, ErrorKind::InvalidInput | ErrorKind::Unsupported)
 }
 
 /// The folder in which the file with this name lies.
