@@ -67,20 +67,17 @@ impl<'a, R: rt::Files<File = File> + AllocGlobal> HostFiles<'a, R> {
         self.replace(target.as_str(), Some(&there), bytes)
     }
 
-    /// Writes a new file beside the place of the old one, if there is one, and renames it into that place. So a reader sees the
-    /// old bytes or the new ones, and where this fails before the new ones stand, all is as it was. The folder is opened first:
-    /// one whose renaming can't be brought to the disk is an error before anything is written. Only where the disk itself fails
-    /// at the very end is there an error with the new bytes in place.
+    /// Writes a new file beside this name, and renames it to the name. So a reader sees the old bytes or the new ones, and where
+    /// this fails all is as it was; only where the disk fails at the very end is there an error with the new bytes in place. The
+    /// folder is opened first, so that one that may not be read, and so not be brought to the disk, is an error with nothing
+    /// written.
     ///
     /// Another name of the old file (a hard link) keeps the old bytes.
     fn replace(&self, name: &str, old: Option<&Metadata>, bytes: &[u8]) -> io::Result<()> {
         let folder = fs::open(self.rt, folder_of(name))?;
         let Beside { name: beside, file } = self.make_beside(name, old)?;
-        let placed = fill(file, old, bytes).and_then(|()| fs::rename(
-            self.rt,
-            beside.as_str(),
-            name,
-        ));
+        let filled = fill(file, old, bytes);
+        let placed = filled.and_then(|()| fs::rename(self.rt, beside.as_str(), name));
         if placed.is_err() {
             // the error that counts is the first
             let _ = fs::remove_file(self.rt, beside.as_str());
@@ -88,8 +85,8 @@ impl<'a, R: rt::Files<File = File> + AllocGlobal> HostFiles<'a, R> {
         placed.and_then(|()| sync_folder(&folder))
     }
 
-    /// Makes the file `NAME.1.new`, or the first of `NAME.2.new` and so on that is not there. What stands under such a name,
-    /// also a link that leads nowhere, is never opened, so whoever foresees the name gains nothing.
+    /// Makes the first of the files `NAME.1.new`, `NAME.2.new` and so on that isn't there. What stands under such a name, also a
+    /// link that leads nowhere, is never opened, so whoever foresees the name gains nothing.
     fn make_beside(&self, name: &str, old: Option<&Metadata>) -> io::Result<Beside> {
         for number in 1..=NAMES {
             let beside = format!(in self.rt.alloc(); "{name}.{number}.new")?;
@@ -141,6 +138,7 @@ fn sync_folder(folder: &File) -> io::Result<()> {
     }
 }
 
+/// Whether a call failed since the file system has no way to do it.
 fn has_no_way(kind: ErrorKind) -> bool {
     matches!(kind, ErrorKind::InvalidInput | ErrorKind::Unsupported)
 }
