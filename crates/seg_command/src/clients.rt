@@ -8,7 +8,6 @@ use clap::ArgMatches;
 use client_code::{assemble, parse, print as print_client};
 use client_verify::verify;
 use client_vm::Sink;
-use seg_raw::Fault;
 use std::alloc::Global;
 
 /// `verify FILE CLIENT`: prints the steps that the client takes at most on the image.
@@ -34,11 +33,7 @@ pub fn assemble_file<'a, F: Files>(
     files: &mut F,
 ) -> Result<(), Failure<'a>> {
     let text = read(alloc, files, word(arguments, "TEXT"), MAX_FILE)?;
-    let client = match assemble(alloc, text.as_slice()) {
-        Ok(client) => client,
-        Err(Fault::BadLine(line)) => return Err(Failure::BadLine { line, text }),
-        Err(fault) => return Err(Failure::from(fault)),
-    };
+    let client = assemble(alloc, text.as_slice())?;
     write(files, word(arguments, "OUT"), client.as_slice())
 }
 

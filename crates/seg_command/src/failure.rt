@@ -10,8 +10,6 @@ pub enum Failure<'a> {
     Words(clap::Error),
     /// A refusal of the library.
     Refused(Refused),
-    /// A text with a line, counted from 1, that isn't right.
-    BadLine { line: u32, text: Vec<u8> },
     /// A file that couldn't be read or written, `-` for the standard output.
     File(&'a str),
 }
@@ -31,7 +29,7 @@ impl<'a> Failure<'a> {
     /// The status that the program ends with.
     pub fn status(&self) -> u8 {
         match self {
-            Failure::Refused(_) | Failure::BadLine { .. } => 1,
+            Failure::Refused(_) => 1,
             Failure::Words(_) => 2,
             Failure::File(_) => 3,
         }

@@ -14,6 +14,7 @@ pub trait Files {
     /// The bytes of a file, at most `limit`.
     fn read(&mut self, alloc: Global, name: &str, limit: u64) -> Result<Vec<u8>, FileFault>;
 
-    /// Makes or replaces a file. A write that fails leaves a file that was there as it was.
+    /// Makes or replaces a file. A write that fails leaves a file that was there as it was; only a disk that fails at the very
+    /// end can leave all the new bytes.
     fn write(&mut self, name: &str, bytes: &[u8]) -> Result<(), FileFault>;
 }

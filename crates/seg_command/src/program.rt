@@ -8,7 +8,6 @@ use crate::images::{check_file, grow_file, list_file, new_file, shrink_file, sta
 use crate::run::run;
 use clap::ArgMatches;
 use client_vm::{Sink, write_all};
-use seg_raw::Fault;
 use std::alloc::{AllocError, Global};
 use std::convert::AsStr;
 
@@ -102,29 +101,15 @@ pub fn print<'a, O: Sink>(out: &mut O, text: &[u8]) -> Result<(), Failure<'a>>
     write_all(out, text).map_err(|_| Failure::File(STANDARD_OUTPUT))
 }
 
-/// Writes the line that says why a command failed, and a wrong line of a text below it.
+/// Writes why a command failed: one line, or for a wrong command line what it should be.
 fn report<E: Sink>(alloc: Global, failure: &Failure, err: &mut E) -> Result<(), AllocError>
     requires works { E.has_failed err.old ≡ false }
 {
     let message = match failure {
         Failure::Words(error) => error.to_string(alloc)?,
         Failure::Refused(refused) => format!(in alloc; "{refused}\n")?,
-        Failure::BadLine { line, text } => bad_line(alloc, *line, text.as_slice())?,
         Failure::File(name) => format!(in alloc; "file {name}\n")?,
     };
     let _ = write_all(err, message.as_bytes());
     Ok(())
-}
-
-/// The fault of a wrong line, and the line itself, if the text has it.
-fn bad_line(alloc: Global, number: u32, text: &[u8]) -> Result<String, AllocError> {
-    let fault = Fault::BadLine(number);
-    let mut lines = text.split(|byte| *byte == b'\n');
-    match lines.nth((number as usize).saturating_sub(1)) {
-        Some(line) if !line.is_empty() => {
-            let line = String::from_utf8_lossy(alloc, line)?;
-            format!(in alloc; "{fault}\n{number}: {line}\n")
-        }
-        _ => format!(in alloc; "{fault}\n"),
-    }
 }

@@ -1,8 +1,22 @@
 use seg_command::{FileFault, Files};
 use std::alloc::Global;
-use std::fs::{self, File, OpenFile};
+use std::fs::{self, File, Metadata, OpenOptions, Permissions};
 use std::io::{self, ErrorKind, Read, Write};
+use std::os::unix::fs::{MetadataExt, OpenOptionsExt, PermissionsExt, fchown};
+use std::path::Path;
 use std::rt;
+
+/// How many names are tried for the file that is written beside another.
+const NAMES: u32 = 100;
+
+/// The permissions to read, to write and to run, of the owner, the group and all others.
+const ACCESS: u32 = 0o777;
+
+/// What the system's mask leaves of this is what a file has that is made where none was.
+const ACCESS_OF_NEW: u32 = 0o666;
+
+/// For the owner alone.
+const ACCESS_OF_OWNER: u32 = 0o600;
 
 /// The files of the host.
 #[derive(Drop)]
@@ -10,7 +24,14 @@ pub struct HostFiles<'a, R> {
     rt: &'a R,
 }
 
-impl<'a, R: rt::Files + AllocGlobal> HostFiles<'a, R> {
+/// A new file beside the one that it is to replace.
+#[derive(Drop)]
+struct Beside {
+    name: String,
+    file: File,
+}
+
+impl<'a, R: rt::Files<File = File> + AllocGlobal> HostFiles<'a, R> {
     pub fn new(rt: &'a R) -> HostFiles<'a, R> {
         HostFiles { rt }
     }
@@ -23,31 +44,110 @@ impl<'a, R: rt::Files + AllocGlobal> HostFiles<'a, R> {
         Ok(bytes)
     }
 
-    /// Writes beside the file, and then puts the new one in its place, so that no reader sees a half of it.
-    fn replace(&self, name: &str, bytes: &[u8]) -> io::Result<()> {
-        let beside = format!(in self.rt.alloc(); "{name}.new")?;
-        let written = self.write_through(beside.as_str(), bytes);
-        match written.and_then(|()| fs::rename(self.rt, beside.as_str(), name)) {
-            Ok(()) => Ok(()),
-            Err(error) => {
-                let _ = fs::remove_file(self.rt, beside.as_str());
-                Err(error)
+    /// Makes a file, or replaces the plain file that is there; what is there and is neither plain nor a link, as a device or a
+    /// pipe, is written to.
+    fn write_file(&self, name: &str, bytes: &[u8]) -> io::Result<()> {
+        match fs::symlink_metadata(self.rt, name) {
+            Ok(there) if there.is_symlink() => self.write_through(name, bytes),
+            Ok(there) if there.is_file() => self.replace(name, Some(&there), bytes),
+            Ok(_) => fs::write(self.rt, name, bytes),
+            Err(error) if error.kind() == ErrorKind::NotFound => self.replace(name, None, bytes),
+            Err(error) => Err(error),
+        }
+    }
+
+    /// Writes what a link leads to, through all links behind it: a plain file is replaced in its own folder, and the links stay.
+    /// A link that leads nowhere, or round to itself, is an error: a file where nobody asked for one is worse than none.
+    fn write_through(&self, link: &str, bytes: &[u8]) -> io::Result<()> {
+        let there = fs::metadata(self.rt, link)?;
+        if !there.is_file() {
+            return fs::write(self.rt, link, bytes);
+        }
+        let target = fs::canonicalize(self.rt, link)?;
+        self.replace(target.as_str(), Some(&there), bytes)
+    }
+
+    /// Writes a new file beside this name, and renames it to the name. So a reader sees the old bytes or the new ones, and where
+    /// this fails all is as it was; only where the disk fails at the very end is there an error with the new bytes in place. The
+    /// folder is opened first, so that one that may not be read, and so not be brought to the disk, is an error with nothing
+    /// written.
+    ///
+    /// Another name of the old file (a hard link) keeps the old bytes.
+    fn replace(&self, name: &str, old: Option<&Metadata>, bytes: &[u8]) -> io::Result<()> {
+        let folder = fs::open(self.rt, folder_of(name))?;
+        let Beside { name: beside, file } = self.make_beside(name, old)?;
+        let filled = fill(file, old, bytes);
+        let placed = filled.and_then(|()| fs::rename(self.rt, beside.as_str(), name));
+        if placed.is_err() {
+            // the error that counts is the first
+            let _ = fs::remove_file(self.rt, beside.as_str());
+        }
+        placed.and_then(|()| sync_folder(&folder))
+    }
+
+    /// Makes the first of the files `NAME.1.new`, `NAME.2.new` and so on that isn't there. What stands under such a name, also a
+    /// link that leads nowhere, is never opened, so whoever foresees the name gains nothing.
+    fn make_beside(&self, name: &str, old: Option<&Metadata>) -> io::Result<Beside> {
+        for number in 1..=NAMES {
+            let beside = format!(in self.rt.alloc(); "{name}.{number}.new")?;
+            match self.make_new(beside.as_str(), old) {
+                Ok(file) => return Ok(Beside { name: beside, file }),
+                Err(error) if error.kind() == ErrorKind::AlreadyExists => {}
+                Err(error) => return Err(error),
             }
         }
+        Err(io::Error::from(ErrorKind::AlreadyExists))
     }
 
-    fn write_through(&self, name: &str, bytes: &[u8]) -> io::Result<()> {
-        let mut file = fs::create(self.rt, name)?;
-        file.write_all(bytes)?;
-        file.sync_all()
+    /// Makes a file, and fails where anything has its name. One that is to replace another is its owner's alone at first.
+    fn make_new(&self, name: &str, old: Option<&Metadata>) -> io::Result<File> {
+        let access = if old.is_some() {
+            ACCESS_OF_OWNER
+        } else {
+            ACCESS_OF_NEW
+        };
+        OpenOptions::new()
+            .write(true)
+            .create_new(true)
+            .mode(access)
+            .open(self.rt, name)
     }
+}
 
-    /// Whether the name is that of a device or the like, or leads elsewhere: these are written to, not replaced.
-    fn is_special(&self, name: &str) -> bool {
-        match fs::symlink_metadata(self.rt, name) {
-            Ok(there) => !there.is_file(),
-            Err(_) => false,
-        }
+/// Gives a new file the bytes and then the old file's permissions, and waits until the disk has them.
+fn fill(mut file: File, old: Option<&Metadata>, bytes: &[u8]) -> io::Result<()> {
+    file.write_all(bytes)?;
+    if let Some(old) = old {
+        keep_access(&file, old)?;
+    }
+    file.sync_all()
+}
+
+/// Gives a new file the old one's permissions, and its group and owner where the system lets this user.
+fn keep_access(file: &File, old: &Metadata) -> io::Result<()> {
+    let _ = fchown(file, None, Some(old.gid()));
+    let _ = fchown(file, Some(old.uid()), None);
+    file.set_permissions(Permissions::from_mode(old.mode() & ACCESS))
+}
+
+/// Brings a renaming to the disk, where the file system has a way to: some have none for a folder.
+fn sync_folder(folder: &File) -> io::Result<()> {
+    match folder.sync_all() {
+        Err(error) if has_no_way(error.kind()) => Ok(()),
+        synced => synced,
+    }
+}
+
+/// Whether a call failed since the file system has no way to do it.
+fn has_no_way(kind: ErrorKind) -> bool {
+    matches!(kind, ErrorKind::InvalidInput | ErrorKind::Unsupported)
+}
+
+/// The folder in which the file with this name lies.
+fn folder_of(name: &str) -> Path<'_> {
+    match Path::new(name).parent() {
+        Some(folder) if !folder.as_os_str().is_empty() => folder,
+        _ => Path::new("."),
     }
 }
 
@@ -58,7 +158,7 @@ fn fault_of(error: io::Error) -> FileFault {
     }
 }
 
-impl<R: rt::Files + AllocGlobal> Files for HostFiles<'_, R> {
+impl<R: rt::Files<File = File> + AllocGlobal> Files for HostFiles<'_, R> {
     fn read(&mut self, alloc: Global, name: &str, limit: u64) -> Result<Vec<u8>, FileFault> {
         let bytes = self
             .read_at_most(alloc, name, limit.saturating_add(1))
@@ -70,11 +170,6 @@ impl<R: rt::Files + AllocGlobal> Files for HostFiles<'_, R> {
     }
 
     fn write(&mut self, name: &str, bytes: &[u8]) -> Result<(), FileFault> {
-        let written = if self.is_special(name) {
-            fs::write(self.rt, name, bytes)
-        } else {
-            self.replace(name, bytes)
-        };
-        written.map_err(fault_of)
+        self.write_file(name, bytes).map_err(fault_of)
     }
 }

@@ -27,16 +27,13 @@ fn assembles_and_prints(rt: HostRuntime) -> Result<(), Fail> {
     Ok(())
 }
 
-/// The fault says which line is wrong, and the line itself stands below.
+/// The error output is one line, the fault with the number of the wrong line.
 #[test]
-fn points_to_a_wrong_line(rt: HostRuntime) -> Result<(), Fail> {
+fn tells_which_line_is_wrong(rt: HostRuntime) -> Result<(), Fail> {
     let alloc = rt.alloc();
     for (text, err) in [
-        ("ADD r1 r16 r2", "fault 21 1\n1: ADD r1 r16 r2\n"),
-        (
-            "; adds\n\nADD r1 r16 r2\nEND",
-            "fault 21 3\n3: ADD r1 r16 r2\n",
-        ),
+        ("ADD r1 r16 r2", "fault 21 1\n"),
+        ("; adds\n\nADD r1 r16 r2\nEND", "fault 21 3\n"),
         ("GETB r0\nELSE\n", "fault 21 3\n"),
     ] {
         let mut files = Stored::new(alloc);
