@@ -1,4 +1,4 @@
-use clap::builder::ValueRange;
+use clap::builder::{ValueParser, ValueRange};
 use clap::{Arg, Command, value_parser};
 use std::alloc::{AllocError, Global};
 
@@ -24,8 +24,15 @@ pub fn command_line<'a>(alloc: Global) -> Result<Command<'a>, AllocError> {
         .subcommand(print_line(alloc)?)
 }
 
+// Each of these takes one step of the library's builder: what a step promises is about all fields of an argument, and a second
+// step in the same function would carry that along.
+
+fn named<'a>(alloc: Global, id: &'a str) -> Arg<'a> {
+    Arg::new(alloc, id)
+}
+
 fn argument<'a>(alloc: Global, id: &'a str, help: &'a str) -> Arg<'a> {
-    Arg::new(alloc, id).help(help)
+    named(alloc, id).help(help)
 }
 
 /// A required word.
@@ -33,9 +40,13 @@ fn required<'a>(alloc: Global, id: &'a str, help: &'a str) -> Arg<'a> {
     argument(alloc, id, help).required(true)
 }
 
+fn parsed_by<'a>(argument: Arg<'a>, parser: ValueParser<'a>) -> Arg<'a> {
+    argument.value_parser(parser)
+}
+
 /// The argument, whose value is a number of bytes.
 fn in_bytes<'a>(argument: Arg<'a>) -> Arg<'a> {
-    argument.value_parser(value_parser!(u32))
+    parsed_by(argument, value_parser!(u32))
 }
 
 /// A required number of bytes.
@@ -43,15 +54,27 @@ fn bytes<'a>(alloc: Global, id: &'a str, help: &'a str) -> Arg<'a> {
     in_bytes(required(alloc, id, help))
 }
 
+/// A required word, one of these.
+fn one_of<'a>(alloc: Global, id: &'a str, words: &'a [&'a str], help: &'a str) -> Arg<'a> {
+    parsed_by(required(alloc, id, help), ValueParser::Names(words))
+}
+
+/// One or more required words.
+fn several<'a>(alloc: Global, id: &'a str, help: &'a str) -> Arg<'a> {
+    required(alloc, id, help).num_args(ValueRange::new(1..))
+}
+
+fn long<'a>(alloc: Global, name: &'a str, help: &'a str) -> Arg<'a> {
+    argument(alloc, name, help).long(name)
+}
+
 /// An option with a value that help calls by this name.
 fn option<'a>(alloc: Global, name: &'a str, value: &'a str, help: &'a str) -> Arg<'a> {
-    argument(alloc, name, help).long(name).value_name(value)
+    long(alloc, name, help).value_name(value)
 }
 
 fn run_line<'a>(alloc: Global) -> Result<Command<'a>, AllocError> {
-    let clients = required(alloc, "CLIENT", "The clients, run one after the other").num_args(
-        ValueRange::new(1..),
-    );
+    let clients = several(alloc, "CLIENT", "The clients, run one after the other");
     let base = option(
         alloc,
         "base",
@@ -89,10 +112,13 @@ fn new_line<'a>(alloc: Global) -> Result<Command<'a>, AllocError> {
             "SIZE",
             "The bytes of the segment, a multiple of 16 from 736 to 2^30",
         ))?
-        .arg(required(alloc, "ALG", "The allocator: sequential fit or best fit").value_parser(
+        .arg(one_of(
+            alloc,
+            "ALG",
             ALLOCATORS,
+            "The allocator: sequential fit or best fit",
         ))?
-        .arg(required(alloc, "INDEX", "How names are kept").value_parser(INDEXES))
+        .arg(one_of(alloc, "INDEX", INDEXES, "How names are kept"))
 }
 
 fn stat_line<'a>(alloc: Global) -> Result<Command<'a>, AllocError> {
