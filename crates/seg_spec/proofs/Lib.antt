@@ -34,7 +34,12 @@ pub mod PickLaws
 pub mod EveryImage
 pub mod Found
 pub mod Around
+pub mod Leading
+pub mod GiveOrder
+pub mod NoGaps
+pub mod NoRoots
 pub mod PartLaw
+pub mod RootPaths
 pub mod Composing
 pub mod StretchLaws
 pub mod WorkedCalls
