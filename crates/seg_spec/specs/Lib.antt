@@ -14,4 +14,6 @@ pub mod Index
 pub mod Sound
 pub mod Roots
 pub mod Demand
+pub mod Items
+pub mod Spending
 pub mod Fixtures
