@@ -25,6 +25,7 @@ pub mod KeptLaws
 pub mod Evaluating
 pub mod SoundImages
 pub mod UnsoundImages
+pub mod Parts
 pub mod UniqueLaws
 pub mod TypesLaws
 pub mod EntryLaws

@@ -3,6 +3,7 @@ use Rattle.std.proofs.Common.{◌≡◌, ℕ, ◌+◌, ◌*◌, ◌<◌, List, [
 use Rattle.std.specs.List.{AllByRecursion}
 use Rattle.seg_spec.specs.Types.{Table, IsTable, size}
 use Rattle.seg_spec.specs.Value.{Value, count, Selector}
+use Rattle.seg_spec.specs.Heap.{Span}
 use Rattle.seg_spec.specs.Block.{KeepsBlock}
 use Rattle.seg_spec.specs.Reads.{Place, Holds, Leads}
 use Rattle.seg_spec.specs.Index.{Root}
@@ -40,14 +41,14 @@ each_joined P (x ∷ xs) ys a b = (a.0, each_joined P xs ys a.1 b)
 -- a call on a place inside a root
 module _ (old new : List ℕ) (picture : Picture) (held : IsHeld old picture) (which : Listed) (before : List Root) (root : Root) (after : List Root) (among : roots_in picture which ≡ before ++ root ∷ after)
     (j : ℕ) (within : j < count root.values) (path : List Selector) (q : Place) (leads : Leads old picture.table (item_of picture.table root j) path q)
-    (v w : Value) (blocks others : List ℕ) (was : Holds old picture.table q v blocks) (c : ChangesPlace old new picture.table q w others blocks others) where
+    (v w : Value) (blocks others : List ℕ) (was : Holds old picture.table q v blocks) {spans : List Span} (c : ChangesPlace old new picture.table q w others spans blocks others) where
   pub place_paths : KeepsPathsBeside old new picture.table root j path × AllByRecursion (KeepsPaths old new picture.table) (roots_before picture which before ++ roots_after picture which after)
   place_paths =
       let a = root_comes_apart old picture held which before root after among in
       let mine = root_apart old picture held which before root after a in
       let p = part_comes_apart old picture.table held.laid_out.is_table root a.its a.holds_it mine j within path q leads in
       let same : p.its ≡ blocks = (Holds-one old picture.table p.holds_it was).1 in
-      let c' = subst (λ bs. ChangesPlace old new picture.table q w others bs others) (sym same) c in
+      let c' = subst (λ bs. ChangesPlace old new picture.table q w others spans bs others) (sym same) c in
       let far = each_there (KeepsBlock old new) (held.index_blocks ++ (a.left ++ a.right)) (outside old new picture held which before root after a j path q p w others c') in
       let kept = each_right _ held.index_blocks (a.left ++ a.right) far in (
         p.paths new (each_there _ (p.left ++ p.right) (around old new picture held which before root after a j path q p w others c')),
