@@ -1,19 +1,20 @@
 -- Parts of an image by themselves, and the image from its parts.
-use Rattle.std.proofs.Common.{ℕ, ◌^◌, ◌≤◌, true, List, [], ◌∷◌, ◌++◌, length, refl, sym, subst, lit<, lit≤, arith}
+use Rattle.std.proofs.Common.{◌≡◌, ℕ, ◌^◌, ◌≤◌, true, List, [], ◌∷◌, ◌++◌, length, get_or, refl, sym, ap, subst, lit<, lit≤, arith}
 use Rattle.std.specs.List.{AllByRecursion}
 use Rattle.seg_spec.specs.Bytes.{slice, put, number, number_of, set_number}
 use Rattle.seg_spec.specs.Pointer.{target}
 use Rattle.seg_spec.specs.Types.{Form, Table, size}
-use Rattle.seg_spec.specs.Heap.{Tile, Fill, AreHeaders, AreApart, heap_start, live, live_of, gaps, HoldsGaps, IsHeap}
+use Rattle.seg_spec.specs.Heap.{Tile, Fill, AreHeaders, AreApart, heap_start, live, live_of, gaps, gaps_of, HoldsGaps, IsHeap}
 use Rattle.seg_spec.specs.Block.{Kind, IsOwnable}
 use Rattle.seg_spec.specs.Sound.{HasHeader, IsLaidOut, holds_no_root, Picture, IsHeld, IsSound, SameBlocks, times, positions}
-use Rattle.seg_spec.specs.Faulty.{IsImageLength, HasTiles, HoldsAll}
-use Rattle.seg_spec.specs.Fixtures.{counter, empty, neighbours, linked, odd_kind, lost_gap, no_owner, empty_picture}
+use Rattle.seg_spec.specs.Faulty.{IsImageLength, HasTiles, HoldsAll, HasFront, LacksHeader, LacksTiles, LacksGaps, LacksContent, LacksOwner}
+use Rattle.seg_spec.specs.Fixtures.{counter, empty, neighbours, linked, odd_kind, lost_gap, no_owner, other_magic, empty_picture}
+use Rattle.seg_spec.proofs.OneTable.{HasTable-one}
 use Rattle.seg_spec.proofs.TileLaws.{tiles-unique}
 use Rattle.seg_spec.proofs.LiveLaws.{each_there}
-use Rattle.seg_spec.proofs.Evaluating.{live_evaluated, heap_evaluated, uniques_evaluated, numbers-valid}
+use Rattle.seg_spec.proofs.Evaluating.{live_evaluated, gaps_evaluated, heap_evaluated, uniques_evaluated, numbers-valid}
 use Rattle.seg_spec.proofs.SoundImages.{counter_tiles, empty_tiles, counter_sound}
-use Rattle.seg_spec.proofs.UnsoundImages.{linked_live, odd_kind_live, no_seventh, two_free}
+use Rattle.seg_spec.proofs.UnsoundImages.{linked_live, odd_kind_live, no_seventh, two_free, no_owner-unsound}
 
 pub image_length : (bytes : List ℕ) → HasHeader bytes → IsImageLength (length bytes)
 image_length bytes h = record { not_small = h.not_small; not_large = h.not_large; whole_units = h.whole_units }
@@ -45,6 +46,24 @@ sound_of_all bytes h owners = record {
   held = record { index_blocks = h.index_blocks; laid_out = h.laid_out; root_blocks = h.root_blocks; roots = h.roots; owners = owners };
   none_loose = h.none_loose;
 }
+
+-- ---- what is wrong excludes a sound image, and what is wrong before
+
+-- the table of an image that is in order at the front is that of its picture
+front_table : (bytes : List ℕ) (table : Table) (s : IsSound bytes) → HasFront bytes table → s.picture.table ≡ table
+front_table bytes table s f = HasTable-one bytes 64 s.picture.table table s.held.laid_out.is_table f.is_table s.held.laid_out.types f.types
+
+pub no_tiles : (bytes : List ℕ) → LacksTiles bytes → IsSound bytes → ⊥
+no_tiles bytes l s = l.2 (subst (HasTiles bytes) (front_table bytes l.0 s l.1) (tiles_held bytes s.picture s.held))
+
+pub no_gaps : (bytes : List ℕ) → LacksGaps bytes → IsSound bytes → ⊥
+no_gaps bytes l s = l.3 s.held.laid_out.heap.free
+
+pub tiles_first : (bytes : List ℕ) → LacksTiles bytes → LacksGaps bytes → ⊥
+tiles_first bytes l m = l.2 (subst (HasTiles bytes) (HasTable-one bytes 64 m.0 l.0 m.1.is_table l.1.is_table m.1.types l.1.types) m.2)
+
+pub tiles_then_content : (bytes : List ℕ) → LacksTiles bytes → LacksContent bytes → ⊥
+tiles_then_content bytes l m = l.2 (subst (HasTiles bytes) (HasTable-one bytes 64 m.0 l.0 m.1.is_table l.1.is_table m.1.types l.1.types) m.2)
 
 -- ---- small images
 
@@ -127,3 +146,37 @@ no_owner-laid_out = record {
 
 pub no_owner-all : HoldsAll no_owner
 no_owner-all = record { picture = empty_picture; none_loose = refl; index_blocks = []; laid_out = no_owner-laid_out; root_blocks = []; roots = holds_no_root; live_ones = tt }
+
+pub lost_gap-lacks : LacksGaps lost_gap
+unfolding lost_gap empty slice put set_number number number_of target size
+lost_gap-lacks = (
+  Form.i64 ∷ [],
+  record {
+    header = record {
+      not_small = lit≤ tt;
+      not_large = lit≤ tt;
+      whole_units = refl;
+      magic = refl;
+      version = refl;
+      units_are = refl;
+      allocator_is = lit≤ tt;
+      index_is = lit≤ tt;
+      zero_word = refl;
+      zeros = refl;
+    };
+    types = refl;
+    is_table = numbers-valid;
+  },
+  lost_gap-tiles,
+  λ free.
+      let same : gaps lost_gap ≡ gaps_of (live_of empty_tiles) (length lost_gap) = gaps_evaluated lost_gap empty_tiles (refl, lit≤ tt, refl) (record { units_is = refl; live_is = refl; before_is = refl; tag_is = λ e. refl }, tt) in
+      let first = (subst (λ gs. HoldsGaps 0 lost_gap gs) same free).0 in
+      cc,
+)
+
+pub no_owner-lacks : LacksOwner no_owner
+no_owner-lacks = (no_owner-all, no_owner-unsound)
+
+pub other_magic-lacks : LacksHeader other_magic
+unfolding other_magic counter slice put set_number
+other_magic-lacks h = absurd (omega (arith, ap (λ xs. get_or xs 0 0) h.magic))

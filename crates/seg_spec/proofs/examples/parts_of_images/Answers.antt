@@ -1,5 +1,6 @@
 use Rattle.std.proofs.Common.{lit≤, refl, arith}
-use Rattle.seg_spec.proofs.Parts.{lost_gap-tiles, neighbours-tiles, linked-tiles, odd_kind-tiles, counter-all, no_owner-all}
+use Rattle.seg_spec.proofs.Parts.{lost_gap-tiles, neighbours-tiles, linked-tiles, odd_kind-tiles, counter-all, no_owner-all, other_magic-lacks, lost_gap-lacks, no_owner-lacks}
+use Rattle.seg_spec.proofs.SoundImages.{counter_held}
 use Rattle.seg_spec.proofs.examples.parts_of_images.Goals as goal
 
 pub returns : goal.returns
@@ -14,4 +15,8 @@ returns c = record {
   odd_kind = odd_kind-tiles;
   whole = counter-all;
   no_owner = no_owner-all;
+  wrong_magic = other_magic-lacks;
+  wrong_gaps = lost_gap-lacks;
+  wrong_owners = no_owner-lacks;
+  nothing_wrong = λ l. l counter_held.laid_out.header;
 }
