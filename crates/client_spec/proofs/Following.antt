@@ -172,8 +172,10 @@ module _ (s : State) where
   rows constants Operation.OutStr a b c number room = bound (path_of s b) _ (λ p. bound (value_at s p >>= bytes_in) _ (λ bytes. writes bytes))
   rows constants Operation.OutConst a b c number room = bound (slice_get constants (nat_abs number) >>= constant_text) _ (λ bytes. writes bytes)
   rows constants Operation.GetByte a b c number room = next a s.input
-  rows constants Operation.Make a b c number room = bound (slice_get constants (constant_operand number) >>= λ k. spelled k (register s b)) _ (λ name. bound (integer_or (pos 1) c s) _ (λ x. either _ (object_count x) _ (λ n. adds a name (type_operand number) (s.names name) n room) (given _ a _)))
-  rows constants Operation.Find a b c number room = bound (slice_get constants (constant_operand number) >>= λ k. spelled k (register s b)) _ (λ name. bound (integer_or (pos 0) c s) _ (λ x. item a name (type_operand number) x (s.names name)))
+  rows constants Operation.Make a b c number room = bound (slice_get constants (constant_operand number) >>= λ k. spelled k (register s b)) _ (λ name. bound (integer_or (pos 1) c s) _ (λ x. either _
+      (object_count x) _ (λ n. adds a name (type_operand number) (s.names name) n room) (given _ a _)))
+  rows constants Operation.Find a b c number room = bound (slice_get constants (constant_operand number) >>= λ k. spelled k (register s b)) _ (λ name. bound (integer_or (pos 0) c s) _
+      (λ x. item a name (type_operand number) x (s.names name)))
   rows constants Operation.FindOrMake a b c number room = bound (slice_get constants (constant_operand number) >>= λ k. spelled k (register s b)) _ (λ name. finds a name (type_operand number) (s.names name) room)
   rows constants Operation.Count a b c number room = bound (slice_get constants (constant_operand number) >>= λ k. spelled k (register s b)) _ (λ name. counts a (type_operand number) (s.names name))
   rows constants Operation.Kill a b c number room = bound (slice_get constants (constant_operand number) >>= λ k. spelled k (register s b)) _ (λ name. destroys a name (type_operand number) (s.names name))
@@ -184,7 +186,8 @@ module _ (s : State) where
   rows constants Operation.New a b c number room = roomy room a _ (given success a _)
   rows constants Operation.Drop a b c number room = bound (owned_by (register s b)) _ (λ o. some success _ (alike s _ refl refl))
   rows constants Operation.Ref a b c number room = bound (owned_by (register s b)) _ (λ o. given success a _)
-  rows constants Operation.Put a b c number room = bound (path_of s b) _ (λ p. bound (form_of s p >>= owned_type) _ (λ t. bound (owned_by (register s c)) _ (λ new. bound (value_at s p >>= content_in) _ (λ o. shown _ _ (some success _ (set_follows s _ c Register.Undefined (put_follows p _)))))))
+  rows constants Operation.Put a b c number room = bound (path_of s b) _ (λ p. bound (form_of s p >>= owned_type) _ (λ t. bound (owned_by (register s c)) _ (λ new. bound
+      (value_at s p >>= content_in) _ (λ o. shown _ _ (some success _ (set_follows s _ c Register.Undefined (put_follows p _)))))))
   rows constants Operation.Take a b c number room = bound (path_of s b) _ (λ p. bound (form_of s p >>= owned_type) _ (λ t. bound (value_at s p >>= content_in) _ (λ inside. takes a p t inside)))
   rows constants Operation.Content a b c number room = bound (path_of s b) _ (λ p. bound (value_at s p >>= content_in) _ (λ inside. sees a p inside))
   rows constants Operation.Clear a b c number room = bound (path_of s b) _ (λ p. bound (type_at s p) _ (λ t. bound (value_at s p) _ (λ v. put_some p _)))
@@ -203,7 +206,8 @@ module _ (s : State) where
   rows constants Operation.AddByte a b c number room = bound (path_of s b) _ (λ p. bound (value_at s p >>= bytes_in) _ (λ old. bound (integer_at s c) _ (λ x. either _ (byte_of x) _ (λ byte. text a p _ room) (given _ a _))))
   rows constants Operation.Shrink a b c number room = bound (path_of s b) _ (λ p. bound (form_of s p) _ (λ k. bound (value_at s p) _ (λ v. shown _ _ (some success s (still s)))))
   rows constants Operation.GetKey a b c number room = bound (path_of s b) _ (λ p. bound (integer_at s c) _ (λ k. bound (value_at s p >>= entries_in) _ (λ es. either _ (key_place es.0 k) _ (λ i. given success a _) (given _ a _))))
-  rows constants Operation.PutKey a b c number room = bound (path_of s b) _ (λ p. bound (integer_at s c) _ (λ k. bound (form_of s p >>= map_value) _ (λ t. bound (value_at s p >>= entries_in) _ (λ es. either _ (key_place es.0 k) _ (λ i. given success a _) (roomy room a _ (given_put a _ p _))))))
+  rows constants Operation.PutKey a b c number room = bound (path_of s b) _ (λ p. bound (integer_at s c) _ (λ k. bound (form_of s p >>= map_value) _ (λ t. bound (value_at s p >>= entries_in) _
+      (λ es. either _ (key_place es.0 k) _ (λ i. given success a _) (roomy room a _ (given_put a _ p _))))))
   rows constants Operation.DeleteKey a b c number room = bound (path_of s b) _ (λ p. bound (integer_at s c) _ (λ k. bound (value_at s p >>= entries_in) _ (λ es. either _ (key_place es.0 k) _ (λ i. given_put a _ p _) (given success a _))))
   rows constants Operation.FirstKey a b c number room = bound (path_of s b) _ (λ p. bound (value_at s p >>= entries_in) _ (λ es. key a es.0))
   rows constants Operation.NextKey a b c number room = bound (path_of s b) _ (λ p. bound (integer_at s c) _ (λ k. bound (value_at s p >>= entries_in) _ (λ es. key a _)))

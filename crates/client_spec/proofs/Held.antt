@@ -30,7 +30,15 @@ Opens-shaped bytes table place (Form.flat_map U) opened o =
     let entries = spaced (start bytes place.at) (8 + size table U) (count_at bytes place.at) in
     shaped_as (Form.flat_map U) _ _ o.opened_is (record { label = length-map entries _ ∙ sym (length-places_of U (map (λ p. p + 8) entries) ∙ length-map entries _); types = typed U _ })
 Opens-shaped bytes table place (Form.map U) opened o = shaped_as (Form.map U) _ _ o.opened_is (record { label = keyed bytes U 16 24 (nodes_of o.tree); types = typed U _ })
-Opens-shaped bytes table place (Form.own U) opened o = shaped_as (Form.own U) _ _ o.opened_is (record { label = rw (length-places_of U (spaced (start bytes place.at) (size table U) (count_at bytes place.at)), length-spaced (start bytes place.at) (size table U) (count_at bytes place.at), o.counted) (one_at_most (target bytes place.at)); types = typed U _ })
+Opens-shaped bytes table place (Form.own U) opened o = shaped_as (Form.own U) _ _ o.opened_is (record {
+  label = rw (
+    length-places_of U (spaced (start bytes place.at) (size table U)
+        (count_at bytes place.at)),
+    length-spaced (start bytes place.at) (size table U) (count_at bytes place.at),
+    o.counted,
+  ) (one_at_most (target bytes place.at));
+  types = typed U _;
+})
 Opens-shaped bytes table place (Form.struct Us) opened o = shaped_as (Form.struct Us) _ _ o (record { label = tt; types = types_of-fields table place.at Us })
 
 module _ (bytes : List ℕ) (table : Table) where

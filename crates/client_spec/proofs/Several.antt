@@ -12,19 +12,22 @@ use Rattle.client_spec.proofs.Simulated.{run_of_states, client_within_bound}
 use Rattle.client_spec.proofs.Stopped.{run_writes}
 
 -- the table behind one client
-table_left : (client : Client) (given : Given) (left : Left) (table : Table) (picture : Picture) → IsHeld given.image picture → picture.table ≡ table → (runs : RunsClient client given left) → runs.is_left.picture.table ≡ longer table client.types
+table_left : (client : Client) (given : Given) (left : Left) (table : Table) (picture : Picture) → IsHeld given.image picture → picture.table ≡ table → (runs : RunsClient client given left)
+    → runs.is_left.picture.table ≡ longer table client.types
 table_left client given left table picture held is runs =
     let same : runs.is_first.picture.table ≡ table = (Held-one given.image runs.is_first.picture picture runs.is_first.held held).table ∙ is in
     let run = run_of_states client.constants given.others given.moves client.code runs.first runs.last left.steps left.ending runs.run in
     runs.is_left.types ∙ (run_writes client.constants client.code runs.first.state runs.last.state left.steps left.ending run).types ∙ runs.is_first.types ∙ ap (λ t. longer t client.types) same
 
-one_within : (client : Client) (given : Given) (left : Left) (text : List ℕ) (table : Table) (picture : Picture) → IsHeld given.image picture → picture.table ≡ table → Spells text client → IsVerified table client → RunsClient client given left
+one_within : (client : Client) (given : Given) (left : Left) (text : List ℕ) (table : Table) (picture : Picture) → IsHeld given.image picture → picture.table ≡ table → Spells text client
+    → IsVerified table client → RunsClient client given left
     → (left.steps ≤ bound client.code) × (left.ending ≢ stuck)
 one_within client given left text table picture held is spells verified runs =
     let same : runs.is_first.picture.table ≡ table = (Held-one given.image runs.is_first.picture picture runs.is_first.held held).table ∙ is in
     client_within_bound client given left spells.valid verified.typed runs (subst (λ t. Agree t client.types) (sym same) verified.agree)
 
-pub all_within : (table : Table) (texts : List (List ℕ)) (clients : List Client) (given : Given) (lefts : List Left) (picture : Picture) → IsHeld given.image picture → picture.table ≡ table → AreAccepted table texts clients → RunClients clients given lefts → StayWithin clients lefts
+pub all_within : (table : Table) (texts : List (List ℕ)) (clients : List Client) (given : Given) (lefts : List Left) (picture : Picture) → IsHeld given.image picture → picture.table ≡ table
+    → AreAccepted table texts clients → RunClients clients given lefts → StayWithin clients lefts
 all_within table [] [] given [] picture held is a r = tt
 all_within table [] [] given (left ∷ lefts) picture held is a r = absurd r
 all_within table [] (client ∷ clients) given lefts picture held is a r = absurd a

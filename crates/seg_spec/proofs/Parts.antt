@@ -84,7 +84,10 @@ lost_gap-tiles = has_tiles lost_gap (Form.i64 ∷ []) empty_tiles (refl, lit≤ 
 pub neighbours-tiles : (table : Table) → HasTiles neighbours table → ⊥
 unfolding neighbours empty slice put number number_of
 neighbours-tiles table t =
-    let same = tiles-unique neighbours two_free (refl, lit≤ tt, (refl, lit≤ tt, refl)) (record { units_is = refl; live_is = refl; before_is = refl; tag_is = λ e. refl }, (record { units_is = refl; live_is = refl; before_is = refl; tag_is = λ e. refl }, tt)) in
+    let same = tiles-unique neighbours two_free (refl, lit≤ tt, (refl, lit≤ tt, refl)) (
+      record { units_is = refl; live_is = refl; before_is = refl; tag_is = λ e. refl },
+      (record { units_is = refl; live_is = refl; before_is = refl; tag_is = λ e. refl }, tt),
+    ) in
     let apart = subst (λ us. AreApart true us) same t.apart in
     let never = apart.1.0 refl in
     cc
