@@ -33,7 +33,8 @@ pub record HoldsAll (bytes : List ℕ) : Type 0 where
   pub laid_out : IsLaidOut bytes picture index_blocks
   pub root_blocks : List ℕ
   pub roots : HoldsRoots bytes picture.table (roots_of picture) root_blocks
-  pub live_ones : AllByRecursion (λ h. 1 ≤ times h (positions (live bytes))) (index_blocks ++ root_blocks)
+  pub live_ones : AllByRecursion (λ h. 1 ≤ times h (positions (live bytes)))
+      (index_blocks ++ root_blocks)
 
 -- ---- what is wrong, where all that is looked at before it is right
 
@@ -57,12 +58,14 @@ LacksTiles bytes = (table : Table) × HasFront bytes table × (HasTiles bytes ta
 
 -- the free structure
 abbrev pub LacksGaps : List ℕ → Type 0
-LacksGaps bytes = (table : Table) × HasFront bytes table × HasTiles bytes table × (HoldsGaps (word bytes 16) bytes (gaps bytes) → ⊥)
+LacksGaps bytes = (table : Table) × HasFront bytes table × HasTiles bytes table ×
+    (HoldsGaps (word bytes 16) bytes (gaps bytes) → ⊥)
 
 -- the index, a unique object, a value, or one owner for each block
 abbrev pub LacksContent : List ℕ → Type 0
 LacksContent bytes =
-    (table : Table) × HasFront bytes table × HasTiles bytes table × HoldsGaps (word bytes 16) bytes (gaps bytes) × (IsSound bytes → ⊥)
+    (table : Table) × HasFront bytes table × HasTiles bytes table ×
+    HoldsGaps (word bytes 16) bytes (gaps bytes) × (IsSound bytes → ⊥)
 
 -- nothing but an owner for a live block
 abbrev pub LacksOwner : List ℕ → Type 0
