@@ -47,7 +47,7 @@ pub data Refusal : Type 0 where
   bad_text : (client : ℕ) → Refusal
   bad_client : (client : ℕ) → Refusal
 
--- a text, where those before it were accepted on a sound image with this table behind them
+-- text k, where those before it were accepted on a sound image
 pub record IsTurnOf (image : List ℕ) (texts : List (List ℕ)) (k : ℕ) (text : List ℕ) : Type 0 where
   pub sound : IsSound image
   pub clients : List Client
