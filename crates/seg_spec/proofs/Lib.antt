@@ -25,6 +25,7 @@ pub mod KeptLaws
 pub mod Evaluating
 pub mod SoundImages
 pub mod UnsoundImages
+pub mod Parts
 pub mod UniqueLaws
 pub mod TypesLaws
 pub mod EntryLaws
@@ -34,7 +35,12 @@ pub mod PickLaws
 pub mod EveryImage
 pub mod Found
 pub mod Around
+pub mod Leading
+pub mod GiveOrder
+pub mod NoGaps
+pub mod NoRoots
 pub mod PartLaw
+pub mod RootPaths
 pub mod Composing
 pub mod StretchLaws
 pub mod WorkedCalls

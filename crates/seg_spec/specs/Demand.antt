@@ -4,9 +4,12 @@
 --     block_for n, growth old item n m    the request for a new block; that of a buffer of n items which is to hold m
 --     after_asks allocator bs end asks    the live blocks after requests that are all granted
 --     NoRoom allocator bs end asks        one of the requests gets nothing, after those before it were granted
+--     FindsNoGap bs end ask, IsDenied     what a request finds that gets nothing; the first such request
 --     after_gives bs ats                  the live blocks after these were given back
-use Rattle.std.specs.Prelude.{◌≡◌, ℕ, ◌+◌, ◌-◌, ◌*◌, ◌/◌, max, nat_le, if◌then◌else◌, List, [], ◌∷◌, Option, Some, None, option_and_then}
-use Rattle.seg_spec.specs.Heap.{Span, room_at, Granted, same, fresh, after_give, after_request, after_request_at}
+use Rattle.std.specs.Prelude.{◌≡◌, ℕ, ◌+◌, ◌-◌, ◌*◌, ◌/◌, ◌<◌, max, nat_le, if◌then◌else◌, List, [], ◌∷◌, ◌++◌, Option, Some, None, option_and_then}
+use Rattle.std.specs.List.{AllByRecursion}
+use Rattle.std.specs.Option.{IfSome}
+use Rattle.seg_spec.specs.Heap.{Span, gaps_of, room_at, Granted, same, fresh, after_give, after_request, after_request_at}
 
 -- the units of a block for n payload bytes: its header, and at least 2 in all
 abbrev pub need : ℕ → ℕ
@@ -58,6 +61,21 @@ after_asks allocator bs end (ask ∷ asks) = option_and_then (λ g. after_asks a
 -- one of the requests gets nothing, after those before it were granted
 abbrev pub NoRoom : ℕ → List Span → ℕ → List Ask → Type 0
 NoRoom allocator bs end asks = after_asks allocator bs end asks ≡ None
+
+-- no gap has the least units that a request would take, nor has its old block with the gap behind it
+pub record FindsNoGap (bs : List Span) (end : ℕ) (ask : Ask) : Type 0 where
+  pub gaps_too_small : AllByRecursion (λ g. g.units < ask.limit) (gaps_of bs end)
+  pub old_too_small : IfSome ask.old (λ at. room_at bs at + room_at (gaps_of bs end) (at + 16 * room_at bs at) < ask.limit)
+
+-- a request that finds no gap, on the live blocks that those before it leave
+pub record IsDenied (allocator : ℕ) (bs : List Span) (end : ℕ) (asks : List Ask) : Type 0 where
+  pub before : List Ask
+  pub ask : Ask
+  pub after : List Ask
+  pub asks_are : asks ≡ before ++ ask ∷ after
+  pub blocks : List Span
+  pub granted : after_asks allocator bs end before ≡ Some blocks
+  pub no_gap : FindsNoGap blocks end ask
 
 -- the live blocks after these were given back
 abbrev pub after_gives : List Span → List ℕ → List Span

@@ -12,6 +12,9 @@ pub mod Fresh
 pub mod Apart
 pub mod Index
 pub mod Sound
+pub mod Faulty
 pub mod Roots
 pub mod Demand
+pub mod Items
+pub mod Spending
 pub mod Fixtures

@@ -19,7 +19,8 @@ pub fn one_value()
 /// Where a place and the blocks that it owns are kept, it holds the same value.
 pub fn same_value()
     ensures { (old new : List ℕ) (table : Table) (place : Place) (v : Value) (blocks : List ℕ) →
-        IsTable table → IsSame old new place.at (size table place.type) → AllByRecursion (KeepsBlock old new) blocks →
+        IsTable table → IsSame old new place.at (size table place.type) →
+        AllByRecursion (KeepsBlock old new) blocks →
         Holds old table place v blocks → Holds new table place v blocks }
 {}
 
@@ -38,6 +39,16 @@ pub fn paths()
         Holds bytes table place v blocks → value_at v path ≡ Some inner → LeadsTo bytes table place path inner }
     ensures joined { (bytes : List ℕ) (table : Table) (place middle inner : Place) (path more : List Selector) →
         Leads bytes table place path middle → Leads bytes table middle more inner → Leads bytes table place (path ++ more) inner }
+{}
+
+/// Where a place and the blocks that it owns are kept, each path from it leads where it led.
+pub fn same_paths()
+    ensures { (old new : List ℕ) (table : Table) (place inner : Place) (path : List Selector)
+        (v : Value) (blocks : List ℕ) →
+        IsTable table → IsSame old new place.at (size table place.type) →
+        AllByRecursion (KeepsBlock old new) blocks →
+        Holds old table place v blocks → Leads old table place path inner →
+        Leads new table place path inner }
 {}
 
 /// A place whose cells are 0 or name nothing holds the default of its type.

@@ -1,0 +1,22 @@
+use Rattle.std.proofs.Common.{lit≤, refl, arith}
+use Rattle.seg_spec.proofs.Parts.{lost_gap-tiles, neighbours-tiles, linked-tiles, odd_kind-tiles, counter-all, no_owner-all, other_magic-lacks, lost_gap-lacks, no_owner-lacks}
+use Rattle.seg_spec.proofs.SoundImages.{counter_held}
+use Rattle.seg_spec.proofs.examples.parts_of_images.Goals as goal
+
+pub returns : goal.returns
+returns c = record {
+  smallest = record { not_small = lit≤ tt; not_large = lit≤ tt; whole_units = refl };
+  too_small = λ h. absurd (omega (arith, h.not_small));
+  half_a_unit = λ h. absurd (omega (arith, h.whole_units));
+  too_large = λ h. absurd (omega (arith, h.not_large));
+  lost_gap = lost_gap-tiles;
+  neighbours = neighbours-tiles;
+  linked = linked-tiles;
+  odd_kind = odd_kind-tiles;
+  whole = counter-all;
+  no_owner = no_owner-all;
+  wrong_magic = other_magic-lacks;
+  wrong_gaps = lost_gap-lacks;
+  wrong_owners = no_owner-lacks;
+  nothing_wrong = λ l. l counter_held.laid_out.header;
+}

@@ -1,0 +1,72 @@
+-- Parts of what an image is, for telling what is wrong with one.
+--     IsImageLength n            a length that an image may have
+--     HasTiles bytes table       tiles in order by themselves: all of the heap but the free structure
+--     HoldsAll bytes             all of a sound image but one owner for each live block
+--     LacksHeader, LacksType, LacksTiles, LacksGaps, LacksContent, LacksOwner   what is wrong, where all before it is right
+use Rattle.std.specs.Prelude.{◌≡◌, ℕ, ◌%◌, ◌^◌, ◌≤◌, true, List, [], ◌++◌, length}
+use Rattle.std.specs.List.{AllByRecursion}
+use Rattle.seg_spec.specs.Bytes.{word, slice}
+use Rattle.seg_spec.specs.Types.{Table, IsTable, HasTable, IsFirstWrong}
+use Rattle.seg_spec.specs.Heap.{heap_start, tiles, Fill, AreHeaders, AreApart, live, gaps, HoldsGaps}
+use Rattle.seg_spec.specs.Block.{IsOwnable}
+use Rattle.seg_spec.specs.Sound.{Picture, roots_of, HasHeader, HoldsRoots, IsLaidOut, IsSound, times, positions}
+
+-- a length that an image may have: whole units, from 2 of heap on to 2 ^ 30 bytes
+pub record IsImageLength (n : ℕ) : Type 0 where
+  pub not_small : 736 ≤ n
+  pub not_large : n ≤ 2 ^ 30
+  pub whole_units : n % 16 ≡ 0
+
+-- Tiles fill the heap, each with its header, tag and link, and no two free ones are neighbours.
+pub record HasTiles (bytes : List ℕ) (table : Table) : Type 0 where
+  pub filled : Fill heap_start (tiles bytes) (length bytes)
+  pub headers : AreHeaders bytes 0 (tiles bytes)
+  pub apart : AreApart true (tiles bytes)
+  pub ownable : AllByRecursion (λ b. IsOwnable bytes table b.at) (live bytes)
+
+-- Laid out, each value reads, and all blocks that the index and the roots name are live ones, which may have several owners
+-- or none.
+pub record HoldsAll (bytes : List ℕ) : Type 0 where
+  pub picture : Picture
+  pub none_loose : picture.loose ≡ []
+  pub index_blocks : List ℕ
+  pub laid_out : IsLaidOut bytes picture index_blocks
+  pub root_blocks : List ℕ
+  pub roots : HoldsRoots bytes picture.table (roots_of picture) root_blocks
+  pub live_ones : AllByRecursion (λ h. 1 ≤ times h (positions (live bytes)))
+      (index_blocks ++ root_blocks)
+
+-- ---- what is wrong, where all that is looked at before it is right
+
+-- header and types are in order
+pub record HasFront (bytes : List ℕ) (table : Table) : Type 0 where
+  pub header : HasHeader bytes
+  pub types : HasTable bytes 64 table
+  pub is_table : IsTable table
+
+-- the fixed words or the length
+abbrev pub LacksHeader : List ℕ → Type 0
+LacksHeader bytes = HasHeader bytes → ⊥
+
+-- entry k of the table of types
+abbrev pub LacksType : List ℕ → ℕ → Type 0
+LacksType bytes k = HasHeader bytes × IsFirstWrong (slice bytes 64 512) k
+
+-- tiles, headers, tags or links
+abbrev pub LacksTiles : List ℕ → Type 0
+LacksTiles bytes = (table : Table) × HasFront bytes table × (HasTiles bytes table → ⊥)
+
+-- the free structure
+abbrev pub LacksGaps : List ℕ → Type 0
+LacksGaps bytes = (table : Table) × HasFront bytes table × HasTiles bytes table ×
+    (HoldsGaps (word bytes 16) bytes (gaps bytes) → ⊥)
+
+-- the index, a unique object, a value, or one owner for each block
+abbrev pub LacksContent : List ℕ → Type 0
+LacksContent bytes =
+    (table : Table) × HasFront bytes table × HasTiles bytes table ×
+    HoldsGaps (word bytes 16) bytes (gaps bytes) × (IsSound bytes → ⊥)
+
+-- nothing but an owner for a live block
+abbrev pub LacksOwner : List ℕ → Type 0
+LacksOwner bytes = HoldsAll bytes × (IsSound bytes → ⊥)
