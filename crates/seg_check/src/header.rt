@@ -25,12 +25,8 @@ pub(crate) fn check_header<A: Allocator>(w: &Window<A>) -> Result<(), Fault>
 /// The magic, the version, the allocator (0 sequential fit, 1 best fit), the index (0 flat, 1 a tree), and the bytes that
 /// are 0 in every image.
 fn has_known_words<A: Allocator>(w: &Window<A>) -> bool {
-    w.slice(0, header::MAGIC.len()) == header::MAGIC
-        && w.get32(header::VERSION) == header::CURRENT_VERSION
+    header::is_current(w)
         && w.get32(header::ALLOCATOR) <= 1
         && w.get32(header::INDEX_KIND) <= 1
-        && w.get32(header::ZERO) == 0
-        && w.slice(header::RESERVED, header::TYPES - header::RESERVED)
-            .iter()
-            .all(|byte| *byte == 0)
+        && header::has_zeros(w)
 }
