@@ -93,7 +93,7 @@ fn placed<A: Allocator + Copy>(alloc: A, image: &[u8], place: &Place) -> Result<
         return Err(Fault::BadMove(u32::try_from(i).unwrap_or(u32::MAX)));
     }
     let region = Region::new(alloc, place.room)?;
-    let mut window = Window::place(region, place.base, len).map_err(|_| Fault::Misplaced)?;
+    let mut window = Window::place(region, place.base, len).map_err(|(fault, _)| fault)?;
     window.copy_in(0, image);
     Ok(window)
 }

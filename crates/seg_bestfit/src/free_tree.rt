@@ -1,9 +1,13 @@
-ghost use Rattle.std.specs.Prelude.{◌≡◌, ◌+◌, ◌-◌, ◌*◌, ◌^◌, ◌<◌, ◌≤◌, List, [], ◌∷◌, ◌++◌, true, false, length, IfSome, IsSomeAnd, MatchOption, Some, None, ⊤};
-ghost use Rattle.std.specs.Ordering.{nat_cmp};
+ghost use Rattle.std.specs.Prelude.{◌≡◌, ◌+◌, ◌-◌, ◌*◌, ◌%◌, ◌^◌, ◌<◌, ◌≤◌, List, [], ◌∷◌, ◌++◌, true, false, length, IfSome, IsSomeAnd, MatchOption, Some, None, ⊤};
+ghost use Rattle.std.specs.Ordering.{nat_cmp, ordering_then};
+ghost use Rattle.std.proofs.Common.{inl, arith};
 ghost use Rattle.std.specs.Cmp.{on_total, then_total, nat_cmp_total};
 ghost use Rattle.seg_spec.specs.Heap.{Span, Tile, units_at, link_at, best_fit, IsFreeTree};
 ghost use Rattle.seg_spec.specs.Window.{with_bytes};
+ghost use Rattle.seg_spec.proofs.BytesLaws.{number-slice};
 ghost use Rattle.seg_spec.proofs.OrderSteps.{then_steps_up};
+ghost use Rattle.seg_rbtree.specs.Parts.{part};
+ghost use Rattle.seg_rbtree.specs.Roots.{root_word};
 ghost use Rattle.seg_block.specs.Blocks.{IsBlock};
 ghost use Rattle.seg_block.specs.FreeBlocks.{AreFreeBlocks};
 ghost use Rattle.seg_block.specs.Tiling.{tile, IsTiling, Retiles};
@@ -32,6 +36,8 @@ impl NodeOrder<u32> for BySize {
 
     ghost compare_key = { λ _ bytes x key. nat_cmp (units_at bytes (x - 16)) key };
 
+    ghost read = { λ _ _ x. part (x - 16) 4 ∷ [] };
+
     fn nodes<A: Allocator>(&self, w: &Window<A>, node: u32, other: u32) -> Ordering {
         size(w, node).cmp(&size(w, other)).then(node.cmp(&other))
     }
@@ -43,11 +49,16 @@ impl NodeOrder<u32> for BySize {
     ghost total = { λ _ _ bytes. then_total (on_total (λ x. units_at bytes (x - 16)) nat_cmp_total) nat_cmp_total };
 
     ghost keyed = { λ _ _ bytes x y key less. then_steps_up nat_cmp_total (units_at bytes (x - 16)) (units_at bytes (y - 16)) key (nat_cmp x y) less };
+
+    ghost apart = { λ _ _ _ x low. (inl (omega (arith, low)), tt) };
+
+    ghost steady = { λ _ _ old new x y same_x same_y i.
+        ordering_then (nat_cmp (number-slice 4 old new (x - 16) (x - 16) same_x.0 i % 2 ^ 31) (number-slice 4 old new (y - 16) (y - 16) same_y.0 i % 2 ^ 31)) (nat_cmp x y) };
 }
 
 /// The tree of free blocks.
 pub(crate) fn free_tree() -> Tree
-    ensures { result.root ≡ 24 }
+    ensures { root_word result ≡ 24 }
 {
     Tree::new(header::FREE)
 }

@@ -61,6 +61,11 @@ module _ {allocator : ℕ} (old : List ℕ) (named x at u : ℕ) (h : IsHeap all
   pub expand_never : (need : ℕ) → None ≡ expanded u room need → Expands allocator old old named x need false
   expand_never need none = named_expands old need false (expands_not old at u need h here (sym (none ∙ ap (λ r. expanded u r need) room_here)))
 
+  -- the block keeps its units
+  pub shrink_none : (need n : ℕ) → n ≡ shrunk u room need → shrunk x (room_at (gaps old) (named + 16 * x)) need ≡ x → n ≡ u
+  shrink_none need n n_is kept =
+      n_is ∙ ap (λ r. shrunk u r need) room_here ∙ (λ i. shrunk (is.1 i) (room_at (gaps old) (is.0 i + 16 * is.1 i)) need) ∙ kept ∙ sym is.1
+
   module _ (new : List ℕ) (n : ℕ) (resized : IsHeap allocator old → Contains (live old) (record { at = at; units = u }) → room ≡ room_at (gaps old) (at + 16 * u) → IsResized allocator old new at n) where
     pub expand_done : (need : ℕ) → Some n ≡ expanded u room need → (n ≡ u → new ≡ old) → Expands allocator old new named x need true
     expand_done need some same = named_expands new need true (expands_to old at u need h here new n (sym (some ∙ ap (λ r. expanded u r need) room_here)) same (resized h here room_here))

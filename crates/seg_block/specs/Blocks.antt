@@ -1,8 +1,12 @@
 -- A block with its size in its header.
-use Rattle.std.specs.Prelude.{◌≡◌, ℕ, Bool, true, false, ◌%◌, ◌≤◌, List, [], ◌∷◌, ◌++◌, length, IsSomeAnd, Option, None}
+use Rattle.std.specs.Prelude.{◌≡◌, ℕ, ◌+◌, ◌*◌, Bool, true, false, ◌%◌, ◌≤◌, List, [], ◌∷◌, ◌++◌, length, IsSomeAnd, Option, None}
 use Rattle.seg_spec.specs.Heap.{Tile, Span, end_of, units_at, live, IsHeap, Keeps, resized}
 use Rattle.seg_block.specs.Tiling.{tile}
 use Rattle.seg_block.specs.declared.block.Block.{Block}
+
+-- the header at a position states a size of a block, for which the segment has room
+abbrev pub HasRoom : List ℕ → ℕ → Type 0
+HasRoom bytes at = (2 ≤ units_at bytes at) × (at + 16 * units_at bytes at ≤ length bytes)
 
 -- the header at its position states its size, and it lies in the segment
 pub record IsBlock (bytes : List ℕ) (g : Span) : Type 0 where

@@ -1,9 +1,10 @@
 ghost use Rattle.std.specs.Prelude.{◌≡◌, ℕ, ◌+◌, ◌-◌, ◌*◌, ◌/◌, ◌^◌, ◌<◌, ◌≤◌, max, Bool, List, [], ◌∷◌, ◌++◌, length, Contains, IfSome, IsSomeAnd, Option, Some, None};
 ghost use Rattle.seg_spec.specs.Window.{with_bytes};
-ghost use Rattle.seg_spec.specs.Heap.{Span, Tile, Fill, AreHeaders, IsHeap, is_live_at, live, gaps, room_at};
+ghost use Rattle.std.specs.Option.{SomeIff};
+ghost use Rattle.seg_spec.specs.Heap.{Span, Tile, Fill, AreHeaders, IsHeap, units_at, is_live_at, live, gaps, room_at};
 ghost use Rattle.seg_block.specs.Sizes.{set_size, set_split};
 ghost use Rattle.seg_block.specs.Tiling.{tile, IsTiled, Replaces};
-ghost use Rattle.seg_block.specs.Blocks.{IsBlock, IsReadFree, HasEnd};
+ghost use Rattle.seg_block.specs.Blocks.{HasRoom, IsBlock, IsReadFree, HasEnd};
 
 use crate::header::{
     HEAP_START, LIVE, TAG, UNIT, UNITS_BEFORE, block_of, is_live, units, units_before,
@@ -27,6 +28,7 @@ pub fn need(n: u32) -> u32
 
 /// The block at a position, where its header states a size that the segment has room for.
 pub fn block_at<A: Allocator>(w: &Window<A>, at: u32) -> Option<Block>
+    ensures stated { SomeIff result (HasRoom w.now.bytes at) (record { at = at; units = units_at w.now.bytes at }) }
     ensures bounds { IfSome result (λ f. (f.at ≡ at) × (2 ≤ f.units) × (f.at + 16 * f.units ≤ length w.now.bytes) × (length w.now.bytes ≤ 2 ^ 30)) }
     ensures read { (g : Span) → at ≡ g.at → IsBlock w.now.bytes g → IsSomeAnd result (λ f. (f.at ≡ g.at) × (f.units ≡ g.units)) }
 {
@@ -41,10 +43,13 @@ pub fn block_at<A: Allocator>(w: &Window<A>, at: u32) -> Option<Block>
     Some(Block { at, units })
 }
 
-/// How many entries of `size` bytes the block has room for whose payload begins at a position.
+/// How many entries of `size` bytes the block has room for whose payload begins at a position. 0 where the segment has no room
+/// for the size that its header states.
 pub fn capacity<A: Allocator>(w: &Window<A>, payload: u32, size: u32) -> u32
     requires { 1 ≤ size }
-    ensures { (g : Span) → payload ≡ g.at + 16 → IsBlock w.now.bytes g → result ≡ (16 * g.units - 16) / size }
+    ensures stated { HasRoom w.now.bytes (payload - 16) → result ≡ (16 * units_at w.now.bytes (payload - 16) - 16) / size }
+    ensures none { (HasRoom w.now.bytes (payload - 16) → ⊥) → result ≡ 0 }
+    ensures block { (g : Span) → payload ≡ g.at + 16 → IsBlock w.now.bytes g → result ≡ (16 * g.units - 16) / size }
 {
     match block_at(w, block_of(payload)) {
         Some(block) => UNIT * (block.units - 1) / size,

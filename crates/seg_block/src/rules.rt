@@ -1,4 +1,4 @@
-ghost use Rattle.std.specs.Prelude.{◌≡◌, ◌+◌, ◌^◌, ◌*◌, ◌<◌, ◌≤◌, max};
+ghost use Rattle.std.specs.Prelude.{◌≡◌, ◌+◌, ◌-◌, ◌^◌, ◌*◌, ◌<◌, ◌≤◌, max, min};
 ghost use Rattle.seg_spec.specs.Heap.{granted, expanded, shrunk};
 
 /// The units of a block for `need` units at the front of `whole`: a rest of 1 unit goes with it.
@@ -37,9 +37,11 @@ pub fn shrunk(units: u32, room: u32, need: u32) -> u32
     }
 }
 
-/// How many entries a buffer of `kept` entries asks for first, where it must have room for `limit`.
+/// How many entries a buffer of `kept` entries asks for first, where it must have room for `limit`: twice as many, or the
+/// largest number where that is none.
 pub fn preferred(kept: u32, limit: u32) -> u32
-    ensures { kept < 2 ^ 31 → result ≡ max 4 (max (2 * kept) limit) }
+    ensures capped { result ≡ max 4 (max (min (2 * kept) (2 ^ 32 - 1)) limit) }
+    ensures doubled { kept < 2 ^ 31 → result ≡ max 4 (max (2 * kept) limit) }
 {
     limit.max(kept.saturating_mul(2)).max(4)
 }

@@ -1,3 +1,7 @@
+ghost use Rattle.std.specs.Prelude.{IfOk, OnOk};
+ghost use Rattle.seg_spec.specs.Types.{IsTable, HasTable};
+ghost use Rattle.seg_spec.specs.Sound.{HasHeader};
+
 use crate::claims::{Claimed, Claims};
 use crate::header::check_header;
 use seg_layout::{ENTRY, MAX_TYPES, TypeId, TypeTable};
@@ -10,7 +14,10 @@ use std::alloc::Allocator;
 /// blocks, the free blocks, the names, the unique objects, the values, blocks that nothing owns.
 ///
 /// It takes its memory, five bytes for each unit of the heap at most, before it looks at the heap.
-pub fn check<A: Allocator, B: Allocator>(alloc: B, w: &Window<A>) -> Result<TypeTable, Fault> {
+pub fn check<A: Allocator, B: Allocator>(alloc: B, w: &Window<A>) -> Result<TypeTable, Fault>
+    ensures header { OnOk result (HasHeader w.now.bytes) }
+    ensures types { IfOk result (λ types. IsTable types × HasTable w.now.bytes 64 types) }
+{
     check_header(w)?;
     let types = TypeTable::read(w.slice(header::TYPES, ENTRY * MAX_TYPES))?;
     check_heap(&alloc, w, &types)?;

@@ -1,4 +1,6 @@
-ghost use Rattle.std.specs.Prelude.{◌≤◌, length, OnOk};
+ghost use Rattle.std.specs.Prelude.{◌≤◌, ◌↔◌, length, IsTrue, IsOk, IsOkUnless, OnOk};
+ghost use Rattle.seg_spec.specs.Sound.{HasHeader};
+ghost use Rattle.seg_check.specs.Headers.{HasKnownWords};
 
 use seg_block::UNIT;
 use seg_manager::MIN_LEN;
@@ -8,7 +10,9 @@ use std::alloc::Allocator;
 
 /// The image's length and its first 64 bytes.
 pub(crate) fn check_header<A: Allocator>(w: &Window<A>) -> Result<(), Fault>
-    ensures { OnOk result (736 ≤ length w.now.bytes) }
+    ensures header { OnOk result (HasHeader w.now.bytes) }
+    ensures every { HasHeader w.now.bytes → IsOk result }
+    ensures refused { IsOkUnless result Fault.BadHeader }
 {
     let len = w.len();
     let sized = len >= MIN_LEN
@@ -24,13 +28,11 @@ pub(crate) fn check_header<A: Allocator>(w: &Window<A>) -> Result<(), Fault>
 
 /// The magic, the version, the allocator (0 sequential fit, 1 best fit), the index (0 flat, 1 a tree), and the bytes that
 /// are 0 in every image.
-fn has_known_words<A: Allocator>(w: &Window<A>) -> bool {
-    w.slice(0, header::MAGIC.len()) == header::MAGIC
-        && w.get32(header::VERSION) == header::CURRENT_VERSION
+fn has_known_words<A: Allocator>(w: &Window<A>) -> bool
+    ensures { IsTrue result ↔ HasKnownWords w.now.bytes }
+{
+    header::is_current(w)
         && w.get32(header::ALLOCATOR) <= 1
         && w.get32(header::INDEX_KIND) <= 1
-        && w.get32(header::ZERO) == 0
-        && w.slice(header::RESERVED, header::TYPES - header::RESERVED)
-            .iter()
-            .all(|byte| *byte == 0)
+        && header::has_zeros(w)
 }

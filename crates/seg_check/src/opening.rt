@@ -1,4 +1,7 @@
-ghost use Rattle.std.specs.Prelude.{◌≡◌, IfErr, IfOk};
+ghost use Rattle.std.specs.Prelude.{◌≡◌, IfErr, IfOk, OnOk};
+ghost use Rattle.seg_spec.specs.Bytes.{word};
+ghost use Rattle.seg_spec.specs.Types.{IsTable, HasTable};
+ghost use Rattle.seg_spec.specs.Sound.{HasHeader};
 
 use crate::checker::check;
 use seg_block::Fit;
@@ -14,6 +17,8 @@ pub fn open<F: Fit, A: Allocator, B: Allocator>(
     window: Window<A>,
 ) -> Result<Segment<F, A>, (Fault, Window<A>)>
     ensures opened { IfOk result (λ segment. segment.window ≡ window) }
+    ensures types { IfOk result (λ segment. IsTable segment.types × HasTable window.bytes 64 segment.types) }
+    ensures header { OnOk result (HasHeader window.bytes × (word window.bytes 16 ≡ F.code)) }
     ensures refused { IfErr result (λ refused. refused.1 ≡ window) }
 {
     match check(alloc, &window) {

@@ -46,10 +46,7 @@ impl<F: Fit, A: Allocator> Segment<F, A> {
         if !is_size(size) {
             return Err((Fault::BadSize, region));
         }
-        let mut window = match Window::place(region, base, size) {
-            Ok(window) => window,
-            Err(region) => return Err((Fault::Misplaced, region)),
-        };
+        let mut window = Window::place(region, base, size)?;
         write_empty::<F, A>(&mut window, size, index);
         Ok(Segment::new(window, TypeTable::new()))
     }
@@ -77,8 +74,7 @@ pub(crate) fn is_size(size: u32) -> bool {
 /// Writes the image of an empty segment.
 fn write_empty<F: Fit, A: Allocator>(w: &mut Window<A>, size: u32, index: IndexKind) {
     w.fill(0, size as usize, 0);
-    w.copy_in(0, header::MAGIC);
-    w.put32(header::VERSION, header::CURRENT_VERSION);
+    header::begin(w);
     w.put32(header::SIZE, size / UNIT);
     w.put32(header::ALLOCATOR, F::word());
     w.put32(header::INDEX_KIND, index.word());

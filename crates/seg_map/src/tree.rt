@@ -1,10 +1,14 @@
 //! A map as a red-black tree of nodes: tree words, the key, the value. The pointer of the map's cell names the root.
 
-ghost use Rattle.std.specs.Prelude.{◌≡◌, ◌+◌, ◌%◌, ◌^◌, ⊤};
+ghost use Rattle.std.specs.Prelude.{◌≡◌, ◌+◌, ◌%◌, ◌^◌, [], ◌∷◌, ⊤};
 ghost use Rattle.std.specs.Ordering.{int_cmp};
 ghost use Rattle.std.specs.Cmp.{on_total, int_cmp_total};
-ghost use Rattle.seg_spec.specs.Bytes.{signed_long};
+ghost use Rattle.std.proofs.Common.{arith, inl, inr, ⊎_elim};
+ghost use Rattle.std.proofs.lemmas.Bool.{cases_lt};
+ghost use Rattle.seg_spec.specs.Bytes.{signed, signed_long};
+ghost use Rattle.seg_spec.proofs.BytesLaws.{number-slice};
 ghost use Rattle.seg_spec.proofs.OrderSteps.{steps_up};
+ghost use Rattle.seg_rbtree.specs.Parts.{part};
 
 use crate::key::key_at;
 use seg_block::Fit;
@@ -26,6 +30,8 @@ impl NodeOrder<i64> for ByKey {
 
     ghost compare_key = { λ _ bytes x key. int_cmp (signed_long bytes ((x + 16) % 2 ^ 32)) key };
 
+    ghost read = { λ _ _ x. part ((x + 16) % 2 ^ 32) 8 ∷ [] };
+
     fn nodes<A: Allocator>(&self, w: &Window<A>, node: u32, other: u32) -> Ordering {
         key_of(w, node).cmp(&key_of(w, other))
     }
@@ -37,6 +43,11 @@ impl NodeOrder<i64> for ByKey {
     ghost total = { λ _ _ bytes. on_total (λ x. signed_long bytes ((x + 16) % 2 ^ 32)) int_cmp_total };
 
     ghost keyed = { λ _ _ bytes x y key less. steps_up int_cmp_total (signed_long bytes ((x + 16) % 2 ^ 32)) (signed_long bytes ((y + 16) % 2 ^ 32)) key less };
+
+    ghost apart = { λ _ _ _ x low. (⊎_elim (λ before. inl (omega (arith, before))) (λ behind. inr (omega (arith, behind))) (cases_lt ((x + 16) % 2 ^ 32 + 7) x), tt) };
+
+    ghost steady = { λ _ _ old new x y same_x same_y i. int_cmp (signed (number-slice 8 old new ((x + 16) % 2 ^ 32) ((x + 16) % 2 ^ 32) same_x.0 i))
+        (signed (number-slice 8 old new ((y + 16) % 2 ^ 32) ((y + 16) % 2 ^ 32) same_y.0 i)) };
 }
 
 /// Where a node has its key.

@@ -1,13 +1,19 @@
-//! Where the fields of an image's header stand, in bytes from the start of the segment.
+//! Where the fields of an image's header stand, in bytes from the start of the segment, and what each image has alike.
+ghost use Rattle.std.specs.Prelude.{◌≡◌, ◌↔◌, IsTrue, codes, replicate};
+ghost use Rattle.seg_spec.specs.Bytes.{slice, put, word, set_word};
+ghost use Rattle.seg_spec.specs.Window.{with_bytes};
+
+use crate::window::Window;
+use std::alloc::Allocator;
 
 /// The bytes that an image begins with.
-pub const MAGIC: &[u8] = b"SEGIMAGE";
+const MAGIC: &[u8] = b"SEGIMAGE";
 
 /// The version of the format that this library reads and writes.
-pub const CURRENT_VERSION: u32 = 1;
+const CURRENT_VERSION: u32 = 1;
 
 /// The word with the version of the format.
-pub const VERSION: usize = 8;
+const VERSION: usize = 8;
 
 /// The word that counts the segment's units of 16 bytes.
 pub const SIZE: usize = 12;
@@ -22,16 +28,38 @@ pub const INDEX_KIND: usize = 20;
 pub const FREE: usize = 24;
 
 /// A word that is 0.
-pub const ZERO: usize = 28;
+const ZERO: usize = 28;
 
 /// The index cell: a pointer to the entries, and behind it the number of names.
 pub const INDEX: usize = 32;
 
 /// Bytes that are 0, up to the type table.
-pub const RESERVED: usize = 40;
+const RESERVED: usize = 40;
 
 /// The type table: 32 entries of 16 bytes.
 pub const TYPES: usize = 64;
 
 /// The table of unique objects: a pointer for each type.
 pub const UNIQUES: usize = 576;
+
+/// Whether a segment begins as an image does, in the version that this library reads.
+pub fn is_current<A: Allocator>(w: &Window<A>) -> bool
+    ensures { IsTrue result ↔ ((slice w.now.bytes 0 8 ≡ codes "SEGIMAGE") × (word w.now.bytes 8 ≡ 1)) }
+{
+    w.slice(0, MAGIC.len()) == MAGIC && w.get32(VERSION) == CURRENT_VERSION
+}
+
+/// Writes what an image of this version begins with.
+pub fn begin<A: Allocator>(w: &mut Window<A>)
+    ensures { w.new ≡ with_bytes w.old (set_word (put w.old.bytes 0 (codes "SEGIMAGE")) 8 1) }
+{
+    w.copy_in(0, MAGIC);
+    w.put32(VERSION, CURRENT_VERSION);
+}
+
+/// Whether the bytes of the header are 0 that are so in every image.
+pub fn has_zeros<A: Allocator>(w: &Window<A>) -> bool
+    ensures { IsTrue result ↔ ((word w.now.bytes 28 ≡ 0) × (slice w.now.bytes 40 24 ≡ replicate 24 0)) }
+{
+    w.get32(ZERO) == 0 && w.slice(RESERVED, TYPES - RESERVED) == [0; TYPES - RESERVED].as_slice()
+}

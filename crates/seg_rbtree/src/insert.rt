@@ -5,6 +5,7 @@ ghost use Rattle.seg_spec.specs.Window.{with_bytes};
 ghost use Rattle.seg_rbtree.specs.Changes.{StandApart, IsNew, with_node, Leaves};
 ghost use Rattle.seg_rbtree.specs.Nodes.{with_colour, raised, straightened};
 ghost use Rattle.seg_rbtree.specs.Rising.{IsRising, Settles};
+ghost use Rattle.seg_rbtree.specs.Roots.{root_word};
 
 use crate::node::{Colour, Side, child, child_word, init, is_red, paint, rotate};
 use crate::order::NodeOrder;
@@ -22,10 +23,10 @@ impl Tree {
         node: u32,
     )
         ensures host { w.new ≡ with_bytes w.old w.new.bytes }
-        ensures added { O.exact → (shape : _) → IsSearchTree w.old.bytes self.root shape → Ascend (O.compare order.now w.old.bytes) (nodes_of shape)
-            → IsNew (O.compare order.now w.old.bytes) node (nodes_of shape) → StandApart (length w.old.bytes) self.root (node ∷ nodes_of shape)
+        ensures added { O.exact → (shape : _) → IsSearchTree w.old.bytes (root_word self) shape → Ascend (O.compare order.now w.old.bytes) (nodes_of shape)
+            → IsNew (O.compare order.now w.old.bytes) node (nodes_of shape) → StandApart (length w.old.bytes) (root_word self) (node ∷ nodes_of shape)
             → length (nodes_of shape) + 1 < 2 ^ 32
-            → Leaves w.old.bytes w.new.bytes self.root (node ∷ nodes_of shape) (with_node (O.compare order.now w.old.bytes) node (nodes_of shape)) }
+            → Leaves w.old.bytes w.new.bytes (root_word self) (node ∷ nodes_of shape) (with_node (O.compare order.now w.old.bytes) node (nodes_of shape)) }
     {
         let mut path = self.path_to(w, order, node);
         init(w, node);

@@ -1,15 +1,18 @@
 ghost use Rattle.std.specs.Prelude.{◌≡◌, ℕ, ◌≤◌, List};
+ghost use Rattle.std.specs.List.{AllByRecursion};
 ghost use Rattle.std.specs.Cmp.{IsTotalOrder};
 ghost use Rattle.std.specs.declared.cmp.Ordering.{Ordering};
 ghost use Rattle.std.specs.declared.cmp.Ordering.TheVariants.{Less};
+ghost use Rattle.seg_spec.specs.Apart.{Separate};
+ghost use Rattle.seg_spec.specs.Bytes.{IsSame};
 ghost use Rattle.seg_spec.specs.Search.{step_of};
+ghost use Rattle.seg_rbtree.specs.Parts.{Part};
 
 use seg_ptr::Window;
 use std::alloc::Allocator;
 use std::cmp::Ordering;
 
-/// The order of a tree's nodes, and of its nodes and keys. A tree compares before it writes, so the order may read what it
-/// likes of a node but its tree words.
+/// The order of a tree's nodes, and of its nodes and keys. It reads what it likes of a node but its tree words.
 pub trait NodeOrder<K: Copy> {
     // Whether the comparisons are proved to be those that follow. An order that isn't proved yet says no, and its clauses
     // then promise nothing.
@@ -20,6 +23,9 @@ pub trait NodeOrder<K: Copy> {
 
     // How a node compares with a key.
     ghost compare_key: { Self → List ℕ → ℕ → K → Ordering };
+
+    // The bytes that the order reads of a node.
+    ghost read: { Self → List ℕ → ℕ → List Part };
 
     /// Compares two nodes.
     fn nodes<A: Allocator>(&self, w: &Window<A>, node: u32, other: u32) -> Ordering
@@ -35,4 +41,12 @@ pub trait NodeOrder<K: Copy> {
     // A node before another one is no further up from any key.
     ghost keyed: { exact → (order : Self) (bytes : List ℕ) (x y : ℕ) (key : K) → compare order bytes x y ≡ Less →
         step_of (compare_key order bytes x key) ≤ step_of (compare_key order bytes y key) };
+
+    // It reads no tree word of the node, where a header may lie before it.
+    ghost apart: { exact → (order : Self) (bytes : List ℕ) (x : ℕ) → 16 ≤ x → AllByRecursion (λ p. Separate p.at p.len x 16) (read order bytes x) };
+
+    // Nodes of which it reads the same compare as before.
+    ghost steady: { exact → (order : Self) (old new : List ℕ) (x y : ℕ) →
+        AllByRecursion (λ p. IsSame old new p.at p.len) (read order old x) → AllByRecursion (λ p. IsSame old new p.at p.len) (read order old y) →
+        compare order new x y ≡ compare order old x y };
 }

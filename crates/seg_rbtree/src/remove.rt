@@ -8,6 +8,7 @@ ghost use Rattle.seg_rbtree.specs.Nodes.{side_word, opposite, colour_at};
 ghost use Rattle.seg_rbtree.specs.Changes.{StandApart, without_node, Leaves};
 ghost use Rattle.seg_rbtree.specs.Ways.{branch, plug, place, last_word};
 ghost use Rattle.seg_rbtree.specs.Removing.{layer_at, in_place_of, IsShort, StandsAt, Descends, Unlinks, Lowers, ComesUp, Lengthens, Restores};
+ghost use Rattle.seg_rbtree.specs.Roots.{root_word};
 
 use crate::node::{Colour, Side, child, child_word, colour_of, is_red, paint, rotate, set_child};
 use crate::order::NodeOrder;
@@ -25,10 +26,10 @@ impl Tree {
         node: u32,
     )
         ensures host { w.new ≡ with_bytes w.old w.new.bytes }
-        ensures removed { O.exact → (shape : _) → IsSearchTree w.old.bytes self.root shape → Ascend (O.compare order.now w.old.bytes) (nodes_of shape)
-            → StandApart (length w.old.bytes) self.root (nodes_of shape)
-            → Leaves w.old.bytes w.new.bytes self.root (nodes_of shape) (without_node node (nodes_of shape)) }
-        ensures stays { O.exact → (shape : _) → IsSearchTree w.old.bytes self.root shape → Ascend (O.compare order.now w.old.bytes) (nodes_of shape)
+        ensures removed { O.exact → (shape : _) → IsSearchTree w.old.bytes (root_word self) shape → Ascend (O.compare order.now w.old.bytes) (nodes_of shape)
+            → StandApart (length w.old.bytes) (root_word self) (nodes_of shape)
+            → Leaves w.old.bytes w.new.bytes (root_word self) (nodes_of shape) (without_node node (nodes_of shape)) }
+        ensures stays { O.exact → (shape : _) → IsSearchTree w.old.bytes (root_word self) shape → Ascend (O.compare order.now w.old.bytes) (nodes_of shape)
             → AllByRecursion (λ x. node ≢ x) (nodes_of shape) → w.new ≡ w.old }
     {
         let mut path = self.path_to(w, order, node);

@@ -5,6 +5,7 @@ ghost use Rattle.std.specs.Ordering.{is_eq};
 ghost use Rattle.seg_spec.specs.Shapes.{nodes_of};
 ghost use Rattle.seg_spec.specs.Search.{reaches, Ascend, first_where, looks, IsSearchTree};
 ghost use Rattle.seg_rbtree.specs.Ways.{IsWayTo};
+ghost use Rattle.seg_rbtree.specs.Roots.{root_word};
 
 use crate::node::{Side, child};
 use crate::order::NodeOrder;
@@ -42,7 +43,7 @@ impl Tree {
         order: &O,
         key: K,
     ) -> Option<u32>
-        ensures { O.exact → (shape : _) → IsSearchTree w.now.bytes self.root shape → Ascend (O.compare order.now w.now.bytes) (nodes_of shape)
+        ensures { O.exact → (shape : _) → IsSearchTree w.now.bytes (root_word self) shape → Ascend (O.compare order.now w.now.bytes) (nodes_of shape)
             → result ≡ first_where (λ node. is_eq (O.compare_key order.now w.now.bytes node key)) (nodes_of shape) }
     {
         let node = self.first_at_least(w, order, key).node?;
@@ -59,12 +60,12 @@ impl Tree {
         order: &O,
         key: K,
     ) -> Looked
-        ensures node { O.exact → (shape : _) → IsSearchTree w.now.bytes self.root shape → Ascend (O.compare order.now w.now.bytes) (nodes_of shape)
+        ensures node { O.exact → (shape : _) → IsSearchTree w.now.bytes (root_word self) shape → Ascend (O.compare order.now w.now.bytes) (nodes_of shape)
             → result.node ≡ first_where (λ node. reaches Ordering.Equal (O.compare_key order.now w.now.bytes node key)) (nodes_of shape) }
-        ensures looks { O.exact → (shape : _) → IsSearchTree w.now.bytes self.root shape → Ascend (O.compare order.now w.now.bytes) (nodes_of shape)
+        ensures looks { O.exact → (shape : _) → IsSearchTree w.now.bytes (root_word self) shape → Ascend (O.compare order.now w.now.bytes) (nodes_of shape)
             → result.looks ≡ looks (λ node. reaches Ordering.Equal (O.compare_key order.now w.now.bytes node key)) shape }
         ensures at_most { result.looks ≤ 64 }
-        ensures bound { O.exact → (shape : _) → IsSearchTree w.now.bytes self.root shape → Ascend (O.compare order.now w.now.bytes) (nodes_of shape)
+        ensures bound { O.exact → (shape : _) → IsSearchTree w.now.bytes (root_word self) shape → Ascend (O.compare order.now w.now.bytes) (nodes_of shape)
             → 2 ^ result.looks ≤ (length (nodes_of shape) + 1) ^ 2 }
     {
         self.first_from(w, order, key, Ordering::Equal)
@@ -77,7 +78,7 @@ impl Tree {
         order: &O,
         key: K,
     ) -> Option<u32>
-        ensures { O.exact → (shape : _) → IsSearchTree w.now.bytes self.root shape → Ascend (O.compare order.now w.now.bytes) (nodes_of shape)
+        ensures { O.exact → (shape : _) → IsSearchTree w.now.bytes (root_word self) shape → Ascend (O.compare order.now w.now.bytes) (nodes_of shape)
             → result ≡ first_where (λ node. reaches Ordering.Greater (O.compare_key order.now w.now.bytes node key)) (nodes_of shape) }
     {
         self.first_from(w, order, key, Ordering::Greater).node
@@ -91,9 +92,9 @@ impl Tree {
         key: K,
         least: Ordering,
     ) -> Looked
-        ensures node { O.exact → (shape : _) → IsSearchTree w.now.bytes self.root shape → Ascend (O.compare order.now w.now.bytes) (nodes_of shape)
+        ensures node { O.exact → (shape : _) → IsSearchTree w.now.bytes (root_word self) shape → Ascend (O.compare order.now w.now.bytes) (nodes_of shape)
             → result.node ≡ first_where (λ node. reaches least (O.compare_key order.now w.now.bytes node key)) (nodes_of shape) }
-        ensures looks { O.exact → (shape : _) → IsSearchTree w.now.bytes self.root shape → Ascend (O.compare order.now w.now.bytes) (nodes_of shape)
+        ensures looks { O.exact → (shape : _) → IsSearchTree w.now.bytes (root_word self) shape → Ascend (O.compare order.now w.now.bytes) (nodes_of shape)
             → result.looks ≡ looks (λ node. reaches least (O.compare_key order.now w.now.bytes node key)) shape }
         ensures bound { result.looks ≤ 64 }
     {
@@ -125,7 +126,7 @@ impl Tree {
         node: u32,
     ) -> Path
         ensures root { result.root ≡ self.root }
-        ensures way { O.exact → (shape : _) → IsSearchTree w.now.bytes self.root shape → IsWayTo (O.compare order.now w.now.bytes) node shape result.steps.items }
+        ensures way { O.exact → (shape : _) → IsSearchTree w.now.bytes (root_word self) shape → IsWayTo (O.compare order.now w.now.bytes) node shape result.steps.items }
     {
         let mut path = Path::new(self.root);
         for _ in 0..DEPTH {

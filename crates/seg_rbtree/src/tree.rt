@@ -1,6 +1,7 @@
 ghost use Rattle.std.specs.Prelude.{◌≡◌, ◌↔◌, IsTrue, true, []};
 ghost use Rattle.seg_spec.specs.Shapes.{nodes_of};
 ghost use Rattle.seg_spec.specs.Search.{first_where, IsSearchTree};
+ghost use Rattle.seg_rbtree.specs.Roots.{root_word};
 
 use crate::node::{Side, child};
 use crate::path::DEPTH;
@@ -18,21 +19,21 @@ pub struct Tree {
 
 impl Tree {
     pub fn new(root: usize) -> Tree
-        ensures { result.root ≡ root }
+        ensures { root_word result ≡ root }
     {
         Tree { root }
     }
 
     /// Whether the tree has no node.
     pub fn is_empty<A: Allocator>(self, w: &Window<A>) -> bool
-        ensures { (shape : _) → IsSearchTree w.now.bytes self.root shape → IsTrue result ↔ (nodes_of shape ≡ []) }
+        ensures { (shape : _) → IsSearchTree w.now.bytes (root_word self) shape → IsTrue result ↔ (nodes_of shape ≡ []) }
     {
         w.target(self.root).is_none()
     }
 
     /// The first node.
     pub fn first<A: Allocator>(self, w: &Window<A>) -> Option<u32>
-        ensures { (shape : _) → IsSearchTree w.now.bytes self.root shape → result ≡ first_where (λ _. true) (nodes_of shape) }
+        ensures { (shape : _) → IsSearchTree w.now.bytes (root_word self) shape → result ≡ first_where (λ _. true) (nodes_of shape) }
     {
         let mut place = w.target(self.root);
         let mut first = None;

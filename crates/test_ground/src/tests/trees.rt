@@ -1,7 +1,10 @@
-ghost use Rattle.std.specs.Prelude.{◌≡◌, ◌+◌, ⊤};
+ghost use Rattle.std.specs.Prelude.{◌≡◌, ◌+◌, [], ◌∷◌, ⊤};
+ghost use Rattle.std.proofs.Common.{inr, arith};
 ghost use Rattle.std.specs.Ordering.{nat_cmp};
 ghost use Rattle.std.specs.Cmp.{on_total, nat_cmp_total};
 ghost use Rattle.seg_spec.specs.Bytes.{word};
+ghost use Rattle.seg_rbtree.specs.Parts.{part};
+ghost use Rattle.seg_spec.proofs.BytesLaws.{number-slice};
 ghost use Rattle.seg_spec.proofs.OrderSteps.{steps_up};
 
 use seg_ptr::Window;
@@ -32,6 +35,8 @@ impl NodeOrder<u32> for ByNumber {
 
     ghost compare_key = { λ _ bytes x key. nat_cmp (word bytes (x + 16)) key };
 
+    ghost read = { λ _ _ x. part (x + 16) 4 ∷ [] };
+
     fn nodes<A: Allocator>(&self, w: &Window<A>, node: u32, other: u32) -> Ordering {
         number(w, node).cmp(&number(w, other))
     }
@@ -43,6 +48,10 @@ impl NodeOrder<u32> for ByNumber {
     ghost total = { λ _ _ bytes. on_total (λ x. word bytes (x + 16)) nat_cmp_total };
 
     ghost keyed = { λ _ _ bytes x y key less. steps_up nat_cmp_total (word bytes (x + 16)) (word bytes (y + 16)) key less };
+
+    ghost apart = { λ _ _ _ x low. (inr (omega arith), tt) };
+
+    ghost steady = { λ _ _ old new x y same_x same_y i. nat_cmp (number-slice 4 old new (x + 16) (x + 16) same_x.0 i) (number-slice 4 old new (y + 16) (y + 16) same_y.0 i) };
 }
 
 /// A window with the root word at 0, and room for nodes from 32 on.

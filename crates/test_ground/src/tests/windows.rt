@@ -116,7 +116,10 @@ fn hands_the_region_back(rt: HostRuntime) -> Result<(), Fail> {
         let region: Region<Global> = Region::new(rt.alloc(), 64)?;
         match Window::place(region, base, len) {
             Ok(_) => return Err(Fail::from("placed")),
-            Err(region) => assert_eq!(rt; region.len(), 64),
+            Err((fault, region)) => {
+                assert_eq!(rt; fault, Fault::Misplaced);
+                assert_eq!(rt; region.len(), 64);
+            }
         }
     }
     Ok(())

@@ -1,8 +1,8 @@
-use Rattle.std.proofs.Common.{None, false, sym, ap, ◌∙◌}
+use Rattle.std.proofs.Common.{None, false, arith, sym, ap, ◌∙◌}
 use Rattle.seg_spec.specs.Pointer.{set_pointer}
 use Rattle.seg_spec.specs.Window.{Placement}
 use Rattle.seg_block.specs.Sizes.{set_size}
-use Rattle.seg_block.proofs.Cuttings.{never_ends, cuts_live}
+use Rattle.seg_block.proofs.Cuttings.{never_ends, cuts_live, cuts_some}
 use Rattle.seg_seqfit.proofs.Cuttings.{cuts_whole, cuts_gap}
 use Rattle.seg_seqfit.proofs.seqfit.SeqFitFit.cut_end.Goals as goal
 
@@ -23,3 +23,7 @@ pub returns-clause-cuts : goal.returns-clause-cuts
 returns-clause-cuts g c = λ large h.
     cuts_gap c.args.w.now.bytes c.len-len.result large h c.len-len.ensures.len c.in-Some.last.at c.in-Some.last.units c.in-Some.ensures.last c.point.new.self.bytes c.link_before-link.result (sym c.is_live.ensures ∙ c.if-is_live.false) c.if-last-le-HEAP_START.false
     c.link_before-link.ensures (ap (λ (p : Placement). p.bytes) c.point.ensures ∙ ap (λ (p : Placement). set_pointer p.bytes c.link_before-link.result None) c.put32-2.ensures)
+
+pub returns-then-last-le-HEAP_START-clause-unchanged : goal.returns-then-last-le-HEAP_START-clause-unchanged
+returns-then-last-le-HEAP_START-clause-unchanged g c = λ above h none.
+    absurd (cuts_some c.args.w.now.bytes c.len-len.result (omega arith) h c.len-len.ensures.len c.in-Some.last.at c.in-Some.last.units c.in-Some.ensures.last c.if-last-le-HEAP_START.true above none)

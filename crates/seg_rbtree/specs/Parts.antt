@@ -1,0 +1,10 @@
+-- Parts of a segment that an order reads.
+use Rattle.std.specs.Prelude.{ℕ}
+
+-- so many bytes from a position on
+pub record Part : Type 0 where
+  pub at : ℕ
+  pub len : ℕ
+
+abbrev pub part : ℕ → ℕ → Part
+part at len = record { at = at; len = len }
