@@ -1,116 +1,125 @@
 #!/usr/bin/env bash
-# Where the gate's time goes. In a fresh clone of the last commit, crate by crate: the processor minutes of its proof, of its
-# edits, and of its tests with their run; below the table, each function that took long, with its seconds.
-# Takes about as long as the gate, and wants the machine for itself. Needs make.
+# Where the gate's time goes. Works on a fresh clone of the last commit, and wants the machine for itself.
 #
-#   gate_times.sh [SECONDS]    lists the functions of at least so many seconds, 10 if left out
+#   gate_times.sh gate                  runs the gate, and prints a table: the processor minutes of each crate's proof, of its
+#                                       edits and of its tests. What the gate itself says goes to the error output
+#   gate_times.sh functions [SECONDS]   checks each crate and each crate of tests by itself, on one processor, and lists the
+#                                       functions that take at least so many seconds, 10 if left out. Needs make
 set -euo pipefail
 here=$(cd "$(dirname "${BASH_SOURCE[0]}")" && pwd)
+tab=$'\t'
 
-# Runs a command in the current folder: its lines go to a log, each after the time when it came, and its processor seconds
-# to a file beside it.
-measure() {
-  local log=$1
-  shift
-  TIMEFORMAT='%U %S'
-  { time "$@" 2>&1 | while IFS= read -r line; do echo "$EPOCHREALTIME $line"; done > "$log"; } 2> "$log.seconds"
+# The crates, one a line.
+crates() {
+  awk -F: '!/^#/ && NF {print $1}' crates.txt
 }
 
-# One crate's part of the gate, on one processor. It works on a copy of its own, with links to the libraries made so far, since
-# checks that stand on one library wait for each other.
-part() {
-  local what=$1 crate=$2 copy it
-  copy=$(mktemp -d "$GATE_ROOM/part.XXXXXX")
-  cp -r "$GATE_ROOM/clone/." "$copy"
-  for it in "$GATE_ROOM"/built/*/; do
+# For each process of the prover that runs now: its number, what it is for, the crate, and its processor time in hundredths.
+provers() {
+  local it words what crate
+  for it in $(pgrep -f 'rattle (check|build) --crate-name' || true); do
+    words=$(tr '\0' ' ' < "/proc/$it/cmdline") || continue
+    crate=${words#*--crate-name }
+    crate=${crate%% *}
+    what=proof
+    case "$(readlink "/proc/$it/cwd") $words" in
+      */rt-edit-*) what=edits ;;
+      *" --test "*) what=tests ;;
+    esac
+    awk -v it="$it" -v what="$what" -v crate="$crate" -v OFS="$tab" \
+      '{sub(/.*\) /, ""); print it, what, crate, $12 + $13}' "/proc/$it/stat" || true
+  done 2> /dev/null
+}
+
+# A row of the table for each crate, from what the provers had taken when they were last seen.
+table() {
+  local minutes
+  minutes=$(awk -F "$tab" -v OFS="$tab" '{last[$1 OFS $2 OFS $3] = $4}
+    END {for (it in last) {split(it, part, OFS); sum[part[2] OFS part[3]] += last[it]; sum[part[2] OFS "all"] += last[it]}
+         for (it in sum) printf "%s\t%.1f\n", it, sum[it] / 6000}' "$1")
+  printf '| Crate | Proof | Edits | Tests |\n|---|---|---|---|\n'
+  local crate
+  for crate in $(crates) all; do
+    awk -F "$tab" -v crate="$crate" '$2 == crate {it[$1] = $3}
+      END {printf "| %s | %s | %s | %s |\n", crate, it["proof"], it["edits"], it["tests"]}' <<< "$minutes"
+  done
+}
+
+gate() {
+  local seen=$room/seen start=$SECONDS status=0
+  (while sleep 1; do provers >> "$seen"; done) &
+  local watcher=$!
+  (cd "$room/clone" && rt ci) >&2 || status=$?
+  kill "$watcher"
+  cd "$room/clone"
+  table "$seen"
+  printf '\nThe gate ended with status %s after %s minutes on %s processors.\n' "$status" "$(((SECONDS - start) / 60))" "$(nproc)"
+}
+
+# Checks one crate on one processor, in a copy with links to the libraries made so far, since checks that stand on one
+# library wait for each other. Its lines go to a log, each after the time when it came.
+check_crate() {
+  local crate=$1 copy it
+  copy=$(mktemp -d "$room/part.XXXXXX")
+  cp -r "$room/clone/." "$copy"
+  for it in "$room"/built/*/; do
     [ -d "$it" ] && mkdir "$copy/crates/$(basename "$it")/out" && cp -al "$it/rlib" "$copy/crates/$(basename "$it")/out"
   done
   cd "$copy/crates/$crate"
-  case $what in
-    proof)
-      measure "$GATE_ROOM/logs/$crate.proof" rt check --progress --jobs 1
-      if [ -f src/lib.rt ]; then
-        measure "$GATE_ROOM/logs/$crate.library" rt lib --jobs 1
-        mkdir out/built
-        mv out/rlib out/built
-        mv out/built "$GATE_ROOM/built/$crate"
-      fi
-      ;;
-    tests) measure "$GATE_ROOM/logs/$crate.tests" rt test --progress --jobs 1 ;;
-    edits)
-      cd "$copy"
-      measure "$GATE_ROOM/logs/$crate.edits" rt must-fail "$crate"
+  local flags=(--progress --jobs 1)
+  case $crate in test_*) flags+=(--test) ;; esac
+  rt check "${flags[@]}" 2>&1 | while IFS= read -r line; do echo "$EPOCHREALTIME $line"; done > "$room/logs/$crate"
+  case $crate in
+    test_* | segtool) ;;
+    *)
+      rt lib --jobs 1 > /dev/null
+      mkdir out/built
+      mv out/rlib out/built
+      mv out/built "$room/built/$crate"
       ;;
   esac
   rm -rf "$copy"
 }
 
-# A rule for each part: a proof after those of the crates below, tests and edits after the crate's own.
+# A rule for each crate, after those below it.
 rules() {
-  local crate below all=
+  local crate below it
   while IFS=: read -r crate below; do
-    [ -n "$crate" ] && [ "${crate#\#}" = "$crate" ] || continue
-    local needs=
+    case $crate in '' | \#*) continue ;; esac
+    printf '%s:' "$crate"
     for it in $below; do
-      [ -d "crates/$it" ] && needs+=" $it.proof"
+      [ -d "crates/$it" ] && printf ' %s' "$it"
     done
-    printf '%s.proof:%s\n\t@bash $(SCRIPT) part proof %s\n' "$crate" "$needs" "$crate"
-    all+=" $crate.proof"
-    if grep -rqs '#\[test\]' "crates/$crate/src"; then
-      printf '%s.tests: %s.proof\n\t@bash $(SCRIPT) part tests %s\n' "$crate" "$crate" "$crate"
-      all+=" $crate.tests"
-    fi
-    if [ -d "crates/$crate/must-fail" ]; then
-      printf '%s.edits: %s.proof\n\t@bash $(SCRIPT) part edits %s\n' "$crate" "$crate" "$crate"
-      all+=" $crate.edits"
-    fi
+    printf '\n\t@bash $(SCRIPT) crate %s\n' "$crate"
   done < crates.txt
-  printf 'all:%s\n' "$all"
+  printf 'all: %s\n' "$(crates | tr '\n' ' ')"
 }
 
-# The processor minutes of logs, `-` where there are none.
-minutes() {
-  local files=()
-  for it in "$@"; do
-    [ -f "$it.seconds" ] && files+=("$it.seconds")
-  done
-  [ ${#files[@]} -gt 0 ] && awk '{s += $1 + $2} END {printf "%.1f", s / 60}' "${files[@]}" || printf -- -
-}
-
-table() {
-  printf '| Crate | Proof | Edits | Tests |\n|---|---|---|---|\n'
-  local crate
-  for crate in $(awk -F: '!/^#/ && NF {print $1}' crates.txt); do
-    local at="$GATE_ROOM/logs/$crate"
-    printf '| %s | %s | %s | %s |\n' "$crate" "$(minutes "$at.proof" "$at.library")" "$(minutes "$at.edits")" "$(minutes "$at.tests")"
-  done
-  printf '| all | %s | %s | %s |\n' "$(minutes "$GATE_ROOM/logs"/*.{proof,library})" "$(minutes "$GATE_ROOM/logs"/*.edits)" "$(minutes "$GATE_ROOM/logs"/*.tests)"
-}
-
-# The functions that took long. The first of a log has the reading of the libraries and the lemmas in it, and isn't listed.
-slow() {
+# The first function of a log has the reading of the libraries in its time, and isn't listed.
+functions() {
+  mkdir "$room"/{built,logs}
+  cd "$room/clone"
+  rules > "$room/rules"
+  export room
+  make -s -f "$room/rules" -j "$(nproc)" -k SCRIPT="$here/gate_times.sh" all >&2 || echo "not all of it is proved" >&2
   awk -v least="$1" '
-    FNR == 1 { before = 0 }
-    $2 == "checked" { if (before && $1 - before >= least) printf "%4.0f s  %s\n", $1 - before, substr($3, 1, length($3) - 1); before = $1 }
-  ' "$GATE_ROOM/logs"/*.{proof,tests} | sort -rn
+    FNR == 1 {before = 0}
+    $2 == "checked" {
+      if (before && $1 - before >= least) printf "%4.0f s  %s\n", $1 - before, substr($3, 1, length($3) - 1)
+      before = $1
+    }' "$room"/logs/* | sort -rn
 }
 
-if [ "${1:-}" = part ]; then
-  part "$2" "$3"
-  exit
-fi
-
-GATE_ROOM=$(mktemp -d)
-export GATE_ROOM
-trap 'rm -rf "$GATE_ROOM"' EXIT
-mkdir "$GATE_ROOM"/{clone,built,logs}
-git -C "$here/.." archive HEAD | tar -x -C "$GATE_ROOM/clone"
-cd "$GATE_ROOM/clone"
-rules > "$GATE_ROOM/rules"
-start=$SECONDS
-make -s -f "$GATE_ROOM/rules" -j "$(nproc)" -k all SCRIPT="$here/gate_times.sh" || echo "not all of it passed"
-table
-echo
-echo "$(((SECONDS - start) / 60)) minutes on $(nproc) processors, each part on one of them. The slowest functions:"
-echo
-slow "${1:-10}"
+case ${1:-} in
+  crate) check_crate "$2" ;;
+  gate | functions)
+    room=$(mktemp -d)
+    trap 'rm -rf "$room"' EXIT
+    git clone -q "$here/.." "$room/clone"
+    "$1" "${2:-10}"
+    ;;
+  *)
+    sed -n '2,/^set/{/^#/s/^# \{0,1\}//p}' "${BASH_SOURCE[0]}"
+    exit 2
+    ;;
+esac

@@ -1,7 +1,7 @@
 ghost use Rattle.std.specs.Prelude.{◌≡◌, ◌+◌, ◌%◌, ◌^◌, ◌<◌, ◌≤◌, ◌↔◌, length, IsTrue, MatchOption};
 ghost use Rattle.seg_spec.specs.Window.{region_of, IsPlace};
-ghost use Rattle.client_spec.specs.Clients.{AreMoves};
-ghost use Rattle.client_vm.specs.Moves.{moves_of, IsFirstBad};
+ghost use Rattle.client_spec.specs.Clients.{AreMoves, IsFirstBadMove};
+ghost use Rattle.client_vm.specs.Moves.{moves_of};
 
 use crate::report::Move;
 use seg_block::Fit;
@@ -12,8 +12,10 @@ use std::alloc::Allocator;
 /// The index of the first move that can't be made on a segment: its step is 0 or not above the one before, or the segment
 /// may not lie at its base.
 pub fn moves_fit<F: Fit, A: Allocator>(segment: &Segment<F, A>, moves: &[Move]) -> Option<usize>
-    ensures { MatchOption result (AreMoves (length (region_of segment.now.window)) (length segment.now.window.bytes) 0 (moves_of moves.now))
-        (λ i. IsFirstBad (length (region_of segment.now.window)) (length segment.now.window.bytes) (moves_of moves.now) i) }
+    ensures { let room = length (region_of segment.now.window) in
+        let len = length segment.now.window.bytes in
+        MatchOption result (AreMoves room len 0 (moves_of moves.now))
+        (λ i. IsFirstBadMove room len (moves_of moves.now) i) }
 {
     first_bad_move(segment.window.len(), segment.window.room(), moves)
 }
@@ -21,7 +23,8 @@ pub fn moves_fit<F: Fit, A: Allocator>(segment: &Segment<F, A>, moves: &[Move]) 
 /// The first move that can't be made: its step isn't above the one before, or its base is none for the segment.
 pub(crate) fn first_bad_move(len: u32, room: u32, moves: &[Move]) -> Option<usize>
     requires { len ≤ 2 ^ 30 }
-    ensures { MatchOption result (AreMoves room len 0 (moves_of moves.now)) (λ i. IsFirstBad room len (moves_of moves.now) i) }
+    ensures { MatchOption result (AreMoves room len 0 (moves_of moves.now))
+        (λ i. IsFirstBadMove room len (moves_of moves.now) i) }
 {
     let mut step = 0;
     for (i, next) in moves.iter().enumerate() {
