@@ -1,13 +1,14 @@
 use crate::files::FileFault;
 use client_vm::Refused;
 use seg_raw::Fault;
+use seg_words::Misread;
 use std::alloc::{AllocError, AllocFailed};
 
 /// Why a command failed.
 #[derive(Drop)]
 pub enum Failure<'a> {
-    /// A wrong command line.
-    Words(clap::Error),
+    /// A wrong command line: what is wrong with it.
+    Words(String),
     /// A refusal of the library.
     Refused(Refused),
     /// A file that couldn't be read or written, `-` for the standard output.
@@ -60,12 +61,11 @@ impl<T: Drop> From<AllocFailed<T>> for Failure<'_> {
     }
 }
 
-impl From<clap::Error> for Failure<'_> {
-    fn from(error: clap::Error) -> Self {
-        if error.kind() == clap::error::ErrorKind::OutOfMemory {
-            Failure::from(Fault::Memory)
-        } else {
-            Failure::Words(error)
+impl From<Misread> for Failure<'_> {
+    fn from(misread: Misread) -> Self {
+        match misread {
+            Misread::Memory => Failure::from(Fault::Memory),
+            Misread::Words(text) => Failure::Words(text),
         }
     }
 }

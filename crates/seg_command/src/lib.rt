@@ -2,7 +2,6 @@
 #![tactic(auto)]
 
 mod clients;
-mod command_line;
 mod failure;
 mod files;
 mod image;

@@ -1,13 +1,12 @@
 ghost use Rattle.std.specs.Prelude.{◌≡◌, false};
 
 use crate::clients::{assemble_file, print_file, verify_file};
-use crate::command_line::command_line;
 use crate::failure::{Failure, STANDARD_OUTPUT};
 use crate::files::Files;
 use crate::images::{check_file, grow_file, list_file, new_file, shrink_file, stat_file};
-use crate::run::run;
-use clap::ArgMatches;
+use crate::run::run_files;
 use client_vm::{Sink, write_all};
+use seg_words::Request;
 use std::alloc::{AllocError, Global};
 use std::convert::AsStr;
 
@@ -32,14 +31,14 @@ pub fn command<S: AsStr, F: Files, O: Sink, E: Sink>(
     match perform(alloc, words, files, out) {
         Ok(()) => 0,
         Err(failure) => {
-            // an error output that fails changes nothing
+            // where there is no memory for the line, the status says it alone
             let _ = report(alloc, &failure, err);
             failure.status()
         }
     }
 }
 
-/// What the words say.
+/// What the words ask for.
 fn perform<'a, S: AsStr, F: Files, O: Sink>(
     alloc: Global,
     words: &'a [S],
@@ -48,31 +47,19 @@ fn perform<'a, S: AsStr, F: Files, O: Sink>(
 ) -> Result<(), Failure<'a>>
     requires works { O.has_failed out.old ≡ false }
 {
-    let matches = match command_line(alloc)?.try_get_matches_from(words) {
-        Ok(matches) => matches,
-        Err(error) if !error.use_stderr() => {
-            return print(out, error.to_string(alloc)?.as_bytes());
-        }
-        Err(error) => return Err(Failure::from(error)),
-    };
-    match matches.subcommand() {
-        Some(("run", arguments)) => run(alloc, arguments, files, out),
-        Some(("new", arguments)) => new_file(alloc, arguments, files),
-        Some(("check", arguments)) => check_file(alloc, arguments, files, out),
-        Some(("stat", arguments)) => stat_file(alloc, arguments, files, out),
-        Some(("list", arguments)) => list_file(alloc, arguments, files, out),
-        Some(("grow", arguments)) => grow_file(alloc, arguments, files, out),
-        Some(("shrink", arguments)) => shrink_file(alloc, arguments, files, out),
-        Some(("verify", arguments)) => verify_file(alloc, arguments, files, out),
-        Some(("asm", arguments)) => assemble_file(alloc, arguments, files),
-        Some(("print", arguments)) => print_file(alloc, arguments, files, out),
-        _ => Ok(()),
+    match seg_words::read(alloc, words)? {
+        Request::New(new) => new_file(alloc, &new, files),
+        Request::Check { image } => check_file(alloc, image, files, out),
+        Request::Stat { image } => stat_file(alloc, image, files, out),
+        Request::List { image } => list_file(alloc, image, files, out),
+        Request::Grow { image, extra } => grow_file(alloc, image, extra, files, out),
+        Request::Shrink { image } => shrink_file(alloc, image, files, out),
+        Request::Verify { image, client } => verify_file(alloc, image, client, files, out),
+        Request::Run(run) => run_files(alloc, &run, files, out),
+        Request::Assemble { text, client } => assemble_file(alloc, text, client, files),
+        Request::Print { client } => print_file(alloc, client, files, out),
+        Request::Help(text) => print(out, text.as_bytes()),
     }
-}
-
-/// The argument with this id, which the command line requires.
-pub fn word<'a>(arguments: &ArgMatches<'a>, id: &str) -> &'a str {
-    arguments.get_str(id).unwrap_or("")
 }
 
 /// The bytes of a file.
@@ -105,11 +92,13 @@ pub fn print<'a, O: Sink>(out: &mut O, text: &[u8]) -> Result<(), Failure<'a>>
 fn report<E: Sink>(alloc: Global, failure: &Failure, err: &mut E) -> Result<(), AllocError>
     requires works { E.has_failed err.old ≡ false }
 {
-    let message = match failure {
-        Failure::Words(error) => error.to_string(alloc)?,
-        Failure::Refused(refused) => format!(in alloc; "{refused}\n")?,
-        Failure::File(name) => format!(in alloc; "file {name}\n")?,
+    // an error output that fails changes nothing
+    let _ = match failure {
+        Failure::Words(text) => write_all(err, text.as_bytes()),
+        Failure::Refused(refused) => {
+            write_all(err, format!(in alloc; "{refused}\n")?.as_bytes())
+        }
+        Failure::File(name) => write_all(err, format!(in alloc; "file {name}\n")?.as_bytes()),
     };
-    let _ = write_all(err, message.as_bytes());
     Ok(())
 }

@@ -2,25 +2,24 @@ ghost use Rattle.std.specs.Prelude.{◌≡◌, false};
 
 use crate::failure::{Failure, STANDARD_OUTPUT};
 use crate::files::Files;
-use crate::program::{MAX_FILE, MAX_IMAGE, read, word, write};
-use clap::ArgMatches;
+use crate::program::{MAX_FILE, MAX_IMAGE, read, write};
 use client_vm::{Ended, Place, Sink, run_bytes};
+use seg_words::Run;
 use std::alloc::Global;
 
 /// `run IMAGE OUT CLIENT.. [--base N] [--room N] [--input FILE]`: runs the clients, and writes the saved image also where
 /// their output failed.
-pub fn run<'a, F: Files, O: Sink>(
+pub fn run_files<'a, F: Files, O: Sink>(
     alloc: Global,
-    arguments: &ArgMatches<'a>,
+    run: &Run<'a>,
     files: &mut F,
     out: &mut O,
 ) -> Result<(), Failure<'a>>
     requires works { O.has_failed out.old ≡ false }
 {
-    let image = read(alloc, files, word(arguments, "IMAGE"), MAX_IMAGE)?;
-    let names = arguments.get_strs("CLIENT").unwrap_or(&[]);
-    let clients = read_all(alloc, names, files)?;
-    let input = match arguments.get_str("input") {
+    let image = read(alloc, files, run.image, MAX_IMAGE)?;
+    let clients = read_all(alloc, run.clients.as_slice(), files)?;
+    let input = match run.input {
         Some(name) => read(alloc, files, name, MAX_FILE)?,
         None => Vec::new(alloc),
     };
@@ -28,7 +27,7 @@ pub fn run<'a, F: Files, O: Sink>(
         .iter()
         .map(|client| client.as_slice())
         .collect(alloc)?;
-    let place = place_of(arguments, image.len());
+    let place = place_of(run, image.len());
     let outcome = run_bytes(
         alloc,
         image.as_slice(),
@@ -37,7 +36,7 @@ pub fn run<'a, F: Files, O: Sink>(
         &place,
         out,
     )?;
-    let saved = write(files, word(arguments, "OUT"), outcome.image.as_slice());
+    let saved = write(files, run.out, outcome.image.as_slice());
     match outcome.ended {
         Ended::Done => saved,
         Ended::OutputFailed => Err(Failure::File(STANDARD_OUTPUT)),
@@ -58,16 +57,12 @@ fn read_all<'a, F: Files>(
     Ok(all)
 }
 
-/// Where the segment lies: at 0 in a region of its own length, where the words say nothing else.
-fn place_of(arguments: &ArgMatches, len: usize) -> Place<'static> {
-    let base = arguments.get_one::<u32>("base").unwrap_or(0);
+/// Where a segment of so many bytes lies: in a region that it ends, where the words say nothing else.
+fn place_of(run: &Run, len: usize) -> Place<'static> {
     let len = u32::try_from(len).unwrap_or(u32::MAX);
-    let room = arguments
-        .get_one::<u32>("room")
-        .unwrap_or(base.saturating_add(len));
     Place {
-        room,
-        base,
+        room: run.room.unwrap_or(run.base.saturating_add(len)),
+        base: run.base,
         moves: &[],
     }
 }

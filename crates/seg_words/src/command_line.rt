@@ -1,0 +1,208 @@
+use clap::builder::{ValueParser, ValueRange};
+use clap::{Arg, Command, value_parser};
+use std::alloc::{AllocError, Global};
+
+/// A command with its arguments, in the order in which they come.
+struct Line {
+    name: &'static str,
+    about: &'static str,
+    arguments: &'static [Argument],
+}
+
+/// An argument: what it is read back by, which is also what help calls it, what it takes, and what help says of it.
+struct Argument {
+    id: &'static str,
+    takes: Takes,
+    help: &'static str,
+}
+
+/// What an argument takes. All but options are required.
+enum Takes {
+    Word,
+    Words,
+    OneOf(&'static [&'static str]),
+    Bytes,
+    /// An option, with a file.
+    File,
+    /// An option, with a number of bytes.
+    Number,
+}
+
+const IMAGE: Argument = Argument {
+    id: "FILE",
+    takes: Takes::Word,
+    help: "The image",
+};
+
+const CLIENT: Argument = Argument {
+    id: "CLIENT",
+    takes: Takes::Word,
+    help: "The client",
+};
+
+const NEW: [Argument; 4] = [
+    Argument {
+        id: "FILE",
+        takes: Takes::Word,
+        help: "The file that the image is written to",
+    },
+    Argument {
+        id: "SIZE",
+        takes: Takes::Bytes,
+        help: "The bytes of the segment, a multiple of 16 from 736 to 2^30",
+    },
+    Argument {
+        id: "ALG",
+        takes: Takes::OneOf(&["seq", "best"]),
+        help: "The allocator: sequential fit or best fit",
+    },
+    Argument {
+        id: "INDEX",
+        takes: Takes::OneOf(&["flat", "tree"]),
+        help: "How names are kept",
+    },
+];
+
+const RUN: [Argument; 6] = [
+    Argument {
+        id: "IMAGE",
+        takes: Takes::Word,
+        help: "The image that the clients run on",
+    },
+    Argument {
+        id: "OUT",
+        takes: Takes::Word,
+        help: "The file that the saved image is written to",
+    },
+    Argument {
+        id: "CLIENT",
+        takes: Takes::Words,
+        help: "The clients, run one after the other",
+    },
+    Argument {
+        id: "base",
+        takes: Takes::Number,
+        help: "Where the segment lies in the host region, a multiple of 16 [default: 0]",
+    },
+    Argument {
+        id: "room",
+        takes: Takes::Number,
+        help: "The bytes of the host region [default: as many as the segment needs]",
+    },
+    Argument {
+        id: "input",
+        takes: Takes::File,
+        help: "The bytes that the clients read, none if left out",
+    },
+];
+
+const GROW: [Argument; 2] = [
+    IMAGE,
+    Argument {
+        id: "EXTRA",
+        takes: Takes::Bytes,
+        help: "The bytes to add, a multiple of 16",
+    },
+];
+
+const ASSEMBLE: [Argument; 2] = [
+    Argument {
+        id: "TEXT",
+        takes: Takes::Word,
+        help: "The text",
+    },
+    Argument {
+        id: "OUT",
+        takes: Takes::Word,
+        help: "The file that the client is written to",
+    },
+];
+
+/// The commands, in the order in which help lists them.
+const LINES: &[Line] = &[
+    Line {
+        name: "new",
+        about: "Makes the image of an empty segment",
+        arguments: &NEW,
+    },
+    Line {
+        name: "check",
+        about: "Prints ok where a file is a sound image, else the first fault",
+        arguments: &[IMAGE],
+    },
+    Line {
+        name: "verify",
+        about: "Prints how many steps a client takes at most on an image",
+        arguments: &[IMAGE, CLIENT],
+    },
+    Line {
+        name: "run",
+        about: "Runs clients on an image, prints their output and saves the image",
+        arguments: &RUN,
+    },
+    Line {
+        name: "stat",
+        about: "Prints the bytes of a segment and of its free memory, and how many objects it has",
+        arguments: &[IMAGE],
+    },
+    Line {
+        name: "list",
+        about: "Prints each name with the number of its type and its count, then the types of unique objects",
+        arguments: &[IMAGE],
+    },
+    Line {
+        name: "grow",
+        about: "Adds free memory to a segment's end, rewrites the file and prints the new size",
+        arguments: &GROW,
+    },
+    Line {
+        name: "shrink",
+        about: "Cuts the free memory at a segment's end, rewrites the file and prints the new size",
+        arguments: &[IMAGE],
+    },
+    Line {
+        name: "asm",
+        about: "Assembles the text of a client",
+        arguments: &ASSEMBLE,
+    },
+    Line {
+        name: "print",
+        about: "Prints the text of a client",
+        arguments: &[CLIENT],
+    },
+];
+
+/// The words that the program understands.
+pub fn command_line<'a>(alloc: Global) -> Result<Command<'a>, AllocError> {
+    let mut program = Command::new(alloc, "segtool")
+        .about("Checks images of managed segments, and runs verified clients on them")
+        .subcommand_required(true)
+        .arg_required_else_help(true);
+    for line in LINES {
+        program = program.subcommand(command(alloc, line)?)?;
+    }
+    Ok(program)
+}
+
+fn command<'a>(alloc: Global, line: &'static Line) -> Result<Command<'a>, AllocError> {
+    let mut command = Command::new(alloc, line.name).about(line.about);
+    for argument in line.arguments {
+        command = command.arg(built(alloc, argument))?;
+    }
+    Ok(command)
+}
+
+fn built<'a>(alloc: Global, argument: &'static Argument) -> Arg<'a> {
+    let plain = Arg::new(alloc, argument.id).help(argument.help);
+    match argument.takes {
+        Takes::Word => plain.required(true),
+        Takes::Words => plain.required(true).num_args(ValueRange::new(1..)),
+        Takes::OneOf(words) => plain.required(true).value_parser(ValueParser::Names(words)),
+        Takes::Bytes => plain.required(true).value_parser(value_parser!(u32)),
+        Takes::File => plain.long(argument.id).value_name("FILE"),
+        Takes::Number => plain
+            .long(argument.id)
+            .value_name("N")
+            .value_parser(value_parser!(u32)),
+    }
+}

@@ -1,0 +1,103 @@
+use crate::command_line::command_line;
+use crate::misread::Misread;
+use crate::request::{Allocator, Index, NewImage, Request, Run};
+use clap::ArgMatches;
+use std::alloc::{AllocError, Global};
+use std::convert::AsStr;
+
+/// What the words ask for, the program's name first.
+pub fn read<'a, S: AsStr>(alloc: Global, words: &'a [S]) -> Result<Request<'a>, Misread> {
+    match command_line(alloc)?.try_get_matches_from(words) {
+        Ok(matches) => Ok(request_of(alloc, &matches)?),
+        Err(error) if !error.use_stderr() => Ok(Request::Help(error.to_string(alloc)?)),
+        Err(error) => Err(Misread::of(alloc, &error)),
+    }
+}
+
+fn request_of<'a>(alloc: Global, matches: &ArgMatches<'a>) -> Result<Request<'a>, AllocError> {
+    match matches.subcommand() {
+        Some(("run", arguments)) => Ok(Request::Run(run_of(alloc, arguments)?)),
+        Some((command, arguments)) => Ok(image_request(alloc, command, arguments)),
+        // the command line requires a command
+        None => Ok(Request::Help(String::new(alloc))),
+    }
+}
+
+/// What a command on one image asks for.
+fn image_request<'a>(alloc: Global, command: &str, arguments: &ArgMatches<'a>) -> Request<'a> {
+    match command {
+        "new" => Request::New(new_of(arguments)),
+        "check" => Request::Check {
+            image: word(arguments, "FILE"),
+        },
+        "stat" => Request::Stat {
+            image: word(arguments, "FILE"),
+        },
+        "list" => Request::List {
+            image: word(arguments, "FILE"),
+        },
+        "grow" => Request::Grow {
+            image: word(arguments, "FILE"),
+            extra: number(arguments, "EXTRA"),
+        },
+        "shrink" => Request::Shrink {
+            image: word(arguments, "FILE"),
+        },
+        _ => client_request(alloc, command, arguments),
+    }
+}
+
+/// What a command on one client asks for.
+fn client_request<'a>(alloc: Global, command: &str, arguments: &ArgMatches<'a>) -> Request<'a> {
+    match command {
+        "verify" => Request::Verify {
+            image: word(arguments, "FILE"),
+            client: word(arguments, "CLIENT"),
+        },
+        "asm" => Request::Assemble {
+            text: word(arguments, "TEXT"),
+            client: word(arguments, "OUT"),
+        },
+        "print" => Request::Print {
+            client: word(arguments, "CLIENT"),
+        },
+        // the command line has no other
+        _ => Request::Help(String::new(alloc)),
+    }
+}
+
+fn new_of<'a>(arguments: &ArgMatches<'a>) -> NewImage<'a> {
+    NewImage {
+        file: word(arguments, "FILE"),
+        size: number(arguments, "SIZE"),
+        allocator: match word(arguments, "ALG") {
+            "best" => Allocator::Best,
+            _ => Allocator::Seq,
+        },
+        index: match word(arguments, "INDEX") {
+            "tree" => Index::Tree,
+            _ => Index::Flat,
+        },
+    }
+}
+
+fn run_of<'a>(alloc: Global, arguments: &ArgMatches<'a>) -> Result<Run<'a>, AllocError> {
+    Ok(Run {
+        image: word(arguments, "IMAGE"),
+        out: word(arguments, "OUT"),
+        clients: Vec::from_slice(alloc, arguments.get_strs("CLIENT").unwrap_or(&[]))?,
+        input: arguments.get_str("input"),
+        base: number(arguments, "base"),
+        room: arguments.get_one("room"),
+    })
+}
+
+/// The word with this id, which the command line requires of the commands that have it.
+fn word<'a>(arguments: &ArgMatches<'a>, id: &str) -> &'a str {
+    arguments.get_str(id).unwrap_or("")
+}
+
+/// The number with this id, 0 where it is left out.
+fn number(arguments: &ArgMatches, id: &str) -> u32 {
+    arguments.get_one(id).unwrap_or(0)
+}

@@ -1,0 +1,51 @@
+/// What the words of a command line ask for. Files are named as the words name them.
+#[derive(Drop)]
+pub enum Request<'a> {
+    New(NewImage<'a>),
+    Check { image: &'a str },
+    Stat { image: &'a str },
+    List { image: &'a str },
+    /// So many bytes more.
+    Grow { image: &'a str, extra: u32 },
+    Shrink { image: &'a str },
+    Verify { image: &'a str, client: &'a str },
+    Run(Run<'a>),
+    Assemble { text: &'a str, client: &'a str },
+    Print { client: &'a str },
+    /// A text for the standard output.
+    Help(String),
+}
+
+/// How a segment keeps its free blocks: by sequential fit or by best fit.
+#[derive(Debug, Clone, Copy, PartialEq, Eq)]
+pub enum Allocator {
+    Seq,
+    Best,
+}
+
+/// How a segment keeps its names.
+#[derive(Debug, Clone, Copy, PartialEq, Eq)]
+pub enum Index {
+    Flat,
+    Tree,
+}
+
+/// An image to be made, of an empty segment of so many bytes.
+#[derive(Debug, Clone, Copy)]
+pub struct NewImage<'a> {
+    pub file: &'a str,
+    pub size: u32,
+    pub allocator: Allocator,
+    pub index: Index,
+}
+
+/// Clients to be run one after the other on an image, in a region of so many bytes, or as many as it needs.
+#[derive(Drop)]
+pub struct Run<'a> {
+    pub image: &'a str,
+    pub out: &'a str,
+    pub clients: Vec<&'a str>,
+    pub input: Option<&'a str>,
+    pub base: u32,
+    pub room: Option<u32>,
+}
