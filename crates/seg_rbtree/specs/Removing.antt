@@ -2,8 +2,9 @@
 --     IsShort layers tree                 it has one black node too few on each way down
 --     turns layers tree                   so many turns make that good at most
 --     StandsAt bytes path layers tree     a tree stands at the place that a path leads to
+--     WhereRedBlack bytes path layers tree claim      a claim of such a place in a red-black tree
 --     Lengthens, Unlinks ..               what the steps do
-use Rattle.std.specs.Prelude.{◌≡◌, ℕ, suc, ◌+◌, ◌<◌, ⊤, Bool, MatchBool, List, [], ◌∷◌, ◌++◌, length, Option, Some}
+use Rattle.std.specs.Prelude.{◌≡◌, ℕ, suc, ◌+◌, ◌^◌, ◌<◌, ⊤, Bool, MatchBool, List, [], ◌∷◌, ◌++◌, length, Option, Some}
 use Rattle.seg_spec.specs.Pointer.{target}
 use Rattle.seg_spec.specs.Shapes.{Colour, black, red, Tree, leaf, fork, nodes_of, IsTree, IsBalanced, IsRedBlack}
 use Rattle.seg_rbtree.specs.declared.node.Side.{Side}
@@ -73,6 +74,11 @@ pub record StandsAt (bytes : List ℕ) (path : Path) (layers : List Layer) (tree
   pub steps_are : path.steps.items ≡ steps_of layers
   pub hangs : IsTree bytes (target bytes path.root) (plug tree layers)
   pub apart : StandApart (length bytes) path.root (nodes_of (plug tree layers))
+
+-- the claim holds where the whole tree keeps the rules of colour, and has no more nodes than a segment
+abbrev pub WhereRedBlack : List ℕ → Path → List Layer → Tree → Type 0 → Type 0
+WhereRedBlack bytes path layers tree claim =
+    StandsAt bytes path layers tree → IsRedBlack (plug tree layers) → length (nodes_of (plug tree layers)) < 2 ^ 32 → claim
 
 -- what a removed node of a colour leaves
 abbrev pub IsLeft : Tint → List Layer → Tree → Type 0
