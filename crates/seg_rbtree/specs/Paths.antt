@@ -21,10 +21,12 @@ use Rattle.seg_rbtree.specs.Ways.{last_word}
 -- the claim holds of each search tree at the pointer word whose nodes are in order
 abbrev pub WhereOrdered : (List ℕ → ℕ → ℕ → Ordering) → Placement → ℕ → (Tree → Type 0) → Type 0
 WhereOrdered compare w root claim =
-    (shape : Tree) → IsSearchTree w.bytes root shape → Ascend (compare w.bytes) (nodes_of shape) → claim shape
+    (shape : Tree) → IsSearchTree w.bytes root shape → Ascend (compare w.bytes) (nodes_of shape)
+    → claim shape
 
 -- how what is sought compares with a node
-abbrev pub sought_by : {K : Type 0} → (ℕ → ℕ → Ordering) → (ℕ → K → Ordering) → Sought K → ℕ → Ordering
+abbrev pub sought_by : {K : Type 0} → (ℕ → ℕ → Ordering) → (ℕ → K → Ordering) → Sought K
+    → ℕ → Ordering
 sought_by nodes key (Node sought) x = nodes sought x
 sought_by nodes key (Key sought) x = ordering_reverse (key x sought)
 
@@ -49,4 +51,5 @@ pub record IsEqualAmong (compare : ℕ → Ordering) (nodes : List ℕ) (node : 
 -- one of the nodes that compares as equal, where one does
 abbrev pub FindsEqual : (ℕ → Ordering) → List ℕ → Option ℕ → Type 0
 FindsEqual compare nodes found =
-    MatchOption found (AllByRecursion (λ x. compare x ≢ Equal) nodes) (λ node. IsEqualAmong compare nodes node)
+    MatchOption found (AllByRecursion (λ x. compare x ≢ Equal) nodes)
+    (λ node. IsEqualAmong compare nodes node)
