@@ -1,16 +1,13 @@
-ghost use Rattle.std.specs.Prelude.{◌≡◌, ◌+◌, ◌-◌, ◌*◌, ◌^◌, ◌≤◌, nat_le, Bool, List, [], ◌∷◌, ◌++◌, length};
+ghost use Rattle.std.specs.Prelude.{◌≡◌, ◌+◌, ◌-◌, ◌*◌, ◌^◌, ◌≤◌, nat_le, length};
 ghost use Rattle.std.specs.Option.{option_map};
-ghost use Rattle.seg_spec.specs.Window.{with_bytes};
-ghost use Rattle.seg_spec.specs.Heap.{Tile, Fill, AreHeaders, HoldsGaps, IsHeap, free_of, gaps, best_fit, units_at};
+ghost use Rattle.seg_spec.specs.Heap.{IsHeap, gaps, best_fit, units_at};
 ghost use Rattle.seg_spec.specs.Search.{looks};
-ghost use Rattle.seg_block.specs.Extents.{Enlarges};
-ghost use Rattle.seg_block.specs.Tiling.{tile};
 
 use crate::free_tree::{BySize, best_fit, free_tree, put_in, release, take, take_out};
 use crate::live::{absorb, cut, join_before, resize};
 use seg_block::{
-    Block, Fit, HEAP_START, UNIT, UNITS_BEFORE, block_at, block_of, expanded, granted, is_live,
-    last_block, room_behind, set_size, shrunk,
+    Block, Fit, HEAP_START, UNIT, UNITS_BEFORE, block_at, block_of, granted, is_live, last_block,
+    room_behind, set_size,
 };
 use seg_ptr::Window;
 use seg_ptr::header::{FREE, SIZE};
@@ -72,45 +69,17 @@ impl Fit for BestFit {
         release(w, whole);
     }
 
-    fn expand<A: Allocator>(w: &mut Window<A>, block: u32, need: u32) -> bool {
-        let Some(block) = block_at(w, block) else {
-            return false;
-        };
-        let room = room_behind(w, block);
-        let Some(units) = expanded(block.units, room, need) else {
-            return false;
-        };
+    fn resize<A: Allocator>(w: &mut Window<A>, block: Block, room: u32, units: u32) {
         resize(w, block, room, units);
-        true
     }
 
-    fn shrink<A: Allocator>(w: &mut Window<A>, block: u32, need: u32) {
-        let Some(block) = block_at(w, block) else {
-            return;
-        };
-        if need > block.units {
-            return;
-        }
-        let room = room_behind(w, block);
-        resize(w, block, room, shrunk(block.units, room, need));
-    }
-
-    fn extend_end<A: Allocator>(w: &mut Window<A>, units: u32) {
-        let len = w.len();
-        let end = len - UNIT * units;
-        w.put32(SIZE, len / UNIT);
-        if units == 0 {
-            return;
-        }
-        let Some(last) = last_block(w, end) else {
-            return;
-        };
-        if units == 1 {
-            enlarge(w, last, (len - last.at) / UNIT);
+    fn enlarge<A: Allocator>(w: &mut Window<A>, last: Block, units: u32) {
+        if is_live(w, last.at) {
+            set_size(w, last.at, units, true);
         } else {
-            w.put32(end as usize + UNITS_BEFORE, last.units);
-            set_size(w, end, units, true);
-            Self::free(w, end);
+            take_out(w, last);
+            set_size(w, last.at, units, false);
+            put_in(w, Block { units, ..last });
         }
     }
 
@@ -133,23 +102,5 @@ impl Fit for BestFit {
         }
         w.put32(SIZE, last.at / UNIT);
         last.units
-    }
-}
-
-/// Gives the last block of a heap more units, up to the end of the segment.
-fn enlarge<A: Allocator>(w: &mut Window<A>, last: Block, units: u32)
-    requires inside { last.at + 16 * units ≤ 2 ^ 30 }
-    requires more { last.units ≤ units }
-    ensures host { w.new ≡ with_bytes w.old w.new.bytes }
-    ensures enlarges { (xs : List Tile) (l : Bool) → Fill 704 (xs ++ tile last.at last.units l ∷ []) (last.at + 16 * last.units) → AreHeaders w.old.bytes 0 (xs ++ tile last.at last.units l ∷ [])
-        → HoldsGaps 1 w.old.bytes (free_of (xs ++ tile last.at last.units l ∷ [])) → last.at + 16 * units ≡ length w.old.bytes
-        → Enlarges 1 w.old.bytes w.new.bytes xs last.at last.units units l }
-{
-    if is_live(w, last.at) {
-        set_size(w, last.at, units, true);
-    } else {
-        take_out(w, last);
-        set_size(w, last.at, units, false);
-        put_in(w, Block { units, ..last });
     }
 }

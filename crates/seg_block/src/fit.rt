@@ -1,9 +1,16 @@
-ghost use Rattle.std.specs.Prelude.{◌≡◌, ℕ, ◌+◌, ◌*◌, ◌/◌, ◌%◌, ◌<◌, ◌≤◌, Contains, length};
+ghost use Rattle.std.specs.Prelude.{◌≡◌, ℕ, ◌+◌, ◌*◌, ◌/◌, ◌%◌, ◌^◌, ◌<◌, ◌≤◌, ◌⊎◌, Bool, Contains, List, [], ◌∷◌, ◌++◌, length};
 ghost use Rattle.seg_spec.specs.Window.{with_bytes};
-ghost use Rattle.seg_spec.specs.Heap.{Span, IsHeap, IsLive, Takes, Gives, Expands, Shrinks, Begins, Extends, Cuts, without_last, live, gaps, room_at, shrunk};
+ghost use Rattle.seg_spec.specs.Heap.{Span, Tile, Fill, AreHeaders, HoldsGaps, IsHeap, IsLive, Takes, Gives, Expands, Shrinks, Begins, Extends, Cuts, without_last, free_of, live, gaps, room_at, shrunk};
+ghost use Rattle.seg_block.specs.Blocks.{IsResized};
+ghost use Rattle.seg_block.specs.Extents.{Enlarges};
+ghost use Rattle.seg_block.specs.Tiling.{tile};
 ghost use Rattle.seg_spec.specs.Bytes.{set_word};
 
+use crate::block::{Block, block_at, last_block, room_behind, set_size};
+use crate::header::{UNIT, UNITS_BEFORE};
+use crate::rules::{expanded, shrunk};
 use seg_ptr::Window;
+use seg_ptr::header::SIZE;
 use std::alloc::Allocator;
 
 /// An allocator of the segment's heap, over the window alone. Blocks are named by the positions of their headers, sizes
@@ -36,28 +43,25 @@ pub trait Fit {
         ensures host { w.new ≡ with_bytes w.old w.new.bytes }
         ensures gives { IsHeap code w.old.bytes → IsLive w.old.bytes block → Gives code w.old.bytes w.new.bytes block };
 
-    /// Lets a live block have `need` units where it stands, or one more. False where the gap right behind it is too small.
-    fn expand<A: Allocator>(w: &mut Window<A>, block: u32, need: u32) -> bool
-        requires { 2 ≤ need }
+    /// Gives a live block other units, at the cost or in favour of the gap of `room` units right after it (0 where there is
+    /// none).
+    fn resize<A: Allocator>(w: &mut Window<A>, block: Block, room: u32, units: u32)
+        requires inside { block.at + 16 * block.units + 16 * room ≤ 2 ^ 30 }
+        requires front { 2 ≤ units }
+        requires rest { (units ≡ block.units) ⊎ ((units ≡ block.units + room) ⊎ (units + 2 ≤ block.units + room)) }
         ensures host { w.new ≡ with_bytes w.old w.new.bytes }
-        ensures expands { (x : ℕ) → IsHeap code w.old.bytes → Contains (live w.old.bytes) (record { at = block; units = x })
-            → Expands code w.old.bytes w.new.bytes block x need result };
+        ensures same { units ≡ block.units → w.new ≡ w.old }
+        ensures resized { IsHeap code w.old.bytes → Contains (live w.old.bytes) (record { at = block.at; units = block.units }) → room ≡ room_at (gaps w.old.bytes) (block.at + 16 * block.units)
+            → IsResized code w.old.bytes w.new.bytes block.at units };
 
-    /// Cuts a live block to `need` units. A single unit stays with it, unless a gap follows. Where it keeps its units nothing
-    /// changes.
-    fn shrink<A: Allocator>(w: &mut Window<A>, block: u32, need: u32)
-        requires { 2 ≤ need }
+    /// Gives the last block of a heap more units, up to the end of the segment.
+    fn enlarge<A: Allocator>(w: &mut Window<A>, last: Block, units: u32)
+        requires inside { last.at + 16 * units ≤ 2 ^ 30 }
+        requires more { last.units ≤ units }
         ensures host { w.new ≡ with_bytes w.old w.new.bytes }
-        ensures shrinks { (x : ℕ) → IsHeap code w.old.bytes → Contains (live w.old.bytes) (record { at = block; units = x }) → need ≤ x
-            → Shrinks code w.old.bytes w.new.bytes block x need }
-        ensures unchanged { (x : ℕ) → IsHeap code w.old.bytes → Contains (live w.old.bytes) (record { at = block; units = x }) → need ≤ x
-            → shrunk x (room_at (gaps w.old.bytes) (block + 16 * x)) need ≡ x → w.new ≡ w.old };
-
-    /// Takes the last `units` units of the window into the heap, which ended before them, and sets the image's size.
-    fn extend_end<A: Allocator>(w: &mut Window<A>, units: u32)
-        requires { 16 * units ≤ length w.old.bytes }
-        ensures host { w.new ≡ with_bytes w.old w.new.bytes }
-        ensures extends { 736 + 16 * units ≤ length w.old.bytes → IsHeap code (without_last w.old.bytes units) → Extends code w.old.bytes w.new.bytes units };
+        ensures enlarges { (xs : List Tile) (l : Bool) → Fill 704 (xs ++ tile last.at last.units l ∷ []) (last.at + 16 * last.units) → AreHeaders w.old.bytes 0 (xs ++ tile last.at last.units l ∷ [])
+            → HoldsGaps code w.old.bytes (free_of (xs ++ tile last.at last.units l ∷ [])) → last.at + 16 * units ≡ length w.old.bytes
+            → Enlarges code w.old.bytes w.new.bytes xs last.at last.units units l };
 
     /// Cuts the gap at the heap's end, but for two units of a heap that is one gap. Sets the image's size, and answers by
     /// how many units the window can be cut. Of a heap of more than two units that can't be cut the size alone is written.
@@ -66,4 +70,66 @@ pub trait Fit {
         ensures cuts { 736 ≤ length w.old.bytes → IsHeap code w.old.bytes → Cuts code w.old.bytes w.new.bytes result }
         ensures unchanged { 736 < length w.old.bytes → IsHeap code w.old.bytes → result ≡ 0
             → w.new ≡ with_bytes w.old (set_word w.old.bytes 12 (length w.old.bytes / 16)) };
+
+    /// Lets a live block have `need` units where it stands, or one more. False where the gap right behind it is too small.
+    final fn expand<A: Allocator>(w: &mut Window<A>, block: u32, need: u32) -> bool
+        requires { 2 ≤ need }
+        ensures host { w.new ≡ with_bytes w.old w.new.bytes }
+        ensures expands { (x : ℕ) → IsHeap code w.old.bytes → Contains (live w.old.bytes) (record { at = block; units = x })
+            → Expands code w.old.bytes w.new.bytes block x need result }
+    {
+        let Some(block) = block_at(w, block) else {
+            return false;
+        };
+        let room = room_behind(w, block);
+        let Some(units) = expanded(block.units, room, need) else {
+            return false;
+        };
+        Self::resize(w, block, room, units);
+        true
+    }
+
+    /// Cuts a live block to `need` units. A single unit stays with it, unless a gap follows. Where it keeps its units nothing
+    /// changes.
+    final fn shrink<A: Allocator>(w: &mut Window<A>, block: u32, need: u32)
+        requires { 2 ≤ need }
+        ensures host { w.new ≡ with_bytes w.old w.new.bytes }
+        ensures shrinks { (x : ℕ) → IsHeap code w.old.bytes → Contains (live w.old.bytes) (record { at = block; units = x }) → need ≤ x
+            → Shrinks code w.old.bytes w.new.bytes block x need }
+        ensures unchanged { (x : ℕ) → IsHeap code w.old.bytes → Contains (live w.old.bytes) (record { at = block; units = x }) → need ≤ x
+            → shrunk x (room_at (gaps w.old.bytes) (block + 16 * x)) need ≡ x → w.new ≡ w.old }
+    {
+        let Some(block) = block_at(w, block) else {
+            return;
+        };
+        if need > block.units {
+            return;
+        }
+        let room = room_behind(w, block);
+        Self::resize(w, block, room, shrunk(block.units, room, need));
+    }
+
+    /// Takes the last `units` units of the window into the heap, which ended before them, and sets the image's size.
+    final fn extend_end<A: Allocator>(w: &mut Window<A>, units: u32)
+        requires { 16 * units ≤ length w.old.bytes }
+        ensures host { w.new ≡ with_bytes w.old w.new.bytes }
+        ensures extends { 736 + 16 * units ≤ length w.old.bytes → IsHeap code (without_last w.old.bytes units) → Extends code w.old.bytes w.new.bytes units }
+    {
+        let len = w.len();
+        let end = len - UNIT * units;
+        w.put32(SIZE, len / UNIT);
+        if units == 0 {
+            return;
+        }
+        let Some(last) = last_block(w, end) else {
+            return;
+        };
+        if units == 1 {
+            Self::enlarge(w, last, (len - last.at) / UNIT);
+        } else {
+            w.put32(end as usize + UNITS_BEFORE, last.units);
+            set_size(w, end, units, true);
+            Self::free(w, end);
+        }
+    }
 }

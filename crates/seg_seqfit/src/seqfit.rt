@@ -3,8 +3,8 @@ ghost use Rattle.std.specs.Prelude.{ℕ};
 use crate::free_list::{cut, merge, merge_behind, release, resize, take};
 use crate::search::{Found, first_fit, link_before};
 use seg_block::{
-    Fit, HEAP_START, LINK, TAG, UNIT, UNITS_BEFORE, block_at, expanded, free_before, granted,
-    is_live, last_block, room_behind, set_size, shrunk,
+    Block, Fit, HEAP_START, LINK, TAG, UNIT, UNITS_BEFORE, block_at, free_before, granted,
+    is_live, last_block, set_size,
 };
 use seg_ptr::Window;
 use seg_ptr::header::{FREE, SIZE};
@@ -52,47 +52,13 @@ impl Fit for SeqFit {
         }
     }
 
-    fn expand<A: Allocator>(w: &mut Window<A>, block: u32, need: u32) -> bool {
-        let Some(block) = block_at(w, block) else {
-            return false;
-        };
-        let room = room_behind(w, block);
-        let Some(units) = expanded(block.units, room, need) else {
-            return false;
-        };
+    fn resize<A: Allocator>(w: &mut Window<A>, block: Block, room: u32, units: u32) {
         resize(w, block, room, units);
-        true
     }
 
-    fn shrink<A: Allocator>(w: &mut Window<A>, block: u32, need: u32) {
-        let Some(block) = block_at(w, block) else {
-            return;
-        };
-        if need > block.units {
-            return;
-        }
-        let room = room_behind(w, block);
-        resize(w, block, room, shrunk(block.units, room, need));
-    }
-
-    fn extend_end<A: Allocator>(w: &mut Window<A>, units: u32) {
-        let len = w.len();
-        let end = len - UNIT * units;
-        w.put32(SIZE, len / UNIT);
-        if units == 0 {
-            return;
-        }
-        let Some(last) = last_block(w, end) else {
-            return;
-        };
-        if units == 1 {
-            let live = is_live(w, last.at);
-            set_size(w, last.at, (len - last.at) / UNIT, live);
-        } else {
-            w.put32(end as usize + UNITS_BEFORE, last.units);
-            set_size(w, end, units, true);
-            Self::free(w, end);
-        }
+    fn enlarge<A: Allocator>(w: &mut Window<A>, last: Block, units: u32) {
+        let live = is_live(w, last.at);
+        set_size(w, last.at, units, live);
     }
 
     fn cut_end<A: Allocator>(w: &mut Window<A>) -> u32 {

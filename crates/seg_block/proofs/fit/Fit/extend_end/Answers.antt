@@ -3,7 +3,7 @@ use Rattle.seg_spec.proofs.BytesLaws.{length-set_number}
 use Rattle.seg_spec.specs.Window.{Placement}
 use Rattle.seg_block.specs.Sizes.{set_size}
 use Rattle.seg_block.proofs.Extents.{extended_zero, end_never, end_units, extended_one, extended_more}
-use Rattle.seg_bestfit.proofs.bestfit.BestFitFit.extend_end.Goals as goal
+use Rattle.seg_block.proofs.fit.Fit.extend_end.Goals as goal
 
 pub returns-then-units-eq0-clause-extends : goal.returns-then-units-eq0-clause-extends
 returns-then-units-eq0-clause-extends g c = λ room h.

@@ -1,7 +1,7 @@
 use Rattle.std.proofs.Common.{arith}
 use Rattle.seg_block.proofs.LiveBlocks.{unread, read_is}
 use Rattle.seg_block.proofs.Expanding.{shrink_done, shrink_none}
-use Rattle.seg_seqfit.proofs.seqfit.SeqFitFit.shrink.Goals as goal
+use Rattle.seg_block.proofs.fit.Fit.shrink.Goals as goal
 
 pub returns-in_default-clause-shrinks : goal.returns-in_default-clause-shrinks
 returns-in_default-clause-shrinks g c = λ x h held low. absurd (unread c.args.w.now.bytes c.args.block x h held c.in_default.ensures.read)

@@ -2,7 +2,7 @@ use Rattle.std.proofs.Common.{sym, ap, ◌∙◌, arith}
 use Rattle.seg_spec.specs.Window.{Placement}
 use Rattle.seg_block.proofs.Enlarging.{enlarged_live}
 use Rattle.seg_bestfit.proofs.Enlarging.{enlarged_free}
-use Rattle.seg_bestfit.proofs.bestfit.enlarge.Goals as goal
+use Rattle.seg_bestfit.proofs.bestfit.BestFitFit.enlarge.Goals as goal
 
 pub returns-then-is_live-clause-enlarges : goal.returns-then-is_live-clause-enlarges
 returns-then-is_live-clause-enlarges g c = λ xs l filled heads holds inside.

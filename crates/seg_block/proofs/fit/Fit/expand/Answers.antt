@@ -2,7 +2,7 @@ use Rattle.std.proofs.Common.{ap}
 use Rattle.seg_spec.specs.Window.{Placement}
 use Rattle.seg_block.proofs.LiveBlocks.{unread}
 use Rattle.seg_block.proofs.Expanding.{expand_never, expand_done}
-use Rattle.seg_seqfit.proofs.seqfit.SeqFitFit.expand.Goals as goal
+use Rattle.seg_block.proofs.fit.Fit.expand.Goals as goal
 
 pub returns-in_default-clause-expands : goal.returns-in_default-clause-expands
 returns-in_default-clause-expands g c = λ x h held. absurd (unread c.args.w.now.bytes c.args.block x h held c.in_default.ensures.read)
