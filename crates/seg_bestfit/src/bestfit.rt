@@ -3,11 +3,11 @@ ghost use Rattle.std.specs.Option.{option_map};
 ghost use Rattle.seg_spec.specs.Heap.{IsHeap, gaps, best_fit, units_at};
 ghost use Rattle.seg_spec.specs.Search.{looks};
 
-use crate::free_tree::{BySize, best_fit, free_tree, put_in, release, take, take_out};
-use crate::live::{absorb, cut, join_before, resize};
+use crate::free_tree::{BySize, best_fit, free_tree, put_in, take_out};
+use crate::live::join_before;
 use seg_block::{
-    Block, Fit, HEAP_START, UNIT, UNITS_BEFORE, block_at, block_of, granted, is_live, last_block,
-    room_behind, set_size,
+    Block, Fit, FreeStructure, HEAP_START, UNIT, UNITS_BEFORE, absorb, block_at, block_of, cut,
+    granted, is_live, last_block, resize, room_behind, set_size,
 };
 use seg_ptr::Window;
 use seg_ptr::header::{FREE, SIZE};
@@ -48,13 +48,13 @@ impl Fit for BestFit {
         w.point(FREE, None);
         set_size(w, HEAP_START, units, true);
         let at = HEAP_START;
-        release(w, Block { at, units });
+        Self::release(w, (), Block { at, units });
     }
 
     fn allocate<A: Allocator>(w: &mut Window<A>, need: u32) -> Option<u32> {
         let gap = best_fit(w, need)?;
-        take(w, gap);
-        cut(w, gap, granted(gap.units, need));
+        Self::take(w, (), gap);
+        cut::<Self, A>(w, (), gap, granted(gap.units, need));
         Some(gap.at)
     }
 
@@ -63,14 +63,14 @@ impl Fit for BestFit {
             return;
         };
         let room = room_behind(w, block);
-        absorb(w, block, room);
+        absorb::<Self, A>(w, (), block, room);
         let units = block.units + room;
         let whole = join_before(w, Block { units, ..block });
-        release(w, whole);
+        Self::release(w, (), whole);
     }
 
     fn resize<A: Allocator>(w: &mut Window<A>, block: Block, room: u32, units: u32) {
-        resize(w, block, room, units);
+        resize::<Self, A>(w, block, room, units);
     }
 
     fn enlarge<A: Allocator>(w: &mut Window<A>, last: Block, units: u32) {

@@ -10,10 +10,10 @@ ghost use Rattle.seg_rbtree.specs.Parts.{part};
 ghost use Rattle.seg_rbtree.specs.Roots.{root_word};
 ghost use Rattle.seg_block.specs.Blocks.{IsBlock};
 ghost use Rattle.seg_block.specs.FreeBlocks.{AreFreeBlocks};
-ghost use Rattle.seg_block.specs.Tiling.{tile, IsTiling, Retiles};
 ghost use Rattle.seg_bestfit.specs.FreeTree.{by_units, Leaves, Joins};
 
-use seg_block::{Block, LINK, TAG, UNIT, block_at, set_size, units};
+use crate::bestfit::BestFit;
+use seg_block::{Block, FreeStructure, LINK, TAG, UNIT, block_at, set_size, units};
 use seg_ptr::{Window, header};
 use seg_rbtree::{NodeOrder, Tree};
 use std::alloc::Allocator;
@@ -109,26 +109,27 @@ pub(crate) fn put_in<A: Allocator>(w: &mut Window<A>, block: Block)
     free_tree().insert(w, &BySize, block.at + UNIT);
 }
 
-/// Makes a free block live.
-pub(crate) fn take<A: Allocator>(w: &mut Window<A>, block: Block)
-    requires { block.at + 16 * block.units ≤ 2 ^ 30 }
-    ensures host { w.new ≡ with_bytes w.old w.new.bytes }
-    ensures tiles { (xs ys : List Tile) → IsTiling 1 w.old.bytes (xs ++ tile block.at block.units false ∷ ys)
-        → Retiles 1 w.old.bytes w.new.bytes xs (tile block.at block.units true ∷ []) ys × (link_at w.new.bytes block.at ≡ None) }
-{
-    take_out(w, block);
-    set_size(w, block.at, block.units, true);
-}
+impl FreeStructure for BestFit {
+    ghost code = { 1 };
 
-/// Makes a live block free.
-pub(crate) fn release<A: Allocator>(w: &mut Window<A>, block: Block)
-    requires { block.at + 16 * block.units ≤ 2 ^ 30 }
-    ensures host { w.new ≡ with_bytes w.old w.new.bytes }
-    ensures tiles { (xs ys : List Tile) → IsTiling 1 w.old.bytes (xs ++ tile block.at block.units true ∷ ys)
-        → Retiles 1 w.old.bytes w.new.bytes xs (tile block.at block.units false ∷ []) ys }
-{
-    w.put32(block.at as usize + TAG, 0);
-    w.point(block.at as usize + LINK, None);
-    set_size(w, block.at, block.units, false);
-    put_in(w, block);
+    /// The tree finds a block by its size and its position.
+    type Predecessor = ();
+
+    ghost leads = { λ _ _. ⊤ };
+
+    fn predecessor<A: Allocator>(_w: &Window<A>, _block: Block) {}
+
+    fn take<A: Allocator>(w: &mut Window<A>, _predecessor: (), block: Block) {
+        take_out(w, block);
+        set_size(w, block.at, block.units, true);
+    }
+
+    fn release<A: Allocator>(w: &mut Window<A>, _predecessor: (), block: Block) {
+        w.put32(block.at as usize + TAG, 0);
+        w.point(block.at as usize + LINK, None);
+        set_size(w, block.at, block.units, false);
+        put_in(w, block);
+    }
+
+    ghost leads_past = { λ _ _ _ _ _. tt };
 }

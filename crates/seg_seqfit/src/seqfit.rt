@@ -1,10 +1,10 @@
 ghost use Rattle.std.specs.Prelude.{ℕ};
 
-use crate::free_list::{cut, merge, merge_behind, release, resize, take};
+use crate::free_list::{merge, merge_behind};
 use crate::search::{Found, first_fit, link_before};
 use seg_block::{
-    Block, Fit, HEAP_START, LINK, TAG, UNIT, UNITS_BEFORE, block_at, free_before, granted,
-    is_live, last_block, set_size,
+    Block, Fit, FreeStructure, HEAP_START, LINK, TAG, UNIT, UNITS_BEFORE, block_at, cut,
+    free_before, granted, is_live, last_block, resize, set_size,
 };
 use seg_ptr::Window;
 use seg_ptr::header::{FREE, SIZE};
@@ -35,8 +35,8 @@ impl Fit for SeqFit {
 
     fn allocate<A: Allocator>(w: &mut Window<A>, need: u32) -> Option<u32> {
         let Found { link, block } = first_fit(w, need)?;
-        take(w, link, block);
-        cut(w, link, block, granted(block.units, need));
+        Self::take(w, link, block);
+        cut::<Self, A>(w, link, block, granted(block.units, need));
         Some(block.at)
     }
 
@@ -45,7 +45,7 @@ impl Fit for SeqFit {
             return;
         };
         let link = link_before(w, block);
-        release(w, link, block);
+        Self::release(w, link, block);
         let whole = merge_behind(w, block);
         if let Some(gap) = free_before(w, whole) {
             merge(w, gap, whole);
@@ -53,7 +53,7 @@ impl Fit for SeqFit {
     }
 
     fn resize<A: Allocator>(w: &mut Window<A>, block: Block, room: u32, units: u32) {
-        resize(w, block, room, units);
+        resize::<Self, A>(w, block, room, units);
     }
 
     fn enlarge<A: Allocator>(w: &mut Window<A>, last: Block, units: u32) {

@@ -11,4 +11,4 @@ pub returns-clause-joins : goal.returns-clause-joins
 returns-clause-joins g c = λ xs ys was apart.
     let found = c.in-Some.ensures in
     joined_some c.args.w.now.bytes xs ys c.args.block.at c.args.block.units was apart c.take.new.w.bytes c.join.new.w.bytes c.in-Some.gap found.read found.none found.bounds.0
-    (λ zs vs t. (c.take.ensures.tiles zs vs t).0) (ap (λ (p : Placement). p.bytes) c.join.ensures.bytes)
+    (λ zs vs t. (c.take.ensures.tiles zs vs tt t).0) (ap (λ (p : Placement). p.bytes) c.join.ensures.bytes)

@@ -6,10 +6,10 @@ use Rattle.seg_block.specs.FreeBlocks.{AreFreeBlocks}
 use Rattle.seg_block.specs.Sizes.{set_size}
 use Rattle.seg_bestfit.specs.FreeTree.{Joins}
 use Rattle.seg_bestfit.proofs.Releasing.{freed_blocks, freed_tree, freed_link, freed_length, released-retiles}
-use Rattle.seg_bestfit.proofs.free_tree.release.Goals as goal
+use Rattle.seg_bestfit.proofs.free_tree.BestFitFreeStructure.release.Goals as goal
 
 pub returns-clause-tiles : goal.returns-clause-tiles
-returns-clause-tiles g c = λ xs ys was.
+returns-clause-tiles g c = λ xs ys _ was.
     let old = c.args.w.now.bytes in
     let at = c.args.block.at in
     let u = c.args.block.units in

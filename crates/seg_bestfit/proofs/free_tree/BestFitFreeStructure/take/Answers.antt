@@ -3,10 +3,10 @@ use Rattle.seg_spec.specs.Window.{Placement}
 use Rattle.seg_spec.specs.Heap.{free_of, link_at}
 use Rattle.seg_block.specs.Tiling.{tile, Retiles}
 use Rattle.seg_bestfit.proofs.Taking.{blocks_around, tree_around, taken-retiles, taken-link}
-use Rattle.seg_bestfit.proofs.free_tree.take.Goals as goal
+use Rattle.seg_bestfit.proofs.free_tree.BestFitFreeStructure.take.Goals as goal
 
 pub returns-clause-tiles : goal.returns-clause-tiles
-returns-clause-tiles g c = λ xs ys was.
+returns-clause-tiles g c = λ xs ys _ was.
     let old = c.args.w.now.bytes in
     let mid = c.take_out.new.w.bytes in
     let at = c.args.block.at in

@@ -5,7 +5,7 @@ use Rattle.seg_block.specs.Sizes.{set_size}
 use Rattle.seg_block.specs.Tiling.{tile, Retiles}
 use Rattle.seg_seqfit.specs.Retiling.{link_behind}
 use Rattle.seg_seqfit.proofs.Releasing.{release-retiles}
-use Rattle.seg_seqfit.proofs.free_list.release.Goals as goal
+use Rattle.seg_seqfit.proofs.free_list.SeqFitFreeStructure.release.Goals as goal
 
 pub returns-clause-tiles : goal.returns-clause-tiles
 returns-clause-tiles g c = λ xs ys link_is was.
