@@ -4,7 +4,7 @@ ghost use Rattle.std.specs.Prelude.{◌≡◌, ◌+◌, ◌*◌, ◌^◌, ◌≤
 ghost use Rattle.seg_spec.specs.Window.{with_bytes};
 ghost use Rattle.seg_spec.specs.Heap.{Tile, AreApart};
 ghost use Rattle.seg_block.specs.Tiling.{tile, IsTiling};
-ghost use Rattle.seg_bestfit.specs.Joining.{JoinsBefore};
+ghost use Rattle.seg_block.specs.Joining.{JoinsBefore};
 
 use crate::bestfit::BestFit;
 use seg_block::{Block, FreeStructure, free_before, join};
@@ -16,7 +16,7 @@ pub(crate) fn join_before<A: Allocator>(w: &mut Window<A>, block: Block) -> Bloc
     requires { block.at + 16 * block.units ≤ 2 ^ 30 }
     ensures bounds { result.at + 16 * result.units ≡ block.at + 16 * block.units }
     ensures host { w.new ≡ with_bytes w.old w.new.bytes }
-    ensures joins { (xs ys : List Tile) → IsTiling 1 w.old.bytes (xs ++ tile block.at block.units true ∷ ys) → AreApart true xs → JoinsBefore w.old.bytes w.new.bytes xs result.at result.units ys }
+    ensures joins { (xs ys : List Tile) → IsTiling 1 w.old.bytes (xs ++ tile block.at block.units true ∷ ys) → AreApart true xs → JoinsBefore 1 true w.old.bytes w.new.bytes xs result.at result.units ys }
 {
     let Some(gap) = free_before(w, block) else {
         return block;

@@ -4,13 +4,16 @@ ghost use Rattle.std.specs.Prelude.{◌≡◌, ℕ, ◌+◌, ◌-◌, ◌*◌, �
 ghost use Rattle.seg_spec.specs.Bytes.{Agrees};
 ghost use Rattle.seg_spec.specs.Window.{with_bytes};
 ghost use Rattle.seg_spec.specs.Heap.{Tile, AreApart};
+ghost use Rattle.seg_block.specs.Joining.{JoinsBefore};
 ghost use Rattle.seg_block.specs.Tiling.{tile, IsTiling, Retiles};
 ghost use Rattle.seg_seqfit.specs.Retiling.{link_behind, JoinsBehind};
 ghost use Rattle.seg_seqfit.specs.Leading.{leads_past};
 
 use crate::search::link_before;
 use crate::seqfit::SeqFit;
-use seg_block::{Block, FreeStructure, LINK, TAG, UNIT, free_behind, join, set_size};
+use seg_block::{
+    Block, FreeStructure, LINK, TAG, UNIT, free_before, free_behind, join, set_size,
+};
 use seg_ptr::Window;
 use std::alloc::Allocator;
 
@@ -42,6 +45,27 @@ impl FreeStructure for SeqFit {
     }
 
     ghost leads_past = { leads_past };
+}
+
+/// Makes a live block free: as the end of the gap right before it, or, where there is none, as a gap of its own, for which
+/// the list is searched. Returns the gap.
+pub(crate) fn release_joined<A: Allocator>(w: &mut Window<A>, block: Block) -> Block
+    requires { block.at + 16 * block.units ≤ 2 ^ 30 }
+    ensures bounds { result.at + 16 * result.units ≤ 2 ^ 30 }
+    ensures host { w.new ≡ with_bytes w.old w.new.bytes }
+    ensures joins { (xs ys : List Tile) → IsTiling 0 w.old.bytes (xs ++ tile block.at block.units true ∷ ys) → AreApart true xs
+        → JoinsBefore 0 false w.old.bytes w.new.bytes xs result.at result.units ys }
+{
+    let Some(gap) = free_before(w, block) else {
+        let link = link_before(w, block);
+        SeqFit::release(w, link, block);
+        return block;
+    };
+    join(w, gap, block);
+    Block {
+        at: gap.at,
+        units: gap.units + block.units,
+    }
 }
 
 /// Joins a free block with the free block right behind it.

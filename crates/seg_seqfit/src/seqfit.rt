@@ -1,10 +1,10 @@
 ghost use Rattle.std.specs.Prelude.{ℕ};
 
-use crate::free_list::{merge, merge_behind};
+use crate::free_list::{merge_behind, release_joined};
 use crate::search::{Found, first_fit, link_before};
 use seg_block::{
     Block, Fit, FreeStructure, HEAP_START, LINK, TAG, UNIT, UNITS_BEFORE, block_at, cut,
-    free_before, granted, is_live, last_block, resize, set_size,
+    granted, is_live, last_block, resize, set_size,
 };
 use seg_ptr::Window;
 use seg_ptr::header::{FREE, SIZE};
@@ -44,12 +44,8 @@ impl Fit for SeqFit {
         let Some(block) = block_at(w, block) else {
             return;
         };
-        let link = link_before(w, block);
-        Self::release(w, link, block);
-        let whole = merge_behind(w, block);
-        if let Some(gap) = free_before(w, whole) {
-            merge(w, gap, whole);
-        }
+        let gap = release_joined(w, block);
+        merge_behind(w, gap);
     }
 
     fn resize<A: Allocator>(w: &mut Window<A>, block: Block, room: u32, units: u32) {
