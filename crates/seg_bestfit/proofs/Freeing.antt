@@ -4,7 +4,7 @@ use Rattle.std.specs.Prelude.{Contains}
 use Rattle.seg_spec.specs.Bytes.{Agrees}
 use Rattle.seg_spec.specs.Heap.{Span, Tile, AreApart, live_of, live, gaps, room_at, IsHeap, IsLive, Gives}
 use Rattle.seg_spec.proofs.TileLaws.{live_of-append, AreApart-append}
-use Rattle.seg_block.specs.Blocks.{IsBlock}
+use Rattle.seg_block.specs.Blocks.{IsSized}
 use Rattle.seg_block.specs.Joining.{JoinsBefore}
 use Rattle.seg_block.specs.Tiling.{tile, IsTiling, Retiles, Spares}
 use Rattle.seg_block.proofs.Heaps.{Spares-none, Spares-trans, Spares-same}
@@ -84,7 +84,7 @@ module _ (old absorbed joined new : List ℕ) (at u room place units : ℕ) (h :
       (live_of-append j.front (tile place units false ∷ grown.rest) ∙ sym (live_of-append j.front grown.rest) ∙ front_same ∙ behind_same) spared
 
 -- at the block that was named
-pub freed_named : (old absorbed joined new : List ℕ) (named at u room place units : ℕ) (h : IsHeap 1 old) (held : IsLive old named) → ((g : Span) → named ≡ g.at → IsBlock old g → (at ≡ g.at) × (u ≡ g.units))
+pub freed_named : (old absorbed joined new : List ℕ) (named at u room place units : ℕ) (h : IsHeap 1 old) (held : IsLive old named) → ((g : Span) → named ≡ g.at → IsSized old g → (at ≡ g.at) × (u ≡ g.units))
     → ((allocator : ℕ) → IsHeap allocator old → Contains (live old) (record { at = at; units = u }) → room ≡ room_at (gaps old) (at + 16 * u))
     → (room ≡ 0 → absorbed ≡ old)
     → ((xs ys : List Tile) → IsTiling 1 old (xs ++ (tile at u true ∷ tile (at + 16 * u) room false ∷ ys)) → Retiles 1 old absorbed xs (tile at (u + room) true ∷ []) ys × Agrees old absorbed (at + 8) (at + 16 * u))

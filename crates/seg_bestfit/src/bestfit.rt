@@ -1,7 +1,8 @@
-ghost use Rattle.std.specs.Prelude.{◌≡◌, ◌+◌, ◌-◌, ◌*◌, ◌^◌, ◌≤◌, nat_le, length};
+ghost use Rattle.std.specs.Prelude.{◌≡◌, ◌+◌, ◌^◌, ◌≤◌, nat_le, length};
 ghost use Rattle.std.specs.Option.{option_map};
-ghost use Rattle.seg_spec.specs.Heap.{IsHeap, gaps, best_fit, units_at};
+ghost use Rattle.seg_spec.specs.Heap.{IsHeap, gaps, best_fit};
 ghost use Rattle.seg_spec.specs.Search.{looks};
+ghost use Rattle.seg_bestfit.specs.FreeTree.{node_units};
 
 use crate::free_tree::{BySize, best_fit, free_tree, put_in, take_out};
 use crate::live::join_before;
@@ -20,8 +21,10 @@ pub struct BestFit;
 /// The gap that an allocation of `need` units would take, by the position of its header, and how many free blocks are looked at
 /// for it.
 pub fn locate<A: Allocator>(w: &Window<A>, need: u32) -> (Option<u32>, u32)
-    ensures gap { IsHeap 1 w.now.bytes → result.0 ≡ option_map (λ g. g.at) (best_fit (gaps w.now.bytes) need) }
-    ensures looks { (h : IsHeap 1 w.now.bytes) → result.1 ≡ looks (λ node. nat_le need (units_at w.now.bytes (node - 16))) h.free.tree }
+    ensures gap { IsHeap 1 w.now.bytes
+        → result.0 ≡ option_map (λ g. g.at) (best_fit (gaps w.now.bytes) need) }
+    ensures looks { (h : IsHeap 1 w.now.bytes)
+        → result.1 ≡ looks (λ x. nat_le need (node_units w.now.bytes x)) h.free.tree }
     ensures few { IsHeap 1 w.now.bytes → 2 ^ result.1 ≤ (length (gaps w.now.bytes) + 1) ^ 2 }
 {
     let Looked { node, looks } = free_tree().first_at_least(w, &BySize, need);

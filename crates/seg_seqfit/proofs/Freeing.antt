@@ -6,7 +6,7 @@ use Rattle.seg_spec.specs.Heap.{Span, Tile, end_of, AreApart, IsHeap, IsLive, Gi
 use Rattle.seg_spec.proofs.BytesLaws.{Agrees-same}
 use Rattle.seg_spec.proofs.TileLaws.{live_after, live_of-append, AreApart-append, AreApart-front, AreApart-back}
 use Rattle.seg_block.specs.declared.block.Block.{Block}
-use Rattle.seg_block.specs.Blocks.{IsBlock, IsReadFree}
+use Rattle.seg_block.specs.Blocks.{IsSized, IsReadFree}
 use Rattle.seg_block.specs.Joining.{JoinsBefore}
 use Rattle.seg_block.specs.Tiling.{tile, Spares, IsTiled, IsTiling, Retiles}
 use Rattle.seg_block.proofs.Tiled.{around}
@@ -80,7 +80,7 @@ module _ (old : List ℕ) (at u : ℕ) (h : IsHeap 0 old) (held : Contains (live
       left (Spares-trans old released new (found.xs ++ found.ys) first.spared (Spares-same released new (first.front ++ found.ys) (found.xs ++ found.ys) (sym same) second.spared))
 
 -- at the block that was named
-pub freed_named : (old released new : List ℕ) (named at u place m n : ℕ) (h : IsHeap 0 old) (held : IsLive old named) → ((g : Span) → named ≡ g.at → IsBlock old g → (at ≡ g.at) × (u ≡ g.units))
+pub freed_named : (old released new : List ℕ) (named at u place m n : ℕ) (h : IsHeap 0 old) (held : IsLive old named) → ((g : Span) → named ≡ g.at → IsSized old g → (at ≡ g.at) × (u ≡ g.units))
     → ((xs ys : List Tile) → IsTiling 0 old (xs ++ tile at u true ∷ ys) → AreApart true xs → JoinsBefore 0 false old released xs place m ys)
     → ((xs ys : List Tile) → IsTiling 0 released (xs ++ tile place m false ∷ ys) → AreApart true ys → JoinsBehind released new xs place n ys) → Gives 0 old new named
 freed_named old released new named at u place m n h held read release join =

@@ -1,12 +1,12 @@
 //! Changes of the tiles that keep the free list.
 
-ghost use Rattle.std.specs.Prelude.{◌≡◌, ℕ, ◌+◌, ◌-◌, ◌*◌, ◌/◌, ◌%◌, ◌^◌, ◌<◌, ◌≤◌, ◌⊎◌, true, false, List, [], ◌∷◌, ◌++◌, length, Contains, None};
-ghost use Rattle.seg_spec.specs.Bytes.{Agrees};
+ghost use Rattle.std.specs.Prelude.{◌≡◌, ℕ, ◌+◌, ◌*◌, ◌≤◌, true, false, List, [], ◌∷◌, ◌++◌};
 ghost use Rattle.seg_spec.specs.Window.{with_bytes};
 ghost use Rattle.seg_spec.specs.Heap.{Tile, AreApart};
 ghost use Rattle.seg_block.specs.Joining.{JoinsBefore};
-ghost use Rattle.seg_block.specs.Tiling.{tile, IsTiling, Retiles};
-ghost use Rattle.seg_seqfit.specs.Retiling.{link_behind, JoinsBehind};
+ghost use Rattle.seg_block.specs.Blocks.{block_end};
+ghost use Rattle.seg_block.specs.Tiling.{tile_of, tile_behind, grown, IsTiling, Retiles};
+ghost use Rattle.seg_seqfit.specs.Retiling.{link_to, JoinsBehind};
 ghost use Rattle.seg_seqfit.specs.Leading.{leads_past};
 
 use crate::search::link_before;
@@ -14,7 +14,7 @@ use crate::seqfit::SeqFit;
 use seg_block::{
     Block, FreeStructure, LINK, TAG, UNIT, free_before, free_behind, join, set_size,
 };
-use seg_ptr::Window;
+use seg_ptr::{MAX_LEN, Window};
 use std::alloc::Allocator;
 
 impl FreeStructure for SeqFit {
@@ -23,7 +23,7 @@ impl FreeStructure for SeqFit {
     /// The pointer word that names the first free block at the block's position or above.
     type Predecessor = usize;
 
-    ghost leads = { λ link xs. link ≡ link_behind 24 xs };
+    ghost leads = { λ link xs. link ≡ link_to xs };
 
     fn predecessor<A: Allocator>(w: &Window<A>, block: Block) -> usize {
         link_before(w, block)
@@ -50,10 +50,11 @@ impl FreeStructure for SeqFit {
 /// Makes a live block free: as the end of the gap right before it, or, where there is none, as a gap of its own, for which
 /// the list is searched. Returns the gap.
 pub(crate) fn release_joined<A: Allocator>(w: &mut Window<A>, block: Block) -> Block
-    requires { block.at + 16 * block.units ≤ 2 ^ 30 }
-    ensures bounds { result.at + 16 * result.units ≤ 2 ^ 30 }
+    requires { block_end block ≤ MAX_LEN }
+    ensures bounds { block_end result ≤ MAX_LEN }
     ensures host { w.new ≡ with_bytes w.old w.new.bytes }
-    ensures joins { (xs ys : List Tile) → IsTiling 0 w.old.bytes (xs ++ tile block.at block.units true ∷ ys) → AreApart true xs
+    ensures joins { (xs ys : List Tile)
+        → IsTiling 0 w.old.bytes (xs ++ tile_of block true ∷ ys) → AreApart true xs
         → JoinsBefore 0 false w.old.bytes w.new.bytes xs result.at result.units ys }
 {
     let Some(gap) = free_before(w, block) else {
@@ -68,24 +69,28 @@ pub(crate) fn release_joined<A: Allocator>(w: &mut Window<A>, block: Block) -> B
     }
 }
 
-/// Joins a free block with the free block right behind it.
+/// Joins a free block with the free block right after it.
 pub(crate) fn merge<A: Allocator>(w: &mut Window<A>, front: Block, rest: Block)
-    requires { front.at + 16 * front.units + 16 * rest.units ≤ 2 ^ 30 }
+    requires { block_end front + UNIT * rest.units ≤ MAX_LEN }
     ensures host { w.new ≡ with_bytes w.old w.new.bytes }
-    ensures tiles { (xs ys : List Tile) → IsTiling 0 w.old.bytes (xs ++ (tile front.at front.units false ∷ tile (front.at + 16 * front.units) rest.units false ∷ ys))
-        → Retiles 0 w.old.bytes w.new.bytes xs (tile front.at (front.units + rest.units) false ∷ []) ys }
+    ensures tiles { (xs ys : List Tile)
+        → IsTiling 0 w.old.bytes
+          (xs ++ (tile_of front false ∷ tile_behind front rest.units false ∷ ys))
+        → Retiles 0 w.old.bytes w.new.bytes xs (grown front rest.units false ∷ []) ys }
 {
     let next = w.target((front.at + UNIT * front.units) as usize + LINK);
     join(w, front, rest);
     w.point(front.at as usize + LINK, next);
 }
 
-/// Joins a free block with the gap right behind it, where there is one. Answers the two as one.
+/// Joins a free block with the gap right after it, where there is one. Returns the two as one.
 pub(crate) fn merge_behind<A: Allocator>(w: &mut Window<A>, front: Block) -> Block
-    requires { front.at + 16 * front.units ≤ 2 ^ 30 }
-    ensures bounds { (result.at ≡ front.at) × (result.at + 16 * result.units ≤ 2 ^ 30) }
+    requires { block_end front ≤ MAX_LEN }
+    ensures bounds { (result.at ≡ front.at) × (block_end result ≤ MAX_LEN) }
     ensures host { w.new ≡ with_bytes w.old w.new.bytes }
-    ensures joins { (xs ys : List Tile) → IsTiling 0 w.old.bytes (xs ++ tile front.at front.units false ∷ ys) → AreApart true ys → JoinsBehind w.old.bytes w.new.bytes xs front.at result.units ys }
+    ensures joins { (xs ys : List Tile)
+        → IsTiling 0 w.old.bytes (xs ++ tile_of front false ∷ ys) → AreApart true ys
+        → JoinsBehind w.old.bytes w.new.bytes xs front.at result.units ys }
 {
     let Some(rest) = free_behind(w, front) else {
         return front;

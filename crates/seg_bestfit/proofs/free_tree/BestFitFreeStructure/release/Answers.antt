@@ -4,7 +4,7 @@ use Rattle.seg_spec.specs.Pointer.{set_pointer}
 use Rattle.seg_spec.specs.Heap.{free_of, link_at, IsFreeTree}
 use Rattle.seg_block.specs.FreeBlocks.{AreFreeBlocks}
 use Rattle.seg_block.specs.Sizes.{set_size}
-use Rattle.seg_bestfit.specs.FreeTree.{Joins}
+use Rattle.seg_bestfit.specs.FreeTree.{JoinsTree}
 use Rattle.seg_bestfit.proofs.Releasing.{freed_blocks, freed_tree, freed_link, freed_length, released-retiles}
 use Rattle.seg_bestfit.proofs.free_tree.BestFitFreeStructure.release.Goals as goal
 
@@ -17,7 +17,7 @@ returns-clause-tiles g c = λ xs ys _ was.
     let linked = ap bytes c.point.ensures ∙ ap (λ b. set_pointer b (at + 12) None) (ap bytes c.put32.ensures) in
     let freed_is = ap bytes c.set_size.ensures ∙ ap (λ b. set_size b at u false) linked in
     released-retiles old xs ys at u was c.put_in.new.w.bytes
-    (subst (λ (b : List ℕ). Joins b c.put_in.new.w.bytes (free_of xs) (record { at = at; units = u }) (free_of ys)) freed_is
+    (subst (λ (b : List ℕ). JoinsTree b c.put_in.new.w.bytes (free_of xs) (record { at = at; units = u }) (free_of ys)) freed_is
     (c.put_in.ensures.joins (omega (arith, was.tiled.small, freed_length old xs ys at u was, ap length freed_is)) (free_of xs) (free_of ys)
     (subst (λ (b : List ℕ). AreFreeBlocks b 704 (free_of xs ++ record { at = at; units = u } ∷ free_of ys)) (sym freed_is) (freed_blocks old xs ys at u was))
     (subst (λ (b : List ℕ). IsFreeTree b (free_of xs ++ free_of ys)) (sym freed_is) (freed_tree old xs ys at u was))
