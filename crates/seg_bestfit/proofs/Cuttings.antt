@@ -16,7 +16,7 @@ use Rattle.seg_block.proofs.Cuttings.{was, apart, places, last_place, live_there
 use Rattle.seg_block.proofs.Extents.{AreHeaders-words}
 use Rattle.seg_block.proofs.FreeKept.{HoldsGaps-kept, free_kept}
 use Rattle.seg_block.proofs.SizeLaws.{IsHeader-set_size, Agrees-set_size, length-set_size}
-use Rattle.seg_bestfit.specs.FreeTree.{KeepsBesideNodes, Leaves, Joins}
+use Rattle.seg_bestfit.specs.FreeTree.{KeepsBesideNodes, LeavesTree, JoinsTree}
 use Rattle.seg_bestfit.proofs.FreeGaps.{each_pick}
 use Rattle.seg_bestfit.proofs.Taking.{gaps_around, blocks_around, tree_around}
 use Rattle.seg_bestfit.proofs.TreeFrame.{headers_kept, front_kept, back_kept, live_kept, link_kept}
@@ -37,7 +37,7 @@ module _ (old : List ℕ) (large : 736 ≤ length old) (h : IsHeap 1 old) (xs : 
   end_live : (b : Span) → Contains (live old) b → Contains (live_of (xs ++ tile at u false ∷ [])) b
   end_live b c = subst (λ k. Contains (live_of (xs ++ tile at u k ∷ [])) b) is_free (subst (λ s. Contains s b) (live_there old large h xs at u l parts) c)
 
-  module _ (a : List ℕ) (g : Leaves old a (free_of xs) (record { at = at; units = u }) []) where
+  module _ (a : List ℕ) (g : LeavesTree old a (free_of xs) (record { at = at; units = u }) []) where
     kept : KeepsBesideNodes old a (free_of (xs ++ tile at u false ∷ []))
     kept = subst (λ gs. KeepsBesideNodes old a gs) (sym (gaps_around xs [] at u)) g.kept
 
@@ -130,7 +130,7 @@ module _ (old : List ℕ) (large : 736 ≤ length old) (h : IsHeap 1 old) (xs : 
           HoldsGaps-kept a cut_down 1 [] (IsSame-agrees a cut_down 24 28 24 4 (down_kept 24 28 (inr (omega arith)) (omega arith)) (omega arith) (omega arith) (omega (arith, long))) tt
           (subst (λ gs. IsFreeTree a gs) (append-nil (free_of xs) ∙ ap free_of first.0) g.tree)
 
-      pub cut_whole : (new : List ℕ) → Joins cut_down new [] (record { at = 704; units = 2 }) [] → Cuts 1 old new (u - 2)
+      pub cut_whole : (new : List ℕ) → JoinsTree cut_down new [] (record { at = 704; units = 2 }) [] → Cuts 1 old new (u - 2)
       cut_whole new j =
           let p = last_place old large h xs at u l parts in
           let f = first.1 in
@@ -152,22 +152,22 @@ module _ (old : List ℕ) (large : 736 ≤ length old) (h : IsHeap 1 old) (xs : 
 -- ---- from what the steps ensure
 
 module _ (old : List ℕ) (len : ℕ) (large : 736 ≤ length old) (h : IsHeap 1 old) (len_is : len ≡ length old) (at u : ℕ) (last : (ts : List Tile) → 704 < len → len ≤ length old → Fill 704 ts len → AreHeaders old 0 ts → HasEnd old ts at u) (free : is_live_at old at ≡ false)
-    (a : List ℕ) (leaves : (xs ys : List Span) → AreFreeBlocks old 704 (xs ++ record { at = at; units = u } ∷ ys) → IsFreeTree old (xs ++ record { at = at; units = u } ∷ ys) → Leaves old a xs (record { at = at; units = u }) ys) where
+    (a : List ℕ) (leaves : (xs ys : List Span) → AreFreeBlocks old 704 (xs ++ record { at = at; units = u } ∷ ys) → IsFreeTree old (xs ++ record { at = at; units = u } ∷ ys) → LeavesTree old a xs (record { at = at; units = u }) ys) where
   abbrev e : HasEnd old (tiles old) at u
   e = the_end old len large h len_is at u last
 
   is_free : e.live ≡ false
   is_free = sym (flag old len large h len_is at u last) ∙ free
 
-  out : Leaves old a (free_of e.front) (record { at = at; units = u }) []
+  out : LeavesTree old a (free_of e.front) (record { at = at; units = u }) []
   out = leaves (free_of e.front) [] (end_blocks old large h e.front at u e.live e.parts is_free) (end_tree old large h e.front at u e.live e.parts is_free)
 
   pub cuts_gap : (new : List ℕ) → 704 < at → new ≡ set_word a 12 (at / 16) → Cuts 1 old new u
   cuts_gap new above new_is = subst (λ b. Cuts 1 old b u) (sym new_is) (cut_gap old large h e.front at u e.live e.parts is_free a out above)
 
   pub cuts_whole : (down new : List ℕ) → at ≤ 704 → down ≡ set_size (set_word a 12 46) 704 2 false
-      → (length down ≤ 2 ^ 30 → (xs ys : List Span) → AreFreeBlocks down 704 (xs ++ record { at = 704; units = 2 } ∷ ys) → IsFreeTree down (xs ++ ys) → link_at down 704 ≡ None → Joins down new xs (record { at = 704; units = 2 }) ys) → Cuts 1 old new (u - 2)
+      → (length down ≤ 2 ^ 30 → (xs ys : List Span) → AreFreeBlocks down 704 (xs ++ record { at = 704; units = 2 } ∷ ys) → IsFreeTree down (xs ++ ys) → link_at down 704 ≡ None → JoinsTree down new xs (record { at = 704; units = 2 }) ys) → Cuts 1 old new (u - 2)
   cuts_whole down new below down_is joins =
-      let back = subst (λ k. length k ≤ 2 ^ 30 → (xs ys : List Span) → AreFreeBlocks k 704 (xs ++ record { at = 704; units = 2 } ∷ ys) → IsFreeTree k (xs ++ ys) → link_at k 704 ≡ None → Joins k new xs (record { at = 704; units = 2 }) ys) down_is joins in
+      let back = subst (λ k. length k ≤ 2 ^ 30 → (xs ys : List Span) → AreFreeBlocks k 704 (xs ++ record { at = 704; units = 2 } ∷ ys) → IsFreeTree k (xs ++ ys) → link_at k 704 ≡ None → JoinsTree k new xs (record { at = 704; units = 2 }) ys) down_is joins in
       cut_whole old large h e.front at u e.live e.parts is_free a out below new
       (back (subst (λ m. m ≤ 2 ^ 30) (sym (length-down old large h e.front at u e.live e.parts is_free a out below)) h.small) [] [] (down_blocks old large h e.front at u e.live e.parts is_free a out below) (down_tree old large h e.front at u e.live e.parts is_free a out below) (down_unlinked old large h e.front at u e.live e.parts is_free a out below))

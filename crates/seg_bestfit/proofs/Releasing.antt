@@ -13,7 +13,7 @@ use Rattle.seg_block.proofs.SizeLaws.{IsHeader-set_size, Agrees-set_size}
 use Rattle.seg_block.proofs.Tiled.{around, replaces}
 use Rattle.seg_block.proofs.FreeKept.{beside_kept}
 use Rattle.seg_block.proofs.Heaps.{Spares-trans, Spares-same}
-use Rattle.seg_bestfit.specs.FreeTree.{KeepsBesideNodes, Joins}
+use Rattle.seg_bestfit.specs.FreeTree.{KeepsBesideNodes, JoinsTree}
 use Rattle.seg_bestfit.proofs.Taking.{gaps_around, live_around, blocks_around}
 use Rattle.seg_bestfit.proofs.TreeFrame.{tiled_kept, spares_kept}
 
@@ -83,7 +83,7 @@ module _ (old : List ℕ) (xs ys : List Tile) (at u : ℕ) (was : IsTiling 1 old
   pub freed_length : length freed ≡ length old
   freed_length = (kept 0 0 (inl (omega arith)) (inl (omega arith))).length_kept
 
-  pub released-retiles : (new : List ℕ) → Joins freed new (free_of xs) (record { at = at; units = u }) (free_of ys) → Retiles 1 old new xs (tile at u false ∷ []) ys
+  pub released-retiles : (new : List ℕ) → JoinsTree freed new (free_of xs) (record { at = at; units = u }) (free_of ys) → Retiles 1 old new xs (tile at u false ∷ []) ys
   released-retiles new j =
       let k : KeepsBesideNodes freed new (free_of (xs ++ tile at u false ∷ ys)) = subst (λ gs. KeepsBesideNodes freed new gs) (sym (gaps_around xs ys at u)) j.kept in
       let r = freed-replaces in

@@ -3,7 +3,7 @@ use Rattle.std.proofs.Common.{◌≡◌, ◌≢◌, ℕ, ◌+◌, ◌-◌, ◌*�
 use Rattle.std.specs.Prelude.{Contains}
 use Rattle.seg_spec.specs.Bytes.{Agrees}
 use Rattle.seg_spec.specs.Heap.{Span, Tile, AreApart, live, gaps, IsHeap, room_at, expanded, shrunk, Expands, Shrinks}
-use Rattle.seg_block.specs.Blocks.{IsBlock, IsResized}
+use Rattle.seg_block.specs.Blocks.{IsSized, IsResized}
 use Rattle.seg_block.specs.Tiling.{tile, IsTiling, Retiles}
 use Rattle.seg_block.proofs.LiveBlocks.{read_is, read_held}
 use Rattle.seg_block.proofs.Resized.{HasGap, room_cases, resized_whole, resized_cut, resized_less, expands_not, expands_to, shrinks_to, before, behind, was}
@@ -44,7 +44,7 @@ module _ {allocator : ℕ} (Place : List Tile → Type 0) (old mid new : List �
 
 -- ---- at the block that was named
 
-module _ {allocator : ℕ} (old : List ℕ) (named x at u : ℕ) (h : IsHeap allocator old) (held : Contains (live old) (record { at = named; units = x })) (read : (g : Span) → named ≡ g.at → IsBlock old g → (at ≡ g.at) × (u ≡ g.units))
+module _ {allocator : ℕ} (old : List ℕ) (named x at u : ℕ) (h : IsHeap allocator old) (held : Contains (live old) (record { at = named; units = x })) (read : (g : Span) → named ≡ g.at → IsSized old g → (at ≡ g.at) × (u ≡ g.units))
     (room : ℕ) (room_is : (allocator : ℕ) → IsHeap allocator old → Contains (live old) (record { at = at; units = u }) → room ≡ room_at (gaps old) (at + 16 * u)) where
   is : (at ≡ named) × (u ≡ x)
   is = read_is old named x h held at u read

@@ -1,14 +1,36 @@
 -- The tiles of a heap, whatever holds the free ones. Free tiles may be neighbours.
-use Rattle.std.specs.Prelude.{ℕ, ◌+◌, ◌≤◌, ◌^◌, Bool, List, ◌++◌, length, Contains}
+use Rattle.std.specs.Prelude.{ℕ, ◌+◌, ◌-◌, ◌*◌, ◌≤◌, Bool, List, [], ◌∷◌, ◌++◌, length, Contains}
 use Rattle.seg_spec.specs.Bytes.{Agrees}
 use Rattle.seg_spec.specs.Heap.{Span, Tile, end_of, Fill, AreHeaders, HoldsGaps, live_of, free_of, heap_start}
+use Rattle.seg_ptr.specs.declared.window.TheConstants.{MAX_LEN}
+use Rattle.seg_block.specs.declared.block.Block.{Block}
 
 abbrev pub tile : ℕ → ℕ → Bool → Tile
 tile at units live = record { at = at; units = units; live = live }
 
+-- a block as a tile
+abbrev pub tile_of : Block → Bool → Tile
+tile_of b live = tile b.at b.units live
+
+-- the units right behind a block as a tile
+abbrev pub tile_behind : Block → ℕ → Bool → Tile
+tile_behind b units live = tile (b.at + 16 * b.units) units live
+
+-- a block with more units as a tile
+abbrev pub grown : Block → ℕ → Bool → Tile
+grown b more live = tile b.at (b.units + more) live
+
+-- the two tiles of a block that is cut: the front has these units
+abbrev pub halves : Block → ℕ → Bool → Bool → List Tile
+halves b units front_live back_live = tile b.at units front_live ∷ tile (b.at + 16 * units) (b.units - units) back_live ∷ []
+
+-- these tiles, and a block as the last one
+abbrev pub ending : List Tile → Block → Bool → List Tile
+ending xs b live = xs ++ tile_of b live ∷ []
+
 -- these tiles fill the heap with their headers
 pub record IsTiled (bytes : List ℕ) (ts : List Tile) : Type 0 where
-  pub small : length bytes ≤ 2 ^ 30
+  pub small : length bytes ≤ MAX_LEN
   pub filled : Fill heap_start ts (length bytes)
   pub headers : AreHeaders bytes 0 ts
 
@@ -33,3 +55,21 @@ pub record IsTiling (allocator : ℕ) (bytes : List ℕ) (ts : List Tile) : Type
 pub record Retiles (allocator : ℕ) (old new : List ℕ) (xs ns ys : List Tile) : Type 0 where
   pub tiling : IsTiling allocator new (xs ++ (ns ++ ys))
   pub spared : Spares old new (xs ++ ys)
+
+-- ---- the neighbours of a block, whatever the other tiles are
+
+-- what the tile right behind it meets
+abbrev pub ForNext : List ℕ → Block → (Tile → Type 0) → Type 0
+ForNext bytes b P = (xs ys : List Tile) (l : Bool) (t : Tile) → IsTiled bytes (xs ++ (tile_of b l ∷ t ∷ ys)) → P t
+
+-- what holds where it is the last one
+abbrev pub WhereLast : List ℕ → Block → Type 0 → Type 0
+WhereLast bytes b P = (xs : List Tile) (l : Bool) → IsTiled bytes (xs ++ tile_of b l ∷ []) → P
+
+-- what the tile right before it meets
+abbrev pub ForPrevious : List ℕ → Block → (Tile → Type 0) → Type 0
+ForPrevious bytes b P = (xs ys : List Tile) (l : Bool) (t : Tile) → IsTiled bytes (xs ++ (t ∷ tile_of b l ∷ ys)) → P t
+
+-- what holds where it is the first one
+abbrev pub WhereFirst : List ℕ → Block → Type 0 → Type 0
+WhereFirst bytes b P = (ys : List Tile) (l : Bool) → IsTiled bytes (tile_of b l ∷ ys) → P

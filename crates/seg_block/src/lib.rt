@@ -4,6 +4,7 @@
 
 mod block;
 mod fit;
+mod free_structure;
 mod grant;
 mod header;
 mod rules;
@@ -14,6 +15,7 @@ pub use block::{
     room_behind, set_size, split,
 };
 pub use fit::Fit;
+pub use free_structure::{FreeStructure, absorb, cut, resize};
 pub use grant::{Grant, request, request_at, request_new};
 pub use header::{
     HEAP_START, LINK, TAG, UNIT, UNITS_BEFORE, block_of, is_live, link, payload, tag_word, units,

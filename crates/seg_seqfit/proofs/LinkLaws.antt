@@ -117,7 +117,3 @@ live_beside_link (t ∷ ts) p from to b low f c =
       | false ↦ (λ c. live_beside_link ts (t.at + 12) (from + 16 * t.units) to b (omega (arith, f.0, f.1)) f.2 c)
     ] in
     go c
-
-pub link_behind-append : (xs ys : List Tile) (p : ℕ) → link_behind p (xs ++ ys) ≡ link_behind (link_behind p xs) ys
-link_behind-append [] ys p = refl
-link_behind-append (t ∷ xs) ys p = link_behind-append xs ys (cond t.live p (t.at + 12))

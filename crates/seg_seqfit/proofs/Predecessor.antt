@@ -10,7 +10,7 @@ use Rattle.seg_block.proofs.Neighbours.{own_flag}
 use Rattle.seg_block.specs.FreeBlocks.{AreFreeBlocks}
 use Rattle.seg_seqfit.specs.FreeBlocks.{link_after}
 use Rattle.seg_seqfit.specs.Retiling.{link_behind}
-use Rattle.seg_seqfit.proofs.LinkLaws.{link_behind-append}
+use Rattle.seg_seqfit.specs.Leading.{link_behind-append}
 use Rattle.seg_block.proofs.FreeTiles.{free_blocks}
 use Rattle.seg_block.proofs.ReadFree.{HasLast, last_cases}
 use Rattle.seg_seqfit.proofs.Walks.{AreBelow, AreAbove, IsPassed, passed_none}

@@ -5,7 +5,7 @@ use Rattle.std.proofs.lemmas.Bool.Decides.{nat_tests}
 use Rattle.std.specs.Prelude.{⊤}
 use Rattle.seg_spec.specs.Pointer.{target}
 use Rattle.seg_spec.specs.Heap.{Span, end_of, Links, first_fit}
-use Rattle.seg_block.specs.Blocks.{IsBlock}
+use Rattle.seg_block.specs.Blocks.{IsSized}
 use Rattle.seg_block.specs.FreeBlocks.{AreFreeBlocks}
 use Rattle.seg_seqfit.specs.FreeBlocks.{link_after, IsFirstFit}
 
@@ -38,10 +38,10 @@ first_fit-here g gs u h = rw (le-leb u g.units h) refl
 -- the walk reads what a pointer word names: nothing, or a free block from low on
 abbrev pub ReadsBlock : List ℕ → ℕ → ℕ → ℕ → ℕ → Type 0
 ReadsBlock bytes link low at units =
-    (target bytes link ≡ None → ⊥) × ((g : Span) → target bytes link ≡ Some (g.at + 16) → IsBlock bytes g → low ≤ g.at → (at ≡ g.at) × (units ≡ g.units))
+    (target bytes link ≡ None → ⊥) × ((g : Span) → target bytes link ≡ Some (g.at + 16) → IsSized bytes g → low ≤ g.at → (at ≡ g.at) × (units ≡ g.units))
 
 abbrev pub ReadsNone : List ℕ → ℕ → ℕ → Type 0
-ReadsNone bytes link low = (g : Span) → target bytes link ≡ Some (g.at + 16) → IsBlock bytes g → low ≤ g.at → ⊥
+ReadsNone bytes link low = (g : Span) → target bytes link ≡ Some (g.at + 16) → IsSized bytes g → low ≤ g.at → ⊥
 
 same_span : (g : Span) (at units : ℕ) → at ≡ g.at → units ≡ g.units → g ≡ record { at = at; units = units }
 same_span g at units p q = λ i. record { at = sym p i; units = sym q i }
@@ -134,9 +134,9 @@ pass bytes seen rest done (g ∷ todo) block link low at units reads under parts
 pub passed_more : (bytes : List ℕ) (seen rest : List Span) (block link low at units : ℕ) → ReadsBlock bytes link low at units → at < block → IsPassed bytes seen rest block link low → IsPassed bytes seen rest block (at + 12) (at + 16 * units)
 passed_more bytes seen rest block link low at units reads under p = pass bytes seen rest p.done p.todo block link low at units reads under p.parts p.link_is p.links p.blocks p.below p.above
 
-stop : (bytes : List ℕ) (seen rest done todo : List Span) (block link low : ℕ) → ((g : Span) → target bytes link ≡ Some (g.at + 16) → IsBlock bytes g → low ≤ g.at → g.at < block → ⊥) → seen ≡ done ++ todo → link ≡ link_after 24 done → Links bytes link (todo ++ rest) None → AreFreeBlocks bytes low (todo ++ rest) → AreBelow block todo → link ≡ link_after 24 seen
+stop : (bytes : List ℕ) (seen rest done todo : List Span) (block link low : ℕ) → ((g : Span) → target bytes link ≡ Some (g.at + 16) → IsSized bytes g → low ≤ g.at → g.at < block → ⊥) → seen ≡ done ++ todo → link ≡ link_after 24 done → Links bytes link (todo ++ rest) None → AreFreeBlocks bytes low (todo ++ rest) → AreBelow block todo → link ≡ link_after 24 seen
 stop bytes seen rest done [] block link low never parts link_is links blocks below = link_is ∙ ap (link_after 24) (sym (parts ∙ append-nil done))
 stop bytes seen rest done (g ∷ todo) block link low never parts link_is links blocks below = absurd (never g links.0 blocks.1 blocks.0 below.0)
 
-pub passed_end : (bytes : List ℕ) (seen rest : List Span) (block link low : ℕ) → ((g : Span) → target bytes link ≡ Some (g.at + 16) → IsBlock bytes g → low ≤ g.at → g.at < block → ⊥) → IsPassed bytes seen rest block link low → link ≡ link_after 24 seen
+pub passed_end : (bytes : List ℕ) (seen rest : List Span) (block link low : ℕ) → ((g : Span) → target bytes link ≡ Some (g.at + 16) → IsSized bytes g → low ≤ g.at → g.at < block → ⊥) → IsPassed bytes seen rest block link low → link ≡ link_after 24 seen
 passed_end bytes seen rest block link low never p = stop bytes seen rest p.done p.todo block link low never p.parts p.link_is p.links p.blocks p.below
