@@ -43,6 +43,8 @@ pub mod NoRoots
 pub mod PartLaw
 pub mod RootPaths
 pub mod PathsBehind
+pub mod Denials
+pub mod CutBuffers
 pub mod Composing
 pub mod StretchLaws
 pub mod WorkedCalls
