@@ -19,7 +19,8 @@ use Rattle.seg_bestfit.proofs.FreeGaps.{each_pick}
 use Rattle.seg_bestfit.proofs.Taking.{gaps_around}
 use Rattle.seg_bestfit.proofs.TreeFrame.{headers_kept, spares_kept, link_kept}
 
-module _ (old : List ℕ) (xs : List Tile) (at u n end : ℕ) (small : length old ≤ 2 ^ 30) (more : u ≤ n) (inside : at + 16 * n ≡ length old) (filled : Fill heap_start (xs ++ tile at u false ∷ []) end) (heads : AreHeaders old 0 (xs ++ tile at u false ∷ [])) (holds : IsFreeTree old (free_of (xs ++ tile at u false ∷ []))) where
+module _ (old : List ℕ) (xs : List Tile) (at u n end : ℕ) (small : length old ≤ 2 ^ 30) (more : u ≤ n) (inside : at + 16 * n ≡ length old) (filled : Fill heap_start (xs ++ tile at u false ∷ []) end)
+    (heads : AreHeaders old 0 (xs ++ tile at u false ∷ [])) (holds : IsFreeTree old (free_of (xs ++ tile at u false ∷ []))) where
   places : (Fill heap_start xs at) × (2 ≤ u) × (at + 16 * u ≡ end)
   places = larger-places old xs at u n end false small more inside filled heads
 
@@ -81,7 +82,8 @@ module _ (old : List ℕ) (xs : List Tile) (at u n end : ℕ) (small : length ol
         }
 
 -- from what the steps ensure
-pub enlarged_free : (old a b new : List ℕ) (xs : List Tile) (at u n : ℕ) (l : Bool) → length old ≤ 2 ^ 30 → u ≤ n → Fill heap_start (xs ++ tile at u l ∷ []) (at + 16 * u) → AreHeaders old 0 (xs ++ tile at u l ∷ []) → HoldsGaps 1 old (free_of (xs ++ tile at u l ∷ [])) → at + 16 * n ≡ length old
+pub enlarged_free : (old a b new : List ℕ) (xs : List Tile) (at u n : ℕ) (l : Bool) → length old ≤ 2 ^ 30 → u ≤ n → Fill heap_start (xs ++ tile at u l ∷ []) (at + 16 * u)
+    → AreHeaders old 0 (xs ++ tile at u l ∷ []) → HoldsGaps 1 old (free_of (xs ++ tile at u l ∷ [])) → at + 16 * n ≡ length old
     → is_live_at old at ≡ false
     → ((xs ys : List Span) → AreFreeBlocks old 704 (xs ++ record { at = at; units = u } ∷ ys) → IsFreeTree old (xs ++ record { at = at; units = u } ∷ ys) → LeavesTree old a xs (record { at = at; units = u }) ys)
     → b ≡ set_size a at n false
@@ -94,7 +96,9 @@ enlarged_free old a b new xs at u n l small more filled heads holds inside flag 
     let t = subst (λ c. HoldsGaps 1 old (free_of (xs ++ tile at u c ∷ []))) is holds in
     let end = at + 16 * u in
     let out = leaves (free_of xs) [] (last_blocks old xs at u n end small more inside f hs t) (last_tree old xs at u n end small more inside f hs t) in
-    let back = subst (λ k. length k ≤ 2 ^ 30 → (xs ys : List Span) → AreFreeBlocks k 704 (xs ++ record { at = at; units = n } ∷ ys) → IsFreeTree k (xs ++ ys) → link_at k at ≡ None → JoinsTree k new xs (record { at = at; units = n }) ys) b_is joins in
+    let back = subst (λ k. length k ≤ 2 ^ 30 → (xs ys : List Span) → AreFreeBlocks k 704 (xs ++ record { at = at; units = n } ∷ ys) → IsFreeTree k (xs ++ ys) → link_at k at ≡ None
+    → JoinsTree k new xs (record { at = at; units = n }) ys) b_is joins in
     subst (λ c. Enlarges 1 old new xs at u n c) (sym is)
     (enlarges_free old xs at u n end small more inside f hs t a out new
-    (back (subst (λ m. m ≤ 2 ^ 30) (sym (length-set_size a at n false ∙ out.kept.length_kept)) small) (free_of xs) [] (sized_blocks old xs at u n end small more inside f hs t a out) (sized_tree old xs at u n end small more inside f hs t a out) (sized_link old xs at u n end small more inside f hs t a out)))
+    (back (subst (λ m. m ≤ 2 ^ 30) (sym (length-set_size a at n false ∙ out.kept.length_kept)) small) (free_of xs) [] (sized_blocks old xs at u n end small more inside f hs t a out)
+    (sized_tree old xs at u n end small more inside f hs t a out) (sized_link old xs at u n end small more inside f hs t a out)))

@@ -1,9 +1,9 @@
 -- A live tile takes in the gap before it, which is taken out of the tree first.
-use Rattle.std.proofs.Common.{◌≡◌, ℕ, ◌+◌, ◌*◌, true, false, List, [], ◌∷◌, ◌++◌, sym, ap, ◌∙◌, subst}
+use Rattle.std.proofs.Common.{◌≡◌, ℕ, ◌+◌, ◌*◌, true, List, [], ◌∷◌, ◌++◌, sym, ap, ◌∙◌, subst}
 use Rattle.std.proofs.lemmas.List.{append_assoc}
 use Rattle.seg_spec.specs.Heap.{Tile, is_live_at}
 use Rattle.seg_block.specs.Sizes.{set_size}
-use Rattle.seg_block.specs.Tiling.{tile, IsTiling, Retiles, Spares}
+use Rattle.seg_block.specs.Tiling.{tile, Retiles, Spares}
 use Rattle.seg_block.proofs.Heaps.{Spares-trans}
 use Rattle.seg_block.proofs.LiveChanges.{join-retiles}
 use Rattle.seg_block.proofs.Resizing.{others}

@@ -61,7 +61,8 @@ module _ (old : List ℕ) (xs ys : List Tile) (at u : ℕ) (was : IsTiling 1 old
       number-set_same 4 (set_word linked at (size_word u false)) (at + 16 * u + 4) u (omega (arith, length-set_number 4 linked at (size_word u false))) (omega (arith, was.tiled.small))
 
   freed-replaces : Replaces old freed xs (tile at u false ∷ []) ys at 0
-  freed-replaces = replaces old freed xs (tile at u true ∷ []) (tile at u false ∷ []) ys at (at + 16 * u) 0 was.tiled parts.0 (refl, parts.1, refl) parts.2 kept header next_size (kept (at + 8) (at + 0) (inl (omega arith)) (inl (omega arith)))
+  freed-replaces = replaces old freed xs (tile at u true ∷ []) (tile at u false ∷ []) ys at (at + 16 * u) 0 was.tiled parts.0 (refl, parts.1, refl) parts.2 kept header next_size
+      (kept (at + 8) (at + 0) (inl (omega arith)) (inl (omega arith)))
 
   pub freed_blocks : AreFreeBlocks freed 704 (free_of xs ++ record { at = at; units = u } ∷ free_of ys)
   freed_blocks = blocks_around freed xs ys at u freed-replaces.tiled

@@ -39,7 +39,8 @@ Finds bytes root u node = (shape : Tree) → IsSearchTree bytes root shape → A
 abbrev pub Reads : List ℕ → ℕ → Option Block → Type 0
 Reads bytes node result = (g : Span) → node ≡ g.at + 16 → IsSized bytes g → IsSomeAnd result (λ f. (f.at ≡ g.at) × (f.units ≡ g.units))
 
-module _ (bytes : List ℕ) (root u : ℕ) (node : Option ℕ) (root_is : root ≡ 24) (finds : Finds bytes root u node) (gs : List Span) (holds : IsFreeTree bytes gs) (free : AreFreeBlocks bytes 704 gs) (low : 704 ≤ length bytes) (small : length bytes ≤ 2 ^ 30) where
+module _ (bytes : List ℕ) (root u : ℕ) (node : Option ℕ) (root_is : root ≡ 24) (finds : Finds bytes root u node) (gs : List Span) (holds : IsFreeTree bytes gs)
+    (free : AreFreeBlocks bytes 704 gs) (low : 704 ≤ length bytes) (small : length bytes ≤ 2 ^ 30) where
   pub node_is : node ≡ option_map node_of (best_fit gs u)
   node_is = subst (λ r. Finds bytes r u node) root_is finds holds.tree (search_tree bytes gs low small free holds) (tree_ascends bytes gs low small free holds) ∙ best_node bytes gs low small free holds u
 

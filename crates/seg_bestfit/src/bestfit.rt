@@ -8,7 +8,7 @@ use crate::free_tree::{BySize, best_fit, free_tree, put_in, take_out};
 use crate::live::join_before;
 use seg_block::{
     Block, Fit, FreeStructure, HEAP_START, UNIT, UNITS_BEFORE, absorb, block_at, block_of, cut,
-    granted, is_live, last_block, resize, room_behind, set_size,
+    granted, is_live, last_block, resize, room_after, set_size,
 };
 use seg_ptr::Window;
 use seg_ptr::header::{FREE, SIZE};
@@ -65,7 +65,7 @@ impl Fit for BestFit {
         let Some(block) = block_at(w, block) else {
             return;
         };
-        let room = room_behind(w, block);
+        let room = room_after(w, block);
         absorb::<Self, A>(w, (), block, room);
         let units = block.units + room;
         let whole = join_before(w, Block { units, ..block });

@@ -46,10 +46,12 @@ impl NodeOrder<u32> for BySize {
         size(w, node).cmp(&key)
     }
 
-    ghost total = { λ _ _ bytes. then_total (on_total (node_units bytes) nat_cmp_total) nat_cmp_total };
+    ghost total = { λ _ _ bytes.
+        then_total (on_total (node_units bytes) nat_cmp_total) nat_cmp_total };
 
     ghost keyed = { λ _ _ bytes x y key less.
-        then_steps_up nat_cmp_total (node_units bytes x) (node_units bytes y) key (nat_cmp x y) less };
+        then_steps_up nat_cmp_total (node_units bytes x) (node_units bytes y) key
+        (nat_cmp x y) less };
 
     ghost apart = { λ _ _ _ x low. (inl (omega (arith, low)), tt) };
 
@@ -81,7 +83,7 @@ pub(crate) fn best_fit<A: Allocator>(w: &Window<A>, need: u32) -> Option<Block>
     ensures best { (gs : List Span) → IsFreeTree w.now.bytes gs → AreGaps w.now.bytes gs
         → HEAP_START ≤ length w.now.bytes → length w.now.bytes ≤ MAX_LEN
         → MatchOption result (best_fit gs need ≡ None)
-          (λ f. best_fit gs need ≡ Some (span f.at f.units)) }
+        (λ f. best_fit gs need ≡ Some (span f.at f.units)) }
 {
     let Some(node) = free_tree().first_at_least(w, &BySize, need).node else {
         return None;

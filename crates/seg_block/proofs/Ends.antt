@@ -25,7 +25,8 @@ first_block bytes t ts at before end fits aligned f h =
     record { aligned = ap (λ p. p % 16) f.0 ∙ aligned; large = f.1; inside = omega (arith, f.0); size_is = h.0.units_is }
 
 module _ (bytes : List ℕ) (all : List Tile) (end place units : ℕ) (fits : end ≤ length bytes) where
-  more : (passed left : List Tile) (at before : ℕ) → all ≡ passed ++ left → Fill at left end → AreHeaders bytes before left → at % 16 ≡ 0 → at < end → ((g : Span) → at ≡ g.at → IsSized bytes g → (place ≡ g.at) × (units ≡ g.units)) → place + 16 * units < end → IsReached bytes all (place + 16 * units) end
+  more : (passed left : List Tile) (at before : ℕ) → all ≡ passed ++ left → Fill at left end → AreHeaders bytes before left → at % 16 ≡ 0 → at < end
+      → ((g : Span) → at ≡ g.at → IsSized bytes g → (place ≡ g.at) × (units ≡ g.units)) → place + 16 * units < end → IsReached bytes all (place + 16 * units) end
   more passed [] at before parts f h aligned low here next = absurd (omega (arith, f))
   more passed (t ∷ left) at before parts f h aligned low here next =
       let is = here (record { at = t.at; units = t.units }) (sym f.0) (first_block bytes t left at before end fits aligned f h) in
@@ -45,7 +46,8 @@ module _ (bytes : List ℕ) (all : List Tile) (end place units : ℕ) (fits : en
   nothing_behind [] from f h = refl
   nothing_behind (t ∷ ts) from f h = let le = Fill-le ts (from + 16 * t.units) end f.2 in absurd (omega (arith, f.1))
 
-  last : (passed left : List Tile) (at before : ℕ) → all ≡ passed ++ left → Fill at left end → AreHeaders bytes before left → at % 16 ≡ 0 → at < end → ((g : Span) → at ≡ g.at → IsSized bytes g → (place ≡ g.at) × (units ≡ g.units)) → end ≤ place + 16 * units → HasEnd bytes all place units
+  last : (passed left : List Tile) (at before : ℕ) → all ≡ passed ++ left → Fill at left end → AreHeaders bytes before left → at % 16 ≡ 0 → at < end
+      → ((g : Span) → at ≡ g.at → IsSized bytes g → (place ≡ g.at) × (units ≡ g.units)) → end ≤ place + 16 * units → HasEnd bytes all place units
   last passed [] at before parts f h aligned low here end_is = absurd (omega (arith, f))
   last passed (t ∷ left) at before parts f h aligned low here end_is =
       let is = here (record { at = t.at; units = t.units }) (sym f.0) (first_block bytes t left at before end fits aligned f h) in

@@ -13,12 +13,14 @@ module _ {allocator : ℕ} (Place : List Tile → Type 0) (old mid new : List �
     (none : room ≡ 0 → mid ≡ old)
     (absorb : (xs ys : List Tile) → Place xs → IsTiling allocator old (xs ++ (tile at u true ∷ tile (at + 16 * u) room false ∷ ys)) → Retiles allocator old mid xs (tile at (u + room) true ∷ []) ys × Agrees old mid (at + 8) (at + 16 * u))
     (whole : n ≡ u + room → new ≡ mid)
-    (cut : n + 2 ≤ u + room → (xs ys : List Tile) → Place xs → IsTiling allocator mid (xs ++ tile at (u + room) true ∷ ys) → Retiles allocator mid new xs (tile at n true ∷ tile (at + 16 * n) (u + room - n) false ∷ []) ys × Agrees mid new (at + 8) (at + 16 * n)) where
+    (cut : n + 2 ≤ u + room → (xs ys : List Tile) → Place xs → IsTiling allocator mid (xs ++ tile at (u + room) true ∷ ys)
+    → Retiles allocator mid new xs (tile at n true ∷ tile (at + 16 * n) (u + room - n) false ∷ []) ys × Agrees mid new (at + 8) (at + 16 * n)) where
   -- no gap is there
   cut_alone : room ≡ 0 → AreApart false (behind old at u h held) → n + 2 ≤ u + room → IsResized allocator old new at n
   cut_alone e apart more =
       let same : u + room ≡ u = omega arith in
-      let c = subst (λ (p : List ℕ × ℕ). IsTiling allocator p.0 (before old at u h held ++ tile at p.1 true ∷ behind old at u h held) → Retiles allocator p.0 new (before old at u h held) (tile at n true ∷ tile (at + 16 * n) (p.1 - n) false ∷ []) (behind old at u h held) × Agrees p.0 new (at + 8) (at + 16 * n))
+      let c = subst (λ (p : List ℕ × ℕ). IsTiling allocator p.0 (before old at u h held ++ tile at p.1 true ∷ behind old at u h held)
+      → Retiles allocator p.0 new (before old at u h held) (tile at n true ∷ tile (at + 16 * n) (p.1 - n) false ∷ []) (behind old at u h held) × Agrees p.0 new (at + 8) (at + 16 * n))
       (λ i. (none e i, same i)) (cut more (before old at u h held) (behind old at u h held) place) in
       resized_less old at u h held new n apart (c (was old at u h held))
 

@@ -79,7 +79,7 @@ pub fn last_block<A: Allocator>(w: &Window<A>, end: u32) -> Option<Block>
     None
 }
 
-/// Sets the size of the block at a position, also in the header of the block behind.
+/// Sets the size of the block at a position, in units, also in the header of the block after it.
 pub fn set_size<A: Allocator>(w: &mut Window<A>, block: u32, units: u32, live: bool)
     requires { units < LIVE }
     ensures { w.new ≡ with_bytes w.old (set_size w.old.bytes block units live) }
@@ -89,7 +89,7 @@ pub fn set_size<A: Allocator>(w: &mut Window<A>, block: u32, units: u32, live: b
     w.put32(block as usize + 16 * units as usize + UNITS_BEFORE, units);
 }
 
-/// The block right behind a block, where the segment goes on.
+/// The block right after a block, where the segment goes on.
 pub fn next<A: Allocator>(w: &Window<A>, block: Block) -> Option<Block>
     requires { block_end block ≤ MAX_LEN }
     ensures bounds { IfSome result (λ f. (f.at ≡ block_end block) × LiesIn w.now.bytes f) }
@@ -116,8 +116,8 @@ pub fn previous<A: Allocator>(w: &Window<A>, block: Block) -> Option<Block>
     })
 }
 
-/// The free block right behind a block, where there is one.
-pub fn free_behind<A: Allocator>(w: &Window<A>, block: Block) -> Option<Block>
+/// The free block right after a block, where there is one.
+pub fn free_after<A: Allocator>(w: &Window<A>, block: Block) -> Option<Block>
     requires { block_end block ≤ MAX_LEN }
     ensures bounds { IfSome result (λ f. (f.at ≡ block_end block) × LiesIn w.now.bytes f) }
     ensures read { ForNext w.now.bytes block (λ t. IsReadFree t result) }
@@ -143,15 +143,15 @@ pub fn free_before<A: Allocator>(w: &Window<A>, block: Block) -> Option<Block>
     Some(before)
 }
 
-/// The units of the gap right behind a block, 0 where there is none.
-pub fn room_behind<A: Allocator>(w: &Window<A>, block: Block) -> u32
+/// The units of the gap right after a block, 0 where there is none.
+pub fn room_after<A: Allocator>(w: &Window<A>, block: Block) -> u32
     requires { block_end block ≤ MAX_LEN }
     ensures bounds { block_end block + UNIT * result ≤ MAX_LEN }
     ensures room { (allocator : ℕ) → IsHeap allocator w.now.bytes
         → IsLiveBlock w.now.bytes block.at block.units
         → result ≡ room_after w.now.bytes block.at block.units }
 {
-    match free_behind(w, block) {
+    match free_after(w, block) {
         Some(gap) => gap.units,
         None => 0,
     }
@@ -175,7 +175,7 @@ pub fn split<A: Allocator>(w: &mut Window<A>, block: Block, units: u32)
     set_size(w, block.at, units, live);
 }
 
-/// Joins a block with the block right behind it. It stays live or free as it was.
+/// Joins a block with the block right after it. It stays live or free as it was.
 pub fn join<A: Allocator>(w: &mut Window<A>, block: Block, behind: Block)
     requires { block_end block + UNIT * behind.units ≤ MAX_LEN }
     ensures bytes { w.new ≡ with_bytes w.old (set_size w.old.bytes block.at
@@ -183,7 +183,7 @@ pub fn join<A: Allocator>(w: &mut Window<A>, block: Block, behind: Block)
     ensures tiles { (xs ys : List Tile) (l m : Bool)
         → IsTiled w.old.bytes (xs ++ (tile_of block l ∷ tile_behind block behind.units m ∷ ys))
         → Replaces w.old.bytes w.new.bytes xs (grown block behind.units l ∷ []) ys
-          block.at (UNIT * block.units) }
+        block.at (UNIT * block.units) }
 {
     let live = is_live(w, block.at);
     set_size(w, block.at, block.units + behind.units, live);

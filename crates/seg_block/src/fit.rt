@@ -6,11 +6,11 @@ ghost use Rattle.seg_block.specs.Extents.{Enlarges};
 ghost use Rattle.seg_block.specs.Tiling.{ending};
 ghost use Rattle.seg_spec.specs.Bytes.{set_word};
 
-use crate::block::{Block, block_at, last_block, room_behind, set_size};
+use crate::block::{Block, block_at, last_block, room_after, set_size};
 use crate::header::{HEAP_START, UNIT, UNITS_BEFORE};
 use crate::rules::{expanded, shrunk};
-use seg_ptr::{MAX_LEN, Window};
 use seg_ptr::header::SIZE;
+use seg_ptr::{MAX_LEN, Window};
 use std::alloc::Allocator;
 
 /// An allocator of the segment's heap, over the window alone. Blocks are named by the positions of their headers, sizes
@@ -88,7 +88,7 @@ pub trait Fit {
         let Some(block) = block_at(w, block) else {
             return false;
         };
-        let room = room_behind(w, block);
+        let room = room_after(w, block);
         let Some(units) = expanded(block.units, room, need) else {
             return false;
         };
@@ -112,7 +112,7 @@ pub trait Fit {
         if need > block.units {
             return;
         }
-        let room = room_behind(w, block);
+        let room = room_after(w, block);
         Self::resize(w, block, room, shrunk(block.units, room, need));
     }
 

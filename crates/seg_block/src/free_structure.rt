@@ -33,7 +33,7 @@ pub trait FreeStructure {
         ensures tiles { (xs ys : List Tile) → leads predecessor xs
             → IsTiling code w.old.bytes (xs ++ tile_of block false ∷ ys)
             → Retiles code w.old.bytes w.new.bytes xs (tile_of block true ∷ []) ys
-              × (link_at w.new.bytes block.at ≡ None) };
+            × (link_at w.new.bytes block.at ≡ None) };
 
     /// Makes a live block free. It joins no gap.
     fn release<A: Allocator>(w: &mut Window<A>, predecessor: Self::Predecessor, block: Block)
@@ -76,7 +76,7 @@ pub fn resize<S: FreeStructure, A: Allocator>(
     cut::<S, A>(w, predecessor, whole, units);
 }
 
-/// Lets a live block take in the gap of `more` units right after it. Nothing where they are 0.
+/// Joins a live block with the gap of `more` units right after it. Nothing where they are 0.
 pub fn absorb<S: FreeStructure, A: Allocator>(
     w: &mut Window<A>,
     predecessor: S::Predecessor,
@@ -88,9 +88,9 @@ pub fn absorb<S: FreeStructure, A: Allocator>(
     ensures none { more ≡ 0 → w.new ≡ w.old }
     ensures tiles { (xs ys : List Tile) → S.leads predecessor xs
         → IsTiling S.code w.old.bytes
-          (xs ++ (tile_of block true ∷ tile_behind block more false ∷ ys))
+        (xs ++ (tile_of block true ∷ tile_behind block more false ∷ ys))
         → Retiles S.code w.old.bytes w.new.bytes xs (grown block more true ∷ []) ys
-          × Agrees w.old.bytes w.new.bytes (block.at + TAG) (block_end block) }
+        × Agrees w.old.bytes w.new.bytes (block.at + TAG) (block_end block) }
 {
     if more == 0 {
         return;
@@ -118,7 +118,7 @@ pub fn cut<S: FreeStructure, A: Allocator>(
     ensures tiles { units + 2 ≤ block.units → (xs ys : List Tile) → S.leads predecessor xs
         → IsTiling S.code w.old.bytes (xs ++ tile_of block true ∷ ys)
         → Retiles S.code w.old.bytes w.new.bytes xs (halves block units true false) ys
-          × Agrees w.old.bytes w.new.bytes (block.at + TAG) (block.at + UNIT * units) }
+        × Agrees w.old.bytes w.new.bytes (block.at + TAG) (block.at + UNIT * units) }
 {
     if units < block.units {
         let rest = Block {

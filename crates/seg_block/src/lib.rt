@@ -1,5 +1,5 @@
 //! Blocks of a segment's heap: their headers and tags, the laws of an allocator, and requests to one. A block is named
-//! by the position of its header; its payload begins [`UNIT`] bytes behind it.
+//! by the position of its header; its payload begins [`UNIT`] bytes after it.
 #![tactic(auto)]
 
 mod block;
@@ -11,8 +11,8 @@ mod rules;
 mod tag;
 
 pub use block::{
-    Block, block_at, capacity, free_before, free_behind, join, last_block, need, next, previous,
-    room_behind, set_size, split,
+    Block, block_at, capacity, free_after, free_before, join, last_block, need, next, previous,
+    room_after, set_size, split,
 };
 pub use fit::Fit;
 pub use free_structure::{FreeStructure, absorb, cut, resize};

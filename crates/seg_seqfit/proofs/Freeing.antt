@@ -1,19 +1,18 @@
 -- What a release leaves, once the free tiles are joined.
-use Rattle.std.proofs.Common.{◌≡◌, ℕ, ◌+◌, ◌*◌, Bool, true, false, List, [], ◌∷◌, ◌++◌, length, Some, None, refl, sym, ap, ◌∙◌, subst, ⊎_elim}
+use Rattle.std.proofs.Common.{◌≡◌, ℕ, ◌+◌, ◌*◌, Bool, true, false, List, [], ◌∷◌, ◌++◌, length, Some, None, refl, sym, ap, ◌∙◌, subst}
 use Rattle.std.specs.Prelude.{Contains}
-use Rattle.std.proofs.lemmas.List.{append_assoc}
 use Rattle.seg_spec.specs.Heap.{Span, Tile, end_of, AreApart, IsHeap, IsLive, Gives, live_of, tiles, live}
 use Rattle.seg_spec.proofs.BytesLaws.{Agrees-same}
-use Rattle.seg_spec.proofs.TileLaws.{live_after, live_of-append, AreApart-append, AreApart-front, AreApart-back}
+use Rattle.seg_spec.proofs.TileLaws.{live_of-append, AreApart-append}
 use Rattle.seg_block.specs.declared.block.Block.{Block}
 use Rattle.seg_block.specs.Blocks.{IsSized, IsReadFree}
 use Rattle.seg_block.specs.Joining.{JoinsBefore}
-use Rattle.seg_block.specs.Tiling.{tile, Spares, IsTiled, IsTiling, Retiles}
+use Rattle.seg_block.specs.Tiling.{tile, IsTiled, IsTiling, Retiles}
 use Rattle.seg_block.proofs.Tiled.{around}
 use Rattle.seg_block.proofs.Heaps.{Spares-trans, Spares-same}
 use Rattle.seg_block.proofs.LiveBlocks.{HasLive, block, block_tiling, block_behind, block_front, gives, read_is, read_held}
-use Rattle.seg_seqfit.specs.Retiling.{link_behind, JoinsBehind}
-use Rattle.seg_block.proofs.ReadFree.{found_never, read_is_free, read_is_live, HasLast, last_cases, live_after-last}
+use Rattle.seg_seqfit.specs.Retiling.{JoinsAfter}
+use Rattle.seg_block.proofs.ReadFree.{found_never, read_is_free, read_is_live}
 
 never : true ≡ false → ⊥
 never e = cc
@@ -21,7 +20,7 @@ never e = cc
 -- ---- the join with what is behind
 
 pub joins_none : (bytes : List ℕ) (xs ys : List Tile) (at u : ℕ) → IsTiling 0 bytes (xs ++ tile at u false ∷ ys) → AreApart true ys
-    → ((zs vs : List Tile) (l : Bool) (t : Tile) → IsTiled bytes (zs ++ (tile at u l ∷ t ∷ vs)) → IsReadFree t None) → JoinsBehind bytes bytes xs at u ys
+    → ((zs vs : List Tile) (l : Bool) (t : Tile) → IsTiled bytes (zs ++ (tile at u l ∷ t ∷ vs)) → IsReadFree t None) → JoinsAfter bytes bytes xs at u ys
 joins_none bytes xs ys at u was apart read = record {
   rest = ys;
   tiling = was;
@@ -37,7 +36,7 @@ joins_none bytes xs ys at u was apart read = record {
 pub joins_more : (old new : List ℕ) (xs ys : List Tile) (at u : ℕ) (f : Block) → IsTiling 0 old (xs ++ tile at u false ∷ ys) → AreApart true ys
     → ((zs vs : List Tile) (l : Bool) (t : Tile) → IsTiled old (zs ++ (tile at u l ∷ t ∷ vs)) → IsReadFree t (Some f))
     → ((zs : List Tile) (l : Bool) → IsTiled old (zs ++ tile at u l ∷ []) → Some f ≡ None)
-    → ((zs : List Tile) → IsTiling 0 old (xs ++ (tile at u false ∷ tile (at + 16 * u) f.units false ∷ zs)) → Retiles 0 old new xs (tile at (u + f.units) false ∷ []) zs) → JoinsBehind old new xs at (u + f.units) ys
+    → ((zs : List Tile) → IsTiling 0 old (xs ++ (tile at u false ∷ tile (at + 16 * u) f.units false ∷ zs)) → Retiles 0 old new xs (tile at (u + f.units) false ∷ []) zs) → JoinsAfter old new xs at (u + f.units) ys
 joins_more old new xs [] at u f was apart read none joins = absurd (found_never f (none xs false was.tiled))
 joins_more old new xs (t ∷ ys) at u f was apart read none joins =
     let is = read_is_free t f (read xs ys false t was.tiled) in
@@ -57,14 +56,14 @@ joins_more old new xs (t ∷ ys) at u f was apart read none joins =
 
 module _ (old : List ℕ) (at u : ℕ) (h : IsHeap 0 old) (held : Contains (live old) (record { at = at; units = u })) (released new : List ℕ) (place m n : ℕ)
     (release : (xs ys : List Tile) → IsTiling 0 old (xs ++ tile at u true ∷ ys) → AreApart true xs → JoinsBefore 0 false old released xs place m ys)
-    (join : (xs ys : List Tile) → IsTiling 0 released (xs ++ tile place m false ∷ ys) → AreApart true ys → JoinsBehind released new xs place n ys) where
+    (join : (xs ys : List Tile) → IsTiling 0 released (xs ++ tile place m false ∷ ys) → AreApart true ys → JoinsAfter released new xs place n ys) where
   abbrev found : HasLive (tiles old) (record { at = at; units = u })
   found = block old at u h held
 
   first : JoinsBefore 0 false old released found.xs place m found.ys
   first = release found.xs found.ys (block_tiling old at u h held) (block_front old at u h held)
 
-  second : JoinsBehind released new first.front place n found.ys
+  second : JoinsAfter released new first.front place n found.ys
   second = join first.front found.ys first.tiling (block_behind old at u h held)
 
   same : live_of (first.front ++ found.ys) ≡ live_of (found.xs ++ found.ys)
@@ -82,7 +81,7 @@ module _ (old : List ℕ) (at u : ℕ) (h : IsHeap 0 old) (held : Contains (live
 -- at the block that was named
 pub freed_named : (old released new : List ℕ) (named at u place m n : ℕ) (h : IsHeap 0 old) (held : IsLive old named) → ((g : Span) → named ≡ g.at → IsSized old g → (at ≡ g.at) × (u ≡ g.units))
     → ((xs ys : List Tile) → IsTiling 0 old (xs ++ tile at u true ∷ ys) → AreApart true xs → JoinsBefore 0 false old released xs place m ys)
-    → ((xs ys : List Tile) → IsTiling 0 released (xs ++ tile place m false ∷ ys) → AreApart true ys → JoinsBehind released new xs place n ys) → Gives 0 old new named
+    → ((xs ys : List Tile) → IsTiling 0 released (xs ++ tile place m false ∷ ys) → AreApart true ys → JoinsAfter released new xs place n ys) → Gives 0 old new named
 freed_named old released new named at u place m n h held read release join =
     let is = read_is old named held.0 h held.1 at u read in
     let here = read_held old named held.0 h held.1 at u read in

@@ -14,7 +14,7 @@ abbrev pub link_to : List Tile → ℕ
 link_to ts = link_behind FREE ts
 
 -- the free tile at a position was joined with the free tile right behind it, where there is one, and has so many units now
-pub record JoinsBehind (old new : List ℕ) (xs : List Tile) (at units : ℕ) (ys : List Tile) : Type 0 where
+pub record JoinsAfter (old new : List ℕ) (xs : List Tile) (at units : ℕ) (ys : List Tile) : Type 0 where
   pub rest : List Tile
   pub tiling : IsTiling 0 new (xs ++ tile at units false ∷ rest)
   pub apart : AreApart false rest

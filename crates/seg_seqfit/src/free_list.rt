@@ -6,14 +6,12 @@ ghost use Rattle.seg_spec.specs.Heap.{Tile, AreApart};
 ghost use Rattle.seg_block.specs.Joining.{JoinsBefore};
 ghost use Rattle.seg_block.specs.Blocks.{block_end};
 ghost use Rattle.seg_block.specs.Tiling.{tile_of, tile_behind, grown, IsTiling, Retiles};
-ghost use Rattle.seg_seqfit.specs.Retiling.{link_to, JoinsBehind};
+ghost use Rattle.seg_seqfit.specs.Retiling.{link_to, JoinsAfter};
 ghost use Rattle.seg_seqfit.specs.Leading.{leads_past};
 
 use crate::search::link_before;
 use crate::seqfit::SeqFit;
-use seg_block::{
-    Block, FreeStructure, LINK, TAG, UNIT, free_before, free_behind, join, set_size,
-};
+use seg_block::{Block, FreeStructure, LINK, TAG, UNIT, free_after, free_before, join, set_size};
 use seg_ptr::{MAX_LEN, Window};
 use std::alloc::Allocator;
 
@@ -75,7 +73,7 @@ pub(crate) fn merge<A: Allocator>(w: &mut Window<A>, front: Block, rest: Block)
     ensures host { w.new ≡ with_bytes w.old w.new.bytes }
     ensures tiles { (xs ys : List Tile)
         → IsTiling 0 w.old.bytes
-          (xs ++ (tile_of front false ∷ tile_behind front rest.units false ∷ ys))
+        (xs ++ (tile_of front false ∷ tile_behind front rest.units false ∷ ys))
         → Retiles 0 w.old.bytes w.new.bytes xs (grown front rest.units false ∷ []) ys }
 {
     let next = w.target((front.at + UNIT * front.units) as usize + LINK);
@@ -84,15 +82,15 @@ pub(crate) fn merge<A: Allocator>(w: &mut Window<A>, front: Block, rest: Block)
 }
 
 /// Joins a free block with the gap right after it, where there is one. Returns the two as one.
-pub(crate) fn merge_behind<A: Allocator>(w: &mut Window<A>, front: Block) -> Block
+pub(crate) fn merge_after<A: Allocator>(w: &mut Window<A>, front: Block) -> Block
     requires { block_end front ≤ MAX_LEN }
     ensures bounds { (result.at ≡ front.at) × (block_end result ≤ MAX_LEN) }
     ensures host { w.new ≡ with_bytes w.old w.new.bytes }
     ensures joins { (xs ys : List Tile)
         → IsTiling 0 w.old.bytes (xs ++ tile_of front false ∷ ys) → AreApart true ys
-        → JoinsBehind w.old.bytes w.new.bytes xs front.at result.units ys }
+        → JoinsAfter w.old.bytes w.new.bytes xs front.at result.units ys }
 {
-    let Some(rest) = free_behind(w, front) else {
+    let Some(rest) = free_after(w, front) else {
         return front;
     };
     merge(w, front, rest);

@@ -41,7 +41,7 @@ pub(crate) fn first_fit<A: Allocator>(w: &Window<A>, need: u32) -> Option<Found>
     ensures first { (gs : List Span) → IsFreeList w.now.bytes gs
         → AreFreeBlocks w.now.bytes HEAP_START gs
         → MatchOption result (first_fit gs need ≡ None)
-          (λ f. IsFirstFit gs need f.link f.block.at f.block.units) }
+        (λ f. IsFirstFit gs need f.link f.block.at f.block.units) }
 {
     let mut link = FREE;
     let mut low = HEAP_START;

@@ -1,10 +1,10 @@
 ghost use Rattle.std.specs.Prelude.{ℕ};
 
-use crate::free_list::{merge_behind, release_joined};
+use crate::free_list::{merge_after, release_joined};
 use crate::search::{Found, first_fit, link_before};
 use seg_block::{
-    Block, Fit, FreeStructure, HEAP_START, LINK, TAG, UNIT, UNITS_BEFORE, block_at, cut,
-    granted, is_live, last_block, resize, set_size,
+    Block, Fit, FreeStructure, HEAP_START, LINK, TAG, UNIT, UNITS_BEFORE, block_at, cut, granted,
+    is_live, last_block, resize, set_size,
 };
 use seg_ptr::Window;
 use seg_ptr::header::{FREE, SIZE};
@@ -45,7 +45,7 @@ impl Fit for SeqFit {
             return;
         };
         let gap = release_joined(w, block);
-        merge_behind(w, gap);
+        merge_after(w, gap);
     }
 
     fn resize<A: Allocator>(w: &mut Window<A>, block: Block, room: u32, units: u32) {

@@ -9,9 +9,9 @@ returns-in_default-clause-expands g c = λ x h held. absurd (unread c.args.w.now
 
 pub returns-in_default-expanded-clause-expands : goal.returns-in_default-expanded-clause-expands
 returns-in_default-expanded-clause-expands g c = λ x h held.
-    expand_never c.args.w.now.bytes c.args.block x c.in-Some.block.at c.in-Some.block.units h held c.in-Some.ensures.read c.room_behind-room.result c.room_behind-room.ensures.room c.args.need c.in_default-expanded.ensures
+    expand_never c.args.w.now.bytes c.args.block x c.in-Some.block.at c.in-Some.block.units h held c.in-Some.ensures.read c.room_after-room.result c.room_after-room.ensures.room c.args.need c.in_default-expanded.ensures
 
 pub returns-clause-expands : goal.returns-clause-expands
 returns-clause-expands g c = λ x h held.
-    expand_done c.args.w.now.bytes c.args.block x c.in-Some.block.at c.in-Some.block.units h held c.in-Some.ensures.read c.room_behind-room.result c.room_behind-room.ensures.room
+    expand_done c.args.w.now.bytes c.args.block x c.in-Some.block.at c.in-Some.block.units h held c.in-Some.ensures.read c.room_after-room.result c.room_after-room.ensures.room
     c.resize.new.w.bytes c.in-Some-expanded.units c.resize.ensures.resized c.args.need c.in-Some-expanded.ensures (λ k. ap (λ (p : Placement). p.bytes) (c.resize.ensures.same k))

@@ -13,9 +13,10 @@ returns-then-need-block-clause-shrinks g c = λ x h held low.
 
 pub returns-clause-shrinks : goal.returns-clause-shrinks
 returns-clause-shrinks g c = λ x h held low.
-    shrink_done c.args.w.now.bytes c.args.block x c.in-Some.block.at c.in-Some.block.units h held c.in-Some.ensures.read c.room_behind-room.result c.room_behind-room.ensures.room
+    shrink_done c.args.w.now.bytes c.args.block x c.in-Some.block.at c.in-Some.block.units h held c.in-Some.ensures.read c.room_after-room.result c.room_after-room.ensures.room
     c.resize.new.w.bytes c.shrunk.result c.resize.ensures.resized c.args.need c.shrunk.ensures
 
 pub returns-clause-unchanged : goal.returns-clause-unchanged
 returns-clause-unchanged g c = λ x h held low kept.
-    c.resize.ensures.same (shrink_none c.args.w.now.bytes c.args.block x c.in-Some.block.at c.in-Some.block.units h held c.in-Some.ensures.read c.room_behind-room.result c.room_behind-room.ensures.room c.args.need c.shrunk.result c.shrunk.ensures kept)
+    c.resize.ensures.same (shrink_none c.args.w.now.bytes c.args.block x c.in-Some.block.at c.in-Some.block.units h held c.in-Some.ensures.read c.room_after-room.result
+    c.room_after-room.ensures.room c.args.need c.shrunk.result c.shrunk.ensures kept)

@@ -9,5 +9,5 @@ pub returns-clause-gives : goal.returns-clause-gives
 returns-clause-gives g c = λ h held.
     let block = c.in-Some.block in
     let gap = c.release_joined-gap.result in
-    freed_named c.args.w.now.bytes c.release_joined-gap.new.w.bytes c.merge_behind.new.w.bytes c.args.block block.at block.units
-    gap.at gap.units c.merge_behind.result.units h held c.in-Some.ensures.read c.release_joined-gap.ensures.joins c.merge_behind.ensures.joins
+    freed_named c.args.w.now.bytes c.release_joined-gap.new.w.bytes c.merge_after.new.w.bytes c.args.block block.at block.units
+    gap.at gap.units c.merge_after.result.units h held c.in-Some.ensures.read c.release_joined-gap.ensures.joins c.merge_after.ensures.joins

@@ -1,5 +1,5 @@
 use Rattle.seg_block.proofs.Resized.{room_some, room_none}
-use Rattle.seg_block.proofs.block.room_behind.Goals as goal
+use Rattle.seg_block.proofs.block.room_after.Goals as goal
 
 pub returns-in-None-clause-room : goal.returns-in-None-clause-room
 returns-in-None-clause-room g c = λ a h held. room_none c.args.w.now.bytes c.args.block.at c.args.block.units h held c.in-None.ensures.read

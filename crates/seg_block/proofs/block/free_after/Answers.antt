@@ -1,6 +1,6 @@
 use Rattle.seg_block.specs.Tiling.{tile}
 use Rattle.seg_block.proofs.Neighbours.{next_flag, read_free, read_live}
-use Rattle.seg_block.proofs.block.free_behind.Goals as goal
+use Rattle.seg_block.proofs.block.free_after.Goals as goal
 
 pub returns-then-is_live-clause-read : goal.returns-then-is_live-clause-read
 returns-then-is_live-clause-read g c = λ xs ys l t was.

@@ -1,5 +1,5 @@
 use Rattle.seg_seqfit.proofs.Freeing.{joins_none, joins_more}
-use Rattle.seg_seqfit.proofs.free_list.merge_behind.Goals as goal
+use Rattle.seg_seqfit.proofs.free_list.merge_after.Goals as goal
 
 pub returns-in_default-clause-joins : goal.returns-in_default-clause-joins
 returns-in_default-clause-joins g c = λ xs ys was apart.
