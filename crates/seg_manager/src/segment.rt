@@ -96,6 +96,12 @@ impl<F: Fit, A: Allocator> Segment<F, A> {
         Ok(())
     }
 
+    pub fn into_window(self) -> Window<A>
+        ensures { result ≡ self.window }
+    {
+        self.window
+    }
+
     pub fn into_region(self) -> Region<A> {
         self.heap.into_window().into_region()
     }
