@@ -55,11 +55,11 @@ impl<'a> Moves<'a> {
         Moves { rest: moves }
     }
 
-    /// The step that the next move comes right before: 0, which is none, where there is no move.
+    /// How many steps come before the next move, and more than any run has where there is no move.
     pub(crate) fn due(&self) -> u64 {
         match self.rest.first() {
-            Some(next) => next.step,
-            None => 0,
+            Some(next) => next.step.wrapping_sub(1),
+            None => u64::MAX,
         }
     }
 
