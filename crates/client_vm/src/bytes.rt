@@ -100,7 +100,7 @@ fn run_on<F: Fit, A: Allocator + Copy, W: Sink>(
     ensures ended { IfOk result (λ o. (o.ended ≡ Ended.OutputFailed) ↔ (W.has_failed out.new ≡ true)) }
 {
     let mut segment = open::<F, A, A>(alloc, window).map_err(|refused| refused.0)?;
-    let programs = verify_all(alloc, clients, &segment.types)?;
+    let programs = verify_all(alloc, clients, segment.types())?;
     let mut reports = Vec::with_capacity(alloc, clients.len())?;
     run_all(
         &mut segment,

@@ -30,8 +30,8 @@ impl Image {
     /// The bytes of the segment.
     pub fn bytes(&self) -> &[u8] {
         let w = match self {
-            Image::SeqFit(segment) => &segment.window,
-            Image::BestFit(segment) => &segment.window,
+            Image::SeqFit(segment) => segment.window(),
+            Image::BestFit(segment) => segment.window(),
         };
         w.slice(0, w.len() as usize)
     }
@@ -107,7 +107,7 @@ pub fn new_image<F: Fit>(alloc: Global, size: u32, index: IndexKind) -> Result<V
 }
 
 fn statistics<F: Fit>(alloc: Global, segment: &Segment<F, Global>) -> Result<String, AllocError> {
-    let size = segment.window.len();
+    let size = segment.window().len();
     let free = segment.free_memory();
     let largest = segment.largest_gap();
     let named = segment.num_named();

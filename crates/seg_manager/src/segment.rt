@@ -99,11 +99,11 @@ impl<F: Fit, A: Allocator> Segment<F, A> {
     pub fn into_window(self) -> Window<A>
         ensures { result ≡ self.window }
     {
-        self.window
+        self.heap.into_window()
     }
 
     pub fn into_region(self) -> Region<A> {
-        self.heap.into_window().into_region()
+        self.into_window().into_region()
     }
 }
 
