@@ -128,7 +128,8 @@ module _ (table : Table) (valid : IsTable table) where
       (λ T e. each_none (λ d form. LiesAt (size table T) d) T e)
       (λ T form f h. let eight = size_one T form f h in each_one (λ d form. LiesAt (size table T) d) T form f h (omega arith, refl))
       (λ T f. let eight : size table T ≡ 8 = size-form table valid T Form.i64 f in each_i64 (λ d form. LiesAt (size table T) d) T f (omega arith, refl))
-      (λ T Us f a. let total : size table T ≡ sum_by (size table) Us = size-form table valid T (Form.struct Us) f in fields_struct table valid (λ d form. LiesAt (size table T) d) T Us f (fields_lie 0 (size table T) Us refl (omega arith) a)) T
+      (λ T Us f a. let total : size table T ≡ sum_by (size table) Us = size-form table valid T (Form.struct Us) f in
+          fields_struct table valid (λ d form. LiesAt (size table T) d) T Us f (fields_lie 0 (size table T) Us refl (omega arith) a)) T
 
   pub each_cell_weaker : (P Q : ℕ → Option Form → Type 0) (T : ℕ) → ((d : ℕ) (form : Option Form) → d + 8 ≤ size table T → d % 8 ≡ 0 → P d form → Q d form) → EachCell table T P → EachCell table T Q
   each_cell_weaker P Q T f a = each_both _ _ _ (λ c p l. f c.from (form_at table c.type) l.0 l.1 p) (cells table T) a (cells_lie T)
@@ -283,7 +284,8 @@ defaulted_local a b c d at (Some (Form.map U)) s t r = fresh_cell b d at t r
 defaulted_local a b c d at (Some (Form.own U)) s t r = fresh_cell b d at t r
 defaulted_local a b c d at (Some (Form.struct Us)) s t r = fresh_cell b d at t r
 
-further_cell : (n : ℕ) (a b c d : List ℕ) (at : ℕ) → IsSame a c at 8 → IsSame b d at 8 → (word b at ≡ Rattle.seg_spec.specs.Cells.further n (word a at)) × (count_at b at ≡ count_at a at) → (word d at ≡ Rattle.seg_spec.specs.Cells.further n (word c at)) × (count_at d at ≡ count_at c at)
+further_cell : (n : ℕ) (a b c d : List ℕ) (at : ℕ) → IsSame a c at 8 → IsSame b d at 8 → (word b at ≡ Rattle.seg_spec.specs.Cells.further n (word a at)) × (count_at b at ≡ count_at a at) →
+    (word d at ≡ Rattle.seg_spec.specs.Cells.further n (word c at)) × (count_at d at ≡ count_at c at)
 further_cell n a b c d at s t r = (first-same b d at t ∙ r.0 ∙ ap (Rattle.seg_spec.specs.Cells.further n) (sym (first-same a c at s)), count-same b d at t ∙ r.1 ∙ sym (count-same a c at s))
 
 pub further_local : (n : ℕ) → IsLocal (λ old new at form. IsFurther old new n at form)
@@ -389,7 +391,8 @@ module _ (R : List ℕ → List ℕ → ℕ → Option Form → Type 0) (local :
         let position = field_position in
         record { fits = omega (arith, within.fits); small = omega (arith, within.small) }
 
-    pub next_field : (b c : List ℕ) → ChangesFields R local table valid a b at (take i (field_types table T)) → ChangesCells R b c table ((at + from) % 2 ^ 32) U → ChangesFields R local table valid a c at (take (i + 1) (field_types table T))
+    pub next_field : (b c : List ℕ) → ChangesFields R local table valid a b at (take i (field_types table T)) → ChangesCells R b c table ((at + from) % 2 ^ 32) U →
+        ChangesFields R local table valid a c at (take (i + 1) (field_types table T))
     next_field b c k l =
         let types = field_types_struct table T Us f in
         let k' = rw types at k in
@@ -452,7 +455,8 @@ module _ (R : List ℕ → List ℕ → ℕ → Option Form → Type 0) (local :
   positions_push : (at i : ℕ) → value_positions at (i + 1) ≡ value_positions at i ++ (at + i * each + before) ∷ []
   positions_push at i = ap (map (λ p. p + before)) (spaced_push at each i) ∙ map-append (λ p. p + before) (spaced at each i) ((at + i * each) ∷ [])
 
-  pub next_entry : (a b c : List ℕ) (at i : ℕ) → ChangesEach R a b table T at (i * each) (value_positions at i) → ChangesCells R b c table (at + i * each + before) T → ChangesEach R a c table T at ((i + 1) * each) (value_positions at (i + 1))
+  pub next_entry : (a b c : List ℕ) (at i : ℕ) → ChangesEach R a b table T at (i * each) (value_positions at i) → ChangesCells R b c table (at + i * each + before) T →
+      ChangesEach R a c table T at ((i + 1) * each) (value_positions at (i + 1))
   next_entry a b c at i k l =
       let all : (i + 1) * each ≡ each + i * each = grind arith in
       let behind : IsSame a b (at + i * each + before) (size table T) = k.changes.others (at + i * each + before) (size table T) (inr (omega arith)) in

@@ -24,12 +24,14 @@ module _ (bytes : List ℕ) (table : Table) (T U : ℕ) (f : form_at table T ≡
     pub counts : (h : ℕ) → times h blocks ≡ times h (map block_of nodes) + times h owned
     pub owes_it : Owes bytes table x blocks
 
-  node_owes : (x : ℕ) (v : Value) (mine ys : List ℕ) → IsBlock bytes x (tag_of Kind.node T) (8 + size table U) → Holds bytes table (record { at = x + 8; type = U }) v mine → OwesLinks bytes table (x ∷ []) ys → Owes bytes table x (block_of x ∷ ((mine ++ []) ++ ys))
+  node_owes : (x : ℕ) (v : Value) (mine ys : List ℕ) → IsBlock bytes x (tag_of Kind.node T) (8 + size table U) → Holds bytes table (record { at = x + 8; type = U }) v mine →
+      OwesLinks bytes table (x ∷ []) ys → Owes bytes table x (block_of x ∷ ((mine ++ []) ++ ys))
   node_owes x v mine ys block h links =
       let shown : OpensBlock bytes table x Kind.node T (form_at table T) (record { at = x + 8; type = U } ∷ []) (x ∷ []) = rw f (block, refl, refl) in
       owes Kind.node T (record { at = x + 8; type = U } ∷ []) (x ∷ []) (mine ++ []) ys shown (more_parts (inl (v, h)) no_parts) links refl
 
-  pub chain_owes : (x : ℕ) (nodes : List ℕ) (vs : Values) (owned : List ℕ) → IsChain bytes x nodes → AreNodes bytes (tag_of Kind.node T) (8 + size table U) (x ∷ nodes) → HoldsEach bytes table (items_in (x ∷ nodes)) vs owned → ChainOwes x (x ∷ nodes) owned
+  pub chain_owes : (x : ℕ) (nodes : List ℕ) (vs : Values) (owned : List ℕ) → IsChain bytes x nodes → AreNodes bytes (tag_of Kind.node T) (8 + size table U) (x ∷ nodes) →
+      HoldsEach bytes table (items_in (x ∷ nodes)) vs owned → ChainOwes x (x ∷ nodes) owned
   chain_owes x [] vs owned c a (holds_more {v = v} {blocks = mine} {owned = rest} first holds_none) = record {
     blocks = block_of x ∷ ((mine ++ []) ++ []);
     counts = λ h. omega (arith, times-append h (mine ++ []) [], times-append h mine []);

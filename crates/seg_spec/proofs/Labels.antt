@@ -70,7 +70,8 @@ module _ (old new : List ℕ) (h : ℕ) (changes : ChangesOnly old new (h + 8) 8
   gaps_free = gaps_between-live_of (tiles old) true heap_start (length old) heap.filled heap.apart
 
   gap_part : (d m : ℕ) → d + m ≤ 32 → AllByRecursion (λ g. IsSame old new (g.at + d) m) (gaps old)
-  gap_part d m fits = subst (λ gs. AllByRecursion (λ g. IsSame old new (g.at + d) m) gs) (sym gaps_free) (each_free_tile (λ g. IsSame old new (g.at + d) m) (tiles old) (each_weaker _ _ (λ t s free. free_same t s free d m fits) (tiles old) all_spots))
+  gap_part d m fits = subst (λ gs. AllByRecursion (λ g. IsSame old new (g.at + d) m) gs) (sym gaps_free)
+      (each_free_tile (λ g. IsSame old new (g.at + d) m) (tiles old) (each_weaker _ _ (λ t s free. free_same t s free d m fits) (tiles old) all_spots))
 
   gap_headers : AllByRecursion (λ g. IsSame old new g.at 16) (gaps old)
   gap_headers = each_weaker (λ g. IsSame old new (g.at + 0) 16) (λ g. IsSame old new g.at 16) (λ g k. no_more g.at k) (gaps old) (gap_part 0 16 (omega arith))

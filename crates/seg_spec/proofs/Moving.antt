@@ -58,7 +58,8 @@ module _ (old new : List ℕ) (table : Table) (valid : IsTable table) where
   moved_room : (at to kind each : ℕ) → target new to ≡ target old at → count_at new to ≡ count_at old at → AllByRecursion (KeepsBlock old new) (named old at) → NamesRoom old at kind each → NamesRoom new to kind each
   moved_room at to kind each t c ks r = rw (t, c) (buffer-kept old new (target old at) kind (count_at old at) each r ks)
 
-  pub Opens-moved : (place : Place) (to : ℕ) (form : Form) (opened : Opened) → ((Us : List ℕ) → form ≡ Form.struct Us → ⊥) → IsMoved old new place.at to (Some form) → AllByRecursion (KeepsBlock old new) opened.blocks → Opens old table place form opened → Opens_there place to form opened
+  pub Opens-moved : (place : Place) (to : ℕ) (form : Form) (opened : Opened) → ((Us : List ℕ) → form ≡ Form.struct Us → ⊥) → IsMoved old new place.at to (Some form) →
+      AllByRecursion (KeepsBlock old new) opened.blocks → Opens old table place form opened → Opens_there place to form opened
   Opens-moved place to Form.i64 opened flat m ks o = record {
     opens = o ∙ ap (λ n. record { label = Label.int (signed n); blocks = []; parts = [] }) (sym m);
     parts = rw o tt;
@@ -180,15 +181,18 @@ module _ (old new : List ℕ) (table : Table) (valid : IsTable table) where
   regroup : (from to n d : ℕ) (form : Option Form) → IsMoved old new (from + (n + d)) (to + (n + d)) form → IsMoved old new (from + n + d) (to + n + d) form
   regroup from to n d form m = rw (add_assoc from n d, add_assoc to n d) m
 
-  by_cell : (place : Place) (to : ℕ) (form : Form) (opened : Opened) (inside : Values) (owned : List ℕ) → form_at table place.type ≡ Some form → Opens old table place form opened → {v : Value} {blocks : List ℕ} → v ≡ Value.node opened.label inside → blocks ≡ opened.blocks ++ owned
-      → ((Us : List ℕ) → form ≡ Form.struct Us → ⊥) → IsMoved old new place.at to (Some form) → AllByRecursion (KeepsBlock old new) blocks → HoldsEach old table opened.parts inside owned → Holds new table (record { at = to; type = place.type }) v blocks
+  by_cell : (place : Place) (to : ℕ) (form : Form) (opened : Opened) (inside : Values) (owned : List ℕ) → form_at table place.type ≡ Some form → Opens old table place form opened →
+      {v : Value} {blocks : List ℕ} → v ≡ Value.node opened.label inside → blocks ≡ opened.blocks ++ owned
+      → ((Us : List ℕ) → form ≡ Form.struct Us → ⊥) → IsMoved old new place.at to (Some form) → AllByRecursion (KeepsBlock old new) blocks → HoldsEach old table opened.parts inside owned →
+          Holds new table (record { at = to; type = place.type }) v blocks
   by_cell place to form opened inside owned f o v_is blocks_is flat m ks hs =
       let all = subst (λ bs. AllByRecursion (KeepsBlock old new) bs) blocks_is ks in
       let stays = Opens-moved place to form opened flat m (each_left _ opened.blocks owned all) o in
       holds {place = record { at = to; type = place.type }} form opened inside owned f stays.opens (HoldsEach-kept old new table valid hs stays.parts (each_right _ opened.blocks owned all)) v_is blocks_is
 
   mutual
-    pub Holds-moved : {place : Place} {v : Value} {blocks : List ℕ} (to : ℕ) → Holds old table place v blocks → Moved place.at to place.type → AllByRecursion (KeepsBlock old new) blocks → Holds new table (record { at = to; type = place.type }) v blocks
+    pub Holds-moved : {place : Place} {v : Value} {blocks : List ℕ} (to : ℕ) → Holds old table place v blocks → Moved place.at to place.type → AllByRecursion (KeepsBlock old new) blocks →
+        Holds new table (record { at = to; type = place.type }) v blocks
     Holds-moved {place = place} to (holds Form.i64 opened inside owned f o hs v_is blocks_is) a ks =
         by_cell place to Form.i64 opened inside owned f o v_is blocks_is (λ Us e. cc) (one_cell place.at to place.type Form.i64 f refl a) ks hs
     Holds-moved {place = place} to (holds Form.str opened inside owned f o hs v_is blocks_is) a ks =
@@ -211,7 +215,8 @@ module _ (old new : List ℕ) (table : Table) (valid : IsTable table) where
         let fields_from_0 : opened.parts ≡ fields table (place.at + 0) Us = rw (add-zero place.at) parts in
         let inner = Fields-moved place.at to 0 Us hs fields_from_0 each (subst (λ bs. AllByRecursion (KeepsBlock old new) bs) blocks_owned ks) in
         let inner_there = rw (add-zero to) at inner in
-        holds {place = record { at = to; type = place.type }} (Form.struct Us) (record { label = Label.struct; blocks = []; parts = fields table to Us }) inside owned f refl inner_there (v_is ∙ ap (λ (r : Opened). Value.node r.label inside) o) blocks_owned
+        holds {place = record { at = to; type = place.type }} (Form.struct Us) (record { label = Label.struct; blocks = []; parts = fields table to Us }) inside owned f refl inner_there
+            (v_is ∙ ap (λ (r : Opened). Value.node r.label inside) o) blocks_owned
 
     Fields-moved : {places : List Place} {vs : Values} {blocks : List ℕ} (from to n : ℕ) (Us : List ℕ) → HoldsEach old table places vs blocks → places ≡ fields table (from + n) Us
         → EachField table n Us (λ d form. IsMoved old new (from + d) (to + d) form) → AllByRecursion (KeepsBlock old new) blocks → HoldsEach new table (fields table (to + n) Us) vs blocks

@@ -181,7 +181,8 @@ module _ (allocator u h tag : ℕ) (old taken new : List ℕ) (heap : IsHeap all
     new_live = live-kept tagged new allocator heap_tagged (tiles_kept tagged new at n changes allocator heap_tagged h inside (tagged_live h now_live)) ∙ live_tagged
 
     but : (k : ℕ) → 1 ≤ times k (positions (live tagged)) → KeptBut tagged new at n changes allocator heap_tagged h inside (tagged_live h now_live) k
-    but k some = there (KeptBut tagged new at n changes allocator heap_tagged h inside (tagged_live h now_live)) k (positions (live tagged)) (live_kept_but tagged new at n changes allocator heap_tagged h inside (tagged_live h now_live)) some
+    but k some = there (KeptBut tagged new at n changes allocator heap_tagged h inside (tagged_live h now_live)) k (positions (live tagged))
+        (live_kept_but tagged new at n changes allocator heap_tagged h inside (tagged_live h now_live)) some
 
     last_kept : (k : ℕ) → 1 ≤ times k (positions (live tagged)) → k ≢ h → KeepsLinked tagged new k
     last_kept k some ne =

@@ -64,7 +64,8 @@ module _ (old new : List ℕ) (table : Table) (valid : IsTable table) where
     pub values_same : AllByRecursion (SamePlace old new table) values
     pub links_same : AllByRecursion (λ at. IsSame old new at 4) links
 
-  buffer_shown : (p T before U : ℕ) (values : List Place) (links : List ℕ) → KeepsWhole old new (block_of p) → IsBlock old p (tag_of Kind.buffer T) 0 → values ≡ entries_of old table p before U → AllByRecursion (SamePlace old new table) values
+  buffer_shown : (p T before U : ℕ) (values : List Place) (links : List ℕ) → KeepsWhole old new (block_of p) → IsBlock old p (tag_of Kind.buffer T) 0 → values ≡ entries_of old table p before U →
+      AllByRecursion (SamePlace old new table) values
   buffer_shown p T before U values links k b e =
       rw e (entries_same p before U (payload_size old (block_of p)) (payload_size old (block_of p) / (before + size table U)) (whole_payload p _ 0 k b) (div-mul-le_self (payload_size old (block_of p)) (before + size table U)))
 
@@ -122,5 +123,6 @@ module _ (old new : List ℕ) (table : Table) (valid : IsTable table) where
       own_link xs mine (owes kind T values links us bs o parts rest is) = (subst (λ hs. AllByRecursion (KeepsLinked old new) hs) is mine).0
 
   -- one more waits in front of the others
-  pub push_waits : {p : ℕ} {first : Option ℕ} {xs ys : List ℕ} → Owes old table p xs → Waits old table first ys → AllByRecursion (KeepsWhole old new) xs → AllByRecursion (KeepsLinked old new) ys → link_at new (block_of p) ≡ first → Waits new table (Some p) (xs ++ ys)
+  pub push_waits : {p : ℕ} {first : Option ℕ} {xs ys : List ℕ} → Owes old table p xs → Waits old table first ys → AllByRecursion (KeepsWhole old new) xs → AllByRecursion (KeepsLinked old new) ys →
+      link_at new (block_of p) ≡ first → Waits new table (Some p) (xs ++ ys)
   push_waits {first = first} o w ks ls link = waits first (Owes-kept ks o) link (Waits-kept ls w)

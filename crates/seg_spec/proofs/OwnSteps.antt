@@ -49,7 +49,8 @@ module _ (bytes : List ℕ) (table : Table) where
   no_item at U zero owned h = refl
   no_item at U (suc n) owned h = elim h [ ]
 
-  full_by : (place : Place) (U : ℕ) (v : Value) (blocks : List ℕ) (opened : Opened) (inside : Values) (owned : List ℕ) → OpensOwn bytes place.at (tag_of Kind.object U) (size table U) opened (record { label = Label.opt; blocks = named bytes place.at; parts = items table (start bytes place.at) U (count_at bytes place.at) })
+  full_by : (place : Place) (U : ℕ) (v : Value) (blocks : List ℕ) (opened : Opened) (inside : Values) (owned : List ℕ) →
+      OpensOwn bytes place.at (tag_of Kind.object U) (size table U) opened (record { label = Label.opt; blocks = named bytes place.at; parts = items table (start bytes place.at) U (count_at bytes place.at) })
       → HoldsEach bytes table opened.parts inside owned → inside ≡ cons v nil → blocks ≡ opened.blocks ++ owned → FullOwn place U v blocks
   full_by place U v blocks opened inside owned o hs inside_is blocks_is =
       let parts : opened.parts ≡ items table (start bytes place.at) U (count_at bytes place.at) = ap (λ (r : Opened). r.parts) o.opened_is in
@@ -74,7 +75,8 @@ module _ (bytes : List ℕ) (table : Table) where
       let o' : Opens bytes table place (Form.own U) opened = subst (λ h. Opens bytes table place h opened) same o in
       full_by place U v blocks opened inside owned o' hs (sym (ap values_of v_is)) blocks_is
 
-  empty_by : (place : Place) (U : ℕ) (opened : Opened) (inside : Values) (owned : List ℕ) → OpensOwn bytes place.at (tag_of Kind.object U) (size table U) opened (record { label = Label.opt; blocks = named bytes place.at; parts = items table (start bytes place.at) U (count_at bytes place.at) })
+  empty_by : (place : Place) (U : ℕ) (opened : Opened) (inside : Values) (owned : List ℕ) →
+      OpensOwn bytes place.at (tag_of Kind.object U) (size table U) opened (record { label = Label.opt; blocks = named bytes place.at; parts = items table (start bytes place.at) U (count_at bytes place.at) })
       → HoldsEach bytes table opened.parts inside owned → inside ≡ nil → target bytes place.at ≡ None
   empty_by place U opened inside owned o hs inside_is =
       let parts : opened.parts ≡ items table (start bytes place.at) U (count_at bytes place.at) = ap (λ (r : Opened). r.parts) o.opened_is in

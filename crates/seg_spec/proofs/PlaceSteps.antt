@@ -50,7 +50,8 @@ module _ (allocator : ℕ) (old : List ℕ) (table : Table) (place : Place) (v :
     ownable_then = IsOwnable-kept old new allocator s.heap tiles_then table s.ownable
 
     but : (h : ℕ) → 1 ≤ times h (positions (live old)) → KeptBut old new place.at (size table place.type) changes allocator s.heap s.home s.inside home_live h
-    but h some = there (KeptBut old new place.at (size table place.type) changes allocator s.heap s.home s.inside home_live) h (positions (live old)) (live_kept_but old new place.at (size table place.type) changes allocator s.heap s.home s.inside home_live) some
+    but h some = there (KeptBut old new place.at (size table place.type) changes allocator s.heap s.home s.inside home_live) h (positions (live old))
+        (live_kept_but old new place.at (size table place.type) changes allocator s.heap s.home s.inside home_live) some
 
     pub whole_then : (h : ℕ) → 1 ≤ times h (positions (live old)) → h ≢ s.home → KeepsBlock old new h
     whole_then h some other = (but h some).kept other

@@ -56,7 +56,8 @@ pub record Pushed (allocator : ℕ) (old new : List ℕ) (table : Table) (p : �
   pub own : KeepsWhole old new (block_of p)
   pub waiting : Waits new table (Some p) blocks
 
-module _ (allocator : ℕ) (old : List ℕ) (table : Table) (valid : IsTable table) (heap : IsHeap allocator old) (p : ℕ) (first : Option ℕ) (xs ys : List ℕ) (o : Owes old table p xs) (w : Waits old table first ys) (owned : (h : ℕ) → times h (xs ++ ys) ≤ times h (positions (live old))) where
+module _ (allocator : ℕ) (old : List ℕ) (table : Table) (valid : IsTable table) (heap : IsHeap allocator old) (p : ℕ) (first : Option ℕ) (xs ys : List ℕ) (o : Owes old table p xs)
+    (w : Waits old table first ys) (owned : (h : ℕ) → times h (xs ++ ys) ≤ times h (positions (live old))) where
   b : Begins p xs
   b = owes_begins old table p xs o
 

@@ -95,7 +95,8 @@ module _ (bytes : List ℕ) (table : Table) (valid : IsTable table) where
   opens_named place (Form.list U) opened one o = λ t e. rw (ap (λ (r : Opened). r.blocks) o.opened_is) (ring_named (target bytes place.at) _ (8 + size table U) t o.nodes e o.ring o.are_nodes)
   opens_named place (Form.map U) opened one o = λ t e. rw (ap (λ (r : Opened). r.blocks) o.opened_is) (tree_named (target bytes place.at) _ (24 + size table U) t o.tree e o.is_tree o.are_nodes)
 
-  one_owned : (place : Place) (form : Form) (opened : Opened) (blocks owned : List ℕ) → form_at table place.type ≡ Some form → IsOne table valid form → Opens bytes table place form opened → blocks ≡ opened.blocks ++ owned → EachCell table place.type (λ d f. NamesOwned blocks (place.at + d) f)
+  one_owned : (place : Place) (form : Form) (opened : Opened) (blocks owned : List ℕ) → form_at table place.type ≡ Some form → IsOne table valid form → Opens bytes table place form opened →
+      blocks ≡ opened.blocks ++ owned → EachCell table place.type (λ d f. NamesOwned blocks (place.at + d) f)
   one_owned place form opened blocks owned f one o blocks_is =
       each_one table valid (λ d g. NamesOwned blocks (place.at + d) g) place.type form f one
       (from_names blocks (place.at + 0) (Some form) (rw (add-zero place.at, blocks_is) (λ t e. let n = opens_named place form opened one o t e in (n.0, omega (arith, n.1, times-append (block_of t) opened.blocks owned)))))
@@ -139,7 +140,8 @@ module _ (bytes : List ℕ) (table : Table) (valid : IsTable table) where
         fields_struct table valid (λ d g. NamesOwned blocks (place.at + d) g) place.type Us f
         (field_more owned blocks place.at 0 Us (λ h n. rw blocks_is (omega (arith, times-append h opened.blocks owned))) inner)
 
-    fields_owned : {places : List Place} {vs : Values} {blocks : List ℕ} (from n : ℕ) (Us : List ℕ) → HoldsEach bytes table places vs blocks → places ≡ fields table (from + n) Us → EachField table n Us (λ d f. NamesOwned blocks (from + d) f)
+    fields_owned : {places : List Place} {vs : Values} {blocks : List ℕ} (from n : ℕ) (Us : List ℕ) → HoldsEach bytes table places vs blocks → places ≡ fields table (from + n) Us →
+        EachField table n Us (λ d f. NamesOwned blocks (from + d) f)
     fields_owned from n [] holds_none e = tt
     fields_owned from n (U ∷ Us) holds_none e = absurd (cc)
     fields_owned from n [] (holds_more first rest) e = absurd (cc)
@@ -149,7 +151,8 @@ module _ (bytes : List ℕ) (table : Table) (valid : IsTable table) where
         let rest_is : places ≡ fields table (from + n + size table U) Us = tails place places (from + n) U Us e in
         let mine = rw (at_is, type_is) at (names_owned first) in
         let more = fields_owned from (n + size table U) Us rest (rest_is ∙ ap (λ k. fields table k Us) (add_assoc from n (size table U))) in (
-          each_weaker _ _ (λ c r. owned_more blocks (blocks ++ owned) (from + (n + c.from)) (form_at table c.type) (λ h k. omega (arith, times-append h blocks owned)) (regroup from n blocks c.from (form_at table c.type) r)) (cells table U) mine,
+          each_weaker _ _ (λ c r. owned_more blocks (blocks ++ owned) (from + (n + c.from)) (form_at table c.type) (λ h k. omega (arith, times-append h blocks owned))
+              (regroup from n blocks c.from (form_at table c.type) r)) (cells table U) mine,
           field_more owned (blocks ++ owned) from (n + size table U) Us (λ h k. omega (arith, times-append h blocks owned)) more,
         )
 
@@ -247,8 +250,10 @@ module _ (old raw new : List ℕ) (table : Table) (valid : IsTable table) (n : �
       let all : suc k * each ≡ each + k * each = grind arith in
       let one = part_there before (size table T) (omega arith) in
       let next = part_there each (k * each) (omega arith) in
-      let first_there = value_there (from + before) (to + before) T u mine (λ h m. aligned h (omega (arith, times-append h mine rest))) (omega arith) (omega arith) (omega arith) (omega arith) one further.0 (each_left _ mine rest kept) first in
-      let more_there = values_there before each T k (from + each) (to + each) us rest fits (λ h m. aligned h (omega (arith, times-append h mine rest))) (omega arith) (omega arith) (omega arith) (omega arith) e8 b8 next further.1 (each_right _ mine rest kept) more in
+      let first_there = value_there (from + before) (to + before) T u mine (λ h m. aligned h (omega (arith, times-append h mine rest))) (omega arith) (omega arith) (omega arith)
+          (omega arith) one further.0 (each_left _ mine rest kept) first in
+      let more_there = values_there before each T k (from + each) (to + each) us rest fits (λ h m. aligned h (omega (arith, times-append h mine rest))) (omega arith) (omega arith) (omega arith)
+          (omega arith) e8 b8 next further.1 (each_right _ mine rest kept) more in
       holds_more first_there more_there
     where
       part_there : (i m : ℕ) → i + m ≤ suc k * each → slice raw (to + i) m ≡ slice old (from + i) m
@@ -279,10 +284,12 @@ module _ (old raw new : List ℕ) (table : Table) (valid : IsTable table) (n : �
     pub beside_kept : AllByRecursion (KeepsBlock old new) blocks
     beside_kept = each_there (KeepsBlock old new) blocks (λ h some.
         let other = stands.others h some in
-        (there (KeptBut old new to (k * each) shift_changes allocator heap home stands.inside stands.home_live) h (positions (live old)) (live_kept_but old new to (k * each) shift_changes allocator heap home stands.inside stands.home_live) other.0).kept other.1)
+        (there (KeptBut old new to (k * each) shift_changes allocator heap home stands.inside stands.home_live) h (positions (live old))
+            (live_kept_but old new to (k * each) shift_changes allocator heap home stands.inside stands.home_live) other.0).kept other.1)
 
     pub shifted : before + size table T ≤ each → (to + n) % 2 ^ 32 ≡ from → to % 8 ≡ 0 → each % 8 ≡ 0 → before % 8 ≡ 0
         → HoldsEach old table (places_of T (values_at old raw new table valid n before from each k)) vs blocks → HoldsEach new table (places_of T (values_at old raw new table valid n before to each k)) vs blocks
     shifted fits far even e8 b8 h =
         let low = to_in in
-        values_there old raw new table valid n before each T k from to vs blocks fits (λ g some. (lies g (stands.others g some).0).aligned) far (omega (arith, from_in.small)) (omega (arith, from_in.fits, from_in.small)) even e8 b8 copied changed.cells beside_kept h
+        values_there old raw new table valid n before each T k from to vs blocks fits (λ g some. (lies g (stands.others g some).0).aligned) far (omega (arith, from_in.small))
+            (omega (arith, from_in.fits, from_in.small)) even e8 b8 copied changed.cells beside_kept h

@@ -39,7 +39,8 @@ module _ (bytes : List ℕ) (table : Table) where
       pub counts : (h : ℕ) → times h blocks ≡ times h (map block_of nodes) + times h owned
       pub owes_it : MatchOption o (blocks ≡ []) (λ p. Owes bytes table p blocks)
 
-    link_owes : (at : ℕ) (o : Option ℕ) (blocks : List ℕ) → target bytes at ≡ o → MatchOption o (blocks ≡ []) (λ p. Owes bytes table p blocks) → {ats ys : List ℕ} → OwesLinks bytes table ats ys → OwesLinks bytes table (at ∷ ats) (blocks ++ ys)
+    link_owes : (at : ℕ) (o : Option ℕ) (blocks : List ℕ) → target bytes at ≡ o → MatchOption o (blocks ≡ []) (λ p. Owes bytes table p blocks) → {ats ys : List ℕ} → OwesLinks bytes table ats ys →
+        OwesLinks bytes table (at ∷ ats) (blocks ++ ys)
     link_owes at None blocks e m {ats = ats} {ys = ys} more = subst (λ bs. OwesLinks bytes table (at ∷ ats) (bs ++ ys)) (sym m) (null_link e more)
     link_owes at (Some p) blocks e m more = node_link p e m more
 
@@ -51,7 +52,8 @@ module _ (bytes : List ℕ) (table : Table) where
     values_split [] p ys = refl
     values_split (x ∷ xs) p ys = ap (λ ps. record { at = x + 24; type = U } ∷ ps) (values_split xs p ys)
 
-    pub tree_owes : (o : Option ℕ) (tree : Tree) (vs : Values) (owned : List ℕ) → IsTree bytes o tree → AreNodes bytes (tag_of Kind.node T) (24 + size table U) (nodes_of tree) → HoldsEach bytes table (values_in (nodes_of tree)) vs owned → TreeOwes o (nodes_of tree) owned
+    pub tree_owes : (o : Option ℕ) (tree : Tree) (vs : Values) (owned : List ℕ) → IsTree bytes o tree → AreNodes bytes (tag_of Kind.node T) (24 + size table U) (nodes_of tree) →
+        HoldsEach bytes table (values_in (nodes_of tree)) vs owned → TreeOwes o (nodes_of tree) owned
     tree_owes None leaf vs owned t a holds_none = record { blocks = []; counts = λ h. omega arith; owes_it = refl }
     tree_owes (Some p) leaf vs owned t a h = absurd t
     tree_owes None (fork left at colour right) vs owned t a h = absurd t
@@ -79,11 +81,13 @@ module _ (bytes : List ℕ) (table : Table) where
               let n7 = times-append k mine.front (l.blocks ++ (r.blocks ++ [])) in
               let n8 = times-append k l.blocks (r.blocks ++ []) in
               let n9 : times k (r.blocks ++ []) ≡ times k r.blocks = ap (times k) (no_more r.blocks) in
-              let m1 : times k (map block_of (nodes_of left ++ at ∷ nodes_of right)) ≡ times k (map block_of (nodes_of left) ++ (block_of at ∷ map block_of (nodes_of right))) = ap (times k) (map-append block_of (nodes_of left) (at ∷ nodes_of right)) in
+              let m1 : times k (map block_of (nodes_of left ++ at ∷ nodes_of right)) ≡ times k (map block_of (nodes_of left) ++ (block_of at ∷ map block_of (nodes_of right))) = ap (times k)
+                  (map-append block_of (nodes_of left) (at ∷ nodes_of right)) in
               let m2 = times-append k (map block_of (nodes_of left)) (block_of at ∷ map block_of (nodes_of right)) in
               let m3 : times k (block_of p ∷ []) ≡ times k (block_of at ∷ []) = ap (λ q. times k (block_of q ∷ [])) (sym at_is) in
               omega arith;
-          owes_it = owes Kind.node T (record { at = p + 24; type = U } ∷ []) (p ∷ (p + 4) ∷ []) mine.front (l.blocks ++ (r.blocks ++ [])) shown (subst (λ q. AreParts bytes table (record { at = q + 24; type = U } ∷ []) mine.front) at_is parts) links refl;
+          owes_it = owes Kind.node T (record { at = p + 24; type = U } ∷ []) (p ∷ (p + 4) ∷ []) mine.front (l.blocks ++ (r.blocks ++ [])) shown
+              (subst (λ q. AreParts bytes table (record { at = q + 24; type = U } ∷ []) mine.front) at_is parts) links refl;
         }
       where
         own_part : (q : ℕ) (ws : Values) (bs : List ℕ) → HoldsEach bytes table (record { at = q + 24; type = U } ∷ []) ws bs → AreParts bytes table (record { at = q + 24; type = U } ∷ []) bs

@@ -44,7 +44,8 @@ gives_block allocator h tag before U old taken new table heap t fits small chang
     }
 
 -- the same with the positions that the code computes
-pub gives_block_at : (allocator h tag before U need_is each payload at : ℕ) (old taken tagged_is new : List ℕ) (table : Table) → IsTable table → before ≤ 24 → U < length table → tag < 2 ^ 32 → IsHeap allocator old → Takes allocator old taken need_is (Some h)
+pub gives_block_at : (allocator h tag before U need_is each payload at : ℕ) (old taken tagged_is new : List ℕ) (table : Table) → IsTable table → before ≤ 24 → U < length table → tag < 2 ^ 32 →
+    IsHeap allocator old → Takes allocator old taken need_is (Some h)
     → each ≡ before + size table U → (1 * each < 2 ^ 32 → need_is ≡ need (1 * each)) → payload ≡ (h + 16) % 2 ^ 32 → at ≡ (payload + 0 * each + before) % 2 ^ 32 → tagged_is ≡ set_word taken (h + 8) tag
     → (IsWithin tagged_is at (size table U) → ChangesOnly tagged_is new at (size table U)) → (IsWithin tagged_is at (size table U) → U < length table → Holds new table (record { at = at; type = U }) (default_of table U) [])
     → GivesBlock allocator old new table tag before U payload
@@ -67,9 +68,11 @@ gives_block_at allocator h tag before U need_is each payload at old taken tagged
     rw p_is (gives_block allocator h tag before U old taken new table heap t' (omega arith) small changed' held')
 
 -- the same with the table and the type that the code has
-pub gives_block_for : (allocator h tag before U V b need_is each payload at : ℕ) (old taken tagged_is new : List ℕ) (table here : Table) → here ≡ table → V ≡ U → b ≡ before → IsTable table → before ≤ 24 → U < length table → tag < 2 ^ 32 → IsHeap allocator old → Takes allocator old taken need_is (Some h)
+pub gives_block_for : (allocator h tag before U V b need_is each payload at : ℕ) (old taken tagged_is new : List ℕ) (table here : Table) → here ≡ table → V ≡ U → b ≡ before → IsTable table →
+    before ≤ 24 → U < length table → tag < 2 ^ 32 → IsHeap allocator old → Takes allocator old taken need_is (Some h)
     → each ≡ before + size table U → (1 * each < 2 ^ 32 → need_is ≡ need (1 * each)) → payload ≡ (h + 16) % 2 ^ 32 → at ≡ (payload + 0 * each + b) % 2 ^ 32 → tagged_is ≡ set_word taken (h + 8) tag
     → (IsWithin tagged_is at (size here V) → ChangesOnly tagged_is new at (size here V)) → (IsWithin tagged_is at (size here V) → V < length here → Holds new here (record { at = at; type = V }) (default_of here V) [])
     → GivesBlock allocator old new table tag before U payload
 gives_block_for allocator h tag before U V b need_is each payload at old taken tagged_is new table here table_is type_is before_is valid low_before below small heap t each_is need_by payload_is at_is tagged_by changes fills =
-    gives_block_at allocator h tag before U need_is each payload at old taken tagged_is new table valid low_before below small heap t each_is need_by payload_is (rw before_is at at_is) tagged_by (rw (table_is, type_is) at changes) (rw (table_is, type_is) at fills)
+    gives_block_at allocator h tag before U need_is each payload at old taken tagged_is new table valid low_before below small heap t each_is need_by payload_is (rw before_is at at_is) tagged_by
+        (rw (table_is, type_is) at changes) (rw (table_is, type_is) at fills)
