@@ -1,6 +1,7 @@
 //! Laws of values, and of the places that hold them.
 
-ghost use Rattle.std.specs.Prelude.{◌≡◌, ℕ, ◌<◌, List, [], ◌++◌, length, Some, All};
+ghost use Rattle.std.specs.Prelude.{◌≡◌, ℕ, ◌+◌, ◌<◌, List, [], ◌++◌, length, Some, All};
+ghost use Rattle.seg_spec.specs.Cells.{EachCell, IsMoved};
 ghost use Rattle.std.specs.List.{AllByRecursion};
 ghost use Rattle.seg_spec.specs.Bytes.{IsSame};
 ghost use Rattle.seg_spec.specs.Types.{Table, IsTable, size};
@@ -68,4 +69,14 @@ pub fn fitting()
 pub fn more_types()
     ensures { (bytes : List ℕ) (old more : Table) (place : Place) (v : Value) (blocks : List ℕ) →
         IsTable old → Holds bytes old place v blocks → Holds bytes (old ++ more) place v blocks }
+{}
+
+/// A value whose cells move, and name there what they named, is the same value at its new place, where the blocks that it
+/// owns are kept.
+pub fn moving()
+    ensures { (old new : List ℕ) (table : Table) (place : Place) (to : ℕ) (v : Value) (blocks : List ℕ) →
+        IsTable table → Holds old table place v blocks →
+        EachCell table place.type (λ d form. IsMoved old new (place.at + d) (to + d) form) →
+        AllByRecursion (KeepsBlock old new) blocks →
+        Holds new table (record { at = to; type = place.type }) v blocks }
 {}
