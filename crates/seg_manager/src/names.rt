@@ -1,3 +1,6 @@
+ghost use Rattle.std.specs.Prelude.{◌≡◌};
+ghost use Rattle.seg_spec.specs.Window.{with_bytes};
+
 use crate::segment::Segment;
 use seg_block::{Fit, Kind, Tag, UNIT, need};
 use seg_index::{NameEntry, Vacant, find, first_name, look_up, name_count, next_name};
@@ -47,7 +50,10 @@ impl<F: Fit, A: Allocator> Segment<F, A> {
     /// Makes an object of `count` default values, and returns the position of the first one. `OutOfRange` where the name is
     /// none or the count isn't from 1 to 65535, `AlreadyExists` where an object has the name, `BadAlloc` where there is no
     /// room for the object or its entry in the index; then nothing changes.
-    pub fn construct(&mut self, name: &[u8], t: TypeId, count: u32) -> Result<u32, Code> {
+    pub fn construct(&mut self, name: &[u8], t: TypeId, count: u32) -> Result<u32, Code>
+        ensures window { self.new.window ≡ with_bytes self.old.window self.new.window.bytes }
+        ensures types { self.new.types ≡ self.old.types }
+    {
         let count = u16::try_from(count).map_err(|_| Code::OutOfRange)?;
         let name = Name::of(name).ok_or(Code::OutOfRange)?;
         if count == 0 {
@@ -66,7 +72,10 @@ impl<F: Fit, A: Allocator> Segment<F, A> {
         name: Name,
         t: TypeId,
         count: u16,
-    ) -> Result<u32, Code> {
+    ) -> Result<u32, Code>
+        ensures window { self.new.window ≡ with_bytes self.old.window self.new.window.bytes }
+        ensures types { self.new.types ≡ self.old.types }
+    {
         let object = self.new_named(name, t, count)?;
         let entered = vacant.insert(self.heap_mut(), object, count, name.len);
         if entered.is_err() {
@@ -76,7 +85,10 @@ impl<F: Fit, A: Allocator> Segment<F, A> {
     }
 
     /// A block for the object of a name, with default values and the name after them.
-    fn new_named(&mut self, name: Name, t: TypeId, count: u16) -> Result<u32, Code> {
+    fn new_named(&mut self, name: Name, t: TypeId, count: u16) -> Result<u32, Code>
+        ensures window { self.new.window ≡ with_bytes self.old.window self.new.window.bytes }
+        ensures types { self.new.types ≡ self.old.types }
+    {
         let size = self.types().size(t);
         let values = u32::from(count).saturating_mul(size);
         let units = need(values.saturating_add(u32::from(name.len)));
@@ -116,7 +128,10 @@ impl<F: Fit, A: Allocator> Segment<F, A> {
 
     /// The position of the first value of a name's object. An object of one default value is made where there is none.
     /// `OutOfRange` where the name is none, `OtherType` where its object has another type, `BadAlloc` where there is no room.
-    pub fn find_or_construct(&mut self, name: &[u8], t: TypeId) -> Result<u32, Code> {
+    pub fn find_or_construct(&mut self, name: &[u8], t: TypeId) -> Result<u32, Code>
+        ensures window { self.new.window ≡ with_bytes self.old.window self.new.window.bytes }
+        ensures types { self.new.types ≡ self.old.types }
+    {
         match look_up(self.heap(), name) {
             Ok(occupied) => Ok(self.found(occupied.entry(), t)?.at),
             Err(vacant) => {
@@ -127,7 +142,10 @@ impl<F: Fit, A: Allocator> Segment<F, A> {
     }
 
     /// Destroys the object of a name, with all that its values own. False where there is none of this type.
-    pub fn destroy(&mut self, name: &[u8], t: TypeId) -> bool {
+    pub fn destroy(&mut self, name: &[u8], t: TypeId) -> bool
+        ensures window { self.new.window ≡ with_bytes self.old.window self.new.window.bytes }
+        ensures types { self.new.types ≡ self.old.types }
+    {
         let Ok(occupied) = look_up(self.heap(), name) else {
             return false;
         };
@@ -140,7 +158,10 @@ impl<F: Fit, A: Allocator> Segment<F, A> {
     }
 
     /// Destroys a named object whose entry is out of the index.
-    fn destroy_named(&mut self, found: Found, t: TypeId) {
+    fn destroy_named(&mut self, found: Found, t: TypeId)
+        ensures window { self.new.window ≡ with_bytes self.old.window self.new.window.bytes }
+        ensures types { self.new.types ≡ self.old.types }
+    {
         let size = self.types().size(t);
         for index in 0..found.count {
             let value = value_of(found.at, t, size, index);
