@@ -1,15 +1,11 @@
 ghost use Rattle.std.specs.Prelude.{◌≡◌, ℕ, ◌+◌, ◌<◌, ◌^◌, List, ◌∷◌, length};
-ghost use Rattle.std.specs.Cmp.{IsTotalOrder};
-ghost use Rattle.std.specs.declared.cmp.Ordering.{Ordering};
 ghost use Rattle.seg_spec.specs.Shapes.{nodes_of};
-ghost use Rattle.seg_spec.specs.Search.{Ascend, IsSearchTree};
 ghost use Rattle.seg_spec.specs.Window.{with_bytes};
 ghost use Rattle.seg_rbtree.specs.Changes.{StandApart, IsNew, with_node, Leaves};
 ghost use Rattle.seg_rbtree.specs.Nodes.{with_colour, raised, straightened};
 ghost use Rattle.seg_rbtree.specs.Rising.{IsRising, Settles};
-ghost use Rattle.seg_rbtree.specs.Ways.{LeadsTo};
-ghost use Rattle.seg_rbtree.specs.Paths.{WhereOrdered};
-ghost use Rattle.seg_rbtree.specs.Roots.{root_word, path_root};
+ghost use Rattle.seg_rbtree.specs.Paths.{WhereOrdered, AddsAt};
+ghost use Rattle.seg_rbtree.specs.Roots.{root_word};
 
 use crate::node::{Colour, Side, child, child_word, init, is_red, paint, rotate};
 use crate::order::{NodeOrder, Sought};
@@ -34,21 +30,26 @@ impl Tree {
             → Leaves w.old.bytes w.new.bytes (root_word self) (node ∷ nodes_of shape)
             (with_node (O.compare order.now w.old.bytes) node (nodes_of shape))) }
     {
-        self.path_to(w, order, Sought::Node(node)).insert(w, node);
+        let mut path = Path::new(self.root);
+        path.descend(w, order, Sought::Node(node));
+        path.add(w, node);
     }
 }
 
 impl Path {
     /// Adds a node at the empty place at the path's end. Only tree words and the root word change.
+    #[inline]
     pub fn insert<A: Allocator>(mut self, w: &mut Window<A>, node: u32)
         ensures host { w.new ≡ with_bytes w.old w.new.bytes }
-        ensures added { (order : ℕ → ℕ → Ordering) (shape : _) → IsTotalOrder order
-            → IsSearchTree w.old.bytes (path_root self) shape → Ascend order (nodes_of shape)
-            → LeadsTo (order node) shape self → IsNew order node (nodes_of shape)
-            → StandApart (length w.old.bytes) (path_root self) (node ∷ nodes_of shape)
-            → length (nodes_of shape) + 1 < 2 ^ 32
-            → Leaves w.old.bytes w.new.bytes (path_root self) (node ∷ nodes_of shape)
-            (with_node order node (nodes_of shape)) }
+        ensures added { AddsAt w.old.bytes w.new.bytes self node }
+    {
+        self.add(w, node);
+    }
+
+    /// The same, where the path stands. It is large to move, and of no use afterwards.
+    fn add<A: Allocator>(&mut self, w: &mut Window<A>, node: u32)
+        ensures host { w.new ≡ with_bytes w.old w.new.bytes }
+        ensures added { AddsAt w.old.bytes w.new.bytes self.old node }
     {
         init(w, node);
         self.set(w, Some(node));
@@ -57,7 +58,7 @@ impl Path {
             let Some(node) = red else {
                 break;
             };
-            red = settle(w, &mut self, node);
+            red = settle(w, self, node);
         }
     }
 }

@@ -1,16 +1,14 @@
-ghost use Rattle.std.specs.Prelude.{◌≡◌, ◌≢◌, ℕ, ◌<◌, ◌^◌, ◌∷◌, length, Some, None, IfSome, IfNone};
+ghost use Rattle.std.specs.Prelude.{◌≡◌, ◌≢◌, ◌<◌, ◌^◌, ◌∷◌, length, Some, None, IfSome, IfNone};
 ghost use Rattle.std.specs.List.{AllByRecursion};
-ghost use Rattle.std.specs.declared.cmp.Ordering.{Ordering};
 ghost use Rattle.seg_spec.specs.Pointer.{target, set_pointer};
-ghost use Rattle.seg_spec.specs.Search.{IsSearchTree};
 ghost use Rattle.seg_spec.specs.Shapes.{fork, black, nodes_of, IsBlack, IsRedBlack};
 ghost use Rattle.seg_spec.specs.Window.{with_bytes};
 ghost use Rattle.seg_rbtree.specs.Nodes.{side_word, opposite, colour_at};
 ghost use Rattle.seg_rbtree.specs.Changes.{StandApart, without_node, Leaves};
-ghost use Rattle.seg_rbtree.specs.Ways.{branch, plug, place, LeadsTo};
+ghost use Rattle.seg_rbtree.specs.Ways.{branch, plug, place};
 ghost use Rattle.seg_rbtree.specs.Removing.{layer_at, in_place_of, IsShort, StandsAt, WhereRedBlack, Descends, Unlinks, Lowers, ComesUp, Lengthens, Restores};
-ghost use Rattle.seg_rbtree.specs.Paths.{WhereOrdered, end_word, node_at};
-ghost use Rattle.seg_rbtree.specs.Roots.{root_word, path_root};
+ghost use Rattle.seg_rbtree.specs.Paths.{WhereOrdered, TakesOutAt, end_word, node_at};
+ghost use Rattle.seg_rbtree.specs.Roots.{root_word};
 
 use crate::node::{Colour, Side, child, child_word, colour_of, is_red, paint, rotate, set_child};
 use crate::order::{NodeOrder, Sought};
@@ -35,31 +33,37 @@ impl Tree {
         ensures stays { O.exact → WhereOrdered (O.compare order.now) w.old (root_word self)
             (λ shape. AllByRecursion (λ x. node ≢ x) (nodes_of shape) → w.new ≡ w.old) }
     {
-        let path = self.path_to(w, order, Sought::Node(node));
+        let mut path = Path::new(self.root);
+        path.descend(w, order, Sought::Node(node));
         if path.node(w) != Some(node) {
             return;
         }
-        path.remove(w);
+        path.take_out(w);
     }
 }
 
 impl Path {
     /// Takes out the node at the path's end, and no other. Only tree words and the root word change.
+    #[inline]
     pub fn remove<A: Allocator>(mut self, w: &mut Window<A>)
         ensures host { w.new ≡ with_bytes w.old w.new.bytes }
-        ensures removed { (turn : ℕ → Ordering) (node : ℕ) (shape : _)
-            → IsSearchTree w.old.bytes (path_root self) shape → LeadsTo turn shape self
-            → node_at w.old.bytes self ≡ Some node
-            → StandApart (length w.old.bytes) (path_root self) (nodes_of shape)
-            → Leaves w.old.bytes w.new.bytes (path_root self) (nodes_of shape)
-            (without_node node (nodes_of shape)) }
+        ensures removed { TakesOutAt w.old.bytes w.new.bytes self }
         ensures stays { node_at w.old.bytes self ≡ None → w.new ≡ w.old }
+    {
+        self.take_out(w);
+    }
+
+    /// The same, where the path stands.
+    fn take_out<A: Allocator>(&mut self, w: &mut Window<A>)
+        ensures host { w.new ≡ with_bytes w.old w.new.bytes }
+        ensures removed { TakesOutAt w.old.bytes w.new.bytes self.old }
+        ensures stays { node_at w.old.bytes self.old ≡ None → w.new ≡ w.old }
     {
         let Some(node) = self.node(w) else {
             return;
         };
-        match unlink(w, &mut self, node) {
-            Colour::Black => restore(w, &mut self),
+        match unlink(w, self, node) {
+            Colour::Black => restore(w, self),
             Colour::Red => {}
         }
     }
