@@ -1,7 +1,7 @@
 -- What a search of a tree finds.
 --     WhereOrdered compare w root claim      a claim of each search tree at a pointer word whose nodes are in order
 --     sought_by nodes key sought             how what is sought compares with a node
---     end_word path, word_after steps path   the position of the pointer at the end of a path, and after so many steps
+--     end_word path, word_after steps path   the position of the pointer at the end of a path, and after some of its steps
 --     node_at bytes path                     the node at the end of a path
 --     AddsAt old new path node               a node is added at the end of a path
 --     TakesOutAt old new path                the node at the end of a path is taken out
@@ -34,7 +34,7 @@ abbrev pub sought_by : {K : Type 0} → (ℕ → ℕ → Ordering) → (ℕ → 
 sought_by nodes key (Node sought) x = nodes sought x
 sought_by nodes key (Key sought) x = ordering_reverse (key x sought)
 
--- the position of the pointer at the end of a path, and after so many of its steps
+-- the position of the pointer at the end of a path, and after some of its steps
 abbrev pub end_word : Path → ℕ
 end_word path = last_word path.root path.steps.items
 

@@ -37,7 +37,8 @@ impl Tree {
 }
 
 impl Path {
-    /// Adds a node at the empty place at the path's end. Only tree words and the root word change.
+    /// Adds a node at the empty place at the path's end. It may be written between the walk and this. Only tree words and the
+    /// root word change.
     #[inline]
     pub fn insert<A: Allocator>(mut self, w: &mut Window<A>, node: u32)
         ensures host { w.new ≡ with_bytes w.old w.new.bytes }
@@ -63,7 +64,7 @@ impl Path {
     }
 }
 
-/// Settles a red node whose parent may be red: here, or by a red node further up, which it answers.
+/// Settles a red node whose parent may be red: here, or by a red node further up, which it returns.
 fn settle<A: Allocator>(w: &mut Window<A>, path: &mut Path, node: u32) -> Option<u32>
     ensures host { w.new ≡ with_bytes w.old w.new.bytes }
     ensures root { path.new.root ≡ path.old.root }
@@ -117,7 +118,7 @@ fn straighten<A: Allocator>(w: &mut Window<A>, word: usize, grandparent: Step, p
     raise(w, word, grandparent.node, side.other());
 }
 
-/// Lets the node at a pointer word go down to a side, red, and its child on the other side come up, black.
+/// Moves the node at a pointer word down to a side, red, and its child on the other side up, black.
 fn raise<A: Allocator>(w: &mut Window<A>, word: usize, node: u32, side: Side)
     ensures { w.new ≡ with_bytes w.old (raised w.old.bytes word node side) }
 {

@@ -69,7 +69,7 @@ impl Path {
     }
 }
 
-/// Takes a node out of the place that a path leads to, which then leads to where a node is missing. Answers the colour that
+/// Takes a node out of the place that a path leads to, which then leads to where a node is missing. Returns the colour that
 /// is missing there.
 fn unlink<A: Allocator>(w: &mut Window<A>, path: &mut Path, node: u32) -> Colour
     ensures host { w.new ≡ with_bytes w.old w.new.bytes }
@@ -88,7 +88,7 @@ fn unlink<A: Allocator>(w: &mut Window<A>, path: &mut Path, node: u32) -> Colour
     unlink_by_next(w, path, node)
 }
 
-/// Takes a node with nothing on a side out of the place that a path leads to. Answers its colour.
+/// Takes a node with nothing on a side out of the place that a path leads to. Returns its colour.
 fn unlink_lone<A: Allocator>(w: &mut Window<A>, path: &Path, node: u32, empty: Side) -> Colour
     ensures gone { result ≡ colour_at w.old.bytes (Some node) }
     ensures set { w.new ≡ with_bytes w.old (set_pointer w.old.bytes (end_word path.now)
@@ -183,7 +183,7 @@ fn restore<A: Allocator>(w: &mut Window<A>, path: &mut Path)
     }
 }
 
-/// One turn of that: it is made good, or a part further up is short then, and the answer is that there is more to do.
+/// One turn of that: it is made good, or a part further up is short then. Returns whether there is more to do.
 fn lengthen<A: Allocator>(w: &mut Window<A>, path: &mut Path) -> bool
     ensures host { w.new ≡ with_bytes w.old w.new.bytes }
     ensures root { path.new.root ≡ path.old.root }
@@ -225,7 +225,7 @@ fn lengthen_beside<A: Allocator>(w: &mut Window<A>, path: &mut Path, short: Step
     }
 }
 
-/// Lets a red sibling come up, so that the short part has a black one.
+/// Moves a red sibling up, so that the short part has a black one.
 fn lower<A: Allocator>(w: &mut Window<A>, path: &mut Path, short: Step, sibling: u32)
     ensures host { w.new ≡ with_bytes w.old w.new.bytes }
     ensures root { path.new.root ≡ path.old.root }
@@ -285,7 +285,7 @@ fn red_child<A: Allocator>(w: &Window<A>, node: u32, side: Side) -> Option<u32>
     }
 }
 
-/// Lets the node beside a short part come up in its parent's colour, and the parent go down, black.
+/// Moves the node beside a short part up, in its parent's colour, and the parent down, black.
 fn come_up<A: Allocator>(w: &mut Window<A>, path: &Path, short: Step)
     ensures host { w.new ≡ with_bytes w.old w.new.bytes }
     ensures came_up { (layers : _) (tree inner outer : _) (up : _) (colour other : _)
