@@ -81,7 +81,7 @@ impl Path {
         }
     }
 
-    /// The pointer word that leads to the place below so many steps.
+    /// The pointer word that leads to the place after that many steps.
     fn word_below(&self, steps: usize) -> usize
         ensures { steps ≤ length self.now.steps.items
             → result ≡ word_after steps self.now }
@@ -109,14 +109,14 @@ impl Path {
         w.target(self.word())
     }
 
-    /// Lets another node stand at the place.
+    /// Puts another node at the place.
     pub(crate) fn set<A: Allocator>(&self, w: &mut Window<A>, node: Option<u32>)
         ensures { w.new ≡ with_bytes w.old (set_pointer w.old.bytes (end_word self.now) node) }
     {
         w.point(self.word(), node);
     }
 
-    /// Lets another node stand at the place below so many steps.
+    /// Puts another node at the place after that many steps.
     pub(crate) fn set_at<A: Allocator>(&self, w: &mut Window<A>, steps: usize, node: u32)
         ensures host { w.new ≡ with_bytes w.old w.new.bytes }
         ensures set { steps ≤ length self.now.steps.items
@@ -126,8 +126,8 @@ impl Path {
         w.point(self.word_below(steps), Some(node));
     }
 
-    /// Lets the node at the place and its child on the other side change places: the child comes up, the node goes down
-    /// to `side`, and what was between them stays between them. Answers the child.
+    /// Exchanges the node at the place and its child on the other side: the child comes up, the node goes down to `side`, and
+    /// what was between them stays between them. Returns the child.
     pub(crate) fn rotate<A: Allocator>(
         &self,
         w: &mut Window<A>,

@@ -7,7 +7,7 @@ use Rattle.seg_rbtree.specs.Ways.{last_word}
 use Rattle.seg_rbtree.specs.Changes.{with_node}
 use Rattle.seg_rbtree.specs.Rising.{IsRising, Settles}
 use Rattle.seg_rbtree.proofs.Growing.{IsGrowing, grown, growing_start, settled_end, settled_late}
-use Rattle.seg_rbtree.proofs.path.Path.insert.Goals as goal
+use Rattle.seg_rbtree.proofs.path.Path.add.Goals as goal
 
 both : (a b c : Placement) (x y : List ℕ) → b ≡ with_bytes a x → c ≡ with_bytes b y → c ≡ with_bytes a c.bytes
 both a b c x y e f = f ∙ ap (λ (p : Placement). with_bytes p y) e ∙ ap (λ (bs : List ℕ). with_bytes a bs) (sym (ap (λ (p : Placement). p.bytes) f))
@@ -18,13 +18,13 @@ loop-init g c = record {
   root = refl;
   grows = λ order shape total t a way new apart few.
       let old = c.args.w.now.bytes in
-      let root = c.args.self.root in
+      let root = c.args.self.now.root in
       let node = c.args.node in
-      let steps = c.args.self.steps.items in
+      let steps = c.args.self.now.steps.items in
       let now : c.set.new.w.bytes ≡ set_pointer (with_new_node old node) (last_word root steps) (Some node) =
       ap (λ (p : Placement). p.bytes) c.set.ensures ∙ ap (λ (p : Placement). set_pointer p.bytes (last_word root steps) (Some node)) c.init.ensures in
       subst (λ bs. IsGrowing old bs root (with_node order node (nodes_of shape)) steps (Some node) 0) (sym now)
-      (growing_start order total old root node shape few t a apart c.args.self new way);
+      (growing_start order total old root node shape few t a apart c.args.self.now new way);
 }
 
 pub loop-preserved : goal.loop-preserved
@@ -33,7 +33,7 @@ loop-preserved g c = record {
   root = c.settle-red.ensures.root ∙ c.loop.invariant.root;
   grows = λ order shape total t a way new apart few.
       let old = c.args.w.now.bytes in
-      let root = c.args.self.root in
+      let root = c.args.self.now.root in
       let nodes = with_node order c.args.node (nodes_of shape) in
       let steps = c.loop.self.steps.items in
       let rest = c.settle-red.new.path.steps.items in
@@ -44,10 +44,10 @@ loop-preserved g c = record {
 
 pub returns-after-loop-clause-added : goal.returns-after-loop-clause-added
 returns-after-loop-clause-added g c = λ order shape total t a way new apart few.
-    settled_late order total c.args.w.now.bytes c.args.self.root c.args.node shape few c.loop.w.bytes c.loop.self.steps.items c.loop.red c.loop.counter (omega (arith, c.loop-test.false))
+    settled_late order total c.args.w.now.bytes c.args.self.now.root c.args.node shape few c.loop.w.bytes c.loop.self.steps.items c.loop.red c.loop.counter (omega (arith, c.loop-test.false))
     (c.loop.invariant.grows order shape total t a way new apart few)
 
 pub returns-in_default-clause-added : goal.returns-in_default-clause-added
 returns-in_default-clause-added g c = λ order shape total t a way new apart few.
-    settled_end order total c.args.w.now.bytes c.args.self.root c.args.node shape few c.loop.w.bytes c.loop.self.steps.items c.loop.red c.loop.counter c.in_default.is
+    settled_end order total c.args.w.now.bytes c.args.self.now.root c.args.node shape few c.loop.w.bytes c.loop.self.steps.items c.loop.red c.loop.counter c.in_default.is
     (c.loop.invariant.grows order shape total t a way new apart few)
