@@ -28,7 +28,8 @@ pub fn same_value()
 /// A value is what stands at a path and what is around it. Where what is around is kept, and the place there comes to
 /// hold another value, the whole changes by that value alone.
 pub fn changing()
-    ensures { (bytes : List ℕ) (table : Table) (place inner : Place) (path : List Selector) (v : Value) (blocks : List ℕ) →
+    ensures { (bytes : List ℕ) (table : Table) (place inner : Place) (path : List Selector)
+        (v : Value) (blocks : List ℕ) →
         IsTable table → Leads bytes table place path inner → Holds bytes table place v blocks →
         ComesApart bytes table place path inner v blocks }
 {}
@@ -36,10 +37,14 @@ pub fn changing()
 /// A path that leads to a value inside a value leads to a place that holds it. Where one path leads on from where another
 /// one leads to, so do both together.
 pub fn paths()
-    ensures found { (bytes : List ℕ) (table : Table) (place : Place) (path : List Selector) (v inner : Value) (blocks : List ℕ) →
-        Holds bytes table place v blocks → value_at v path ≡ Some inner → LeadsTo bytes table place path inner }
-    ensures joined { (bytes : List ℕ) (table : Table) (place middle inner : Place) (path more : List Selector) →
-        Leads bytes table place path middle → Leads bytes table middle more inner → Leads bytes table place (path ++ more) inner }
+    ensures found { (bytes : List ℕ) (table : Table) (place : Place) (path : List Selector)
+        (v inner : Value) (blocks : List ℕ) →
+        Holds bytes table place v blocks → value_at v path ≡ Some inner →
+        LeadsTo bytes table place path inner }
+    ensures joined { (bytes : List ℕ) (table : Table) (place middle inner : Place)
+        (path more : List Selector) →
+        Leads bytes table place path middle → Leads bytes table middle more inner →
+        Leads bytes table place (path ++ more) inner }
 {}
 
 /// Where a place and the blocks that it owns are kept, each path from it leads where it led.
