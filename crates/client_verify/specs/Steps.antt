@@ -1,7 +1,5 @@
 -- What the verifier's rule reads, as the definitions know it.
 --     step_of rule     of an instruction
-use Rattle.client_code.specs.Views.{place_of}
-use Rattle.client_code.specs.Checks.{checks_in}
 use Rattle.client_verify.specs.declared.rule.Rule.{Rule}
 use Rattle.client_verify.specs.Views.{registers_of}
 use Rattle.client_verify.specs.Checking.{Step}
@@ -10,8 +8,7 @@ abbrev pub step_of : Rule → Step
 step_of rule = record {
   types = rule.types.now;
   before = registers_of rule.before.now;
-  checks = checks_in rule.row.now;
-  place = place_of rule.row.now.place;
+  row = rule.row;
   a = rule.instruction.a;
   b = rule.instruction.b;
   c = rule.instruction.c;
