@@ -96,7 +96,7 @@ fn check_code(
             return Err(Fault::BadCode(place));
         };
         if !instruction.is_valid(types.len(), constants)
-            || !nesting.pass(instruction.operation.row().place)
+            || !nesting.pass(instruction.operation.row().role)
         {
             return Err(Fault::BadCode(place));
         }

@@ -4,7 +4,7 @@ ghost use Rattle.seg_spec.specs.Types.{Form, form_at};
 ghost use Rattle.client_spec.specs.Code as code;
 ghost use Rattle.client_spec.specs.Grammar.{Spells, listing, IsConstant, IsNameByte};
 ghost use Rattle.client_spec.specs.Text.{type_item, constant_item, instruction_item, operand_words, number_words, type_word, is_plain, escaped, text_spelling, spaced, text_of};
-ghost use Rattle.client_code.specs.Views.{operand_of, number_of, constant_of, constants_of, instruction_of};
+ghost use Rattle.client_code.specs.Views.{constant_of, constants_of, instruction_of};
 ghost use Rattle.client_code.specs.Texts.{with_spaces, ended};
 ghost use Rattle.client_code.specs.Clients.{bytes_of};
 
@@ -12,7 +12,7 @@ use crate::client::Client;
 use crate::constant::{Constant, ConstantKind};
 use crate::escape::{hex_digit, is_plain};
 use crate::instruction::Instruction;
-use crate::table::{Number, Operand};
+use client_spec::table::{Number, Operand};
 use seg_layout::{Type, TypeId, TypeTable};
 use seg_raw::Fault;
 use std::alloc::{AllocError, Allocator};
@@ -178,7 +178,7 @@ fn print_instruction<A: Allocator>(
     ensures { OnOk result (text.new.bytes.items ≡ text.old.bytes.items ++ ended (instruction_item (instruction_of instruction))) }
 {
     let row = instruction.operation.row();
-    text.push_str(row.text)?;
+    text.push_str(instruction.operation.word())?;
     print_operand(text, row.a, instruction.a)?;
     print_operand(text, row.b, instruction.b)?;
     print_operand(text, row.c, instruction.c)?;
@@ -191,7 +191,7 @@ fn print_operand<A: Allocator>(
     operand: Operand,
     n: u8,
 ) -> Result<(), AllocError>
-    ensures { OnOk result (text.new.bytes.items ≡ text.old.bytes.items ++ with_spaces (operand_words (operand_of operand) n)) }
+    ensures { OnOk result (text.new.bytes.items ≡ text.old.bytes.items ++ with_spaces (operand_words operand n)) }
 {
     match operand {
         Operand::Unused => Ok(()),
@@ -205,13 +205,13 @@ fn print_number<A: Allocator>(
     kind: Number,
     number: i32,
 ) -> Result<(), AllocError>
-    ensures { OnOk result (text.new.bytes.items ≡ text.old.bytes.items ++ with_spaces (number_words (number_of kind) number)) }
+    ensures { OnOk result (text.new.bytes.items ≡ text.old.bytes.items ++ with_spaces (number_words kind number)) }
 {
     let n = number.unsigned_abs();
     match kind {
         Number::Unused => Ok(()),
         Number::Any | Number::Turns => write!(text, " {number}"),
-        Number::Type => write!(text, " t{n}"),
+        Number::TypeId => write!(text, " t{n}"),
         Number::Text => write!(text, " k{n}"),
         Number::TypedName => {
             let type_id = n / 256;

@@ -1,23 +1,75 @@
-ghost use Rattle.std.specs.Prelude.{◌≡◌, ◌≢◌, ◌≤◌, map, IfSome, IfNone};
-ghost use Rattle.client_code.specs.Views.{row_view, definition, operations};
-ghost use Rattle.client_code.specs.Checks.{checks_of, checks_in};
-ghost use Rattle.client_spec.specs.Code as code;
-ghost use Rattle.client_spec.specs.Operations.{row_of};
+//! The instruction table: the operations, and what each is. Definitions and code both read it.
 
-use crate::operation::Operation;
+ghost use Rattle.std.specs.Prelude.{◌≡◌, ◌≢◌, map, IfSome, IfNone};
+ghost use Rattle.client_spec.specs.Operations.{number_of, entries, word_of, row_of};
 
-/// How an operation stands in code.
+/// What an instruction does. The discriminant is the number that stands for it in a client file.
 #[derive(Debug, Clone, Copy, PartialEq, Eq)]
-pub enum Place {
-    /// By itself.
-    Plain,
-    /// In front of a success part, `ELSE`, an else part and `END`.
-    Opener,
-    /// In front of a body and `END`.
-    Loop,
-    /// Between two parts.
+pub enum Operation {
+    Const = 1,
+    Mov,
+    Add,
+    Sub,
+    Mul,
+    Less,
+    Equal,
+    If,
+    While,
     Else,
-    /// Behind a part.
+    End,
+    OutInt,
+    OutStr,
+    OutConst,
+    GetByte,
+    Make,
+    Find,
+    FindOrMake,
+    Count,
+    Kill,
+    MakeUnique,
+    FindUnique,
+    FindOrMakeUnique,
+    KillUnique,
+    New,
+    Drop,
+    Ref,
+    Put,
+    Take,
+    Content,
+    Clear,
+    Forget,
+    Load,
+    Store,
+    Field,
+    Len,
+    At,
+    PushBack,
+    PushFront,
+    PopBack,
+    PopFront,
+    SetStr,
+    AddStr,
+    AddByte,
+    Shrink,
+    GetKey,
+    PutKey,
+    DeleteKey,
+    FirstKey,
+    NextKey,
+}
+
+/// The role of an operation in the nesting of code.
+#[derive(Debug, Clone, Copy, PartialEq, Eq)]
+pub enum Role {
+    /// It stands by itself.
+    Plain,
+    /// It opens a success part, which `ELSE`, an else part and `END` follow.
+    Opener,
+    /// It opens a body, which `END` follows.
+    Loop,
+    /// It stands between two parts.
+    Else,
+    /// It ends a part.
     End,
 }
 
@@ -39,7 +91,7 @@ pub enum Number {
     /// The most turns of a loop.
     Turns,
     /// A type of the client.
-    Type,
+    TypeId,
     /// A text of the client.
     Text,
     /// A type and a name: `256 * type + constant`. Register b holds the number of a family's name; an exact name has none.
@@ -127,12 +179,10 @@ pub enum Ends {
 }
 
 /// A row of the instruction table.
-#[derive(Debug, Clone, Copy)]
+#[derive(Debug, Clone, Copy, PartialEq, Eq)]
 pub struct Row {
     pub operation: Operation,
-    /// The operation's word in the assembler text.
-    pub text: &'static str,
-    pub place: Place,
+    pub role: Role,
     pub a: Operand,
     pub b: Operand,
     pub c: Operand,
@@ -143,28 +193,30 @@ pub struct Row {
     pub ends: Ends,
 }
 
-// operation, word, place; a, b, c, number; what b and c hold; what a holds afterwards, which references end
+// operation, word, role; a, b, c, number; what b and c hold; what a holds afterwards, which references end
 macro_rules! row {
-    ($operation:ident, $text:literal, $place:ident; $a:ident, $b:ident, $c:ident, $number:ident;
+    ($operation:ident, $word:literal, $role:ident; $a:ident, $b:ident, $c:ident, $number:ident;
      $needs_b:ident $(($kinds:ident))?, $needs_c:ident; $gives:ident, $ends:ident) => {
-        Row {
-            operation: Operation::$operation,
-            text: $text,
-            place: Place::$place,
-            a: Operand::$a,
-            b: Operand::$b,
-            c: Operand::$c,
-            number: Number::$number,
-            needs_b: Need::$needs_b $((Kinds::$kinds))?,
-            needs_c: Need::$needs_c,
-            gives: Gives::$gives,
-            ends: Ends::$ends,
-        }
+        (
+            $word,
+            Row {
+                operation: Operation::$operation,
+                role: Role::$role,
+                a: Operand::$a,
+                b: Operand::$b,
+                c: Operand::$c,
+                number: Number::$number,
+                needs_b: Need::$needs_b $((Kinds::$kinds))?,
+                needs_c: Need::$needs_c,
+                gives: Gives::$gives,
+                ends: Ends::$ends,
+            },
+        )
     };
 }
 
-/// The instruction table, in the order of the operations' numbers.
-pub static ROWS: [Row; 50] = [
+/// The instruction table, in the order of the operations' numbers: each operation's word in the assembler text, and its row.
+pub static ROWS: [(&str, Row); 50] = [
     row!(Const, "CONST", Plain; Register, Unused, Unused, Any; Nothing, Nothing; Int, Nothing),
     row!(Mov, "MOV", Plain; Register, Register, Unused, Unused; Copyable, Nothing; Copy, Nothing),
     row!(Add, "ADD", Plain; Register, Register, Register, Unused; Int, Int; Int, Nothing),
@@ -185,11 +237,11 @@ pub static ROWS: [Row; 50] = [
     row!(FindOrMake, "FINDOR", Opener; Register, Optional, Unused, TypedName; IntOrNone, Nothing; Named, Nothing),
     row!(Count, "COUNT", Opener; Register, Optional, Unused, TypedName; IntOrNone, Nothing; Int, Nothing),
     row!(Kill, "KILL", Plain; Register, Optional, Unused, TypedName; IntOrNone, Nothing; Int, Name),
-    row!(MakeUnique, "UMAKE", Opener; Register, Unused, Unused, Type; Nothing, Nothing; Unique, Nothing),
-    row!(FindUnique, "UFIND", Opener; Register, Unused, Unused, Type; Nothing, Nothing; Unique, Nothing),
-    row!(FindOrMakeUnique, "UFINDOR", Opener; Register, Unused, Unused, Type; Nothing, Nothing; Unique, Nothing),
-    row!(KillUnique, "UKILL", Plain; Register, Unused, Unused, Type; Nothing, Nothing; Int, Unique),
-    row!(New, "NEW", Opener; Register, Unused, Unused, Type; Nothing, Nothing; Owner, Nothing),
+    row!(MakeUnique, "UMAKE", Opener; Register, Unused, Unused, TypeId; Nothing, Nothing; Unique, Nothing),
+    row!(FindUnique, "UFIND", Opener; Register, Unused, Unused, TypeId; Nothing, Nothing; Unique, Nothing),
+    row!(FindOrMakeUnique, "UFINDOR", Opener; Register, Unused, Unused, TypeId; Nothing, Nothing; Unique, Nothing),
+    row!(KillUnique, "UKILL", Plain; Register, Unused, Unused, TypeId; Nothing, Nothing; Int, Unique),
+    row!(New, "NEW", Opener; Register, Unused, Unused, TypeId; Nothing, Nothing; Owner, Nothing),
     row!(Drop, "DROP", Plain; Unused, Register, Unused, Unused; Owner, Nothing; Nothing, Dropped),
     row!(Ref, "REF", Plain; Register, Register, Unused, Unused; Owner, Nothing; Owned, Nothing),
     row!(Put, "PUT", Plain; Unused, Register, Register, Unused; Reference(Own), Content; Nothing, Moved),
@@ -218,49 +270,52 @@ pub static ROWS: [Row; 50] = [
 ];
 
 /// The instruction table.
-fn rows() -> &'static [Row; 50]
-    ensures same { map (λ row. row.operation) result.now ≡ operations }
-    ensures rows { map row_view result.now ≡ map definition operations }
-    ensures checks { map checks_in result.now ≡ map checks_of operations }
+fn rows() -> &'static [(&'static str, Row); 50]
+    ensures { map (λ entry. (entry.0.now, entry.1)) result.now ≡ entries }
 {
     &ROWS
 }
 
 impl Operation {
-    /// The operation's row of the table.
-    pub fn row(self) -> &'static Row
-        ensures same { result.now.operation ≡ self }
-        ensures row { row_view result.now ≡ definition self }
-        ensures checks { checks_in result.now ≡ checks_of self }
-    {
-        &rows()[self.number() as usize - 1]
-    }
-
-    /// The number that stands for the operation in a client file.
+    /// The number that stands for the operation in a client file, from 1 on.
     pub fn number(self) -> u8
-        ensures byte { result ≡ (definition self).byte }
-        ensures some { 1 ≤ result }
-        ensures few { result ≤ 50 }
+        ensures { result ≡ number_of self }
     {
         self as u8
     }
 
+    /// The operation's word in the assembler text.
+    pub fn word(self) -> &'static str
+        ensures { result.now ≡ word_of self }
+    {
+        rows()[usize::from(self.number()) - 1].0
+    }
+
+    /// The operation's row of the table.
+    pub fn row(self) -> Row
+        ensures row { result ≡ row_of self }
+        ensures own { result.operation ≡ self }
+    {
+        rows()[usize::from(self.number()) - 1].1
+    }
+
     /// The operation of a number.
     pub fn from_number(number: u8) -> Option<Operation>
-        ensures found { IfSome result (λ operation. (definition operation).byte ≡ number) }
-        ensures none { IfNone result ((operation : code.Operation) → (row_of operation).byte ≢ number) }
+        ensures found { IfSome result (λ operation. number_of operation ≡ number) }
+        ensures none { IfNone result ((operation : Operation) → number_of operation ≢ number) }
     {
         let index = usize::from(number).checked_sub(1)?;
-        Some(rows().get(index)?.operation)
+        let (_, row) = rows().get(index)?;
+        Some(row.operation)
     }
 
     /// The operation of a word of the assembler text.
     pub fn from_word(word: &[u8]) -> Option<Operation>
-        ensures found { IfSome result (λ operation. (definition operation).word ≡ word.now) }
-        ensures none { IfNone result ((operation : code.Operation) → (row_of operation).word ≢ word.now) }
+        ensures found { IfSome result (λ operation. word_of operation ≡ word.now) }
+        ensures none { IfNone result ((operation : Operation) → word_of operation ≢ word.now) }
     {
-        for row in rows() {
-            if row.text.as_bytes() == word {
+        for (text, row) in rows() {
+            if text.as_bytes() == word {
                 return Some(row.operation);
             }
         }
