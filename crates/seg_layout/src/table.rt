@@ -1,7 +1,7 @@
-ghost use Rattle.std.specs.Prelude.{◌≡◌, ℕ, ◌<◌, ◌≤◌, ◌==◌, ◌↔◌, ◌%◌, ◌+◌, ◌++◌, [], map, sum_by, length, slice_get, IsOk, IfOk, IfErr};
+ghost use Rattle.std.specs.Prelude.{◌≡◌, ℕ, ◌<◌, ◌≤◌, ◌==◌, ◌↔◌, ◌%◌, ◌+◌, ◌++◌, [], map, sum_by, length, slice_get, IsOk, IfOk, IfErr, IfSome};
 ghost use Rattle.arrayvec.specs.ArrayVec.{array_vec_len};
 ghost use Rattle.seg_spec.specs.Types.{Table, Agree, IsFirstDifference, longer, fields_of, fields_from, pointers, IsTable, form_at, entry_at, size, Spells, IsWrong, IsFirstWrong};
-ghost use Rattle.seg_layout.specs.Forms.{cell_of, form_of, map_option};
+ghost use Rattle.seg_layout.specs.Forms.{cell_of, form_of, map_option, has_cells};
 
 use crate::entry::{Entries, Entry, MAX_TYPES, Slot};
 use crate::kind::{Cell, ENTRY, Fields, Type, TypeId};
@@ -80,18 +80,50 @@ impl TypeTable {
         Some(entry.kind)
     }
 
+    /// Whether values of this type may have cells that hold pointers: all types but i64, and those that the table lacks.
+    pub fn has_pointers(&self, t: TypeId) -> bool
+        ensures cells { has_cells (form_at self.now t) ≡ result }
+        ensures table { IsTable self.now }
+    {
+        // The table is a valid one.
+        let _ = &self.entries;
+        match self.kind(t) {
+            None | Some(Type::I64) => false,
+            Some(_) => true,
+        }
+    }
+
     /// The bytes of a value of this type: 8 where the table doesn't have it.
     pub fn size(&self, t: TypeId) -> u32
         ensures value { result ≡ size self.now t }
         ensures some { 8 ≤ result }
         ensures small { result ≤ 4096 }
+        ensures table { IsTable self.now }
     {
         Entry::size_at(&self.entries, t)
     }
 
-    /// A field of this type, if it is a struct that has so many.
+    /// How many fields this type has: 0 where it is no struct.
+    pub fn field_count(&self, t: TypeId) -> u32
+        ensures count { result ≡ length (fields_of self.now t) }
+        ensures few { result ≤ 8 }
+        ensures table { IsTable self.now }
+    {
+        // The table is a valid one.
+        let _ = &self.entries;
+        let Some(kind) = self.kind(t) else {
+            return 0;
+        };
+        let Type::Struct(fields) = kind else {
+            return 0;
+        };
+        fields.len() as u32
+    }
+
+    /// A field of this type, if it is a struct that has so many. The field's type comes before it in the table.
     pub fn field(&self, t: TypeId, index: u32) -> Option<Cell>
-        ensures { slice_get (fields_of self.now t) index ≡ map_option cell_of result }
+        ensures field { slice_get (fields_of self.now t) index ≡ map_option cell_of result }
+        ensures before { IfSome result (λ cell. cell.type_id < t) }
     {
         let kind = self.kind(t)?;
         let Type::Struct(fields) = kind else {

@@ -3,13 +3,15 @@ ghost use Rattle.seg_spec.specs.Pointer.{target, set_pointer};
 ghost use Rattle.seg_spec.specs.Window.{with_bytes};
 ghost use Rattle.seg_rbtree.specs.Nodes.{side_word, opposite, rotated};
 ghost use Rattle.seg_rbtree.specs.Ways.{last_word};
+ghost use Rattle.seg_rbtree.specs.Paths.{node_at};
 
 use crate::node::{Side, child_word, rotate};
 use arrayvec::ArrayVec;
 use seg_ptr::Window;
 use std::alloc::Allocator;
 
-/// The most nodes on a way down a tree. A red-black tree that fits a segment has fewer.
+/// The most nodes on a way down a tree. A red-black tree of fewer than 2^32 nodes has no more, and a segment has room for
+/// fewer than 2^26: with these it has at most 52.
 pub const DEPTH: usize = 64;
 
 /// A node, and the side on which the way goes on.
@@ -19,15 +21,17 @@ pub(crate) struct Step {
     pub(crate) side: Side,
 }
 
-/// A way down from the root: the nodes above a place.
+/// A way down from the root of a tree: the nodes above a place, where a node stands or none. It holds no part of the window, so
+/// other bytes may change before a node is added or removed at its end; with another change of the tree it is out of date.
 #[derive(Drop)]
-pub(crate) struct Path {
+pub struct Path {
     root: usize,
     steps: ArrayVec<Step, DEPTH>,
 }
 
 impl Path {
     /// The place of the root itself, which this pointer word names.
+    #[inline(always)]
     pub(crate) fn new(root: usize) -> Path
         ensures root { result.root ≡ root }
         ensures steps { result.steps.items ≡ [] }
@@ -94,9 +98,9 @@ impl Path {
         self.word_below(self.steps.len())
     }
 
-    /// The node at the place.
-    pub(crate) fn node<A: Allocator>(&self, w: &Window<A>) -> Option<u32>
-        ensures { result ≡ target w.now.bytes (last_word self.now.root self.now.steps.items) }
+    /// The node at the path's end, if there is one.
+    pub fn node<A: Allocator>(&self, w: &Window<A>) -> Option<u32>
+        ensures { result ≡ node_at w.now.bytes self.now }
     {
         w.target(self.word())
     }

@@ -1,17 +1,19 @@
-ghost use Rattle.std.specs.Prelude.{◌≡◌, ◌≢◌, ◌<◌, ◌^◌, ◌∷◌, length, Some, None, IfSome, IfNone};
+ghost use Rattle.std.specs.Prelude.{◌≡◌, ◌≢◌, ℕ, ◌<◌, ◌^◌, ◌∷◌, length, Some, None, IfSome, IfNone};
 ghost use Rattle.std.specs.List.{AllByRecursion};
+ghost use Rattle.std.specs.declared.cmp.Ordering.{Ordering};
 ghost use Rattle.seg_spec.specs.Pointer.{target, set_pointer};
-ghost use Rattle.seg_spec.specs.Search.{Ascend, IsSearchTree};
+ghost use Rattle.seg_spec.specs.Search.{IsSearchTree};
 ghost use Rattle.seg_spec.specs.Shapes.{fork, black, nodes_of, IsBlack, IsRedBlack};
 ghost use Rattle.seg_spec.specs.Window.{with_bytes};
 ghost use Rattle.seg_rbtree.specs.Nodes.{side_word, opposite, colour_at};
 ghost use Rattle.seg_rbtree.specs.Changes.{StandApart, without_node, Leaves};
-ghost use Rattle.seg_rbtree.specs.Ways.{branch, plug, place, last_word};
+ghost use Rattle.seg_rbtree.specs.Ways.{branch, plug, place, last_word, LeadsTo};
 ghost use Rattle.seg_rbtree.specs.Removing.{layer_at, in_place_of, IsShort, StandsAt, Descends, Unlinks, Lowers, ComesUp, Lengthens, Restores};
-ghost use Rattle.seg_rbtree.specs.Roots.{root_word};
+ghost use Rattle.seg_rbtree.specs.Paths.{WhereOrdered, node_at};
+ghost use Rattle.seg_rbtree.specs.Roots.{root_word, path_root};
 
 use crate::node::{Colour, Side, child, child_word, colour_of, is_red, paint, rotate, set_child};
-use crate::order::NodeOrder;
+use crate::order::{NodeOrder, Sought};
 use crate::path::{DEPTH, Path, Step};
 use crate::tree::Tree;
 use seg_ptr::Window;
@@ -26,18 +28,36 @@ impl Tree {
         node: u32,
     )
         ensures host { w.new ≡ with_bytes w.old w.new.bytes }
-        ensures removed { O.exact → (shape : _) → IsSearchTree w.old.bytes (root_word self) shape → Ascend (O.compare order.now w.old.bytes) (nodes_of shape)
-            → StandApart (length w.old.bytes) (root_word self) (nodes_of shape)
-            → Leaves w.old.bytes w.new.bytes (root_word self) (nodes_of shape) (without_node node (nodes_of shape)) }
-        ensures stays { O.exact → (shape : _) → IsSearchTree w.old.bytes (root_word self) shape → Ascend (O.compare order.now w.old.bytes) (nodes_of shape)
-            → AllByRecursion (λ x. node ≢ x) (nodes_of shape) → w.new ≡ w.old }
+        ensures removed { O.exact → WhereOrdered (O.compare order.now) w.old (root_word self)
+            (λ shape. StandApart (length w.old.bytes) (root_word self) (nodes_of shape)
+            → Leaves w.old.bytes w.new.bytes (root_word self) (nodes_of shape) (without_node node (nodes_of shape))) }
+        ensures stays { O.exact → WhereOrdered (O.compare order.now) w.old (root_word self)
+            (λ shape. AllByRecursion (λ x. node ≢ x) (nodes_of shape) → w.new ≡ w.old) }
     {
-        let mut path = self.path_to(w, order, node);
+        let path = self.path_to(w, order, Sought::Node(node));
         if path.node(w) != Some(node) {
             return;
         }
-        match unlink(w, &mut path, node) {
-            Colour::Black => restore(w, &mut path),
+        path.remove(w);
+    }
+}
+
+impl Path {
+    /// Takes out the node at the path's end, and no other. Only tree words and the root word change.
+    pub fn remove<A: Allocator>(mut self, w: &mut Window<A>)
+        ensures host { w.new ≡ with_bytes w.old w.new.bytes }
+        ensures removed { (turn : ℕ → Ordering) (node : ℕ) (shape : _)
+            → IsSearchTree w.old.bytes (path_root self) shape → LeadsTo turn shape self
+            → node_at w.old.bytes self ≡ Some node
+            → StandApart (length w.old.bytes) (path_root self) (nodes_of shape)
+            → Leaves w.old.bytes w.new.bytes (path_root self) (nodes_of shape) (without_node node (nodes_of shape)) }
+        ensures stays { node_at w.old.bytes self ≡ None → w.new ≡ w.old }
+    {
+        let Some(node) = self.node(w) else {
+            return;
+        };
+        match unlink(w, &mut self, node) {
+            Colour::Black => restore(w, &mut self),
             Colour::Red => {}
         }
     }

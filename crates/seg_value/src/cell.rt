@@ -1,46 +1,60 @@
-use seg_layout::{Cell, Type, TypeId, TypeTable};
+ghost use Rattle.std.specs.Prelude.{◌≡◌, ◌+◌, ◌≤◌, length};
+ghost use Rattle.seg_spec.specs.Bytes.{set_word};
+ghost use Rattle.seg_spec.specs.Reads.{count_at, start};
+ghost use Rattle.seg_spec.specs.Window.{with_bytes};
+
+use crate::heap::Heap;
+use seg_block::Fit;
 use seg_ptr::Window;
 use std::alloc::Allocator;
 
-/// The number in a cell behind its pointer: how many bytes, items or nodes it has.
-pub fn count<A: Allocator>(w: &Window<A>, cell: u32) -> u32 {
+/// The number in a cell after its pointer: how many bytes, items or nodes it has.
+pub fn count<A: Allocator>(w: &Window<A>, cell: u32) -> u32
+    ensures { result ≡ count_at w.now.bytes cell }
+{
     w.get32(cell as usize + 4)
 }
 
-pub fn set_count<A: Allocator>(w: &mut Window<A>, cell: u32, count: u32) {
-    w.put32(cell as usize + 4, count);
-}
-
 /// Where the payload begins that a cell names: 0 where it names none.
-pub fn start<A: Allocator>(w: &Window<A>, cell: u32) -> u32 {
+pub fn start<A: Allocator>(w: &Window<A>, cell: u32) -> u32
+    ensures { result ≡ start w.now.bytes cell }
+{
     w.target(cell as usize).unwrap_or(0)
 }
 
-/// Writes the default value of a type: 0 for numbers, empty or null for all else.
-pub fn init_default<A: Allocator>(w: &mut Window<A>, table: &TypeTable, t: TypeId, at: u32) {
-    w.fill(at as usize, table.size(t) as usize, 0);
-    match table.kind(t) {
-        None | Some(Type::I64) => {}
-        Some(Type::Struct(_)) => empty_fields(w, table, t, at),
-        Some(_) => w.point(at as usize, None),
+/// The cells of values: a number, or a pointer and then a count.
+impl<F: Fit, A: Allocator> Heap<F, A> {
+    /// As [`count`](crate::count) in the heap's window.
+    pub fn count(&self, cell: u32) -> u32
+        ensures { result ≡ count_at self.now.window.bytes cell }
+    {
+        count(&self.window, cell)
     }
-}
 
-/// Lets the fields of a struct name nothing. Not inlined: a list of cells takes 4 KiB, which a loop over numbers would clear
-/// each time, unused.
-#[inline(never)]
-fn empty_fields<A: Allocator>(w: &mut Window<A>, table: &TypeTable, t: TypeId, at: u32) {
-    set_null(w, table.pointers(t).as_slice(), at);
-}
-
-/// Lets these cells of a value name nothing.
-pub(crate) fn set_null<A: Allocator>(w: &mut Window<A>, cells: &[Cell], at: u32) {
-    for cell in cells {
-        w.point(at as usize + cell.from as usize, None);
+    pub fn set_count(&mut self, cell: u32, count: u32)
+        ensures window { self.new.window ≡ with_bytes self.old.window (set_word self.old.window.bytes (cell + 4) count) }
+        ensures types { self.new.types ≡ self.old.types }
+    {
+        self.window.put32(cell as usize + 4, count);
     }
-}
 
-/// Writes a number.
-pub fn store<A: Allocator>(w: &mut Window<A>, at: u32, value: i64) {
-    w.put64(at as usize, value.cast_unsigned());
+    /// As [`start`](crate::start) in the heap's window.
+    pub fn start(&self, cell: u32) -> u32
+        ensures { result ≡ start self.now.window.bytes cell }
+    {
+        start(&self.window, cell)
+    }
+
+    /// Reads a number.
+    pub fn load(&self, at: u32) -> i64 {
+        self.window.get64(at as usize).cast_signed()
+    }
+
+    /// Writes a number.
+    pub fn store(&mut self, at: u32, value: i64)
+        ensures window { self.new.window ≡ with_bytes self.old.window self.new.window.bytes }
+        ensures types { self.new.types ≡ self.old.types }
+    {
+        self.window.put64(at as usize, value.cast_unsigned());
+    }
 }

@@ -1,13 +1,6 @@
-ghost use Rattle.std.specs.Prelude.{◌≤◌};
-
-use seg_block::{Kind, Tag, need};
-use seg_layout::{Type, TypeId, TypeTable};
-
-/// The bytes of a key.
-pub const KEY: u32 = 8;
-
-/// The bytes of a list's node before its value: the pointers to the next and to the previous node.
-pub const LIST_LINKS: u32 = 8;
+use crate::entry::{Entry, KEY, LIST_LINKS};
+use seg_block::{Kind, Tag};
+use seg_layout::{MAX_TYPES, Type, TypeId, TypeTable};
 
 /// The bytes of a map's node before its key.
 const TREE_WORDS: u32 = 16;
@@ -15,7 +8,7 @@ const TREE_WORDS: u32 = 16;
 /// How the blocks hang together that a cell names.
 #[derive(Debug, Clone, Copy, PartialEq, Eq)]
 pub enum Shape {
-    /// A buffer of entries, one behind the other.
+    /// A buffer of entries, one after the other.
     Buffer,
     /// A ring of nodes, each of which begins with pointers to the next and to the previous one.
     Ring,
@@ -23,57 +16,6 @@ pub enum Shape {
     Tree,
     /// One object.
     Object,
-}
-
-/// What stands in a block: a value, with what goes before it. A buffer has several.
-#[derive(Debug, Clone, Copy, PartialEq, Eq)]
-pub struct Entry {
-    /// Its bytes.
-    pub size: u32,
-    /// The bytes before the value.
-    pub before: u32,
-    /// The type of the value: none for the bytes of a string.
-    pub item: Option<TypeId>,
-    ghost some: { 1 ≤ size },
-}
-
-impl Entry {
-    /// A byte of a string.
-    fn byte() -> Entry {
-        Entry {
-            size: 1,
-            before: 0,
-            item: None,
-        }
-    }
-
-    /// The entry with a value of a type behind so many bytes.
-    fn with_item(table: &TypeTable, item: TypeId, before: u32) -> Entry
-        requires { before ≤ 24 }
-    {
-        Entry {
-            size: before + table.size(item),
-            before,
-            item: Some(item),
-        }
-    }
-
-    /// The position of an entry of a block whose payload begins at `start`.
-    pub fn at(self, start: u32, index: u32) -> u32 {
-        start.wrapping_add(index.wrapping_mul(self.size))
-    }
-
-    /// The position of an entry's value.
-    pub fn value_at(self, start: u32, index: u32) -> u32 {
-        self.at(start, index).wrapping_add(self.before)
-    }
-
-    /// The units of a block for so many entries. What no segment has room for is more than any block has.
-    pub fn need(self, entries: u32) -> u32
-        ensures { 2 ≤ result }
-    {
-        need(entries.saturating_mul(self.size))
-    }
 }
 
 /// What the cell of a container, a string or an own names: how the blocks hang together, their tag, and their entries.
@@ -85,32 +27,48 @@ pub struct Content {
 }
 
 impl Content {
-    /// What the cell of a type names. None for the types whose values name nothing themselves: numbers and structs.
-    pub fn of(table: &TypeTable, t: TypeId) -> Option<Content> {
-        let (shape, entry) = match table.kind(t)? {
+    /// What the cell of a type names. None for types whose values name nothing themselves, numbers and structs, and for
+    /// those that the table lacks.
+    pub fn of(types: &TypeTable, t: TypeId) -> Option<Content> {
+        let (shape, entry) = match types.kind(t)? {
             Type::I64 | Type::Struct(_) => return None,
-            Type::Own(item) => return Some(Content::object(table, item)),
+            Type::Own(held) => return Some(Content::object(types, held)),
             Type::Str => (Shape::Buffer, Entry::byte()),
-            Type::Vec(item) => (Shape::Buffer, Entry::with_item(table, item, 0)),
-            Type::FlatMap(item) => (Shape::Buffer, Entry::with_item(table, item, KEY)),
-            Type::List(item) => (Shape::Ring, Entry::with_item(table, item, LIST_LINKS)),
-            Type::Map(item) => (Shape::Tree, Entry::with_item(table, item, TREE_WORDS + KEY)),
+            Type::Vec(item) => (Shape::Buffer, Entry::with_value(types, item, 0)),
+            Type::FlatMap(value) => (Shape::Buffer, Entry::with_value(types, value, KEY)),
+            Type::List(item) => (Shape::Ring, Entry::with_value(types, item, LIST_LINKS)),
+            Type::Map(value) => (
+                Shape::Tree,
+                Entry::with_value(types, value, TREE_WORDS + KEY),
+            ),
         };
         Some(Content::new(shape, t, entry))
     }
 
     /// An object of a type: one value.
-    pub fn object(table: &TypeTable, t: TypeId) -> Content {
-        let entry = Entry::with_item(table, t, 0);
+    pub fn object(types: &TypeTable, t: TypeId) -> Content {
+        let entry = Entry::with_value(types, t, 0);
         Content::new(Shape::Object, t, entry)
     }
 
-    /// What a block with this tag is a part of.
-    pub fn of_block(table: &TypeTable, tag: Tag) -> Option<Content> {
+    /// The buffer of the flat index: entries of 8 bytes that begin with a pointer to a named object.
+    pub fn index_buffer() -> Content {
+        Content {
+            shape: Shape::Buffer,
+            tag: Tag {
+                kind: Kind::IndexBuffer,
+                type_id: 0,
+            },
+            entry: Entry::name(),
+        }
+    }
+
+    /// What a block with this tag is a part of, where no name leads to it: named objects and the index have no content.
+    pub fn of_block(types: &TypeTable, tag: Tag) -> Option<Content> {
         match tag.kind {
-            Kind::Object => Some(Content::object(table, tag.type_id)),
-            Kind::Buffer | Kind::Node => Content::of(table, tag.type_id),
-            _ => None,
+            Kind::Object => Some(Content::object(types, tag.type_id)),
+            Kind::Buffer | Kind::Node => Content::of(types, tag.type_id),
+            Kind::Named | Kind::IndexBuffer | Kind::IndexNode => None,
         }
     }
 
@@ -125,5 +83,26 @@ impl Content {
             tag: Tag { kind, type_id },
             entry,
         }
+    }
+}
+
+/// What the cells of each type of a table name, worked out once.
+#[derive(Drop)]
+pub(crate) struct Contents {
+    of_types: [Option<Content>; MAX_TYPES],
+}
+
+impl Contents {
+    pub(crate) fn of(types: &TypeTable) -> Contents {
+        let mut of_types = [None; MAX_TYPES];
+        for t in 0..types.len() {
+            of_types[t] = Content::of(types, t as TypeId);
+        }
+        Contents { of_types }
+    }
+
+    /// As [`Content::of`] a type of the table.
+    pub(crate) fn get(&self, t: TypeId) -> Option<Content> {
+        self.of_types.get(t as usize).copied().flatten()
     }
 }

@@ -1,19 +1,25 @@
 //! Values in a segment: their defaults, how they move, what they own and how it is destroyed. A value is named by its
-//! position and its type.
+//! position and its type, and a block by the position of its payload.
 #![tactic(auto)]
 
 mod buffer;
 mod cell;
+mod cells;
 mod content;
 mod destruction;
+mod entries;
+mod entry;
+mod heap;
 mod moving;
 mod owner;
 mod pending;
+mod place;
+mod search;
 
-pub use buffer::{capacity, new_block, reserve, shrink_to_fit};
-pub use cell::{count, init_default, set_count, start, store};
-pub use content::{Content, Entry, KEY, LIST_LINKS, Shape};
-pub use destruction::{clear, destroy};
-pub use moving::{shift, shift_entries};
-pub use owner::{set_own, take_own};
+pub use cell::{count, start};
+pub use content::{Content, Shape};
+pub use entry::{Entry, Held, KEY, LIST_LINKS};
+pub use heap::Heap;
+pub use place::Place;
+pub use search::binary_search;
 pub use seg_block::block_of;

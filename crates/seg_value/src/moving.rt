@@ -1,56 +1,42 @@
-use crate::content::{Content, Entry};
-use seg_layout::{Cell, TypeId, TypeTable};
-use seg_ptr::Window;
+ghost use Rattle.std.specs.Prelude.{◌≡◌};
+ghost use Rattle.seg_spec.specs.Window.{with_bytes};
+
+use crate::cells::point_each_again;
+use crate::content::Content;
+use crate::entry::Entry;
+use crate::heap::Heap;
+use seg_block::Fit;
+use seg_layout::TypeId;
 use std::alloc::Allocator;
 
-/// Moves `n` values of a type, one behind the other, to a place that may overlap theirs. Nothing changes where either
-/// place doesn't lie in the segment.
-pub fn shift<A: Allocator>(
-    w: &mut Window<A>,
-    table: &TypeTable,
-    t: TypeId,
-    from: u32,
-    to: u32,
-    n: u32,
-) {
-    shift_entries(w, table, Content::object(table, t).entry, from, to, n);
-}
-
-/// Moves `n` entries, one behind the other, as [`shift`] moves values.
-pub fn shift_entries<A: Allocator>(
-    w: &mut Window<A>,
-    table: &TypeTable,
-    entry: Entry,
-    from: u32,
-    to: u32,
-    n: u32,
-) {
-    let bytes = (n as usize).saturating_mul(entry.size as usize);
-    if !w.holds(from as usize, bytes) || !w.holds(to as usize, bytes) {
-        return;
+/// The typed move: values keep what they name.
+impl<F: Fit, A: Allocator> Heap<F, A> {
+    /// Moves `n` values of a type, one after the other, to a place that may overlap theirs. Nothing changes where either
+    /// place doesn't lie in the segment.
+    pub fn shift(&mut self, t: TypeId, from: u32, to: u32, n: u32)
+        ensures window { self.new.window ≡ with_bytes self.old.window self.new.window.bytes }
+        ensures types { self.new.types ≡ self.old.types }
+    {
+        let entry = Content::object(&self.types, t).entry;
+        self.shift_entries(entry, from, to, n);
     }
-    w.move_within(from as usize, to as usize, bytes);
-    let Some(item) = entry.item else {
-        return;
-    };
-    let pointers = table.pointers(item);
-    for index in 0..n {
-        point_again(
-            w,
-            pointers.as_slice(),
-            entry.value_at(to, index),
-            from.wrapping_sub(to),
-        );
-    }
-}
 
-/// Lets these cells of a value name what they named where it was before, so many bytes further on.
-fn point_again<A: Allocator>(w: &mut Window<A>, pointers: &[Cell], at: u32, further: u32) {
-    for cell in pointers {
-        let pointer = at as usize + cell.from as usize;
-        let distance = w.get32(pointer);
-        if distance != 1 {
-            w.put32(pointer, distance.wrapping_add(further));
+    /// Moves `n` entries, one after the other, as [`shift`](Heap::shift) moves values.
+    pub fn shift_entries(&mut self, entry: Entry, from: u32, to: u32, n: u32)
+        ensures window { self.new.window ≡ with_bytes self.old.window self.new.window.bytes }
+        ensures types { self.new.types ≡ self.old.types }
+    {
+        let bytes = (n as usize).saturating_mul(entry.size as usize);
+        if !self.window.holds(from as usize, bytes) || !self.window.holds(to as usize, bytes) {
+            return;
         }
+        self.window.move_within(from as usize, to as usize, bytes);
+        let distance = distance(to, from);
+        point_each_again(&mut self.window, &self.types, entry, to, n, distance);
     }
+}
+
+/// How far one position is after another, modulo 2^32.
+fn distance(from: u32, to: u32) -> u32 {
+    to.wrapping_sub(from)
 }

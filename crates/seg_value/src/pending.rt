@@ -1,9 +1,11 @@
-use crate::buffer::capacity;
-use crate::cell::{count, set_null};
-use crate::content::{Content, Entry, Shape};
+ghost use Rattle.std.specs.Prelude.{◌≡◌};
+ghost use Rattle.seg_spec.specs.Window.{with_bytes};
+
+use crate::content::{Content, Shape};
+use crate::entry::{Entry, Held};
+use crate::heap::Heap;
+use crate::place::Place;
 use seg_block::{Fit, LINK, Tag, UNIT, block_of, link, tag_word};
-use seg_layout::{Cell, TypeId, TypeTable};
-use seg_ptr::Window;
 use std::alloc::Allocator;
 
 /// Blocks that are to be destroyed, in a list through their links. A block that waits here shows by itself what goes
@@ -20,142 +22,170 @@ impl Pending {
     }
 
     /// Adds the block whose payload begins at a position.
-    pub(crate) fn push<A: Allocator>(&mut self, w: &mut Window<A>, payload: u32) {
-        w.point(block_of(payload) as usize + LINK, self.first);
+    pub(crate) fn push<F: Fit, A: Allocator>(&mut self, heap: &mut Heap<F, A>, payload: u32)
+        ensures window { heap.new.window ≡ with_bytes heap.old.window heap.new.window.bytes }
+        ensures types { heap.new.types ≡ heap.old.types }
+    {
+        let link = block_of(payload) as usize + LINK;
+        heap.window.point(link, self.first);
         self.first = Some(payload);
     }
 
-    fn pop<A: Allocator>(&mut self, w: &Window<A>) -> Option<u32> {
+    fn pop<F: Fit, A: Allocator>(&mut self, heap: &Heap<F, A>) -> Option<u32> {
         let payload = self.first?;
-        self.first = link(w, block_of(payload));
+        self.first = link(&heap.window, block_of(payload));
         Some(payload)
     }
 
     /// Adds the blocks that the cells of a value name. The value must not be read any more.
-    pub(crate) fn add_value<A: Allocator>(
-        &mut self,
-        w: &mut Window<A>,
-        table: &TypeTable,
-        t: TypeId,
-        at: u32,
-    ) {
-        self.add_cells(w, table, table.pointers(t).as_slice(), at);
-    }
-
-    fn add_cells<A: Allocator>(
-        &mut self,
-        w: &mut Window<A>,
-        table: &TypeTable,
-        cells: &[Cell],
-        at: u32,
-    ) {
-        for cell in cells {
-            self.add_cell(w, table, cell.type_id, at.wrapping_add(cell.from));
+    pub(crate) fn add_value<F: Fit, A: Allocator>(&mut self, heap: &mut Heap<F, A>, place: Place)
+        ensures window { heap.new.window ≡ with_bytes heap.old.window heap.new.window.bytes }
+        ensures types { heap.new.types ≡ heap.old.types }
+    {
+        if !heap.types.has_pointers(place.type_id) {
+            return;
+        }
+        let fields = heap.types.field_count(place.type_id);
+        if fields == 0 {
+            self.add_cell(heap, place);
+            return;
+        }
+        for index in 0..fields {
+            if let Some(field) = heap.types.field(place.type_id, index) {
+                self.add_value(heap, place.part(field));
+            }
         }
     }
 
     /// Adds the block that a cell names: of a list or a map one node, which names further ones.
-    fn add_cell<A: Allocator>(
-        &mut self,
-        w: &mut Window<A>,
-        table: &TypeTable,
-        t: TypeId,
-        cell: u32,
-    ) {
-        let (Some(content), Some(payload)) = (Content::of(table, t), w.target(cell as usize)) else {
+    fn add_cell<F: Fit, A: Allocator>(&mut self, heap: &mut Heap<F, A>, cell: Place)
+        ensures window { heap.new.window ≡ with_bytes heap.old.window heap.new.window.bytes }
+        ensures types { heap.new.types ≡ heap.old.types }
+    {
+        let Some(content) = heap.content(cell.type_id) else {
             return;
         };
-        match content.shape {
-            Shape::Buffer => default_rest(w, table, content.entry, payload, count(w, cell)),
-            Shape::Ring => open_ring(w, payload),
-            Shape::Tree | Shape::Object => {}
-        }
-        self.push(w, payload);
-    }
-
-    /// Adds the blocks that a block of the list names.
-    fn open<A: Allocator>(&mut self, w: &mut Window<A>, table: &TypeTable, payload: u32) {
-        let Some(tag) = Tag::read(tag_word(w, block_of(payload))) else {
-            return;
-        };
-        let Some(content) = Content::of_block(table, tag) else {
+        let Some(payload) = heap.window.target(cell.at as usize) else {
             return;
         };
         match content.shape {
             Shape::Buffer => {
-                let entries = capacity(w, content.entry, payload);
-                self.add_entries(w, table, content.entry, payload, entries);
+                let used = heap.count(cell.at);
+                heap.default_rest(content.entry, payload, used);
+            }
+            Shape::Ring => heap.open_ring(payload),
+            Shape::Tree | Shape::Object => {}
+        }
+        self.push(heap, payload);
+    }
+
+    /// Adds the blocks that a block of the list names.
+    fn open<F: Fit, A: Allocator>(&mut self, heap: &mut Heap<F, A>, payload: u32)
+        ensures window { heap.new.window ≡ with_bytes heap.old.window heap.new.window.bytes }
+        ensures types { heap.new.types ≡ heap.old.types }
+    {
+        let Some(tag) = Tag::read(tag_word(&heap.window, block_of(payload))) else {
+            return;
+        };
+        let Some(content) = Content::of_block(&heap.types, tag) else {
+            return;
+        };
+        match content.shape {
+            Shape::Buffer => {
+                let entries = heap.capacity(content.entry, payload);
+                self.add_entries(heap, content.entry, payload, entries);
             }
             Shape::Ring => {
-                self.add_node(w, payload);
-                self.add_entries(w, table, content.entry, payload, 1);
+                self.add_node(heap, payload);
+                self.add_entries(heap, content.entry, payload, 1);
             }
             Shape::Tree => {
-                self.add_node(w, payload);
-                self.add_node(w, payload.wrapping_add(4));
-                self.add_entries(w, table, content.entry, payload, 1);
+                self.add_node(heap, payload);
+                self.add_node(heap, payload.wrapping_add(4));
+                self.add_entries(heap, content.entry, payload, 1);
             }
-            Shape::Object => self.add_entries(w, table, content.entry, payload, 1),
+            Shape::Object => self.add_entries(heap, content.entry, payload, 1),
         }
     }
 
     /// Adds the node that a pointer of another one names.
-    fn add_node<A: Allocator>(&mut self, w: &mut Window<A>, pointer: u32) {
-        if let Some(node) = w.target(pointer as usize) {
-            self.push(w, node);
+    fn add_node<F: Fit, A: Allocator>(&mut self, heap: &mut Heap<F, A>, pointer: u32)
+        ensures window { heap.new.window ≡ with_bytes heap.old.window heap.new.window.bytes }
+        ensures types { heap.new.types ≡ heap.old.types }
+    {
+        if let Some(node) = heap.window.target(pointer as usize) {
+            self.push(heap, node);
         }
     }
 
     /// Adds the blocks that the values of `n` entries name.
-    fn add_entries<A: Allocator>(
+    fn add_entries<F: Fit, A: Allocator>(
         &mut self,
-        w: &mut Window<A>,
-        table: &TypeTable,
+        heap: &mut Heap<F, A>,
         entry: Entry,
         start: u32,
         n: u32,
-    ) {
-        let Some(item) = entry.item else {
+    )
+        ensures window { heap.new.window ≡ with_bytes heap.old.window heap.new.window.bytes }
+        ensures types { heap.new.types ≡ heap.old.types }
+    {
+        if !heap.owns_more(entry) {
             return;
-        };
-        let pointers = table.pointers(item);
+        }
         for index in 0..n {
-            self.add_cells(w, table, pointers.as_slice(), entry.value_at(start, index));
+            if let Some(value) = entry.value(start, index) {
+                self.add_value(heap, value);
+            }
         }
     }
 
     /// Frees the blocks, and all that they lead to.
-    pub(crate) fn destroy<F: Fit, A: Allocator>(mut self, w: &mut Window<A>, table: &TypeTable) {
-        for _ in 0..w.len() / UNIT {
-            let Some(payload) = self.pop(w) else {
+    pub(crate) fn destroy<F: Fit, A: Allocator>(mut self, heap: &mut Heap<F, A>)
+        ensures window { heap.new.window ≡ with_bytes heap.old.window heap.new.window.bytes }
+        ensures types { heap.new.types ≡ heap.old.types }
+    {
+        // there are fewer blocks than units
+        for _ in 0..heap.window.len() / UNIT {
+            let Some(payload) = self.pop(heap) else {
                 break;
             };
-            self.open(w, table, payload);
-            F::free(w, block_of(payload));
+            self.open(heap, payload);
+            heap.free_block(payload);
         }
     }
 }
 
-/// Lets the entries of a buffer behind the used ones name nothing.
-fn default_rest<A: Allocator>(
-    w: &mut Window<A>,
-    table: &TypeTable,
-    entry: Entry,
-    start: u32,
-    used: u32,
-) {
-    let Some(item) = entry.item else {
-        return;
-    };
-    let pointers = table.pointers(item);
-    for index in used..capacity(w, entry, start) {
-        set_null(w, pointers.as_slice(), entry.value_at(start, index));
+impl<F: Fit, A: Allocator> Heap<F, A> {
+    /// Whether the values of entries may own blocks.
+    fn owns_more(&self, entry: Entry) -> bool {
+        match entry.held {
+            Held::Value(t) => self.types.has_pointers(t),
+            Held::Bytes | Held::Pointer => false,
+        }
     }
-}
 
-/// Lets the last node of a ring name no next one.
-fn open_ring<A: Allocator>(w: &mut Window<A>, first: u32) {
-    if let Some(last) = w.target(first as usize + 4) {
-        w.point(last as usize, None);
+    /// Makes the entries of a buffer after the used ones defaults, where values of theirs may own blocks.
+    fn default_rest(&mut self, entry: Entry, start: u32, used: u32)
+        ensures window { self.new.window ≡ with_bytes self.old.window self.new.window.bytes }
+        ensures types { self.new.types ≡ self.old.types }
+    {
+        if !self.owns_more(entry) {
+            return;
+        }
+        for index in used..self.capacity(entry, start) {
+            if let Some(value) = entry.value(start, index) {
+                self.init_default(value);
+            }
+        }
+    }
+
+    /// Makes the last node of a ring name no next one.
+    fn open_ring(&mut self, first: u32)
+        ensures window { self.new.window ≡ with_bytes self.old.window self.new.window.bytes }
+        ensures types { self.new.types ≡ self.old.types }
+    {
+        if let Some(last) = self.window.target(first as usize + 4) {
+            self.window.point(last as usize, None);
+        }
     }
 }

@@ -1,0 +1,12 @@
+use Rattle.std.proofs.Common.{◌≡◌}
+use Rattle.seg_spec.specs.Window.{with_bytes}
+use Rattle.seg_value.proofs.pending.Pending.+add_value.Given as goal
+
+abbrev pub decreases-add_value : goal.decreases-add_value
+decreases-add_value g l = l.place.type_id
+
+abbrev pub invariant-loop-index : goal.invariant-loop-index
+invariant-loop-index g l = record {
+  window : l.heap.window ≡ with_bytes l.initial.heap.window l.heap.window.bytes;
+  types : l.heap.types ≡ l.initial.heap.types;
+}

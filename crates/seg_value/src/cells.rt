@@ -1,0 +1,132 @@
+//! The cells of a value. A struct's are those of its fields, which have lower type ids, so going over them recurses no
+//! deeper than the table is long.
+
+ghost use Rattle.std.specs.Prelude.{◌≡◌};
+ghost use Rattle.seg_spec.specs.Window.{with_bytes};
+
+use crate::entry::{Entry, Held};
+use crate::place::Place;
+use seg_layout::{TypeId, TypeTable};
+use seg_ptr::Window;
+use std::alloc::Allocator;
+
+/// The distance of a pointer that names nothing.
+const NULL: u32 = 1;
+
+/// The cell of an empty container, an empty string or an own that holds nothing: a null pointer and the count 0.
+const EMPTY: u64 = 1;
+
+/// Writes the default of a value: 0 for numbers, empty or null for all else.
+pub(crate) fn set_default<A: Allocator>(w: &mut Window<A>, types: &TypeTable, place: Place)
+    ensures host { w.new ≡ with_bytes w.old w.new.bytes }
+{
+    let fields = types.field_count(place.type_id);
+    if fields == 0 {
+        let cell = if types.has_pointers(place.type_id) {
+            EMPTY
+        } else {
+            0
+        };
+        w.put64(place.at as usize, cell);
+        return;
+    }
+    for index in 0..fields {
+        if let Some(field) = types.field(place.type_id, index) {
+            set_default(w, types, place.part(field));
+        }
+    }
+}
+
+/// Makes the cells of a value name what they named where it was before: so many bytes further on.
+pub(crate) fn point_again<A: Allocator>(
+    w: &mut Window<A>,
+    types: &TypeTable,
+    place: Place,
+    distance: u32,
+)
+    ensures host { w.new ≡ with_bytes w.old w.new.bytes }
+{
+    if !types.has_pointers(place.type_id) {
+        return;
+    }
+    let fields = types.field_count(place.type_id);
+    if fields == 0 {
+        point_cell_again(w, place.at as usize, distance);
+        return;
+    }
+    for index in 0..fields {
+        if let Some(field) = types.field(place.type_id, index) {
+            point_again(w, types, place.part(field), distance);
+        }
+    }
+}
+
+/// Makes `n` entries name what they named where they were before.
+pub(crate) fn point_each_again<A: Allocator>(
+    w: &mut Window<A>,
+    types: &TypeTable,
+    entry: Entry,
+    start: u32,
+    n: u32,
+    distance: u32,
+)
+    ensures host { w.new ≡ with_bytes w.old w.new.bytes }
+{
+    match entry.held {
+        Held::Bytes => {}
+        Held::Pointer => point_pointers_again(w, entry, start, n, distance),
+        Held::Value(t) => point_values_again(w, types, entry, t, start, n, distance),
+    }
+}
+
+/// Makes the pointers of `n` entries name what they named where they were before.
+fn point_pointers_again<A: Allocator>(
+    w: &mut Window<A>,
+    entry: Entry,
+    start: u32,
+    n: u32,
+    distance: u32,
+)
+    ensures host { w.new ≡ with_bytes w.old w.new.bytes }
+{
+    for index in 0..n {
+        point_cell_again(w, entry.value_at(start, index) as usize, distance);
+    }
+}
+
+/// Makes the values of `n` entries name what they named where they were before.
+fn point_values_again<A: Allocator>(
+    w: &mut Window<A>,
+    types: &TypeTable,
+    entry: Entry,
+    t: TypeId,
+    start: u32,
+    n: u32,
+    distance: u32,
+)
+    ensures host { w.new ≡ with_bytes w.old w.new.bytes }
+{
+    if !types.has_pointers(t) {
+        return;
+    }
+    for index in 0..n {
+        let value = Place {
+            at: entry.value_at(start, index),
+            type_id: t,
+        };
+        point_again(w, types, value, distance);
+    }
+}
+
+/// Makes a pointer name what it named so many bytes before.
+fn point_cell_again<A: Allocator>(w: &mut Window<A>, pointer: usize, distance: u32)
+    ensures { w.new ≡ with_bytes w.old w.new.bytes }
+{
+    let old = w.get32(pointer);
+    let new = if old == NULL {
+        NULL
+    } else {
+        old.wrapping_add(distance)
+    };
+    w.put32(pointer, new);
+}

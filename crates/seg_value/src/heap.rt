@@ -1,0 +1,102 @@
+ghost use Rattle.std.specs.Prelude.{◌≡◌};
+
+use crate::content::{Content, Contents};
+use seg_block::Fit;
+use seg_layout::{TypeId, TypeTable};
+use seg_ptr::Window;
+use std::alloc::Allocator;
+use std::marker::{Model, PhantomData};
+
+/// Where values live: the window of a segment with the table of its types, over an allocator of its heap. Its calls mean
+/// what they say where the bytes hold values of these types; on any other bytes they return.
+#[derive(Drop)]
+pub struct Heap<F: Fit, A: Allocator> {
+    pub(crate) window: Window<A>,
+    pub(crate) types: TypeTable,
+    contents: Contents,
+    fit: PhantomData<F>,
+}
+
+impl<F: Fit, A: Allocator> Model for Heap<F, A> {
+    ghost use Rattle.seg_value.specs.Stored.{Stored};
+
+    ghost Value = { Stored };
+
+    ghost view = { λ heap. record { window = heap.window; types = heap.types } };
+}
+
+impl<F: Fit, A: Allocator> Heap<F, A> {
+    ghost use Rattle.std.specs.Borrow.{Lends, sem};
+    ghost use Rattle.seg_ptr.specs.contracts.window.Window as the_window;
+    ghost use Rattle.seg_value.specs.contracts.heap.Heap.{the_row};
+
+    pub fn new(window: Window<A>, types: TypeTable) -> Heap<F, A>
+        ensures window { result.window ≡ window }
+        ensures types { result.types ≡ types }
+    {
+        let contents = Contents::of(&types);
+        Heap {
+            window,
+            types,
+            contents,
+            fit: PhantomData,
+        }
+    }
+
+    pub fn window(&self) -> &Window<A>
+        ensures { result.now ≡ self.now.window }
+    {
+        &self.window
+    }
+
+    pub fn window_mut(&mut self) -> &mut Window<A>
+        ensures value { result.now ≡ self.old.window }
+        ensures* writes_back { sem 𝓛 (Lends (the_row F.row A.row F.Fit A.Allocator) (the_window.the_row A.row A.Allocator) self.entry result
+            (λ w. record self.old { window = w })) }
+    {
+        &mut self.window
+    }
+
+    pub fn types(&self) -> &TypeTable
+        ensures { result.now ≡ self.now.types }
+    {
+        &self.types
+    }
+
+    /// The window to write, and the types to read meanwhile.
+    pub fn parts_mut(&mut self) -> (&mut Window<A>, &TypeTable)
+        ensures window { result.0.now ≡ self.old.window }
+        ensures types { result.1.now ≡ self.old.types }
+        ensures* writes_back { sem 𝓛 (Lends (the_row F.row A.row F.Fit A.Allocator) (the_window.the_row A.row A.Allocator) self.entry result.0
+            (λ w. record self.old { window = w })) }
+    {
+        (&mut self.window, &self.types)
+    }
+
+    /// Gives the heap another table of types. The bytes stay as they are, the table in them too.
+    pub fn set_types(&mut self, types: TypeTable)
+        ensures window { self.new.window ≡ self.old.window }
+        ensures types { self.new.types ≡ types }
+    {
+        self.contents = Contents::of(&types);
+        self.types = types;
+    }
+
+    pub fn into_window(self) -> Window<A>
+        ensures { result ≡ self.window }
+    {
+        let Heap {
+            window,
+            types: _,
+            contents: _,
+            fit: _,
+        } = self;
+        window
+    }
+
+    /// What the cell of a type names. None for types whose values name nothing themselves, numbers and structs, and for
+    /// those that the table lacks.
+    pub fn content(&self, t: TypeId) -> Option<Content> {
+        self.contents.get(t)
+    }
+}
