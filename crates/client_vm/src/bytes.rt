@@ -58,7 +58,7 @@ fn run_on<F: Fit, A: Allocator + Copy, W: Sink>(
     ensures ended { IfOk result (λ o. (o.ended ≡ Ended.OutputFailed) ↔ (W.has_failed out.new ≡ true)) }
 {
     let mut segment = open::<F, A, A>(alloc, window).map_err(|refused| refused.0)?;
-    let programs = verify_all(alloc, clients, &segment.types)?;
+    let programs = verify_all(alloc, clients, segment.types())?;
     let mut saved = save(alloc, &segment)?;
     let mut reports = Vec::with_capacity(alloc, clients.len())?;
     run_all(
@@ -74,8 +74,8 @@ fn run_on<F: Fit, A: Allocator + Copy, W: Sink>(
     } else {
         Ended::Done
     };
-    let len = segment.window.len() as usize;
-    copy(&mut saved, segment.window.slice(0, len));
+    let len = segment.window().len() as usize;
+    copy(&mut saved, segment.window().slice(0, len));
     Ok(Outcome {
         image: saved,
         reports,
