@@ -120,7 +120,8 @@ module _ (order : ℕ → ℕ → Ordering) (total : IsTotalOrder order) (old : 
           );
         })
 
-    start_below : (steps : List Step) (layers : List Layer) (rest : Tree) → plug rest layers ≡ shape → steps ≡ steps_of layers → LeadBy (order node) layers → EndsAt (order node) rest → AllByRecursion (λ x. order node x ≢ Equal) (nodes_of rest)
+    start_below : (steps : List Step) (layers : List Layer) (rest : Tree) → plug rest layers ≡ shape → steps ≡ steps_of layers → LeadBy (order node) layers → EndsAt (order node) rest
+        → AllByRecursion (λ x. order node x ≢ Equal) (nodes_of rest)
         → IsGrowing old (set_pointer (with_new_node old node) (last_word root steps) (Some node)) root nodes steps (Some node) 0
     start_below steps layers leaf whole e leads ends new = start_at steps layers whole e leads
     start_below steps layers (fork left at colour right) whole e leads ends new = absurd ((each_right _ (nodes_of left) (at ∷ nodes_of right) new).0 ends)

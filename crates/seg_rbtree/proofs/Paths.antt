@@ -74,7 +74,8 @@ module _ (compare : ℕ → Ordering) (order : ℕ → ℕ → Ordering) (keyed 
     equals = f;
   }
 
-  at_end : (bytes : List ℕ) (to : Option ℕ) (layers : List Layer) (rest : Tree) → IsTree bytes to rest → EndsAt turn rest → LeadBy turn layers → Ascend order (nodes_of (plug rest layers)) → FindsEqual compare (nodes_of (plug rest layers)) to
+  at_end : (bytes : List ℕ) (to : Option ℕ) (layers : List Layer) (rest : Tree) → IsTree bytes to rest → EndsAt turn rest → LeadBy turn layers → Ascend order (nodes_of (plug rest layers))
+      → FindsEqual compare (nodes_of (plug rest layers)) to
   at_end bytes None layers leaf h e l a = aside layers leaf a l tt
   at_end bytes None layers (fork left at colour right) h e l a = absurd h
   at_end bytes (Some p) layers leaf h e l a = absurd h
@@ -83,14 +84,16 @@ module _ (compare : ℕ → Ordering) (order : ℕ → ℕ → Ordering) (keyed 
       (among layers left right at _ (nodes_plug layers (fork left at colour right)) (reversed (compare at) Equal e))
 
   -- the node at the end of a path to a key is one that equals it, where there is one
-  pub finds_equal : (bytes : List ℕ) (root : ℕ) (path : Path) (shape : Tree) → path.root ≡ root → IsSearchTree bytes root shape → Ascend order (nodes_of shape) → LeadsTo turn shape path → FindsEqual compare (nodes_of shape) (node_at bytes path)
+  pub finds_equal : (bytes : List ℕ) (root : ℕ) (path : Path) (shape : Tree) → path.root ≡ root → IsSearchTree bytes root shape → Ascend order (nodes_of shape) → LeadsTo turn shape path
+      → FindsEqual compare (nodes_of shape) (node_at bytes path)
   finds_equal bytes root path shape r t a way =
       subst (λ s. FindsEqual compare (nodes_of s) (node_at bytes path)) way.shape_is
       (at_end bytes (node_at bytes path) way.layers way.rest (rest_hangs bytes root path turn 0 shape r way t.is_tree) way.ends way.leads (subst (λ s. Ascend order (nodes_of s)) (sym way.shape_is) a))
 
 -- ---- while the nodes compare as they did
 
-leads_by_same : (turn other : ℕ → Ordering) (layers : List Layer) (rest : Tree) → AllByRecursion (λ x. turn x ≡ other x) (nodes_of (plug rest layers)) → LeadBy turn layers → LeadBy other layers × AllByRecursion (λ x. turn x ≡ other x) (nodes_of rest)
+leads_by_same : (turn other : ℕ → Ordering) (layers : List Layer) (rest : Tree) → AllByRecursion (λ x. turn x ≡ other x) (nodes_of (plug rest layers)) → LeadBy turn layers
+    → LeadBy other layers × AllByRecursion (λ x. turn x ≡ other x) (nodes_of rest)
 leads_by_same turn other [] rest same l = (tt, same)
 leads_by_same turn other (layer ∷ layers) rest same l =
     let up = leads_by_same turn other layers (grow layer rest) same l.1 in

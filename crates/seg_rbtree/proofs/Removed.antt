@@ -139,7 +139,8 @@ fewer node old new l few =
     let n : length new ≡ length l.front + length l.back = ap length l.new_is ∙ length-append l.front l.back in
     omega arith
 
-module _ (bytes one : List ℕ) (root : ℕ) (path last : Path) (turn : ℕ → Ordering) (node : ℕ) (shape : Tree) (r : path.root ≡ root) (way : LeadsTo turn shape path) (q : last.root ≡ path.root) (t : IsSearchTree bytes root shape) (a : StandApart (length bytes) root (nodes_of shape)) where
+module _ (bytes one : List ℕ) (root : ℕ) (path last : Path) (turn : ℕ → Ordering) (node : ℕ) (shape : Tree) (r : path.root ≡ root) (way : LeadsTo turn shape path) (q : last.root ≡ path.root) (t : IsSearchTree bytes root shape)
+    (a : StandApart (length bytes) root (nodes_of shape)) where
   -- a red node was taken out: the rules of colour hold
   pub red_left : Unlinks bytes one last way.layers way.rest node Red → Leaves bytes one root (nodes_of shape) (without_node node (nodes_of shape))
   red_left u =
@@ -158,7 +159,8 @@ module _ (bytes one : List ℕ) (root : ℕ) (path last : Path) (turn : ℕ → 
       record {
         steps_are = u.steps_are;
         hangs = u.turned.hangs;
-        apart = subst (λ w. StandApart (length one) w (nodes_of (plug u.part u.above))) (sym (q ∙ r)) (subst (λ n. StandApart n root (nodes_of (plug u.part u.above))) (sym u.turned.kept.length_kept) (apart_lost (length bytes) root node (nodes_of shape) (nodes_of (plug u.part u.above)) lost a));
+        apart = subst (λ w. StandApart (length one) w (nodes_of (plug u.part u.above))) (sym (q ∙ r)) (subst (λ n. StandApart n root (nodes_of (plug u.part u.above))) (sym u.turned.kept.length_kept)
+            (apart_lost (length bytes) root node (nodes_of shape) (nodes_of (plug u.part u.above)) lost a));
       }
 
   -- a black one was, and what was short is restored
@@ -167,7 +169,8 @@ module _ (bytes one : List ℕ) (root : ℕ) (path last : Path) (turn : ℕ → 
       let lost : Loses node (nodes_of shape) (nodes_of (plug u.part u.above)) = subst (λ s. Loses node (nodes_of s) (nodes_of (plug u.part u.above))) way.shape_is u.lost in
       let first : Turns bytes one root shape (plug u.part u.above) = subst (λ w. Turns bytes one w shape (plug u.part u.above)) (q ∙ r) (subst (λ s. Turns bytes one last.root s (plug u.part u.above)) way.shape_is u.turned) in
       let second : Turns one new root (plug u.part u.above) s.shape = subst (λ w. Turns one new w (plug u.part u.above) s.shape) (q ∙ r) s.turned in
-      let wider : KeepsBeside one new root (nodes_of shape) = keeps-wider one new root root (nodes_of (plug u.part u.above)) (nodes_of shape) (λ p n h k. (h, each_lost (λ x. Separate p n x 16) node (nodes_of shape) (nodes_of (plug u.part u.above)) lost k)) second.kept in
+      let wider : KeepsBeside one new root (nodes_of shape) = keeps-wider one new root root (nodes_of (plug u.part u.above)) (nodes_of shape)
+      (λ p n h k. (h, each_lost (λ x. Separate p n x 16) node (nodes_of shape) (nodes_of (plug u.part u.above)) lost k)) second.kept in
       record {
         shape = s.shape;
         tree = record { is_tree = second.hangs; red_black = s.red_black; few = subst (λ ns. length ns < 2 ^ 32) (sym s.nodes_are) (fewer node (nodes_of shape) (nodes_of (plug u.part u.above)) lost t.few) };

@@ -70,14 +70,16 @@ module _ (bytes : List ℕ) (root : ℕ) (turn : ℕ → Ordering) (shape : Tree
   ends_empty leaf t = tt
   ends_empty (fork left at colour right) t = absurd t
 
-  pub walked_to_end : (path : Path) (count : ℕ) (to : Option ℕ) → to ≡ target bytes (last_word root path.steps.items) → to ≡ None → IsTree bytes (target bytes root) shape → IsWalking turn shape path.steps.items count → LeadsTo turn shape path
+  pub walked_to_end : (path : Path) (count : ℕ) (to : Option ℕ) → to ≡ target bytes (last_word root path.steps.items) → to ≡ None → IsTree bytes (target bytes root) shape → IsWalking turn shape path.steps.items count
+      → LeadsTo turn shape path
   walked_to_end path count to at is t s = ended path count s (ends_empty s.rest (subst (λ p. IsTree bytes p s.rest) (sym at ∙ is) (walking_hangs path.steps.items count s t)))
 
   ends_equal : (rest : Tree) (other : ℕ) → IsTree bytes (Some other) rest → turn other ≡ Equal → EndsAt turn rest
   ends_equal leaf other t e = tt
   ends_equal (fork left at colour right) other t e = ap turn t.0 ∙ e
 
-  pub walked_to_node : (path : Path) (count other : ℕ) (to : Option ℕ) → to ≡ target bytes (last_word root path.steps.items) → to ≡ Some other → turn other ≡ Equal → IsTree bytes (target bytes root) shape → IsWalking turn shape path.steps.items count → LeadsTo turn shape path
+  pub walked_to_node : (path : Path) (count other : ℕ) (to : Option ℕ) → to ≡ target bytes (last_word root path.steps.items) → to ≡ Some other → turn other ≡ Equal → IsTree bytes (target bytes root) shape
+      → IsWalking turn shape path.steps.items count → LeadsTo turn shape path
   walked_to_node path count other to at is e t s = ended path count s (ends_equal s.rest other (subst (λ p. IsTree bytes p s.rest) (sym at ∙ is) (walking_hangs path.steps.items count s t)) e)
 
   ends_deep : (rest : Tree) → tall rest ≡ 0 → EndsAt turn rest

@@ -66,8 +66,10 @@ impl Path {
 fn settle<A: Allocator>(w: &mut Window<A>, path: &mut Path, node: u32) -> Option<u32>
     ensures host { w.new ≡ with_bytes w.old w.new.bytes }
     ensures root { path.new.root ≡ path.old.root }
-    ensures settled { (nodes : List ℕ) → IsRising w.old.bytes path.old.root path.old.steps.items nodes node
-        → Settles w.old.bytes w.new.bytes path.old.root path.old.steps.items path.new.steps.items nodes result }
+    ensures settled { (nodes : List ℕ)
+        → IsRising w.old.bytes path.old.root path.old.steps.items nodes node
+        → Settles w.old.bytes w.new.bytes path.old.root
+        path.old.steps.items path.new.steps.items nodes result }
 {
     let Some(parent) = path.pop() else {
         paint(w, node, Colour::Black);
@@ -93,7 +95,9 @@ fn settle<A: Allocator>(w: &mut Window<A>, path: &mut Path, node: u32) -> Option
 
 /// Makes a node red and its two children black.
 fn push_red_up<A: Allocator>(w: &mut Window<A>, node: u32, child: u32, other: u32)
-    ensures { w.new ≡ with_bytes w.old (with_colour (with_colour (with_colour w.old.bytes child Colour.Black) other Colour.Black) node Colour.Red) }
+    ensures { w.new ≡ with_bytes w.old
+        (with_colour (with_colour (with_colour w.old.bytes child Colour.Black) other Colour.Black)
+        node Colour.Red) }
 {
     paint(w, child, Colour::Black);
     paint(w, other, Colour::Black);
@@ -102,7 +106,8 @@ fn push_red_up<A: Allocator>(w: &mut Window<A>, node: u32, child: u32, other: u3
 
 /// Ends two reds in a row below a black node: the middle one of the three comes up, black, and the others go below it, red.
 fn straighten<A: Allocator>(w: &mut Window<A>, word: usize, grandparent: Step, parent: Step)
-    ensures { w.new ≡ with_bytes w.old (straightened w.old.bytes word grandparent.node grandparent.side parent.node parent.side) }
+    ensures { w.new ≡ with_bytes w.old
+        (straightened w.old.bytes word grandparent.node grandparent.side parent.node parent.side) }
 {
     let side = grandparent.side;
     if parent.side != side {

@@ -67,7 +67,8 @@ pub(crate) fn set_child<A: Allocator>(w: &mut Window<A>, node: u32, side: Side, 
 
 /// The colour of a node. None where its words are those of no colour.
 pub fn node_colour<A: Allocator>(w: &Window<A>, node: u32) -> Option<Colour>
-    ensures { MatchOption result ((c : _) → HasColour w.now.bytes node c → ⊥) (λ c. HasColour w.now.bytes node (shade c)) }
+    ensures { MatchOption result ((c : _) → HasColour w.now.bytes node c → ⊥)
+        (λ c. HasColour w.now.bytes node (shade c)) }
 {
     if w.get32(node as usize + ZERO) != 0 {
         return None;

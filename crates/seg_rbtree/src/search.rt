@@ -45,7 +45,8 @@ impl Tree {
         key: K,
     ) -> Option<u32>
         ensures { O.exact → WhereOrdered (O.compare order.now) w.now (root_word self)
-            (λ shape. result ≡ first_where (λ node. is_eq (O.compare_key order.now w.now.bytes node key)) (nodes_of shape)) }
+            (λ shape. result ≡ first_where
+            (λ node. is_eq (O.compare_key order.now w.now.bytes node key)) (nodes_of shape)) }
     {
         let node = self.first_at_least(w, order, key).node?;
         match order.key(w, node, key) {
@@ -62,9 +63,12 @@ impl Tree {
         key: K,
     ) -> Looked
         ensures node { O.exact → WhereOrdered (O.compare order.now) w.now (root_word self)
-            (λ shape. result.node ≡ first_where (λ node. reaches Ordering.Equal (O.compare_key order.now w.now.bytes node key)) (nodes_of shape)) }
+            (λ shape. result.node ≡ first_where
+            (λ node. reaches Ordering.Equal (O.compare_key order.now w.now.bytes node key))
+            (nodes_of shape)) }
         ensures looks { O.exact → WhereOrdered (O.compare order.now) w.now (root_word self)
-            (λ shape. result.looks ≡ looks (λ node. reaches Ordering.Equal (O.compare_key order.now w.now.bytes node key)) shape) }
+            (λ shape. result.looks ≡ looks
+            (λ node. reaches Ordering.Equal (O.compare_key order.now w.now.bytes node key)) shape) }
         ensures at_most { result.looks ≤ 64 }
         ensures bound { O.exact → WhereOrdered (O.compare order.now) w.now (root_word self)
             (λ shape. 2 ^ result.looks ≤ (length (nodes_of shape) + 1) ^ 2) }
@@ -80,7 +84,9 @@ impl Tree {
         key: K,
     ) -> Option<u32>
         ensures { O.exact → WhereOrdered (O.compare order.now) w.now (root_word self)
-            (λ shape. result ≡ first_where (λ node. reaches Ordering.Greater (O.compare_key order.now w.now.bytes node key)) (nodes_of shape)) }
+            (λ shape. result ≡ first_where
+            (λ node. reaches Ordering.Greater (O.compare_key order.now w.now.bytes node key))
+            (nodes_of shape)) }
     {
         self.first_from(w, order, key, Ordering::Greater).node
     }
@@ -94,9 +100,12 @@ impl Tree {
         least: Ordering,
     ) -> Looked
         ensures node { O.exact → WhereOrdered (O.compare order.now) w.now (root_word self)
-            (λ shape. result.node ≡ first_where (λ node. reaches least (O.compare_key order.now w.now.bytes node key)) (nodes_of shape)) }
+            (λ shape. result.node ≡ first_where
+            (λ node. reaches least (O.compare_key order.now w.now.bytes node key))
+            (nodes_of shape)) }
         ensures looks { O.exact → WhereOrdered (O.compare order.now) w.now (root_word self)
-            (λ shape. result.looks ≡ looks (λ node. reaches least (O.compare_key order.now w.now.bytes node key)) shape) }
+            (λ shape. result.looks
+            ≡ looks (λ node. reaches least (O.compare_key order.now w.now.bytes node key)) shape) }
         ensures bound { result.looks ≤ 64 }
     {
         let mut place = w.target(self.root);
@@ -129,9 +138,11 @@ impl Tree {
     ) -> Path
         ensures root { path_root result ≡ root_word self }
         ensures leads { O.exact → (shape : _) → IsSearchTree w.now.bytes (root_word self) shape
-            → LeadsTo (λ x. ordering_reverse (O.compare_key order.now w.now.bytes x key)) shape result }
+            → LeadsTo (λ x. ordering_reverse (O.compare_key order.now w.now.bytes x key))
+            shape result }
         ensures found { O.exact → WhereOrdered (O.compare order.now) w.now (root_word self)
-            (λ shape. FindsEqual (λ x. O.compare_key order.now w.now.bytes x key) (nodes_of shape) (node_at w.now.bytes result)) }
+            (λ shape. FindsEqual (λ x. O.compare_key order.now w.now.bytes x key) (nodes_of shape)
+            (node_at w.now.bytes result)) }
     {
         self.path_to(w, order, Sought::Key(key))
     }
@@ -146,7 +157,8 @@ impl Tree {
     ) -> Path
         ensures root { path_root result ≡ root_word self }
         ensures leads { O.exact → (shape : _) → IsSearchTree w.now.bytes (root_word self) shape
-            → LeadsTo (sought_by (O.compare order.now w.now.bytes) (O.compare_key order.now w.now.bytes) sought) shape result }
+            → LeadsTo (sought_by (O.compare order.now w.now.bytes)
+            (O.compare_key order.now w.now.bytes) sought) shape result }
     {
         let mut path = Path::new(self.root);
         let mut word = self.root;

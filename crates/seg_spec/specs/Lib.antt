@@ -17,4 +17,5 @@ pub mod Roots
 pub mod Demand
 pub mod Items
 pub mod Spending
+pub mod Shrinking
 pub mod Fixtures

@@ -5,8 +5,8 @@ use Rattle.client_code.specs.Views.{instruction_of}
 use Rattle.client_verify.specs.Views.{reason_of}
 use Rattle.client_verify.specs.Verifiers.{progress_of}
 use Rattle.client_verify.proofs.Accepting.{WalksTo, goes_on, rejected, there, ends}
-use Rattle.client_verify.proofs.verified.bound_of.Goals as goal
-use Rattle.client_verify.proofs.verified.bound_of.Goals.{in-Some+in_default-pass, in_default}
+use Rattle.client_verify.proofs.verified.accepting.bound_of.Goals as goal
+use Rattle.client_verify.proofs.verified.accepting.bound_of.Goals.{in-Some+in_default-pass, in_default}
 
 pub returns-in-Err-clause-rejected : goal.returns-in-Err-clause-rejected
 returns-in-Err-clause-rejected c tree spells same =
