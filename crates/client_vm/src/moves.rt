@@ -17,7 +17,7 @@ pub fn moves_fit<F: Fit, A: Allocator>(segment: &Segment<F, A>, moves: &[Move]) 
         MatchOption result (AreMoves room len 0 (moves_of moves.now))
         (λ i. IsFirstBadMove room len (moves_of moves.now) i) }
 {
-    first_bad_move(segment.window.len(), segment.window.room(), moves)
+    first_bad_move(segment.window().len(), segment.window().room(), moves)
 }
 
 /// The first move that can't be made: its step isn't above the one before, or its base is none for the segment.
