@@ -15,14 +15,17 @@ use std::alloc::Allocator;
 
 /// An allocator of the segment's heap, over the window alone. Blocks are named by the positions of their headers, sizes
 /// count units of 16 bytes with the header. Where the bytes aren't such a heap, the calls return all the same.
+///
+/// An allocator gives the calls up to `cut_end`, of which `resize` and `enlarge` are what the others stand on. The calls
+/// after it have one body for all allocators.
 pub trait Fit {
     ghost code: { ℕ };
 
-    /// What the word at 16 of an image holds for this allocator.
+    /// What the word [`ALLOCATOR`](seg_ptr::header::ALLOCATOR) of an image holds for this allocator.
     fn word() -> u32
         ensures { result ≡ code };
 
-    /// The bytes at the start of a free block's payload that the allocator uses.
+    /// How many bytes at the start of a free block's payload the allocator uses.
     fn free_words() -> u32
         ensures words { result ≡ UNIT * code }
         ensures small { result ≤ UNIT };
@@ -46,7 +49,7 @@ pub trait Fit {
             → Gives code w.old.bytes w.new.bytes block };
 
     /// Gives a live block other units, at the cost or in favour of the gap of `room` units right after it (0 where there is
-    /// none).
+    /// none). `expand` and `shrink` have found out how many.
     fn resize<A: Allocator>(w: &mut Window<A>, block: Block, room: u32, units: u32)
         requires inside { block_end block + UNIT * room ≤ MAX_LEN }
         requires front { 2 ≤ units }

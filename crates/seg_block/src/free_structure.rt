@@ -12,7 +12,7 @@ use crate::header::{TAG, UNIT};
 use seg_ptr::{MAX_LEN, Window};
 use std::alloc::Allocator;
 
-/// How an allocator holds the free blocks of a heap.
+/// How an allocator holds the free blocks of a heap. Between these calls free blocks may be neighbours.
 pub trait FreeStructure {
     ghost code: { ℕ };
 
@@ -21,7 +21,7 @@ pub trait FreeStructure {
 
     ghost leads: { Self.Predecessor → List Tile → Type 0 };
 
-    /// What leads to a block.
+    /// What leads to a block in the structure, or would if it were free.
     fn predecessor<A: Allocator>(w: &Window<A>, block: Block) -> Self::Predecessor
         ensures { (xs ys : List Tile) (l : Bool)
             → IsTiling code w.now.bytes (xs ++ tile_of block l ∷ ys) → leads result xs };

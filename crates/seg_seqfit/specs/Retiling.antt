@@ -2,12 +2,13 @@
 use Rattle.std.specs.Prelude.{◌≡◌, ℕ, ◌+◌, false, List, [], ◌∷◌, ◌++◌, if◌then◌else◌}
 use Rattle.seg_spec.specs.Heap.{Tile, AreApart, live_of}
 use Rattle.seg_ptr.specs.declared.header.TheConstants.{FREE}
+use Rattle.seg_block.specs.declared.header.TheConstants.{LINK}
 use Rattle.seg_block.specs.Tiling.{tile, IsTiling, Spares}
 
 -- the pointer word that names the first free tile behind these, where a list begins at a pointer word
 abbrev pub link_behind : ℕ → List Tile → ℕ
 link_behind at [] = at
-link_behind at (t ∷ ts) = link_behind (if t.live then at else t.at + 12) ts
+link_behind at (t ∷ ts) = link_behind (if t.live then at else t.at + LINK) ts
 
 -- the pointer word of the list that names the first free tile behind these
 abbrev pub link_to : List Tile → ℕ

@@ -5,7 +5,7 @@ use Rattle.seg_block.proofs.Heaps.{Spares-none}
 use Rattle.seg_block.proofs.JoiningBefore.{joined_none, joined_some}
 use Rattle.std.proofs.Common.{◌++◌}
 use Rattle.seg_bestfit.proofs.JoiningBefore.{takes_in}
-use Rattle.seg_bestfit.proofs.live.join_before.Goals as goal
+use Rattle.seg_bestfit.proofs.bestfit.join_before.Goals as goal
 
 pub returns-in_default-clause-joins : goal.returns-in_default-clause-joins
 returns-in_default-clause-joins g c = λ xs ys was apart.
