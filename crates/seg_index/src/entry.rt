@@ -9,6 +9,17 @@ use std::alloc::Allocator;
 /// The bytes of an entry.
 pub const ENTRY: u32 = 8;
 
+/// The tag of a named object's block.
+pub fn named_tag(type_id: TypeId) -> Tag
+    ensures kind { result.kind ≡ Kind.Named }
+    ensures type_id { result.type_id ≡ type_id }
+{
+    Tag {
+        kind: Kind::Named,
+        type_id,
+    }
+}
+
 /// What the index has of a name.
 #[derive(Debug, Clone, Copy, PartialEq, Eq)]
 pub struct NameEntry {
