@@ -3,6 +3,7 @@ ghost use Rattle.seg_spec.specs.Pointer.{target, set_pointer};
 ghost use Rattle.seg_spec.specs.Window.{with_bytes};
 ghost use Rattle.seg_rbtree.specs.Nodes.{side_word, opposite, rotated};
 ghost use Rattle.seg_rbtree.specs.Paths.{end_word, word_after, node_at};
+ghost use Rattle.seg_rbtree.specs.declared.path.TheConstants.{DEPTH};
 
 use crate::node::{Side, child_word, rotate};
 use arrayvec::ArrayVec;
@@ -44,7 +45,7 @@ impl Path {
     /// One step down. False where the way is longer than any in a tree.
     pub(crate) fn push(&mut self, node: u32, side: Side) -> bool
         ensures root { self.new.root ≡ self.old.root }
-        ensures room { length self.old.steps.items < 64 → IsTrue result }
+        ensures room { length self.old.steps.items < DEPTH → IsTrue result }
         ensures pushed { IsTrue result → self.new.steps.items
             ≡ self.old.steps.items ++ record { node = node; side = side } ∷ [] }
     {
@@ -63,7 +64,7 @@ impl Path {
     /// How many nodes are above the place.
     pub(crate) fn len(&self) -> usize
         ensures len { result ≡ length self.now.steps.items }
-        ensures at_most { result ≤ 64 }
+        ensures at_most { result ≤ DEPTH }
     {
         self.steps.len()
     }

@@ -7,6 +7,7 @@ ghost use Rattle.seg_spec.specs.Search.{reaches, first_where, looks, IsSearchTre
 ghost use Rattle.seg_rbtree.specs.Ways.{LeadsTo};
 ghost use Rattle.seg_rbtree.specs.Paths.{WhereOrdered, FindsEqual, node_at, sought_by};
 ghost use Rattle.seg_rbtree.specs.Roots.{root_word, path_root};
+ghost use Rattle.seg_rbtree.specs.declared.path.TheConstants.{DEPTH};
 
 use crate::node::{Side, child, child_word};
 use crate::order::{NodeOrder, Sought};
@@ -69,7 +70,7 @@ impl Tree {
         ensures looks { O.exact → WhereOrdered (O.compare order.now) w.now (root_word self)
             (λ shape. result.looks ≡ looks
             (λ node. reaches Ordering.Equal (O.compare_key order.now w.now.bytes node key)) shape) }
-        ensures at_most { result.looks ≤ 64 }
+        ensures at_most { result.looks ≤ DEPTH }
         ensures bound { O.exact → WhereOrdered (O.compare order.now) w.now (root_word self)
             (λ shape. 2 ^ result.looks ≤ (length (nodes_of shape) + 1) ^ 2) }
     {
@@ -106,7 +107,7 @@ impl Tree {
         ensures looks { O.exact → WhereOrdered (O.compare order.now) w.now (root_word self)
             (λ shape. result.looks
             ≡ looks (λ node. reaches least (O.compare_key order.now w.now.bytes node key)) shape) }
-        ensures bound { result.looks ≤ 64 }
+        ensures bound { result.looks ≤ DEPTH }
     {
         let mut place = w.target(self.root);
         let mut found = Looked {
