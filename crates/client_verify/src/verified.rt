@@ -1,11 +1,9 @@
 ghost use Rattle.std.specs.Prelude.{◌≡◌, ◌≤◌, ◌↔◌, ℕ, IsTrue, IfOk, IfErr};
 ghost use Rattle.seg_spec.specs.Types.{Agree};
-ghost use Rattle.client_spec.specs.Code as code;
-ghost use Rattle.client_spec.specs.Grammar.{Spells};
 ghost use Rattle.client_spec.specs.Run as run;
 ghost use Rattle.client_spec.specs.Safe.{IsAccepted, NeverGoesWrong};
 ghost use Rattle.client_spec.specs.Clients.{IsVerified};
-ghost use Rattle.client_code.specs.Clients.{bytes_of};
+ghost use Rattle.client_code.specs.Clients.{OfTree};
 ghost use Rattle.client_spec.specs.Typed.{Reason, reason_number};
 ghost use Rattle.client_verify.specs.Passing.{at_most};
 ghost use Rattle.client_verify.specs.Refusals.{IsRefused, IsRejected, IsRejectedAt};
@@ -26,23 +24,23 @@ pub struct Verified<'a> {
     types: TypeTable,
     bound: u64,
     ghost within: { bound ≤ MOST_STEPS },
-    ghost same_types: { (tree : code.Client) → Spells (bytes_of client) tree → types ≡ tree.types },
-    ghost accepted: { (tree : code.Client) → Spells (bytes_of client) tree → ∥ IsAccepted tree ∥₁ },
-    ghost bounded: { (tree : code.Client) → Spells (bytes_of client) tree → bound ≡ run.bound tree.code },
+    ghost same_types: { OfTree client (λ tree. types ≡ tree.types) },
+    ghost accepted: { OfTree client (λ tree. ∥ IsAccepted tree ∥₁) },
+    ghost bounded: { OfTree client (λ tree. bound ≡ run.bound tree.code) },
 }
 
 impl<'a> Verified<'a> {
     /// The client. It never meets an instruction without a row, and takes no more steps than its bound.
     pub fn client(&self) -> Client<'a>
         ensures client { result ≡ self.now.client }
-        ensures safe { (tree : code.Client) → Spells (bytes_of result) tree → NeverGoesWrong tree }
+        ensures safe { OfTree result NeverGoesWrong }
     {
         self.client
     }
 
     /// The client's types.
     pub fn types(&self) -> &TypeTable
-        ensures { (tree : code.Client) → Spells (bytes_of self.now.client) tree → result.now ≡ tree.types }
+        ensures { OfTree self.now.client (λ tree. result.now ≡ tree.types) }
     {
         &self.types
     }
@@ -50,14 +48,14 @@ impl<'a> Verified<'a> {
     /// The steps that a run of the client takes at most.
     pub fn bound(&self) -> u64
         ensures few { result ≤ MOST_STEPS }
-        ensures bound { (tree : code.Client) → Spells (bytes_of self.now.client) tree → result ≡ run.bound tree.code }
+        ensures bound { OfTree self.now.client (λ tree. result ≡ run.bound tree.code) }
     {
         self.bound
     }
 
     /// Whether a table and the client's types agree where both have an entry.
     pub fn fits(&self, table: &TypeTable) -> bool
-        ensures { (tree : code.Client) → Spells (bytes_of self.now.client) tree → (IsTrue result ↔ Agree table.now tree.types) }
+        ensures { OfTree self.now.client (λ tree. IsTrue result ↔ Agree table.now tree.types) }
     {
         table.extends(&self.types).is_ok()
     }
@@ -67,8 +65,9 @@ impl<'a> Verified<'a> {
 /// is within the limit. The faults, in this order: `TypeMismatch`, `Rejected`, `TooLong`.
 pub fn verify<'a>(client: Client<'a>, table: &TypeTable) -> Result<Verified<'a>, Fault>
     ensures client { IfOk result (λ verified. verified.client ≡ client.entry) }
-    ensures accepted { IfOk result (λ verified. (tree : code.Client) → Spells (bytes_of client.entry) tree → IsVerified table.now tree) }
-    ensures refused { IfErr result (λ fault. (tree : code.Client) → Spells (bytes_of client.entry) tree → IsRefused table.now tree fault) }
+    ensures accepted { IfOk result (λ verified. OfTree client.entry (IsVerified table.now)) }
+    ensures refused { IfErr result (λ fault. OfTree client.entry
+        (λ tree. IsRefused table.now tree fault)) }
 {
     let types = client.types();
     table.extends(&types)?;
@@ -85,8 +84,11 @@ pub fn verify<'a>(client: Client<'a>, table: &TypeTable) -> Result<Verified<'a>,
 
 /// The most steps of a client's code, or the first instruction that is rejected.
 fn bound_of(client: Client, types: &TypeTable) -> Result<u64, Fault>
-    ensures accepted { IfOk result (λ bound. (tree : code.Client) → Spells (bytes_of client.entry) tree → types.now ≡ tree.types → IsAccepted tree × (bound ≡ at_most (run.bound tree.code))) }
-    ensures rejected { IfErr result (λ fault. (tree : code.Client) → Spells (bytes_of client.entry) tree → types.now ≡ tree.types → (i : ℕ) × (reason : Reason) × (fault ≡ Fault.Rejected i (reason_number reason)) × IsRejected tree reason × IsRejectedAt tree i reason) }
+    ensures accepted { IfOk result (λ bound. OfTree client.entry (λ tree. types.now ≡ tree.types →
+        IsAccepted tree × (bound ≡ at_most (run.bound tree.code)))) }
+    ensures rejected { IfErr result (λ fault. OfTree client.entry (λ tree. types.now ≡ tree.types →
+        (i : ℕ) × (reason : Reason) × (fault ≡ Fault.Rejected i (reason_number reason))
+        × IsRejected tree reason × IsRejectedAt tree i reason)) }
 {
     let mut verifier = Verifier::new(types);
     for i in 0..client.instruction_count() {
