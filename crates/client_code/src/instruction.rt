@@ -83,8 +83,10 @@ impl Instruction {
 
     /// The type that the number names, by itself or before a constant.
     pub fn type_id(self) -> TypeId
-        ensures before { (row_of self.operation).number ≡ number.TypedName → (n : ℕ) → self.number ≡ pos n → result ≡ n / 256 % 256 }
-        ensures alone { (row_of self.operation).number ≢ number.TypedName → (n : ℕ) → self.number ≡ pos n → result ≡ n % 256 }
+        ensures before { (row_of self.operation).number ≡ number.TypedName → (n : ℕ) →
+            self.number ≡ pos n → result ≡ n / 256 % 256 }
+        ensures alone { (row_of self.operation).number ≢ number.TypedName → (n : ℕ) →
+            self.number ≡ pos n → result ≡ n % 256 }
     {
         let [low, high, _, _] = self.number.to_le_bytes();
         match self.operation.row().number {
@@ -103,7 +105,9 @@ impl Instruction {
 
     /// Whether the operands and the number are what the operation asks for, in a client with so many types and these constants.
     pub fn is_valid(self, types: usize, constants: &[Constant]) -> bool
-        ensures { (table : Table) → length table ≡ types → (IsTrue result ↔ IsInstruction table (constants_of constants.now) (row_of self.operation).role (instruction_of self)) }
+        ensures { (table : Table) → length table ≡ types →
+            (IsTrue result ↔ IsInstruction table (constants_of constants.now)
+            (row_of self.operation).role (instruction_of self)) }
     {
         let row = self.operation.row();
         is_operand(row.a, self.a)
@@ -113,7 +117,9 @@ impl Instruction {
     }
 
     fn is_number(self, number: Number, types: usize, constants: &[Constant]) -> bool
-        ensures { (table : Table) → length table ≡ types → (IsTrue result ↔ IsNumber table (constants_of constants.now) self.b number self.number) }
+        ensures { (table : Table) → length table ≡ types →
+            (IsTrue result ↔ IsNumber table (constants_of constants.now) self.b number
+            self.number) }
     {
         let Ok(n) = u32::try_from(self.number) else {
             return number == Number::Any;

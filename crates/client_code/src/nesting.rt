@@ -47,14 +47,16 @@ impl Nesting {
 
     /// Opens a part, if there is room.
     fn open(&mut self, part: Part) -> bool
-        ensures { MatchBool result (opened (open_parts self.old) part ≡ Some (open_parts self.new)) (opened (open_parts self.old) part ≡ None) }
+        ensures { MatchBool result (opened (open_parts self.old) part ≡ Some (open_parts self.new))
+            (opened (open_parts self.old) part ≡ None) }
     {
         self.parts.try_push(part).is_ok()
     }
 
     /// Goes past an instruction: opens and closes what it opens and closes. False where it may not stand here.
     pub fn pass(&mut self, role: Role) -> bool
-        ensures { MatchBool result (passed (open_parts self.old) role ≡ Some (open_parts self.new)) (passed (open_parts self.old) role ≡ None) }
+        ensures { MatchBool result (passed (open_parts self.old) role ≡ Some (open_parts self.new))
+            (passed (open_parts self.old) role ≡ None) }
     {
         match role {
             Role::Plain => true,

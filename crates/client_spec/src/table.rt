@@ -215,8 +215,11 @@ macro_rules! row {
     };
 }
 
+/// The number of operations.
+pub const OPERATIONS: usize = 50;
+
 /// The instruction table, in the order of the operations' numbers: each operation's word in the assembler text, and its row.
-pub static ROWS: [(&str, Row); 50] = [
+pub static ROWS: [(&str, Row); OPERATIONS] = [
     row!(Const, "CONST", Plain; Register, Unused, Unused, Any; Nothing, Nothing; Int, Nothing),
     row!(Mov, "MOV", Plain; Register, Register, Unused, Unused; Copyable, Nothing; Copy, Nothing),
     row!(Add, "ADD", Plain; Register, Register, Register, Unused; Int, Int; Int, Nothing),
@@ -270,7 +273,7 @@ pub static ROWS: [(&str, Row); 50] = [
 ];
 
 /// The instruction table.
-fn rows() -> &'static [(&'static str, Row); 50]
+fn rows() -> &'static [(&'static str, Row); OPERATIONS]
     ensures { map (λ entry. (entry.0.now, entry.1)) result.now ≡ entries }
 {
     &ROWS

@@ -31,8 +31,10 @@ pub struct Rule<'a> {
     type_id: TypeId,
     constant: u8,
     ghost own: { row ≡ row_of instruction.operation },
-    ghost named: { (row_of instruction.operation).number ≡ number.TypedName → (n : ℕ) → instruction.number ≡ pos n → type_id ≡ n / 256 % 256 },
-    ghost unique: { (row_of instruction.operation).number ≢ number.TypedName → (n : ℕ) → instruction.number ≡ pos n → type_id ≡ n % 256 },
+    ghost named: { (row_of instruction.operation).number ≡ number.TypedName → (n : ℕ) →
+        instruction.number ≡ pos n → type_id ≡ n / 256 % 256 },
+    ghost unique: { (row_of instruction.operation).number ≢ number.TypedName → (n : ℕ) →
+        instruction.number ≡ pos n → type_id ≡ n % 256 },
     ghost name: { (n : ℕ) → instruction.number ≡ pos n → constant ≡ n % 256 },
     ghost few: { length types.now ≤ 32 },
 }
@@ -110,7 +112,8 @@ impl<'a> Rule<'a> {
 
     /// Whether the object of register c is to be put into a part of itself.
     fn is_inside(&self) -> bool
-        ensures { result ≡ is_inside (step_of self.now).row.ends (referred (held (step_of self.now))) self.now.instruction.c }
+        ensures { result ≡ is_inside (step_of self.now).row.ends
+            (referred (held (step_of self.now))) self.now.instruction.c }
     {
         match self.row.ends {
             Ends::Moved => match self.reference() {
@@ -123,7 +126,8 @@ impl<'a> Rule<'a> {
 
     /// Whether the register that changes owns an object.
     fn loses_owner(&self) -> bool
-        ensures { result ≡ is_lost (given_in (step_of self.now)) (registers_of self.now.before.now) }
+        ensures { result ≡ is_lost (given_in (step_of self.now))
+            (registers_of self.now.before.now) }
     {
         match self.given() {
             Some((register, _)) => self.before.get(register).is_owner(),
@@ -155,7 +159,8 @@ impl<'a> Rule<'a> {
 
     /// Whether a type is of these kinds. One past the table's end is of any kind, and of no other.
     fn is_of(&self, kinds: Kinds, type_id: TypeId) -> bool
-        ensures { result ≡ is_kind_at self.now.instruction.number kinds (form_at self.now.types.now type_id) }
+        ensures { result ≡ is_kind_at self.now.instruction.number kinds
+            (form_at self.now.types.now type_id) }
     {
         match self.types.kind(type_id) {
             Some(kind) => self.is_kind(kinds, kind),
@@ -212,7 +217,8 @@ impl<'a> Rule<'a> {
 
     /// The reference in register b.
     fn reference(&self) -> Option<(Class, TypeId)>
-        ensures { option_map (λ x. (class_of x.0, x.1)) result ≡ referred (held (step_of self.now)) }
+        ensures { option_map (λ x. (class_of x.0, x.1)) result
+            ≡ referred (held (step_of self.now)) }
     {
         match self.before.get(self.instruction.b) {
             RegisterType::Reference(class, to) => Some((class, to)),
@@ -263,7 +269,8 @@ impl<'a> Rule<'a> {
 
     /// A reference to a part of what register b leads to. A part of a text is a number.
     fn part_reference(&self) -> RegisterType
-        ensures { known_of result ≡ part_known (referred (held (step_of self.now))) (part_in (step_of self.now)) }
+        ensures { known_of result ≡ part_known (referred (held (step_of self.now)))
+            (part_in (step_of self.now)) }
     {
         match (self.reference(), self.part()) {
             (Some((class, _)), Some(part)) => RegisterType::Reference(class, part),
@@ -303,7 +310,9 @@ impl<'a> Rule<'a> {
 
     /// Ends the references of the class of the one in register b, but for that one.
     fn end_others(&self, registers: &mut Registers)
-        ensures { registers_of registers.new ≡ others (referred (held (step_of self.now))) self.now.instruction.b (registers_of registers.old) }
+        ensures { registers_of registers.new
+            ≡ others (referred (held (step_of self.now))) self.now.instruction.b
+            (registers_of registers.old) }
     {
         if let Some((class, _)) = self.reference() {
             registers.end_others(class, self.instruction.b);

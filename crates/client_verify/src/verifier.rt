@@ -78,10 +78,16 @@ impl<'a> Verifier<'a> {
     /// Goes past an instruction.
     pub fn pass(&mut self, instruction: Instruction) -> Result<(), Reason>
         ensures types { self.new.types.now ≡ self.old.types.now }
-        ensures passed { IfOk result (λ _. (constants : List code.Constant) → IsInstruction self.old.types.now constants (row_of instruction.operation).role (instruction_of instruction)
-            → passes self.old.types.now constants (progress_of self.old) (instruction_of instruction) ≡ Ok (progress_of self.new)) }
-        ensures refused { IfErr result (λ reason. (constants : List code.Constant) → IsInstruction self.old.types.now constants (row_of instruction.operation).role (instruction_of instruction)
-            → passes self.old.types.now constants (progress_of self.old) (instruction_of instruction) ≡ Err (reason_of reason)) }
+        ensures passed { IfOk result (λ _. (constants : List code.Constant) →
+            IsInstruction self.old.types.now constants (row_of instruction.operation).role
+            (instruction_of instruction)
+            → passes self.old.types.now constants (progress_of self.old)
+            (instruction_of instruction) ≡ Ok (progress_of self.new)) }
+        ensures refused { IfErr result (λ reason. (constants : List code.Constant) →
+            IsInstruction self.old.types.now constants (row_of instruction.operation).role
+            (instruction_of instruction)
+            → passes self.old.types.now constants (progress_of self.old)
+            (instruction_of instruction) ≡ Err (reason_of reason)) }
     {
         match instruction.operation.row().role {
             Role::Plain => self.perform(instruction),
@@ -134,7 +140,9 @@ impl<'a> Verifier<'a> {
     /// Opens a part behind an instruction. There is room, since a client's nesting has a limit.
     fn push(&mut self, part: Part)
         ensures types { self.new.types.now ≡ self.old.types.now }
-        ensures inside { progress_of self.new ≡ inside (registers_of self.old.registers) (part_of part (at_most (self.old.steps + 1))) (progress_of self.old).parts }
+        ensures inside { progress_of self.new
+            ≡ inside (registers_of self.old.registers) (part_of part (at_most (self.old.steps + 1)))
+            (progress_of self.old).parts }
     {
         let steps = self.steps.saturating_add(1);
         let _ = self.parts.try_push(Open { part, steps });
@@ -144,7 +152,8 @@ impl<'a> Verifier<'a> {
     /// From the success part to the else part.
     fn turn(&mut self)
         ensures types { self.new.types.now ≡ self.old.types.now }
-        ensures turned { progress_of self.new ≡ turned (progress_of self.old) (progress_of self.old).parts }
+        ensures turned { progress_of self.new
+            ≡ turned (progress_of self.old) (progress_of self.old).parts }
     {
         if let Some(
             Open {
@@ -166,7 +175,8 @@ impl<'a> Verifier<'a> {
     /// Behind an `END`.
     fn close(&mut self) -> Result<(), Reason>
         ensures types { self.new.types.now ≡ self.old.types.now }
-        ensures closed { checked (λ _. progress_of self.new) result ≡ closed (progress_of self.old) (progress_of self.old).parts }
+        ensures closed { checked (λ _. progress_of self.new) result
+            ≡ closed (progress_of self.old) (progress_of self.old).parts }
     {
         let Some(Open { part, steps }) = self.parts.pop() else {
             return Ok(());
