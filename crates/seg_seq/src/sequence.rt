@@ -5,10 +5,10 @@ use crate::list::{item_of, push_node, remove_node};
 use crate::ring::{Way, neighbour, node_at};
 use seg_block::Fit;
 use seg_raw::Code;
-use seg_value::{Content, Heap, Place, Shape};
+use seg_value::{Content, Heap, Held, Place, Shape};
 use std::alloc::Allocator;
 
-/// The position of an item of a vector or a list, or of a byte of a string. `OtherType` where the place is none of them,
+/// The position of an item of a vector or a list, or of a byte of a string. `OtherType` where the place has no items,
 /// `OutOfRange` where there are not so many.
 pub fn at<F: Fit, A: Allocator>(
     heap: &Heap<F, A>,
@@ -26,6 +26,14 @@ pub fn at<F: Fit, A: Allocator>(
     }
 }
 
+/// Whether the entries of a buffer are values alone: not the bytes of a string, nor with the keys of a flat map.
+fn is_vector(content: &Content) -> bool {
+    match content.entry.held {
+        Held::Value(_) => content.entry.before == 0,
+        Held::Bytes | Held::Pointer => false,
+    }
+}
+
 /// Adds a default item after the others of a vector or a list, and returns its position. `OtherType` where the place is
 /// neither, `BadAlloc` where there is no room for the item; then nothing changes.
 pub fn push_back<F: Fit, A: Allocator>(heap: &mut Heap<F, A>, sequence: Place) -> Result<u32, Code>
@@ -34,9 +42,9 @@ pub fn push_back<F: Fit, A: Allocator>(heap: &mut Heap<F, A>, sequence: Place) -
 {
     let content = heap.content(sequence.type_id).ok_or(Code::OtherType)?;
     match content.shape {
-        Shape::Buffer => push_entry(heap, &content, sequence.at),
+        Shape::Buffer if is_vector(&content) => push_entry(heap, &content, sequence.at),
         Shape::Ring => push_node(heap, &content, sequence.at),
-        Shape::Tree | Shape::Object => Err(Code::OtherType),
+        Shape::Buffer | Shape::Tree | Shape::Object => Err(Code::OtherType),
     }
 }
 
@@ -60,8 +68,8 @@ fn push_entry<F: Fit, A: Allocator>(
     Ok(content.entry.value_at(start, kept))
 }
 
-/// Destroys the last item of a vector or a list, or drops the last byte of a string. `OtherType` where the place is none
-/// of them, `Null` where there is no item.
+/// Destroys the last item of a vector or a list, or drops the last byte of a string. `OtherType` where the place has no
+/// items, `Null` where there is no item.
 pub fn pop_back<F: Fit, A: Allocator>(heap: &mut Heap<F, A>, sequence: Place) -> Result<(), Code>
     ensures window { heap.new.window ≡ with_bytes heap.old.window heap.new.window.bytes }
     ensures types { heap.new.types ≡ heap.old.types }
