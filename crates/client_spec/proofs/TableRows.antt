@@ -9,7 +9,6 @@ use Rattle.std.specs.Prelude.{slice_index_or, if◌then◌else◌}
 use Rattle.std.proofs.lemmas.List.{get_or_default, length-map}
 use Rattle.seg_spec.specs.Index.{same_name}
 use Rattle.client_spec.specs.declared.table.Operation.{Operation}
-use Rattle.client_spec.specs.declared.table.Row.{Row}
 use Rattle.client_spec.specs.Operations.{Entry, number_of, entries, no_entry, entry_of, word_of, row_of}
 
 -- ---- operations by their numbers and words
