@@ -16,7 +16,8 @@ use Rattle.seg_spec.specs.Fixtures.{counter, counter_picture}
 use Rattle.seg_spec.proofs.Evaluating.{live_evaluated}
 use Rattle.seg_spec.proofs.SoundImages.{counter_tiles, counter_fill, counter_headers, counter_held}
 use Rattle.seg_spec.proofs.Writing.{stored}
-use Rattle.client_spec.specs.Code.{Operation, Instruction}
+use Rattle.client_spec.specs.declared.table.Operation.{Operation}
+use Rattle.client_spec.specs.Code.{Instruction}
 use Rattle.client_spec.specs.Grammar.{spelling}
 use Rattle.client_spec.specs.Machine.{Register, State, with_name}
 use Rattle.client_spec.specs.Answer.{success}
