@@ -6,14 +6,15 @@ use Rattle.std.specs.Option.{option_and_then}
 use Rattle.std.proofs.lemmas.List.{length-append, length-drop, flat_map_more, map-append, drop-drop, take-append-drop, take_at, take_all}
 use Rattle.seg_spec.specs.Bytes.{slice}
 use Rattle.seg_spec.specs.Types.{Table}
-use Rattle.client_spec.specs.Code.{Constant, Operation, Instruction, Statements}
+use Rattle.client_spec.specs.declared.table.Operation.{Operation}
+use Rattle.client_spec.specs.Code.{Constant, Instruction, Statements}
 use Rattle.client_spec.specs.Grammar.{mark, listing, instruction_bytes, IsInstruction}
 use Rattle.client_spec.proofs.Listed.{all_listed, all_two}
 use Rattle.client_spec.proofs.OneClient.{IsWord, instruction_front, mark_word}
 use Rattle.client_code.specs.declared.nesting.Part.{Part}
 use Rattle.client_code.specs.Parts.{passed, passed_all}
 use Rattle.client_code.specs.Files.{IsCodeAt}
-use Rattle.client_code.proofs.Nested.{place_of, places, Right, code_of, code_closes, passed_more}
+use Rattle.client_code.proofs.Nested.{role_of, roles, Right, code_of, code_closes, passed_more}
 use Rattle.client_code.proofs.Constants.{fronts}
 
 -- the instructions up to the k-th, and the parts that are open behind them
@@ -22,7 +23,7 @@ pub record CodeTo (file : List ℕ) (at : ℕ) (types : Table) (constants : List
   pub count : length list ≡ k
   pub spelled : slice file at (8 * k) ≡ flat_map instruction_bytes list
   pub right : AllByRecursion (Right types constants) list
-  pub nested : passed_all [] (places list) ≡ Some parts
+  pub nested : passed_all [] (roles list) ≡ Some parts
 
 middle : {A : Type 0} (P : A → Type 0) (xs ys : List A) (y : A) → AllByRecursion P (xs ++ y ∷ ys) → P y
 middle P [] ys y all = all.0
@@ -53,7 +54,7 @@ module _ (file : List ℕ) (at : ℕ) (types : Table) (constants : List Constant
   unfolding slice
   starts = record { list = []; count = refl; spelled = refl; right = tt; nested = refl }
 
-  pub goes_on : (k : ℕ) (parts now : List Part) (i : Instruction) → CodeTo file at types constants k parts → slice file (at + 8 * k) 8 ≡ instruction_bytes i → Right types constants i → passed parts (place_of i) ≡ Some now → CodeTo file at types constants (k + 1) now
+  pub goes_on : (k : ℕ) (parts now : List Part) (i : Instruction) → CodeTo file at types constants k parts → slice file (at + 8 * k) 8 ≡ instruction_bytes i → Right types constants i → passed parts (role_of i) ≡ Some now → CodeTo file at types constants (k + 1) now
   goes_on k parts now i to spelled right nested =
       let eight : 8 * (k + 1) ≡ 8 * k + 8 = omega arith in
       let one = length-append to.list (i ∷ []) in
@@ -65,8 +66,8 @@ module _ (file : List ℕ) (at : ℕ) (types : Table) (constants : List Constant
             ∙ flat_map_more instruction_bytes [] to.list i;
         right = all_two (Right types constants) to.list (i ∷ []) to.right (right, tt);
         nested =
-            ap (passed_all []) (map-append place_of to.list (i ∷ [])) ∙ passed_more [] (places to.list) (place_of i ∷ [])
-            ∙ ap (option_and_then (λ q. passed_all q (place_of i ∷ []))) to.nested ∙ ap (option_and_then (λ q. Some q)) nested;
+            ap (passed_all []) (map-append role_of to.list (i ∷ [])) ∙ passed_more [] (roles to.list) (role_of i ∷ [])
+            ∙ ap (option_and_then (λ q. passed_all q (role_of i ∷ []))) to.nested ∙ ap (option_and_then (λ q. Some q)) nested;
       }
 
   pub ends : (k : ℕ) → CodeTo file at types constants k [] → length file ≡ at + 8 * k → (code : Statements) × (length (listing code) ≡ k) × IsCodeAt file at types constants code
@@ -86,14 +87,14 @@ module _ (file : List ℕ) (at : ℕ) (types : Table) (constants : List Constant
       )
 
   mark_else : Right types constants (mark Operation.Else)
-  mark_else = record { place = refl; a = refl; b = refl; c = refl; number = refl; range = mark_word Operation.Else }
+  mark_else = record { role = refl; a = refl; b = refl; c = refl; number = refl; range = mark_word Operation.Else }
 
   mark_end : Right types constants (mark Operation.End)
-  mark_end = record { place = refl; a = refl; b = refl; c = refl; number = refl; range = mark_word Operation.End }
+  mark_end = record { role = refl; a = refl; b = refl; c = refl; number = refl; range = mark_word Operation.End }
 
   module _ (code : Statements) (whole : IsCodeAt file at types constants code) where
     all_right : AllByRecursion (Right types constants) (listing code)
-    all_right = all_listed types constants (Right types constants) (λ place i h. subst (λ p. IsInstruction types constants p i) (sym h.place) h) mark_else mark_end code whole.right
+    all_right = all_listed types constants (Right types constants) (λ role i h. subst (λ p. IsInstruction types constants p i) (sym h.role) h) mark_else mark_end code whole.right
 
     remaining : (k : ℕ) (parts : List Part) (to : CodeTo file at types constants k parts) → k ≤ length (listing code) → (more : List Instruction) × (listing code ≡ to.list ++ more) × (drop (at + 8 * k) file ≡ flat_map instruction_bytes more)
     remaining k parts to h =
@@ -104,12 +105,12 @@ module _ (file : List ℕ) (at : ℕ) (types : Table) (constants : List Constant
         (f.0, f.1, f.2 ∙ append-nil (flat_map instruction_bytes f.0))
 
     -- the next instruction stands there, and may stand there
-    pub stands : (k : ℕ) (parts : List Part) → CodeTo file at types constants k parts → k < length (listing code) → (j : Instruction) × Right types constants j × (at + 8 * k + 8 ≤ length file) × (slice file (at + 8 * k) 8 ≡ instruction_bytes j) × (passed parts (place_of j) ≡ None → ⊥)
+    pub stands : (k : ℕ) (parts : List Part) → CodeTo file at types constants k parts → k < length (listing code) → (j : Instruction) × Right types constants j × (at + 8 * k + 8 ≤ length file) × (slice file (at + 8 * k) 8 ≡ instruction_bytes j) × (passed parts (role_of j) ≡ None → ⊥)
     stands k parts to h =
         let r = remaining k parts to (omega arith) in
         found r.0 r.1 r.2
       where
-        found : (more : List Instruction) → listing code ≡ to.list ++ more → drop (at + 8 * k) file ≡ flat_map instruction_bytes more → (j : Instruction) × Right types constants j × (at + 8 * k + 8 ≤ length file) × (slice file (at + 8 * k) 8 ≡ instruction_bytes j) × (passed parts (place_of j) ≡ None → ⊥)
+        found : (more : List Instruction) → listing code ≡ to.list ++ more → drop (at + 8 * k) file ≡ flat_map instruction_bytes more → (j : Instruction) × Right types constants j × (at + 8 * k + 8 ≤ length file) × (slice file (at + 8 * k) 8 ≡ instruction_bytes j) × (passed parts (role_of j) ≡ None → ⊥)
         found [] e s = absurd (let n = ap length e in let m = length-append {A = Instruction} to.list [] in let c = to.count in omega arith)
         found (j ∷ more) e s = (
           j,
@@ -117,11 +118,11 @@ module _ (file : List ℕ) (at : ℕ) (types : Table) (constants : List Constant
           (let l = whole.ends in omega arith),
           slice_front file (instruction_bytes j) (flat_map instruction_bytes more) (at + 8 * k) refl s,
           λ none.
-              let closes = ap (passed_all []) (ap places e ∙ map-append place_of to.list (j ∷ more)) in
+              let closes = ap (passed_all []) (ap roles e ∙ map-append role_of to.list (j ∷ more)) in
               let all = code_closes types constants code whole.right whole.shallow in
-              let some : option_and_then (λ q. passed_all q (places more)) (passed parts (place_of j)) ≡ Some [] =
-              ap (option_and_then (λ q. passed_all q (place_of j ∷ places more))) (sym to.nested) ∙ sym (passed_more [] (places to.list) (place_of j ∷ places more)) ∙ sym closes ∙ all in
-              let nothing : option_and_then (λ q. passed_all q (places more)) (passed parts (place_of j)) ≡ None = ap (option_and_then (λ q. passed_all q (places more))) none in
+              let some : option_and_then (λ q. passed_all q (roles more)) (passed parts (role_of j)) ≡ Some [] =
+              ap (option_and_then (λ q. passed_all q (role_of j ∷ roles more))) (sym to.nested) ∙ sym (passed_more [] (roles to.list) (role_of j ∷ roles more)) ∙ sym closes ∙ all in
+              let nothing : option_and_then (λ q. passed_all q (roles more)) (passed parts (role_of j)) ≡ None = ap (option_and_then (λ q. passed_all q (roles more))) none in
               cc,
         )
 
@@ -134,6 +135,6 @@ module _ (file : List ℕ) (at : ℕ) (types : Table) (constants : List Constant
         done : (more : List Instruction) → listing code ≡ to.list ++ more → parts ≡ []
         done [] e =
             let same : to.list ≡ listing code = sym (append-nil to.list) ∙ sym e in
-            let all : Some parts ≡ Some [] = sym to.nested ∙ ap (λ is. passed_all [] (places is)) same ∙ code_closes types constants code whole.right whole.shallow in
+            let all : Some parts ≡ Some [] = sym to.nested ∙ ap (λ is. passed_all [] (roles is)) same ∙ code_closes types constants code whole.right whole.shallow in
             cc
         done (j ∷ more) e = absurd (let n = ap length e in let m = length-append to.list (j ∷ more) in let c = to.count in omega arith)

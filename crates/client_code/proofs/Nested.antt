@@ -6,125 +6,31 @@ use Rattle.std.specs.Option.{option_and_then}
 use Rattle.std.proofs.lemmas.List.{map-append}
 use Rattle.std.proofs.lemmas.Bool.Decides.{nat_tests}
 use Rattle.seg_spec.specs.Types.{Table}
-use Rattle.client_spec.specs.Code.{Constant, Operation, Instruction, Statement, plain, opener, loop, Statements, no_more, next}
-use Rattle.client_spec.specs.Operations.{Place, row_of}
+use Rattle.client_spec.specs.declared.table.Operation.{Operation}
+use Rattle.client_spec.specs.Code.{Constant, Instruction, Statement, plain, opener, loop, Statements, no_more, next}
+use Rattle.client_spec.specs.declared.table.Role.{Role}
+use Rattle.client_spec.specs.Operations.{row_of}
 use Rattle.client_spec.specs.Grammar.{mark, listing, listing_one, IsOperand, IsNumber, IsInstruction, IsCode, IsStatement, depth, depth_one}
 use Rattle.client_code.specs.declared.nesting.Part.{Part}
 use Rattle.client_code.specs.declared.nesting.Part.TheVariants as part
 use Rattle.client_code.specs.Parts.{opened, passed, passed_all}
 use Rattle.client_code.proofs.OpenParts.{opened_room}
 
-abbrev pub place_of : Instruction → Place
-place_of i = (row_of i.operation).place
+abbrev pub role_of : Instruction → Role
+role_of i = (row_of i.operation).role
 
-abbrev pub places : List Instruction → List Place
-places is = map place_of is
+abbrev pub roles : List Instruction → List Role
+roles is = map role_of is
 
 -- ---- marks
 
-else_only : (o : Operation) → (row_of o).place ≡ Place.Else → o ≡ Operation.Else
-else_only Operation.Const e = cc
-else_only Operation.Mov e = cc
-else_only Operation.Add e = cc
-else_only Operation.Sub e = cc
-else_only Operation.Mul e = cc
-else_only Operation.Less e = cc
-else_only Operation.Equal e = cc
-else_only Operation.If e = cc
-else_only Operation.While e = cc
+else_only : (o : Operation) → (row_of o).role ≡ Role.Else → o ≡ Operation.Else
 else_only Operation.Else e = refl
-else_only Operation.End e = cc
-else_only Operation.OutInt e = cc
-else_only Operation.OutStr e = cc
-else_only Operation.OutConst e = cc
-else_only Operation.GetByte e = cc
-else_only Operation.Make e = cc
-else_only Operation.Find e = cc
-else_only Operation.FindOrMake e = cc
-else_only Operation.Count e = cc
-else_only Operation.Kill e = cc
-else_only Operation.MakeUnique e = cc
-else_only Operation.FindUnique e = cc
-else_only Operation.FindOrMakeUnique e = cc
-else_only Operation.KillUnique e = cc
-else_only Operation.New e = cc
-else_only Operation.Drop e = cc
-else_only Operation.Ref e = cc
-else_only Operation.Put e = cc
-else_only Operation.Take e = cc
-else_only Operation.Content e = cc
-else_only Operation.Clear e = cc
-else_only Operation.Forget e = cc
-else_only Operation.Load e = cc
-else_only Operation.Store e = cc
-else_only Operation.Field e = cc
-else_only Operation.Len e = cc
-else_only Operation.At e = cc
-else_only Operation.PushBack e = cc
-else_only Operation.PushFront e = cc
-else_only Operation.PopBack e = cc
-else_only Operation.PopFront e = cc
-else_only Operation.SetStr e = cc
-else_only Operation.AddStr e = cc
-else_only Operation.AddByte e = cc
-else_only Operation.Shrink e = cc
-else_only Operation.GetKey e = cc
-else_only Operation.PutKey e = cc
-else_only Operation.DeleteKey e = cc
-else_only Operation.FirstKey e = cc
-else_only Operation.NextKey e = cc
+else_only o e = cc
 
-end_only : (o : Operation) → (row_of o).place ≡ Place.End → o ≡ Operation.End
-end_only Operation.Const e = cc
-end_only Operation.Mov e = cc
-end_only Operation.Add e = cc
-end_only Operation.Sub e = cc
-end_only Operation.Mul e = cc
-end_only Operation.Less e = cc
-end_only Operation.Equal e = cc
-end_only Operation.If e = cc
-end_only Operation.While e = cc
-end_only Operation.Else e = cc
+end_only : (o : Operation) → (row_of o).role ≡ Role.End → o ≡ Operation.End
 end_only Operation.End e = refl
-end_only Operation.OutInt e = cc
-end_only Operation.OutStr e = cc
-end_only Operation.OutConst e = cc
-end_only Operation.GetByte e = cc
-end_only Operation.Make e = cc
-end_only Operation.Find e = cc
-end_only Operation.FindOrMake e = cc
-end_only Operation.Count e = cc
-end_only Operation.Kill e = cc
-end_only Operation.MakeUnique e = cc
-end_only Operation.FindUnique e = cc
-end_only Operation.FindOrMakeUnique e = cc
-end_only Operation.KillUnique e = cc
-end_only Operation.New e = cc
-end_only Operation.Drop e = cc
-end_only Operation.Ref e = cc
-end_only Operation.Put e = cc
-end_only Operation.Take e = cc
-end_only Operation.Content e = cc
-end_only Operation.Clear e = cc
-end_only Operation.Forget e = cc
-end_only Operation.Load e = cc
-end_only Operation.Store e = cc
-end_only Operation.Field e = cc
-end_only Operation.Len e = cc
-end_only Operation.At e = cc
-end_only Operation.PushBack e = cc
-end_only Operation.PushFront e = cc
-end_only Operation.PopBack e = cc
-end_only Operation.PopFront e = cc
-end_only Operation.SetStr e = cc
-end_only Operation.AddStr e = cc
-end_only Operation.AddByte e = cc
-end_only Operation.Shrink e = cc
-end_only Operation.GetKey e = cc
-end_only Operation.PutKey e = cc
-end_only Operation.DeleteKey e = cc
-end_only Operation.FirstKey e = cc
-end_only Operation.NextKey e = cc
+end_only o e = cc
 
 -- ---- opening
 
@@ -146,21 +52,21 @@ two_parts a b xs m n = simp append_assoc
 pub one_part : (a xs : List Instruction) (n : Instruction) → (a ++ n ∷ []) ++ xs ≡ a ++ n ∷ xs
 one_part a xs n = simp append_assoc
 
-placed_two : (a b xs : List Place) → ((a ++ Place.Else ∷ b) ++ Place.End ∷ []) ++ xs ≡ a ++ Place.Else ∷ (b ++ Place.End ∷ xs)
+placed_two : (a b xs : List Role) → ((a ++ Role.Else ∷ b) ++ Role.End ∷ []) ++ xs ≡ a ++ Role.Else ∷ (b ++ Role.End ∷ xs)
 placed_two a b xs = simp append_assoc
 
-placed_one : (a xs : List Place) → (a ++ Place.End ∷ []) ++ xs ≡ a ++ Place.End ∷ xs
+placed_one : (a xs : List Role) → (a ++ Role.End ∷ []) ++ xs ≡ a ++ Role.End ∷ xs
 placed_one a xs = simp append_assoc
 
 module _ (types : Table) (constants : List Constant) where
   -- an instruction that is right by itself
   abbrev pub Right : Instruction → Type 0
-  Right i = IsInstruction types constants (place_of i) i
+  Right i = IsInstruction types constants (role_of i) i
 
-  standing : (place : Place) (i : Instruction) → Right i → place_of i ≡ place → IsInstruction types constants place i
-  standing place i h e = subst (λ p. IsInstruction types constants p i) e h
+  standing : (role : Role) (i : Instruction) → Right i → role_of i ≡ role → IsInstruction types constants role i
+  standing role i h e = subst (λ p. IsInstruction types constants p i) e h
 
-  else_mark : (i : Instruction) → Right i → place_of i ≡ Place.Else → i ≡ mark Operation.Else
+  else_mark : (i : Instruction) → Right i → role_of i ≡ Role.Else → i ≡ mark Operation.Else
   else_mark i h e =
       let o = else_only i.operation e in
       let a : i.a ≡ 0 = subst (λ (q : Operation). IsOperand (row_of q).a i.a) o h.a in
@@ -169,7 +75,7 @@ module _ (types : Table) (constants : List Constant) where
       let n = subst (λ (q : Operation). IsNumber types constants i.b (row_of q).number i.number) o h.number in
       λ t. record { operation = o t; a = a t; b = b t; c = c t; number = n t }
 
-  end_mark : (i : Instruction) → Right i → place_of i ≡ Place.End → i ≡ mark Operation.End
+  end_mark : (i : Instruction) → Right i → role_of i ≡ Role.End → i ≡ mark Operation.End
   end_mark i h e =
       let o = end_only i.operation e in
       let a : i.a ≡ 0 = subst (λ (q : Operation). IsOperand (row_of q).a i.a) o h.a in
@@ -213,43 +119,43 @@ module _ (types : Table) (constants : List Constant) where
       (next c r.0, r.1, more_fits c r.0 (length parts + 1) h s r.2, ap (λ xs. listing_one c ++ xs) r.3 ∙ sym (append_assoc (listing_one c) (listing r.0) _), r.4)
 
   abbrev After : List Instruction → List Part → Type 0
-  After is parts = length parts ≤ 8 → passed_all parts (places is) ≡ Some [] → Closes parts is
+  After is parts = length parts ≤ 8 → passed_all parts (roles is) ≡ Some [] → Closes parts is
 
-  step : (i : Instruction) (is : List Instruction) → Right i → ((parts : List Part) → After is parts) → (place : Place) → place_of i ≡ place → (parts : List Part) → length parts ≤ 8 → option_and_then (λ now. passed_all now (places is)) (passed parts place) ≡ Some [] → Closes parts (i ∷ is)
+  step : (i : Instruction) (is : List Instruction) → Right i → ((parts : List Part) → After is parts) → (role : Role) → role_of i ≡ role → (parts : List Part) → length parts ≤ 8 → option_and_then (λ now. passed_all now (roles is)) (passed parts role) ≡ Some [] → Closes parts (i ∷ is)
   unfolding IsCode listing depth
-  step i is h rest Place.Plain e parts few p = in_front (plain i) parts is (standing Place.Plain i h e) (omega arith) (rest parts few p)
-  step i is h rest Place.Opener e parts few p =
-      let o = opened_some parts part.Success (λ now. passed_all now (places is)) p in
+  step i is h rest Role.Plain e parts few p = in_front (plain i) parts is (standing Role.Plain i h e) (omega arith) (rest parts few p)
+  step i is h rest Role.Opener e parts few p =
+      let o = opened_some parts part.Success (λ now. passed_all now (roles is)) p in
       let r = rest (part.Success ∷ parts) (let l = o.0 in omega arith) o.1 in
       let s = (r.3).shallow in
       let t = (r.4).shallow in
-      let front = in_front (opener i r.0 r.1) parts r.2 (standing Place.Opener i h e, (r.3).code, (r.4).code) (omega arith) r.6 in
+      let front = in_front (opener i r.0 r.1) parts r.2 (standing Role.Opener i h e, (r.3).code, (r.4).code) (omega arith) r.6 in
       subst (Closes parts) (two_parts (i ∷ listing r.0) (listing r.1) r.2 (mark Operation.Else) (mark Operation.End) ∙ ap (λ xs. i ∷ xs) (sym r.5)) front
-  step i is h rest Place.Loop e parts few p =
-      let o = opened_some parts part.Body (λ now. passed_all now (places is)) p in
+  step i is h rest Role.Loop e parts few p =
+      let o = opened_some parts part.Body (λ now. passed_all now (roles is)) p in
       let r = rest (part.Body ∷ parts) (let l = o.0 in omega arith) o.1 in
       let s = (r.2).shallow in
-      let front = in_front (loop i r.0) parts r.1 (standing Place.Loop i h e, (r.2).code) (omega arith) r.4 in
+      let front = in_front (loop i r.0) parts r.1 (standing Role.Loop i h e, (r.2).code) (omega arith) r.4 in
       subst (Closes parts) (one_part (i ∷ listing r.0) r.1 (mark Operation.End) ∙ ap (λ xs. i ∷ xs) (sym r.3)) front
-  step i is h rest Place.Else e [] few p = cc
-  step i is h rest Place.Else e (part.Success ∷ parts) few p =
+  step i is h rest Role.Else e [] few p = cc
+  step i is h rest Role.Else e (part.Success ∷ parts) few p =
       let r = rest (part.Else ∷ parts) few p in
       (no_more, r.0, r.1, nothing (length parts + 1) (omega arith), r.2, ap (λ j. j ∷ is) (else_mark i h e) ∙ ap (λ xs. mark Operation.Else ∷ xs) r.3, r.4)
-  step i is h rest Place.Else e (part.Else ∷ parts) few p = cc
-  step i is h rest Place.Else e (part.Body ∷ parts) few p = cc
-  step i is h rest Place.End e [] few p = cc
-  step i is h rest Place.End e (part.Success ∷ parts) few p = cc
-  step i is h rest Place.End e (part.Else ∷ parts) few p = (no_more, is, nothing (length parts + 1) (omega arith), ap (λ j. j ∷ is) (end_mark i h e), rest parts (omega arith) p)
-  step i is h rest Place.End e (part.Body ∷ parts) few p = (no_more, is, nothing (length parts + 1) (omega arith), ap (λ j. j ∷ is) (end_mark i h e), rest parts (omega arith) p)
+  step i is h rest Role.Else e (part.Else ∷ parts) few p = cc
+  step i is h rest Role.Else e (part.Body ∷ parts) few p = cc
+  step i is h rest Role.End e [] few p = cc
+  step i is h rest Role.End e (part.Success ∷ parts) few p = cc
+  step i is h rest Role.End e (part.Else ∷ parts) few p = (no_more, is, nothing (length parts + 1) (omega arith), ap (λ j. j ∷ is) (end_mark i h e), rest parts (omega arith) p)
+  step i is h rest Role.End e (part.Body ∷ parts) few p = (no_more, is, nothing (length parts + 1) (omega arith), ap (λ j. j ∷ is) (end_mark i h e), rest parts (omega arith) p)
 
   closes : (is : List Instruction) → AllByRecursion Right is → (parts : List Part) → After is parts
   unfolding listing
   closes [] all [] few p = (no_more, nothing 0 (omega arith), refl)
   closes [] all (part ∷ parts) few p = cc
-  closes (i ∷ is) all parts few p = step i is all.0 (closes is all.1) (place_of i) refl parts few p
+  closes (i ∷ is) all parts few p = step i is all.0 (closes is all.1) (role_of i) refl parts few p
 
   -- the code that instructions list
-  pub code_of : (is : List Instruction) → AllByRecursion Right is → passed_all [] (places is) ≡ Some [] → (cs : Statements) × IsCode types constants cs × (depth cs ≤ 8) × (is ≡ listing cs)
+  pub code_of : (is : List Instruction) → AllByRecursion Right is → passed_all [] (roles is) ≡ Some [] → (cs : Statements) × IsCode types constants cs × (depth cs ≤ 8) × (is ≡ listing cs)
   code_of is all p = let r = closes is all [] (omega arith) p in (r.0, (r.1).code, (let s = (r.1).shallow in omega arith), r.2)
 
   -- ---- from code to instructions
@@ -257,31 +163,31 @@ module _ (types : Table) (constants : List Constant) where
   mutual
     unfolding IsCode listing depth
 
-    listed : (cs : Statements) (parts : List Part) (rest : List Place) → IsCode types constants cs → length parts + depth cs ≤ 8 → passed_all parts (places (listing cs) ++ rest) ≡ passed_all parts rest
+    listed : (cs : Statements) (parts : List Part) (rest : List Role) → IsCode types constants cs → length parts + depth cs ≤ 8 → passed_all parts (roles (listing cs) ++ rest) ≡ passed_all parts rest
     listed no_more parts rest h d = refl
     listed (next c cs) parts rest h d =
-        ap (λ ps. passed_all parts (ps ++ rest)) (map-append place_of (listing_one c) (listing cs))
-        ∙ ap (passed_all parts) (append_assoc (places (listing_one c)) (places (listing cs)) rest)
-        ∙ listed_one c parts (places (listing cs) ++ rest) h.0 (omega arith) ∙ listed cs parts rest h.1 (omega arith)
+        ap (λ ps. passed_all parts (ps ++ rest)) (map-append role_of (listing_one c) (listing cs))
+        ∙ ap (passed_all parts) (append_assoc (roles (listing_one c)) (roles (listing cs)) rest)
+        ∙ listed_one c parts (roles (listing cs) ++ rest) h.0 (omega arith) ∙ listed cs parts rest h.1 (omega arith)
 
-    listed_one : (c : Statement) (parts : List Part) (rest : List Place) → IsStatement types constants c → length parts + depth_one c ≤ 8 → passed_all parts (places (listing_one c) ++ rest) ≡ passed_all parts rest
-    listed_one (plain i) parts rest h d = ap (λ p. option_and_then (λ now. passed_all now rest) (passed parts p)) h.place
+    listed_one : (c : Statement) (parts : List Part) (rest : List Role) → IsStatement types constants c → length parts + depth_one c ≤ 8 → passed_all parts (roles (listing_one c) ++ rest) ≡ passed_all parts rest
+    listed_one (plain i) parts rest h d = ap (λ p. option_and_then (λ now. passed_all now rest) (passed parts p)) h.role
     listed_one (opener i s c) parts rest h d =
-        ap (λ ps. passed_all parts (ps ++ rest)) (map-append place_of ((i ∷ listing s) ++ mark Operation.Else ∷ listing c) (mark Operation.End ∷ []) ∙ ap (λ ps. ps ++ Place.End ∷ []) (map-append place_of (i ∷ listing s) (mark Operation.Else ∷ listing c)))
-        ∙ ap (passed_all parts) (placed_two (place_of i ∷ places (listing s)) (places (listing c)) rest)
-        ∙ ap (λ p. option_and_then (λ now. passed_all now (places (listing s) ++ Place.Else ∷ (places (listing c) ++ Place.End ∷ rest))) (passed parts p)) h.0.place
-        ∙ ap (option_and_then (λ now. passed_all now (places (listing s) ++ Place.Else ∷ (places (listing c) ++ Place.End ∷ rest)))) (opened_room parts part.Success (omega arith))
-        ∙ listed s (part.Success ∷ parts) (Place.Else ∷ (places (listing c) ++ Place.End ∷ rest)) h.1 (omega arith)
-        ∙ listed c (part.Else ∷ parts) (Place.End ∷ rest) h.2 (omega arith)
+        ap (λ ps. passed_all parts (ps ++ rest)) (map-append role_of ((i ∷ listing s) ++ mark Operation.Else ∷ listing c) (mark Operation.End ∷ []) ∙ ap (λ ps. ps ++ Role.End ∷ []) (map-append role_of (i ∷ listing s) (mark Operation.Else ∷ listing c)))
+        ∙ ap (passed_all parts) (placed_two (role_of i ∷ roles (listing s)) (roles (listing c)) rest)
+        ∙ ap (λ p. option_and_then (λ now. passed_all now (roles (listing s) ++ Role.Else ∷ (roles (listing c) ++ Role.End ∷ rest))) (passed parts p)) h.0.role
+        ∙ ap (option_and_then (λ now. passed_all now (roles (listing s) ++ Role.Else ∷ (roles (listing c) ++ Role.End ∷ rest)))) (opened_room parts part.Success (omega arith))
+        ∙ listed s (part.Success ∷ parts) (Role.Else ∷ (roles (listing c) ++ Role.End ∷ rest)) h.1 (omega arith)
+        ∙ listed c (part.Else ∷ parts) (Role.End ∷ rest) h.2 (omega arith)
     listed_one (loop i s) parts rest h d =
-        ap (λ ps. passed_all parts (ps ++ rest)) (map-append place_of (i ∷ listing s) (mark Operation.End ∷ []))
-        ∙ ap (passed_all parts) (placed_one (place_of i ∷ places (listing s)) rest)
-        ∙ ap (λ p. option_and_then (λ now. passed_all now (places (listing s) ++ Place.End ∷ rest)) (passed parts p)) h.0.place
-        ∙ ap (option_and_then (λ now. passed_all now (places (listing s) ++ Place.End ∷ rest))) (opened_room parts part.Body (omega arith))
-        ∙ listed s (part.Body ∷ parts) (Place.End ∷ rest) h.1 (omega arith)
+        ap (λ ps. passed_all parts (ps ++ rest)) (map-append role_of (i ∷ listing s) (mark Operation.End ∷ []))
+        ∙ ap (passed_all parts) (placed_one (role_of i ∷ roles (listing s)) rest)
+        ∙ ap (λ p. option_and_then (λ now. passed_all now (roles (listing s) ++ Role.End ∷ rest)) (passed parts p)) h.0.role
+        ∙ ap (option_and_then (λ now. passed_all now (roles (listing s) ++ Role.End ∷ rest))) (opened_room parts part.Body (omega arith))
+        ∙ listed s (part.Body ∷ parts) (Role.End ∷ rest) h.1 (omega arith)
 
 -- what is open behind more instructions
-pub passed_more : (parts : List Part) (xs ys : List Place) → passed_all parts (xs ++ ys) ≡ option_and_then (λ now. passed_all now ys) (passed_all parts xs)
+pub passed_more : (parts : List Part) (xs ys : List Role) → passed_all parts (xs ++ ys) ≡ option_and_then (λ now. passed_all now ys) (passed_all parts xs)
 passed_more parts [] ys = refl
 passed_more parts (x ∷ xs) ys = behind (passed parts x) (λ q. passed_more q xs ys)
   where
@@ -290,5 +196,5 @@ passed_more parts (x ∷ xs) ys = behind (passed parts x) (λ q. passed_more q x
     behind (Some q) same = same q
 
 -- code closes all parts that it opens
-pub code_closes : (types : Table) (constants : List Constant) (cs : Statements) → IsCode types constants cs → depth cs ≤ 8 → passed_all [] (places (listing cs)) ≡ Some []
-code_closes types constants cs h d = ap (passed_all []) (sym (append-nil (places (listing cs)))) ∙ listed types constants cs [] [] h (omega arith)
+pub code_closes : (types : Table) (constants : List Constant) (cs : Statements) → IsCode types constants cs → depth cs ≤ 8 → passed_all [] (roles (listing cs)) ≡ Some []
+code_closes types constants cs h d = ap (passed_all []) (sym (append-nil (roles (listing cs)))) ∙ listed types constants cs [] [] h (omega arith)

@@ -1,5 +1,5 @@
 -- What reads of a client file's bytes make of them.
-use Rattle.std.proofs.Common.{◌≡◌, ℕ, ◌+◌, ◌-◌, ◌*◌, ◌<◌, ◌≤◌, Fits, w8, List, [], ◌∷◌, ◌++◌, length, take, drop, get_or, refl, sym, ap, ◌∙◌, arith, rules}
+use Rattle.std.proofs.Common.{◌≡◌, ℕ, ◌+◌, ◌-◌, ◌*◌, ◌/◌, ◌%◌, ◌<◌, ◌≤◌, Fits, w8, List, [], ◌∷◌, ◌++◌, length, take, drop, get_or, refl, sym, ap, ◌∙◌, arith, rules}
 use Rattle.std.specs.Prelude.{◌≢◌, slice_index, IsTrue, nat_le, All, Option, Some, None, IfSome, IfNone}
 use Rattle.std.proofs.lemmas.List.{get_or_default, take_rest, drop-drop, length-take-le, take-append-drop}
 use Rattle.seg_spec.specs.Bytes.{spelled, number, slice}
@@ -7,7 +7,7 @@ use Rattle.seg_spec.proofs.BytesLaws.{number_in, length-slice}
 use Rattle.client_code.specs.declared.constant.ConstantKind.{ConstantKind}
 use Rattle.client_code.specs.declared.constant.ConstantKind.TheVariants as kind
 use Rattle.client_spec.specs.Code as code
-use Rattle.client_spec.specs.Grammar.{IsConstant, constant_bytes, instruction_bytes}
+use Rattle.client_spec.specs.Grammar.{IsConstant, word, constant_bytes, instruction_bytes}
 use Rattle.client_code.specs.declared.instruction.Instruction.{Instruction}
 use Rattle.client_code.specs.Views.{constant_by, instruction_of}
 
@@ -51,6 +51,28 @@ constant_at file front rest bytes k at len n f long r l m fits b law =
     two_of [] rest h e = absurd (omega arith)
     two_of (a ∷ []) rest h e = absurd (omega arith)
     two_of (a ∷ b ∷ xs) rest h e = ap (λ ys. a ∷ b ∷ ys) (sym (e ∙ take_rest (a ∷ b ∷ xs) 2))
+
+-- the last four of 8 bytes are the word of the number that they spell
+word_of_four : (a b c d n : ℕ) → a < 256 → b < 256 → c < 256 → d < 256 → n ≡ a + 256 * b + 65536 * c + 16777216 * d → word n ≡ a ∷ b ∷ c ∷ d ∷ []
+word_of_four a b c d n f g h k e =
+    let first : n % 256 ≡ a = omega arith in
+    let second : n / 256 % 256 ≡ b = omega arith in
+    let third : n / 256 / 256 % 256 ≡ c = omega arith in
+    let fourth : n / 256 / 256 / 256 % 256 ≡ d = omega arith in
+    λ i. first i ∷ second i ∷ third i ∷ fourth i ∷ []
+
+pub eight : (bytes : List ℕ) (n : ℕ) → length bytes ≡ 8 → ((i : ℕ) → Fits w8 (get_or bytes i 0)) → n ≡ get_or bytes 4 0 + 256 * get_or bytes 5 0 + 65536 * get_or bytes 6 0 + 16777216 * get_or bytes 7 0
+    → bytes ≡ get_or bytes 0 0 ∷ get_or bytes 1 0 ∷ get_or bytes 2 0 ∷ get_or bytes 3 0 ∷ word n
+eight [] n l h e = absurd (omega arith)
+eight (b0 ∷ []) n l h e = absurd (omega arith)
+eight (b0 ∷ b1 ∷ []) n l h e = absurd (omega arith)
+eight (b0 ∷ b1 ∷ b2 ∷ []) n l h e = absurd (omega arith)
+eight (b0 ∷ b1 ∷ b2 ∷ b3 ∷ []) n l h e = absurd (omega arith)
+eight (b0 ∷ b1 ∷ b2 ∷ b3 ∷ b4 ∷ []) n l h e = absurd (omega arith)
+eight (b0 ∷ b1 ∷ b2 ∷ b3 ∷ b4 ∷ b5 ∷ []) n l h e = absurd (omega arith)
+eight (b0 ∷ b1 ∷ b2 ∷ b3 ∷ b4 ∷ b5 ∷ b6 ∷ []) n l h e = absurd (omega arith)
+eight (b0 ∷ b1 ∷ b2 ∷ b3 ∷ b4 ∷ b5 ∷ b6 ∷ b7 ∷ []) n l h e = ap (λ last. b0 ∷ b1 ∷ b2 ∷ b3 ∷ last) (sym (word_of_four b4 b5 b6 b7 n (let f = h 4 in omega arith) (let f = h 5 in omega arith) (let f = h 6 in omega arith) (let f = h 7 in omega arith) e))
+eight (b0 ∷ b1 ∷ b2 ∷ b3 ∷ b4 ∷ b5 ∷ b6 ∷ b7 ∷ b8 ∷ bytes) n l h e = absurd (omega arith)
 
 -- what 8 bytes spell
 pub decoded : (r : Option Instruction) (file field : List ℕ) (at : ℕ) → at + 8 ≤ length file → field ≡ slice file at 8 → IfSome r (λ i. field ≡ instruction_bytes (instruction_of i)) → IfSome r (λ i. (at + 8 ≤ length file) × (slice file at 8 ≡ instruction_bytes (instruction_of i)))

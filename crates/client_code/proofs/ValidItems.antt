@@ -5,8 +5,9 @@ use Rattle.std.proofs.lemmas.List.Elements.{All-map, All-append, All-drop, All-h
 use Rattle.std.proofs.lemmas.Option.{slice_get-get_or}
 use Rattle.std.proofs.Math.Seq.{drop-cons}
 use Rattle.seg_spec.specs.Types.{Table, IsTable}
-use Rattle.client_spec.specs.Code.{Operation, Instruction, Client}
-use Rattle.client_spec.specs.Operations.{Place}
+use Rattle.client_spec.specs.declared.table.Operation.{Operation}
+use Rattle.client_spec.specs.Code.{Instruction, Client}
+use Rattle.client_spec.specs.declared.table.Role.{Role}
 use Rattle.client_spec.specs.Grammar.{mark, listing, IsClient, IsInstruction}
 use Rattle.client_spec.specs.Text.{Item, type_item, constant_item, instruction_item, items_of, SpellsItem, EachSpells, SpellsInText}
 use Rattle.client_spec.proofs.Listed.{all_listed}
@@ -24,8 +25,8 @@ types_written types table =
     All-map IsWritten type_item types (λ k d h. wider (length types) k (get_or types k d) (let few = table.few in omega arith) (let few = table.few in omega arith) (table.forms k (get_or types k d) (slice_get-get_or types k d h)))
 
 module _ (client : Client) (valid : IsClient client) where
-  in_client : (place : Place) (i : Instruction) → IsInstruction client.types client.constants place i → IsInSomeClient i
-  in_client place i h = record {
+  in_client : (role : Role) (i : Instruction) → IsInstruction client.types client.constants role i → IsInSomeClient i
+  in_client role i h = record {
     types = client.types;
     constants = client.constants;
     few_types = valid.types.few;

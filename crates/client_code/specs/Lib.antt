@@ -1,5 +1,4 @@
 pub mod Views
-pub mod Checks
 pub mod Files
 pub mod Parts
 pub mod Clients

@@ -14,10 +14,14 @@ use std::alloc::Allocator;
 /// The client file that a text spells, or `BadLine` with the first line, counted from 1, that is outside the grammar or against
 /// the rules of the file. Where an `END` is missing that is the line behind the last. `Memory` where memory was refused.
 pub fn assemble<A: Allocator>(alloc: A, text: &[u8]) -> Result<Vec<u8, A>, Fault>
-    ensures found { IfOk result (λ file. (tree : code.Client) × Spells file.items tree × SpellsInText text.now tree) }
-    ensures canonical { IfOk result (λ file. (tree : code.Client) → IsClient tree → text.now ≡ text_of tree → file.items ≡ spelling tree) }
-    ensures wrong { IfErr result (λ fault. (line : ℕ) → fault ≡ Fault.BadLine line → (tree : code.Client) → SpellsInText text.now tree → ⊥) }
-    ensures fault { IfErr result (λ fault. (fault ≡ Fault.Memory) ⊎ ((line : ℕ) × (fault ≡ Fault.BadLine line))) }
+    ensures found { IfOk result (λ file. (tree : code.Client) × Spells file.items tree
+        × SpellsInText text.now tree) }
+    ensures canonical { IfOk result (λ file. (tree : code.Client) → IsClient tree →
+        text.now ≡ text_of tree → file.items ≡ spelling tree) }
+    ensures wrong { IfErr result (λ fault. (line : ℕ) → fault ≡ Fault.BadLine line →
+        (tree : code.Client) → SpellsInText text.now tree → ⊥) }
+    ensures fault { IfErr result (λ fault. (fault ≡ Fault.Memory)
+        ⊎ ((line : ℕ) × (fault ≡ Fault.BadLine line))) }
 {
     let mut file = Vec::new(alloc);
     let is_whole = write(&mut file, text)?;
@@ -31,7 +35,8 @@ pub fn assemble<A: Allocator>(alloc: A, text: &[u8]) -> Result<Vec<u8, A>, Fault
 /// client's file and has all lines.
 fn wrong_place(file: &[u8], is_whole: bool) -> Option<u32>
     ensures right { IfNone result (IsTrue is_whole × (tree : code.Client) × Spells file.now tree) }
-    ensures wrong { IfSome result (λ _. IsTrue is_whole → (tree : code.Client) → Spells file.now tree → ⊥) }
+    ensures wrong { IfSome result (λ _. IsTrue is_whole → (tree : code.Client) →
+        Spells file.now tree → ⊥) }
 {
     match parse(file) {
         Ok(_) if is_whole => None,

@@ -23,14 +23,16 @@ pub struct Client<'a> {
     pub(crate) code: u32,
     ghost near: { code ≤ 2 ^ 20 },
     ghost spelled: { ∥ ((tree : tree.Client) × Spells file.now tree) ∥₁ },
-    ghost placed: { (tree : tree.Client) → Spells file.now tree → (header.types ≡ length tree.types) × (header.constants ≡ length tree.constants) × (header.instructions ≡ length (listing tree.code)) × (code ≡ code_place tree) },
+    ghost placed: { (tree : tree.Client) → Spells file.now tree → (header.types ≡ length tree.types)
+        × (header.constants ≡ length tree.constants)
+        × (header.instructions ≡ length (listing tree.code)) × (code ≡ code_place tree) },
 }
 
 impl<'a> Client<'a> {
     ghost use Rattle.std.specs.Prelude.{slice_get};
     ghost use Rattle.std.specs.Option.{option_map};
     ghost use Rattle.client_code.specs.Views.{constants_of, instruction_of};
-    ghost use Rattle.client_code.specs.Clients.{bytes_of};
+    ghost use Rattle.client_code.specs.Clients.{bytes_of, OfTree};
 
     /// The whole file.
     pub fn bytes(&self) -> &'a [u8]
@@ -41,7 +43,7 @@ impl<'a> Client<'a> {
 
     /// The types.
     pub fn types(&self) -> TypeTable
-        ensures { (tree : tree.Client) → Spells (bytes_of self.now) tree → result ≡ tree.types }
+        ensures { OfTree self.now (λ tree. result ≡ tree.types) }
     {
         match read_types(self.file, self.header.types) {
             Ok(types) => types,
@@ -52,14 +54,14 @@ impl<'a> Client<'a> {
     /// The number of types.
     pub fn type_count(&self) -> u32
         ensures few { result ≤ MOST_TYPES }
-        ensures count { (tree : tree.Client) → Spells (bytes_of self.now) tree → result ≡ length tree.types }
+        ensures count { OfTree self.now (λ tree. result ≡ length tree.types) }
     {
         self.header.types
     }
 
     /// The constants, found in one pass.
     pub fn constants(&self) -> Constants<'a>
-        ensures { (tree : tree.Client) → Spells (bytes_of self.now) tree → constants_of result.items ≡ tree.constants }
+        ensures { OfTree self.now (λ tree. constants_of result.items ≡ tree.constants) }
     {
         match read_constants(self.file, self.header.constants_at(), self.header.constants) {
             Ok((constants, _)) => constants,
@@ -70,14 +72,15 @@ impl<'a> Client<'a> {
     /// The number of instructions, `ELSE` and `END` among them.
     pub fn instruction_count(&self) -> u32
         ensures few { result ≤ MOST_INSTRUCTIONS }
-        ensures count { (tree : tree.Client) → Spells (bytes_of self.now) tree → result ≡ length (listing tree.code) }
+        ensures count { OfTree self.now (λ tree. result ≡ length (listing tree.code)) }
     {
         self.header.instructions
     }
 
     /// An instruction, in constant time.
     pub fn instruction(&self, i: u32) -> Option<Instruction>
-        ensures { (tree : tree.Client) → Spells (bytes_of self.now) tree → option_map instruction_of result ≡ slice_get (listing tree.code) i }
+        ensures { OfTree self.now (λ tree. option_map instruction_of result
+            ≡ slice_get (listing tree.code) i) }
     {
         if i >= self.header.instructions {
             return None;
@@ -95,7 +98,7 @@ impl<'a> Client<'a> {
 
     /// The position behind the code, which is the file's length.
     pub fn end(&self) -> u32
-        ensures { (tree : tree.Client) → Spells (bytes_of self.now) tree → result ≡ length (bytes_of self.now) }
+        ensures { OfTree self.now (λ tree. result ≡ length (bytes_of self.now)) }
     {
         self.place_of(self.header.instructions)
     }

@@ -6,6 +6,12 @@ ghost use Rattle.client_code.specs.Views.{constant_of, constant_by};
 /// The most bytes of a constant.
 pub const LONGEST: usize = 255;
 
+/// The most bytes of an object's name.
+pub const LONGEST_NAME: usize = 63;
+
+/// The most bytes of the front of a family's names: `#` and 20 digits make 63.
+pub const LONGEST_FAMILY: usize = 42;
+
 /// What a constant is. The discriminant is the number that stands for it in a client file.
 #[derive(Debug, Clone, Copy, PartialEq, Eq, Default)]
 pub enum ConstantKind {
@@ -21,15 +27,18 @@ pub enum ConstantKind {
 impl ConstantKind {
     /// The number that stands for the kind in a client file.
     pub fn number(self) -> u8
-        ensures { (bytes : List ℕ) → constant_bytes (constant_by self bytes) ≡ result ∷ length bytes ∷ bytes }
+        ensures { (bytes : List ℕ) → constant_bytes (constant_by self bytes)
+            ≡ result ∷ length bytes ∷ bytes }
     {
         self as u8
     }
 
     /// The kind of a number.
     pub fn from_number(number: u8) -> Option<ConstantKind>
-        ensures found { IfSome result (λ kind. (bytes : List ℕ) → constant_bytes (constant_by kind bytes) ≡ number ∷ length bytes ∷ bytes) }
-        ensures none { IfNone result ((c : code.Constant) (rest : List ℕ) → constant_bytes c ≢ number ∷ rest) }
+        ensures found { IfSome result (λ kind. (bytes : List ℕ) →
+            constant_bytes (constant_by kind bytes) ≡ number ∷ length bytes ∷ bytes) }
+        ensures none { IfNone result ((c : code.Constant) (rest : List ℕ) →
+            constant_bytes c ≢ number ∷ rest) }
     {
         match number {
             1 => Some(ConstantKind::Text),
@@ -54,7 +63,8 @@ fn is_name_byte(byte: u8) -> bool
 }
 
 fn is_name(bytes: &[u8], longest: usize) -> bool
-    ensures { IsTrue result ↔ (1 ≤ length bytes.now) × (length bytes.now ≤ longest) × All IsNameByte bytes.now }
+    ensures { IsTrue result ↔ (1 ≤ length bytes.now) × (length bytes.now ≤ longest)
+        × All IsNameByte bytes.now }
 {
     !bytes.is_empty() && bytes.len() <= longest && bytes.iter().all(|byte| is_name_byte(*byte))
 }
@@ -65,8 +75,8 @@ fn may_be(kind: ConstantKind, bytes: &[u8]) -> bool
 {
     match kind {
         ConstantKind::Text => bytes.len() <= LONGEST,
-        ConstantKind::Name => is_name(bytes, 63),
-        ConstantKind::Family => is_name(bytes, 42),
+        ConstantKind::Name => is_name(bytes, LONGEST_NAME),
+        ConstantKind::Family => is_name(bytes, LONGEST_FAMILY),
     }
 }
 
@@ -74,11 +84,14 @@ impl<'a> Constant<'a> {
     /// The constant whose spelling, a kind, a length and bytes, begins at a position of a file, and the position behind it.
     pub fn read(file: &'a [u8], at: u32) -> Option<(Constant<'a>, u32)>
         requires { at ≤ 2 ^ 31 }
-        ensures spelled { IfSome result (λ found. drop at file.now ≡ constant_bytes (constant_of found.0) ++ drop found.1 file.now) }
+        ensures spelled { IfSome result (λ found. drop at file.now
+            ≡ constant_bytes (constant_of found.0) ++ drop found.1 file.now) }
         ensures right { IfSome result (λ found. IsConstant (constant_of found.0)) }
-        ensures place { IfSome result (λ found. found.1 ≡ at + length (constant_bytes (constant_of found.0))) }
+        ensures place { IfSome result (λ found. found.1
+            ≡ at + length (constant_bytes (constant_of found.0))) }
         ensures near { IfSome result (λ found. found.1 ≤ at + 257) }
-        ensures none { IfNone result ((c : code.Constant) (rest : List ℕ) → IsConstant c → drop at file.now ≢ constant_bytes c ++ rest) }
+        ensures none { IfNone result ((c : code.Constant) (rest : List ℕ) → IsConstant c →
+            drop at file.now ≢ constant_bytes c ++ rest) }
     {
         let [kind, len, rest @ ..] = file.get(at as usize..)? else {
             return None;

@@ -46,7 +46,8 @@ fn first(spelling: &[u8]) -> Option<(u8, &[u8])>
     ensures shorter { IfSome result (λ found. length found.1.now < length spelling.now) }
     ensures small { IfSome result (λ found. found.0 < 256) }
     ensures found { IfSome result (λ found. SpellsByte found.0 found.1.now spelling.now) }
-    ensures none { IfNone result ((b : ℕ) (rest : List ℕ) → b < 256 → SpellsByte b rest spelling.now → ⊥) }
+    ensures none { IfNone result ((b : ℕ) (rest : List ℕ) → b < 256 → SpellsByte b rest spelling.now
+        → ⊥) }
 {
     match spelling {
         [b'\\', high, low, rest @ ..] => Some((16 * hex(*high)? + hex(*low)?, rest)),
@@ -59,7 +60,8 @@ fn first(spelling: &[u8]) -> Option<(u8, &[u8])>
 pub fn unescaped(spelling: &[u8]) -> Option<Bytes>
     ensures found { IfSome result (λ bytes. SpellsText bytes.items spelling.now) }
     ensures bytes { IfSome result (λ bytes. All (λ b. b < 256) bytes.items) }
-    ensures none { IfNone result ((bytes : List ℕ) → length bytes ≤ LONGEST → All (λ b. b < 256) bytes → SpellsText bytes spelling.now → ⊥) }
+    ensures none { IfNone result ((bytes : List ℕ) → length bytes ≤ LONGEST →
+        All (λ b. b < 256) bytes → SpellsText bytes spelling.now → ⊥) }
 {
     let mut bytes = ArrayVec::new();
     let mut rest = spelling;

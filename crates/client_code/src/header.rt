@@ -29,12 +29,14 @@ pub struct Header {
     pub types: u32,
     pub constants: u32,
     pub instructions: u32,
-    ghost limits: { (types ≤ MOST_TYPES) × (constants ≤ MOST_CONSTANTS) × (instructions ≤ MOST_INSTRUCTIONS) },
+    ghost limits: { (types ≤ MOST_TYPES) × (constants ≤ MOST_CONSTANTS)
+        × (instructions ≤ MOST_INSTRUCTIONS) },
 }
 
 fn word(file: &[u8], at: u32) -> Option<u32>
     requires { at ≤ 16 }
-    ensures { MatchOption result (length file.now < at + 4) (λ n. (at + 4 ≤ length file.now) × (n ≡ bytes.word file.now at)) }
+    ensures { MatchOption result (length file.now < at + 4) (λ n. (at + 4 ≤ length file.now)
+        × (n ≡ bytes.word file.now at)) }
 {
     let bytes = file.get(at as usize..at as usize + 4)?;
     Some(LittleEndian::read_u32(bytes))
@@ -43,8 +45,10 @@ fn word(file: &[u8], at: u32) -> Option<u32>
 /// The word at a position, which is a number of entries.
 fn count(file: &[u8], at: u32, most: u32) -> Result<u32, Fault>
     requires { at ≤ 16 }
-    ensures found { IfOk result (λ n. (n ≤ most) × (at + 4 ≤ length file.now) × (n ≡ bytes.word file.now at)) }
-    ensures wrong { IfErr result (λ fault. at + 4 ≤ length file.now → bytes.word file.now at ≤ most → ⊥) }
+    ensures found { IfOk result (λ n. (n ≤ most) × (at + 4 ≤ length file.now)
+        × (n ≡ bytes.word file.now at)) }
+    ensures wrong { IfErr result (λ fault. at + 4 ≤ length file.now → bytes.word file.now at ≤ most
+        → ⊥) }
     ensures fault { IfErr result (λ fault. fault ≡ Fault.BadCode at) }
 {
     match word(file, at) {
@@ -64,8 +68,10 @@ impl Header {
     /// The header of a file, or the position of the first field that is wrong or cut.
     pub fn read(file: &[u8]) -> Result<Header, Fault>
         ensures found { IfOk result (λ h. IsHeader file.now h.types h.constants h.instructions) }
-        ensures wrong { IfErr result (λ fault. (t c i : ℕ) → t ≤ MOST_TYPES → c ≤ MOST_CONSTANTS → i ≤ MOST_INSTRUCTIONS → IsHeader file.now t c i → ⊥) }
-        ensures fault { IfErr result (λ fault. (place : ℕ) × (fault ≡ Fault.BadCode place) × AreRight file.now place × (AreRight file.now (place + 4) → ⊥)) }
+        ensures wrong { IfErr result (λ fault. (t c i : ℕ) → t ≤ MOST_TYPES → c ≤ MOST_CONSTANTS →
+            i ≤ MOST_INSTRUCTIONS → IsHeader file.now t c i → ⊥) }
+        ensures fault { IfErr result (λ fault. (place : ℕ) × (fault ≡ Fault.BadCode place)
+            × AreRight file.now place × (AreRight file.now (place + 4) → ⊥)) }
     {
         if !file.starts_with(MAGIC) {
             return Err(Fault::BadCode(0));
@@ -85,7 +91,8 @@ impl Header {
 
     /// Adds the header's bytes to a file.
     pub fn append<A: Allocator>(&self, file: &mut Vec<u8, A>) -> Result<(), AllocError>
-        ensures { OnOk result (file.new.items ≡ file.old.items ++ header_bytes self.now.types self.now.constants self.now.instructions) }
+        ensures { OnOk result (file.new.items ≡ file.old.items
+            ++ header_bytes self.now.types self.now.constants self.now.instructions) }
     {
         file.extend_from_slice(MAGIC)?;
         append_word(file, VERSION)?;

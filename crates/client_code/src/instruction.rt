@@ -2,13 +2,13 @@ ghost use Rattle.std.specs.Prelude.{◌≡◌, ◌≢◌, ◌%◌, ◌/◌, ◌�
 ghost use Rattle.std.specs.Int.{w32};
 ghost use Rattle.seg_spec.specs.Types.{Table};
 ghost use Rattle.client_spec.specs.Code as code;
-ghost use Rattle.client_spec.specs.Operations as table;
+ghost use Rattle.client_spec.specs.declared.table.Number.TheVariants as number;
+ghost use Rattle.client_spec.specs.Operations.{row_of};
 ghost use Rattle.client_spec.specs.Grammar.{IsOperand, IsText, NamesBy, IsNumber, IsInstruction, instruction_bytes};
-ghost use Rattle.client_code.specs.Views.{operand_of, number_of, definition, constants_of, instruction_of};
+ghost use Rattle.client_code.specs.Views.{constants_of, instruction_of};
 
 use crate::constant::{Constant, ConstantKind};
-use crate::operation::Operation;
-use crate::table::{Number, Operand};
+use client_spec::table::{Number, Operand, Operation};
 use seg_layout::TypeId;
 
 /// The number of registers.
@@ -29,7 +29,7 @@ pub struct Instruction {
 }
 
 fn is_operand(operand: Operand, n: u8) -> bool
-    ensures { IsTrue result ↔ IsOperand (operand_of operand) n }
+    ensures { IsTrue result ↔ IsOperand operand n }
 {
     match operand {
         Operand::Unused => n == 0,
@@ -83,13 +83,15 @@ impl Instruction {
 
     /// The type that the number names, by itself or before a constant.
     pub fn type_id(self) -> TypeId
-        ensures before { (definition self.operation).number ≡ table.Number.TypedName → (n : ℕ) → self.number ≡ pos n → result ≡ n / 256 % 256 }
-        ensures alone { (definition self.operation).number ≢ table.Number.TypedName → (n : ℕ) → self.number ≡ pos n → result ≡ n % 256 }
+        ensures before { (row_of self.operation).number ≡ number.TypedName → (n : ℕ) →
+            self.number ≡ pos n → result ≡ n / 256 % 256 }
+        ensures alone { (row_of self.operation).number ≢ number.TypedName → (n : ℕ) →
+            self.number ≡ pos n → result ≡ n % 256 }
     {
         let [low, high, _, _] = self.number.to_le_bytes();
         match self.operation.row().number {
             Number::TypedName => high,
-            _ => low,
+            Number::Unused | Number::Any | Number::Turns | Number::TypeId | Number::Text => low,
         }
     }
 
@@ -103,7 +105,9 @@ impl Instruction {
 
     /// Whether the operands and the number are what the operation asks for, in a client with so many types and these constants.
     pub fn is_valid(self, types: usize, constants: &[Constant]) -> bool
-        ensures { (table : Table) → length table ≡ types → (IsTrue result ↔ IsInstruction table (constants_of constants.now) (definition self.operation).place (instruction_of self)) }
+        ensures { (table : Table) → length table ≡ types →
+            (IsTrue result ↔ IsInstruction table (constants_of constants.now)
+            (row_of self.operation).role (instruction_of self)) }
     {
         let row = self.operation.row();
         is_operand(row.a, self.a)
@@ -113,7 +117,9 @@ impl Instruction {
     }
 
     fn is_number(self, number: Number, types: usize, constants: &[Constant]) -> bool
-        ensures { (table : Table) → length table ≡ types → (IsTrue result ↔ IsNumber table (constants_of constants.now) self.b (number_of number) self.number) }
+        ensures { (table : Table) → length table ≡ types →
+            (IsTrue result ↔ IsNumber table (constants_of constants.now) self.b number
+            self.number) }
     {
         let Ok(n) = u32::try_from(self.number) else {
             return number == Number::Any;
@@ -123,7 +129,7 @@ impl Instruction {
             Number::Unused => n == 0,
             Number::Any => true,
             Number::Turns => 1 <= n && n <= TURNS,
-            Number::Type => n < types,
+            Number::TypeId => n < types,
             Number::Text => is_text(constants, n),
             Number::TypedName => n / 256 < types && names_by(constants, n % 256, self.b),
         }

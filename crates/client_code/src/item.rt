@@ -8,17 +8,17 @@ ghost use Rattle.client_spec.specs.Grammar.{IsOperand, IsNumber};
 ghost use Rattle.client_spec.specs.Text as text;
 ghost use Rattle.client_spec.specs.Text.{words_of, type_word, type_words, operand_words, number_words, instruction_words, SpellsItem};
 ghost use Rattle.client_spec.specs.Pieces.{IsReadable, IsTold, IsToldInstruction};
-ghost use Rattle.client_code.specs.Views.{operand_of, number_of, operation_of, definition, instruction_of};
+ghost use Rattle.client_spec.specs.Operations.{word_of};
+ghost use Rattle.client_code.specs.Views.{instruction_of};
 ghost use Rattle.client_code.specs.Items.{item_of, item_bytes, IsWritten, IsWords, IsInSomeClient};
 
 use crate::constant::ConstantKind;
 use crate::escape::{Bytes, unescaped};
 use crate::instruction::{Instruction, REGISTERS};
 use crate::numeral::{index, signed};
-use crate::operation::Operation;
-use crate::table::{Number, Operand};
 use crate::words::Words;
 use arrayvec::ArrayVec;
+use client_spec::table::{Number, Operand, Operation};
 use seg_layout::{Fields, Type, TypeId};
 use std::alloc::{AllocError, Allocator};
 
@@ -35,7 +35,8 @@ impl Item {
     pub fn read(line: &[u8]) -> Option<Item>
         ensures found { IfSome result (λ item. SpellsItem line.now (item_of item)) }
         ensures readable { IfSome result (λ item. IsReadable (item_of item)) }
-        ensures none { IfNone result ((item : text.Item) → IsWritten item → SpellsItem line.now item → ⊥) }
+        ensures none { IfNone result ((item : text.Item) → IsWritten item → SpellsItem line.now item
+            → ⊥) }
     {
         match line.strip_prefix(b"text ".as_slice()) {
             Some(spelling) => Some(Item::Constant(ConstantKind::Text, unescaped(spelling)?)),
@@ -47,7 +48,8 @@ impl Item {
     fn read_words(line: &[u8]) -> Option<Item>
         ensures found { IfSome result (λ item. SpellsItem line.now (item_of item)) }
         ensures readable { IfSome result (λ item. IsReadable (item_of item)) }
-        ensures none { IfNone result ((item : text.Item) → IsWords item → IsWritten item → SpellsItem line.now item → ⊥) }
+        ensures none { IfNone result ((item : text.Item) → IsWords item → IsWritten item →
+            SpellsItem line.now item → ⊥) }
     {
         let mut words = Words::new(line);
         let word = words.next()?;
@@ -94,8 +96,10 @@ impl Item {
 }
 
 fn read_name(words: &mut Words) -> Option<Bytes>
-    ensures found { IfSome result (λ name. words_of words.old.line.now ≡ name.items ∷ words_of words.new.line.now) }
-    ensures none { IfNone result ((name : List ℕ) (rest : text.Words) → length name ≤ 255 → words_of words.old.line.now ≢ name ∷ rest) }
+    ensures found { IfSome result (λ name. words_of words.old.line.now
+        ≡ name.items ∷ words_of words.new.line.now) }
+    ensures none { IfNone result ((name : List ℕ) (rest : text.Words) → length name ≤ 255 →
+        words_of words.old.line.now ≢ name ∷ rest) }
 {
     let mut name = ArrayVec::new();
     name.try_extend_from_slice(words.next()?).ok()?;
@@ -103,10 +107,13 @@ fn read_name(words: &mut Words) -> Option<Bytes>
 }
 
 fn read_type(words: &mut Words) -> Option<Type>
-    ensures found { IfSome result (λ t. words_of words.old.line.now ≡ type_words (form_of t) ++ words_of words.new.line.now) }
+    ensures found { IfSome result (λ t. words_of words.old.line.now
+        ≡ type_words (form_of t) ++ words_of words.new.line.now) }
     ensures readable { IfSome result (λ t. IsForm 256 256 (form_of t)) }
-    ensures whole { IfSome result (λ t. (form : Form) → words_of words.old.line.now ≡ type_words form → words_of words.new.line.now ≡ []) }
-    ensures none { IfNone result ((form : Form) → IsForm 256 256 form → words_of words.old.line.now ≢ type_words form) }
+    ensures whole { IfSome result (λ t. (form : Form) →
+        words_of words.old.line.now ≡ type_words form → words_of words.new.line.now ≡ []) }
+    ensures none { IfNone result ((form : Form) → IsForm 256 256 form →
+        words_of words.old.line.now ≢ type_words form) }
 {
     let word = words.next()?;
     if word == b"i64".as_slice() {
@@ -124,7 +131,8 @@ fn read_type(words: &mut Words) -> Option<Type>
 fn container(word: &[u8], item: TypeId) -> Option<Type>
     ensures found { IfSome result (λ t. type_words (form_of t) ≡ word.now ∷ type_word item ∷ []) }
     ensures readable { IfSome result (λ t. IsForm 256 256 (form_of t)) }
-    ensures none { IfNone result ((form : Form) (part : ℕ) → word.now ≢ codes "struct" → type_words form ≢ word.now ∷ type_word part ∷ []) }
+    ensures none { IfNone result ((form : Form) (part : ℕ) → word.now ≢ codes "struct" →
+        type_words form ≢ word.now ∷ type_word part ∷ []) }
 {
     if word == b"vec".as_slice() {
         Some(Type::Vec(item))
@@ -142,17 +150,22 @@ fn container(word: &[u8], item: TypeId) -> Option<Type>
 }
 
 fn read_part(words: &mut Words) -> Option<TypeId>
-    ensures found { IfSome result (λ t. words_of words.old.line.now ≡ type_word t ∷ words_of words.new.line.now) }
-    ensures none { IfNone result ((t : ℕ) (rest : text.Words) → t < 256 → words_of words.old.line.now ≢ type_word t ∷ rest) }
+    ensures found { IfSome result (λ t. words_of words.old.line.now
+        ≡ type_word t ∷ words_of words.new.line.now) }
+    ensures none { IfNone result ((t : ℕ) (rest : text.Words) → t < 256 →
+        words_of words.old.line.now ≢ type_word t ∷ rest) }
 {
     index(b't', words.next()?)
 }
 
 fn read_fields(words: &mut Words) -> Option<Fields>
-    ensures found { IfSome result (λ fields. words_of words.old.line.now ≡ map type_word fields ++ words_of words.new.line.now) }
-    ensures readable { IfSome result (λ fields. (1 ≤ length fields) × (length fields ≤ 8) × All (λ U. U < 256) fields) }
+    ensures found { IfSome result (λ fields. words_of words.old.line.now
+        ≡ map type_word fields ++ words_of words.new.line.now) }
+    ensures readable { IfSome result (λ fields. (1 ≤ length fields) × (length fields ≤ 8)
+        × All (λ U. U < 256) fields) }
     ensures whole { IfSome result (λ fields. words_of words.new.line.now ≡ []) }
-    ensures none { IfNone result ((types : List ℕ) → 1 ≤ length types → length types ≤ 8 → All (λ t. t < 256) types → words_of words.old.line.now ≢ map type_word types) }
+    ensures none { IfNone result ((types : List ℕ) → 1 ≤ length types → length types ≤ 8 →
+        All (λ t. t < 256) types → words_of words.old.line.now ≢ map type_word types) }
 {
     let mut fields: ArrayVec<TypeId, 8> = ArrayVec::new();
     while let Some(word) = words.next() {
@@ -162,10 +175,15 @@ fn read_fields(words: &mut Words) -> Option<Fields>
 }
 
 fn read_instruction(operation: Operation, words: &mut Words) -> Option<Instruction>
-    ensures found { IfSome result (λ i. (definition operation).word ∷ words_of words.old.line.now ≡ instruction_words (instruction_of i) ++ words_of words.new.line.now) }
+    ensures found { IfSome result (λ i. word_of operation ∷ words_of words.old.line.now
+        ≡ instruction_words (instruction_of i) ++ words_of words.new.line.now) }
     ensures readable { IfSome result (λ i. IsToldInstruction (instruction_of i)) }
-    ensures whole { IfSome result (λ i. (j : code.Instruction) → j.operation ≡ operation_of operation → (definition operation).word ∷ words_of words.old.line.now ≡ instruction_words j → words_of words.new.line.now ≡ []) }
-    ensures none { IfNone result ((i : code.Instruction) (rest : text.Words) → i.operation ≡ operation_of operation → IsInSomeClient i → (definition operation).word ∷ words_of words.old.line.now ≢ instruction_words i ++ rest) }
+    ensures whole { IfSome result (λ i. (j : code.Instruction) → j.operation ≡ operation →
+        word_of operation ∷ words_of words.old.line.now ≡ instruction_words j →
+        words_of words.new.line.now ≡ []) }
+    ensures none { IfNone result ((i : code.Instruction) (rest : text.Words) →
+        i.operation ≡ operation → IsInSomeClient i →
+        word_of operation ∷ words_of words.old.line.now ≢ instruction_words i ++ rest) }
 {
     let row = operation.row();
     Some(Instruction {
@@ -178,9 +196,11 @@ fn read_instruction(operation: Operation, words: &mut Words) -> Option<Instructi
 }
 
 fn read_operand(operand: Operand, words: &mut Words) -> Option<u8>
-    ensures found { IfSome result (λ n. words_of words.old.line.now ≡ operand_words (operand_of operand) n ++ words_of words.new.line.now) }
-    ensures right { IfSome result (λ n. IsOperand (operand_of operand) n) }
-    ensures none { IfNone result ((n : ℕ) (rest : text.Words) → IsOperand (operand_of operand) n → words_of words.old.line.now ≢ operand_words (operand_of operand) n ++ rest) }
+    ensures found { IfSome result (λ n. words_of words.old.line.now
+        ≡ operand_words operand n ++ words_of words.new.line.now) }
+    ensures right { IfSome result (λ n. IsOperand operand n) }
+    ensures none { IfNone result ((n : ℕ) (rest : text.Words) → IsOperand operand n →
+        words_of words.old.line.now ≢ operand_words operand n ++ rest) }
 {
     match operand {
         Operand::Unused => Some(0),
@@ -203,16 +223,19 @@ fn read_register(word: &[u8]) -> Option<u8>
 }
 
 fn read_number(number: Number, words: &mut Words) -> Option<i32>
-    ensures found { IfSome result (λ n. words_of words.old.line.now ≡ number_words (number_of number) n ++ words_of words.new.line.now) }
-    ensures told { IfSome result (λ n. IsTold (number_of number) n) }
+    ensures found { IfSome result (λ n. words_of words.old.line.now
+        ≡ number_words number n ++ words_of words.new.line.now) }
+    ensures told { IfSome result (λ n. IsTold number n) }
     ensures range { IfSome result (λ n. FitsSigned w32 n) }
-    ensures none { IfNone result ((types : Table) (constants : List code.Constant) (b : ℕ) (n : ℤ) (rest : text.Words) → length types ≤ 32 → length constants ≤ 256 → FitsSigned w32 n → IsNumber types constants b (number_of number) n
-        → words_of words.old.line.now ≢ number_words (number_of number) n ++ rest) }
+    ensures none { IfNone result ((types : Table) (constants : List code.Constant) (b : ℕ) (n : ℤ)
+        (rest : text.Words) → length types ≤ 32 → length constants ≤ 256 → FitsSigned w32 n →
+        IsNumber types constants b number n
+        → words_of words.old.line.now ≢ number_words number n ++ rest) }
 {
     match number {
         Number::Unused => Some(0),
         Number::Any | Number::Turns => signed(words.next()?),
-        Number::Type => index(b't', words.next()?).map(i32::from),
+        Number::TypeId => index(b't', words.next()?).map(i32::from),
         Number::Text => index(b'k', words.next()?).map(i32::from),
         Number::TypedName => {
             let type_id = index(b't', words.next()?)?;

@@ -40,8 +40,10 @@ impl<'a> Lines<'a> {
 
     /// The next line.
     pub fn next(&mut self) -> Option<&'a [u8]>
-        ensures found { IfSome result (λ line. lines_from [] self.old.text.now ≡ line.now ∷ lines_from [] self.new.text.now) }
-        ensures shorter { IfSome result (λ line. length self.new.text.now < length self.old.text.now) }
+        ensures found { IfSome result (λ line. lines_from [] self.old.text.now
+            ≡ line.now ∷ lines_from [] self.new.text.now) }
+        ensures shorter { IfSome result (λ line. length self.new.text.now
+            < length self.old.text.now) }
         ensures none { IfNone result (lines_from [] self.old.text.now ≡ []) }
     {
         if self.text.is_empty() {
@@ -55,8 +57,10 @@ impl<'a> Lines<'a> {
 
     /// The next line that says something.
     pub fn next_meant(&mut self) -> Option<&'a [u8]>
-        ensures found { IfSome result (λ line. meant self.old.text.now ≡ line.now ∷ meant self.new.text.now) }
-        ensures shorter { IfSome result (λ line. length self.new.text.now < length self.old.text.now) }
+        ensures found { IfSome result (λ line. meant self.old.text.now
+            ≡ line.now ∷ meant self.new.text.now) }
+        ensures shorter { IfSome result (λ line. length self.new.text.now
+            < length self.old.text.now) }
         ensures none { IfNone result (meant self.old.text.now ≡ []) }
     {
         while let Some(line) = self.next() {

@@ -1,8 +1,8 @@
 ghost use Rattle.std.specs.Prelude.{◌≡◌, ◌≤◌, [], Some, None, MatchBool, ◌↔◌, IsTrue};
 ghost use Rattle.arrayvec.specs.ArrayVec.{array_vec_len};
 
-use crate::table::Place;
 use arrayvec::ArrayVec;
+use client_spec::table::Role;
 
 /// A part of code that is open.
 #[derive(Debug, Clone, Copy, PartialEq, Eq, Default)]
@@ -27,7 +27,6 @@ pub struct Nesting {
 }
 
 impl Nesting {
-    ghost use Rattle.client_code.specs.Views.{place_of};
     ghost use Rattle.client_code.specs.Parts.{opened, passed, open_parts};
 
     /// No open part.
@@ -48,21 +47,23 @@ impl Nesting {
 
     /// Opens a part, if there is room.
     fn open(&mut self, part: Part) -> bool
-        ensures { MatchBool result (opened (open_parts self.old) part ≡ Some (open_parts self.new)) (opened (open_parts self.old) part ≡ None) }
+        ensures { MatchBool result (opened (open_parts self.old) part ≡ Some (open_parts self.new))
+            (opened (open_parts self.old) part ≡ None) }
     {
         self.parts.try_push(part).is_ok()
     }
 
     /// Goes past an instruction: opens and closes what it opens and closes. False where it may not stand here.
-    pub fn pass(&mut self, place: Place) -> bool
-        ensures { MatchBool result (passed (open_parts self.old) (place_of place) ≡ Some (open_parts self.new)) (passed (open_parts self.old) (place_of place) ≡ None) }
+    pub fn pass(&mut self, role: Role) -> bool
+        ensures { MatchBool result (passed (open_parts self.old) role ≡ Some (open_parts self.new))
+            (passed (open_parts self.old) role ≡ None) }
     {
-        match place {
-            Place::Plain => true,
-            Place::Opener => self.open(Part::Success),
-            Place::Loop => self.open(Part::Body),
-            Place::Else => self.parts.pop() == Some(Part::Success) && self.open(Part::Else),
-            Place::End => matches!(self.parts.pop(), Some(Part::Else | Part::Body)),
+        match role {
+            Role::Plain => true,
+            Role::Opener => self.open(Part::Success),
+            Role::Loop => self.open(Part::Body),
+            Role::Else => self.parts.pop() == Some(Part::Success) && self.open(Part::Else),
+            Role::End => matches!(self.parts.pop(), Some(Part::Else | Part::Body)),
         }
     }
 }

@@ -29,7 +29,8 @@ impl Section {
 
     /// The section of the lines that begin with a word.
     fn by(word: &[u8]) -> Section
-        ensures { (line : List ℕ) (rest : List (List ℕ)) (item : Item) → words_of line ≡ word.now ∷ rest → SpellsItem line item → result ≡ section_of item }
+        ensures { (line : List ℕ) (rest : List (List ℕ)) (item : Item) →
+            words_of line ≡ word.now ∷ rest → SpellsItem line item → result ≡ section_of item }
     {
         if word == b"type".as_slice() {
             Section::Types
@@ -47,8 +48,10 @@ impl Section {
 /// The header that counts the lines of a text, up to the first that stands behind a later section or is one too many.
 pub fn header_of(text: &[u8]) -> Header
     ensures within { entries_of result ≤ length (meant text.now) }
-    ensures counted { (items : List Item) → EachSpells (meant text.now) items → map section_of (take (entries_of result) items) ≡ outline_of result }
-    ensures all { (items : List Item) → EachSpells (meant text.now) items → IsOutline (map section_of items) → length items ≡ entries_of result }
+    ensures counted { (items : List Item) → EachSpells (meant text.now) items →
+        map section_of (take (entries_of result) items) ≡ outline_of result }
+    ensures all { (items : List Item) → EachSpells (meant text.now) items →
+        IsOutline (map section_of items) → length items ≡ entries_of result }
 {
     let mut header = Header {
         types: 0,
@@ -66,9 +69,11 @@ pub fn header_of(text: &[u8]) -> Header
 
 /// Counts a line, if it may stand behind the others.
 fn add(header: &mut Header, section: Section) -> bool
-    ensures counted { IsTrue result → outline_of header.new ≡ outline_of header.old ++ section ∷ [] }
+    ensures counted { IsTrue result → outline_of header.new
+        ≡ outline_of header.old ++ section ∷ [] }
     ensures one { IsTrue result → entries_of header.new ≡ entries_of header.old + 1 }
-    ensures refused { IsFalse result → (behind : List Section) → IsOutline (outline_of header.old ++ section ∷ behind) → ⊥ }
+    ensures refused { IsFalse result → (behind : List Section) →
+        IsOutline (outline_of header.old ++ section ∷ behind) → ⊥ }
     ensures kept { IsFalse result → header.new ≡ header.old }
 {
     let is_code = header.instructions > 0;

@@ -19,7 +19,8 @@ use seg_layout::TypeTable;
 use seg_raw::Fault;
 
 fn differs_from(others: &[Constant], constant: Constant) -> bool
-    ensures { IsTrue result ↔ All (λ other. Differ (constant_of other) (constant_of constant.entry)) others.now }
+    ensures { IsTrue result
+        ↔ All (λ other. Differ (constant_of other) (constant_of constant.entry)) others.now }
 {
     others.iter().all(|other| other.differs(constant))
 }
@@ -27,12 +28,17 @@ fn differs_from(others: &[Constant], constant: Constant) -> bool
 /// The constant that begins at a position, behind these, and the position behind it.
 fn next_constant<'a>(file: &'a [u8], at: u32, before: &[Constant]) -> Option<(Constant<'a>, u32)>
     requires { at ≤ 2 ^ 31 }
-    ensures spelled { IfSome result (λ found. drop at file.now ≡ constant_bytes (constant_of found.0) ++ drop found.1 file.now) }
+    ensures spelled { IfSome result (λ found. drop at file.now
+        ≡ constant_bytes (constant_of found.0) ++ drop found.1 file.now) }
     ensures right { IfSome result (λ found. IsConstant (constant_of found.0)) }
-    ensures place { IfSome result (λ found. found.1 ≡ at + length (constant_bytes (constant_of found.0))) }
+    ensures place { IfSome result (λ found. found.1
+        ≡ at + length (constant_bytes (constant_of found.0))) }
     ensures near { IfSome result (λ found. found.1 ≤ at + 257) }
-    ensures differs { IfSome result (λ found. All (λ other. Differ (constant_of other) (constant_of found.0)) before.now) }
-    ensures none { IfNone result ((c : code.Constant) (rest : List ℕ) → IsConstant c → All (λ other. Differ (constant_of other) c) before.now → drop at file.now ≢ constant_bytes c ++ rest) }
+    ensures differs { IfSome result
+        (λ found. All (λ other. Differ (constant_of other) (constant_of found.0)) before.now) }
+    ensures none { IfNone result ((c : code.Constant) (rest : List ℕ) → IsConstant c →
+        All (λ other. Differ (constant_of other) c) before.now →
+        drop at file.now ≢ constant_bytes c ++ rest) }
 {
     let (constant, behind) = Constant::read(file, at)?;
     if !differs_from(before, constant) {
@@ -47,8 +53,10 @@ pub fn read_constants(file: &[u8], at: u32, count: u32) -> Result<(Constants<'_>
     requires few { count ≤ MOST_CONSTANTS }
     ensures near { IfOk result (λ found. found.1 ≤ at + 257 * count) }
     ensures count { IfOk result (λ found. length found.0.items ≡ count) }
-    ensures found { IfOk result (λ found. AreConstants file.now at (constants_of found.0.items) found.1) }
-    ensures wrong { IfErr result (λ fault. (cs : List code.Constant) (behind : ℕ) → length cs ≡ count → AreConstants file.now at cs behind → ⊥) }
+    ensures found { IfOk result (λ found. AreConstants file.now at
+        (constants_of found.0.items) found.1) }
+    ensures wrong { IfErr result (λ fault. (cs : List code.Constant) (behind : ℕ) →
+        length cs ≡ count → AreConstants file.now at cs behind → ⊥) }
     ensures fault { IfErr result (λ fault. (place : ℕ) × (fault ≡ Fault.BadCode place)) }
 {
     let mut constants = ArrayVec::new();
@@ -67,9 +75,11 @@ pub fn read_constants(file: &[u8], at: u32, count: u32) -> Result<(Constants<'_>
 /// The instruction whose 8 bytes begin at a position.
 pub fn instruction_at(file: &[u8], at: u32) -> Option<Instruction>
     requires { at ≤ 2 ^ 31 }
-    ensures found { IfSome result (λ i. (at + 8 ≤ length file.now) × (slice file.now at 8 ≡ instruction_bytes (instruction_of i))) }
+    ensures found { IfSome result (λ i. (at + 8 ≤ length file.now)
+        × (slice file.now at 8 ≡ instruction_bytes (instruction_of i))) }
     ensures range { IfSome result (λ i. FitsSigned w32 i.number) }
-    ensures none { IfNone result (at + 8 ≤ length file.now → (i : code.Instruction) → slice file.now at 8 ≢ instruction_bytes i) }
+    ensures none { IfNone result (at + 8 ≤ length file.now → (i : code.Instruction) →
+        slice file.now at 8 ≢ instruction_bytes i) }
 {
     let place = at as usize;
     Instruction::decode(file.get(place..place + Instruction::SIZE)?)
@@ -85,8 +95,10 @@ fn check_code(
 ) -> Result<(), Fault>
     requires near { at ≤ 2 ^ 20 }
     requires few { count ≤ MOST_INSTRUCTIONS }
-    ensures found { OnOk result ((tree : Statements) × (length (listing tree) ≡ count) × IsCodeAt file.now at types.now (constants_of constants.now) tree) }
-    ensures wrong { IfErr result (λ fault. (tree : Statements) → length (listing tree) ≡ count → IsCodeAt file.now at types.now (constants_of constants.now) tree → ⊥) }
+    ensures found { OnOk result ((tree : Statements) × (length (listing tree) ≡ count)
+        × IsCodeAt file.now at types.now (constants_of constants.now) tree) }
+    ensures wrong { IfErr result (λ fault. (tree : Statements) → length (listing tree) ≡ count →
+        IsCodeAt file.now at types.now (constants_of constants.now) tree → ⊥) }
     ensures fault { IfErr result (λ fault. (place : ℕ) × (fault ≡ Fault.BadCode place)) }
 {
     let mut nesting = Nesting::new();
@@ -96,7 +108,7 @@ fn check_code(
             return Err(Fault::BadCode(place));
         };
         if !instruction.is_valid(types.len(), constants)
-            || !nesting.pass(instruction.operation.row().place)
+            || !nesting.pass(instruction.operation.row().role)
         {
             return Err(Fault::BadCode(place));
         }

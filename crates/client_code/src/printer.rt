@@ -4,15 +4,15 @@ ghost use Rattle.seg_spec.specs.Types.{Form, form_at};
 ghost use Rattle.client_spec.specs.Code as code;
 ghost use Rattle.client_spec.specs.Grammar.{Spells, listing, IsConstant, IsNameByte};
 ghost use Rattle.client_spec.specs.Text.{type_item, constant_item, instruction_item, operand_words, number_words, type_word, is_plain, escaped, text_spelling, spaced, text_of};
-ghost use Rattle.client_code.specs.Views.{operand_of, number_of, constant_of, constants_of, instruction_of};
+ghost use Rattle.client_code.specs.Views.{constant_of, constants_of, instruction_of};
 ghost use Rattle.client_code.specs.Texts.{with_spaces, ended};
-ghost use Rattle.client_code.specs.Clients.{bytes_of};
+ghost use Rattle.client_code.specs.Clients.{bytes_of, OfTree};
 
 use crate::client::Client;
 use crate::constant::{Constant, ConstantKind};
 use crate::escape::{hex_digit, is_plain};
 use crate::instruction::Instruction;
-use crate::table::{Number, Operand};
+use client_spec::table::{Number, Operand};
 use seg_layout::{Type, TypeId, TypeTable};
 use seg_raw::Fault;
 use std::alloc::{AllocError, Allocator};
@@ -20,7 +20,7 @@ use std::fmt::Write;
 
 /// The canonical text of a client. `Memory` where memory was refused.
 pub fn print<A: Allocator>(alloc: A, client: &Client) -> Result<Vec<u8, A>, Fault>
-    ensures text { IfOk result (λ text. (tree : code.Client) → Spells (bytes_of client.now) tree → text.items ≡ text_of tree) }
+    ensures text { IfOk result (λ text. OfTree client.now (λ tree. text.items ≡ text_of tree)) }
     ensures fault { IfErr result (λ fault. fault ≡ Fault.Memory) }
 {
     let mut text = String::new(alloc);
@@ -31,7 +31,8 @@ pub fn print<A: Allocator>(alloc: A, client: &Client) -> Result<Vec<u8, A>, Faul
 }
 
 fn print_types<A: Allocator>(text: &mut String<A>, types: &TypeTable) -> Result<(), AllocError>
-    ensures { OnOk result (text.new.bytes.items ≡ text.old.bytes.items ++ flat_map ended (map type_item types.now)) }
+    ensures { OnOk result (text.new.bytes.items ≡ text.old.bytes.items
+        ++ flat_map ended (map type_item types.now)) }
 {
     for type_id in 0..types.len() as u8 {
         print_entry(text, types, type_id)?;
@@ -44,7 +45,8 @@ fn print_entry<A: Allocator>(
     types: &TypeTable,
     type_id: TypeId,
 ) -> Result<(), AllocError>
-    ensures { OnOk result ((form : Form) → form_at types.now type_id ≡ Some form → text.new.bytes.items ≡ text.old.bytes.items ++ ended (type_item form)) }
+    ensures { OnOk result ((form : Form) → form_at types.now type_id ≡ Some form →
+        text.new.bytes.items ≡ text.old.bytes.items ++ ended (type_item form)) }
 {
     match types.kind(type_id) {
         Some(kind) => print_type(text, kind),
@@ -56,7 +58,9 @@ fn print_constants<A: Allocator>(
     text: &mut String<A>,
     constants: &[Constant],
 ) -> Result<(), AllocError>
-    ensures { OnOk result (All IsConstant (constants_of constants.now) → text.new.bytes.items ≡ text.old.bytes.items ++ flat_map ended (map constant_item (constants_of constants.now))) }
+    ensures { OnOk result (All IsConstant (constants_of constants.now) →
+        text.new.bytes.items ≡ text.old.bytes.items
+        ++ flat_map ended (map constant_item (constants_of constants.now))) }
 {
     for constant in constants {
         print_constant(text, *constant)?;
@@ -65,7 +69,8 @@ fn print_constants<A: Allocator>(
 }
 
 fn print_code<A: Allocator>(text: &mut String<A>, client: &Client) -> Result<(), AllocError>
-    ensures { OnOk result ((tree : code.Client) → Spells (bytes_of client.now) tree → text.new.bytes.items ≡ text.old.bytes.items ++ flat_map ended (map instruction_item (listing tree.code))) }
+    ensures { OnOk result (OfTree client.now (λ tree. text.new.bytes.items
+        ≡ text.old.bytes.items ++ flat_map ended (map instruction_item (listing tree.code)))) }
 {
     for i in 0..client.instruction_count() {
         print_at(text, client, i)?;
@@ -74,7 +79,9 @@ fn print_code<A: Allocator>(text: &mut String<A>, client: &Client) -> Result<(),
 }
 
 fn print_at<A: Allocator>(text: &mut String<A>, client: &Client, i: u32) -> Result<(), AllocError>
-    ensures { OnOk result ((tree : code.Client) (instruction : code.Instruction) → Spells (bytes_of client.now) tree → slice_get (listing tree.code) i ≡ Some instruction → text.new.bytes.items ≡ text.old.bytes.items ++ ended (instruction_item instruction)) }
+    ensures { OnOk result ((tree : code.Client) (instruction : code.Instruction) →
+        Spells (bytes_of client.now) tree → slice_get (listing tree.code) i ≡ Some instruction →
+        text.new.bytes.items ≡ text.old.bytes.items ++ ended (instruction_item instruction)) }
 {
     match client.instruction(i) {
         Some(instruction) => print_instruction(text, instruction),
@@ -83,7 +90,8 @@ fn print_at<A: Allocator>(text: &mut String<A>, client: &Client, i: u32) -> Resu
 }
 
 fn print_type<A: Allocator>(text: &mut String<A>, kind: Type) -> Result<(), AllocError>
-    ensures { OnOk result (text.new.bytes.items ≡ text.old.bytes.items ++ ended (type_item (form_of kind))) }
+    ensures { OnOk result (text.new.bytes.items ≡ text.old.bytes.items
+        ++ ended (type_item (form_of kind))) }
 {
     match kind {
         Type::I64 => text.push_str("type i64\n"),
@@ -98,7 +106,8 @@ fn print_type<A: Allocator>(text: &mut String<A>, kind: Type) -> Result<(), Allo
 }
 
 fn print_struct<A: Allocator>(text: &mut String<A>, fields: &[TypeId]) -> Result<(), AllocError>
-    ensures { OnOk result (text.new.bytes.items ≡ text.old.bytes.items ++ ended (type_item (Form.struct fields.now))) }
+    ensures { OnOk result (text.new.bytes.items ≡ text.old.bytes.items
+        ++ ended (type_item (Form.struct fields.now))) }
 {
     text.push_str("type struct")?;
     print_fields(text, fields)?;
@@ -106,7 +115,8 @@ fn print_struct<A: Allocator>(text: &mut String<A>, fields: &[TypeId]) -> Result
 }
 
 fn print_fields<A: Allocator>(text: &mut String<A>, fields: &[TypeId]) -> Result<(), AllocError>
-    ensures { OnOk result (text.new.bytes.items ≡ text.old.bytes.items ++ with_spaces (map type_word fields.now)) }
+    ensures { OnOk result (text.new.bytes.items ≡ text.old.bytes.items
+        ++ with_spaces (map type_word fields.now)) }
 {
     for field in fields {
         let type_id = *field;
@@ -116,7 +126,9 @@ fn print_fields<A: Allocator>(text: &mut String<A>, fields: &[TypeId]) -> Result
 }
 
 fn print_constant<A: Allocator>(text: &mut String<A>, constant: Constant) -> Result<(), AllocError>
-    ensures { OnOk result (IsConstant (constant_of constant.entry) → text.new.bytes.items ≡ text.old.bytes.items ++ ended (constant_item (constant_of constant.entry))) }
+    ensures { OnOk result (IsConstant (constant_of constant.entry) →
+        text.new.bytes.items ≡ text.old.bytes.items
+        ++ ended (constant_item (constant_of constant.entry))) }
 {
     match constant.kind {
         ConstantKind::Text => print_text(text, constant.bytes),
@@ -126,7 +138,9 @@ fn print_constant<A: Allocator>(text: &mut String<A>, constant: Constant) -> Res
 }
 
 fn print_name<A: Allocator>(text: &mut String<A>, word: &str, name: &[u8]) -> Result<(), AllocError>
-    ensures { OnOk result (All IsNameByte name.now → text.new.bytes.items ≡ text.old.bytes.items ++ (spaced (word.now ∷ name.now ∷ []) ++ 10 ∷ [])) }
+    ensures { OnOk result (All IsNameByte name.now →
+        text.new.bytes.items ≡ text.old.bytes.items
+        ++ (spaced (word.now ∷ name.now ∷ []) ++ 10 ∷ [])) }
 {
     text.push_str(word)?;
     text.push(' ')?;
@@ -135,7 +149,8 @@ fn print_name<A: Allocator>(text: &mut String<A>, word: &str, name: &[u8]) -> Re
 }
 
 fn print_plain<A: Allocator>(text: &mut String<A>, name: &[u8]) -> Result<(), AllocError>
-    ensures { OnOk result (All IsNameByte name.now → text.new.bytes.items ≡ text.old.bytes.items ++ name.now) }
+    ensures { OnOk result (All IsNameByte name.now →
+        text.new.bytes.items ≡ text.old.bytes.items ++ name.now) }
 {
     for byte in name {
         text.push(char::from(*byte))?;
@@ -144,7 +159,8 @@ fn print_plain<A: Allocator>(text: &mut String<A>, name: &[u8]) -> Result<(), Al
 }
 
 fn print_text<A: Allocator>(text: &mut String<A>, bytes: &[u8]) -> Result<(), AllocError>
-    ensures { OnOk result (text.new.bytes.items ≡ text.old.bytes.items ++ ended (constant_item (code.Constant.Text bytes.now))) }
+    ensures { OnOk result (text.new.bytes.items ≡ text.old.bytes.items
+        ++ ended (constant_item (code.Constant.Text bytes.now))) }
 {
     text.push_str("text ")?;
     print_escaped(text, bytes)?;
@@ -161,7 +177,8 @@ fn print_escaped<A: Allocator>(text: &mut String<A>, bytes: &[u8]) -> Result<(),
 }
 
 fn print_byte<A: Allocator>(text: &mut String<A>, byte: u8) -> Result<(), AllocError>
-    ensures { OnOk result (text.new.bytes.items ≡ text.old.bytes.items ++ (if is_plain byte then byte ∷ [] else escaped byte)) }
+    ensures { OnOk result (text.new.bytes.items ≡ text.old.bytes.items
+        ++ (if is_plain byte then byte ∷ [] else escaped byte)) }
 {
     if is_plain(byte) {
         return text.push(char::from(byte));
@@ -175,10 +192,11 @@ fn print_instruction<A: Allocator>(
     text: &mut String<A>,
     instruction: Instruction,
 ) -> Result<(), AllocError>
-    ensures { OnOk result (text.new.bytes.items ≡ text.old.bytes.items ++ ended (instruction_item (instruction_of instruction))) }
+    ensures { OnOk result (text.new.bytes.items ≡ text.old.bytes.items
+        ++ ended (instruction_item (instruction_of instruction))) }
 {
     let row = instruction.operation.row();
-    text.push_str(row.text)?;
+    text.push_str(instruction.operation.word())?;
     print_operand(text, row.a, instruction.a)?;
     print_operand(text, row.b, instruction.b)?;
     print_operand(text, row.c, instruction.c)?;
@@ -191,7 +209,8 @@ fn print_operand<A: Allocator>(
     operand: Operand,
     n: u8,
 ) -> Result<(), AllocError>
-    ensures { OnOk result (text.new.bytes.items ≡ text.old.bytes.items ++ with_spaces (operand_words (operand_of operand) n)) }
+    ensures { OnOk result (text.new.bytes.items ≡ text.old.bytes.items
+        ++ with_spaces (operand_words operand n)) }
 {
     match operand {
         Operand::Unused => Ok(()),
@@ -205,13 +224,14 @@ fn print_number<A: Allocator>(
     kind: Number,
     number: i32,
 ) -> Result<(), AllocError>
-    ensures { OnOk result (text.new.bytes.items ≡ text.old.bytes.items ++ with_spaces (number_words (number_of kind) number)) }
+    ensures { OnOk result (text.new.bytes.items ≡ text.old.bytes.items
+        ++ with_spaces (number_words kind number)) }
 {
     let n = number.unsigned_abs();
     match kind {
         Number::Unused => Ok(()),
         Number::Any | Number::Turns => write!(text, " {number}"),
-        Number::Type => write!(text, " t{n}"),
+        Number::TypeId => write!(text, " t{n}"),
         Number::Text => write!(text, " k{n}"),
         Number::TypedName => {
             let type_id = n / 256;

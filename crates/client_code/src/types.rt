@@ -71,8 +71,11 @@ fn first_wrong(file: &[u8], count: u32) -> u32
 /// The entries, if the file has all of them and each is used.
 fn used_entries(file: &[u8], count: u32) -> Option<&[u8]>
     requires { count ≤ MOST_TYPES }
-    ensures found { IfSome result (λ bytes. (20 + 16 * count ≤ length file.now) × (bytes.now ≡ slice file.now 20 (16 * count)) × (length bytes.now ≡ 16 * count) × ((k : ℕ) → k < count → IsUsed bytes.now k)) }
-    ensures none { IfNone result (20 + 16 * count ≤ length file.now → ((k : ℕ) → k < count → IsUsed (slice file.now 20 (16 * count)) k) → ⊥) }
+    ensures found { IfSome result (λ bytes. (20 + 16 * count ≤ length file.now)
+        × (bytes.now ≡ slice file.now 20 (16 * count)) × (length bytes.now ≡ 16 * count)
+        × ((k : ℕ) → k < count → IsUsed bytes.now k)) }
+    ensures none { IfNone result (20 + 16 * count ≤ length file.now →
+        ((k : ℕ) → k < count → IsUsed (slice file.now 20 (16 * count)) k) → ⊥) }
 {
     let at = TYPES_AT as usize;
     let bytes = file.get(at..at + (ENTRY * count) as usize)?;
@@ -89,7 +92,8 @@ pub fn read_types(file: &[u8], count: u32) -> Result<TypeTable, Fault>
     requires { count ≤ MOST_TYPES }
     ensures count { IfOk result (λ table. length table ≡ count) }
     ensures found { IfOk result (λ table. AreTypes file.now table) }
-    ensures wrong { IfErr result (λ fault. (table : Table) → length table ≡ count → AreTypes file.now table → ⊥) }
+    ensures wrong { IfErr result (λ fault. (table : Table) → length table ≡ count →
+        AreTypes file.now table → ⊥) }
     ensures fault { IfErr result (λ fault. (at : ℕ) × (fault ≡ Fault.BadCode at)) }
 {
     if let Some(bytes) = used_entries(file, count) {

@@ -30,8 +30,10 @@ impl<'a> Words<'a> {
 
     /// The next word.
     pub fn next(&mut self) -> Option<&'a [u8]>
-        ensures found { IfSome result (λ word. words_of self.old.line.now ≡ word.now ∷ words_of self.new.line.now) }
-        ensures shorter { IfSome result (λ word. length self.new.line.now < length self.old.line.now) }
+        ensures found { IfSome result (λ word. words_of self.old.line.now
+            ≡ word.now ∷ words_of self.new.line.now) }
+        ensures shorter { IfSome result (λ word. length self.new.line.now
+            < length self.old.line.now) }
         ensures none { IfNone result (words_of self.old.line.now ≡ []) }
         ensures stays { IfNone result (self.new.line.now ≡ self.old.line.now) }
     {

@@ -12,9 +12,12 @@ use std::alloc::{AllocError, Allocator};
 
 /// What the next line says that isn't skipped. `None` where there is none, or where no line of a client's text is so.
 fn next_item(lines: &mut Lines) -> Option<Item>
-    ensures found { IfSome result (λ item. (line : List ℕ) × (meant lines.old.text.now ≡ line ∷ meant lines.new.text.now) × SpellsItem line (item_of item)) }
+    ensures found { IfSome result (λ item. (line : List ℕ)
+        × (meant lines.old.text.now ≡ line ∷ meant lines.new.text.now)
+        × SpellsItem line (item_of item)) }
     ensures readable { IfSome result (λ item. IsReadable (item_of item)) }
-    ensures none { IfNone result ((line : List ℕ) (rest : List (List ℕ)) (item : text.Item) → meant lines.old.text.now ≡ line ∷ rest → IsWritten item → SpellsItem line item → ⊥) }
+    ensures none { IfNone result ((line : List ℕ) (rest : List (List ℕ)) (item : text.Item) →
+        meant lines.old.text.now ≡ line ∷ rest → IsWritten item → SpellsItem line item → ⊥) }
 {
     Item::read(lines.next_meant()?)
 }
@@ -22,8 +25,10 @@ fn next_item(lines: &mut Lines) -> Option<Item>
 /// Writes a file: the header of its lines, and what its lines say, up to the first that says nothing of a client. True where
 /// the file has all lines.
 pub fn write<A: Allocator>(file: &mut Vec<u8, A>, text: &[u8]) -> Result<bool, AllocError>
-    ensures whole { IfOk result (λ whole. IsTrue whole → (pieces : Pieces) × Says text.now pieces × (file.new.items ≡ file.old.items ++ file_of pieces)) }
-    ensures cut { IfOk result (λ whole. IsFalse whole → (tree : code.Client) → SpellsInText text.now tree → ⊥) }
+    ensures whole { IfOk result (λ whole. IsTrue whole → (pieces : Pieces) × Says text.now pieces
+        × (file.new.items ≡ file.old.items ++ file_of pieces)) }
+    ensures cut { IfOk result (λ whole. IsFalse whole → (tree : code.Client) →
+        SpellsInText text.now tree → ⊥) }
 {
     let header = header_of(text);
     header.append(file)?;

@@ -5,7 +5,8 @@ use Rattle.std.specs.List.{AllByRecursion}
 use Rattle.std.proofs.lemmas.List.{take-append-drop, take_all}
 use Rattle.std.proofs.lemmas.Option.{slice_get_cases}
 use Rattle.seg_spec.specs.Types.{Table}
-use Rattle.client_spec.specs.Code.{Constant, Operation, Instruction, Client}
+use Rattle.client_spec.specs.declared.table.Operation.{Operation}
+use Rattle.client_spec.specs.Code.{Constant, Instruction, Client}
 use Rattle.client_spec.specs.Operations.{row_of}
 use Rattle.client_spec.specs.Grammar.{mark, listing, IsInstruction, IsClient}
 use Rattle.client_spec.specs.Run.{bound}
@@ -23,17 +24,17 @@ use Rattle.client_verify.proofs.Walking.{followed, walked}
 
 -- right where it stands
 abbrev pub Right : Table → List Constant → Instruction → Type 0
-Right types constants i = IsInstruction types constants (row_of i.operation).place i
+Right types constants i = IsInstruction types constants (row_of i.operation).role i
 
 mark_else : (types : Table) (constants : List Constant) → Right types constants (mark Operation.Else)
-mark_else types constants = record { place = refl; a = refl; b = refl; c = refl; number = refl; range = mark_word Operation.Else }
+mark_else types constants = record { role = refl; a = refl; b = refl; c = refl; number = refl; range = mark_word Operation.Else }
 
 mark_end : (types : Table) (constants : List Constant) → Right types constants (mark Operation.End)
-mark_end types constants = record { place = refl; a = refl; b = refl; c = refl; number = refl; range = mark_word Operation.End }
+mark_end types constants = record { role = refl; a = refl; b = refl; c = refl; number = refl; range = mark_word Operation.End }
 
 all_right : (tree : Client) → IsClient tree → AllByRecursion (Right tree.types tree.constants) (listing tree.code)
 all_right tree valid =
-    all_listed tree.types tree.constants (Right tree.types tree.constants) (λ place i h. subst (λ p. IsInstruction tree.types tree.constants p i) (sym h.place) h) (mark_else tree.types tree.constants)
+    all_listed tree.types tree.constants (Right tree.types tree.constants) (λ role i h. subst (λ p. IsInstruction tree.types tree.constants p i) (sym h.role) h) (mark_else tree.types tree.constants)
     (mark_end tree.types tree.constants) tree.code valid.code
 
 one_of : {A : Type 0} (P : A → Type 0) (xs : List A) (i : ℕ) (x : A) → AllByRecursion P xs → slice_get xs i ≡ Some x → P x

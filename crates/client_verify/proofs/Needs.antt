@@ -9,8 +9,8 @@ use Rattle.seg_spec.specs.Types.{Form, Table, form_at}
 use Rattle.client_spec.specs.Code.{Constant}
 use Rattle.client_spec.specs.Grammar.{NamesBy, IsText}
 use Rattle.client_spec.specs.Typed.{Class, RegisterType, RegisterTypes, Reason, ◌>>=◌, Rule, known, is_owner, integer_needed, reference_needed, owner_needed, copy_needed, some_needed, name_needed, text_needed, integer_or_none, form_needed, required}
-use Rattle.client_code.specs.declared.table.Kinds.{Kinds}
-use Rattle.client_code.specs.declared.table.Kinds.TheVariants as kinds
+use Rattle.client_spec.specs.declared.table.Kinds.{Kinds}
+use Rattle.client_spec.specs.declared.table.Kinds.TheVariants as kinds
 use Rattle.client_verify.specs.Checking.{is_kind, is_kind_at, is_integer, is_copyable, is_content, leads_to}
 use Rattle.client_verify.proofs.Forms.{AreForms}
 

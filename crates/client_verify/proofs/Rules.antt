@@ -5,14 +5,13 @@ use Rattle.std.specs.Prelude.{ℤ, pos, negsuc, nat_abs, not, slice_get, slice_s
 use Rattle.seg_spec.specs.Types.{Table, form_at}
 use Rattle.client_spec.specs.Answer.{type_operand, constant_operand}
 use Rattle.client_spec.specs.Code.{Constant, Instruction}
-use Rattle.client_spec.specs.Operations.{Number}
+use Rattle.client_spec.specs.declared.table.Number.{Number}
 use Rattle.client_spec.specs.Grammar.{IsInstruction}
 use Rattle.client_spec.specs.Typed.{Class, RegisterType, RegisterTypes, Reason, ◌>>=◌, Rule, known, same_class, is_owner, required, ended, others_ended, combines, item_known, rule, known_after, gives, opens}
-use Rattle.client_code.specs.declared.operation.Operation.{Operation}
-use Rattle.client_code.specs.declared.operation.Operation.TheVariants as op
-use Rattle.client_code.specs.declared.table.Kinds.TheVariants as kinds
-use Rattle.client_code.specs.Views.{operation_of, definition}
-use Rattle.client_code.specs.Checks.{checks_of}
+use Rattle.client_spec.specs.declared.table.Operation.{Operation}
+use Rattle.client_spec.specs.declared.table.Operation.TheVariants as op
+use Rattle.client_spec.specs.declared.table.Kinds.TheVariants as kinds
+use Rattle.client_spec.specs.Operations.{row_of}
 use Rattle.client_verify.specs.Passing.{rule_at}
 use Rattle.client_verify.specs.Checking.{Step, part_known, is_integer, is_content, content_of, emptied, applied}
 use Rattle.client_verify.proofs.Shapes.{unless_lost, behind, from_first, in_turn, gives_same, opens_same}
@@ -23,10 +22,10 @@ use Rattle.client_verify.proofs.Forms.{i64_forms, str_forms, list_forms, own_for
 
 module _ (types : Table) (constants : List Constant) (a b c t k : ℕ) (ks : RegisterTypes) where
   abbrev step : Operation → ℤ → Step
-  step operation number = record { types = types; before = ks; checks = checks_of operation; place = (definition operation).place; a = a; b = b; c = c; number = number; type_id = t; constant = k }
+  step operation number = record { types = types; before = ks; row = row_of operation; a = a; b = b; c = c; number = number; type_id = t; constant = k }
 
   abbrev instruction : Operation → ℤ → Instruction
-  instruction operation number = record { operation = operation_of operation; a = a; b = b; c = c; number = number }
+  instruction operation number = record { operation = operation; a = a; b = b; c = c; number = number }
 
   -- ---- shapes of several operations
 
@@ -69,7 +68,7 @@ module _ (types : Table) (constants : List Constant) (a b c t k : ℕ) (ks : Reg
 
   -- ---- each operation
 
-  same : (operation : Operation) (number : ℤ) → IsInstruction types constants (definition operation).place (instruction operation number) → AreNamed (definition operation).number number t k → IsSame operation number
+  same : (operation : Operation) (number : ℤ) → IsInstruction types constants (row_of operation).role (instruction operation number) → AreNamed (row_of operation).number number t k → IsSame operation number
   unfolding rule
   same op.Const number right named = gives_int
   same op.Mov number right named = copy_same (known ks b) (behind (step op.Mov number)) (λ x. gives a x ks) (λ x. gives_same a x ks ks refl)
@@ -138,12 +137,11 @@ module _ (types : Table) (constants : List Constant) (a b c t k : ℕ) (ks : Reg
   same op.AddStr (negsuc n) right named = absurd right.number
 
 -- the columns of an operation say its rule
-pub rule_same : (s : Step) (constants : List Constant) (operation : Operation) → s.checks ≡ checks_of operation → s.place ≡ (definition operation).place
-    → IsInstruction s.types constants (definition operation).place (record { operation = operation_of operation; a = s.a; b = s.b; c = s.c; number = s.number })
-    → AreNamed (definition operation).number s.number s.type_id s.constant
-    → applied s ≡ rule_at s.types constants (record { operation = operation_of operation; a = s.a; b = s.b; c = s.c; number = s.number }) s.before
-rule_same s constants operation checks place right named =
+pub rule_same : (s : Step) (constants : List Constant) (operation : Operation) → s.row ≡ row_of operation
+    → IsInstruction s.types constants (row_of operation).role (record { operation = operation; a = s.a; b = s.b; c = s.c; number = s.number })
+    → AreNamed (row_of operation).number s.number s.type_id s.constant
+    → applied s ≡ rule_at s.types constants (record { operation = operation; a = s.a; b = s.b; c = s.c; number = s.number }) s.before
+rule_same s constants operation own right named =
     in_turn s
-    ∙ ap (λ columns. from_first (record s { checks = columns })) checks
-    ∙ ap (λ standing. from_first (record s { checks = checks_of operation; place = standing })) place
+    ∙ ap (λ row. from_first (record s { row = row })) own
     ∙ same s.types constants s.a s.b s.c s.type_id s.constant s.before operation s.number right named

@@ -22,19 +22,19 @@ module _ (s : Step) where
   -- where this is held in register b
   abbrev pub behind : RegisterType → Rule
   behind h = do
-    _ ← required (meets_by s.types s.number h s.checks.needs_c s.c (known s.before s.c)) Reason.WrongOperand
-    _ ← required (not (is_inside s.checks.ends (referred h) s.c)) Reason.PutIntoItself
-    unless_lost (is_lost (given_by s h s.checks.gives) s.before) (changed (given_by s h s.checks.gives) (ended_by s h s.checks.ends), changed_by s.place (given_by s h s.checks.gives) (ended_by s h s.checks.ends))
+    _ ← required (meets_by s.types s.number h s.row.needs_c s.c (known s.before s.c)) Reason.WrongOperand
+    _ ← required (not (is_inside s.row.ends (referred h) s.c)) Reason.PutIntoItself
+    unless_lost (is_lost (given_by s h s.row.gives) s.before) (changed (given_by s h s.row.gives) (ended_by s h s.row.ends), changed_by s.row.role (given_by s h s.row.gives) (ended_by s h s.row.ends))
 
   abbrev pub from_first : Rule
-  from_first = required (meets s s.checks.needs_b s.b) Reason.WrongOperand >>= λ _. behind (held s)
+  from_first = required (meets s s.row.needs_b s.b) Reason.WrongOperand >>= λ _. behind (held s)
 
   pub in_turn : applied s ≡ from_first
   in_turn =
       let h = held s in
-      let gives = given_by s h s.checks.gives in
-      let ended = ended_by s h s.checks.ends in
-      four_in_turn (meets s s.checks.needs_b s.b) (meets s s.checks.needs_c s.c) (not (is_inside s.checks.ends (referred h) s.c)) (not (is_lost gives s.before)) (changed gives ended, changed_by s.place gives ended)
+      let gives = given_by s h s.row.gives in
+      let ended = ended_by s h s.row.ends in
+      four_in_turn (meets s s.row.needs_b s.b) (meets s s.row.needs_c s.c) (not (is_inside s.row.ends (referred h) s.c)) (not (is_lost gives s.before)) (changed gives ended, changed_by s.row.role gives ended)
 
 -- ---- the register that changes
 

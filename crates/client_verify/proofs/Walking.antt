@@ -3,8 +3,10 @@
 use Rattle.std.proofs.Common.{◌≡◌, ℕ, ◌+◌, ◌-◌, ◌*◌, ◌^◌, ◌<◌, ◌≤◌, true, List, [], ◌∷◌, ◌++◌, length, refl, sym, ap, ◌∙◌, arith, rules, append_assoc, Ok, Err}
 use Rattle.std.specs.Prelude.{max, nat_lt, nat_abs, if◌then◌else◌}
 use Rattle.seg_spec.specs.Types.{Table}
-use Rattle.client_spec.specs.Code.{Constant, Operation, Instruction, Statement, plain, opener, loop, Statements, no_more, next}
-use Rattle.client_spec.specs.Operations.{Place, row_of}
+use Rattle.client_spec.specs.declared.table.Operation.{Operation}
+use Rattle.client_spec.specs.Code.{Constant, Instruction, Statement, plain, opener, loop, Statements, no_more, next}
+use Rattle.client_spec.specs.declared.table.Role.{Role}
+use Rattle.client_spec.specs.Operations.{row_of}
 use Rattle.client_spec.specs.Grammar.{mark, listing, listing_one, IsCode, IsStatement, depth, depth_one}
 use Rattle.client_spec.specs.Run.{bound, bound_one}
 use Rattle.client_spec.specs.Typed.{Checked, ◌>>=◌, RegisterTypes, known, known_after, integer_needed, rule_of, joined, kept, types_after, types_after_one}
@@ -42,33 +44,33 @@ module _ (types : Table) (constants : List Constant) where
   abbrev walk : Progress → List Instruction → Checked Progress
   walk p is = passes_all types constants p is
 
-  abbrev placed : Place → Instruction → Type 0
-  placed place i = (row_of i.operation).place ≡ place
+  abbrev placed : Role → Instruction → Type 0
+  placed role i = (row_of i.operation).role ≡ role
 
   -- ---- an instruction
 
-  past_plain : (i : Instruction) (ks : RegisterTypes) (n : ℕ) (parts : List Open) (rest : List Instruction) → placed Place.Plain i
+  past_plain : (i : Instruction) (ks : RegisterTypes) (n : ℕ) (parts : List Open) (rest : List Instruction) → placed Role.Plain i
       → walk (standing ks n parts) (i ∷ rest) ≡ (rule_of types constants i ks >>= λ after. walk (standing after.0 (at_most (n + 1)) parts) rest)
   past_plain i ks n parts rest e =
-      ap (λ place. passes_by types constants place (standing ks n parts) i >>= λ q. walk q rest) e
-      ∙ ap (λ place. (rule_by types constants place i ks >>= λ after. Ok (standing after.0 (at_most (n + 1)) parts)) >>= λ q. walk q rest) e
+      ap (λ role. passes_by types constants role (standing ks n parts) i >>= λ q. walk q rest) e
+      ∙ ap (λ role. (rule_by types constants role i ks >>= λ after. Ok (standing after.0 (at_most (n + 1)) parts)) >>= λ q. walk q rest) e
       ∙ given (rule_of types constants i ks) (λ after. standing after.0 (at_most (n + 1)) parts) (λ q. walk q rest) (λ after. walk (standing after.0 (at_most (n + 1)) parts) rest) (λ _. refl)
 
-  past_opener : (i : Instruction) (ks : RegisterTypes) (n : ℕ) (parts : List Open) (rest : List Instruction) → placed Place.Opener i → length parts < 8
+  past_opener : (i : Instruction) (ks : RegisterTypes) (n : ℕ) (parts : List Open) (rest : List Instruction) → placed Role.Opener i → length parts < 8
       → walk (standing ks n parts) (i ∷ rest) ≡ (rule_of types constants i ks >>= λ after. walk (standing after.0 0 (in_success after.1 (at_most (n + 1)) ∷ parts)) rest)
   past_opener i ks n parts rest e room =
-      ap (λ place. passes_by types constants place (standing ks n parts) i >>= λ q. walk q rest) e
-      ∙ ap (λ place. (rule_by types constants place i ks >>= λ after. Ok (inside after.0 (in_success after.1 (at_most (n + 1))) parts)) >>= λ q. walk q rest) e
+      ap (λ role. passes_by types constants role (standing ks n parts) i >>= λ q. walk q rest) e
+      ∙ ap (λ role. (rule_by types constants role i ks >>= λ after. Ok (inside after.0 (in_success after.1 (at_most (n + 1))) parts)) >>= λ q. walk q rest) e
       ∙ given (rule_of types constants i ks) (λ after. inside after.0 (in_success after.1 (at_most (n + 1))) parts) (λ q. walk q rest) (λ after. walk (standing after.0 0 (in_success after.1 (at_most (n + 1)) ∷ parts)) rest)
       (λ after. ap (λ now. walk (standing after.0 0 now) rest) (opened (in_success after.1 (at_most (n + 1))) parts room))
 
-  past_loop : (i : Instruction) (ks : RegisterTypes) (n : ℕ) (parts : List Open) (rest : List Instruction) → placed Place.Loop i → length parts < 8
+  past_loop : (i : Instruction) (ks : RegisterTypes) (n : ℕ) (parts : List Open) (rest : List Instruction) → placed Role.Loop i → length parts < 8
       → walk (standing ks n parts) (i ∷ rest) ≡ (integer_needed (known ks i.b) >>= λ _. walk (standing ks 0 (in_body ks (nat_abs i.number) (at_most (n + 1)) ∷ parts)) rest)
   past_loop i ks n parts rest e room =
       let body = in_body ks (nat_abs i.number) (at_most (n + 1)) in
       let needed = integer_needed (known ks i.b) in
-      ap (λ place. passes_by types constants place (standing ks n parts) i >>= λ q. walk q rest) e
-      ∙ ap (λ place. (rule_by types constants place i ks >>= λ _. Ok (inside ks body parts)) >>= λ q. walk q rest) e
+      ap (λ role. passes_by types constants role (standing ks n parts) i >>= λ q. walk q rest) e
+      ∙ ap (λ role. (rule_by types constants role i ks >>= λ _. Ok (inside ks body parts)) >>= λ q. walk q rest) e
       ∙ given (needed >>= λ _. known_after ks) (λ _. inside ks body parts) (λ q. walk q rest) (λ _. walk (standing ks 0 (body ∷ parts)) rest) (λ _. ap (λ now. walk (standing ks 0 now) rest) (opened body parts room))
       ∙ sym (followed needed (λ _. known_after ks) (λ _. walk (standing ks 0 (body ∷ parts)) rest) (λ _. walk (standing ks 0 (body ∷ parts)) rest) (λ _. refl))
 
@@ -107,12 +109,12 @@ module _ (types : Table) (constants : List Constant) where
       ∙ followed (f ks) g (λ mid. walk (standing mid (at_most (n + a)) parts) (ys ++ rest)) (λ after. walk (standing after (at_most (n + (a + b))) parts) rest)
       (λ mid. second mid (at_most (n + a)) parts rest (omega arith) (omega arith) ∙ ap (λ m. g mid >>= λ after. walk (standing after m parts) rest) (more_steps n a b))
 
-  walks_plain : (i : Instruction) → placed Place.Plain i → Walks (i ∷ []) (λ ks. rule_of types constants i ks >>= λ p. Ok p.0) 1 0
+  walks_plain : (i : Instruction) → placed Role.Plain i → Walks (i ∷ []) (λ ks. rule_of types constants i ks >>= λ p. Ok p.0) 1 0
   walks_plain i e ks n parts rest room few =
       let to = λ (after : RegisterTypes). walk (standing after (at_most (n + 1)) parts) rest in
       past_plain i ks n parts rest e ∙ followed (rule_of types constants i ks) (λ p. Ok p.0) (λ p. to p.0) to (λ _. refl)
 
-  walks_opener : (i : Instruction) (xs ys : List Instruction) (f g : Rules) (a b d e : ℕ) → placed Place.Opener i → Walks xs f a d → Walks ys g b e
+  walks_opener : (i : Instruction) (xs ys : List Instruction) (f g : Rules) (a b d e : ℕ) → placed Role.Opener i → Walks xs f a d → Walks ys g b e
       → Walks ((i ∷ xs ++ mark Operation.Else ∷ ys) ++ mark Operation.End ∷ []) (λ ks. rule_of types constants i ks >>= λ p. f p.0 >>= λ good. g p.1 >>= λ bad. joined good bad) (1 + max a b) (1 + max d e)
   walks_opener i xs ys f g a b d e place on_success on_code ks n parts rest room few =
       let before = at_most (n + 1) in
@@ -132,7 +134,7 @@ module _ (types : Table) (constants : List Constant) where
       (λ p. on_success p.0 0 (in_success p.1 before ∷ parts) (mark Operation.Else ∷ code) (omega arith) (omega arith)
       ∙ followed (f p.0) (λ good. g p.1 >>= λ bad. joined good bad) (λ good. walk (standing good k (in_success p.1 before ∷ parts)) (mark Operation.Else ∷ code)) to (λ good. in_code good p.1))
 
-  walks_loop : (i : Instruction) (xs : List Instruction) (f : Rules) (a d : ℕ) → placed Place.Loop i → Walks xs f a d
+  walks_loop : (i : Instruction) (xs : List Instruction) (f : Rules) (a d : ℕ) → placed Role.Loop i → Walks xs f a d
       → Walks (i ∷ xs ++ mark Operation.End ∷ []) (λ ks. integer_needed (known ks i.b) >>= λ _. f ks >>= λ after. kept ks after >>= λ _. Ok ks) (1 + nat_abs i.number * (1 + a)) (1 + d)
   walks_loop i xs f a d place in_turn ks n parts rest room few =
       let before = at_most (n + 1) in
@@ -158,7 +160,7 @@ module _ (types : Table) (constants : List Constant) where
         walks_on (listing_one c) (listing cs) (types_after_one types constants c) (types_after types constants cs) (bound_one c) (bound cs) (depth_one c) (depth cs) (walked_one c h.0) (walked cs h.1)
 
     walked_one : (c : Statement) → IsStatement types constants c → Walks (listing_one c) (types_after_one types constants c) (bound_one c) (depth_one c)
-    walked_one (plain i) h = walks_plain i h.place
+    walked_one (plain i) h = walks_plain i h.role
     walked_one (opener i s c) h =
-        walks_opener i (listing s) (listing c) (types_after types constants s) (types_after types constants c) (bound s) (bound c) (depth s) (depth c) h.0.place (walked s h.1) (walked c h.2)
-    walked_one (loop i s) h = walks_loop i (listing s) (types_after types constants s) (bound s) (depth s) h.0.place (walked s h.1)
+        walks_opener i (listing s) (listing c) (types_after types constants s) (types_after types constants c) (bound s) (bound c) (depth s) (depth c) h.0.role (walked s h.1) (walked c h.2)
+    walked_one (loop i s) h = walks_loop i (listing s) (types_after types constants s) (bound s) (depth s) h.0.role (walked s h.1)

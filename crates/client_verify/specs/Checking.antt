@@ -1,28 +1,27 @@
 -- What the verifier makes of an instruction by the columns of the instruction table.
---     Step     what it reads: the columns, the operands, and what is known in front of the instruction
+--     Step     what it reads: the row, the operands, and what is known in front of the instruction
 --     meets, given, ended_in     whether a register holds what is needed, what a register gets, what is known once references have ended
 --     checked_first, known_behind, applied     the first reason to refuse the instruction, what is known behind it in both parts, or either
 use Rattle.std.specs.Prelude.{⊤, ℕ, ℤ, pos, negsuc, List, Bool, true, false, not, ◌==◌, if◌then◌else◌, Option, Some, None, Ok, slice_get, slice_set}
 use Rattle.std.specs.Option.{is_some, option_and_then}
 use Rattle.seg_spec.specs.Types.{Form, Table, form_at}
-use Rattle.client_spec.specs.Operations.{Place}
+use Rattle.client_spec.specs.declared.table.Role.{Role}
+use Rattle.client_spec.specs.declared.table.Row.{Row}
 use Rattle.client_spec.specs.Typed.{Class, RegisterType, RegisterTypes, Reason, Checked, ◌>>=◌, Rule, known, same_class, is_owner, required, ended, others_ended}
-use Rattle.client_code.specs.declared.table.Need.{Need}
-use Rattle.client_code.specs.declared.table.Need.TheVariants as need
-use Rattle.client_code.specs.declared.table.Kinds.{Kinds}
-use Rattle.client_code.specs.declared.table.Kinds.TheVariants as kinds
-use Rattle.client_code.specs.declared.table.Gives.{Gives}
-use Rattle.client_code.specs.declared.table.Gives.TheVariants as gives
-use Rattle.client_code.specs.declared.table.Ends.{Ends}
-use Rattle.client_code.specs.declared.table.Ends.TheVariants as ends
-use Rattle.client_code.specs.Checks.{Checks}
+use Rattle.client_spec.specs.declared.table.Need.{Need}
+use Rattle.client_spec.specs.declared.table.Need.TheVariants as need
+use Rattle.client_spec.specs.declared.table.Kinds.{Kinds}
+use Rattle.client_spec.specs.declared.table.Kinds.TheVariants as kinds
+use Rattle.client_spec.specs.declared.table.Gives.{Gives}
+use Rattle.client_spec.specs.declared.table.Gives.TheVariants as gives
+use Rattle.client_spec.specs.declared.table.Ends.{Ends}
+use Rattle.client_spec.specs.declared.table.Ends.TheVariants as ends
 
 -- an instruction, with the type and the constant that its number names, and what is known in front of it
 pub record Step : Type 0 where
   pub types : Table
   pub before : RegisterTypes
-  pub checks : Checks
-  pub place : Place
+  pub row : Row
   pub a : ℕ
   pub b : ℕ
   pub c : ℕ
@@ -139,17 +138,17 @@ part_known (Some x) (Some t) = RegisterType.Reference x.0 t
 part_known x t = RegisterType.Int
 
 -- in the else part the register holds the code
-abbrev pub otherwise_by : Place → RegisterType → RegisterType
-otherwise_by Place.Opener k = RegisterType.Int
-otherwise_by place k = k
+abbrev pub otherwise_by : Role → RegisterType → RegisterType
+otherwise_by Role.Opener k = RegisterType.Int
+otherwise_by role k = k
 
 abbrev pub changed : Option (ℕ × RegisterType) → RegisterTypes → RegisterTypes
 changed None ks = ks
 changed (Some x) ks = slice_set ks x.0 x.1
 
-abbrev pub changed_by : Place → Option (ℕ × RegisterType) → RegisterTypes → RegisterTypes
-changed_by place None ks = ks
-changed_by place (Some x) ks = slice_set ks x.0 (otherwise_by place x.1)
+abbrev pub changed_by : Role → Option (ℕ × RegisterType) → RegisterTypes → RegisterTypes
+changed_by role None ks = ks
+changed_by role (Some x) ks = slice_set ks x.0 (otherwise_by role x.1)
 
 -- an owner would be lost
 abbrev pub is_lost : Option (ℕ × RegisterType) → RegisterTypes → Bool
@@ -196,7 +195,7 @@ module _ (s : Step) where
   given_by h gives.Forgotten = Some (s.b, RegisterType.Undefined)
 
   abbrev pub given : Option (ℕ × RegisterType)
-  given = given_by held s.checks.gives
+  given = given_by held s.row.gives
 
   abbrev pub ended_by : RegisterType → Ends → RegisterTypes
   ended_by h ends.Nothing = s.before
@@ -207,18 +206,18 @@ module _ (s : Step) where
   ended_by h ends.Moved = emptied s.c (others (referred h) s.b s.before)
 
   abbrev pub ended_in : RegisterTypes
-  ended_in = ended_by held s.checks.ends
+  ended_in = ended_by held s.row.ends
 
   abbrev pub checked_first : Checked (⊤)
   checked_first = do
-    _ ← required (meets s.checks.needs_b s.b) Reason.WrongOperand
-    _ ← required (meets s.checks.needs_c s.c) Reason.WrongOperand
-    _ ← required (not (is_inside s.checks.ends (referred held) s.c)) Reason.PutIntoItself
+    _ ← required (meets s.row.needs_b s.b) Reason.WrongOperand
+    _ ← required (meets s.row.needs_c s.c) Reason.WrongOperand
+    _ ← required (not (is_inside s.row.ends (referred held) s.c)) Reason.PutIntoItself
     required (not (is_lost given s.before)) Reason.OwnerLost
 
   -- in the success part, and in the else part
   abbrev pub known_behind : RegisterTypes × RegisterTypes
-  known_behind = (changed given ended_in, changed_by s.place given ended_in)
+  known_behind = (changed given ended_in, changed_by s.row.role given ended_in)
 
   abbrev pub applied : Rule
   applied = checked_first >>= λ _. Ok known_behind

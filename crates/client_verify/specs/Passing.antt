@@ -8,7 +8,8 @@
 use Rattle.std.specs.Prelude.{ℕ, ◌+◌, ◌*◌, ◌^◌, ◌-◌, min, max, nat_abs, List, [], ◌∷◌, length, replicate, nat_lt, if◌then◌else◌, Ok}
 use Rattle.seg_spec.specs.Types.{Table}
 use Rattle.client_spec.specs.Code.{Constant, Instruction}
-use Rattle.client_spec.specs.Operations.{Place, row_of}
+use Rattle.client_spec.specs.declared.table.Role.{Role}
+use Rattle.client_spec.specs.Operations.{row_of}
 use Rattle.client_spec.specs.Typed.{Checked, ◌>>=◌, RegisterType, RegisterTypes, Rule, known, known_after, integer_needed, rule_of, joined, kept}
 
 -- a part of the code that is open, and what its end needs: what was known where its other part begins or ended, the
@@ -57,25 +58,25 @@ closed p (in_body found turns before ∷ parts) = kept found p.known >>= λ _. O
 closed p [] = Ok p
 
 module _ (types : Table) (constants : List Constant) where
-  abbrev pub rule_by : Place → Instruction → RegisterTypes → Rule
-  rule_by Place.Plain i ks = rule_of types constants i ks
-  rule_by Place.Opener i ks = rule_of types constants i ks
-  rule_by Place.Loop i ks = integer_needed (known ks i.b) >>= λ _. known_after ks
-  rule_by Place.Else i ks = known_after ks
-  rule_by Place.End i ks = known_after ks
+  abbrev pub rule_by : Role → Instruction → RegisterTypes → Rule
+  rule_by Role.Plain i ks = rule_of types constants i ks
+  rule_by Role.Opener i ks = rule_of types constants i ks
+  rule_by Role.Loop i ks = integer_needed (known ks i.b) >>= λ _. known_after ks
+  rule_by Role.Else i ks = known_after ks
+  rule_by Role.End i ks = known_after ks
 
   abbrev pub rule_at : Instruction → RegisterTypes → Rule
-  rule_at i ks = rule_by (row_of i.operation).place i ks
+  rule_at i ks = rule_by (row_of i.operation).role i ks
 
-  abbrev pub passes_by : Place → Progress → Instruction → Checked Progress
-  passes_by Place.Plain p i = rule_at i p.known >>= λ after. Ok (record p { known = after.0; steps = at_most (p.steps + 1) })
-  passes_by Place.Opener p i = rule_at i p.known >>= λ after. Ok (inside after.0 (in_success after.1 (at_most (p.steps + 1))) p.parts)
-  passes_by Place.Loop p i = rule_at i p.known >>= λ after. Ok (inside p.known (in_body p.known (nat_abs i.number) (at_most (p.steps + 1))) p.parts)
-  passes_by Place.Else p i = Ok (turned p p.parts)
-  passes_by Place.End p i = closed p p.parts
+  abbrev pub passes_by : Role → Progress → Instruction → Checked Progress
+  passes_by Role.Plain p i = rule_at i p.known >>= λ after. Ok (record p { known = after.0; steps = at_most (p.steps + 1) })
+  passes_by Role.Opener p i = rule_at i p.known >>= λ after. Ok (inside after.0 (in_success after.1 (at_most (p.steps + 1))) p.parts)
+  passes_by Role.Loop p i = rule_at i p.known >>= λ after. Ok (inside p.known (in_body p.known (nat_abs i.number) (at_most (p.steps + 1))) p.parts)
+  passes_by Role.Else p i = Ok (turned p p.parts)
+  passes_by Role.End p i = closed p p.parts
 
   abbrev pub passes : Progress → Instruction → Checked Progress
-  passes p i = passes_by (row_of i.operation).place p i
+  passes p i = passes_by (row_of i.operation).role p i
 
   abbrev pub passes_all : Progress → List Instruction → Checked Progress
   passes_all p [] = Ok p

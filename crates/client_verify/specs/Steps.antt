@@ -3,8 +3,6 @@
 --     types_of, before_of, instruction_in     the types, what is known in front of it, and itself
 use Rattle.seg_spec.specs.Types.{Table}
 use Rattle.client_code.specs.declared.instruction.Instruction.{Instruction}
-use Rattle.client_code.specs.Views.{place_of}
-use Rattle.client_code.specs.Checks.{checks_in}
 use Rattle.client_verify.specs.declared.registers.Registers.{Registers}
 use Rattle.client_verify.specs.declared.rule.Rule.{Rule}
 use Rattle.client_verify.specs.Views.{registers_of}
@@ -14,8 +12,7 @@ abbrev pub step_of : Rule → Step
 step_of rule = record {
   types = rule.types.now;
   before = registers_of rule.before.now;
-  checks = checks_in rule.row.now;
-  place = place_of rule.row.now.place;
+  row = rule.row;
   a = rule.instruction.a;
   b = rule.instruction.b;
   c = rule.instruction.c;

@@ -1,12 +1,13 @@
 -- The verifier's state as the definitions know it.
 --     progress_of verifier                        where it stands
---     PassesBy place old instruction new result   what an instruction that stands so makes of it
+--     PassesBy role old instruction new result   what an instruction of this role makes of it
 use Rattle.std.specs.Prelude.{◌≡◌, ⊤, ℕ, List, map, reverse, Result}
 use Rattle.client_spec.specs.Code.{Constant}
-use Rattle.client_spec.specs.Operations.{Place}
+use Rattle.client_spec.specs.declared.table.Role.{Role}
+use Rattle.client_spec.specs.Operations.{row_of}
 use Rattle.client_spec.specs.Grammar.{IsInstruction}
 use Rattle.client_code.specs.declared.instruction.Instruction.{Instruction}
-use Rattle.client_code.specs.Views.{instruction_of, definition}
+use Rattle.client_code.specs.Views.{instruction_of}
 use Rattle.client_verify.specs.declared.reason.Reason.{Reason}
 use Rattle.client_verify.specs.declared.verifier.Part.{Part}
 use Rattle.client_verify.specs.declared.verifier.Part.TheVariants as part
@@ -26,7 +27,7 @@ open_of part = part_of part.part part.steps
 abbrev pub progress_of : Verifier → passing.Progress
 progress_of verifier = record { known = registers_of verifier.registers; steps = verifier.steps; parts = reverse (map open_of verifier.parts.items) }
 
-abbrev pub PassesBy : Place → Verifier → Instruction → Verifier → Result (⊤) Reason → Type 0
-PassesBy place old instruction new result =
-    (constants : List Constant) → IsInstruction old.types.now constants (definition instruction.operation).place (instruction_of instruction)
-    → checked (λ _. progress_of new) result ≡ passing.passes_by old.types.now constants place (progress_of old) (instruction_of instruction)
+abbrev pub PassesBy : Role → Verifier → Instruction → Verifier → Result (⊤) Reason → Type 0
+PassesBy role old instruction new result =
+    (constants : List Constant) → IsInstruction old.types.now constants (row_of instruction.operation).role (instruction_of instruction)
+    → checked (λ _. progress_of new) result ≡ passing.passes_by old.types.now constants role (progress_of old) (instruction_of instruction)

@@ -4,8 +4,9 @@ ghost use Rattle.client_verify.specs.Views.{class_of, known_of, registers_of, ch
 
 use crate::reason::Reason;
 use crate::register::{Class, RegisterType};
+use client_code::REGISTERS;
 
-const COUNT: usize = 16;
+const COUNT: usize = REGISTERS as usize;
 
 /// What is known of each register at a place of the code.
 #[derive(Debug, Clone, Copy, PartialEq, Eq)]
@@ -54,7 +55,8 @@ impl Registers {
 
     /// Ends the references of a class, but for the one in a register.
     pub fn end_others(&mut self, class: Class, register: u8)
-        ensures { registers_of self.new ≡ typed.others_ended (class_of class) register (registers_of self.old) }
+        ensures { registers_of self.new
+            ≡ typed.others_ended (class_of class) register (registers_of self.old) }
     {
         let kept = self.get(register);
         self.end(class);
@@ -63,7 +65,9 @@ impl Registers {
 
     /// Ends the references into the object of a register, which owns it no more.
     pub fn empty(&mut self, register: u8)
-        ensures { registers_of self.new ≡ slice_set (typed.ended (typed.Class.Register register) (registers_of self.old)) register typed.RegisterType.Undefined }
+        ensures { registers_of self.new
+            ≡ slice_set (typed.ended (typed.Class.Register register) (registers_of self.old))
+            register typed.RegisterType.Undefined }
     {
         self.end(Class::Register(register));
         self.set(register, RegisterType::Undefined);
@@ -71,7 +75,8 @@ impl Registers {
 
     /// What is known behind the `END` of an opener, from what is known at the ends of its two parts.
     pub fn joined(&self, other: &Registers) -> Result<Registers, Reason>
-        ensures { checked registers_of result ≡ typed.joined (registers_of self.now) (registers_of other.now) }
+        ensures { checked registers_of result
+            ≡ typed.joined (registers_of self.now) (registers_of other.now) }
     {
         let mut both = Registers::new();
         for i in 0..COUNT {
@@ -82,7 +87,8 @@ impl Registers {
 
     /// Whether a loop's body, which found these registers, may leave those.
     pub fn keeps(&self, after: &Registers) -> Result<(), Reason>
-        ensures { checked (λ x. x) result ≡ typed.kept (registers_of self.now) (registers_of after.now) }
+        ensures { checked (λ x. x) result
+            ≡ typed.kept (registers_of self.now) (registers_of after.now) }
     {
         for i in 0..COUNT {
             self.types[i].keeps(after.types[i])?;

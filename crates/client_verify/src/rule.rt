@@ -1,16 +1,16 @@
 ghost use Rattle.std.specs.Prelude.{◌≡◌, ◌≢◌, ◌≤◌, ◌/◌, ◌%◌, ℕ, List, pos, length};
 ghost use Rattle.client_spec.specs.Code as code;
-ghost use Rattle.client_spec.specs.Operations as table;
+ghost use Rattle.client_spec.specs.declared.table.Number.TheVariants as number;
+ghost use Rattle.client_spec.specs.Operations.{row_of};
 ghost use Rattle.client_spec.specs.Grammar.{IsInstruction};
-ghost use Rattle.client_code.specs.Views.{instruction_of, definition, place_of};
-ghost use Rattle.client_code.specs.Checks.{checks_in, checks_of};
+ghost use Rattle.client_code.specs.Views.{instruction_of};
 ghost use Rattle.client_verify.specs.Views.{registers_of, both_of, checked};
 ghost use Rattle.client_verify.specs.Passing.{rule_at};
 
 use crate::reason::Reason;
 use crate::register::{Class, RegisterType};
 use crate::registers::Registers;
-use client_code::{Ends, Gives, Instruction, Kinds, Need, Place, Row};
+use client_code::{Ends, Gives, Instruction, Kinds, Need, Role, Row};
 use seg_layout::{Fields, Type, TypeId, TypeTable};
 
 /// What is known behind an instruction: in its success part, and in its else part. Both are the same where it has no parts.
@@ -26,14 +26,15 @@ pub struct Rule<'a> {
     types: &'a TypeTable,
     before: &'a Registers,
     instruction: Instruction,
-    row: &'static Row,
+    row: Row,
     // what the number names, where the operation has such a number
     type_id: TypeId,
     constant: u8,
-    ghost own: { checks_in row.now ≡ checks_of instruction.operation },
-    ghost place: { place_of row.now.place ≡ (definition instruction.operation).place },
-    ghost named: { (definition instruction.operation).number ≡ table.Number.TypedName → (n : ℕ) → instruction.number ≡ pos n → type_id ≡ n / 256 % 256 },
-    ghost unique: { (definition instruction.operation).number ≢ table.Number.TypedName → (n : ℕ) → instruction.number ≡ pos n → type_id ≡ n % 256 },
+    ghost own: { row ≡ row_of instruction.operation },
+    ghost named: { (row_of instruction.operation).number ≡ number.TypedName → (n : ℕ) →
+        instruction.number ≡ pos n → type_id ≡ n / 256 % 256 },
+    ghost unique: { (row_of instruction.operation).number ≢ number.TypedName → (n : ℕ) →
+        instruction.number ≡ pos n → type_id ≡ n % 256 },
     ghost name: { (n : ℕ) → instruction.number ≡ pos n → constant ≡ n % 256 },
     ghost few: { length types.now ≤ 32 },
 }
@@ -67,7 +68,7 @@ impl<'a> Rule<'a> {
     /// What is known behind the instruction, or the first reason to reject it.
     pub fn apply(&self) -> Result<After, Reason>
         ensures { (constants : List code.Constant) →
-            IsInstruction (types_of self.now) constants (definition (instruction_in self.now).operation).place
+            IsInstruction (types_of self.now) constants (row_of (instruction_in self.now).operation).role
             (instruction_of (instruction_in self.now)) →
             checked both_of result ≡ rule_at (types_of self.now) constants
             (instruction_of (instruction_in self.now)) (registers_of (before_of self.now)) }
@@ -111,17 +112,22 @@ impl<'a> Rule<'a> {
 
     /// Whether the object of register c is to be put into a part of itself.
     fn is_inside(&self) -> bool
-        ensures { result ≡ is_inside (step_of self.now).checks.ends (referred (held (step_of self.now))) self.now.instruction.c }
+        ensures { result ≡ is_inside (step_of self.now).row.ends
+            (referred (held (step_of self.now))) self.now.instruction.c }
     {
-        match (self.row.ends, self.reference()) {
-            (Ends::Moved, Some((class, _))) => class == Class::Register(self.instruction.c),
-            _ => false,
+        match self.row.ends {
+            Ends::Moved => match self.reference() {
+                Some((class, _)) => class == Class::Register(self.instruction.c),
+                None => false,
+            },
+            Ends::Nothing | Ends::Others | Ends::Name | Ends::Unique | Ends::Dropped => false,
         }
     }
 
     /// Whether the register that changes owns an object.
     fn loses_owner(&self) -> bool
-        ensures { result ≡ is_lost (given_in (step_of self.now)) (registers_of self.now.before.now) }
+        ensures { result ≡ is_lost (given_in (step_of self.now))
+            (registers_of self.now.before.now) }
     {
         match self.given() {
             Some((register, _)) => self.before.get(register).is_owner(),
@@ -153,7 +159,8 @@ impl<'a> Rule<'a> {
 
     /// Whether a type is of these kinds. One past the table's end is of any kind, and of no other.
     fn is_of(&self, kinds: Kinds, type_id: TypeId) -> bool
-        ensures { result ≡ is_kind_at self.now.instruction.number kinds (form_at self.now.types.now type_id) }
+        ensures { result ≡ is_kind_at self.now.instruction.number kinds
+            (form_at self.now.types.now type_id) }
     {
         match self.types.kind(type_id) {
             Some(kind) => self.is_kind(kinds, kind),
@@ -210,7 +217,8 @@ impl<'a> Rule<'a> {
 
     /// The reference in register b.
     fn reference(&self) -> Option<(Class, TypeId)>
-        ensures { option_map (λ x. (class_of x.0, x.1)) result ≡ referred (held (step_of self.now)) }
+        ensures { option_map (λ x. (class_of x.0, x.1)) result
+            ≡ referred (held (step_of self.now)) }
     {
         match self.before.get(self.instruction.b) {
             RegisterType::Reference(class, to) => Some((class, to)),
@@ -261,7 +269,8 @@ impl<'a> Rule<'a> {
 
     /// A reference to a part of what register b leads to. A part of a text is a number.
     fn part_reference(&self) -> RegisterType
-        ensures { known_of result ≡ part_known (referred (held (step_of self.now))) (part_in (step_of self.now)) }
+        ensures { known_of result ≡ part_known (referred (held (step_of self.now)))
+            (part_in (step_of self.now)) }
     {
         match (self.reference(), self.part()) {
             (Some((class, _)), Some(part)) => RegisterType::Reference(class, part),
@@ -271,11 +280,11 @@ impl<'a> Rule<'a> {
 
     /// What the register that changes holds in the else part: the code.
     fn otherwise(&self, holds: RegisterType) -> RegisterType
-        ensures { known_of result ≡ otherwise_by (step_of self.now).place (known_of holds) }
+        ensures { known_of result ≡ otherwise_by (step_of self.now).row.role (known_of holds) }
     {
-        match self.row.place {
-            Place::Opener => RegisterType::Int,
-            _ => holds,
+        match self.row.role {
+            Role::Opener => RegisterType::Int,
+            Role::Plain | Role::Loop | Role::Else | Role::End => holds,
         }
     }
 
@@ -301,7 +310,9 @@ impl<'a> Rule<'a> {
 
     /// Ends the references of the class of the one in register b, but for that one.
     fn end_others(&self, registers: &mut Registers)
-        ensures { registers_of registers.new ≡ others (referred (held (step_of self.now))) self.now.instruction.b (registers_of registers.old) }
+        ensures { registers_of registers.new
+            ≡ others (referred (held (step_of self.now))) self.now.instruction.b
+            (registers_of registers.old) }
     {
         if let Some((class, _)) = self.reference() {
             registers.end_others(class, self.instruction.b);

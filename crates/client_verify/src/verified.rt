@@ -1,10 +1,8 @@
 ghost use Rattle.std.specs.Prelude.{◌≡◌, ◌≤◌, ◌↔◌, IsTrue};
 ghost use Rattle.seg_spec.specs.Types.{Agree};
-ghost use Rattle.client_spec.specs.Code as code;
-ghost use Rattle.client_spec.specs.Grammar.{Spells};
 ghost use Rattle.client_spec.specs.Run as run;
 ghost use Rattle.client_spec.specs.Safe.{IsAccepted, NeverGoesWrong};
-ghost use Rattle.client_code.specs.Clients.{bytes_of};
+ghost use Rattle.client_code.specs.Clients.{OfTree};
 ghost use Rattle.client_verify.specs.declared.verified.TheConstants.{MOST_STEPS};
 
 use client_code::Client;
@@ -24,9 +22,9 @@ pub struct Verified<'a> {
     types: TypeTable,
     bound: u64,
     ghost within: { bound ≤ MOST_STEPS },
-    ghost same_types: { (tree : code.Client) → Spells (bytes_of client) tree → types ≡ tree.types },
-    ghost accepted: { (tree : code.Client) → Spells (bytes_of client) tree → ∥ IsAccepted tree ∥₁ },
-    ghost bounded: { (tree : code.Client) → Spells (bytes_of client) tree → bound ≡ run.bound tree.code },
+    ghost same_types: { OfTree client (λ tree. types ≡ tree.types) },
+    ghost accepted: { OfTree client (λ tree. ∥ IsAccepted tree ∥₁) },
+    ghost bounded: { OfTree client (λ tree. bound ≡ run.bound tree.code) },
 }
 
 impl<'a> Verified<'a> {
@@ -35,15 +33,14 @@ impl<'a> Verified<'a> {
     /// The client. It never meets an instruction without a row, and takes no more steps than its bound.
     pub fn client(&self) -> Client<'a>
         ensures client { result ≡ client_of self.now }
-        ensures safe { (tree : code.Client) → Spells (bytes_of result) tree → NeverGoesWrong tree }
+        ensures safe { OfTree result NeverGoesWrong }
     {
         self.client
     }
 
     /// The client's types.
     pub fn types(&self) -> &TypeTable
-        ensures { (tree : code.Client) → Spells (bytes_of (client_of self.now)) tree →
-            result.now ≡ tree.types }
+        ensures { OfTree (client_of self.now) (λ tree. result.now ≡ tree.types) }
     {
         &self.types
     }
@@ -51,16 +48,14 @@ impl<'a> Verified<'a> {
     /// The steps that a run of the client takes at most.
     pub fn bound(&self) -> u64
         ensures few { result ≤ MOST_STEPS }
-        ensures bound { (tree : code.Client) → Spells (bytes_of (client_of self.now)) tree →
-            result ≡ run.bound tree.code }
+        ensures bound { OfTree (client_of self.now) (λ tree. result ≡ run.bound tree.code) }
     {
         self.bound
     }
 
     /// Whether a table and the client's types agree where both have an entry.
     pub fn fits(&self, table: &TypeTable) -> bool
-        ensures { (tree : code.Client) → Spells (bytes_of (client_of self.now)) tree →
-            (IsTrue result ↔ Agree table.now tree.types) }
+        ensures { OfTree (client_of self.now) (λ tree. IsTrue result ↔ Agree table.now tree.types) }
     {
         table.extends(&self.types).is_ok()
     }

@@ -1,8 +1,9 @@
 ghost use Rattle.std.specs.Prelude.{◌≡◌, ◌+◌, List, IfOk, IfErr, Ok, Err};
 ghost use Rattle.client_spec.specs.Code as code;
 ghost use Rattle.client_spec.specs.Grammar.{IsInstruction};
-ghost use Rattle.client_spec.specs.Operations as table;
-ghost use Rattle.client_code.specs.Views.{instruction_of, definition};
+ghost use Rattle.client_spec.specs.declared.table.Role.TheVariants as role;
+ghost use Rattle.client_spec.specs.Operations.{row_of};
+ghost use Rattle.client_code.specs.Views.{instruction_of};
 ghost use Rattle.client_verify.specs.Views.{reason_of, registers_of, checked};
 ghost use Rattle.client_verify.specs.Passing.{start, passes, at_most, inside, turned, closed};
 ghost use Rattle.client_verify.specs.Verifiers.{part_of, progress_of, PassesBy};
@@ -11,7 +12,7 @@ use crate::reason::Reason;
 use crate::registers::Registers;
 use crate::rule::Rule;
 use arrayvec::ArrayVec;
-use client_code::{DEPTH, Instruction, Place};
+use client_code::{DEPTH, Instruction, Role};
 use seg_layout::TypeTable;
 
 /// A part of the code that is open, and what its end needs.
@@ -77,26 +78,32 @@ impl<'a> Verifier<'a> {
     /// Goes past an instruction.
     pub fn pass(&mut self, instruction: Instruction) -> Result<(), Reason>
         ensures types { self.new.types.now ≡ self.old.types.now }
-        ensures passed { IfOk result (λ _. (constants : List code.Constant) → IsInstruction self.old.types.now constants (definition instruction.operation).place (instruction_of instruction)
-            → passes self.old.types.now constants (progress_of self.old) (instruction_of instruction) ≡ Ok (progress_of self.new)) }
-        ensures refused { IfErr result (λ reason. (constants : List code.Constant) → IsInstruction self.old.types.now constants (definition instruction.operation).place (instruction_of instruction)
-            → passes self.old.types.now constants (progress_of self.old) (instruction_of instruction) ≡ Err (reason_of reason)) }
+        ensures passed { IfOk result (λ _. (constants : List code.Constant) →
+            IsInstruction self.old.types.now constants (row_of instruction.operation).role
+            (instruction_of instruction)
+            → passes self.old.types.now constants (progress_of self.old)
+            (instruction_of instruction) ≡ Ok (progress_of self.new)) }
+        ensures refused { IfErr result (λ reason. (constants : List code.Constant) →
+            IsInstruction self.old.types.now constants (row_of instruction.operation).role
+            (instruction_of instruction)
+            → passes self.old.types.now constants (progress_of self.old)
+            (instruction_of instruction) ≡ Err (reason_of reason)) }
     {
-        match instruction.operation.row().place {
-            Place::Plain => self.perform(instruction),
-            Place::Opener => self.open(instruction),
-            Place::Loop => self.enter(instruction),
-            Place::Else => {
+        match instruction.operation.row().role {
+            Role::Plain => self.perform(instruction),
+            Role::Opener => self.open(instruction),
+            Role::Loop => self.enter(instruction),
+            Role::Else => {
                 self.turn();
                 Ok(())
             }
-            Place::End => self.close(),
+            Role::End => self.close(),
         }
     }
 
     fn perform(&mut self, instruction: Instruction) -> Result<(), Reason>
         ensures types { self.new.types.now ≡ self.old.types.now }
-        ensures passes { PassesBy table.Place.Plain self.old instruction self.new result }
+        ensures passes { PassesBy role.Plain self.old instruction self.new result }
     {
         self.registers = Rule::new(self.types, &self.registers, instruction)
             .apply()?
@@ -107,7 +114,7 @@ impl<'a> Verifier<'a> {
 
     fn open(&mut self, instruction: Instruction) -> Result<(), Reason>
         ensures types { self.new.types.now ≡ self.old.types.now }
-        ensures passes { PassesBy table.Place.Opener self.old instruction self.new result }
+        ensures passes { PassesBy role.Opener self.old instruction self.new result }
     {
         let after = Rule::new(self.types, &self.registers, instruction).apply()?;
         self.push(Part::Success {
@@ -119,7 +126,7 @@ impl<'a> Verifier<'a> {
 
     fn enter(&mut self, instruction: Instruction) -> Result<(), Reason>
         ensures types { self.new.types.now ≡ self.old.types.now }
-        ensures passes { PassesBy table.Place.Loop self.old instruction self.new result }
+        ensures passes { PassesBy role.Loop self.old instruction self.new result }
     {
         Rule::new(self.types, &self.registers, instruction).apply()?;
         let turns = u64::from(instruction.number.unsigned_abs());
@@ -133,7 +140,9 @@ impl<'a> Verifier<'a> {
     /// Opens a part behind an instruction. There is room, since a client's nesting has a limit.
     fn push(&mut self, part: Part)
         ensures types { self.new.types.now ≡ self.old.types.now }
-        ensures inside { progress_of self.new ≡ inside (registers_of self.old.registers) (part_of part (at_most (self.old.steps + 1))) (progress_of self.old).parts }
+        ensures inside { progress_of self.new
+            ≡ inside (registers_of self.old.registers) (part_of part (at_most (self.old.steps + 1)))
+            (progress_of self.old).parts }
     {
         let steps = self.steps.saturating_add(1);
         let _ = self.parts.try_push(Open { part, steps });
@@ -143,7 +152,8 @@ impl<'a> Verifier<'a> {
     /// From the success part to the else part.
     fn turn(&mut self)
         ensures types { self.new.types.now ≡ self.old.types.now }
-        ensures turned { progress_of self.new ≡ turned (progress_of self.old) (progress_of self.old).parts }
+        ensures turned { progress_of self.new
+            ≡ turned (progress_of self.old) (progress_of self.old).parts }
     {
         if let Some(
             Open {
@@ -165,7 +175,8 @@ impl<'a> Verifier<'a> {
     /// Behind an `END`.
     fn close(&mut self) -> Result<(), Reason>
         ensures types { self.new.types.now ≡ self.old.types.now }
-        ensures closed { checked (λ _. progress_of self.new) result ≡ closed (progress_of self.old) (progress_of self.old).parts }
+        ensures closed { checked (λ _. progress_of self.new) result
+            ≡ closed (progress_of self.old) (progress_of self.old).parts }
     {
         let Some(Open { part, steps }) = self.parts.pop() else {
             return Ok(());

@@ -1,4 +1,5 @@
 ghost use Rattle.std.specs.Prelude.{◌≡◌, ◌↔◌, ◌≤◌, ◌<◌, ◌+◌, ◌*◌, ◌^◌, true, false, IfOk, IfErr, OnErr, OnOk, length, vec_len};
+ghost use Rattle.seg_spec.specs.Window.{IsPlace};
 
 use crate::interpreter::run;
 use crate::moves::{first_bad_move, is_place};
@@ -8,7 +9,7 @@ use client_code::parse;
 use client_verify::{Verified, verify};
 use seg_bestfit::BestFit;
 use seg_block::Fit;
-use seg_check::{open, save};
+use seg_check::open;
 use seg_layout::TypeTable;
 use seg_manager::{MIN_LEN, Segment};
 use seg_ptr::{MAX_LEN, Window, header};
@@ -36,7 +37,48 @@ pub fn run_bytes<A: Allocator + Copy, W: Sink>(
     ensures refused { OnErr result (W.has_failed out.new ≡ false) }
     ensures ended { IfOk result (λ o. (o.ended ≡ Ended.OutputFailed) ↔ (W.has_failed out.new ≡ true)) }
 {
-    let window = placed(alloc, image, place)?;
+    let len = fitting(image, place)?;
+    let region = Region::with_bytes(alloc, place.room, place.base, image)?;
+    run_in(alloc, region, len, clients, input, place, out)
+}
+
+/// As [`run_bytes`], on bytes of the caller's, which aren't copied where the segment is the whole region.
+pub fn run_image<A: Allocator + Copy, W: Sink>(
+    alloc: A,
+    image: Vec<u8, A>,
+    clients: &[&[u8]],
+    input: &[u8],
+    place: &Place,
+    out: &mut W,
+) -> Result<Outcome<A>, Refused>
+    requires works { W.has_failed out.old ≡ false }
+    ensures refused { OnErr result (W.has_failed out.new ≡ false) }
+    ensures ended { IfOk result (λ o. (o.ended ≡ Ended.OutputFailed) ↔ (W.has_failed out.new ≡ true)) }
+{
+    let len = fitting(image.as_slice(), place)?;
+    let region = if len == place.room {
+        Region::from_vec(image)
+    } else {
+        Region::with_bytes(alloc, place.room, place.base, image.as_slice())?
+    };
+    run_in(alloc, region, len, clients, input, place, out)
+}
+
+/// Runs clients on the image of `len` bytes at its place in a region, with the allocator that it names.
+fn run_in<A: Allocator + Copy, W: Sink>(
+    alloc: A,
+    region: Region<A>,
+    len: u32,
+    clients: &[&[u8]],
+    input: &[u8],
+    place: &Place,
+    out: &mut W,
+) -> Result<Outcome<A>, Refused>
+    requires works { W.has_failed out.old ≡ false }
+    ensures refused { OnErr result (W.has_failed out.new ≡ false) }
+    ensures ended { IfOk result (λ o. (o.ended ≡ Ended.OutputFailed) ↔ (W.has_failed out.new ≡ true)) }
+{
+    let window = Window::place(region, place.base, len).map_err(|refused| refused.0)?;
     if window.get32(header::ALLOCATOR) == BestFit::word() {
         run_on::<BestFit, A, W>(alloc, window, clients, input, place.moves, out)
     } else {
@@ -58,8 +100,7 @@ fn run_on<F: Fit, A: Allocator + Copy, W: Sink>(
     ensures ended { IfOk result (λ o. (o.ended ≡ Ended.OutputFailed) ↔ (W.has_failed out.new ≡ true)) }
 {
     let mut segment = open::<F, A, A>(alloc, window).map_err(|refused| refused.0)?;
-    let programs = verify_all(alloc, clients, &segment.types)?;
-    let mut saved = save(alloc, &segment)?;
+    let programs = verify_all(alloc, clients, segment.types())?;
     let mut reports = Vec::with_capacity(alloc, clients.len())?;
     run_all(
         &mut segment,
@@ -74,17 +115,18 @@ fn run_on<F: Fit, A: Allocator + Copy, W: Sink>(
     } else {
         Ended::Done
     };
-    let len = segment.window.len() as usize;
-    copy(&mut saved, segment.window.slice(0, len));
     Ok(Outcome {
-        image: saved,
+        image: segment.into_window().into_bytes(),
         reports,
         ended,
     })
 }
 
-/// The window on an image at its place in a new region.
-fn placed<A: Allocator + Copy>(alloc: A, image: &[u8], place: &Place) -> Result<Window<A>, Fault> {
+/// The length of an image that may lie at a place and make the moves.
+fn fitting(image: &[u8], place: &Place) -> Result<u32, Fault>
+    ensures len { IfOk result (λ n. n ≡ length image.now) }
+    ensures fits { IfOk result (λ n. IsPlace place.now.room place.now.base n × (place.now.room ≤ 2 ^ 31)) }
+{
     let len = image_len(image)?;
     if place.room > MAX_ROOM || !is_place(place.room, place.base, len) {
         return Err(Fault::Misplaced);
@@ -92,10 +134,7 @@ fn placed<A: Allocator + Copy>(alloc: A, image: &[u8], place: &Place) -> Result<
     if let Some(i) = first_bad_move(len, place.room, place.moves) {
         return Err(Fault::BadMove(u32::try_from(i).unwrap_or(u32::MAX)));
     }
-    let region = Region::new(alloc, place.room)?;
-    let mut window = Window::place(region, place.base, len).map_err(|(fault, _)| fault)?;
-    window.copy_in(0, image);
-    Ok(window)
+    Ok(len)
 }
 
 /// The length of an image, if it is one that a segment may have.
@@ -148,10 +187,4 @@ fn run_all<F: Fit, A: Allocator, B: Allocator, W: Sink>(
         // there is room for it
         let _ = reports.push(report);
     }
-}
-
-/// Copies bytes to the front of others, as many as there are of both.
-fn copy<A: Allocator>(to: &mut Vec<u8, A>, from: &[u8]) {
-    let n = to.len().min(from.len());
-    to[..n].copy_from_slice(&from[..n]);
 }

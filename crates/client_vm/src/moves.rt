@@ -17,7 +17,7 @@ pub fn moves_fit<F: Fit, A: Allocator>(segment: &Segment<F, A>, moves: &[Move]) 
         MatchOption result (AreMoves room len 0 (moves_of moves.now))
         (λ i. IsFirstBadMove room len (moves_of moves.now) i) }
 {
-    first_bad_move(segment.window.len(), segment.window.room(), moves)
+    first_bad_move(segment.window().len(), segment.window().room(), moves)
 }
 
 /// The first move that can't be made: its step isn't above the one before, or its base is none for the segment.
@@ -55,13 +55,19 @@ impl<'a> Moves<'a> {
         Moves { rest: moves }
     }
 
-    /// Makes the move that comes right before a step, if one does.
-    pub(crate) fn before<A: Allocator>(&mut self, step: u64, w: &mut Window<A>) {
+    /// How many steps come before the next move, and more than any run has where there is no move.
+    pub(crate) fn due(&self) -> u64 {
+        match self.rest.first() {
+            Some(next) => next.step.wrapping_sub(1),
+            None => u64::MAX,
+        }
+    }
+
+    /// Makes the next move.
+    pub(crate) fn make<A: Allocator>(&mut self, w: &mut Window<A>) {
         if let Some((next, rest)) = self.rest.split_first() {
-            if next.step == step {
-                let _ = w.relocate(next.base);
-                self.rest = rest;
-            }
+            let _ = w.relocate(next.base);
+            self.rest = rest;
         }
     }
 }

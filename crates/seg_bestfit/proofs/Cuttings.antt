@@ -16,7 +16,7 @@ use Rattle.seg_block.proofs.Cuttings.{was, apart, places, last_place, live_there
 use Rattle.seg_block.proofs.Extents.{AreHeaders-words}
 use Rattle.seg_block.proofs.FreeKept.{HoldsGaps-kept, free_kept}
 use Rattle.seg_block.proofs.SizeLaws.{IsHeader-set_size, Agrees-set_size, length-set_size}
-use Rattle.seg_bestfit.specs.FreeTree.{KeepsBesideNodes, Leaves, Joins}
+use Rattle.seg_bestfit.specs.FreeTree.{KeepsBesideNodes, LeavesTree, JoinsTree}
 use Rattle.seg_bestfit.proofs.FreeGaps.{each_pick}
 use Rattle.seg_bestfit.proofs.Taking.{gaps_around, blocks_around, tree_around}
 use Rattle.seg_bestfit.proofs.TreeFrame.{headers_kept, front_kept, back_kept, live_kept, link_kept}
@@ -37,7 +37,7 @@ module _ (old : List ℕ) (large : 736 ≤ length old) (h : IsHeap 1 old) (xs : 
   end_live : (b : Span) → Contains (live old) b → Contains (live_of (xs ++ tile at u false ∷ [])) b
   end_live b c = subst (λ k. Contains (live_of (xs ++ tile at u k ∷ [])) b) is_free (subst (λ s. Contains s b) (live_there old large h xs at u l parts) c)
 
-  module _ (a : List ℕ) (g : Leaves old a (free_of xs) (record { at = at; units = u }) []) where
+  module _ (a : List ℕ) (g : LeavesTree old a (free_of xs) (record { at = at; units = u }) []) where
     kept : KeepsBesideNodes old a (free_of (xs ++ tile at u false ∷ []))
     kept = subst (λ gs. KeepsBesideNodes old a gs) (sym (gaps_around xs [] at u)) g.kept
 
@@ -73,7 +73,8 @@ module _ (old : List ℕ) (large : 736 ≤ length old) (h : IsHeap 1 old) (xs : 
         let same = λ (q m : ℕ) (low : 16 ≤ q) (high : q + m ≤ at). IsSame-agrees a cut_off q (q + m) q m (off_kept q (q + m) (inr low)) (omega arith) (omega arith) (omega (arith, p.0)) in
         cut_to old large h xs at u l parts cut_off u xs longer (omega (arith, p.0)) (subst (λ e. Fill heap_start xs e) end f)
         (AreHeaders-words a cut_off xs heap_start at 0 (λ q low high. number-set_other 4 4 a 12 (at / 16) q (inr (omega arith))) f (AreHeaders-front a xs (tile at u false ∷ []) 0 a_heads))
-        (HoldsGaps-kept a cut_off 1 (free_of xs) (same 24 4 (omega arith) (omega arith)) (free_kept a cut_off xs heap_start at (λ q m low high. same q m (omega arith) high) f) (subst (λ gs. IsFreeTree a gs) (append-nil (free_of xs)) g.tree))
+        (HoldsGaps-kept a cut_off 1 (free_of xs) (same 24 4 (omega arith) (omega arith)) (free_kept a cut_off xs heap_start at (λ q m low high. same q m (omega arith) high) f)
+        (subst (λ gs. IsFreeTree a gs) (append-nil (free_of xs)) g.tree))
         (AreApart-front xs (tile at u l ∷ []) true (apart old large h xs at u l parts)) (free_places old large h xs at u l parts is_free) (units_of_gap old large h xs at u l parts is_free above)
         (number-set_same 4 a 12 (at / 16) (omega arith) (omega (arith, p.0)) ∙ ap (λ x. x / 16) end)
         (Agrees-trans old a cut_off 0 12 (Agrees-within old a 0 24 0 12 a_front (omega arith) (omega arith)) (off_kept 0 12 (inl (omega arith))))
@@ -117,7 +118,8 @@ module _ (old : List ℕ) (large : 736 ≤ length old) (h : IsHeap 1 old) (xs : 
       pub down_unlinked : link_at cut_down 704 ≡ None
       down_unlinked =
           let p = places old large h xs at u l parts in
-          target-same a cut_down 716 (number-set_other 4 4 (set_word counted 704 (size_word 2 false)) (704 + 16 * 2 + 4) 2 716 (inl (omega arith)) ∙ number-set_other 4 4 counted 704 (size_word 2 false) 716 (inr (omega arith)) ∙ counted_word 716 (omega arith))
+          target-same a cut_down 716 (number-set_other 4 4 (set_word counted 704 (size_word 2 false)) (704 + 16 * 2 + 4) 2 716 (inl (omega arith))
+          ∙ number-set_other 4 4 counted 704 (size_word 2 false) 716 (inr (omega arith)) ∙ counted_word 716 (omega arith))
           ∙ subst (λ q. link_at a q ≡ None) first.1 (link_kept old a xs [] (tile at u false) at (length old) p.0 (refl, p.1, p.2) kept
           ∙ each_pick (λ g. link_at old g.at ≡ None) (free_of xs) (record { at = at; units = u }) [] end_tree.links)
 
@@ -130,7 +132,7 @@ module _ (old : List ℕ) (large : 736 ≤ length old) (h : IsHeap 1 old) (xs : 
           HoldsGaps-kept a cut_down 1 [] (IsSame-agrees a cut_down 24 28 24 4 (down_kept 24 28 (inr (omega arith)) (omega arith)) (omega arith) (omega arith) (omega (arith, long))) tt
           (subst (λ gs. IsFreeTree a gs) (append-nil (free_of xs) ∙ ap free_of first.0) g.tree)
 
-      pub cut_whole : (new : List ℕ) → Joins cut_down new [] (record { at = 704; units = 2 }) [] → Cuts 1 old new (u - 2)
+      pub cut_whole : (new : List ℕ) → JoinsTree cut_down new [] (record { at = 704; units = 2 }) [] → Cuts 1 old new (u - 2)
       cut_whole new j =
           let p = last_place old large h xs at u l parts in
           let f = first.1 in
@@ -138,36 +140,43 @@ module _ (old : List ℕ) (large : 736 ≤ length old) (h : IsHeap 1 old) (xs : 
           let longer : length new ≡ length old = j.kept.length_kept ∙ down_long in
           let end : 736 ≡ length old - 16 * (u - 2) = omega (arith, p.0, p.1) in
           let fill : Fill heap_start (tile 704 2 false ∷ []) 736 = (refl, omega arith, refl) in
-          let back : Agrees old new 28 heap_start = Agrees-trans old a new 28 heap_start a_back (Agrees-trans a cut_down new 28 heap_start (down_kept 28 heap_start (inr (omega arith)) (omega arith)) (back_kept cut_down new (tile 704 2 false ∷ []) 736 fill j.kept)) in
+          let back : Agrees old new 28 heap_start = Agrees-trans old a new 28 heap_start a_back
+          (Agrees-trans a cut_down new 28 heap_start (down_kept 28 heap_start (inr (omega arith)) (omega arith)) (back_kept cut_down new (tile 704 2 false ∷ []) 736 fill j.kept)) in
           let front : Agrees cut_down new 0 24 = front_kept cut_down new (tile 704 2 false ∷ []) 736 fill j.kept in
-          let early = λ (from to : ℕ) (out : (to ≤ 12) ⊎ (16 ≤ from)) (high : to ≤ 24). Agrees-trans old a new from to (Agrees-within old a 0 24 from to a_front (omega arith) high) (Agrees-trans a cut_down new from to (down_kept from to out (omega arith)) (Agrees-within cut_down new 0 24 from to front (omega arith) high)) in
+          let early = λ (from to : ℕ) (out : (to ≤ 12) ⊎ (16 ≤ from)) (high : to ≤ 24). Agrees-trans old a new from to (Agrees-within old a 0 24 from to a_front (omega arith) high)
+          (Agrees-trans a cut_down new from to (down_kept from to out (omega arith)) (Agrees-within cut_down new 0 24 from to front (omega arith) high)) in
           cut_to old large h xs at u l parts new (u - 2) (tile 704 2 false ∷ []) longer (omega (arith, p.0, p.1)) (refl, omega arith, end)
           (headers_kept cut_down new (tile 704 2 false ∷ []) 736 fill j.kept down_heads) j.tree ((λ e. absurd (never e)), tt)
           (ap live_of (sym first.0) ∙ free_places old large h xs at u l parts is_free) (units_of_whole old large h xs at u l parts is_free f)
-          (number-agrees cut_down new 0 24 4 12 front (omega arith) (omega arith) ∙ number-set_other 4 4 (set_word counted 704 (size_word 2 false)) (704 + 16 * 2 + 4) 2 12 (inl (omega arith)) ∙ number-set_other 4 4 counted 704 (size_word 2 false) 12 (inl (omega arith))
+          (number-agrees cut_down new 0 24 4 12 front (omega arith) (omega arith) ∙ number-set_other 4 4 (set_word counted 704 (size_word 2 false)) (704 + 16 * 2 + 4) 2 12 (inl (omega arith))
+          ∙ number-set_other 4 4 counted 704 (size_word 2 false) 12 (inl (omega arith))
           ∙ number-set_same 4 a 12 46 (omega (arith, long)) (omega arith) ∙ ap (λ x. x / 16) end)
           (early 0 12 (inl (omega arith)) (omega arith)) (early 16 24 (inr (omega arith)) (omega arith)) back
           (λ b c. let w = in_front old large h xs at u l parts is_free b c in Agrees-within old new 28 heap_start (b.at + 8) (end_of b) back (omega (arith, w.0)) (omega (arith, w.1)))
 
 -- ---- from what the steps ensure
 
-module _ (old : List ℕ) (len : ℕ) (large : 736 ≤ length old) (h : IsHeap 1 old) (len_is : len ≡ length old) (at u : ℕ) (last : (ts : List Tile) → 704 < len → len ≤ length old → Fill 704 ts len → AreHeaders old 0 ts → HasEnd old ts at u) (free : is_live_at old at ≡ false)
-    (a : List ℕ) (leaves : (xs ys : List Span) → AreFreeBlocks old 704 (xs ++ record { at = at; units = u } ∷ ys) → IsFreeTree old (xs ++ record { at = at; units = u } ∷ ys) → Leaves old a xs (record { at = at; units = u }) ys) where
+module _ (old : List ℕ) (len : ℕ) (large : 736 ≤ length old) (h : IsHeap 1 old) (len_is : len ≡ length old) (at u : ℕ)
+    (last : (ts : List Tile) → 704 < len → len ≤ length old → Fill 704 ts len → AreHeaders old 0 ts → HasEnd old ts at u) (free : is_live_at old at ≡ false)
+    (a : List ℕ) (leaves : (xs ys : List Span) → AreFreeBlocks old 704 (xs ++ record { at = at; units = u } ∷ ys) → IsFreeTree old (xs ++ record { at = at; units = u } ∷ ys) → LeavesTree old a xs (record { at = at; units = u }) ys) where
   abbrev e : HasEnd old (tiles old) at u
   e = the_end old len large h len_is at u last
 
   is_free : e.live ≡ false
   is_free = sym (flag old len large h len_is at u last) ∙ free
 
-  out : Leaves old a (free_of e.front) (record { at = at; units = u }) []
+  out : LeavesTree old a (free_of e.front) (record { at = at; units = u }) []
   out = leaves (free_of e.front) [] (end_blocks old large h e.front at u e.live e.parts is_free) (end_tree old large h e.front at u e.live e.parts is_free)
 
   pub cuts_gap : (new : List ℕ) → 704 < at → new ≡ set_word a 12 (at / 16) → Cuts 1 old new u
   cuts_gap new above new_is = subst (λ b. Cuts 1 old b u) (sym new_is) (cut_gap old large h e.front at u e.live e.parts is_free a out above)
 
   pub cuts_whole : (down new : List ℕ) → at ≤ 704 → down ≡ set_size (set_word a 12 46) 704 2 false
-      → (length down ≤ 2 ^ 30 → (xs ys : List Span) → AreFreeBlocks down 704 (xs ++ record { at = 704; units = 2 } ∷ ys) → IsFreeTree down (xs ++ ys) → link_at down 704 ≡ None → Joins down new xs (record { at = 704; units = 2 }) ys) → Cuts 1 old new (u - 2)
+      → (length down ≤ 2 ^ 30 → (xs ys : List Span) → AreFreeBlocks down 704 (xs ++ record { at = 704; units = 2 } ∷ ys) → IsFreeTree down (xs ++ ys) → link_at down 704 ≡ None
+      → JoinsTree down new xs (record { at = 704; units = 2 }) ys) → Cuts 1 old new (u - 2)
   cuts_whole down new below down_is joins =
-      let back = subst (λ k. length k ≤ 2 ^ 30 → (xs ys : List Span) → AreFreeBlocks k 704 (xs ++ record { at = 704; units = 2 } ∷ ys) → IsFreeTree k (xs ++ ys) → link_at k 704 ≡ None → Joins k new xs (record { at = 704; units = 2 }) ys) down_is joins in
+      let back = subst (λ k. length k ≤ 2 ^ 30 → (xs ys : List Span) → AreFreeBlocks k 704 (xs ++ record { at = 704; units = 2 } ∷ ys) → IsFreeTree k (xs ++ ys)
+      → link_at k 704 ≡ None → JoinsTree k new xs (record { at = 704; units = 2 }) ys) down_is joins in
       cut_whole old large h e.front at u e.live e.parts is_free a out below new
-      (back (subst (λ m. m ≤ 2 ^ 30) (sym (length-down old large h e.front at u e.live e.parts is_free a out below)) h.small) [] [] (down_blocks old large h e.front at u e.live e.parts is_free a out below) (down_tree old large h e.front at u e.live e.parts is_free a out below) (down_unlinked old large h e.front at u e.live e.parts is_free a out below))
+      (back (subst (λ m. m ≤ 2 ^ 30) (sym (length-down old large h e.front at u e.live e.parts is_free a out below)) h.small) [] [] (down_blocks old large h e.front at u e.live e.parts is_free a out below)
+      (down_tree old large h e.front at u e.live e.parts is_free a out below) (down_unlinked old large h e.front at u e.live e.parts is_free a out below))

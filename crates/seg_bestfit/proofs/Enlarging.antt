@@ -14,12 +14,13 @@ use Rattle.seg_block.proofs.Enlarging.{flag_is, larger-places, larger-length, la
 use Rattle.seg_block.proofs.SizeLaws.{length-set_size}
 use Rattle.seg_block.proofs.FreeTiles.{AreFreeBlocks-free_of}
 use Rattle.seg_block.proofs.Heaps.{Spares-trans, Spares-same}
-use Rattle.seg_bestfit.specs.FreeTree.{KeepsBesideNodes, Leaves, Joins}
+use Rattle.seg_bestfit.specs.FreeTree.{KeepsBesideNodes, LeavesTree, JoinsTree}
 use Rattle.seg_bestfit.proofs.FreeGaps.{each_pick}
 use Rattle.seg_bestfit.proofs.Taking.{gaps_around}
 use Rattle.seg_bestfit.proofs.TreeFrame.{headers_kept, spares_kept, link_kept}
 
-module _ (old : List ℕ) (xs : List Tile) (at u n end : ℕ) (small : length old ≤ 2 ^ 30) (more : u ≤ n) (inside : at + 16 * n ≡ length old) (filled : Fill heap_start (xs ++ tile at u false ∷ []) end) (heads : AreHeaders old 0 (xs ++ tile at u false ∷ [])) (holds : IsFreeTree old (free_of (xs ++ tile at u false ∷ []))) where
+module _ (old : List ℕ) (xs : List Tile) (at u n end : ℕ) (small : length old ≤ 2 ^ 30) (more : u ≤ n) (inside : at + 16 * n ≡ length old) (filled : Fill heap_start (xs ++ tile at u false ∷ []) end)
+    (heads : AreHeaders old 0 (xs ++ tile at u false ∷ [])) (holds : IsFreeTree old (free_of (xs ++ tile at u false ∷ []))) where
   places : (Fill heap_start xs at) × (2 ≤ u) × (at + 16 * u ≡ end)
   places = larger-places old xs at u n end false small more inside filled heads
 
@@ -29,7 +30,7 @@ module _ (old : List ℕ) (xs : List Tile) (at u n end : ℕ) (small : length ol
   pub last_tree : IsFreeTree old (free_of xs ++ record { at = at; units = u } ∷ [])
   last_tree = subst (λ gs. IsFreeTree old gs) (gaps_around xs [] at u) holds
 
-  module _ (a : List ℕ) (l : Leaves old a (free_of xs) (record { at = at; units = u }) []) where
+  module _ (a : List ℕ) (l : LeavesTree old a (free_of xs) (record { at = at; units = u }) []) where
     k1 : KeepsBesideNodes old a (free_of (xs ++ tile at u false ∷ []))
     k1 = subst (λ gs. KeepsBesideNodes old a gs) (sym (gaps_around xs [] at u)) l.kept
 
@@ -67,7 +68,7 @@ module _ (old : List ℕ) (xs : List Tile) (at u n end : ℕ) (small : length ol
         ∙ link_kept old a xs [] (tile at u false) at end p.0 (refl, p.1, p.2) k1
         ∙ each_pick (λ g. link_at old g.at ≡ None) (free_of xs) (record { at = at; units = u }) [] last_tree.links
 
-    pub enlarges_free : (new : List ℕ) → Joins sized new (free_of xs) (record { at = at; units = n }) [] → Enlarges 1 old new xs at u n false
+    pub enlarges_free : (new : List ℕ) → JoinsTree sized new (free_of xs) (record { at = at; units = n }) [] → Enlarges 1 old new xs at u n false
     enlarges_free new j =
         let k2 : KeepsBesideNodes sized new (free_of (xs ++ tile at n false ∷ [])) = subst (λ gs. KeepsBesideNodes sized new gs) (sym (gaps_around xs [] at n)) j.kept in
         let same : live_of (xs ++ tile at u false ∷ []) ≡ live_of (xs ++ tile at n false ∷ []) = live_of-append xs (tile at u false ∷ []) ∙ sym (live_of-append xs (tile at n false ∷ [])) in
@@ -81,11 +82,12 @@ module _ (old : List ℕ) (xs : List Tile) (at u n end : ℕ) (small : length ol
         }
 
 -- from what the steps ensure
-pub enlarged_free : (old a b new : List ℕ) (xs : List Tile) (at u n : ℕ) (l : Bool) → length old ≤ 2 ^ 30 → u ≤ n → Fill heap_start (xs ++ tile at u l ∷ []) (at + 16 * u) → AreHeaders old 0 (xs ++ tile at u l ∷ []) → HoldsGaps 1 old (free_of (xs ++ tile at u l ∷ [])) → at + 16 * n ≡ length old
+pub enlarged_free : (old a b new : List ℕ) (xs : List Tile) (at u n : ℕ) (l : Bool) → length old ≤ 2 ^ 30 → u ≤ n → Fill heap_start (xs ++ tile at u l ∷ []) (at + 16 * u)
+    → AreHeaders old 0 (xs ++ tile at u l ∷ []) → HoldsGaps 1 old (free_of (xs ++ tile at u l ∷ [])) → at + 16 * n ≡ length old
     → is_live_at old at ≡ false
-    → ((xs ys : List Span) → AreFreeBlocks old 704 (xs ++ record { at = at; units = u } ∷ ys) → IsFreeTree old (xs ++ record { at = at; units = u } ∷ ys) → Leaves old a xs (record { at = at; units = u }) ys)
+    → ((xs ys : List Span) → AreFreeBlocks old 704 (xs ++ record { at = at; units = u } ∷ ys) → IsFreeTree old (xs ++ record { at = at; units = u } ∷ ys) → LeavesTree old a xs (record { at = at; units = u }) ys)
     → b ≡ set_size a at n false
-    → (length b ≤ 2 ^ 30 → (xs ys : List Span) → AreFreeBlocks b 704 (xs ++ record { at = at; units = n } ∷ ys) → IsFreeTree b (xs ++ ys) → link_at b at ≡ None → Joins b new xs (record { at = at; units = n }) ys)
+    → (length b ≤ 2 ^ 30 → (xs ys : List Span) → AreFreeBlocks b 704 (xs ++ record { at = at; units = n } ∷ ys) → IsFreeTree b (xs ++ ys) → link_at b at ≡ None → JoinsTree b new xs (record { at = at; units = n }) ys)
     → Enlarges 1 old new xs at u n l
 enlarged_free old a b new xs at u n l small more filled heads holds inside flag leaves b_is joins =
     let is : l ≡ false = sym (flag_is old xs at u l heads) ∙ flag in
@@ -94,7 +96,9 @@ enlarged_free old a b new xs at u n l small more filled heads holds inside flag 
     let t = subst (λ c. HoldsGaps 1 old (free_of (xs ++ tile at u c ∷ []))) is holds in
     let end = at + 16 * u in
     let out = leaves (free_of xs) [] (last_blocks old xs at u n end small more inside f hs t) (last_tree old xs at u n end small more inside f hs t) in
-    let back = subst (λ k. length k ≤ 2 ^ 30 → (xs ys : List Span) → AreFreeBlocks k 704 (xs ++ record { at = at; units = n } ∷ ys) → IsFreeTree k (xs ++ ys) → link_at k at ≡ None → Joins k new xs (record { at = at; units = n }) ys) b_is joins in
+    let back = subst (λ k. length k ≤ 2 ^ 30 → (xs ys : List Span) → AreFreeBlocks k 704 (xs ++ record { at = at; units = n } ∷ ys) → IsFreeTree k (xs ++ ys) → link_at k at ≡ None
+    → JoinsTree k new xs (record { at = at; units = n }) ys) b_is joins in
     subst (λ c. Enlarges 1 old new xs at u n c) (sym is)
     (enlarges_free old xs at u n end small more inside f hs t a out new
-    (back (subst (λ m. m ≤ 2 ^ 30) (sym (length-set_size a at n false ∙ out.kept.length_kept)) small) (free_of xs) [] (sized_blocks old xs at u n end small more inside f hs t a out) (sized_tree old xs at u n end small more inside f hs t a out) (sized_link old xs at u n end small more inside f hs t a out)))
+    (back (subst (λ m. m ≤ 2 ^ 30) (sym (length-set_size a at n false ∙ out.kept.length_kept)) small) (free_of xs) [] (sized_blocks old xs at u n end small more inside f hs t a out)
+    (sized_tree old xs at u n end small more inside f hs t a out) (sized_link old xs at u n end small more inside f hs t a out)))

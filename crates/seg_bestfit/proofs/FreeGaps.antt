@@ -95,7 +95,8 @@ nodes_inserted : (g : Span) (hs : List Span) → AllByRecursion (AreSeparate g) 
 nodes_inserted g [] a n = (tt, tt)
 nodes_inserted g (h ∷ hs) a n =
     let rest = nodes_inserted g hs a.1 n.1 in
-    let all : AllByRecursion (λ y. Separate (node_of g) 16 y 16) (map node_of (h ∷ hs)) = each_map (λ y. Separate (node_of g) 16 y 16) node_of (h ∷ hs) (each_weaker (AreSeparate g) (λ k. Separate (node_of g) 16 (node_of k) 16) (λ k s. nodes_separate g k s) (h ∷ hs) a) in
+    let all : AllByRecursion (λ y. Separate (node_of g) 16 y 16) (map node_of (h ∷ hs)) = each_map (λ y. Separate (node_of g) 16 y 16) node_of (h ∷ hs)
+    (each_weaker (AreSeparate g) (λ k. Separate (node_of g) 16 (node_of k) 16) (λ k s. nodes_separate g k s) (h ∷ hs) a) in
     let later : AllByRecursion (λ y. Separate (node_of h) 16 y 16) (map node_of (insert_by_size g hs)) = inserted_nodes h g hs (nodes_separate h g (turned g h a.0)) n.0 in
     elim (is_smaller g h) as (λ b. NodesApart (map node_of (cond b (g ∷ h ∷ hs) (h ∷ insert_by_size g hs)))) [ true ↦ (all, n) | false ↦ (later, rest) ]
   where
@@ -103,7 +104,8 @@ nodes_inserted g (h ∷ hs) a n =
     nodes_separate g k (inl l) = inl (omega arith)
     nodes_separate g k (inr l) = inr (omega arith)
 
-    inserted_nodes : (h g : Span) (hs : List Span) → Separate (node_of h) 16 (node_of g) 16 → AllByRecursion (λ y. Separate (node_of h) 16 y 16) (map node_of hs) → AllByRecursion (λ y. Separate (node_of h) 16 y 16) (map node_of (insert_by_size g hs))
+    inserted_nodes : (h g : Span) (hs : List Span) → Separate (node_of h) 16 (node_of g) 16 → AllByRecursion (λ y. Separate (node_of h) 16 y 16) (map node_of hs)
+        → AllByRecursion (λ y. Separate (node_of h) 16 y 16) (map node_of (insert_by_size g hs))
     inserted_nodes h g [] s a = (s, tt)
     inserted_nodes h g (k ∷ ks) s a =
         let rest = inserted_nodes h g ks s a.1 in
@@ -182,9 +184,22 @@ module _ (bytes : List ℕ) (xs : List Span) (g : Span) (ys : List Span) (low : 
   new_node_stands = record {
     small = small;
     word_fits = omega arith;
-    nodes_fit = (omega (arith, gap_stands.fits), each_map (λ p. p + 16 ≤ length bytes) node_of (by_size (xs ++ ys)) (each_by_size (λ h. node_of h + 16 ≤ length bytes) (xs ++ ys) (each_weaker (Stands bytes) (λ h. node_of h + 16 ≤ length bytes) (λ h s. omega (arith, s.fits)) (xs ++ ys) others_stand)));
-    word_apart = (inl (omega (arith, gap_stands.low)), each_map (λ p. Separate 24 4 p 16) node_of (by_size (xs ++ ys)) (each_by_size (λ h. Separate 24 4 (node_of h) 16) (xs ++ ys) (each_weaker (Stands bytes) (λ h. Separate 24 4 (node_of h) 16) (λ h s. inl (omega (arith, s.low))) (xs ++ ys) others_stand)));
-    nodes_apart = (each_map (λ y. Separate (node_of g) 16 y 16) node_of (by_size (xs ++ ys)) (each_by_size (λ h. Separate (node_of g) 16 (node_of h) 16) (xs ++ ys) (each_weaker (AreSeparate g) (λ h. Separate (node_of g) 16 (node_of h) 16) (λ h s. ⊎_elim (λ l. inl (omega arith)) (λ l. inr (omega arith)) s) (xs ++ ys) front_apart.0)), nodes_sorted (xs ++ ys) front_apart.1);
+    nodes_fit = (
+      omega (arith, gap_stands.fits),
+      each_map (λ p. p + 16 ≤ length bytes) node_of (by_size (xs ++ ys))
+          (each_by_size (λ h. node_of h + 16 ≤ length bytes) (xs ++ ys) (each_weaker (Stands bytes) (λ h. node_of h + 16 ≤ length bytes) (λ h s. omega (arith, s.fits)) (xs ++ ys) others_stand)),
+    );
+    word_apart = (
+      inl (omega (arith, gap_stands.low)),
+      each_map (λ p. Separate 24 4 p 16) node_of (by_size (xs ++ ys))
+          (each_by_size (λ h. Separate 24 4 (node_of h) 16) (xs ++ ys) (each_weaker (Stands bytes) (λ h. Separate 24 4 (node_of h) 16) (λ h s. inl (omega (arith, s.low))) (xs ++ ys) others_stand)),
+    );
+    nodes_apart = (
+      each_map (λ y. Separate (node_of g) 16 y 16) node_of (by_size (xs ++ ys))
+          (each_by_size (λ h. Separate (node_of g) 16 (node_of h) 16) (xs ++ ys)
+          (each_weaker (AreSeparate g) (λ h. Separate (node_of g) 16 (node_of h) 16) (λ h s. ⊎_elim (λ l. inl (omega arith)) (λ l. inr (omega arith)) s) (xs ++ ys) front_apart.0)),
+      nodes_sorted (xs ++ ys) front_apart.1,
+    );
   }
 
 -- a link lies beside the nodes of all gaps
@@ -192,7 +207,8 @@ pub links_beside : (gs : List Span) → GapsApart gs → AllByRecursion (λ h. A
 links_beside [] a = tt
 links_beside (g ∷ gs) a = (
   (inl (omega arith), each_weaker (AreSeparate g) (λ h. Separate (g.at + 12) 4 (h.at + 16) 16) (λ h s. beside g h s) gs a.0),
-  each_both (AreSeparate g) (λ h. AllByRecursion (λ k. Separate (h.at + 12) 4 (k.at + 16) 16) gs) (λ h. AllByRecursion (λ k. Separate (h.at + 12) 4 (k.at + 16) 16) (g ∷ gs)) (λ h s r. (beside h g (turned g h s), r)) gs a.0 (links_beside gs a.1),
+  each_both (AreSeparate g) (λ h. AllByRecursion (λ k. Separate (h.at + 12) 4 (k.at + 16) 16) gs) (λ h. AllByRecursion (λ k. Separate (h.at + 12) 4 (k.at + 16) 16) (g ∷ gs))
+      (λ h s r. (beside h g (turned g h s), r)) gs a.0 (links_beside gs a.1),
 )
   where
     beside : (g h : Span) → AreSeparate g h → Separate (g.at + 12) 4 (h.at + 16) 16

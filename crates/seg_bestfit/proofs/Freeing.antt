@@ -4,18 +4,17 @@ use Rattle.std.specs.Prelude.{Contains}
 use Rattle.seg_spec.specs.Bytes.{Agrees}
 use Rattle.seg_spec.specs.Heap.{Span, Tile, AreApart, live_of, live, gaps, room_at, IsHeap, IsLive, Gives}
 use Rattle.seg_spec.proofs.TileLaws.{live_of-append, AreApart-append}
-use Rattle.seg_block.specs.Blocks.{IsBlock}
+use Rattle.seg_block.specs.Blocks.{IsSized}
+use Rattle.seg_block.specs.Joining.{JoinsBefore}
 use Rattle.seg_block.specs.Tiling.{tile, IsTiling, Retiles, Spares}
-use Rattle.seg_block.proofs.Heaps.{Spares-trans, Spares-same}
+use Rattle.seg_block.proofs.Heaps.{Spares-none, Spares-trans, Spares-same}
 use Rattle.seg_block.proofs.LiveBlocks.{block_front, gives, read_is, read_held}
 use Rattle.seg_block.proofs.Resized.{HasGap, room_cases, before, behind, was}
-use Rattle.seg_bestfit.specs.Joining.{JoinsBefore}
-use Rattle.seg_bestfit.proofs.JoiningBefore.{Spares-none}
 
 module _ (old absorbed joined new : List ℕ) (at u room place units : ℕ) (h : IsHeap 1 old) (held : Contains (live old) (record { at = at; units = u })) (room_is : room ≡ room_at (gaps old) (at + 16 * u))
     (none : room ≡ 0 → absorbed ≡ old)
     (absorb : (xs ys : List Tile) → IsTiling 1 old (xs ++ (tile at u true ∷ tile (at + 16 * u) room false ∷ ys)) → Retiles 1 old absorbed xs (tile at (u + room) true ∷ []) ys × Agrees old absorbed (at + 8) (at + 16 * u))
-    (join : (xs ys : List Tile) → IsTiling 1 absorbed (xs ++ tile at (u + room) true ∷ ys) → AreApart true xs → JoinsBefore absorbed joined xs place units ys)
+    (join : (xs ys : List Tile) → IsTiling 1 absorbed (xs ++ tile at (u + room) true ∷ ys) → AreApart true xs → JoinsBefore 1 true absorbed joined xs place units ys)
     (release : (xs ys : List Tile) → IsTiling 1 joined (xs ++ tile place units true ∷ ys) → Retiles 1 joined new xs (tile place units false ∷ []) ys) where
   abbrev xs : List Tile
   xs = before old at u h held
@@ -57,7 +56,7 @@ module _ (old absorbed joined new : List ℕ) (at u room place units : ℕ) (h :
       })
       (room_cases old at u h held)
 
-  j : JoinsBefore absorbed joined xs place units grown.rest
+  j : JoinsBefore 1 true absorbed joined xs place units grown.rest
   j = join xs grown.rest grown.tiling (block_front old at u h held)
 
   r : Retiles 1 joined new j.front (tile place units false ∷ []) grown.rest
@@ -85,11 +84,11 @@ module _ (old absorbed joined new : List ℕ) (at u room place units : ℕ) (h :
       (live_of-append j.front (tile place units false ∷ grown.rest) ∙ sym (live_of-append j.front grown.rest) ∙ front_same ∙ behind_same) spared
 
 -- at the block that was named
-pub freed_named : (old absorbed joined new : List ℕ) (named at u room place units : ℕ) (h : IsHeap 1 old) (held : IsLive old named) → ((g : Span) → named ≡ g.at → IsBlock old g → (at ≡ g.at) × (u ≡ g.units))
+pub freed_named : (old absorbed joined new : List ℕ) (named at u room place units : ℕ) (h : IsHeap 1 old) (held : IsLive old named) → ((g : Span) → named ≡ g.at → IsSized old g → (at ≡ g.at) × (u ≡ g.units))
     → ((allocator : ℕ) → IsHeap allocator old → Contains (live old) (record { at = at; units = u }) → room ≡ room_at (gaps old) (at + 16 * u))
     → (room ≡ 0 → absorbed ≡ old)
     → ((xs ys : List Tile) → IsTiling 1 old (xs ++ (tile at u true ∷ tile (at + 16 * u) room false ∷ ys)) → Retiles 1 old absorbed xs (tile at (u + room) true ∷ []) ys × Agrees old absorbed (at + 8) (at + 16 * u))
-    → ((xs ys : List Tile) → IsTiling 1 absorbed (xs ++ tile at (u + room) true ∷ ys) → AreApart true xs → JoinsBefore absorbed joined xs place units ys)
+    → ((xs ys : List Tile) → IsTiling 1 absorbed (xs ++ tile at (u + room) true ∷ ys) → AreApart true xs → JoinsBefore 1 true absorbed joined xs place units ys)
     → ((xs ys : List Tile) → IsTiling 1 joined (xs ++ tile place units true ∷ ys) → Retiles 1 joined new xs (tile place units false ∷ []) ys) → Gives 1 old new named
 freed_named old absorbed joined new named at u room place units h held read room_is none absorb join release =
     let is = read_is old named held.0 h held.1 at u read in

@@ -14,9 +14,10 @@ use Rattle.seg_spec.proofs.HeapFrame.{each_by_size}
 use Rattle.seg_block.specs.FreeBlocks.{AreFreeBlocks}
 use Rattle.seg_rbtree.specs.Changes as tree
 use Rattle.seg_rbtree.specs.Changes.{StandApart, IsNew, with_node, without_node}
-use Rattle.seg_bestfit.specs.FreeTree.{by_units, KeepsBesideNodes, Leaves, Joins}
+use Rattle.seg_bestfit.specs.FreeTree.{by_units, KeepsBesideNodes, LeavesTree, JoinsTree}
 use Rattle.seg_bestfit.proofs.SizeOrder.{node_of, HasSize, nodes_ascend, node_is_new, with_gap, without_gap, first_node}
-use Rattle.seg_bestfit.proofs.FreeGaps.{Stands, each_stands, free_apart, free_rising, sorted_by_size, nodes_stand, few_nodes, gap_stands, others_stand, others_elsewhere, new_node_stands, links_beside, free_drop, each_drop, each_put, each_pick}
+use Rattle.seg_bestfit.proofs.FreeGaps.{Stands, each_stands, free_apart, free_rising, sorted_by_size, nodes_stand, few_nodes, gap_stands}
+use Rattle.seg_bestfit.proofs.FreeGaps.{others_stand, others_elsewhere, new_node_stands, links_beside, free_drop, each_drop, each_put, each_pick}
 
 -- ---- the tree of gaps as a search tree
 
@@ -77,7 +78,7 @@ module _ (old new : List ℕ) (xs : List Span) (g : Span) (ys : List Span) (low 
 
   pub leaves : (holds : IsFreeTree old all)
       → ((shape : Tree) → IsSearchTree old 24 shape → Ascend (by_units old) (nodes_of shape) → StandApart (length old) 24 (nodes_of shape) → tree.Leaves old new 24 (nodes_of shape) (without_node (node_of g) (nodes_of shape)))
-      → Leaves old new xs g ys
+      → LeavesTree old new xs g ys
   leaves holds removed =
       let r = removed holds.tree (search_tree old all low small free holds) (tree_ascends old all low small free holds) (tree_stands old all low small free holds) in
       let kept = kept_by old new all (nodes_of holds.tree) (λ P a. rw holds.nodes_are (each_map P node_of (by_size all) (each_by_size (λ h. P (node_of h)) all a))) r.kept in
@@ -100,16 +101,18 @@ module _ (old new : List ℕ) (xs : List Span) (g : Span) (ys : List Span) (low 
   others_free = free_drop old 704 xs g ys free
 
   pub joins : (holds : IsFreeTree old (xs ++ ys)) → link_at old g.at ≡ None
-      → ((shape : Tree) → IsSearchTree old 24 shape → Ascend (by_units old) (nodes_of shape) → IsNew (by_units old) (node_of g) (nodes_of shape) → StandApart (length old) 24 (node_of g ∷ nodes_of shape) → length (nodes_of shape) + 1 < 2 ^ 32
+      → ((shape : Tree) → IsSearchTree old 24 shape → Ascend (by_units old) (nodes_of shape) → IsNew (by_units old) (node_of g) (nodes_of shape)
+      → StandApart (length old) 24 (node_of g ∷ nodes_of shape) → length (nodes_of shape) + 1 < 2 ^ 32
       → tree.Leaves old new 24 (node_of g ∷ nodes_of shape) (with_node (by_units old) (node_of g) (nodes_of shape)))
-      → Joins old new xs g ys
+      → JoinsTree old new xs g ys
   joins holds unlinked added =
       let gap = gap_stands old xs g ys low small free in
       let elsewhere = each_by_size (λ h. h.at ≢ g.at) (xs ++ ys) (others_elsewhere old xs g ys low small free) in
       let r = added holds.tree (search_tree old (xs ++ ys) low small others_free holds) (tree_ascends old (xs ++ ys) low small others_free holds)
       (rw holds.nodes_are (node_is_new old g (by_size (xs ++ ys)) gap.sized other_sizes elsewhere)) (rw holds.nodes_are (new_node_stands old xs g ys low small free))
       (let n = few_nodes old (xs ++ ys) low small others_free in rw holds.nodes_are n) in
-      let kept = kept_by old new all (node_of g ∷ nodes_of holds.tree) (λ P a. (each_pick (λ h. P (node_of h)) xs g ys a, rw holds.nodes_are (each_map P node_of (by_size (xs ++ ys)) (each_by_size (λ h. P (node_of h)) (xs ++ ys) (each_drop (λ h. P (node_of h)) xs g ys a))))) r.kept in
+      let kept = kept_by old new all (node_of g ∷ nodes_of holds.tree)
+      (λ P a. (each_pick (λ h. P (node_of h)) xs g ys a, rw holds.nodes_are (each_map P node_of (by_size (xs ++ ys)) (each_by_size (λ h. P (node_of h)) (xs ++ ys) (each_drop (λ h. P (node_of h)) xs g ys a))))) r.kept in
       record {
         tree = record {
           tree = r.shape;
@@ -129,16 +132,19 @@ room_of bytes xs g ys free = let s = each_pick (Stands bytes) xs g ys (each_stan
 
 pub leaves_at : (old new : List ℕ) (xs : List Span) (g : Span) (ys : List Span) (root : ℕ) → root ≡ 24 → length old ≤ 2 ^ 30 → AreFreeBlocks old 704 (xs ++ g ∷ ys) → IsFreeTree old (xs ++ g ∷ ys)
     → ((shape : Tree) → IsSearchTree old root shape → Ascend (by_units old) (nodes_of shape) → StandApart (length old) root (nodes_of shape) → tree.Leaves old new root (nodes_of shape) (without_node (node_of g) (nodes_of shape)))
-    → Leaves old new xs g ys
+    → LeavesTree old new xs g ys
 leaves_at old new xs g ys root root_is small free holds removed =
     leaves old new xs g ys (room_of old xs g ys free) small free holds
-    (subst (λ r. (shape : Tree) → IsSearchTree old r shape → Ascend (by_units old) (nodes_of shape) → StandApart (length old) r (nodes_of shape) → tree.Leaves old new r (nodes_of shape) (without_node (node_of g) (nodes_of shape))) root_is removed)
+    (subst (λ r. (shape : Tree) → IsSearchTree old r shape → Ascend (by_units old) (nodes_of shape) → StandApart (length old) r (nodes_of shape) → tree.Leaves old new r (nodes_of shape) (without_node (node_of g) (nodes_of shape)))
+    root_is removed)
 
 pub joins_at : (old new : List ℕ) (xs : List Span) (g : Span) (ys : List Span) (root : ℕ) → root ≡ 24 → length old ≤ 2 ^ 30 → AreFreeBlocks old 704 (xs ++ g ∷ ys) → IsFreeTree old (xs ++ ys) → link_at old g.at ≡ None
-    → ((shape : Tree) → IsSearchTree old root shape → Ascend (by_units old) (nodes_of shape) → IsNew (by_units old) (node_of g) (nodes_of shape) → StandApart (length old) root (node_of g ∷ nodes_of shape) → length (nodes_of shape) + 1 < 2 ^ 32
+    → ((shape : Tree) → IsSearchTree old root shape → Ascend (by_units old) (nodes_of shape) → IsNew (by_units old) (node_of g) (nodes_of shape)
+    → StandApart (length old) root (node_of g ∷ nodes_of shape) → length (nodes_of shape) + 1 < 2 ^ 32
     → tree.Leaves old new root (node_of g ∷ nodes_of shape) (with_node (by_units old) (node_of g) (nodes_of shape)))
-    → Joins old new xs g ys
+    → JoinsTree old new xs g ys
 joins_at old new xs g ys root root_is small free holds unlinked added =
     joins old new xs g ys (room_of old xs g ys free) small free holds unlinked
-    (subst (λ r. (shape : Tree) → IsSearchTree old r shape → Ascend (by_units old) (nodes_of shape) → IsNew (by_units old) (node_of g) (nodes_of shape) → StandApart (length old) r (node_of g ∷ nodes_of shape) → length (nodes_of shape) + 1 < 2 ^ 32
+    (subst (λ r. (shape : Tree) → IsSearchTree old r shape → Ascend (by_units old) (nodes_of shape) → IsNew (by_units old) (node_of g) (nodes_of shape)
+    → StandApart (length old) r (node_of g ∷ nodes_of shape) → length (nodes_of shape) + 1 < 2 ^ 32
     → tree.Leaves old new r (node_of g ∷ nodes_of shape) (with_node (by_units old) (node_of g) (nodes_of shape))) root_is added)

@@ -13,7 +13,7 @@ use Rattle.seg_block.proofs.SizeLaws.{IsHeader-set_size, Agrees-set_size}
 use Rattle.seg_block.proofs.Tiled.{around, replaces}
 use Rattle.seg_block.proofs.FreeKept.{beside_kept}
 use Rattle.seg_block.proofs.Heaps.{Spares-trans, Spares-same}
-use Rattle.seg_bestfit.specs.FreeTree.{KeepsBesideNodes, Joins}
+use Rattle.seg_bestfit.specs.FreeTree.{KeepsBesideNodes, JoinsTree}
 use Rattle.seg_bestfit.proofs.Taking.{gaps_around, live_around, blocks_around}
 use Rattle.seg_bestfit.proofs.TreeFrame.{tiled_kept, spares_kept}
 
@@ -61,7 +61,8 @@ module _ (old : List ℕ) (xs ys : List Tile) (at u : ℕ) (was : IsTiling 1 old
       number-set_same 4 (set_word linked at (size_word u false)) (at + 16 * u + 4) u (omega (arith, length-set_number 4 linked at (size_word u false))) (omega (arith, was.tiled.small))
 
   freed-replaces : Replaces old freed xs (tile at u false ∷ []) ys at 0
-  freed-replaces = replaces old freed xs (tile at u true ∷ []) (tile at u false ∷ []) ys at (at + 16 * u) 0 was.tiled parts.0 (refl, parts.1, refl) parts.2 kept header next_size (kept (at + 8) (at + 0) (inl (omega arith)) (inl (omega arith)))
+  freed-replaces = replaces old freed xs (tile at u true ∷ []) (tile at u false ∷ []) ys at (at + 16 * u) 0 was.tiled parts.0 (refl, parts.1, refl) parts.2 kept header next_size
+      (kept (at + 8) (at + 0) (inl (omega arith)) (inl (omega arith)))
 
   pub freed_blocks : AreFreeBlocks freed 704 (free_of xs ++ record { at = at; units = u } ∷ free_of ys)
   freed_blocks = blocks_around freed xs ys at u freed-replaces.tiled
@@ -83,7 +84,7 @@ module _ (old : List ℕ) (xs ys : List Tile) (at u : ℕ) (was : IsTiling 1 old
   pub freed_length : length freed ≡ length old
   freed_length = (kept 0 0 (inl (omega arith)) (inl (omega arith))).length_kept
 
-  pub released-retiles : (new : List ℕ) → Joins freed new (free_of xs) (record { at = at; units = u }) (free_of ys) → Retiles 1 old new xs (tile at u false ∷ []) ys
+  pub released-retiles : (new : List ℕ) → JoinsTree freed new (free_of xs) (record { at = at; units = u }) (free_of ys) → Retiles 1 old new xs (tile at u false ∷ []) ys
   released-retiles new j =
       let k : KeepsBesideNodes freed new (free_of (xs ++ tile at u false ∷ ys)) = subst (λ gs. KeepsBesideNodes freed new gs) (sym (gaps_around xs ys at u)) j.kept in
       let r = freed-replaces in

@@ -12,14 +12,14 @@ use Rattle.seg_spec.proofs.PickLaws.{best_fit-smallest}
 use Rattle.seg_spec.proofs.TileLaws.{Fill-le}
 use Rattle.seg_block.proofs.FreeTiles.{heap_free_blocks}
 use Rattle.seg_block.specs.declared.block.Block.{Block}
-use Rattle.seg_block.specs.Blocks.{IsBlock}
+use Rattle.seg_block.specs.Blocks.{IsSized}
 use Rattle.seg_block.specs.FreeBlocks.{AreFreeBlocks}
 use Rattle.seg_bestfit.specs.FreeTree.{by_units}
 use Rattle.seg_bestfit.proofs.SizeOrder.{node_of, fits_is}
 use Rattle.seg_bestfit.proofs.FreeGaps.{length-by_size}
 use Rattle.seg_bestfit.proofs.Listing.{search_tree, tree_ascends, best_node}
 
-block_in : (bytes : List ℕ) (from : ℕ) (xs : List Span) (g : Span) (ys : List Span) → AreFreeBlocks bytes from (xs ++ g ∷ ys) → IsBlock bytes g
+block_in : (bytes : List ℕ) (from : ℕ) (xs : List Span) (g : Span) (ys : List Span) → AreFreeBlocks bytes from (xs ++ g ∷ ys) → IsSized bytes g
 block_in bytes from [] g ys a = a.1
 block_in bytes from (x ∷ xs) g ys a = block_in bytes (x.at + 16 * x.units) xs g ys a.2
 
@@ -37,9 +37,10 @@ Finds bytes root u node = (shape : Tree) → IsSearchTree bytes root shape → A
 
 -- what reading the block of a node ensures
 abbrev pub Reads : List ℕ → ℕ → Option Block → Type 0
-Reads bytes node result = (g : Span) → node ≡ g.at + 16 → IsBlock bytes g → IsSomeAnd result (λ f. (f.at ≡ g.at) × (f.units ≡ g.units))
+Reads bytes node result = (g : Span) → node ≡ g.at + 16 → IsSized bytes g → IsSomeAnd result (λ f. (f.at ≡ g.at) × (f.units ≡ g.units))
 
-module _ (bytes : List ℕ) (root u : ℕ) (node : Option ℕ) (root_is : root ≡ 24) (finds : Finds bytes root u node) (gs : List Span) (holds : IsFreeTree bytes gs) (free : AreFreeBlocks bytes 704 gs) (low : 704 ≤ length bytes) (small : length bytes ≤ 2 ^ 30) where
+module _ (bytes : List ℕ) (root u : ℕ) (node : Option ℕ) (root_is : root ≡ 24) (finds : Finds bytes root u node) (gs : List Span) (holds : IsFreeTree bytes gs)
+    (free : AreFreeBlocks bytes 704 gs) (low : 704 ≤ length bytes) (small : length bytes ≤ 2 ^ 30) where
   pub node_is : node ≡ option_map node_of (best_fit gs u)
   node_is = subst (λ r. Finds bytes r u node) root_is finds holds.tree (search_tree bytes gs low small free holds) (tree_ascends bytes gs low small free holds) ∙ best_node bytes gs low small free holds u
 
@@ -59,7 +60,7 @@ module _ (bytes : List ℕ) (root u : ℕ) (node : Option ℕ) (root_is : root �
     pub is_best : best_fit gs u ≡ Some gap
     pub place : at ≡ gap.at + 16
     pub fits : u ≤ gap.units
-    pub block : IsBlock bytes gap
+    pub block : IsSized bytes gap
 
   pub finds_some : (at : ℕ) → node ≡ Some at → IsBest at
   finds_some at e = go (best_fit gs u) (sym node_is ∙ e) (λ g k. k)

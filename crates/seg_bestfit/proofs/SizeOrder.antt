@@ -122,8 +122,11 @@ module _ (bytes : List ℕ) where
 
   pub nodes_ascend : (hs : List Span) → HaveSizes hs → AreBySize hs → Ascend (by_units bytes) (map node_of hs)
   nodes_ascend [] s a = tt
-  nodes_ascend (g ∷ hs) s a =
-      (each_map (λ y. by_units bytes (node_of g) y ≡ Less) node_of hs (each_both HasSize (λ h. IsBefore g h) (λ h. by_units bytes (node_of g) (node_of h) ≡ Less) (λ h e l. node_less g h s.0 e l) hs s.1 (before_all g hs a)), nodes_ascend hs s.1 (tail_of g hs a))
+  nodes_ascend (g ∷ hs) s a = (
+    each_map (λ y. by_units bytes (node_of g) y ≡ Less) node_of hs
+        (each_both HasSize (λ h. IsBefore g h) (λ h. by_units bytes (node_of g) (node_of h) ≡ Less) (λ h e l. node_less g h s.0 e l) hs s.1 (before_all g hs a)),
+    nodes_ascend hs s.1 (tail_of g hs a),
+  )
 
   pub node_is_new : (g : Span) (hs : List Span) → HasSize g → HaveSizes hs → AllByRecursion (λ (h : Span). h.at ≢ g.at) hs → IsNew (by_units bytes) (node_of g) (map node_of hs)
   node_is_new g hs e s ne = each_map (λ y. by_units bytes (node_of g) y ≢ Equal) node_of hs (each_both HasSize (λ h. h.at ≢ g.at) (λ h. by_units bytes (node_of g) (node_of h) ≢ Equal) (λ h f n. node_new g h e f n) hs s ne)
@@ -132,7 +135,8 @@ module _ (bytes : List ℕ) where
   with_gap g [] e s = refl
   with_gap g (h ∷ hs) e s =
       let rest = with_gap g hs e s.1 in
-      let go = elim (is_smaller g h) as (λ b. cond b (node_of g ∷ node_of h ∷ map node_of hs) (node_of h ∷ with_node (by_units bytes) (node_of g) (map node_of hs)) ≡ map node_of (cond b (g ∷ h ∷ hs) (h ∷ insert_by_size g hs))) [ true ↦ refl | false ↦ ap (λ l. node_of h ∷ l) rest ] in
+      let go = elim (is_smaller g h) as (λ b. cond b (node_of g ∷ node_of h ∷ map node_of hs) (node_of h ∷ with_node (by_units bytes) (node_of g) (map node_of hs)) ≡ map node_of (cond b (g ∷ h ∷ hs) (h ∷ insert_by_size g hs)))
+      [ true ↦ refl | false ↦ ap (λ l. node_of h ∷ l) rest ] in
       ap (λ b. cond b (node_of g ∷ node_of h ∷ map node_of hs) (node_of h ∷ with_node (by_units bytes) (node_of g) (map node_of hs))) (below_is g h e s.0) ∙ go
 
   -- ---- a search
@@ -154,5 +158,6 @@ without_gap g (h ∷ hs) ne =
     let rest = without_gap g hs ne.1 in
     elim (is_smaller g h) as (λ b. without_node (node_of g) (map node_of (cond b (g ∷ h ∷ hs) (h ∷ insert_by_size g hs))) ≡ node_of h ∷ map node_of hs) [
       | true ↦ ap (λ b. cond b (node_of h ∷ map node_of hs) (node_of g ∷ without_node (node_of g) (node_of h ∷ map node_of hs))) (test_same (node_of g) (node_of g) refl)
-      | false ↦ ap (λ b. cond b (map node_of (insert_by_size g hs)) (node_of h ∷ without_node (node_of g) (map node_of (insert_by_size g hs)))) (test_other (node_of g) (node_of h) (λ e. ne.0 (omega (arith, e)))) ∙ ap (λ l. node_of h ∷ l) rest
+      | false ↦ ap (λ b. cond b (map node_of (insert_by_size g hs)) (node_of h ∷ without_node (node_of g) (map node_of (insert_by_size g hs)))) (test_other (node_of g) (node_of h) (λ e. ne.0 (omega (arith, e))))
+          ∙ ap (λ l. node_of h ∷ l) rest
     ]

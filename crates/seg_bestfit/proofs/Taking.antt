@@ -12,7 +12,7 @@ use Rattle.seg_block.proofs.FreeKept.{beside_kept}
 use Rattle.seg_block.proofs.FreeTiles.{free_blocks}
 use Rattle.seg_block.proofs.Heaps.{Spares-trans, Spares-same}
 use Rattle.seg_block.proofs.Relabelling.{relabel-places, relabel-kept, relabel-replaces}
-use Rattle.seg_bestfit.specs.FreeTree.{KeepsBesideNodes, Leaves}
+use Rattle.seg_bestfit.specs.FreeTree.{KeepsBesideNodes, LeavesTree}
 use Rattle.seg_bestfit.proofs.FreeGaps.{each_pick}
 use Rattle.seg_bestfit.proofs.TreeFrame.{tiled_kept, spares_kept, link_kept}
 
@@ -31,7 +31,7 @@ module _ (old : List ℕ) (xs ys : List Tile) (at u : ℕ) (was : IsTiling 1 old
   pub tree_around : IsFreeTree old (free_of xs ++ record { at = at; units = u } ∷ free_of ys)
   tree_around = subst (λ gs. IsFreeTree old gs) (gaps_around xs ys at u) was.free
 
-  module _ (mid : List ℕ) (l : Leaves old mid (free_of xs) (record { at = at; units = u }) (free_of ys)) where
+  module _ (mid : List ℕ) (l : LeavesTree old mid (free_of xs) (record { at = at; units = u }) (free_of ys)) where
     abbrev taken : List ℕ
     taken = set_size mid at u true
 

@@ -44,7 +44,8 @@ live_beside : (ts : List Tile) (from to : ℕ) (b : Span) → Fill from ts to �
 live_beside [] from to b f (n, k, e) = absurd (omega arith)
 live_beside (t ∷ ts) from to b f c =
     let rest = λ (c : Contains (live_of ts) b). live_beside ts (from + 16 * t.units) to b f.2 c in
-    let go = elim t.live as (λ l. Contains (cond l (span_of t ∷ live_of ts) (live_of ts)) b → (2 ≤ b.units) × AllByRecursion (λ (g : Span). (end_of b ≤ g.at + 16) ⊎ (g.at + 16 + 16 ≤ b.at + 8)) (cond l (free_of ts) (span_of t ∷ free_of ts))) [
+    let go = elim t.live as (λ l. Contains (cond l (span_of t ∷ live_of ts) (live_of ts)) b
+    → (2 ≤ b.units) × AllByRecursion (λ (g : Span). (end_of b ≤ g.at + 16) ⊎ (g.at + 16 + 16 ≤ b.at + 8)) (cond l (free_of ts) (span_of t ∷ free_of ts))) [
       | true ↦ (λ c. ⊎_elim (λ e. here e) rest (cons_cases (span_of t) b (live_of ts) c))
       | false ↦ (λ c. let r = rest c in let w = live_within ts (from + 16 * t.units) to b f.2 c in (r.0, (inr (omega (arith, f.0, f.1, w.0)), r.1)))
     ] in

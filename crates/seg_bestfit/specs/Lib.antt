@@ -1,2 +1,1 @@
 pub mod FreeTree
-pub mod Joining

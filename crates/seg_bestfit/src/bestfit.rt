@@ -1,19 +1,20 @@
-ghost use Rattle.std.specs.Prelude.{◌≡◌, ◌+◌, ◌-◌, ◌*◌, ◌^◌, ◌≤◌, nat_le, Bool, List, [], ◌∷◌, ◌++◌, length};
+ghost use Rattle.std.specs.Prelude.{◌≡◌, ◌+◌, ◌^◌, ◌≤◌, nat_le, true, List, ◌∷◌, ◌++◌, length};
 ghost use Rattle.std.specs.Option.{option_map};
+ghost use Rattle.seg_spec.specs.Heap.{Tile, AreApart, IsHeap, gaps, best_fit};
 ghost use Rattle.seg_spec.specs.Window.{with_bytes};
-ghost use Rattle.seg_spec.specs.Heap.{Tile, Fill, AreHeaders, HoldsGaps, IsHeap, free_of, gaps, best_fit, units_at};
 ghost use Rattle.seg_spec.specs.Search.{looks};
-ghost use Rattle.seg_block.specs.Extents.{Enlarges};
-ghost use Rattle.seg_block.specs.Tiling.{tile};
+ghost use Rattle.seg_block.specs.Blocks.{block_end};
+ghost use Rattle.seg_block.specs.Joining.{JoinsBefore};
+ghost use Rattle.seg_block.specs.Tiling.{tile_of, IsTiling};
+ghost use Rattle.seg_bestfit.specs.FreeTree.{node_units};
 
-use crate::free_tree::{BySize, best_fit, free_tree, put_in, release, take, take_out};
-use crate::live::{absorb, cut, join_before, resize};
+use crate::free_tree::{BySize, best_fit, free_tree, put_in, take_out};
 use seg_block::{
-    Block, Fit, HEAP_START, UNIT, UNITS_BEFORE, block_at, block_of, expanded, granted, is_live,
-    last_block, room_behind, set_size, shrunk,
+    Block, Fit, FreeStructure, HEAP_START, UNIT, UNITS_BEFORE, absorb, block_at, block_of, cut,
+    free_before, granted, is_live, join, last_block, resize, room_after, set_size,
 };
-use seg_ptr::Window;
 use seg_ptr::header::{FREE, SIZE};
+use seg_ptr::{MAX_LEN, Window};
 use seg_rbtree::{Looked, TREE_WORDS};
 use std::alloc::Allocator;
 
@@ -23,8 +24,10 @@ pub struct BestFit;
 /// The gap that an allocation of `need` units would take, by the position of its header, and how many free blocks are looked at
 /// for it.
 pub fn locate<A: Allocator>(w: &Window<A>, need: u32) -> (Option<u32>, u32)
-    ensures gap { IsHeap 1 w.now.bytes → result.0 ≡ option_map (λ g. g.at) (best_fit (gaps w.now.bytes) need) }
-    ensures looks { (h : IsHeap 1 w.now.bytes) → result.1 ≡ looks (λ node. nat_le need (units_at w.now.bytes (node - 16))) h.free.tree }
+    ensures gap { IsHeap 1 w.now.bytes
+        → result.0 ≡ option_map (λ g. g.at) (best_fit (gaps w.now.bytes) need) }
+    ensures looks { (h : IsHeap 1 w.now.bytes)
+        → result.1 ≡ looks (λ x. nat_le need (node_units w.now.bytes x)) h.free.tree }
     ensures few { IsHeap 1 w.now.bytes → 2 ^ result.1 ≤ (length (gaps w.now.bytes) + 1) ^ 2 }
 {
     let Looked { node, looks } = free_tree().first_at_least(w, &BySize, need);
@@ -51,13 +54,13 @@ impl Fit for BestFit {
         w.point(FREE, None);
         set_size(w, HEAP_START, units, true);
         let at = HEAP_START;
-        release(w, Block { at, units });
+        Self::release(w, (), Block { at, units });
     }
 
     fn allocate<A: Allocator>(w: &mut Window<A>, need: u32) -> Option<u32> {
         let gap = best_fit(w, need)?;
-        take(w, gap);
-        cut(w, gap, granted(gap.units, need));
+        Self::take(w, (), gap);
+        cut::<Self, A>(w, (), gap, granted(gap.units, need));
         Some(gap.at)
     }
 
@@ -65,52 +68,24 @@ impl Fit for BestFit {
         let Some(block) = block_at(w, block) else {
             return;
         };
-        let room = room_behind(w, block);
-        absorb(w, block, room);
+        let room = room_after(w, block);
+        absorb::<Self, A>(w, (), block, room);
         let units = block.units + room;
         let whole = join_before(w, Block { units, ..block });
-        release(w, whole);
+        Self::release(w, (), whole);
     }
 
-    fn expand<A: Allocator>(w: &mut Window<A>, block: u32, need: u32) -> bool {
-        let Some(block) = block_at(w, block) else {
-            return false;
-        };
-        let room = room_behind(w, block);
-        let Some(units) = expanded(block.units, room, need) else {
-            return false;
-        };
-        resize(w, block, room, units);
-        true
+    fn resize<A: Allocator>(w: &mut Window<A>, block: Block, room: u32, units: u32) {
+        resize::<Self, A>(w, block, room, units);
     }
 
-    fn shrink<A: Allocator>(w: &mut Window<A>, block: u32, need: u32) {
-        let Some(block) = block_at(w, block) else {
-            return;
-        };
-        if need > block.units {
-            return;
-        }
-        let room = room_behind(w, block);
-        resize(w, block, room, shrunk(block.units, room, need));
-    }
-
-    fn extend_end<A: Allocator>(w: &mut Window<A>, units: u32) {
-        let len = w.len();
-        let end = len - UNIT * units;
-        w.put32(SIZE, len / UNIT);
-        if units == 0 {
-            return;
-        }
-        let Some(last) = last_block(w, end) else {
-            return;
-        };
-        if units == 1 {
-            enlarge(w, last, (len - last.at) / UNIT);
+    fn enlarge<A: Allocator>(w: &mut Window<A>, last: Block, units: u32) {
+        if is_live(w, last.at) {
+            set_size(w, last.at, units, true);
         } else {
-            w.put32(end as usize + UNITS_BEFORE, last.units);
-            set_size(w, end, units, true);
-            Self::free(w, end);
+            take_out(w, last);
+            set_size(w, last.at, units, false);
+            put_in(w, Block { units, ..last });
         }
     }
 
@@ -136,20 +111,22 @@ impl Fit for BestFit {
     }
 }
 
-/// Gives the last block of a heap more units, up to the end of the segment.
-fn enlarge<A: Allocator>(w: &mut Window<A>, last: Block, units: u32)
-    requires inside { last.at + 16 * units ≤ 2 ^ 30 }
-    requires more { last.units ≤ units }
+/// Joins a live block with the gap right before it, where there is one. Returns the two as one live block.
+fn join_before<A: Allocator>(w: &mut Window<A>, block: Block) -> Block
+    requires { block_end block ≤ MAX_LEN }
+    ensures bounds { block_end result ≡ block_end block }
     ensures host { w.new ≡ with_bytes w.old w.new.bytes }
-    ensures enlarges { (xs : List Tile) (l : Bool) → Fill 704 (xs ++ tile last.at last.units l ∷ []) (last.at + 16 * last.units) → AreHeaders w.old.bytes 0 (xs ++ tile last.at last.units l ∷ [])
-        → HoldsGaps 1 w.old.bytes (free_of (xs ++ tile last.at last.units l ∷ [])) → last.at + 16 * units ≡ length w.old.bytes
-        → Enlarges 1 w.old.bytes w.new.bytes xs last.at last.units units l }
+    ensures joins { (xs ys : List Tile)
+        → IsTiling 1 w.old.bytes (xs ++ tile_of block true ∷ ys) → AreApart true xs
+        → JoinsBefore 1 true w.old.bytes w.new.bytes xs result.at result.units ys }
 {
-    if is_live(w, last.at) {
-        set_size(w, last.at, units, true);
-    } else {
-        take_out(w, last);
-        set_size(w, last.at, units, false);
-        put_in(w, Block { units, ..last });
+    let Some(gap) = free_before(w, block) else {
+        return block;
+    };
+    BestFit::take(w, (), gap);
+    join(w, gap, block);
+    Block {
+        at: gap.at,
+        units: gap.units + block.units,
     }
 }

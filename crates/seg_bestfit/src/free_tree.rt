@@ -1,20 +1,20 @@
-ghost use Rattle.std.specs.Prelude.{◌≡◌, ◌+◌, ◌-◌, ◌*◌, ◌%◌, ◌^◌, ◌<◌, ◌≤◌, List, [], ◌∷◌, ◌++◌, true, false, length, IfSome, IsSomeAnd, MatchOption, Some, None, ⊤};
+ghost use Rattle.std.specs.Prelude.{◌≡◌, ◌-◌, ◌+◌, ◌%◌, ◌^◌, ◌≤◌, List, [], ◌∷◌, ◌++◌, length, IfSome, IsSomeAnd, MatchOption, Some, None, ⊤};
 ghost use Rattle.std.specs.Ordering.{nat_cmp, ordering_then};
 ghost use Rattle.std.proofs.Common.{inl, arith};
 ghost use Rattle.std.specs.Cmp.{on_total, then_total, nat_cmp_total};
-ghost use Rattle.seg_spec.specs.Heap.{Span, Tile, units_at, link_at, best_fit, IsFreeTree};
+ghost use Rattle.seg_spec.specs.Heap.{Span, span, link_at, best_fit, IsFreeTree};
 ghost use Rattle.seg_spec.specs.Window.{with_bytes};
 ghost use Rattle.seg_spec.proofs.BytesLaws.{number-slice};
 ghost use Rattle.seg_spec.proofs.OrderSteps.{then_steps_up};
 ghost use Rattle.seg_rbtree.specs.Parts.{part};
 ghost use Rattle.seg_rbtree.specs.Roots.{root_word};
-ghost use Rattle.seg_block.specs.Blocks.{IsBlock};
-ghost use Rattle.seg_block.specs.FreeBlocks.{AreFreeBlocks};
-ghost use Rattle.seg_block.specs.Tiling.{tile, IsTiling, Retiles};
-ghost use Rattle.seg_bestfit.specs.FreeTree.{by_units, Leaves, Joins};
+ghost use Rattle.seg_block.specs.Blocks.{block_end, Covers, LiesIn, IsSized};
+ghost use Rattle.seg_bestfit.specs.FreeTree.{node_units, by_units, AreGaps, LeavesTree, JoinsTree};
 
-use seg_block::{Block, LINK, TAG, UNIT, block_at, set_size, units};
-use seg_ptr::{Window, header};
+use crate::bestfit::BestFit;
+use seg_block::{Block, FreeStructure, HEAP_START, LINK, TAG, UNIT, block_at, set_size, units};
+use seg_ptr::header::FREE;
+use seg_ptr::{MAX_LEN, Window};
 use seg_rbtree::{NodeOrder, Tree};
 use std::alloc::Allocator;
 use std::cmp::Ordering;
@@ -24,7 +24,7 @@ pub(crate) struct BySize;
 
 /// The units of the free block with this node.
 fn size<A: Allocator>(w: &Window<A>, node: u32) -> u32
-    ensures { result ≡ units_at w.now.bytes (node - 16) }
+    ensures { result ≡ node_units w.now.bytes node }
 {
     units(w, node.saturating_sub(UNIT))
 }
@@ -34,7 +34,7 @@ impl NodeOrder<u32> for BySize {
 
     ghost compare = { λ _ bytes. by_units bytes };
 
-    ghost compare_key = { λ _ bytes x key. nat_cmp (units_at bytes (x - 16)) key };
+    ghost compare_key = { λ _ bytes x key. nat_cmp (node_units bytes x) key };
 
     ghost read = { λ _ _ x. part (x - 16) 4 ∷ [] };
 
@@ -46,36 +46,44 @@ impl NodeOrder<u32> for BySize {
         size(w, node).cmp(&key)
     }
 
-    ghost total = { λ _ _ bytes. then_total (on_total (λ x. units_at bytes (x - 16)) nat_cmp_total) nat_cmp_total };
+    ghost total = { λ _ _ bytes.
+        then_total (on_total (node_units bytes) nat_cmp_total) nat_cmp_total };
 
-    ghost keyed = { λ _ _ bytes x y key less. then_steps_up nat_cmp_total (units_at bytes (x - 16)) (units_at bytes (y - 16)) key (nat_cmp x y) less };
+    ghost keyed = { λ _ _ bytes x y key less.
+        then_steps_up nat_cmp_total (node_units bytes x) (node_units bytes y) key
+        (nat_cmp x y) less };
 
     ghost apart = { λ _ _ _ x low. (inl (omega (arith, low)), tt) };
 
     ghost steady = { λ _ _ old new x y same_x same_y i.
-        ordering_then (nat_cmp (number-slice 4 old new (x - 16) (x - 16) same_x.0 i % 2 ^ 31) (number-slice 4 old new (y - 16) (y - 16) same_y.0 i % 2 ^ 31)) (nat_cmp x y) };
+        ordering_then
+        (nat_cmp (number-slice 4 old new (x - 16) (x - 16) same_x.0 i % 2 ^ 31)
+        (number-slice 4 old new (y - 16) (y - 16) same_y.0 i % 2 ^ 31)) (nat_cmp x y) };
 }
 
 /// The tree of free blocks.
 pub(crate) fn free_tree() -> Tree
-    ensures { root_word result ≡ 24 }
+    ensures { root_word result ≡ FREE }
 {
-    Tree::new(header::FREE)
+    Tree::new(FREE)
 }
 
 /// The block with this node.
 fn node_block<A: Allocator>(w: &Window<A>, node: u32) -> Option<Block>
-    ensures bounds { IfSome result (λ f. (2 ≤ f.units) × (f.at + 16 * f.units ≤ length w.now.bytes) × (length w.now.bytes ≤ 2 ^ 30)) }
-    ensures read { (g : Span) → node ≡ g.at + 16 → IsBlock w.now.bytes g → IsSomeAnd result (λ f. (f.at ≡ g.at) × (f.units ≡ g.units)) }
+    ensures bounds { IfSome result (LiesIn w.now.bytes) }
+    ensures read { (g : Span) → node ≡ g.at + UNIT → IsSized w.now.bytes g
+        → IsSomeAnd result (λ f. Covers f g) }
 {
     block_at(w, node.checked_sub(UNIT)?)
 }
 
 /// The smallest gap of at least `need` units, the lowest among equals.
 pub(crate) fn best_fit<A: Allocator>(w: &Window<A>, need: u32) -> Option<Block>
-    ensures bounds { IfSome result (λ f. (need ≤ f.units) × (2 ≤ f.units) × (f.at + 16 * f.units ≤ length w.now.bytes) × (length w.now.bytes ≤ 2 ^ 30)) }
-    ensures best { (gs : List Span) → IsFreeTree w.now.bytes gs → AreFreeBlocks w.now.bytes 704 gs → 704 ≤ length w.now.bytes → length w.now.bytes ≤ 2 ^ 30
-        → MatchOption result (best_fit gs need ≡ None) (λ f. best_fit gs need ≡ Some (record { at = f.at; units = f.units })) }
+    ensures bounds { IfSome result (λ f. (need ≤ f.units) × LiesIn w.now.bytes f) }
+    ensures best { (gs : List Span) → IsFreeTree w.now.bytes gs → AreGaps w.now.bytes gs
+        → HEAP_START ≤ length w.now.bytes → length w.now.bytes ≤ MAX_LEN
+        → MatchOption result (best_fit gs need ≡ None)
+        (λ f. best_fit gs need ≡ Some (span f.at f.units)) }
 {
     let Some(node) = free_tree().first_at_least(w, &BySize, need).node else {
         return None;
@@ -91,44 +99,49 @@ pub(crate) fn best_fit<A: Allocator>(w: &Window<A>, need: u32) -> Option<Block>
 
 /// Takes a free block out of the tree.
 pub(crate) fn take_out<A: Allocator>(w: &mut Window<A>, block: Block)
-    requires { block.at + 16 * block.units ≤ 2 ^ 30 }
+    requires { block_end block ≤ MAX_LEN }
     ensures host { w.new ≡ with_bytes w.old w.new.bytes }
-    ensures leaves { length w.old.bytes ≤ 2 ^ 30 → (xs ys : List Span) → AreFreeBlocks w.old.bytes 704 (xs ++ record { at = block.at; units = block.units } ∷ ys) → IsFreeTree w.old.bytes (xs ++ record { at = block.at; units = block.units } ∷ ys)
-        → Leaves w.old.bytes w.new.bytes xs (record { at = block.at; units = block.units }) ys }
+    ensures leaves { length w.old.bytes ≤ MAX_LEN → (xs ys : List Span)
+        → AreGaps w.old.bytes (xs ++ span block.at block.units ∷ ys)
+        → IsFreeTree w.old.bytes (xs ++ span block.at block.units ∷ ys)
+        → LeavesTree w.old.bytes w.new.bytes xs (span block.at block.units) ys }
 {
     free_tree().remove(w, &BySize, block.at + UNIT);
 }
 
 /// Puts a free block into the tree.
 pub(crate) fn put_in<A: Allocator>(w: &mut Window<A>, block: Block)
-    requires { block.at + 16 * block.units ≤ 2 ^ 30 }
+    requires { block_end block ≤ MAX_LEN }
     ensures host { w.new ≡ with_bytes w.old w.new.bytes }
-    ensures joins { length w.old.bytes ≤ 2 ^ 30 → (xs ys : List Span) → AreFreeBlocks w.old.bytes 704 (xs ++ record { at = block.at; units = block.units } ∷ ys) → IsFreeTree w.old.bytes (xs ++ ys) → link_at w.old.bytes block.at ≡ None
-        → Joins w.old.bytes w.new.bytes xs (record { at = block.at; units = block.units }) ys }
+    ensures joins { length w.old.bytes ≤ MAX_LEN → (xs ys : List Span)
+        → AreGaps w.old.bytes (xs ++ span block.at block.units ∷ ys)
+        → IsFreeTree w.old.bytes (xs ++ ys) → link_at w.old.bytes block.at ≡ None
+        → JoinsTree w.old.bytes w.new.bytes xs (span block.at block.units) ys }
 {
     free_tree().insert(w, &BySize, block.at + UNIT);
 }
 
-/// Makes a free block live.
-pub(crate) fn take<A: Allocator>(w: &mut Window<A>, block: Block)
-    requires { block.at + 16 * block.units ≤ 2 ^ 30 }
-    ensures host { w.new ≡ with_bytes w.old w.new.bytes }
-    ensures tiles { (xs ys : List Tile) → IsTiling 1 w.old.bytes (xs ++ tile block.at block.units false ∷ ys)
-        → Retiles 1 w.old.bytes w.new.bytes xs (tile block.at block.units true ∷ []) ys × (link_at w.new.bytes block.at ≡ None) }
-{
-    take_out(w, block);
-    set_size(w, block.at, block.units, true);
-}
+impl FreeStructure for BestFit {
+    ghost code = { 1 };
 
-/// Makes a live block free.
-pub(crate) fn release<A: Allocator>(w: &mut Window<A>, block: Block)
-    requires { block.at + 16 * block.units ≤ 2 ^ 30 }
-    ensures host { w.new ≡ with_bytes w.old w.new.bytes }
-    ensures tiles { (xs ys : List Tile) → IsTiling 1 w.old.bytes (xs ++ tile block.at block.units true ∷ ys)
-        → Retiles 1 w.old.bytes w.new.bytes xs (tile block.at block.units false ∷ []) ys }
-{
-    w.put32(block.at as usize + TAG, 0);
-    w.point(block.at as usize + LINK, None);
-    set_size(w, block.at, block.units, false);
-    put_in(w, block);
+    /// The tree finds a block by its size and its position.
+    type Predecessor = ();
+
+    ghost leads = { λ _ _. ⊤ };
+
+    fn predecessor<A: Allocator>(_w: &Window<A>, _block: Block) {}
+
+    fn take<A: Allocator>(w: &mut Window<A>, _predecessor: (), block: Block) {
+        take_out(w, block);
+        set_size(w, block.at, block.units, true);
+    }
+
+    fn release<A: Allocator>(w: &mut Window<A>, _predecessor: (), block: Block) {
+        w.put32(block.at as usize + TAG, 0);
+        w.point(block.at as usize + LINK, None);
+        set_size(w, block.at, block.units, false);
+        put_in(w, block);
+    }
+
+    ghost leads_past = { λ _ _ _ _ _. tt };
 }

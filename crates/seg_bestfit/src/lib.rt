@@ -4,6 +4,5 @@
 
 mod bestfit;
 mod free_tree;
-mod live;
 
 pub use bestfit::{BestFit, locate};

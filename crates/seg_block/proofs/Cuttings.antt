@@ -37,7 +37,8 @@ cut-front (t ∷ xs) gs from to end f h =
 prefix_word : (bytes : List ℕ) (n q : ℕ) → q + 4 ≤ length bytes - 16 * n → word (without_last bytes n) q ≡ word bytes q
 prefix_word bytes n q high = number-part 4 bytes 0 (length bytes - 16 * n) q (omega arith) high ∙ ap (λ p. word bytes p) (zero-add q)
 
-prefix_tiling : {allocator : ℕ} (bytes : List ℕ) (n : ℕ) (ts : List Tile) → length bytes ≤ 2 ^ 30 → 736 ≤ length bytes - 16 * n → Fill heap_start ts (length bytes - 16 * n) → AreHeaders bytes 0 ts → HoldsGaps allocator bytes (free_of ts) → IsTiling allocator (without_last bytes n) ts
+prefix_tiling : {allocator : ℕ} (bytes : List ℕ) (n : ℕ) (ts : List Tile) → length bytes ≤ 2 ^ 30 → 736 ≤ length bytes - 16 * n → Fill heap_start ts (length bytes - 16 * n)
+    → AreHeaders bytes 0 ts → HoldsGaps allocator bytes (free_of ts) → IsTiling allocator (without_last bytes n) ts
 prefix_tiling {allocator} bytes n ts small large filled headers free =
     let end = length bytes - 16 * n in
     let long : length (without_last bytes n) ≡ end = length-take-le end bytes (omega arith) in
@@ -77,8 +78,10 @@ module _ {allocator : ℕ} (old : List ℕ) (large : 736 ≤ length old) (h : Is
   old_gaps = old_is.gaps_is ∙ free_of-append xs (tile at u l ∷ [])
 
   -- to bytes in which the free structure holds the gaps among these tiles
-  pub cut_to : (new : List ℕ) (n : ℕ) (ts : List Tile) → length new ≡ length old → 736 ≤ length old - 16 * n → Fill heap_start ts (length old - 16 * n) → AreHeaders new 0 ts → HoldsGaps allocator new (free_of ts) → AreApart true ts → live_of ts ≡ live_of (xs ++ tile at u l ∷ [])
-      → n ≡ units_to_cut (gaps old) (length old) → word new 12 ≡ (length old - 16 * n) / 16 → Agrees old new 0 12 → Agrees old new 16 24 → Agrees old new 28 heap_start → ((b : Span) → Contains (live old) b → Agrees old new (b.at + 8) (end_of b)) → Cuts allocator old new n
+  pub cut_to : (new : List ℕ) (n : ℕ) (ts : List Tile) → length new ≡ length old → 736 ≤ length old - 16 * n → Fill heap_start ts (length old - 16 * n) → AreHeaders new 0 ts
+      → HoldsGaps allocator new (free_of ts) → AreApart true ts → live_of ts ≡ live_of (xs ++ tile at u l ∷ [])
+      → n ≡ units_to_cut (gaps old) (length old) → word new 12 ≡ (length old - 16 * n) / 16 → Agrees old new 0 12 → Agrees old new 16 24 → Agrees old new 28 heap_start
+      → ((b : Span) → Contains (live old) b → Agrees old new (b.at + 8) (end_of b)) → Cuts allocator old new n
   cut_to new n ts long enough filled headers free ts_apart same n_is size front words back blocks =
       let short : length (without_last new n) ≡ length old - 16 * n = length-take-le (length new - 16 * n) new (omega arith) ∙ ap (λ m. m - 16 * n) long in
       let small = was.tiled.small in
@@ -113,12 +116,15 @@ module _ {allocator : ℕ} (old : List ℕ) (large : 736 ≤ length old) (h : Is
       let m = length old / 16 in
       let new = with_size m in
       let whole : length old ≡ length old - 16 * 0 = omega arith in
-      let none : units_to_cut (gaps old) (length old) ≡ 0 = ap (λ gs. units_to_cut gs (length old)) (old_gaps ∙ ap (λ c. free_of xs ++ free_of (tile at u c ∷ [])) is) ∙ cut-front xs [] heap_start at (length old) places.0 (let p = last_place in omega arith) in
+      let none : units_to_cut (gaps old) (length old) ≡ 0 = ap (λ gs. units_to_cut gs (length old)) (old_gaps ∙ ap (λ c. free_of xs ++ free_of (tile at u c ∷ [])) is)
+      ∙ cut-front xs [] heap_start at (length old) places.0 (let p = last_place in omega arith) in
       let same = λ (p k : ℕ) (low : 16 ≤ p) (high : p + k ≤ length old). IsSame-agrees old new p (p + k) p k (agrees_size m p (p + k) (inr low)) (omega arith) (omega arith) high in
       cut_to new 0 (xs ++ tile at u l ∷ []) (length-set_number 4 old 12 m) (omega arith) (subst (λ e. Fill heap_start (xs ++ tile at u l ∷ []) e) whole was.tiled.filled)
       (AreHeaders-words old new (xs ++ tile at u l ∷ []) heap_start (length old) 0 (λ q low high. word_size m q (omega arith)) was.tiled.filled was.tiled.headers)
-      (HoldsGaps-kept old new allocator (free_of (xs ++ tile at u l ∷ [])) (same 24 4 (omega arith) (omega arith)) (free_kept old new (xs ++ tile at u l ∷ []) heap_start (length old) (λ p k low high. same p k (omega arith) high) was.tiled.filled) was.free)
-      apart refl (sym none) (number-set_same 4 old 12 m (omega arith) (let k = was.tiled.small in omega arith) ∙ ap (λ x. x / 16) whole) (agrees_size m 0 12 (inl (omega arith))) (agrees_size m 16 24 (inr (omega arith))) (agrees_size m 28 heap_start (inr (omega arith)))
+      (HoldsGaps-kept old new allocator (free_of (xs ++ tile at u l ∷ [])) (same 24 4 (omega arith) (omega arith))
+      (free_kept old new (xs ++ tile at u l ∷ []) heap_start (length old) (λ p k low high. same p k (omega arith) high) was.tiled.filled) was.free)
+      apart refl (sym none) (number-set_same 4 old 12 m (omega arith) (let k = was.tiled.small in omega arith) ∙ ap (λ x. x / 16) whole) (agrees_size m 0 12 (inl (omega arith)))
+      (agrees_size m 16 24 (inr (omega arith))) (agrees_size m 28 heap_start (inr (omega arith)))
       (λ b c. agrees_size m (b.at + 8) (end_of b) (inr (let w = block_low b c in omega arith)))
 
   module _ (is_free : l ≡ false) where

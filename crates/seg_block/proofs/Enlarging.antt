@@ -19,7 +19,8 @@ use Rattle.seg_block.proofs.Tiled.{around}
 pub flag_is : (old : List ℕ) (xs : List Tile) (at u : ℕ) (l : Bool) → AreHeaders old 0 (xs ++ tile at u l ∷ []) → is_live_at old at ≡ l
 flag_is old xs at u l heads = (AreHeaders-back old xs (tile at u l ∷ []) 0 heads).0.live_is
 
-module _ (old : List ℕ) (xs : List Tile) (at u n end : ℕ) (l : Bool) (small : length old ≤ 2 ^ 30) (more : u ≤ n) (inside : at + 16 * n ≡ length old) (filled : Fill heap_start (xs ++ tile at u l ∷ []) end) (heads : AreHeaders old 0 (xs ++ tile at u l ∷ [])) where
+module _ (old : List ℕ) (xs : List Tile) (at u n end : ℕ) (l : Bool) (small : length old ≤ 2 ^ 30) (more : u ≤ n) (inside : at + 16 * n ≡ length old)
+    (filled : Fill heap_start (xs ++ tile at u l ∷ []) end) (heads : AreHeaders old 0 (xs ++ tile at u l ∷ [])) where
   abbrev pub larger : List ℕ
   larger = set_size old at n l
 
@@ -74,7 +75,8 @@ module _ (old : List ℕ) (xs : List Tile) (at u n end : ℕ) (l : Bool) (small 
       }
 
 -- from what the steps ensure
-pub enlarged_live : {allocator : ℕ} (old new : List ℕ) (xs : List Tile) (at u n : ℕ) (l : Bool) → length old ≤ 2 ^ 30 → u ≤ n → Fill heap_start (xs ++ tile at u l ∷ []) (at + 16 * u) → AreHeaders old 0 (xs ++ tile at u l ∷ []) → HoldsGaps allocator old (free_of (xs ++ tile at u l ∷ [])) → at + 16 * n ≡ length old
+pub enlarged_live : {allocator : ℕ} (old new : List ℕ) (xs : List Tile) (at u n : ℕ) (l : Bool) → length old ≤ 2 ^ 30 → u ≤ n → Fill heap_start (xs ++ tile at u l ∷ []) (at + 16 * u)
+    → AreHeaders old 0 (xs ++ tile at u l ∷ []) → HoldsGaps allocator old (free_of (xs ++ tile at u l ∷ [])) → at + 16 * n ≡ length old
     → is_live_at old at ≡ true → new ≡ set_size old at n true → Enlarges allocator old new xs at u n l
 enlarged_live {allocator} old new xs at u n l small more filled heads holds inside flag new_is =
     let is : l ≡ true = sym (flag_is old xs at u l heads) ∙ flag in

@@ -3,7 +3,7 @@ use Rattle.std.proofs.Common.{◌≡◌, ◌≢◌, ℕ, ◌+◌, ◌-◌, ◌*�
 use Rattle.std.specs.Prelude.{Contains}
 use Rattle.seg_spec.specs.Bytes.{Agrees}
 use Rattle.seg_spec.specs.Heap.{Span, Tile, AreApart, live, gaps, IsHeap, room_at, expanded, shrunk, Expands, Shrinks}
-use Rattle.seg_block.specs.Blocks.{IsBlock, IsResized}
+use Rattle.seg_block.specs.Blocks.{IsSized, IsResized}
 use Rattle.seg_block.specs.Tiling.{tile, IsTiling, Retiles}
 use Rattle.seg_block.proofs.LiveBlocks.{read_is, read_held}
 use Rattle.seg_block.proofs.Resized.{HasGap, room_cases, resized_whole, resized_cut, resized_less, expands_not, expands_to, shrinks_to, before, behind, was}
@@ -13,12 +13,14 @@ module _ {allocator : ℕ} (Place : List Tile → Type 0) (old mid new : List �
     (none : room ≡ 0 → mid ≡ old)
     (absorb : (xs ys : List Tile) → Place xs → IsTiling allocator old (xs ++ (tile at u true ∷ tile (at + 16 * u) room false ∷ ys)) → Retiles allocator old mid xs (tile at (u + room) true ∷ []) ys × Agrees old mid (at + 8) (at + 16 * u))
     (whole : n ≡ u + room → new ≡ mid)
-    (cut : n + 2 ≤ u + room → (xs ys : List Tile) → Place xs → IsTiling allocator mid (xs ++ tile at (u + room) true ∷ ys) → Retiles allocator mid new xs (tile at n true ∷ tile (at + 16 * n) (u + room - n) false ∷ []) ys × Agrees mid new (at + 8) (at + 16 * n)) where
+    (cut : n + 2 ≤ u + room → (xs ys : List Tile) → Place xs → IsTiling allocator mid (xs ++ tile at (u + room) true ∷ ys)
+    → Retiles allocator mid new xs (tile at n true ∷ tile (at + 16 * n) (u + room - n) false ∷ []) ys × Agrees mid new (at + 8) (at + 16 * n)) where
   -- no gap is there
   cut_alone : room ≡ 0 → AreApart false (behind old at u h held) → n + 2 ≤ u + room → IsResized allocator old new at n
   cut_alone e apart more =
       let same : u + room ≡ u = omega arith in
-      let c = subst (λ (p : List ℕ × ℕ). IsTiling allocator p.0 (before old at u h held ++ tile at p.1 true ∷ behind old at u h held) → Retiles allocator p.0 new (before old at u h held) (tile at n true ∷ tile (at + 16 * n) (p.1 - n) false ∷ []) (behind old at u h held) × Agrees p.0 new (at + 8) (at + 16 * n))
+      let c = subst (λ (p : List ℕ × ℕ). IsTiling allocator p.0 (before old at u h held ++ tile at p.1 true ∷ behind old at u h held)
+      → Retiles allocator p.0 new (before old at u h held) (tile at n true ∷ tile (at + 16 * n) (p.1 - n) false ∷ []) (behind old at u h held) × Agrees p.0 new (at + 8) (at + 16 * n))
       (λ i. (none e i, same i)) (cut more (before old at u h held) (behind old at u h held) place) in
       resized_less old at u h held new n apart (c (was old at u h held))
 
@@ -44,7 +46,7 @@ module _ {allocator : ℕ} (Place : List Tile → Type 0) (old mid new : List �
 
 -- ---- at the block that was named
 
-module _ {allocator : ℕ} (old : List ℕ) (named x at u : ℕ) (h : IsHeap allocator old) (held : Contains (live old) (record { at = named; units = x })) (read : (g : Span) → named ≡ g.at → IsBlock old g → (at ≡ g.at) × (u ≡ g.units))
+module _ {allocator : ℕ} (old : List ℕ) (named x at u : ℕ) (h : IsHeap allocator old) (held : Contains (live old) (record { at = named; units = x })) (read : (g : Span) → named ≡ g.at → IsSized old g → (at ≡ g.at) × (u ≡ g.units))
     (room : ℕ) (room_is : (allocator : ℕ) → IsHeap allocator old → Contains (live old) (record { at = at; units = u }) → room ≡ room_at (gaps old) (at + 16 * u)) where
   is : (at ≡ named) × (u ≡ x)
   is = read_is old named x h held at u read

@@ -184,7 +184,8 @@ module _ {allocator : ℕ} (old : List ℕ) (n : ℕ) (small : length old ≤ 2 
           front_kept = Agrees-trans old sized new 0 12 (agrees_sized 0 12 (inl (omega arith))) (Agrees-within sized new 0 24 0 12 front_kept (omega arith) (omega arith));
           words_kept = Agrees-trans old sized new 16 24 (agrees_sized 16 24 (inr (omega arith))) (Agrees-within sized new 0 24 16 24 front_kept (omega arith) (omega arith));
           back_kept = Agrees-trans old sized new 28 heap_start (agrees_sized 28 heap_start (inr (omega arith))) g.spared.back_kept;
-          blocks_kept = λ b c. let w = live_low b c in Agrees-trans old sized new (b.at + 8) (end_of b) (agrees_sized (b.at + 8) (end_of b) (inr (omega arith))) (g.spared.tiles_kept b (subst (λ s. Contains s b) (live_was ∙ ap live_of parts) c));
+          blocks_kept = λ b c. let w = live_low b c in Agrees-trans old sized new (b.at + 8) (end_of b) (agrees_sized (b.at + 8) (end_of b) (inr (omega arith)))
+              (g.spared.tiles_kept b (subst (λ s. Contains s b) (live_was ∙ ap live_of parts) c));
           extends = now.live_is ∙ sym (after_extend-one xs heap_start at u end l places.1 places.0 places.2) ∙ (λ i. after_extend (live_of (sym parts i)) end (sym one i)) ∙ ap (λ s. after_extend s end n) (sym live_was);
         }
 
@@ -264,7 +265,8 @@ module _ {allocator : ℕ} (old : List ℕ) (n : ℕ) (small : length old ≤ 2 
         ∙ append-nil (live_of (tiles front)) ∙ sym live_was in
         record {
           heap = g.heap;
-          size_is = number-agrees added new 0 24 4 12 g.kept.front_kept (omega arith) (omega arith) ∙ number-agrees sized added 0 16 4 12 (added_kept 0 16 (omega arith)) (omega arith) (omega arith) ∙ size_word_is ∙ ap (λ m. m / 16) (sym long_new);
+          size_is = number-agrees added new 0 24 4 12 g.kept.front_kept (omega arith) (omega arith) ∙ number-agrees sized added 0 16 4 12 (added_kept 0 16 (omega arith)) (omega arith) (omega arith)
+              ∙ size_word_is ∙ ap (λ m. m / 16) (sym long_new);
           length_kept = long_new;
           front_kept = Agrees-trans old added new 0 12 (agrees_added 0 12 (inl (omega arith)) (omega arith)) (Agrees-within added new 0 24 0 12 g.kept.front_kept (omega arith) (omega arith));
           words_kept = Agrees-trans old added new 16 24 (agrees_added 16 24 (inr (omega arith)) (omega arith)) (Agrees-within added new 0 24 16 24 g.kept.front_kept (omega arith) (omega arith));
@@ -272,13 +274,15 @@ module _ {allocator : ℕ} (old : List ℕ) (n : ℕ) (small : length old ≤ 2 
           blocks_kept = λ b c.
               let w = live_low b c in
               let still = g.kept.blocks_kept b b (subst (λ s. Contains s b) (sym added_live) (Contains-append_left (live front) (record { at = end; units = n } ∷ []) b c)) (subst (λ s. Contains s b) (sym left) c) refl in
-              Agrees-trans old added new (b.at + 8) (end_of b) (agrees_added (b.at + 8) (end_of b) (inr (omega arith)) w.1) (Agrees-within added new (b.at + 8) (b.at + 16 * min b.units b.units) (b.at + 8) (end_of b) still (omega arith) (omega arith));
+              Agrees-trans old added new (b.at + 8) (end_of b) (agrees_added (b.at + 8) (end_of b) (inr (omega arith)) w.1)
+              (Agrees-within added new (b.at + 8) (b.at + 16 * min b.units b.units) (b.at + 8) (end_of b) still (omega arith) (omega arith));
           extends = left ∙ sym (after_extend-more (live front) end n (λ e. absurd (omega arith)));
         }
 
 -- ---- from what the steps ensure
 
-module _ {allocator : ℕ} (old after : List ℕ) (n len : ℕ) (small : length old ≤ 2 ^ 30) (room : 736 + 16 * n ≤ length old) (h : IsHeap allocator (without_last old n)) (len_is : len ≡ length old) (after_is : after ≡ set_word old 12 (len / 16)) where
+module _ {allocator : ℕ} (old after : List ℕ) (n len : ℕ) (small : length old ≤ 2 ^ 30) (room : 736 + 16 * n ≤ length old) (h : IsHeap allocator (without_last old n))
+    (len_is : len ≡ length old) (after_is : after ≡ set_word old 12 (len / 16)) where
   pub sized_is : after ≡ sized old n small room h
   sized_is = after_is ∙ ap (λ m. set_word old 12 (m / 16)) len_is
 
@@ -306,7 +310,8 @@ module _ {allocator : ℕ} (old after : List ℕ) (n len : ℕ) (small : length 
         let k = ap length after_is ∙ length-set_number 4 old 12 (len / 16) in
         (omega arith, omega arith)
 
-    pub extended_one : n ≡ 1 → (new : List ℕ) → ((xs : List Tile) (l : Bool) → Fill 704 (xs ++ tile at u l ∷ []) (at + 16 * u) → AreHeaders after 0 (xs ++ tile at u l ∷ []) → HoldsGaps allocator after (free_of (xs ++ tile at u l ∷ [])) → Enlarges allocator after new xs at u ((len - at) / 16) l) → Extends allocator old new n
+    pub extended_one : n ≡ 1 → (new : List ℕ) → ((xs : List Tile) (l : Bool) → Fill 704 (xs ++ tile at u l ∷ []) (at + 16 * u) → AreHeaders after 0 (xs ++ tile at u l ∷ [])
+        → HoldsGaps allocator after (free_of (xs ++ tile at u l ∷ [])) → Enlarges allocator after new xs at u ((len - at) / 16) l) → Extends allocator old new n
     extended_one one new enlarges =
         let e = the_end in
         let sized_same = sym sized_is in
@@ -317,7 +322,8 @@ module _ {allocator : ℕ} (old after : List ℕ) (n len : ℕ) (small : length 
         (subst (λ b. HoldsGaps allocator b (free_of (e.front ++ tile at u e.live ∷ []))) sized_same (last_free old n small room h e.front at u e.live e.parts)) in
         extends_one old n small room h e.front at u e.live e.parts one new (subst (λ (p : List ℕ × ℕ). Enlarges allocator p.0 new e.front at u p.1 e.live) (λ i. (sized_is i, (end_units one).0 i)) g)
 
-    pub extended_more : 2 ≤ n → (mid new : List ℕ) → mid ≡ set_size (set_word after (len - 16 * n + 4) u) (len - 16 * n) n true → (IsHeap allocator mid → IsLive mid (len - 16 * n) → Gives allocator mid new (len - 16 * n)) → Extends allocator old new n
+    pub extended_more : 2 ≤ n → (mid new : List ℕ) → mid ≡ set_size (set_word after (len - 16 * n + 4) u) (len - 16 * n) n true
+        → (IsHeap allocator mid → IsLive mid (len - 16 * n) → Gives allocator mid new (len - 16 * n)) → Extends allocator old new n
     extended_more more mid new mid_is gives =
         let e = the_end in
         let place : len - 16 * n ≡ length old - 16 * n = ap (λ m. m - 16 * n) len_is in

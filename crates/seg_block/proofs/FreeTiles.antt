@@ -74,7 +74,8 @@ has_free (t ∷ ts) (s ∷ seen) rest g e =
 
 -- ---- the gap that is picked is taken, and cut
 
-module _ {allocator : ℕ} (Place : List Tile → Type 0) (old : List ℕ) (u at units : ℕ) (h : IsHeap allocator old) (picked : pick allocator (gaps old) u ≡ Some (record { at = at; units = units })) (seen rest : List Span) (parts : gaps old ≡ seen ++ record { at = at; units = units } ∷ rest) where
+module _ {allocator : ℕ} (Place : List Tile → Type 0) (old : List ℕ) (u at units : ℕ) (h : IsHeap allocator old) (picked : pick allocator (gaps old) u ≡ Some (record { at = at; units = units }))
+    (seen rest : List Span) (parts : gaps old ≡ seen ++ record { at = at; units = units } ∷ rest) where
   pub around_gap : HasFree (tiles old) seen (record { at = at; units = units })
   around_gap = has_free (tiles old) seen rest (record { at = at; units = units }) (sym (gaps_of_heap old h) ∙ parts)
 
@@ -90,7 +91,8 @@ module _ {allocator : ℕ} (Place : List Tile → Type 0) (old : List ℕ) (u at
   pub takes_gap : (new : List ℕ) (n : ℕ) (mid : List ℕ) → Place tiles_before → n ≡ granted units u → 2 ≤ u → u ≤ units
       → ((xs ys : List Tile) → Place xs → IsTiling allocator old (xs ++ tile at units false ∷ ys) → Retiles allocator old mid xs (tile at units true ∷ []) ys × (link_at mid at ≡ None))
       → (n ≡ units → new ≡ mid)
-      → (n + 2 ≤ units → (xs ys : List Tile) → Place xs → IsTiling allocator mid (xs ++ tile at units true ∷ ys) → Retiles allocator mid new xs (tile at n true ∷ tile (at + 16 * n) (units - n) false ∷ []) ys × Agrees mid new (at + 8) (at + 16 * n))
+      → (n + 2 ≤ units → (xs ys : List Tile) → Place xs → IsTiling allocator mid (xs ++ tile at units true ∷ ys)
+      → Retiles allocator mid new xs (tile at n true ∷ tile (at + 16 * n) (units - n) false ∷ []) ys × Agrees mid new (at + 8) (at + 16 * n))
       → Takes allocator old new u (Some at)
   takes_gap new n mid place n_is large enough take whole cut =
       let t = take tiles_before tiles_behind place gap_tiling in

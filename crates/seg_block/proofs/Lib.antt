@@ -20,3 +20,4 @@ pub mod Relabelling
 pub mod ReadFree
 pub mod Cuttings
 pub mod Enlarging
+pub mod JoiningBefore

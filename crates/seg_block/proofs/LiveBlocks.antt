@@ -7,9 +7,9 @@ use Rattle.seg_spec.proofs.BytesLaws.{Agrees-within}
 use Rattle.seg_spec.proofs.TileLaws.{Fill-le, live_of-append, AreApart-front, AreApart-back}
 use Rattle.seg_block.specs.Tiling.{tile, IsTiling, Spares}
 use Rattle.seg_block.proofs.LiveTiles.{cons_cases}
-use Rattle.seg_block.specs.Blocks.{IsBlock}
+use Rattle.seg_block.specs.Blocks.{IsSized}
 use Rattle.seg_block.proofs.Tiled.{around}
-use Rattle.seg_block.proofs.Neighbours.{IsBlock-tile}
+use Rattle.seg_block.proofs.Neighbours.{IsSized-tile}
 use Rattle.seg_block.proofs.Heaps.{tiling_of_heap, heap_of_tiling, IsTiledHeap}
 
 -- the tiles around a live one
@@ -95,13 +95,13 @@ module _ {allocator : ℕ} (old : List ℕ) (at u : ℕ) (h : IsHeap allocator o
 -- ---- a block that was read at its position
 
 module _ {allocator : ℕ} (old : List ℕ) (named x : ℕ) (h : IsHeap allocator old) (held : Contains (live old) (record { at = named; units = x })) where
-  stated : IsBlock old (record { at = named; units = x })
-  stated = let b = block old named x h held in IsBlock-tile old b.xs b.ys named x true (block_tiling old named x h held).tiled
+  stated : IsSized old (record { at = named; units = x })
+  stated = let b = block old named x h held in IsSized-tile old b.xs b.ys named x true (block_tiling old named x h held).tiled
 
-  pub unread : ((g : Span) → named ≡ g.at → IsBlock old g → ⊥) → ⊥
+  pub unread : ((g : Span) → named ≡ g.at → IsSized old g → ⊥) → ⊥
   unread none = none (record { at = named; units = x }) refl stated
 
-  module _ (at u : ℕ) (read : (g : Span) → named ≡ g.at → IsBlock old g → (at ≡ g.at) × (u ≡ g.units)) where
+  module _ (at u : ℕ) (read : (g : Span) → named ≡ g.at → IsSized old g → (at ≡ g.at) × (u ≡ g.units)) where
     pub read_is : (at ≡ named) × (u ≡ x)
     read_is = read (record { at = named; units = x }) refl stated
 

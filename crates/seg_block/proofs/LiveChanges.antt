@@ -14,7 +14,8 @@ join-retiles {allocator} old xs ys at u v was =
     record {
       tiling = record {
         tiled = done.tiled;
-        free = between_kept old (set_size old at (u + v) true) at (at + 16 * u + 16 * v) (omega arith) (join-kept old xs ys at u v true true was.tiled) xs ys (join-front old xs ys at u v true true was.tiled) (join-back old xs ys at u v true true was.tiled)
+        free = between_kept old (set_size old at (u + v) true) at (at + 16 * u + 16 * v) (omega arith) (join-kept old xs ys at u v true true was.tiled) xs ys
+            (join-front old xs ys at u v true true was.tiled) (join-back old xs ys at u v true true was.tiled)
             allocator (tile at u true ∷ tile (at + 16 * u) v true ∷ []) (tile at (u + v) true ∷ []) refl refl was.free;
       };
       spared = done.spared;

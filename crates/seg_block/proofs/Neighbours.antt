@@ -1,17 +1,17 @@
 -- The blocks that headers state, and those beside them.
-use Rattle.std.proofs.Common.{◌≡◌, ℕ, ◌+◌, ◌*◌, ◌^◌, ◌≤◌, Bool, true, false, List, [], ◌∷◌, ◌++◌, length, Option, Some, None, refl, sym, ap, ◌∙◌, subst, arith}
+use Rattle.std.proofs.Common.{◌≡◌, ℕ, ◌+◌, ◌*◌, ◌≤◌, Bool, true, false, List, [], ◌∷◌, ◌++◌, length, Option, Some, None, refl, sym, ap, ◌∙◌, subst, arith}
 use Rattle.std.specs.Prelude.{IfSome}
 use Rattle.std.proofs.lemmas.List.{append_assoc}
 use Rattle.seg_spec.specs.Heap.{Tile, units_before, is_live_at, heap_start}
 use Rattle.seg_spec.proofs.TileLaws.{Fill-le, Fill-back, AreHeaders-back}
 use Rattle.seg_block.specs.declared.block.Block.{Block}
-use Rattle.seg_block.specs.Blocks.{IsBlock, IsReadFree}
+use Rattle.seg_block.specs.Blocks.{LiesIn, IsSized, IsReadFree}
 use Rattle.seg_block.specs.Tiling.{tile, IsTiled}
 use Rattle.seg_block.proofs.Tiled.{around, aligned_end, header_of}
 
 -- each tile is a block with its size in its header
-pub IsBlock-tile : (bytes : List ℕ) (xs ys : List Tile) (at u : ℕ) (live : Bool) → IsTiled bytes (xs ++ tile at u live ∷ ys) → IsBlock bytes (record { at = at; units = u })
-IsBlock-tile bytes xs ys at u live was =
+pub IsSized-tile : (bytes : List ℕ) (xs ys : List Tile) (at u : ℕ) (live : Bool) → IsTiled bytes (xs ++ tile at u live ∷ ys) → IsSized bytes (record { at = at; units = u })
+IsSized-tile bytes xs ys at u live was =
     let parts = around xs ys heap_start (length bytes) at u live was.filled in
     record {
       aligned = aligned_end xs heap_start at refl parts.0;
@@ -21,10 +21,10 @@ IsBlock-tile bytes xs ys at u live was =
     }
 
 -- the tile behind
-pub next_block : (bytes : List ℕ) (xs ys : List Tile) (at u : ℕ) (live : Bool) (t : Tile) → IsTiled bytes (xs ++ (tile at u live ∷ t ∷ ys)) → (at + 16 * u ≡ t.at) × IsBlock bytes (record { at = t.at; units = t.units })
+pub next_block : (bytes : List ℕ) (xs ys : List Tile) (at u : ℕ) (live : Bool) (t : Tile) → IsTiled bytes (xs ++ (tile at u live ∷ t ∷ ys)) → (at + 16 * u ≡ t.at) × IsSized bytes (record { at = t.at; units = t.units })
 next_block bytes xs ys at u live t was =
     let parts = around xs (t ∷ ys) heap_start (length bytes) at u live was.filled in
-    (sym parts.2.0, IsBlock-tile bytes (xs ++ tile at u live ∷ []) ys t.at t.units t.live (subst (λ l. IsTiled bytes l) (sym (append_assoc xs (tile at u live ∷ []) (t ∷ ys))) was))
+    (sym parts.2.0, IsSized-tile bytes (xs ++ tile at u live ∷ []) ys t.at t.units t.live (subst (λ l. IsTiled bytes l) (sym (append_assoc xs (tile at u live ∷ []) (t ∷ ys))) was))
 
 -- the last tile ends where the bytes end
 pub last_end : (bytes : List ℕ) (xs : List Tile) (at u : ℕ) (live : Bool) → IsTiled bytes (xs ++ tile at u live ∷ []) → at + 16 * u ≡ length bytes
@@ -35,7 +35,7 @@ pub record IsBefore (bytes : List ℕ) (at before : ℕ) (t : Tile) : Type 0 whe
   pub units_is : before ≡ t.units
   pub large : 2 ≤ t.units
   pub end_is : t.at + 16 * t.units ≡ at
-  pub block : IsBlock bytes (record { at = t.at; units = t.units })
+  pub block : IsSized bytes (record { at = t.at; units = t.units })
 
 pub previous_block : (bytes : List ℕ) (xs ys : List Tile) (at u before : ℕ) (live : Bool) (t : Tile) → before ≡ units_before bytes at → IsTiled bytes (xs ++ (t ∷ tile at u live ∷ ys)) → IsBefore bytes at before t
 previous_block bytes xs ys at u before live t is was =
@@ -45,13 +45,13 @@ previous_block bytes xs ys at u before live t is was =
       units_is = is ∙ heads.1.0.before_is;
       large = parts.1;
       end_is = omega (arith, parts.0, parts.2.0);
-      block = IsBlock-tile bytes xs (tile at u live ∷ ys) t.at t.units t.live was;
+      block = IsSized-tile bytes xs (tile at u live ∷ ys) t.at t.units t.live was;
     }
 
 -- a block read at the end of the bytes is none
-pub none_at_end : (result : Option Block) (at len : ℕ) → at ≡ len → IfSome result (λ f. (f.at ≡ at) × (2 ≤ f.units) × (f.at + 16 * f.units ≤ len) × (len ≤ 2 ^ 30)) → result ≡ None
-none_at_end None at len e bounds = refl
-none_at_end (Some f) at len e bounds = absurd (omega (arith, bounds))
+pub none_at_end : (bytes : List ℕ) (result : Option Block) (at : ℕ) → at ≡ length bytes → IfSome result (λ f. (f.at ≡ at) × LiesIn bytes f) → result ≡ None
+none_at_end bytes None at e bounds = refl
+none_at_end bytes (Some f) at e bounds = absurd (omega (arith, bounds))
 
 -- ---- a neighbour that may be free
 

@@ -85,27 +85,34 @@ module _ {allocator : ℕ} (old : List ℕ) (at u : ℕ) (h : IsHeap allocator o
   room_is : room_at (gaps old) (at + 16 * u) ≡ room_at (free_of behind) (at + 16 * u)
   room_is = ap (λ gs. room_at gs (at + 16 * u)) old_gaps ∙ room_at-front before (free_of behind) heap_start at (at + 16 * u) parts.0 (let p = parts.1 in omega arith)
 
-  keeps_block : (new : List ℕ) (n : ℕ) (zs : List Tile) (c : Span) → Fill (at + 16 * n) zs (length new) → 2 ≤ n → Agrees old new (at + 8) (at + 16 * min u n) → (Contains (live_of before) c) ⊎ ((record { at = at; units = n } ≡ c) ⊎ Contains (live_of zs) c) → at ≡ c.at → Agrees old new (at + 8) (at + 16 * min u c.units)
+  keeps_block : (new : List ℕ) (n : ℕ) (zs : List Tile) (c : Span) → Fill (at + 16 * n) zs (length new) → 2 ≤ n → Agrees old new (at + 8) (at + 16 * min u n)
+      → (Contains (live_of before) c) ⊎ ((record { at = at; units = n } ≡ c) ⊎ Contains (live_of zs) c) → at ≡ c.at → Agrees old new (at + 8) (at + 16 * min u c.units)
   keeps_block new n zs c back large own (inl x) e = let w = live_within before heap_start at c parts.0 x in Agrees-within old new (at + 8) (at + 16 * min u n) (at + 8) (at + 16 * min u c.units) own (omega arith) (omega (arith, w.1))
   keeps_block new n zs c back large own (inr (inl x)) e = Agrees-within old new (at + 8) (at + 16 * min u n) (at + 8) (at + 16 * min u c.units) own (omega arith) (omega (arith, ap (λ (s : Span). s.units) x))
   keeps_block new n zs c back large own (inr (inr x)) e = let w = live_within zs (at + 16 * n) (length new) c back x in absurd (omega (arith, w.0))
 
   keeps_any : (new : List ℕ) (n : ℕ) (zs : List Tile) (b c : Span) → Fill (at + 16 * n) zs (length new) → 2 ≤ n → Spares old new (before ++ behind) → Agrees old new (at + 8) (at + 16 * min u n)
-      → (Contains (live_of before) b) ⊎ ((record { at = at; units = u } ≡ b) ⊎ Contains (live_of behind) b) → (Contains (live_of before) c) ⊎ ((record { at = at; units = n } ≡ c) ⊎ Contains (live_of zs) c) → b.at ≡ c.at → Agrees old new (b.at + 8) (b.at + 16 * min b.units c.units)
+      → (Contains (live_of before) b) ⊎ ((record { at = at; units = u } ≡ b) ⊎ Contains (live_of behind) b) → (Contains (live_of before) c) ⊎ ((record { at = at; units = n } ≡ c) ⊎ Contains (live_of zs) c)
+      → b.at ≡ c.at → Agrees old new (b.at + 8) (b.at + 16 * min b.units c.units)
   keeps_any new n zs b c back large s own (inl x) k e =
-      Agrees-within old new (b.at + 8) (end_of b) (b.at + 8) (b.at + 16 * min b.units c.units) (s.tiles_kept b (subst (λ l. Contains l b) (sym (live_of-append before behind)) (Contains-append_left (live_of before) (live_of behind) b x))) (omega arith) (omega arith)
+      Agrees-within old new (b.at + 8) (end_of b) (b.at + 8) (b.at + 16 * min b.units c.units)
+      (s.tiles_kept b (subst (λ l. Contains l b) (sym (live_of-append before behind)) (Contains-append_left (live_of before) (live_of behind) b x))) (omega arith) (omega arith)
   keeps_any new n zs b c back large s own (inr (inr x)) k e =
-      Agrees-within old new (b.at + 8) (end_of b) (b.at + 8) (b.at + 16 * min b.units c.units) (s.tiles_kept b (subst (λ l. Contains l b) (sym (live_of-append before behind)) (Contains-append_right (live_of before) (live_of behind) b x))) (omega arith) (omega arith)
+      Agrees-within old new (b.at + 8) (end_of b) (b.at + 8) (b.at + 16 * min b.units c.units)
+      (s.tiles_kept b (subst (λ l. Contains l b) (sym (live_of-append before behind)) (Contains-append_right (live_of before) (live_of behind) b x))) (omega arith) (omega arith)
   keeps_any new n zs b c back large s own (inr (inl x)) k e =
       subst (λ (b : Span). b.at ≡ c.at → Agrees old new (b.at + 8) (b.at + 16 * min b.units c.units)) x (λ e. keeps_block new n zs c back large own k e) e
 
-  pub resizes : (new : List ℕ) (n : ℕ) (zs : List Tile) → IsTiling allocator new (before ++ tile at n true ∷ zs) → live_of zs ≡ live_of behind → AreApart true zs → Spares old new (before ++ behind) → Agrees old new (at + 8) (at + 16 * min u n) → IsResized allocator old new at n
+  pub resizes : (new : List ℕ) (n : ℕ) (zs : List Tile) → IsTiling allocator new (before ++ tile at n true ∷ zs) → live_of zs ≡ live_of behind → AreApart true zs
+      → Spares old new (before ++ behind) → Agrees old new (at + 8) (at + 16 * min u n) → IsResized allocator old new at n
   resizes new n zs tiling same apart s own =
       let now = heap_of_tiling new (before ++ tile at n true ∷ zs) tiling (AreApart-append before (tile at n true ∷ zs) true (block_front old at u h held) (λ e. refl, apart)) in
       let new_parts = around before zs heap_start (length new) at n true tiling.tiled.filled in
       let new_live = now.live_is ∙ live_of-append before (tile at n true ∷ zs) in
-      let cases = λ (c : Span) (k : Contains (live new) c). ⊎_elim (λ x. inl x) (λ x. inr (cons_cases (record { at = at; units = n }) c (live_of zs) x)) (Contains-append_cases (live_of before) (record { at = at; units = n } ∷ live_of zs) c (subst (λ l. Contains l c) new_live k)) in
-      let olds = λ (b : Span) (k : Contains (live old) b). ⊎_elim (λ x. inl x) (λ x. inr (cons_cases (record { at = at; units = u }) b (live_of behind) x)) (Contains-append_cases (live_of before) (record { at = at; units = u } ∷ live_of behind) b (subst (λ l. Contains l b) old_live k)) in
+      let cases = λ (c : Span) (k : Contains (live new) c). ⊎_elim (λ x. inl x) (λ x. inr (cons_cases (record { at = at; units = n }) c (live_of zs) x))
+      (Contains-append_cases (live_of before) (record { at = at; units = n } ∷ live_of zs) c (subst (λ l. Contains l c) new_live k)) in
+      let olds = λ (b : Span) (k : Contains (live old) b). ⊎_elim (λ x. inl x) (λ x. inr (cons_cases (record { at = at; units = u }) b (live_of behind) x))
+      (Contains-append_cases (live_of before) (record { at = at; units = u } ∷ live_of behind) b (subst (λ l. Contains l b) old_live k)) in
       record {
         heap = now.heap;
         kept = record {
@@ -180,7 +187,8 @@ module _ {allocator : ℕ} (old : List ℕ) (at u : ℕ) (h : IsHeap allocator o
       never : true ≡ false → ⊥
       never e = cc
 
-  pub resized_less : (new : List ℕ) (need : ℕ) → AreApart false behind → Retiles allocator old new before (tile at need true ∷ tile (at + 16 * need) (u - need) false ∷ []) behind × Agrees old new (at + 8) (at + 16 * need) → IsResized allocator old new at need
+  pub resized_less : (new : List ℕ) (need : ℕ) → AreApart false behind → Retiles allocator old new before (tile at need true ∷ tile (at + 16 * need) (u - need) false ∷ []) behind × Agrees old new (at + 8) (at + 16 * need)
+      → IsResized allocator old new at need
   resized_less new need apart c =
       resizes new need (tile (at + 16 * need) (u - need) false ∷ behind) c.0.tiling refl ((λ e. absurd (never e)), apart) c.0.spared
       (Agrees-within old new (at + 8) (at + 16 * need) (at + 8) (at + 16 * min u need) c.1 (omega arith) (omega arith))
@@ -246,7 +254,8 @@ module _ {allocator : ℕ} (old : List ℕ) (at u need : ℕ) (h : IsHeap alloca
 module _ {allocator : ℕ} (old : List ℕ) (at u : ℕ) (h : IsHeap allocator old) (held : Contains (live old) (record { at = at; units = u })) where
   pub room_some : (f : Block) → ((xs ys : List Tile) (l : Bool) (t : Tile) → IsTiled old (xs ++ (tile at u l ∷ t ∷ ys)) → IsReadFree t (Some f)) → ((xs : List Tile) (l : Bool) → IsTiled old (xs ++ tile at u l ∷ []) → Some f ≡ None)
       → f.units ≡ room_at (gaps old) (at + 16 * u)
-  room_some f read none = ⊎_elim (λ n. go (behind old at u h held) refl n.0) (λ g. let tiles = g.1.tiling in ((read (before old at u h held) g.1.rest true (tile (at + 16 * u) g.0 false) tiles.tiled).free refl).1 ∙ sym g.1.room) (room_cases old at u h held)
+  room_some f read none = ⊎_elim (λ n. go (behind old at u h held) refl n.0) (λ g. let tiles = g.1.tiling in ((read (before old at u h held) g.1.rest true (tile (at + 16 * u) g.0 false) tiles.tiled).free refl).1 ∙ sym g.1.room)
+      (room_cases old at u h held)
     where
       no : Some f ≡ None → ⊥
       no e = cc

@@ -34,7 +34,8 @@ others old new xs ys t s = record {
   front_kept = s.front_kept;
   back_kept = s.back_kept;
   tiles_kept = λ b c. s.tiles_kept b (subst (λ l. Contains l b) (sym (ap live_of (put_front-append xs ys t) ∙ live_of-append xs (t ∷ ys)))
-      (⊎_elim (λ h. Contains-append_left (live_of xs) (live_of (t ∷ ys)) b h) (λ h. Contains-append_right (live_of xs) (live_of (t ∷ ys)) b (behind t ys b h)) (Contains-append_cases (live_of xs) (live_of ys) b (subst (λ l. Contains l b) (live_of-append xs ys) c))));
+      (⊎_elim (λ h. Contains-append_left (live_of xs) (live_of (t ∷ ys)) b h) (λ h. Contains-append_right (live_of xs) (live_of (t ∷ ys)) b (behind t ys b h))
+      (Contains-append_cases (live_of xs) (live_of ys) b (subst (λ l. Contains l b) (live_of-append xs ys) c))));
 }
   where
     later : (x b : Span) (l : List Span) → Contains l b → Contains (x ∷ l) b
@@ -69,7 +70,9 @@ module _ {allocator : ℕ} (Place : List Tile → Type 0) (place_more : (xs : Li
       → Retiles allocator old new xs (tile at u true ∷ tile (at + 16 * u) r false ∷ []) ys × Agrees old new (at + 8) (at + 16 * u)
   cuts old cut new xs ys at n u r place was whole large rest_large cut_is releases =
       let t = tile at u true in
-      let c = subst (λ b. Retiles allocator old b xs (t ∷ tile (at + 16 * u) r true ∷ []) ys × Agrees old b (at + 8) (at + 16 * u)) (sym (cut_is ∙ ap (set_split old at u r) (header_of old xs ys (tile at n true) was.tiled).live_is)) (split-retiles old xs ys at n u r was whole large rest_large, (split-replaces old xs ys at n u r true was.tiled whole large rest_large).own_kept) in
+      let c = subst (λ b. Retiles allocator old b xs (t ∷ tile (at + 16 * u) r true ∷ []) ys × Agrees old b (at + 8) (at + 16 * u))
+      (sym (cut_is ∙ ap (set_split old at u r) (header_of old xs ys (tile at n true) was.tiled).live_is))
+      (split-retiles old xs ys at n u r was whole large rest_large, (split-replaces old xs ys at n u r true was.tiled whole large rest_large).own_kept) in
       let x = releases (put_front xs t) (place_more xs at u place) (subst (λ l. IsTiling allocator cut l) (sym (put_front-append xs (tile (at + 16 * u) r true ∷ ys) t)) c.0.tiling) in (
         record { tiling = subst (λ l. IsTiling allocator new l) (put_front-append xs (tile (at + 16 * u) r false ∷ ys) t) x.tiling; spared = Spares-trans old cut new (xs ++ ys) c.0.spared (others cut new xs ys t x.spared) },
         Agrees-trans old cut new (at + 8) (at + 16 * u) c.1 (own cut new xs ys at u x.spared),

@@ -18,7 +18,8 @@ takes_none bytes u result h none e = record {
   taken = rw none (e, refl);
 }
 
-module _ {allocator : ℕ} (old new : List ℕ) (u at units : ℕ) (xs ys : List Tile) (h : IsHeap allocator old) (picked : pick allocator (gaps old) u ≡ Some (record { at = at; units = units })) (parts_are : tiles old ≡ xs ++ tile at units false ∷ ys) where
+module _ {allocator : ℕ} (old new : List ℕ) (u at units : ℕ) (xs ys : List Tile) (h : IsHeap allocator old) (picked : pick allocator (gaps old) u ≡ Some (record { at = at; units = units }))
+    (parts_are : tiles old ≡ xs ++ tile at units false ∷ ys) where
   gap_tiling : IsTiling allocator old (xs ++ tile at units false ∷ ys)
   gap_tiling = subst (λ l. IsTiling allocator old l) parts_are (tiling_of_heap old h)
 
@@ -39,7 +40,8 @@ module _ {allocator : ℕ} (old new : List ℕ) (u at units : ℕ) (xs ys : List
   }
 
   -- the block stands at the gap's front, before these tiles
-  finish : (n : ℕ) (zs : List Tile) → granted units u ≡ n → live_of zs ≡ live_of ys → AreApart true zs → Fill (at + 16 * n) zs (length new) → 2 ≤ n → IsTiling allocator new (xs ++ tile at n true ∷ zs) → Spares old new (xs ++ ys) → link_at new at ≡ None → Takes allocator old new u (Some at)
+  finish : (n : ℕ) (zs : List Tile) → granted units u ≡ n → live_of zs ≡ live_of ys → AreApart true zs → Fill (at + 16 * n) zs (length new) → 2 ≤ n
+      → IsTiling allocator new (xs ++ tile at n true ∷ zs) → Spares old new (xs ++ ys) → link_at new at ≡ None → Takes allocator old new u (Some at)
   finish n zs n_is same apart fits large tiling spared link_none =
       let parts = around xs ys heap_start (length old) at units false gap_tiling.tiled.filled in
       let now = heap_of_tiling new (xs ++ tile at n true ∷ zs) tiling (AreApart-append xs (tile at n true ∷ zs) true (AreApart-front xs (tile at units false ∷ ys) true gap_apart) (λ e. refl, apart)) in

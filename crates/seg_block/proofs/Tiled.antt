@@ -41,8 +41,10 @@ module _ (old new : List ℕ) (misses : ℕ → ℕ → Type 0) (part_misses : (
   headers_next [] to before units m f next h = tt
   headers_next (t ∷ ys) to before units m f next h =
       let high = Fill-le ys (hi + 16 * t.units) to f.2 in
-      let size = number-agrees old new t.at (t.at + 4) 4 t.at (kept t.at (t.at + 4) (part_misses t.at (t.at + 12) t.at (t.at + 4) m.0 (omega arith) (omega arith)) (inr (omega (arith, f.0))) (inl (omega (arith, f.0)))) (omega arith) (omega arith) in
-      let tag = number-agrees old new (t.at + 8) (t.at + 12) 4 (t.at + 8) (kept (t.at + 8) (t.at + 12) (part_misses t.at (t.at + 12) (t.at + 8) (t.at + 12) m.0 (omega arith) (omega arith)) (inr (omega (arith, f.0))) (inr (omega (arith, f.0)))) (omega arith) (omega arith) in
+      let size = number-agrees old new t.at (t.at + 4) 4 t.at (kept t.at (t.at + 4) (part_misses t.at (t.at + 12) t.at (t.at + 4) m.0 (omega arith) (omega arith)) (inr (omega (arith, f.0))) (inl (omega (arith, f.0))))
+      (omega arith) (omega arith) in
+      let tag = number-agrees old new (t.at + 8) (t.at + 12) 4 (t.at + 8)
+      (kept (t.at + 8) (t.at + 12) (part_misses t.at (t.at + 12) (t.at + 8) (t.at + 12) m.0 (omega arith) (omega arith)) (inr (omega (arith, f.0))) (inr (omega (arith, f.0)))) (omega arith) (omega arith) in
       (IsHeader-same old new before units t size (ap (λ p. word new (p + 4)) f.0 ∙ next (omega (arith, f.1))) tag h.0, headers_behind ys (hi + 16 * t.units) to t.units (omega (arith, f.1)) m.1 f.2 h.1)
 
   module _ (xs ms ns ys : List Tile) (was : IsTiled old (xs ++ (ms ++ ys))) (length_kept : length new ≡ length old) (front : Fill heap_start xs lo) (middle : Fill lo ns hi) (back : Fill hi ys (length old)) where

@@ -5,3 +5,4 @@ pub mod Tiling
 pub mod Request
 pub mod FreeBlocks
 pub mod Extents
+pub mod Joining

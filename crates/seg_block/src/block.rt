@@ -1,15 +1,15 @@
 ghost use Rattle.std.specs.Prelude.{◌≡◌, ℕ, ◌+◌, ◌-◌, ◌*◌, ◌/◌, ◌^◌, ◌<◌, ◌≤◌, max, Bool, List, [], ◌∷◌, ◌++◌, length, Contains, IfSome, IsSomeAnd, Option, Some, None};
 ghost use Rattle.seg_spec.specs.Window.{with_bytes};
 ghost use Rattle.std.specs.Option.{SomeIff};
-ghost use Rattle.seg_spec.specs.Heap.{Span, Tile, Fill, AreHeaders, IsHeap, units_at, is_live_at, live, gaps, room_at};
+ghost use Rattle.seg_spec.specs.Heap.{Span, span, span_of, Tile, Fill, AreHeaders, IsHeap, units_at, is_live_at};
 ghost use Rattle.seg_block.specs.Sizes.{set_size, set_split};
-ghost use Rattle.seg_block.specs.Tiling.{tile, IsTiled, Replaces};
-ghost use Rattle.seg_block.specs.Blocks.{HasRoom, IsBlock, IsReadFree, HasEnd};
+ghost use Rattle.seg_block.specs.Tiling.{tile_of, tile_behind, grown, halves, IsTiled, Replaces, ForNext, WhereLast, ForPrevious, WhereFirst};
+ghost use Rattle.seg_block.specs.Blocks.{block_end, Covers, LiesIn, EndsAt, HasRoom, payload_at, IsSized, IsReadFree, HasEnd, IsLiveBlock, room_after};
 
 use crate::header::{
     HEAP_START, LIVE, TAG, UNIT, UNITS_BEFORE, block_of, is_live, units, units_before,
 };
-use seg_ptr::Window;
+use seg_ptr::{MAX_LEN, Window};
 use std::alloc::Allocator;
 
 /// A block: the position of its header, and its units with the header.
@@ -28,9 +28,11 @@ pub fn need(n: u32) -> u32
 
 /// The block at a position, where its header states a size that the segment has room for.
 pub fn block_at<A: Allocator>(w: &Window<A>, at: u32) -> Option<Block>
-    ensures stated { SomeIff result (HasRoom w.now.bytes at) (record { at = at; units = units_at w.now.bytes at }) }
-    ensures bounds { IfSome result (λ f. (f.at ≡ at) × (2 ≤ f.units) × (f.at + 16 * f.units ≤ length w.now.bytes) × (length w.now.bytes ≤ 2 ^ 30)) }
-    ensures read { (g : Span) → at ≡ g.at → IsBlock w.now.bytes g → IsSomeAnd result (λ f. (f.at ≡ g.at) × (f.units ≡ g.units)) }
+    ensures stated { SomeIff result (HasRoom w.now.bytes at)
+        (record { at = at; units = units_at w.now.bytes at }) }
+    ensures bounds { IfSome result (λ f. (f.at ≡ at) × LiesIn w.now.bytes f) }
+    ensures read { (g : Span) → at ≡ g.at → IsSized w.now.bytes g
+        → IsSomeAnd result (λ f. Covers f g) }
 {
     let len = w.len();
     if at > len {
@@ -47,9 +49,11 @@ pub fn block_at<A: Allocator>(w: &Window<A>, at: u32) -> Option<Block>
 /// for the size that its header states.
 pub fn capacity<A: Allocator>(w: &Window<A>, payload: u32, size: u32) -> u32
     requires { 1 ≤ size }
-    ensures stated { HasRoom w.now.bytes (payload - 16) → result ≡ (16 * units_at w.now.bytes (payload - 16) - 16) / size }
-    ensures none { (HasRoom w.now.bytes (payload - 16) → ⊥) → result ≡ 0 }
-    ensures block { (g : Span) → payload ≡ g.at + 16 → IsBlock w.now.bytes g → result ≡ (16 * g.units - 16) / size }
+    ensures stated { HasRoom w.now.bytes (payload - UNIT)
+        → result ≡ payload_at w.now.bytes (payload - UNIT) / size }
+    ensures none { (HasRoom w.now.bytes (payload - UNIT) → ⊥) → result ≡ 0 }
+    ensures block { (g : Span) → payload ≡ g.at + UNIT → IsSized w.now.bytes g
+        → result ≡ (UNIT * g.units - UNIT) / size }
 {
     match block_at(w, block_of(payload)) {
         Some(block) => UNIT * (block.units - 1) / size,
@@ -59,8 +63,10 @@ pub fn capacity<A: Allocator>(w: &Window<A>, payload: u32, size: u32) -> u32
 
 /// The last block of a heap that ends at a position.
 pub fn last_block<A: Allocator>(w: &Window<A>, end: u32) -> Option<Block>
-    ensures bounds { IfSome result (λ f. (704 ≤ f.at) × (2 ≤ f.units) × (f.at + 16 * f.units ≤ length w.now.bytes) × (length w.now.bytes ≤ 2 ^ 30)) }
-    ensures last { (ts : List Tile) → 704 < end → end ≤ length w.now.bytes → Fill 704 ts end → AreHeaders w.now.bytes 0 ts → IsSomeAnd result (λ f. HasEnd w.now.bytes ts f.at f.units) }
+    ensures bounds { IfSome result (λ f. (HEAP_START ≤ f.at) × LiesIn w.now.bytes f) }
+    ensures last { (ts : List Tile) → HEAP_START < end → end ≤ length w.now.bytes
+        → Fill HEAP_START ts end → AreHeaders w.now.bytes 0 ts
+        → IsSomeAnd result (λ f. HasEnd w.now.bytes ts f.at f.units) }
 {
     let mut at = HEAP_START;
     while let Some(block) = block_at(w, at) {
@@ -73,9 +79,9 @@ pub fn last_block<A: Allocator>(w: &Window<A>, end: u32) -> Option<Block>
     None
 }
 
-/// Sets the size of the block at a position, also in the header of the block behind.
+/// Sets the size of the block at a position, in units, also in the header of the block after it.
 pub fn set_size<A: Allocator>(w: &mut Window<A>, block: u32, units: u32, live: bool)
-    requires { units < 2 ^ 31 }
+    requires { units < LIVE }
     ensures { w.new ≡ with_bytes w.old (set_size w.old.bytes block units live) }
 {
     let size = if live { units + LIVE } else { units };
@@ -83,23 +89,22 @@ pub fn set_size<A: Allocator>(w: &mut Window<A>, block: u32, units: u32, live: b
     w.put32(block as usize + 16 * units as usize + UNITS_BEFORE, units);
 }
 
-/// The block right behind a block, where the segment goes on.
+/// The block right after a block, where the segment goes on.
 pub fn next<A: Allocator>(w: &Window<A>, block: Block) -> Option<Block>
-    requires { block.at + 16 * block.units ≤ 2 ^ 30 }
-    ensures bounds { IfSome result (λ f. (f.at ≡ block.at + 16 * block.units) × (2 ≤ f.units) × (f.at + 16 * f.units ≤ length w.now.bytes) × (length w.now.bytes ≤ 2 ^ 30)) }
-    ensures read { (xs ys : List Tile) (l : Bool) (t : Tile) → IsTiled w.now.bytes (xs ++ (tile block.at block.units l ∷ t ∷ ys))
-        → IsSomeAnd result (λ f. (f.at ≡ t.at) × (f.units ≡ t.units)) }
-    ensures none { (xs : List Tile) (l : Bool) → IsTiled w.now.bytes (xs ++ tile block.at block.units l ∷ []) → result ≡ None }
+    requires { block_end block ≤ MAX_LEN }
+    ensures bounds { IfSome result (λ f. (f.at ≡ block_end block) × LiesIn w.now.bytes f) }
+    ensures read { ForNext w.now.bytes block (λ t. IsSomeAnd result (λ f. Covers f (span_of t))) }
+    ensures none { WhereLast w.now.bytes block (result ≡ None) }
 {
     block_at(w, block.at + UNIT * block.units)
 }
 
 /// The block right before a block, where it isn't the first.
 pub fn previous<A: Allocator>(w: &Window<A>, block: Block) -> Option<Block>
-    ensures bounds { IfSome result (λ f. (f.at + 16 * f.units ≡ block.at) × (2 ≤ f.units)) }
-    ensures read { (xs ys : List Tile) (l : Bool) (t : Tile) → IsTiled w.now.bytes (xs ++ (t ∷ tile block.at block.units l ∷ ys))
-        → IsSomeAnd result (λ f. (f.at ≡ t.at) × (f.units ≡ t.units)) }
-    ensures none { (ys : List Tile) (l : Bool) → IsTiled w.now.bytes (tile block.at block.units l ∷ ys) → result ≡ None }
+    ensures bounds { IfSome result (EndsAt block.at) }
+    ensures read { ForPrevious w.now.bytes block
+        (λ t. IsSomeAnd result (λ f. Covers f (span_of t))) }
+    ensures none { WhereFirst w.now.bytes block (result ≡ None) }
 {
     let units = units_before(w, block.at);
     if units < 2 || units > block.at / UNIT {
@@ -111,12 +116,12 @@ pub fn previous<A: Allocator>(w: &Window<A>, block: Block) -> Option<Block>
     })
 }
 
-/// The free block right behind a block, where there is one.
-pub fn free_behind<A: Allocator>(w: &Window<A>, block: Block) -> Option<Block>
-    requires { block.at + 16 * block.units ≤ 2 ^ 30 }
-    ensures bounds { IfSome result (λ f. (f.at ≡ block.at + 16 * block.units) × (2 ≤ f.units) × (f.at + 16 * f.units ≤ length w.now.bytes) × (length w.now.bytes ≤ 2 ^ 30)) }
-    ensures read { (xs ys : List Tile) (l : Bool) (t : Tile) → IsTiled w.now.bytes (xs ++ (tile block.at block.units l ∷ t ∷ ys)) → IsReadFree t result }
-    ensures none { (xs : List Tile) (l : Bool) → IsTiled w.now.bytes (xs ++ tile block.at block.units l ∷ []) → result ≡ None }
+/// The free block right after a block, where there is one.
+pub fn free_after<A: Allocator>(w: &Window<A>, block: Block) -> Option<Block>
+    requires { block_end block ≤ MAX_LEN }
+    ensures bounds { IfSome result (λ f. (f.at ≡ block_end block) × LiesIn w.now.bytes f) }
+    ensures read { ForNext w.now.bytes block (λ t. IsReadFree t result) }
+    ensures none { WhereLast w.now.bytes block (result ≡ None) }
 {
     let behind = next(w, block)?;
     if is_live(w, behind.at) {
@@ -127,9 +132,9 @@ pub fn free_behind<A: Allocator>(w: &Window<A>, block: Block) -> Option<Block>
 
 /// The free block right before a block, where there is one.
 pub fn free_before<A: Allocator>(w: &Window<A>, block: Block) -> Option<Block>
-    ensures bounds { IfSome result (λ f. (f.at + 16 * f.units ≡ block.at) × (2 ≤ f.units)) }
-    ensures read { (xs ys : List Tile) (l : Bool) (t : Tile) → IsTiled w.now.bytes (xs ++ (t ∷ tile block.at block.units l ∷ ys)) → IsReadFree t result }
-    ensures none { (ys : List Tile) (l : Bool) → IsTiled w.now.bytes (tile block.at block.units l ∷ ys) → result ≡ None }
+    ensures bounds { IfSome result (EndsAt block.at) }
+    ensures read { ForPrevious w.now.bytes block (λ t. IsReadFree t result) }
+    ensures none { WhereFirst w.now.bytes block (result ≡ None) }
 {
     let before = previous(w, block)?;
     if is_live(w, before.at) {
@@ -138,14 +143,15 @@ pub fn free_before<A: Allocator>(w: &Window<A>, block: Block) -> Option<Block>
     Some(before)
 }
 
-/// The units of the gap right behind a block, 0 where there is none.
-pub fn room_behind<A: Allocator>(w: &Window<A>, block: Block) -> u32
-    requires { block.at + 16 * block.units ≤ 2 ^ 30 }
-    ensures bounds { block.at + 16 * block.units + 16 * result ≤ 2 ^ 30 }
-    ensures room { (allocator : ℕ) → IsHeap allocator w.now.bytes → Contains (live w.now.bytes) (record { at = block.at; units = block.units })
-        → result ≡ room_at (gaps w.now.bytes) (block.at + 16 * block.units) }
+/// The units of the gap right after a block, 0 where there is none.
+pub fn room_after<A: Allocator>(w: &Window<A>, block: Block) -> u32
+    requires { block_end block ≤ MAX_LEN }
+    ensures bounds { block_end block + UNIT * result ≤ MAX_LEN }
+    ensures room { (allocator : ℕ) → IsHeap allocator w.now.bytes
+        → IsLiveBlock w.now.bytes block.at block.units
+        → result ≡ room_after w.now.bytes block.at block.units }
 {
-    match free_behind(w, block) {
+    match free_after(w, block) {
         Some(gap) => gap.units,
         None => 0,
     }
@@ -153,12 +159,14 @@ pub fn room_behind<A: Allocator>(w: &Window<A>, block: Block) -> u32
 
 /// Cuts a block in two, both of them live or free as it was. The front keeps `units`; the rest has tag 0.
 pub fn split<A: Allocator>(w: &mut Window<A>, block: Block, units: u32)
-    requires inside { block.at + 16 * block.units ≤ 2 ^ 30 }
+    requires inside { block_end block ≤ MAX_LEN }
     requires front { 2 ≤ units }
     requires rest { units + 2 ≤ block.units }
-    ensures bytes { w.new ≡ with_bytes w.old (set_split w.old.bytes block.at units (block.units - units) (is_live_at w.old.bytes block.at)) }
-    ensures tiles { (xs ys : List Tile) (l : Bool) → IsTiled w.old.bytes (xs ++ tile block.at block.units l ∷ ys)
-        → Replaces w.old.bytes w.new.bytes xs (tile block.at units l ∷ tile (block.at + 16 * units) (block.units - units) l ∷ []) ys block.at (16 * units) }
+    ensures bytes { w.new ≡ with_bytes w.old (set_split w.old.bytes block.at units
+        (block.units - units) (is_live_at w.old.bytes block.at)) }
+    ensures tiles { (xs ys : List Tile) (l : Bool)
+        → IsTiled w.old.bytes (xs ++ tile_of block l ∷ ys)
+        → Replaces w.old.bytes w.new.bytes xs (halves block units l l) ys block.at (UNIT * units) }
 {
     let live = is_live(w, block.at);
     let rest = block.at + UNIT * units;
@@ -167,12 +175,15 @@ pub fn split<A: Allocator>(w: &mut Window<A>, block: Block, units: u32)
     set_size(w, block.at, units, live);
 }
 
-/// Joins a block with the block right behind it. It stays live or free as it was.
+/// Joins a block with the block right after it. It stays live or free as it was.
 pub fn join<A: Allocator>(w: &mut Window<A>, block: Block, behind: Block)
-    requires { block.at + 16 * block.units + 16 * behind.units ≤ 2 ^ 30 }
-    ensures bytes { w.new ≡ with_bytes w.old (set_size w.old.bytes block.at (block.units + behind.units) (is_live_at w.old.bytes block.at)) }
-    ensures tiles { (xs ys : List Tile) (l m : Bool) → IsTiled w.old.bytes (xs ++ (tile block.at block.units l ∷ tile (block.at + 16 * block.units) behind.units m ∷ ys))
-        → Replaces w.old.bytes w.new.bytes xs (tile block.at (block.units + behind.units) l ∷ []) ys block.at (16 * block.units) }
+    requires { block_end block + UNIT * behind.units ≤ MAX_LEN }
+    ensures bytes { w.new ≡ with_bytes w.old (set_size w.old.bytes block.at
+        (block.units + behind.units) (is_live_at w.old.bytes block.at)) }
+    ensures tiles { (xs ys : List Tile) (l m : Bool)
+        → IsTiled w.old.bytes (xs ++ (tile_of block l ∷ tile_behind block behind.units m ∷ ys))
+        → Replaces w.old.bytes w.new.bytes xs (grown block behind.units l ∷ []) ys
+        block.at (UNIT * block.units) }
 {
     let live = is_live(w, block.at);
     set_size(w, block.at, block.units + behind.units, live);

@@ -1,6 +1,7 @@
-ghost use Rattle.std.specs.Prelude.{◌≡◌, ℕ, ◌≤◌, Contains, Option, Some, None};
+ghost use Rattle.std.specs.Prelude.{◌≡◌, ℕ, ◌≤◌, Option, Some, None};
 ghost use Rattle.seg_spec.specs.Window.{with_bytes};
-ghost use Rattle.seg_spec.specs.Heap.{Span, IsHeap, live};
+ghost use Rattle.seg_spec.specs.Heap.{IsHeap};
+ghost use Rattle.seg_block.specs.Blocks.{IsLiveBlock};
 ghost use Rattle.seg_block.specs.Request.{Grants, GrantsNew};
 
 use crate::fit::Fit;
@@ -23,7 +24,8 @@ pub fn request_new<F: Fit, A: Allocator>(
     requires preferred { 2 ≤ preferred }
     requires limit { 2 ≤ limit }
     ensures host { w.new ≡ with_bytes w.old w.new.bytes }
-    ensures grants { IsHeap F.code w.old.bytes → GrantsNew F.code w.old.bytes w.new.bytes preferred limit result }
+    ensures grants { IsHeap F.code w.old.bytes
+        → GrantsNew F.code w.old.bytes w.new.bytes preferred limit result }
 {
     if let Some(block) = F::allocate(w, preferred) {
         return Some(Grant::New(block));
@@ -41,7 +43,7 @@ pub fn request_at<F: Fit, A: Allocator>(
     requires preferred { 2 ≤ preferred }
     requires limit { 2 ≤ limit }
     ensures host { w.new ≡ with_bytes w.old w.new.bytes }
-    ensures grants { (x : ℕ) → IsHeap F.code w.old.bytes → Contains (live w.old.bytes) (record { at = block; units = x })
+    ensures grants { (x : ℕ) → IsHeap F.code w.old.bytes → IsLiveBlock w.old.bytes block x
         → Grants F.code w.old.bytes w.new.bytes block x preferred limit result }
 {
     if F::expand(w, block, preferred) {
@@ -69,9 +71,11 @@ pub fn request<F: Fit, A: Allocator>(
     requires preferred { 2 ≤ preferred }
     requires limit { 2 ≤ limit }
     ensures host { w.new ≡ with_bytes w.old w.new.bytes }
-    ensures same { (at x : ℕ) → old ≡ Some at → IsHeap F.code w.old.bytes → Contains (live w.old.bytes) (record { at = at; units = x })
+    ensures same { (at x : ℕ) → old ≡ Some at → IsHeap F.code w.old.bytes
+        → IsLiveBlock w.old.bytes at x
         → Grants F.code w.old.bytes w.new.bytes at x preferred limit result }
-    ensures new { old ≡ None → IsHeap F.code w.old.bytes → GrantsNew F.code w.old.bytes w.new.bytes preferred limit result }
+    ensures new { old ≡ None → IsHeap F.code w.old.bytes
+        → GrantsNew F.code w.old.bytes w.new.bytes preferred limit result }
 {
     match old {
         Some(block) => request_at::<F, A>(w, block, preferred, limit),

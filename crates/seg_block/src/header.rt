@@ -1,5 +1,6 @@
-ghost use Rattle.std.specs.Prelude.{◌≡◌, ◌-◌, ◌*◌};
+ghost use Rattle.std.specs.Prelude.{◌≡◌, ◌-◌};
 ghost use Rattle.seg_spec.specs.Heap.{units_at, is_live_at, units_before, tag_at, link_at};
+ghost use Rattle.seg_block.specs.Blocks.{payload_at};
 
 use seg_ptr::Window;
 use std::alloc::Allocator;
@@ -24,7 +25,7 @@ pub(crate) const LIVE: u32 = 1 << 31;
 
 /// The block whose payload begins at a position.
 pub fn block_of(payload: u32) -> u32
-    ensures { result ≡ payload - 16 }
+    ensures { result ≡ payload - UNIT }
 {
     payload.saturating_sub(UNIT)
 }
@@ -66,7 +67,7 @@ pub fn link<A: Allocator>(w: &Window<A>, block: u32) -> Option<u32>
 
 /// The bytes of the block's payload.
 pub fn payload<A: Allocator>(w: &Window<A>, block: u32) -> u64
-    ensures { result ≡ 16 * units_at w.now.bytes block - 16 }
+    ensures { result ≡ payload_at w.now.bytes block }
 {
     (u64::from(UNIT) * u64::from(units(w, block))).saturating_sub(u64::from(UNIT))
 }

@@ -1,19 +1,21 @@
 //! Blocks of a segment's heap: their headers and tags, the laws of an allocator, and requests to one. A block is named
-//! by the position of its header; its payload begins [`UNIT`] bytes behind it.
+//! by the position of its header; its payload begins [`UNIT`] bytes after it.
 #![tactic(auto)]
 
 mod block;
 mod fit;
+mod free_structure;
 mod grant;
 mod header;
 mod rules;
 mod tag;
 
 pub use block::{
-    Block, block_at, capacity, free_before, free_behind, join, last_block, need, next, previous,
-    room_behind, set_size, split,
+    Block, block_at, capacity, free_after, free_before, join, last_block, need, next, previous,
+    room_after, set_size, split,
 };
 pub use fit::Fit;
+pub use free_structure::{FreeStructure, absorb, cut, resize};
 pub use grant::{Grant, request, request_at, request_new};
 pub use header::{
     HEAP_START, LINK, TAG, UNIT, UNITS_BEFORE, block_of, is_live, link, payload, tag_word, units,

@@ -1,6 +1,8 @@
 ghost use Rattle.std.specs.Prelude.{◌≡◌, ◌+◌, ◌-◌, ◌^◌, ◌*◌, ◌<◌, ◌≤◌, max, min};
 ghost use Rattle.seg_spec.specs.Heap.{granted, expanded, shrunk};
 
+use crate::header::LIVE;
+
 /// The units of a block for `need` units at the front of `whole`: a rest of 1 unit goes with it.
 pub fn granted(whole: u32, need: u32) -> u32
     requires { need ≤ whole }
@@ -9,10 +11,10 @@ pub fn granted(whole: u32, need: u32) -> u32
     if whole - need == 1 { whole } else { need }
 }
 
-/// The units of a block of `units` that is to have `need`, where a gap of `room` units lies right behind it (0 where none
+/// The units of a block of `units` that is to have `need`, where a gap of `room` units lies right after it (0 where none
 /// does). None where they are too few.
 pub fn expanded(units: u32, room: u32, need: u32) -> Option<u32>
-    requires { units + room < 2 ^ 31 }
+    requires { units + room < LIVE }
     ensures { result ≡ expanded units room need }
 {
     if need <= units {
@@ -24,7 +26,7 @@ pub fn expanded(units: u32, room: u32, need: u32) -> Option<u32>
     }
 }
 
-/// The units of a block of `units` that is cut to `need`, where a gap of `room` units lies right behind it (0 where none
+/// The units of a block of `units` that is cut to `need`, where a gap of `room` units lies right after it (0 where none
 /// does). A single unit is given back only to a gap.
 pub fn shrunk(units: u32, room: u32, need: u32) -> u32
     requires { need ≤ units }

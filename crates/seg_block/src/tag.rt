@@ -60,7 +60,7 @@ impl Tag {
 
     /// Writes the tag into the header of the block at a position.
     pub fn write<A: Allocator>(self, w: &mut Window<A>, block: u32)
-        ensures { w.new ≡ with_bytes w.old (set_word w.old.bytes (block + 8) (word_of self)) }
+        ensures { w.new ≡ with_bytes w.old (set_word w.old.bytes (block + TAG) (word_of self)) }
     {
         w.put32(block as usize + TAG, self.word());
     }

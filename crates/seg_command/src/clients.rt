@@ -21,7 +21,7 @@ pub fn verify_file<'a, F: Files, O: Sink>(
 {
     let image = read(alloc, files, image, MAX_IMAGE)?;
     let file = read(alloc, files, client, MAX_FILE)?;
-    let types = types_of(alloc, image.as_slice())?;
+    let types = types_of(alloc, image)?;
     let bound = verify(parse(file.as_slice())?, &types)?.bound();
     print(out, format!(in alloc; "steps {bound}\n")?.as_bytes())
 }

@@ -1,6 +1,6 @@
 use seg_bestfit::BestFit;
 use seg_block::Fit;
-use seg_check::{check, open, save};
+use seg_check::{check, open};
 use seg_layout::{MAX_TYPES, TypeId, TypeTable};
 use seg_manager::{IndexKind, Named, Segment};
 use seg_ptr::{MAX_LEN, Window, header};
@@ -18,8 +18,8 @@ pub enum Image {
 impl Image {
     /// The segment of an image at the start of a region that has `extra` bytes more, if a segment may have so many. The
     /// image's first fault where it isn't sound.
-    pub fn open(alloc: Global, image: &[u8], extra: u32) -> Result<Image, Fault> {
-        let window = window_of(alloc, image, extra)?;
+    pub fn open(alloc: Global, image: Vec<u8>, extra: u32) -> Result<Image, Fault> {
+        let window = window_of(image, extra)?;
         if window.get32(header::ALLOCATOR) == BestFit::word() {
             Ok(Image::BestFit(opened(alloc, window)?))
         } else {
@@ -30,8 +30,8 @@ impl Image {
     /// The bytes of the segment.
     pub fn bytes(&self) -> &[u8] {
         let w = match self {
-            Image::SeqFit(segment) => &segment.window,
-            Image::BestFit(segment) => &segment.window,
+            Image::SeqFit(segment) => segment.window(),
+            Image::BestFit(segment) => segment.window(),
         };
         w.slice(0, w.len() as usize)
     }
@@ -74,27 +74,24 @@ fn opened<F: Fit>(alloc: Global, window: Window<Global>) -> Result<Segment<F, Gl
     open(alloc, window).map_err(|refused| refused.0)
 }
 
-/// A window on the bytes of an image, in a region with so many bytes more if a segment may have them. Bytes that are too many
-/// or too few for a segment are no image.
-fn window_of(alloc: Global, image: &[u8], extra: u32) -> Result<Window<Global>, Fault> {
+/// A window on the bytes of an image, with so many bytes after them if a segment may have them. Bytes that are too many or too
+/// few for a segment are no image.
+fn window_of(mut image: Vec<u8>, extra: u32) -> Result<Window<Global>, Fault> {
     let len = match u32::try_from(image.len()) {
         Ok(len) if len <= MAX_LEN => len,
         _ => return Err(Fault::BadHeader),
     };
-    let room = match len.checked_add(extra) {
-        Some(room) if room <= MAX_LEN => room,
+    match len.checked_add(extra) {
+        Some(room) if room <= MAX_LEN => image.resize(room as usize, 0)?,
         // no segment grows so far
-        _ => len,
-    };
-    let region = Region::new(alloc, room)?;
-    let mut window = Window::place(region, 0, len).map_err(|_| Fault::BadHeader)?;
-    window.copy_in(0, image);
-    Ok(window)
+        _ => {}
+    }
+    Window::place(Region::from_vec(image), 0, len).map_err(|_| Fault::BadHeader)
 }
 
 /// The types of an image, or its first fault.
-pub fn types_of(alloc: Global, image: &[u8]) -> Result<TypeTable, Fault> {
-    check(alloc, &window_of(alloc, image, 0)?)
+pub fn types_of(alloc: Global, image: Vec<u8>) -> Result<TypeTable, Fault> {
+    check(alloc, &window_of(image, 0)?)
 }
 
 /// The bytes of the image of an empty segment.
@@ -106,11 +103,11 @@ pub fn new_image<F: Fit>(alloc: Global, size: u32, index: IndexKind) -> Result<V
     let segment = Segment::<F, Global>::create(region, 0, size, index).map_err(
         |refused| refused.0,
     )?;
-    save(alloc, &segment)
+    Ok(segment.into_window().into_bytes())
 }
 
 fn statistics<F: Fit>(alloc: Global, segment: &Segment<F, Global>) -> Result<String, AllocError> {
-    let size = segment.window.len();
+    let size = segment.window().len();
     let free = segment.free_memory();
     let largest = segment.largest_gap();
     let named = segment.num_named();

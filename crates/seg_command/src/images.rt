@@ -40,7 +40,7 @@ pub fn check_file<'a, F: Files, O: Sink>(
     requires works { O.has_failed out.old ≡ false }
 {
     let image = read(alloc, files, image, MAX_IMAGE)?;
-    types_of(alloc, image.as_slice())?;
+    types_of(alloc, image)?;
     print(out, b"ok\n")
 }
 
@@ -107,7 +107,7 @@ fn open<'a, F: Files>(
     extra: u32,
 ) -> Result<Image, Failure<'a>> {
     let image = read(alloc, files, image, MAX_IMAGE)?;
-    Ok(Image::open(alloc, image.as_slice(), extra)?)
+    Ok(Image::open(alloc, image, extra)?)
 }
 
 /// Prints the new size of a segment and writes its image, also where the output fails.

@@ -3,7 +3,7 @@ ghost use Rattle.std.specs.Prelude.{◌≡◌, false};
 use crate::failure::{Failure, STANDARD_OUTPUT};
 use crate::files::Files;
 use crate::program::{MAX_FILE, MAX_IMAGE, read, write};
-use client_vm::{Ended, Place, Sink, run_bytes};
+use client_vm::{Ended, Place, Sink, run_image};
 use seg_words::Run;
 use std::alloc::Global;
 
@@ -28,9 +28,9 @@ pub fn run_files<'a, F: Files, O: Sink>(
         .map(|client| client.as_slice())
         .collect(alloc)?;
     let place = place_of(run, image.len());
-    let outcome = run_bytes(
+    let outcome = run_image(
         alloc,
-        image.as_slice(),
+        image,
         clients.as_slice(),
         input.as_slice(),
         &place,

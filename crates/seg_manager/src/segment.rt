@@ -96,8 +96,14 @@ impl<F: Fit, A: Allocator> Segment<F, A> {
         Ok(())
     }
 
+    pub fn into_window(self) -> Window<A>
+        ensures { result ≡ self.window }
+    {
+        self.heap.into_window()
+    }
+
     pub fn into_region(self) -> Region<A> {
-        self.heap.into_window().into_region()
+        self.into_window().into_region()
     }
 }
 

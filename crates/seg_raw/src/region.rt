@@ -1,4 +1,4 @@
-ghost use Rattle.std.specs.Prelude.{◌≡◌, ℕ, ◌+◌, ◌*◌, ◌^◌, ◌<◌, ◌≤◌, ◌==◌, List, length, replicate, IfOk, IsOkUnless};
+ghost use Rattle.std.specs.Prelude.{◌≡◌, ℕ, ◌+◌, ◌-◌, ◌*◌, ◌^◌, ◌<◌, ◌≤◌, ◌==◌, List, ◌++◌, length, replicate, IfOk, IsOkUnless, vec_len};
 ghost use Rattle.seg_spec.specs.Bytes.{slice, put, byte, word, long, set_byte, set_word, set_long};
 
 use crate::fault::Fault;
@@ -28,6 +28,36 @@ impl<A: Allocator> Region<A> {
     {
         let data = Vec::from_elem(alloc, 0u8, len as usize)?;
         Ok(Region { data })
+    }
+
+    /// A region of `len` bytes that has these from a position on, and 0 before and after them.
+    pub fn with_bytes(alloc: A, len: u32, at: u32, bytes: &[u8]) -> Result<Region<A>, Fault>
+        requires room { at + length bytes.now ≤ len }
+        requires at_most { len ≤ 2 ^ 31 }
+        ensures bytes { IfOk result (λ r.
+            r ≡ replicate at 0 ++ bytes.now ++ replicate (len - (at + length bytes.now)) 0) }
+        ensures refused { IsOkUnless result Fault.Memory }
+    {
+        let mut data = Vec::with_capacity(alloc, len as usize)?;
+        data.resize(at as usize, 0)?;
+        data.extend_from_slice(bytes)?;
+        data.resize(len as usize, 0)?;
+        Ok(Region { data })
+    }
+
+    /// A region of these bytes, which aren't copied.
+    pub fn from_vec(bytes: Vec<u8, A>) -> Region<A>
+        requires { vec_len bytes ≤ 2 ^ 31 }
+        ensures { result ≡ bytes.items }
+    {
+        Region { data: bytes }
+    }
+
+    /// Its bytes, which aren't copied.
+    pub fn into_vec(self) -> Vec<u8, A>
+        ensures { result.items ≡ self }
+    {
+        self.data
     }
 
     pub fn len(&self) -> u32

@@ -1,5 +1,5 @@
 -- What a change of a tree does to its nodes and to the bytes.
---     StandApart len word nodes          in so many bytes a pointer word and nodes have room, and share no byte
+--     StandApart len word nodes          in len bytes a pointer word and nodes have room, and share no byte
 --     IsNew order node nodes             the node equals none of the nodes
 --     with_node order node nodes         the nodes with one more, in front of the first that is above it
 --     without_node node nodes            the nodes without that one
@@ -20,7 +20,7 @@ abbrev pub NodesApart : List ℕ → Type 0
 NodesApart [] = ⊤
 NodesApart (x ∷ xs) = AllByRecursion (λ y. Separate x 16 y 16) xs × NodesApart xs
 
--- in so many bytes the pointer word and the tree words of the nodes have room, and share no byte
+-- in len bytes the pointer word and the tree words of the nodes have room, and share no byte
 pub record StandApart (len word : ℕ) (nodes : List ℕ) : Type 0 where
   pub small : len ≤ 2 ^ 30
   pub word_fits : word + 4 ≤ len

@@ -1,7 +1,7 @@
 -- Parts of a segment that an order reads.
 use Rattle.std.specs.Prelude.{ℕ}
 
--- so many bytes from a position on
+-- len bytes from a position on
 pub record Part : Type 0 where
   pub at : ℕ
   pub len : ℕ

@@ -1,10 +1,13 @@
 -- What a search of a tree finds.
 --     WhereOrdered compare w root claim      a claim of each search tree at a pointer word whose nodes are in order
 --     sought_by nodes key sought             how what is sought compares with a node
---     end_word path, word_after steps path   the position of the pointer at the end of a path, and after so many steps
+--     end_word path, word_after steps path   the position of the pointer at the end of a path, and after some of its steps
 --     node_at bytes path                     the node at the end of a path
+--     AddsAt old new path node               a node is added at the end of a path
+--     TakesOutAt old new path                the node at the end of a path is taken out
 --     FindsEqual compare nodes found         one of the nodes that compares as equal, where one does
-use Rattle.std.specs.Prelude.{◌≡◌, ◌≢◌, ℕ, List, ◌∷◌, ◌++◌, take, Option, MatchOption}
+use Rattle.std.specs.Prelude.{◌≡◌, ◌≢◌, ℕ, List, ◌∷◌, ◌++◌, ◌+◌, ◌<◌, ◌^◌, length, take, Option, Some, MatchOption}
+use Rattle.std.specs.Cmp.{IsTotalOrder}
 use Rattle.std.specs.List.{AllByRecursion}
 use Rattle.std.specs.Ordering.{ordering_reverse}
 use Rattle.std.specs.declared.cmp.Ordering.{Ordering}
@@ -16,7 +19,8 @@ use Rattle.seg_spec.specs.Window.{Placement}
 use Rattle.seg_rbtree.specs.declared.order.Sought.{Sought}
 use Rattle.seg_rbtree.specs.declared.order.Sought.TheVariants.{Node, Key}
 use Rattle.seg_rbtree.specs.declared.path.Path.{Path}
-use Rattle.seg_rbtree.specs.Ways.{last_word}
+use Rattle.seg_rbtree.specs.Ways.{last_word, LeadsTo}
+use Rattle.seg_rbtree.specs.Changes.{StandApart, IsNew, with_node, without_node, Leaves}
 
 -- the claim holds of each search tree at the pointer word whose nodes are in order
 abbrev pub WhereOrdered : (List ℕ → ℕ → ℕ → Ordering) → Placement → ℕ → (Tree → Type 0) → Type 0
@@ -30,7 +34,7 @@ abbrev pub sought_by : {K : Type 0} → (ℕ → ℕ → Ordering) → (ℕ → 
 sought_by nodes key (Node sought) x = nodes sought x
 sought_by nodes key (Key sought) x = ordering_reverse (key x sought)
 
--- the position of the pointer at the end of a path, and after so many of its steps
+-- the position of the pointer at the end of a path, and after some of its steps
 abbrev pub end_word : Path → ℕ
 end_word path = last_word path.root path.steps.items
 
@@ -53,3 +57,20 @@ abbrev pub FindsEqual : (ℕ → Ordering) → List ℕ → Option ℕ → Type 
 FindsEqual compare nodes found =
     MatchOption found (AllByRecursion (λ x. compare x ≢ Equal) nodes)
     (λ node. IsEqualAmong compare nodes node)
+
+-- a node is added at the end of a path, in any total order that leads there
+abbrev pub AddsAt : List ℕ → List ℕ → Path → ℕ → Type 0
+AddsAt old new path node = (order : ℕ → ℕ → Ordering) (shape : Tree) → IsTotalOrder order
+    → IsSearchTree old path.root shape → Ascend order (nodes_of shape)
+    → LeadsTo (order node) shape path → IsNew order node (nodes_of shape)
+    → StandApart (length old) path.root (node ∷ nodes_of shape)
+    → length (nodes_of shape) + 1 < 2 ^ 32
+    → Leaves old new path.root (node ∷ nodes_of shape) (with_node order node (nodes_of shape))
+
+-- the node at the end of a path is taken out
+abbrev pub TakesOutAt : List ℕ → List ℕ → Path → Type 0
+TakesOutAt old new path = (turn : ℕ → Ordering) (node : ℕ) (shape : Tree)
+    → IsSearchTree old path.root shape → LeadsTo turn shape path
+    → node_at old path ≡ Some node
+    → StandApart (length old) path.root (nodes_of shape)
+    → Leaves old new path.root (nodes_of shape) (without_node node (nodes_of shape))

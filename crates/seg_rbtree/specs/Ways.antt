@@ -4,7 +4,7 @@
 --     plug tree layers                    the whole tree, where one stands at a place below layers, the innermost first
 --     place root layers                   the position of the pointer to the place
 --     steps_of layers                     the layers as a path names them, the outermost first
---     last_word root steps                the position of the pointer behind the last step
+--     last_word root steps                the position of the pointer after the last step
 --     LeadsTo turn shape path             the path leads to what is sought, or to the empty place where it would stand
 use Rattle.std.specs.Prelude.{◌≡◌, ℕ, ⊤, List, [], ◌∷◌, ◌++◌}
 use Rattle.std.specs.List.{AllByRecursion}
@@ -52,7 +52,7 @@ abbrev pub steps_of : List Layer → List Step
 steps_of [] = []
 steps_of (layer ∷ layers) = steps_of layers ++ step_of layer ∷ []
 
--- the position of the pointer behind the last step
+-- the position of the pointer after the last step
 abbrev pub last_word : ℕ → List Step → ℕ
 last_word root [] = root
 last_word root (step ∷ steps) = last_word (side_word step.node step.side) steps

@@ -1,15 +1,11 @@
 ghost use Rattle.std.specs.Prelude.{◌≡◌, ℕ, ◌+◌, ◌<◌, ◌^◌, List, ◌∷◌, length};
-ghost use Rattle.std.specs.Cmp.{IsTotalOrder};
-ghost use Rattle.std.specs.declared.cmp.Ordering.{Ordering};
 ghost use Rattle.seg_spec.specs.Shapes.{nodes_of};
-ghost use Rattle.seg_spec.specs.Search.{Ascend, IsSearchTree};
 ghost use Rattle.seg_spec.specs.Window.{with_bytes};
 ghost use Rattle.seg_rbtree.specs.Changes.{StandApart, IsNew, with_node, Leaves};
 ghost use Rattle.seg_rbtree.specs.Nodes.{with_colour, raised, straightened};
 ghost use Rattle.seg_rbtree.specs.Rising.{IsRising, Settles};
-ghost use Rattle.seg_rbtree.specs.Ways.{LeadsTo};
-ghost use Rattle.seg_rbtree.specs.Paths.{WhereOrdered};
-ghost use Rattle.seg_rbtree.specs.Roots.{root_word, path_root};
+ghost use Rattle.seg_rbtree.specs.Paths.{WhereOrdered, AddsAt};
+ghost use Rattle.seg_rbtree.specs.Roots.{root_word};
 
 use crate::node::{Colour, Side, child, child_word, init, is_red, paint, rotate};
 use crate::order::{NodeOrder, Sought};
@@ -34,21 +30,27 @@ impl Tree {
             → Leaves w.old.bytes w.new.bytes (root_word self) (node ∷ nodes_of shape)
             (with_node (O.compare order.now w.old.bytes) node (nodes_of shape))) }
     {
-        self.path_to(w, order, Sought::Node(node)).insert(w, node);
+        let mut path = Path::new(self.root);
+        path.descend(w, order, Sought::Node(node));
+        path.add(w, node);
     }
 }
 
 impl Path {
-    /// Adds a node at the empty place at the path's end. Only tree words and the root word change.
+    /// Adds a node at the empty place at the path's end. It may be written between the walk and this. Only tree words and the
+    /// root word change.
+    #[inline]
     pub fn insert<A: Allocator>(mut self, w: &mut Window<A>, node: u32)
         ensures host { w.new ≡ with_bytes w.old w.new.bytes }
-        ensures added { (order : ℕ → ℕ → Ordering) (shape : _) → IsTotalOrder order
-            → IsSearchTree w.old.bytes (path_root self) shape → Ascend order (nodes_of shape)
-            → LeadsTo (order node) shape self → IsNew order node (nodes_of shape)
-            → StandApart (length w.old.bytes) (path_root self) (node ∷ nodes_of shape)
-            → length (nodes_of shape) + 1 < 2 ^ 32
-            → Leaves w.old.bytes w.new.bytes (path_root self) (node ∷ nodes_of shape)
-            (with_node order node (nodes_of shape)) }
+        ensures added { AddsAt w.old.bytes w.new.bytes self node }
+    {
+        self.add(w, node);
+    }
+
+    /// The same, where the path stands. It is large to move, and of no use afterwards.
+    fn add<A: Allocator>(&mut self, w: &mut Window<A>, node: u32)
+        ensures host { w.new ≡ with_bytes w.old w.new.bytes }
+        ensures added { AddsAt w.old.bytes w.new.bytes self.old node }
     {
         init(w, node);
         self.set(w, Some(node));
@@ -57,12 +59,12 @@ impl Path {
             let Some(node) = red else {
                 break;
             };
-            red = settle(w, &mut self, node);
+            red = settle(w, self, node);
         }
     }
 }
 
-/// Settles a red node whose parent may be red: here, or by a red node further up, which it answers.
+/// Settles a red node whose parent may be red: here, or by a red node further up, which it returns.
 fn settle<A: Allocator>(w: &mut Window<A>, path: &mut Path, node: u32) -> Option<u32>
     ensures host { w.new ≡ with_bytes w.old w.new.bytes }
     ensures root { path.new.root ≡ path.old.root }
@@ -116,7 +118,7 @@ fn straighten<A: Allocator>(w: &mut Window<A>, word: usize, grandparent: Step, p
     raise(w, word, grandparent.node, side.other());
 }
 
-/// Lets the node at a pointer word go down to a side, red, and its child on the other side come up, black.
+/// Moves the node at a pointer word down to a side, red, and its child on the other side up, black.
 fn raise<A: Allocator>(w: &mut Window<A>, word: usize, node: u32, side: Side)
     ensures { w.new ≡ with_bytes w.old (raised w.old.bytes word node side) }
 {

@@ -112,8 +112,8 @@ pub(crate) fn init<A: Allocator>(w: &mut Window<A>, node: u32)
     w.put32(node as usize + ZERO, 0);
 }
 
-/// Lets the node at a pointer word and its child on the other side change places: the child comes up, the node goes down
-/// to `side`, and what was between them stays between them. Answers the child.
+/// Exchanges the node at a pointer word and its child on the other side: the child comes up, the node goes down to `side`, and
+/// what was between them stays between them. Returns the child.
 pub(crate) fn rotate<A: Allocator>(
     w: &mut Window<A>,
     word: usize,

@@ -3,6 +3,7 @@ ghost use Rattle.seg_spec.specs.Pointer.{target, set_pointer};
 ghost use Rattle.seg_spec.specs.Window.{with_bytes};
 ghost use Rattle.seg_rbtree.specs.Nodes.{side_word, opposite, rotated};
 ghost use Rattle.seg_rbtree.specs.Paths.{end_word, word_after, node_at};
+ghost use Rattle.seg_rbtree.specs.declared.path.TheConstants.{DEPTH};
 
 use crate::node::{Side, child_word, rotate};
 use arrayvec::ArrayVec;
@@ -44,7 +45,7 @@ impl Path {
     /// One step down. False where the way is longer than any in a tree.
     pub(crate) fn push(&mut self, node: u32, side: Side) -> bool
         ensures root { self.new.root ≡ self.old.root }
-        ensures room { length self.old.steps.items < 64 → IsTrue result }
+        ensures room { length self.old.steps.items < DEPTH → IsTrue result }
         ensures pushed { IsTrue result → self.new.steps.items
             ≡ self.old.steps.items ++ record { node = node; side = side } ∷ [] }
     {
@@ -63,7 +64,7 @@ impl Path {
     /// How many nodes are above the place.
     pub(crate) fn len(&self) -> usize
         ensures len { result ≡ length self.now.steps.items }
-        ensures at_most { result ≤ 64 }
+        ensures at_most { result ≤ DEPTH }
     {
         self.steps.len()
     }
@@ -81,7 +82,7 @@ impl Path {
         }
     }
 
-    /// The pointer word that leads to the place below so many steps.
+    /// The pointer word that leads to the place after that many steps.
     fn word_below(&self, steps: usize) -> usize
         ensures { steps ≤ length self.now.steps.items
             → result ≡ word_after steps self.now }
@@ -109,14 +110,14 @@ impl Path {
         w.target(self.word())
     }
 
-    /// Lets another node stand at the place.
+    /// Puts another node at the place.
     pub(crate) fn set<A: Allocator>(&self, w: &mut Window<A>, node: Option<u32>)
         ensures { w.new ≡ with_bytes w.old (set_pointer w.old.bytes (end_word self.now) node) }
     {
         w.point(self.word(), node);
     }
 
-    /// Lets another node stand at the place below so many steps.
+    /// Puts another node at the place after that many steps.
     pub(crate) fn set_at<A: Allocator>(&self, w: &mut Window<A>, steps: usize, node: u32)
         ensures host { w.new ≡ with_bytes w.old w.new.bytes }
         ensures set { steps ≤ length self.now.steps.items
@@ -126,8 +127,8 @@ impl Path {
         w.point(self.word_below(steps), Some(node));
     }
 
-    /// Lets the node at the place and its child on the other side change places: the child comes up, the node goes down
-    /// to `side`, and what was between them stays between them. Answers the child.
+    /// Exchanges the node at the place and its child on the other side: the child comes up, the node goes down to `side`, and
+    /// what was between them stays between them. Returns the child.
     pub(crate) fn rotate<A: Allocator>(
         &self,
         w: &mut Window<A>,

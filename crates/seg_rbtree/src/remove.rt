@@ -1,16 +1,14 @@
-ghost use Rattle.std.specs.Prelude.{◌≡◌, ◌≢◌, ℕ, ◌<◌, ◌^◌, ◌∷◌, length, Some, None, IfSome, IfNone};
+ghost use Rattle.std.specs.Prelude.{◌≡◌, ◌≢◌, ◌<◌, ◌^◌, ◌∷◌, length, Some, None, IfSome, IfNone};
 ghost use Rattle.std.specs.List.{AllByRecursion};
-ghost use Rattle.std.specs.declared.cmp.Ordering.{Ordering};
 ghost use Rattle.seg_spec.specs.Pointer.{target, set_pointer};
-ghost use Rattle.seg_spec.specs.Search.{IsSearchTree};
 ghost use Rattle.seg_spec.specs.Shapes.{fork, black, nodes_of, IsBlack, IsRedBlack};
 ghost use Rattle.seg_spec.specs.Window.{with_bytes};
 ghost use Rattle.seg_rbtree.specs.Nodes.{side_word, opposite, colour_at};
 ghost use Rattle.seg_rbtree.specs.Changes.{StandApart, without_node, Leaves};
-ghost use Rattle.seg_rbtree.specs.Ways.{branch, plug, place, LeadsTo};
+ghost use Rattle.seg_rbtree.specs.Ways.{branch, plug, place};
 ghost use Rattle.seg_rbtree.specs.Removing.{layer_at, in_place_of, IsShort, StandsAt, WhereRedBlack, Descends, Unlinks, Lowers, ComesUp, Lengthens, Restores};
-ghost use Rattle.seg_rbtree.specs.Paths.{WhereOrdered, end_word, node_at};
-ghost use Rattle.seg_rbtree.specs.Roots.{root_word, path_root};
+ghost use Rattle.seg_rbtree.specs.Paths.{WhereOrdered, TakesOutAt, end_word, node_at};
+ghost use Rattle.seg_rbtree.specs.Roots.{root_word};
 
 use crate::node::{Colour, Side, child, child_word, colour_of, is_red, paint, rotate, set_child};
 use crate::order::{NodeOrder, Sought};
@@ -35,37 +33,43 @@ impl Tree {
         ensures stays { O.exact → WhereOrdered (O.compare order.now) w.old (root_word self)
             (λ shape. AllByRecursion (λ x. node ≢ x) (nodes_of shape) → w.new ≡ w.old) }
     {
-        let path = self.path_to(w, order, Sought::Node(node));
+        let mut path = Path::new(self.root);
+        path.descend(w, order, Sought::Node(node));
         if path.node(w) != Some(node) {
             return;
         }
-        path.remove(w);
+        path.take_out(w);
     }
 }
 
 impl Path {
     /// Takes out the node at the path's end, and no other. Only tree words and the root word change.
+    #[inline]
     pub fn remove<A: Allocator>(mut self, w: &mut Window<A>)
         ensures host { w.new ≡ with_bytes w.old w.new.bytes }
-        ensures removed { (turn : ℕ → Ordering) (node : ℕ) (shape : _)
-            → IsSearchTree w.old.bytes (path_root self) shape → LeadsTo turn shape self
-            → node_at w.old.bytes self ≡ Some node
-            → StandApart (length w.old.bytes) (path_root self) (nodes_of shape)
-            → Leaves w.old.bytes w.new.bytes (path_root self) (nodes_of shape)
-            (without_node node (nodes_of shape)) }
+        ensures removed { TakesOutAt w.old.bytes w.new.bytes self }
         ensures stays { node_at w.old.bytes self ≡ None → w.new ≡ w.old }
+    {
+        self.take_out(w);
+    }
+
+    /// The same, where the path stands.
+    fn take_out<A: Allocator>(&mut self, w: &mut Window<A>)
+        ensures host { w.new ≡ with_bytes w.old w.new.bytes }
+        ensures removed { TakesOutAt w.old.bytes w.new.bytes self.old }
+        ensures stays { node_at w.old.bytes self.old ≡ None → w.new ≡ w.old }
     {
         let Some(node) = self.node(w) else {
             return;
         };
-        match unlink(w, &mut self, node) {
-            Colour::Black => restore(w, &mut self),
+        match unlink(w, self, node) {
+            Colour::Black => restore(w, self),
             Colour::Red => {}
         }
     }
 }
 
-/// Takes a node out of the place that a path leads to, which then leads to where a node is missing. Answers the colour that
+/// Takes a node out of the place that a path leads to, which then leads to where a node is missing. Returns the colour that
 /// is missing there.
 fn unlink<A: Allocator>(w: &mut Window<A>, path: &mut Path, node: u32) -> Colour
     ensures host { w.new ≡ with_bytes w.old w.new.bytes }
@@ -84,7 +88,7 @@ fn unlink<A: Allocator>(w: &mut Window<A>, path: &mut Path, node: u32) -> Colour
     unlink_by_next(w, path, node)
 }
 
-/// Takes a node with nothing on a side out of the place that a path leads to. Answers its colour.
+/// Takes a node with nothing on a side out of the place that a path leads to. Returns its colour.
 fn unlink_lone<A: Allocator>(w: &mut Window<A>, path: &Path, node: u32, empty: Side) -> Colour
     ensures gone { result ≡ colour_at w.old.bytes (Some node) }
     ensures set { w.new ≡ with_bytes w.old (set_pointer w.old.bytes (end_word path.now)
@@ -179,7 +183,7 @@ fn restore<A: Allocator>(w: &mut Window<A>, path: &mut Path)
     }
 }
 
-/// One turn of that: it is made good, or a part further up is short then, and the answer is that there is more to do.
+/// One turn of that: it is made good, or a part further up is short then. Returns whether there is more to do.
 fn lengthen<A: Allocator>(w: &mut Window<A>, path: &mut Path) -> bool
     ensures host { w.new ≡ with_bytes w.old w.new.bytes }
     ensures root { path.new.root ≡ path.old.root }
@@ -221,7 +225,7 @@ fn lengthen_beside<A: Allocator>(w: &mut Window<A>, path: &mut Path, short: Step
     }
 }
 
-/// Lets a red sibling come up, so that the short part has a black one.
+/// Moves a red sibling up, so that the short part has a black one.
 fn lower<A: Allocator>(w: &mut Window<A>, path: &mut Path, short: Step, sibling: u32)
     ensures host { w.new ≡ with_bytes w.old w.new.bytes }
     ensures root { path.new.root ≡ path.old.root }
@@ -281,7 +285,7 @@ fn red_child<A: Allocator>(w: &Window<A>, node: u32, side: Side) -> Option<u32>
     }
 }
 
-/// Lets the node beside a short part come up in its parent's colour, and the parent go down, black.
+/// Moves the node beside a short part up, in its parent's colour, and the parent down, black.
 fn come_up<A: Allocator>(w: &mut Window<A>, path: &Path, short: Step)
     ensures host { w.new ≡ with_bytes w.old w.new.bytes }
     ensures came_up { (layers : _) (tree inner outer : _) (up : _) (colour other : _)

@@ -1,12 +1,13 @@
 //! Searches down a tree.
 
-ghost use Rattle.std.specs.Prelude.{◌≡◌, ◌+◌, ◌^◌, ◌≤◌, length};
+ghost use Rattle.std.specs.Prelude.{◌≡◌, ◌+◌, ◌^◌, ◌≤◌, [], length};
 ghost use Rattle.std.specs.Ordering.{is_eq, ordering_reverse};
 ghost use Rattle.seg_spec.specs.Shapes.{nodes_of};
 ghost use Rattle.seg_spec.specs.Search.{reaches, first_where, looks, IsSearchTree};
 ghost use Rattle.seg_rbtree.specs.Ways.{LeadsTo};
 ghost use Rattle.seg_rbtree.specs.Paths.{WhereOrdered, FindsEqual, node_at, sought_by};
 ghost use Rattle.seg_rbtree.specs.Roots.{root_word, path_root};
+ghost use Rattle.seg_rbtree.specs.declared.path.TheConstants.{DEPTH};
 
 use crate::node::{Side, child, child_word};
 use crate::order::{NodeOrder, Sought};
@@ -69,7 +70,7 @@ impl Tree {
         ensures looks { O.exact → WhereOrdered (O.compare order.now) w.now (root_word self)
             (λ shape. result.looks ≡ looks
             (λ node. reaches Ordering.Equal (O.compare_key order.now w.now.bytes node key)) shape) }
-        ensures at_most { result.looks ≤ 64 }
+        ensures at_most { result.looks ≤ DEPTH }
         ensures bound { O.exact → WhereOrdered (O.compare order.now) w.now (root_word self)
             (λ shape. 2 ^ result.looks ≤ (length (nodes_of shape) + 1) ^ 2) }
     {
@@ -106,7 +107,7 @@ impl Tree {
         ensures looks { O.exact → WhereOrdered (O.compare order.now) w.now (root_word self)
             (λ shape. result.looks
             ≡ looks (λ node. reaches least (O.compare_key order.now w.now.bytes node key)) shape) }
-        ensures bound { result.looks ≤ 64 }
+        ensures bound { result.looks ≤ DEPTH }
     {
         let mut place = w.target(self.root);
         let mut found = Looked {
@@ -144,24 +145,28 @@ impl Tree {
             (λ shape. FindsEqual (λ x. O.compare_key order.now w.now.bytes x key) (nodes_of shape)
             (node_at w.now.bytes result)) }
     {
-        self.path_to(w, order, Sought::Key(key))
+        let mut path = Path::new(self.root);
+        path.descend(w, order, Sought::Key(key));
+        path
     }
+}
 
-    /// The path to what is sought, or to the empty place where it would stand.
+impl Path {
+    /// Goes down from the root to what is sought, or to the empty place where it would stand.
     #[inline(always)]
-    pub(crate) fn path_to<K: Copy, O: NodeOrder<K>, A: Allocator>(
-        self,
+    pub(crate) fn descend<K: Copy, O: NodeOrder<K>, A: Allocator>(
+        &mut self,
         w: &Window<A>,
         order: &O,
         sought: Sought<K>,
-    ) -> Path
-        ensures root { path_root result ≡ root_word self }
-        ensures leads { O.exact → (shape : _) → IsSearchTree w.now.bytes (root_word self) shape
+    )
+        ensures root { path_root self.new ≡ path_root self.old }
+        ensures leads { O.exact → self.old.steps.items ≡ []
+            → (shape : _) → IsSearchTree w.now.bytes (path_root self.old) shape
             → LeadsTo (sought_by (O.compare order.now w.now.bytes)
-            (O.compare_key order.now w.now.bytes) sought) shape result }
+            (O.compare_key order.now w.now.bytes) sought) shape self.new }
     {
-        let mut path = Path::new(self.root);
-        let mut word = self.root;
+        let mut word = self.word();
         for _ in 0..DEPTH {
             let Some(node) = w.target(word) else {
                 break;
@@ -171,11 +176,10 @@ impl Tree {
                 Ordering::Equal => break,
                 Ordering::Greater => Side::Right,
             };
-            if !path.push(node, side) {
+            if !self.push(node, side) {
                 break;
             }
             word = child_word(node, side);
         }
-        path
     }
 }

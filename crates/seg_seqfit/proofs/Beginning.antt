@@ -56,7 +56,8 @@ module _ (old : List ℕ) (u : ℕ) (small : length old ≤ 2 ^ 30) (whole : 704
         free = (
           target-same headed begun 24 (number-set_other 4 4 (set_word headed 704 (size_word u false)) (704 + 16 * u + 4) u 24 (inl (omega arith)) ∙ number-set_other 4 4 headed 704 (size_word u false) 24 (inl (omega arith)))
               ∙ target-set_same linked 24 (Some 720) (omega arith) (omega arith) (λ t e. let is : 720 ≡ t = some_same e in (omega arith, λ k. absurd (omega arith))),
-          target-same linked begun 716 (number-set_other 4 4 (set_word headed 704 (size_word u false)) (704 + 16 * u + 4) u 716 (inl (omega arith)) ∙ number-set_other 4 4 headed 704 (size_word u false) 716 (inr (omega arith)) ∙ number-set_other 4 4 linked 24 (distance 24 (Some 720)) 716 (inr (omega arith)))
+          target-same linked begun 716 (number-set_other 4 4 (set_word headed 704 (size_word u false)) (704 + 16 * u + 4) u 716 (inl (omega arith))
+              ∙ number-set_other 4 4 headed 704 (size_word u false) 716 (inr (omega arith)) ∙ number-set_other 4 4 linked 24 (distance 24 (Some 720)) 716 (inr (omega arith)))
               ∙ target-set_same tagged 716 None (omega (arith, length-set_number 4 first 712 0, length-set_number 4 old 708 0)) (omega arith) (λ t e. absurd (never t e)),
         );
       }

@@ -74,14 +74,16 @@ module _ (old : List ℕ) (large : 736 ≤ length old) (h : IsHeap 0 old) (xs : 
           ends.cut_to old large h xs at u l parts cut_off u xs long (omega arith) (subst (λ e. Fill heap_start xs e) end places.0)
           (AreHeaders-set_link (with_size m) xs heap_start at 0 link (distance link None) refl off places.0 heads)
           (subst (λ ts. Links cut_off 24 (free_of ts) None) (append-nil xs)
-          (Links-changed old cut_off xs (tile at u l ∷ []) [] 24 heap_start at None None (omega arith) places.0 (agrees_cut 24 (link_behind 24 xs) (inr (omega arith)) (inl (omega arith))) was.free (subst (λ x. target cut_off x ≡ None) link_is named)))
+          (Links-changed old cut_off xs (tile at u l ∷ []) [] 24 heap_start at None None (omega arith) places.0 (agrees_cut 24 (link_behind 24 xs) (inr (omega arith)) (inl (omega arith))) was.free
+          (subst (λ x. target cut_off x ≡ None) link_is named)))
           (AreApart-front xs (tile at u l ∷ []) true (ends.apart old large h xs at u l parts)) free_places
           (ends.units_of_gap old large h xs at u l parts is_free above)
           (number-set_other 4 4 (with_size m) link (distance link None) 12 (inl (omega arith)) ∙ number-set_same 4 old 12 m (omega arith) (omega arith) ∙ ap (λ x. x / 16) end)
           (agrees_cut 0 12 (inl (omega arith)) (inl (omega arith))) (agrees_cut 16 24 (inr (omega arith)) (inl (omega arith)))
           (agrees_cut 28 heap_start (inr (omega arith)) (⊎_elim (λ e. inr (omega arith)) (λ e. inl (omega arith)) (link_behind-cases xs 24 heap_start at places.0)))
           (λ b c. let w = in_front b c in agrees_cut (b.at + 8) (end_of b) (inr (omega arith))
-          (subst (λ x. (end_of b ≤ x) ⊎ (x + 4 ≤ b.at + 8)) (sym link_is) (⊎_elim (λ e. inl e) (λ e. inr (omega arith)) (live_beside_link xs 24 heap_start at b (omega arith) places.0 (subst (λ s. Contains s b) (ends.live_there old large h xs at u l parts ∙ sym free_places) c)))))
+          (subst (λ x. (end_of b ≤ x) ⊎ (x + 4 ≤ b.at + 8)) (sym link_is)
+          (⊎_elim (λ e. inl e) (λ e. inr (omega arith)) (live_beside_link xs 24 heap_start at b (omega arith) places.0 (subst (λ s. Contains s b) (ends.live_there old large h xs at u l parts ∙ sym free_places) c)))))
         where
           never : (t : ℕ) → None ≡ Some t → ⊥
           never t e = cc
@@ -101,8 +103,10 @@ module _ (old : List ℕ) (large : 736 ≤ length old) (h : IsHeap 0 old) (xs : 
       agrees_down from to out low = Agrees-trans old (with_size 46) cut_down from to (agrees_size 46 from to out) (Agrees-set_size (with_size 46) 704 2 false from to (inl low) (inl (omega arith)))
 
       down_word : (q : ℕ) → 16 ≤ q → (q + 4 ≤ 704) ⊎ ((708 ≤ q) × (q + 4 ≤ 740)) → word cut_down q ≡ word old q
-      down_word q low (inl k) = number-set_other 4 4 (set_word (with_size 46) 704 (size_word 2 false)) (704 + 16 * 2 + 4) 2 q (inl (omega arith)) ∙ number-set_other 4 4 (with_size 46) 704 (size_word 2 false) q (inl (omega arith)) ∙ word_size 46 q low
-      down_word q low (inr k) = number-set_other 4 4 (set_word (with_size 46) 704 (size_word 2 false)) (704 + 16 * 2 + 4) 2 q (inl (omega arith)) ∙ number-set_other 4 4 (with_size 46) 704 (size_word 2 false) q (inr (omega arith)) ∙ word_size 46 q low
+      down_word q low (inl k) = number-set_other 4 4 (set_word (with_size 46) 704 (size_word 2 false)) (704 + 16 * 2 + 4) 2 q (inl (omega arith))
+          ∙ number-set_other 4 4 (with_size 46) 704 (size_word 2 false) q (inl (omega arith)) ∙ word_size 46 q low
+      down_word q low (inr k) = number-set_other 4 4 (set_word (with_size 46) 704 (size_word 2 false)) (704 + 16 * 2 + 4) 2 q (inl (omega arith))
+          ∙ number-set_other 4 4 (with_size 46) 704 (size_word 2 false) q (inr (omega arith)) ∙ word_size 46 q low
 
       pub cut_whole : Cuts 0 old cut_down (u - 2)
       cut_whole =
@@ -118,7 +122,8 @@ module _ (old : List ℕ) (large : 736 ≤ length old) (h : IsHeap 0 old) (xs : 
           (target-same old cut_down 24 (down_word 24 (omega arith) (inl (omega arith))) ∙ links.0, target-same old cut_down 716 (down_word 716 (omega arith) (inr (omega arith, omega arith))) ∙ links.1)
           ((λ e. absurd (never e)), tt) (ap live_of (sym first.0) ∙ free_places)
           (ends.units_of_whole old large h xs at u l parts is_free f)
-          (number-set_other 4 4 (set_word (with_size 46) 704 (size_word 2 false)) (704 + 16 * 2 + 4) 2 12 (inl (omega arith)) ∙ number-set_other 4 4 (with_size 46) 704 (size_word 2 false) 12 (inl (omega arith)) ∙ number-set_same 4 old 12 46 (omega arith) (omega arith) ∙ ap (λ x. x / 16) end)
+          (number-set_other 4 4 (set_word (with_size 46) 704 (size_word 2 false)) (704 + 16 * 2 + 4) 2 12 (inl (omega arith)) ∙ number-set_other 4 4 (with_size 46) 704 (size_word 2 false) 12 (inl (omega arith))
+          ∙ number-set_same 4 old 12 46 (omega arith) (omega arith) ∙ ap (λ x. x / 16) end)
           (agrees_down 0 12 (inl (omega arith)) (omega arith)) (agrees_down 16 24 (inr (omega arith)) (omega arith)) (agrees_down 28 heap_start (inr (omega arith)) (omega arith))
           (λ b c. let w = in_front b c in agrees_down (b.at + 8) (end_of b) (inr (omega arith)) (omega arith))
         where

@@ -14,7 +14,8 @@ use Rattle.seg_block.proofs.Tiled.{aligned_end}
 
 -- ---- the list
 
-pub Links-words : (a b : List ℕ) (ts : List Tile) (p from to : ℕ) (last : Option ℕ) → word b p ≡ word a p → ((q : ℕ) → from + 12 ≤ q → q + 4 ≤ to → q % 16 ≡ 12 → word b q ≡ word a q) → from % 16 ≡ 0 → Fill from ts to → Links a p (free_of ts) last → Links b p (free_of ts) last
+pub Links-words : (a b : List ℕ) (ts : List Tile) (p from to : ℕ) (last : Option ℕ) → word b p ≡ word a p → ((q : ℕ) → from + 12 ≤ q → q + 4 ≤ to → q % 16 ≡ 12 → word b q ≡ word a q)
+    → from % 16 ≡ 0 → Fill from ts to → Links a p (free_of ts) last → Links b p (free_of ts) last
 Links-words a b [] p from to last first same aligned f l = target-same a b p first ∙ l
 Links-words a b (t ∷ ts) p from to last first same aligned f l =
     let le = Fill-le ts (from + 16 * t.units) to f.2 in
@@ -30,20 +31,23 @@ Links-resized : (a : List ℕ) (xs : List Tile) (p at u v : ℕ) (l : Bool) (las
 Links-resized a [] p at u v true last k = k
 Links-resized a [] p at u v false last k = k
 Links-resized a (t ∷ xs) p at u v l last k =
-    let go = elim t.live as (λ c. Links a p (cond c (free_of (xs ++ tile at u l ∷ [])) (span_of t ∷ free_of (xs ++ tile at u l ∷ []))) last → Links a p (cond c (free_of (xs ++ tile at v l ∷ [])) (span_of t ∷ free_of (xs ++ tile at v l ∷ []))) last)
+    let go = elim t.live as (λ c. Links a p (cond c (free_of (xs ++ tile at u l ∷ [])) (span_of t ∷ free_of (xs ++ tile at u l ∷ []))) last
+    → Links a p (cond c (free_of (xs ++ tile at v l ∷ [])) (span_of t ∷ free_of (xs ++ tile at v l ∷ []))) last)
     [ true ↦ (λ k. Links-resized a xs p at u v l last k) | false ↦ (λ k. (k.0, Links-resized a xs (t.at + 12) at u v l last k.1)) ] in
     go k
 
 -- ---- from what the steps ensure
 
-pub enlarged : (old new : List ℕ) (xs : List Tile) (at u n : ℕ) (l flag : Bool) → length old ≤ 2 ^ 30 → u ≤ n → Fill heap_start (xs ++ tile at u l ∷ []) (at + 16 * u) → AreHeaders old 0 (xs ++ tile at u l ∷ []) → HoldsGaps 0 old (free_of (xs ++ tile at u l ∷ [])) → at + 16 * n ≡ length old
+pub enlarged : (old new : List ℕ) (xs : List Tile) (at u n : ℕ) (l flag : Bool) → length old ≤ 2 ^ 30 → u ≤ n → Fill heap_start (xs ++ tile at u l ∷ []) (at + 16 * u)
+    → AreHeaders old 0 (xs ++ tile at u l ∷ []) → HoldsGaps 0 old (free_of (xs ++ tile at u l ∷ [])) → at + 16 * n ≡ length old
     → flag ≡ is_live_at old at → new ≡ set_size old at n flag → Enlarges 0 old new xs at u n l
 enlarged old new xs at u n l flag small more filled heads holds inside flag_was new_is =
     let end = at + 16 * u in
     let p = larger-places old xs at u n end l small more inside filled heads in
     let low = Fill-le xs heap_start at p.0 in
     let aligned = aligned_end xs heap_start at refl p.0 in
-    let same = λ (q : ℕ) (out : (q + 4 ≤ at) ⊎ (at + 4 ≤ q)) (high : q + 4 ≤ end). number-agrees old (set_size old at n l) q (q + 4) 4 q (larger-kept old xs at u n end l small more inside filled heads q (q + 4) out high) (omega arith) (omega arith) in
+    let same = λ (q : ℕ) (out : (q + 4 ≤ at) ⊎ (at + 4 ≤ q)) (high : q + 4 ≤ end). number-agrees old (set_size old at n l) q (q + 4) 4 q
+    (larger-kept old xs at u n end l small more inside filled heads q (q + 4) out high) (omega arith) (omega arith) in
     let beside = λ (q : ℕ) (even : q % 16 ≡ 12). ⊎_elim (λ k. inl (omega (arith, aligned, even, k))) (λ k. inr (omega (arith, aligned, even, k))) (cases_lt q at) in
     subst (λ b. Enlarges 0 old b xs at u n l) (sym (new_is ∙ ap (set_size old at n) (flag_was ∙ flag_is old xs at u l heads)))
     (record {

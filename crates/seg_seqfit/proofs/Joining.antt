@@ -1,10 +1,10 @@
--- Two free tiles, one right behind the other, become one.
-use Rattle.std.proofs.Common.{◌≡◌, ℕ, ◌+◌, ◌*◌, ◌%◌, ◌≤◌, false, List, [], ◌∷◌, ◌++◌, length, None, refl, ap, ◌∙◌, arith, inl, inr}
+-- A free tile takes in the tile right behind it.
+use Rattle.std.proofs.Common.{◌≡◌, ℕ, ◌+◌, ◌*◌, ◌%◌, ◌≤◌, true, false, List, [], ◌∷◌, ◌++◌, length, None, refl, ap, ◌∙◌, arith, inl, inr}
 use Rattle.seg_spec.specs.Bytes.{word, set_word}
 use Rattle.seg_spec.specs.Pointer.{target, distance, set_pointer}
 use Rattle.seg_spec.specs.Heap.{Tile, Fill, AreHeaders, Links, heap_start}
 use Rattle.seg_spec.proofs.BytesLaws.{number-set_same, number-set_other, length-set_number}
-use Rattle.seg_spec.proofs.PointerLaws.{target-set_same}
+use Rattle.seg_spec.proofs.PointerLaws.{target-set_same, target-same}
 use Rattle.seg_spec.proofs.TileLaws.{Fill-le, AreHeaders-back, units_after}
 use Rattle.seg_spec.proofs.HeaderLaws.{AreHeaders-set_link}
 use Rattle.seg_block.specs.Sizes.{size_word, set_size}
@@ -15,6 +15,7 @@ use Rattle.seg_seqfit.proofs.LinkLaws.{Links-behind, link_behind-low, names_tile
 use Rattle.seg_block.proofs.Tiled.{around, aligned_end}
 use Rattle.seg_seqfit.proofs.Retile.{IsLocal, retile, spares, IsLocal-trans, IsLocal-word, IsLocal-set_size, target-local}
 
+-- two free tiles become one
 module _ (old : List ℕ) (xs ys : List Tile) (at u v : ℕ) (was : IsTiling 0 old (xs ++ (tile at u false ∷ tile (at + 16 * u) v false ∷ ys))) where
   abbrev behind : ℕ
   behind = at + 16 * u
@@ -92,3 +93,39 @@ module _ (old : List ℕ) (xs ys : List Tile) (at u v : ℕ) (was : IsTiling 0 o
     tiling = retile old joined xs (tile at u false ∷ tile behind v false ∷ []) (tile at (u + v) false ∷ []) ys at hi was first.0 middle back (local (link_behind 24 xs)) headers next_size names;
     spared = spares old joined xs (tile at u false ∷ tile behind v false ∷ []) (tile at (u + v) false ∷ []) ys at hi was first.0 middle back (local (link_behind 24 xs));
   }
+
+-- a free tile takes in the live tile right behind it, and the list stays
+module _ (old : List ℕ) (xs ys : List Tile) (at u v : ℕ) (was : IsTiling 0 old (xs ++ (tile at u false ∷ tile (at + 16 * u) v true ∷ ys))) where
+  abbrev widened : List ℕ
+  widened = set_size old at (u + v) false
+
+  pub widen-retiles : Retiles 0 old widened xs (tile at (u + v) false ∷ []) ys
+  widen-retiles =
+      let hi = at + 16 * u + 16 * v in
+      let block = tile (at + 16 * u) v true in
+      let p = around xs (block ∷ ys) heap_start (length old) at u false was.tiled.filled in
+      let large : 2 ≤ v = p.2.1 in
+      let back : Fill hi ys (length old) = p.2.2 in
+      let room = Fill-le ys hi (length old) back in
+      let a = p.1 in
+      let end_is : at + 16 * (u + v) ≡ hi = omega arith in
+      let middle : Fill at (tile at (u + v) false ∷ []) hi = (refl, omega arith, end_is) in
+      let local = λ (link : ℕ). IsLocal-set_size old at (u + v) false link at hi (omega arith) (omega arith) (inl end_is) in
+      let low = link_behind-low xs 24 heap_start at (omega arith) p.0 in
+      let listed = Links-behind old xs (tile at u false ∷ block ∷ ys) 24 None was.free in
+      let h = (AreHeaders-back old xs (tile at u false ∷ block ∷ ys) 0 was.tiled.headers).0 in
+      let headers : AreHeaders widened (units_after 0 xs) (tile at (u + v) false ∷ []) =
+      (IsHeader-set_size old at (u + v) (units_after 0 xs) false (omega arith) (omega arith) was.tiled.small h.before_is h.tag_is, tt) in
+      let next_size : hi + 8 ≤ length old → word widened (hi + 4) ≡ u + v = λ fits.
+      ap (λ p. word (set_word (set_word old at (size_word (u + v) false)) (p + 4) (u + v)) (hi + 4)) end_is
+      ∙ number-set_same 4 (set_word old at (size_word (u + v) false)) (hi + 4) (u + v) (omega (arith, length-set_number 4 old at (size_word (u + v) false))) (omega (arith, was.tiled.small)) in
+      let names : Links widened (link_behind 24 xs) (record { at = at; units = u + v } ∷ []) (target old (at + 12)) = (
+        target-local old widened (at + 12) at hi (link_behind 24 xs) (local (at + 12)) (omega arith) low (inl (omega arith)) ∙ listed.0,
+        target-same old widened (at + 12)
+            (number-set_other 4 4 (set_word old at (size_word (u + v) false)) (at + 16 * (u + v) + 4) (u + v) (at + 12) (inl (omega arith))
+            ∙ number-set_other 4 4 old at (size_word (u + v) false) (at + 12) (inr (omega arith))),
+      ) in
+      record {
+        tiling = retile old widened xs (tile at u false ∷ block ∷ []) (tile at (u + v) false ∷ []) ys at hi was p.0 middle back (local (link_behind 24 xs)) headers next_size names;
+        spared = spares old widened xs (tile at u false ∷ block ∷ []) (tile at (u + v) false ∷ []) ys at hi was p.0 middle back (local (link_behind 24 xs));
+      }

@@ -54,16 +54,19 @@ Links-behind bytes (t ∷ xs) ys p last l =
     go l
 
 -- the words before the one behind some tiles stay, and what that one begins is changed
-pub Links-changed : (old new : List ℕ) (xs ys zs : List Tile) (p from to : ℕ) (last last' : Option ℕ) → p + 4 ≤ from → Fill from xs to → Agrees old new p (link_behind p xs) → Links old p (free_of (xs ++ ys)) last → Links new (link_behind p xs) (free_of zs) last' → Links new p (free_of (xs ++ zs)) last'
+pub Links-changed : (old new : List ℕ) (xs ys zs : List Tile) (p from to : ℕ) (last last' : Option ℕ) → p + 4 ≤ from → Fill from xs to → Agrees old new p (link_behind p xs)
+    → Links old p (free_of (xs ++ ys)) last → Links new (link_behind p xs) (free_of zs) last' → Links new p (free_of (xs ++ zs)) last'
 Links-changed old new [] ys zs p from to last last' low f same l l' = l'
 Links-changed old new (t ∷ xs) ys zs p from to last last' low f same l l' =
-    let go = elim t.live as (λ b. Agrees old new p (link_behind (cond b p (t.at + 12)) xs) → Links old p (cond b (free_of (xs ++ ys)) (span_of t ∷ free_of (xs ++ ys))) last → Links new (link_behind (cond b p (t.at + 12)) xs) (free_of zs) last' → Links new p (cond b (free_of (xs ++ zs)) (span_of t ∷ free_of (xs ++ zs))) last') [
+    let go = elim t.live as (λ b. Agrees old new p (link_behind (cond b p (t.at + 12)) xs) → Links old p (cond b (free_of (xs ++ ys)) (span_of t ∷ free_of (xs ++ ys))) last
+    → Links new (link_behind (cond b p (t.at + 12)) xs) (free_of zs) last' → Links new p (cond b (free_of (xs ++ zs)) (span_of t ∷ free_of (xs ++ zs))) last') [
       | true ↦ (λ same l l'. Links-changed old new xs ys zs p (from + 16 * t.units) to last last' (omega arith) f.2 same l l')
       | false ↦ (λ same l l'.
           let reach = link_behind-cases xs (t.at + 12) (from + 16 * t.units) to f.2 in
           let far : t.at + 12 ≤ link_behind (t.at + 12) xs = within reach in (
             target-agrees old new p (link_behind (t.at + 12) xs) p same (omega arith) (omega (arith, f.0)) ∙ l.0,
-            Links-changed old new xs ys zs (t.at + 12) (from + 16 * t.units) to last last' (omega (arith, f.0, f.1)) f.2 (Agrees-within old new p (link_behind (t.at + 12) xs) (t.at + 12) (link_behind (t.at + 12) xs) same (omega (arith, f.0)) (omega arith)) l.1 l',
+            Links-changed old new xs ys zs (t.at + 12) (from + 16 * t.units) to last last' (omega (arith, f.0, f.1)) f.2
+                (Agrees-within old new p (link_behind (t.at + 12) xs) (t.at + 12) (link_behind (t.at + 12) xs) same (omega (arith, f.0)) (omega arith)) l.1 l',
           ))
     ] in
     go same l l'
@@ -117,7 +120,3 @@ live_beside_link (t ∷ ts) p from to b low f c =
       | false ↦ (λ c. live_beside_link ts (t.at + 12) (from + 16 * t.units) to b (omega (arith, f.0, f.1)) f.2 c)
     ] in
     go c
-
-pub link_behind-append : (xs ys : List Tile) (p : ℕ) → link_behind p (xs ++ ys) ≡ link_behind (link_behind p xs) ys
-link_behind-append [] ys p = refl
-link_behind-append (t ∷ xs) ys p = link_behind-append xs ys (cond t.live p (t.at + 12))

@@ -10,7 +10,7 @@ use Rattle.seg_block.proofs.Neighbours.{own_flag}
 use Rattle.seg_block.specs.FreeBlocks.{AreFreeBlocks}
 use Rattle.seg_seqfit.specs.FreeBlocks.{link_after}
 use Rattle.seg_seqfit.specs.Retiling.{link_behind}
-use Rattle.seg_seqfit.proofs.LinkLaws.{link_behind-append}
+use Rattle.seg_seqfit.specs.Leading.{link_behind-append}
 use Rattle.seg_block.proofs.FreeTiles.{free_blocks}
 use Rattle.seg_block.proofs.ReadFree.{HasLast, last_cases}
 use Rattle.seg_seqfit.proofs.Walks.{AreBelow, AreAbove, IsPassed, passed_none}
@@ -61,11 +61,13 @@ module _ (bytes : List ℕ) (xs : List Tile) (near : Block) (n : IsNear bytes xs
   pub near_none : ((ys zs : List Tile) (l : Bool) (t : Tile) → IsTiled bytes (ys ++ (t ∷ tile near.at near.units l ∷ zs)) → ⊥) → 24 ≡ link_behind 24 xs
   near_none never =
       ⊎_elim (λ e. ap (link_behind 24) (sym e) ∙ n.link_is)
-      (λ h. absurd (never h.front n.behind n.live h.last (subst (λ l. IsTiled bytes l) (ap (λ l. l ++ tile near.at near.units n.live ∷ n.behind) h.parts ∙ append_assoc h.front (h.last ∷ []) (tile near.at near.units n.live ∷ n.behind)) n.tiled)))
+      (λ h. absurd (never h.front n.behind n.live h.last (subst (λ l. IsTiled bytes l)
+      (ap (λ l. l ++ tile near.at near.units n.live ∷ n.behind) h.parts ∙ append_assoc h.front (h.last ∷ []) (tile near.at near.units n.live ∷ n.behind)) n.tiled)))
       (last_cases n.before)
 
   -- this one is before it
-  module _ (f : Block) (flag : Bool) (flag_is : flag ≡ is_live_at bytes f.at) (read : (ys zs : List Tile) (l : Bool) (t : Tile) → IsTiled bytes (ys ++ (t ∷ tile near.at near.units l ∷ zs)) → (f.at ≡ t.at) × (f.units ≡ t.units)) (some : (zs : List Tile) (l : Bool) → IsTiled bytes (tile near.at near.units l ∷ zs) → Some f ≡ None) where
+  module _ (f : Block) (flag : Bool) (flag_is : flag ≡ is_live_at bytes f.at) (read : (ys zs : List Tile) (l : Bool) (t : Tile) → IsTiled bytes (ys ++ (t ∷ tile near.at near.units l ∷ zs)) → (f.at ≡ t.at) × (f.units ≡ t.units))
+      (some : (zs : List Tile) (l : Bool) → IsTiled bytes (tile near.at near.units l ∷ zs) → Some f ≡ None) where
     no : Some f ≡ None → ⊥
     no e = cc
 

@@ -52,13 +52,15 @@ Links-last bytes (t ∷ ts) p last l =
 Links-append : (bytes : List ℕ) (xs ys : List Tile) (p : ℕ) (last last' : Option ℕ) → Links bytes p (free_of xs) last → Links bytes (link_behind p xs) (free_of ys) last' → Links bytes p (free_of (xs ++ ys)) last'
 Links-append bytes [] ys p last last' l l' = l'
 Links-append bytes (t ∷ xs) ys p last last' l l' =
-    let go = elim t.live as (λ b. Links bytes p (cond b (free_of xs) (span_of t ∷ free_of xs)) last → Links bytes (link_behind (cond b p (t.at + 12)) xs) (free_of ys) last' → Links bytes p (cond b (free_of (xs ++ ys)) (span_of t ∷ free_of (xs ++ ys))) last')
+    let go = elim t.live as (λ b. Links bytes p (cond b (free_of xs) (span_of t ∷ free_of xs)) last → Links bytes (link_behind (cond b p (t.at + 12)) xs) (free_of ys) last'
+    → Links bytes p (cond b (free_of (xs ++ ys)) (span_of t ∷ free_of (xs ++ ys))) last')
     [ true ↦ (λ l l'. Links-append bytes xs ys p last last' l l') | false ↦ (λ l l'. (l.0, Links-append bytes xs ys (t.at + 12) last last' l.1 l')) ] in
     go l l'
 
 -- ---- the whole heap
 
-module _ (old new : List ℕ) (xs ms ns ys : List Tile) (lo hi : ℕ) (was : IsTiling 0 old (xs ++ (ms ++ ys))) (front : Fill heap_start xs lo) (middle : Fill lo ns hi) (back : Fill hi ys (length old)) (local : IsLocal old new (link_behind 24 xs) lo hi) where
+module _ (old new : List ℕ) (xs ms ns ys : List Tile) (lo hi : ℕ) (was : IsTiling 0 old (xs ++ (ms ++ ys))) (front : Fill heap_start xs lo) (middle : Fill lo ns hi)
+    (back : Fill hi ys (length old)) (local : IsLocal old new (link_behind 24 xs) lo hi) where
   pub link_low : link_behind 24 xs + 4 ≤ lo
   link_low = link_behind-low xs 24 heap_start lo (omega arith) front
 
@@ -89,7 +91,8 @@ module _ (old new : List ℕ) (xs ms ns ys : List Tile) (lo hi : ℕ) (was : IsT
       (Links-moved old new ys (link_behind l ms) (link_behind l ns) hi (length old) None (Links-last new ns l (target old (link_behind l ms)) names)
       (local.kept (hi + 8) (length old) (inr (omega arith)) (inr (omega arith)) (inr (omega arith))) back rest))
 
-  pub retile : AreHeaders new (units_after 0 xs) ns → (hi + 8 ≤ length old → word new (hi + 4) ≡ units_after (units_after 0 xs) ns) → Links new (link_behind 24 xs) (free_of ns) (target old (link_behind (link_behind 24 xs) ms)) → IsTiling 0 new (xs ++ (ns ++ ys))
+  pub retile : AreHeaders new (units_after 0 xs) ns → (hi + 8 ≤ length old → word new (hi + 4) ≡ units_after (units_after 0 xs) ns)
+      → Links new (link_behind 24 xs) (free_of ns) (target old (link_behind (link_behind 24 xs) ms)) → IsTiling 0 new (xs ++ (ns ++ ys))
   retile ns_is next_is names =
       record { tiled = retile_tiled ns_is next_is; free = retile_links names }
 
@@ -154,9 +157,11 @@ IsLocal-next bytes p n link lo hi e = record {
 
 pub IsLocal-set_size : (bytes : List ℕ) (at u : ℕ) (live : Bool) (link lo hi : ℕ) → lo ≤ at → at + 4 ≤ hi → (at + 16 * u ≡ hi) ⊎ (at + 16 * u + 8 ≤ hi) → IsLocal bytes (set_size bytes at u live) link lo hi
 IsLocal-set_size bytes at u live link lo hi low high (inl e) =
-    IsLocal-trans bytes (set_word bytes at (size_word u live)) (set_size bytes at u live) link lo hi (IsLocal-word bytes at (size_word u live) link lo hi low high) (IsLocal-next (set_word bytes at (size_word u live)) (at + 16 * u + 4) u link lo hi (omega arith))
+    IsLocal-trans bytes (set_word bytes at (size_word u live)) (set_size bytes at u live) link lo hi (IsLocal-word bytes at (size_word u live) link lo hi low high)
+    (IsLocal-next (set_word bytes at (size_word u live)) (at + 16 * u + 4) u link lo hi (omega arith))
 IsLocal-set_size bytes at u live link lo hi low high (inr h) =
-    IsLocal-trans bytes (set_word bytes at (size_word u live)) (set_size bytes at u live) link lo hi (IsLocal-word bytes at (size_word u live) link lo hi low high) (IsLocal-word (set_word bytes at (size_word u live)) (at + 16 * u + 4) u link lo hi (omega arith) (omega arith))
+    IsLocal-trans bytes (set_word bytes at (size_word u live)) (set_size bytes at u live) link lo hi (IsLocal-word bytes at (size_word u live) link lo hi low high)
+    (IsLocal-word (set_word bytes at (size_word u live)) (at + 16 * u + 4) u link lo hi (omega arith) (omega arith))
 
 -- a pointer word in front of the part that may change
 pub target-local : (old new : List ℕ) (link lo hi p : ℕ) → IsLocal old new link lo hi → lo ≤ hi → p + 4 ≤ lo → (p + 4 ≤ link) ⊎ (link + 4 ≤ p) → target new p ≡ target old p

@@ -67,7 +67,8 @@ module _ (old : List ℕ) (xs ys : List Tile) (at u : ℕ) (was : IsTiling 0 old
       let room = inside in
       let low = below in
       let long = length-closed in
-      let before_is : units_before closed at ≡ units_after 0 xs = number-set_other 4 4 unlinked (at + 12) (distance (at + 12) None) (at + 4) (inl (omega arith)) ∙ number-set_other 4 4 old link (distance link (target old (at + 12))) (at + 4) (inr (omega arith)) ∙ h.before_is in
+      let before_is : units_before closed at ≡ units_after 0 xs = number-set_other 4 4 unlinked (at + 12) (distance (at + 12) None) (at + 4) (inl (omega arith))
+      ∙ number-set_other 4 4 old link (distance link (target old (at + 12))) (at + 4) (inr (omega arith)) ∙ h.before_is in
       (IsHeader-set_size closed at u (units_after 0 xs) true large (omega arith) (omega (arith, was.tiled.small)) before_is (λ e. absurd (no e)), tt)
     where
       no : true ≡ false → ⊥

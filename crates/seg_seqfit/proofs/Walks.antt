@@ -5,7 +5,7 @@ use Rattle.std.proofs.lemmas.Bool.Decides.{nat_tests}
 use Rattle.std.specs.Prelude.{⊤}
 use Rattle.seg_spec.specs.Pointer.{target}
 use Rattle.seg_spec.specs.Heap.{Span, end_of, Links, first_fit}
-use Rattle.seg_block.specs.Blocks.{IsBlock}
+use Rattle.seg_block.specs.Blocks.{IsSized}
 use Rattle.seg_block.specs.FreeBlocks.{AreFreeBlocks}
 use Rattle.seg_seqfit.specs.FreeBlocks.{link_after, IsFirstFit}
 
@@ -38,15 +38,16 @@ first_fit-here g gs u h = rw (le-leb u g.units h) refl
 -- the walk reads what a pointer word names: nothing, or a free block from low on
 abbrev pub ReadsBlock : List ℕ → ℕ → ℕ → ℕ → ℕ → Type 0
 ReadsBlock bytes link low at units =
-    (target bytes link ≡ None → ⊥) × ((g : Span) → target bytes link ≡ Some (g.at + 16) → IsBlock bytes g → low ≤ g.at → (at ≡ g.at) × (units ≡ g.units))
+    (target bytes link ≡ None → ⊥) × ((g : Span) → target bytes link ≡ Some (g.at + 16) → IsSized bytes g → low ≤ g.at → (at ≡ g.at) × (units ≡ g.units))
 
 abbrev pub ReadsNone : List ℕ → ℕ → ℕ → Type 0
-ReadsNone bytes link low = (g : Span) → target bytes link ≡ Some (g.at + 16) → IsBlock bytes g → low ≤ g.at → ⊥
+ReadsNone bytes link low = (g : Span) → target bytes link ≡ Some (g.at + 16) → IsSized bytes g → low ≤ g.at → ⊥
 
 same_span : (g : Span) (at units : ℕ) → at ≡ g.at → units ≡ g.units → g ≡ record { at = at; units = units }
 same_span g at units p q = λ i. record { at = sym p i; units = sym q i }
 
-more : (bytes : List ℕ) (gs seen rest : List Span) (u link low at units : ℕ) → ReadsBlock bytes link low at units → units < u → gs ≡ seen ++ rest → link ≡ link_after 24 seen → first_fit gs u ≡ first_fit rest u → Links bytes link rest None → AreFreeBlocks bytes low rest → IsSearched bytes gs u (at + 12) (at + 16 * units)
+more : (bytes : List ℕ) (gs seen rest : List Span) (u link low at units : ℕ) → ReadsBlock bytes link low at units → units < u → gs ≡ seen ++ rest → link ≡ link_after 24 seen
+    → first_fit gs u ≡ first_fit rest u → Links bytes link rest None → AreFreeBlocks bytes low rest → IsSearched bytes gs u (at + 12) (at + 16 * units)
 more bytes gs seen [] u link low at units reads small parts link_is first_is links blocks = absurd (reads.0 links)
 more bytes gs seen (g ∷ rest) u link low at units reads small parts link_is first_is links blocks =
     let is = reads.1 g links.0 blocks.1 blocks.0 in
@@ -63,7 +64,8 @@ more bytes gs seen (g ∷ rest) u link low at units reads small parts link_is fi
 pub searched_more : (bytes : List ℕ) (gs : List Span) (u link low at units : ℕ) → ReadsBlock bytes link low at units → units < u → IsSearched bytes gs u link low → IsSearched bytes gs u (at + 12) (at + 16 * units)
 searched_more bytes gs u link low at units reads small s = more bytes gs s.seen s.rest u link low at units reads small s.parts s.link_is s.first_is s.links s.blocks
 
-found : (bytes : List ℕ) (gs seen rest : List Span) (u link low at units : ℕ) → ReadsBlock bytes link low at units → u ≤ units → gs ≡ seen ++ rest → link ≡ link_after 24 seen → first_fit gs u ≡ first_fit rest u → Links bytes link rest None → AreFreeBlocks bytes low rest → IsFirstFit gs u link at units
+found : (bytes : List ℕ) (gs seen rest : List Span) (u link low at units : ℕ) → ReadsBlock bytes link low at units → u ≤ units → gs ≡ seen ++ rest → link ≡ link_after 24 seen
+    → first_fit gs u ≡ first_fit rest u → Links bytes link rest None → AreFreeBlocks bytes low rest → IsFirstFit gs u link at units
 found bytes gs seen [] u link low at units reads large parts link_is first_is links blocks = absurd (reads.0 links)
 found bytes gs seen (g ∷ rest) u link low at units reads large parts link_is first_is links blocks =
     let is = reads.1 g links.0 blocks.1 blocks.0 in
@@ -114,7 +116,8 @@ pub record IsPassed (bytes : List ℕ) (seen rest : List Span) (block link low :
 pub passed_none : (bytes : List ℕ) (seen rest : List Span) (block : ℕ) → Links bytes 24 (seen ++ rest) None → AreFreeBlocks bytes 704 (seen ++ rest) → AreBelow block seen → AreAbove block rest → IsPassed bytes seen rest block 24 704
 passed_none bytes seen rest block links blocks below above = record { done = []; todo = seen; parts = refl; link_is = refl; links = links; blocks = blocks; below = below; above = above }
 
-pass : (bytes : List ℕ) (seen rest done todo : List Span) (block link low at units : ℕ) → ReadsBlock bytes link low at units → at < block → seen ≡ done ++ todo → link ≡ link_after 24 done → Links bytes link (todo ++ rest) None → AreFreeBlocks bytes low (todo ++ rest) → AreBelow block todo → AreAbove block rest → IsPassed bytes seen rest block (at + 12) (at + 16 * units)
+pass : (bytes : List ℕ) (seen rest done todo : List Span) (block link low at units : ℕ) → ReadsBlock bytes link low at units → at < block → seen ≡ done ++ todo
+    → link ≡ link_after 24 done → Links bytes link (todo ++ rest) None → AreFreeBlocks bytes low (todo ++ rest) → AreBelow block todo → AreAbove block rest → IsPassed bytes seen rest block (at + 12) (at + 16 * units)
 pass bytes seen [] done [] block link low at units reads under parts link_is links blocks below above = absurd (reads.0 links)
 pass bytes seen (g ∷ rest) done [] block link low at units reads under parts link_is links blocks below above =
     let is = reads.1 g links.0 blocks.1 blocks.0 in absurd (omega (arith, above.0))
@@ -131,12 +134,15 @@ pass bytes seen rest done (g ∷ todo) block link low at units reads under parts
       above = above;
     }
 
-pub passed_more : (bytes : List ℕ) (seen rest : List Span) (block link low at units : ℕ) → ReadsBlock bytes link low at units → at < block → IsPassed bytes seen rest block link low → IsPassed bytes seen rest block (at + 12) (at + 16 * units)
+pub passed_more : (bytes : List ℕ) (seen rest : List Span) (block link low at units : ℕ) → ReadsBlock bytes link low at units → at < block → IsPassed bytes seen rest block link low
+    → IsPassed bytes seen rest block (at + 12) (at + 16 * units)
 passed_more bytes seen rest block link low at units reads under p = pass bytes seen rest p.done p.todo block link low at units reads under p.parts p.link_is p.links p.blocks p.below p.above
 
-stop : (bytes : List ℕ) (seen rest done todo : List Span) (block link low : ℕ) → ((g : Span) → target bytes link ≡ Some (g.at + 16) → IsBlock bytes g → low ≤ g.at → g.at < block → ⊥) → seen ≡ done ++ todo → link ≡ link_after 24 done → Links bytes link (todo ++ rest) None → AreFreeBlocks bytes low (todo ++ rest) → AreBelow block todo → link ≡ link_after 24 seen
+stop : (bytes : List ℕ) (seen rest done todo : List Span) (block link low : ℕ) → ((g : Span) → target bytes link ≡ Some (g.at + 16) → IsSized bytes g → low ≤ g.at → g.at < block → ⊥)
+    → seen ≡ done ++ todo → link ≡ link_after 24 done → Links bytes link (todo ++ rest) None → AreFreeBlocks bytes low (todo ++ rest) → AreBelow block todo → link ≡ link_after 24 seen
 stop bytes seen rest done [] block link low never parts link_is links blocks below = link_is ∙ ap (link_after 24) (sym (parts ∙ append-nil done))
 stop bytes seen rest done (g ∷ todo) block link low never parts link_is links blocks below = absurd (never g links.0 blocks.1 blocks.0 below.0)
 
-pub passed_end : (bytes : List ℕ) (seen rest : List Span) (block link low : ℕ) → ((g : Span) → target bytes link ≡ Some (g.at + 16) → IsBlock bytes g → low ≤ g.at → g.at < block → ⊥) → IsPassed bytes seen rest block link low → link ≡ link_after 24 seen
+pub passed_end : (bytes : List ℕ) (seen rest : List Span) (block link low : ℕ) → ((g : Span) → target bytes link ≡ Some (g.at + 16) → IsSized bytes g → low ≤ g.at → g.at < block → ⊥)
+    → IsPassed bytes seen rest block link low → link ≡ link_after 24 seen
 passed_end bytes seen rest block link low never p = stop bytes seen rest p.done p.todo block link low never p.parts p.link_is p.links p.blocks p.below

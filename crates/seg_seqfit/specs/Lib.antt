@@ -1,2 +1,3 @@
 pub mod FreeBlocks
 pub mod Retiling
+pub mod Leading

@@ -1,13 +1,13 @@
 //! Walks along the free list.
 
-ghost use Rattle.std.specs.Prelude.{◌≡◌, ◌+◌, ◌-◌, ◌*◌, ◌/◌, ◌%◌, ◌^◌, ◌<◌, ◌≤◌, Bool, List, ◌∷◌, ◌++◌, length, IfSome, IsSomeAnd, MatchOption, Option, Some, None};
+ghost use Rattle.std.specs.Prelude.{◌≡◌, ◌+◌, ◌≤◌, Bool, List, ◌∷◌, ◌++◌, IfSome, IsSomeAnd, MatchOption, Some, None};
 ghost use Rattle.seg_spec.specs.Pointer.{target};
-ghost use Rattle.seg_spec.specs.Heap.{Span, Tile, Links, first_fit};
-ghost use Rattle.seg_block.specs.Blocks.{IsBlock};
+ghost use Rattle.seg_spec.specs.Heap.{Span, Tile, IsFreeList, first_fit};
+ghost use Rattle.seg_block.specs.Blocks.{Covers, LiesIn, IsSized};
 ghost use Rattle.seg_block.specs.FreeBlocks.{AreFreeBlocks};
-ghost use Rattle.seg_block.specs.Tiling.{tile, IsTiling};
+ghost use Rattle.seg_block.specs.Tiling.{tile_of, IsTiling};
 ghost use Rattle.seg_seqfit.specs.FreeBlocks.{IsFirstFit};
-ghost use Rattle.seg_seqfit.specs.Retiling.{link_behind};
+ghost use Rattle.seg_seqfit.specs.Retiling.{link_to};
 
 use seg_block::{Block, HEAP_START, LINK, UNIT, block_at, is_live, previous};
 use seg_ptr::Window;
@@ -23,9 +23,10 @@ pub(crate) struct Found {
 
 /// The free block that a pointer word names, where it can be one at `low` or above.
 fn free_block<A: Allocator>(w: &Window<A>, link: usize, low: u32) -> Option<Block>
-    ensures bounds { IfSome result (λ f. (low ≤ f.at) × (2 ≤ f.units) × (f.at + 16 * f.units ≤ length w.now.bytes) × (length w.now.bytes ≤ 2 ^ 30)) }
+    ensures bounds { IfSome result (λ f. (low ≤ f.at) × LiesIn w.now.bytes f) }
     ensures none { target w.now.bytes link ≡ None → result ≡ None }
-    ensures named { (g : Span) → target w.now.bytes link ≡ Some (g.at + 16) → IsBlock w.now.bytes g → low ≤ g.at → IsSomeAnd result (λ f. (f.at ≡ g.at) × (f.units ≡ g.units)) }
+    ensures named { (g : Span) → target w.now.bytes link ≡ Some (g.at + UNIT)
+        → IsSized w.now.bytes g → low ≤ g.at → IsSomeAnd result (λ f. Covers f g) }
 {
     match w.target(link) {
         Some(payload) if payload >= UNIT && payload - UNIT >= low => block_at(w, payload - UNIT),
@@ -35,9 +36,12 @@ fn free_block<A: Allocator>(w: &Window<A>, link: usize, low: u32) -> Option<Bloc
 
 /// The lowest free block of at least `need` units.
 pub(crate) fn first_fit<A: Allocator>(w: &Window<A>, need: u32) -> Option<Found>
-    ensures bounds { IfSome result (λ f. (704 ≤ f.block.at) × (need ≤ f.block.units) × (2 ≤ f.block.units) × (f.block.at + 16 * f.block.units ≤ length w.now.bytes) × (length w.now.bytes ≤ 2 ^ 30)) }
-    ensures first { (gs : List Span) → Links w.now.bytes 24 gs None → AreFreeBlocks w.now.bytes 704 gs
-        → MatchOption result (first_fit gs need ≡ None) (λ f. IsFirstFit gs need f.link f.block.at f.block.units) }
+    ensures bounds { IfSome result (λ f. (HEAP_START ≤ f.block.at) × (need ≤ f.block.units)
+        × LiesIn w.now.bytes f.block) }
+    ensures first { (gs : List Span) → IsFreeList w.now.bytes gs
+        → AreFreeBlocks w.now.bytes HEAP_START gs
+        → MatchOption result (first_fit gs need ≡ None)
+        (λ f. IsFirstFit gs need f.link f.block.at f.block.units) }
 {
     let mut link = FREE;
     let mut low = HEAP_START;
@@ -55,7 +59,8 @@ pub(crate) fn first_fit<A: Allocator>(w: &Window<A>, need: u32) -> Option<Found>
 /// word. Two walks look for it, along the list and down the blocks, in turn: so it takes at most twice the steps of the
 /// shorter one, and none where the list begins above the block.
 pub(crate) fn link_before<A: Allocator>(w: &Window<A>, block: Block) -> usize
-    ensures { (xs ys : List Tile) (l : Bool) → IsTiling 0 w.now.bytes (xs ++ tile block.at block.units l ∷ ys) → result ≡ link_behind 24 xs }
+    ensures { (xs ys : List Tile) (l : Bool)
+        → IsTiling 0 w.now.bytes (xs ++ tile_of block l ∷ ys) → result ≡ link_to xs }
 {
     let mut link = FREE;
     let mut low = HEAP_START;

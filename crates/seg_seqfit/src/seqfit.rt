@@ -1,10 +1,10 @@
 ghost use Rattle.std.specs.Prelude.{ℕ};
 
-use crate::free_list::{cut, merge, merge_behind, release, resize, take};
+use crate::free_list::{merge_after, release_joined};
 use crate::search::{Found, first_fit, link_before};
 use seg_block::{
-    Fit, HEAP_START, LINK, TAG, UNIT, UNITS_BEFORE, block_at, expanded, free_before, granted,
-    is_live, last_block, room_behind, set_size, shrunk,
+    Block, Fit, FreeStructure, HEAP_START, LINK, TAG, UNIT, UNITS_BEFORE, block_at, cut, granted,
+    is_live, last_block, resize, set_size,
 };
 use seg_ptr::Window;
 use seg_ptr::header::{FREE, SIZE};
@@ -35,8 +35,8 @@ impl Fit for SeqFit {
 
     fn allocate<A: Allocator>(w: &mut Window<A>, need: u32) -> Option<u32> {
         let Found { link, block } = first_fit(w, need)?;
-        take(w, link, block);
-        cut(w, link, block, granted(block.units, need));
+        Self::take(w, link, block);
+        cut::<Self, A>(w, link, block, granted(block.units, need));
         Some(block.at)
     }
 
@@ -44,55 +44,17 @@ impl Fit for SeqFit {
         let Some(block) = block_at(w, block) else {
             return;
         };
-        let link = link_before(w, block);
-        release(w, link, block);
-        let whole = merge_behind(w, block);
-        if let Some(gap) = free_before(w, whole) {
-            merge(w, gap, whole);
-        }
+        let gap = release_joined(w, block);
+        merge_after(w, gap);
     }
 
-    fn expand<A: Allocator>(w: &mut Window<A>, block: u32, need: u32) -> bool {
-        let Some(block) = block_at(w, block) else {
-            return false;
-        };
-        let room = room_behind(w, block);
-        let Some(units) = expanded(block.units, room, need) else {
-            return false;
-        };
-        resize(w, block, room, units);
-        true
+    fn resize<A: Allocator>(w: &mut Window<A>, block: Block, room: u32, units: u32) {
+        resize::<Self, A>(w, block, room, units);
     }
 
-    fn shrink<A: Allocator>(w: &mut Window<A>, block: u32, need: u32) {
-        let Some(block) = block_at(w, block) else {
-            return;
-        };
-        if need > block.units {
-            return;
-        }
-        let room = room_behind(w, block);
-        resize(w, block, room, shrunk(block.units, room, need));
-    }
-
-    fn extend_end<A: Allocator>(w: &mut Window<A>, units: u32) {
-        let len = w.len();
-        let end = len - UNIT * units;
-        w.put32(SIZE, len / UNIT);
-        if units == 0 {
-            return;
-        }
-        let Some(last) = last_block(w, end) else {
-            return;
-        };
-        if units == 1 {
-            let live = is_live(w, last.at);
-            set_size(w, last.at, (len - last.at) / UNIT, live);
-        } else {
-            w.put32(end as usize + UNITS_BEFORE, last.units);
-            set_size(w, end, units, true);
-            Self::free(w, end);
-        }
+    fn enlarge<A: Allocator>(w: &mut Window<A>, last: Block, units: u32) {
+        let live = is_live(w, last.at);
+        set_size(w, last.at, units, live);
     }
 
     fn cut_end<A: Allocator>(w: &mut Window<A>) -> u32 {

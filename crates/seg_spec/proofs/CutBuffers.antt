@@ -1,13 +1,13 @@
 -- A vec whose buffer is cut to its items, and paths into it.
-use Rattle.std.proofs.Common.{◌≡◌, ◌≢◌, ℕ, zero, suc, ◌+◌, ◌*◌, ◌<◌, ◌≤◌, ◌⊎◌, inl, inr, true, false, List, [], ◌∷◌, ◌++◌, length, Some, refl, sym, ap, ◌∙◌, subst, lit<, lit≤, pos, arith}
+use Rattle.std.proofs.Common.{◌≡◌, ℕ, zero, suc, ◌+◌, ◌*◌, ◌<◌, ◌≤◌, ◌⊎◌, inl, inr, true, false, List, [], ◌∷◌, length, Some, refl, sym, ap, ◌∙◌, subst, lit<, lit≤, pos, arith}
 use Rattle.std.proofs.lemmas.Bool.{cases_eq}
 use Rattle.std.specs.Prelude.{slice_get}
 use Rattle.std.specs.List.{AllByRecursion}
-use Rattle.seg_spec.specs.Bytes.{slice, put, number, number_of, set_number, signed, word, IsSame}
+use Rattle.seg_spec.specs.Bytes.{slice, put, number, number_of, set_number, signed, word}
 use Rattle.seg_spec.specs.Pointer.{target}
-use Rattle.seg_spec.specs.Types.{Form, Table, form_at, size}
+use Rattle.seg_spec.specs.Types.{Form, form_at, size}
 use Rattle.seg_spec.specs.Value.{Label, Int, nil, Selector}
-use Rattle.seg_spec.specs.Heap.{Span, span, Tile, Fill, AreHeaders, IsHeap, heap_start, live, live_of, room_at}
+use Rattle.seg_spec.specs.Heap.{span, Tile, Fill, AreHeaders, IsHeap, heap_start, live, room_at}
 use Rattle.seg_spec.specs.Block.{Kind, IsOwnable}
 use Rattle.seg_spec.specs.Reads.{Place, Opened, Opens, Holds, holds, holds_none, holds_more, count_at, Leads, here, into}
 use Rattle.seg_spec.specs.Apart.{KeepsBlockAround, GoesBehind}
@@ -30,8 +30,13 @@ cut_tiles = record { at = 704; units = 2; live = true } ∷ record { at = 736; u
 
 roomy_live : live roomy ≡ span 704 2 ∷ span 736 3 ∷ span 784 4 ∷ []
 unfolding roomy_tiles roomy slice number number_of
-roomy_live = live_evaluated roomy roomy_tiles (refl, lit≤ tt, (refl, lit≤ tt, (refl, lit≤ tt, refl)))
-    (record { units_is = refl; live_is = refl; before_is = refl; tag_is = λ e. cc }, (record { units_is = refl; live_is = refl; before_is = refl; tag_is = λ e. cc }, (record { units_is = refl; live_is = refl; before_is = refl; tag_is = λ e. cc }, tt)))
+roomy_live = live_evaluated roomy roomy_tiles (refl, lit≤ tt, (refl, lit≤ tt, (refl, lit≤ tt, refl))) (
+  record { units_is = refl; live_is = refl; before_is = refl; tag_is = λ e. cc },
+  (
+    record { units_is = refl; live_is = refl; before_is = refl; tag_is = λ e. cc },
+    (record { units_is = refl; live_is = refl; before_is = refl; tag_is = λ e. cc }, tt),
+  ),
+)
 
 cut_fill : Fill heap_start cut_tiles (length cut)
 unfolding cut_tiles cut roomy slice put set_number
@@ -39,8 +44,16 @@ cut_fill = (refl, lit≤ tt, (refl, lit≤ tt, (refl, lit≤ tt, (refl, lit≤ t
 
 cut_headers : AreHeaders cut 0 cut_tiles
 unfolding cut_tiles cut roomy slice put set_number number number_of
-cut_headers = (record { units_is = refl; live_is = refl; before_is = refl; tag_is = λ e. cc }, (record { units_is = refl; live_is = refl; before_is = refl; tag_is = λ e. cc }, (record { units_is = refl; live_is = refl; before_is = refl; tag_is = λ e. cc },
-    (record { units_is = refl; live_is = refl; before_is = refl; tag_is = λ e. refl }, tt))))
+cut_headers = (
+  record { units_is = refl; live_is = refl; before_is = refl; tag_is = λ e. cc },
+  (
+    record { units_is = refl; live_is = refl; before_is = refl; tag_is = λ e. cc },
+    (
+      record { units_is = refl; live_is = refl; before_is = refl; tag_is = λ e. cc },
+      (record { units_is = refl; live_is = refl; before_is = refl; tag_is = λ e. refl }, tt),
+    ),
+  ),
+)
 
 cut_live : live cut ≡ span 704 2 ∷ span 736 3 ∷ span 784 2 ∷ []
 unfolding cut_tiles
@@ -86,8 +99,13 @@ cut-changes = record {
   front_kept = refl;
   back_kept = refl;
   heap = cut_heap;
-  ownable = subst (λ bs. AllByRecursion (λ b. IsOwnable cut vec_table b.at) bs) (sym cut_live)
-      (record { kind = Kind.named; type = 1; allowed = lit< tt; tag_is = refl; link_is = refl }, (record { kind = Kind.index_buffer; type = 0; allowed = refl; tag_is = refl; link_is = refl }, (record { kind = Kind.buffer; type = 1; allowed = refl; tag_is = refl; link_is = refl }, tt)));
+  ownable = subst (λ bs. AllByRecursion (λ b. IsOwnable cut vec_table b.at) bs) (sym cut_live) (
+    record { kind = Kind.named; type = 1; allowed = lit< tt; tag_is = refl; link_is = refl },
+    (
+      record { kind = Kind.index_buffer; type = 0; allowed = refl; tag_is = refl; link_is = refl },
+      (record { kind = Kind.buffer; type = 1; allowed = refl; tag_is = refl; link_is = refl }, tt),
+    ),
+  );
   holds_it = cut_vec;
   live_is = cut_live;
   live_are = λ h. ap (λ bs. times h (positions bs) + times h (784 ∷ [])) cut_live ∙ ap (λ bs. times h (positions bs) + times h (784 ∷ [])) (sym roomy_live);

@@ -51,3 +51,16 @@ pub mod WorkedCalls
 pub mod MoveLaw
 pub mod SearchLaws
 pub mod OrderSteps
+pub mod Moving
+pub mod CellSteps
+pub mod Shifting
+pub mod PlaceSteps
+pub mod OwnSteps
+pub mod Owing
+pub mod Owed
+pub mod Labels
+pub mod Pushing
+pub mod Giving
+pub mod NewBlock
+pub mod TreeOwed
+pub mod ChainOwed

@@ -119,8 +119,7 @@ one_failure bytes Failure.bad_content Failure.bad_content l m = refl
 
 pub owner_is_content : (bytes : List ℕ) → LacksOwner bytes → LacksContent bytes
 owner_is_content bytes l =
-    let laid_out = l.0.laid_out in
-    (
+    let laid_out = l.0.laid_out in (
       l.0.picture.table,
       record { header = laid_out.header; types = laid_out.types; is_table = laid_out.is_table },
       record { filled = laid_out.heap.filled; headers = laid_out.heap.headers; apart = laid_out.heap.apart; ownable = laid_out.blocks },
@@ -307,8 +306,7 @@ pub two_owners-lacks : LacksContent two_owners
 unfolding two_owners counter slice put set_number number number_of target
 two_owners-lacks =
     let fill : Fill heap_start counter_tiles (length two_owners) = (refl, lit≤ tt, (refl, lit≤ tt, refl)) in
-    let headers : AreHeaders two_owners 0 counter_tiles = (record { units_is = refl; live_is = refl; before_is = refl; tag_is = λ e. cc }, (record { units_is = refl; live_is = refl; before_is = refl; tag_is = λ e. cc }, tt)) in
-    (
+    let headers : AreHeaders two_owners 0 counter_tiles = (record { units_is = refl; live_is = refl; before_is = refl; tag_is = λ e. cc }, (record { units_is = refl; live_is = refl; before_is = refl; tag_is = λ e. cc }, tt)) in (
       Form.i64 ∷ [],
       record {
         header = record {

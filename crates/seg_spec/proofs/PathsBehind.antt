@@ -1,5 +1,5 @@
 -- Paths that go on behind a place, and those after its buffer was cut.
-use Rattle.std.proofs.Common.{◌≡◌, ℕ, suc, ◌+◌, ◌<◌, ◌⊎◌, inl, inr, List, [], ◌∷◌, ◌++◌, length, Some, refl, sym, ap, ◌∙◌, subst, arith}
+use Rattle.std.proofs.Common.{◌≡◌, ℕ, ◌+◌, ◌<◌, ◌⊎◌, inl, inr, List, ◌∷◌, ◌++◌, length, Some, sym, ap, ◌∙◌, subst, arith}
 use Rattle.std.proofs.lemmas.List.{length-append}
 use Rattle.std.specs.Prelude.{slice_get}
 use Rattle.std.specs.List.{AllByRecursion}
@@ -16,7 +16,8 @@ use Rattle.seg_spec.proofs.Paths.{Leads-append}
 use Rattle.seg_spec.proofs.RootPaths.{place_paths}
 
 -- a path from the part that a selector names
-same_part : (bytes : List ℕ) (table : Table) (form other_form : Form) (opened other : Opened) (place : Place) (s : Selector) (i k : ℕ) (part other_part : Place) → form ≡ other_form → Opens bytes table place form opened → Opens bytes table place other_form other
+same_part : (bytes : List ℕ) (table : Table) (form other_form : Form) (opened other : Opened) (place : Place) (s : Selector) (i k : ℕ) (part other_part : Place) → form ≡ other_form → Opens bytes table place form opened
+    → Opens bytes table place other_form other
     → index_of opened.label s ≡ Some i → index_of other.label s ≡ Some k → slice_get opened.parts i ≡ Some part → slice_get other.parts k ≡ Some other_part → other_part ≡ part
 same_part bytes table form other_form opened other place s i k part other_part e o p index index' is is' =
     let same : opened ≡ other = Opens-one bytes table place other_form opened other (subst (λ f. Opens bytes table place f opened) e o) p in
@@ -59,7 +60,8 @@ module _ (old new : List ℕ) (table : Table) (root : Root) (j : ℕ) (path : Li
           subst (λ p. Leads new table (item_of table root i) p target) (sym b.1.2) (subst (λ n. Leads new table (item_of table root n) (path ++ more) target) (sym b.0) whole)
 
 pub after_a_cut : (old new : List ℕ) (picture : Picture) (held : IsHeld old picture) (which : Listed) (before : List Root) (root : Root) (after : List Root) (j : ℕ) (path : List Selector) (inner : Place) (form : Form) (v : Value) (blocks others : List ℕ)
-    → roots_in picture which ≡ before ++ root ∷ after → j < count root.values → Leads old picture.table (item_of picture.table root j) path inner → Holds old picture.table inner v blocks → ShrinksPlace old new picture.table inner form v blocks others
+    → roots_in picture which ≡ before ++ root ∷ after → j < count root.values → Leads old picture.table (item_of picture.table root j) path inner → Holds old picture.table inner v blocks
+    → ShrinksPlace old new picture.table inner form v blocks others
     → KeepsPaths old new picture.table root × AllByRecursion (KeepsPaths old new picture.table) (roots_before picture which before ++ roots_after picture which after)
 after_a_cut old new picture held which before root after j path inner form v blocks others among within leads was s =
     let both = place_paths old new picture held which before root after among j within path inner leads v v blocks others was s.changes in

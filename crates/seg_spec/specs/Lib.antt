@@ -16,6 +16,9 @@ pub mod Faulty
 pub mod Roots
 pub mod Demand
 pub mod Items
+pub mod Cells
+pub mod Owning
+pub mod Calls
 pub mod Spending
 pub mod Shrinking
 pub mod Fixtures

@@ -1,6 +1,7 @@
 //! Laws of values, and of the places that hold them.
 
-ghost use Rattle.std.specs.Prelude.{◌≡◌, ℕ, ◌<◌, List, [], ◌++◌, length, Some, All};
+ghost use Rattle.std.specs.Prelude.{◌≡◌, ℕ, ◌+◌, ◌<◌, List, [], ◌++◌, length, Some, All};
+ghost use Rattle.seg_spec.specs.Cells.{EachCell, IsMoved};
 ghost use Rattle.std.specs.List.{AllByRecursion};
 ghost use Rattle.seg_spec.specs.Bytes.{IsSame};
 ghost use Rattle.seg_spec.specs.Types.{Table, IsTable, size};
@@ -27,7 +28,8 @@ pub fn same_value()
 /// A value is what stands at a path and what is around it. Where what is around is kept, and the place there comes to
 /// hold another value, the whole changes by that value alone.
 pub fn changing()
-    ensures { (bytes : List ℕ) (table : Table) (place inner : Place) (path : List Selector) (v : Value) (blocks : List ℕ) →
+    ensures { (bytes : List ℕ) (table : Table) (place inner : Place) (path : List Selector)
+        (v : Value) (blocks : List ℕ) →
         IsTable table → Leads bytes table place path inner → Holds bytes table place v blocks →
         ComesApart bytes table place path inner v blocks }
 {}
@@ -35,10 +37,14 @@ pub fn changing()
 /// A path that leads to a value inside a value leads to a place that holds it. Where one path leads on from where another
 /// one leads to, so do both together.
 pub fn paths()
-    ensures found { (bytes : List ℕ) (table : Table) (place : Place) (path : List Selector) (v inner : Value) (blocks : List ℕ) →
-        Holds bytes table place v blocks → value_at v path ≡ Some inner → LeadsTo bytes table place path inner }
-    ensures joined { (bytes : List ℕ) (table : Table) (place middle inner : Place) (path more : List Selector) →
-        Leads bytes table place path middle → Leads bytes table middle more inner → Leads bytes table place (path ++ more) inner }
+    ensures found { (bytes : List ℕ) (table : Table) (place : Place) (path : List Selector)
+        (v inner : Value) (blocks : List ℕ) →
+        Holds bytes table place v blocks → value_at v path ≡ Some inner →
+        LeadsTo bytes table place path inner }
+    ensures joined { (bytes : List ℕ) (table : Table) (place middle inner : Place)
+        (path more : List Selector) →
+        Leads bytes table place path middle → Leads bytes table middle more inner →
+        Leads bytes table place (path ++ more) inner }
 {}
 
 /// Where a place and the blocks that it owns are kept, each path from it leads where it led.
@@ -68,4 +74,14 @@ pub fn fitting()
 pub fn more_types()
     ensures { (bytes : List ℕ) (old more : Table) (place : Place) (v : Value) (blocks : List ℕ) →
         IsTable old → Holds bytes old place v blocks → Holds bytes (old ++ more) place v blocks }
+{}
+
+/// A value whose cells move, and name there what they named, is the same value at its new place, where the blocks that it
+/// owns are kept.
+pub fn moving()
+    ensures { (old new : List ℕ) (table : Table) (place : Place) (to : ℕ) (v : Value) (blocks : List ℕ) →
+        IsTable table → Holds old table place v blocks →
+        EachCell table place.type (λ d form. IsMoved old new (place.at + d) (to + d) form) →
+        AllByRecursion (KeepsBlock old new) blocks →
+        Holds new table (record { at = to; type = place.type }) v blocks }
 {}

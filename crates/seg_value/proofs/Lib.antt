@@ -1,0 +1,4 @@
+pub mod CellCases
+pub mod Shifts
+pub mod Owns
+pub mod NewBlocks

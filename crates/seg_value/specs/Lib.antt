@@ -1,1 +1,4 @@
 pub mod Stored
+pub mod Contents
+pub mod Places
+pub mod Search

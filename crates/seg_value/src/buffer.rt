@@ -1,5 +1,13 @@
-ghost use Rattle.std.specs.Prelude.{◌≡◌, IsOkUnless};
+ghost use Rattle.std.specs.Prelude.{◌≡◌, ℕ, ◌+◌, ◌-◌, ◌*◌, ◌/◌, ◌%◌, ◌^◌, ◌<◌, ◌≤◌, [], ◌∷◌, length, IsOkUnless, MatchResult};
+ghost use Rattle.seg_spec.specs.Bytes.{set_word};
+ghost use Rattle.seg_spec.specs.Calls.{Refuses};
+ghost use Rattle.seg_spec.specs.Demand.{block_for};
+ghost use Rattle.seg_spec.specs.Heap.{Span, IsHeap};
+ghost use Rattle.seg_spec.specs.Types.{IsTable, size};
 ghost use Rattle.seg_spec.specs.Window.{with_bytes};
+ghost use Rattle.seg_block.specs.Blocks.{IsBlock};
+ghost use Rattle.seg_block.specs.Tags.{word_of};
+ghost use Rattle.seg_value.specs.Contents.{IsContent, GivesBlock};
 
 use crate::content::{Content, Shape};
 use crate::entry::Entry;
@@ -12,7 +20,10 @@ use std::alloc::Allocator;
 /// Blocks of entries, and the buffers that cells name.
 impl<F: Fit, A: Allocator> Heap<F, A> {
     /// How many entries the block has room for whose payload begins at `start`.
-    pub fn capacity(&self, entry: Entry, start: u32) -> u32 {
+    pub fn capacity(&self, entry: Entry, start: u32) -> u32
+        ensures { (g : Span) → start ≡ g.at + 16 → IsBlock self.now.window.bytes g →
+            result ≡ (16 * g.units - 16) / entry.size }
+    {
         seg_block::capacity(&self.window, start, entry.size)
     }
 
@@ -22,6 +33,14 @@ impl<F: Fit, A: Allocator> Heap<F, A> {
         ensures window { self.new.window ≡ with_bytes self.old.window self.new.window.bytes }
         ensures types { self.new.types ≡ self.old.types }
         ensures code { IsOkUnless result Code.BadAlloc }
+        ensures given { (before U tag : ℕ) (shape : Shape) →
+            IsContent self.old.types shape tag before U content.now → before ≤ 24 → tag < 2 ^ 32 →
+            IsTable self.old.types → U < length self.old.types →
+            IsHeap F.code self.old.window.bytes →
+            MatchResult result
+            (GivesBlock F.code self.old.window.bytes self.new.window.bytes self.old.types tag before U)
+            (λ code. Refuses F.code self.old.window.bytes self.new.window.bytes
+            (block_for (before + size self.old.types U) ∷ [])) }
     {
         let need = content.entry.need(1);
         let Some(block) = F::allocate(&mut self.window, need) else {
@@ -36,7 +55,9 @@ impl<F: Fit, A: Allocator> Heap<F, A> {
 
     /// Gives a new block its tag, and returns where its payload begins.
     fn tagged(&mut self, content: &Content, block: u32) -> u32
-        ensures window { self.new.window ≡ with_bytes self.old.window self.new.window.bytes }
+        ensures payload { result ≡ (block + 16) % 2 ^ 32 }
+        ensures window { self.new.window ≡ with_bytes self.old.window
+            (set_word self.old.window.bytes (block + 8) (word_of content.now.tag)) }
         ensures types { self.new.types ≡ self.old.types }
     {
         content.tag.write(&mut self.window, block);

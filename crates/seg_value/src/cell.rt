@@ -1,5 +1,5 @@
 ghost use Rattle.std.specs.Prelude.{◌≡◌, ◌+◌, ◌≤◌, length};
-ghost use Rattle.seg_spec.specs.Bytes.{set_word};
+ghost use Rattle.seg_spec.specs.Bytes.{set_word, signed_long, ChangesOnly};
 ghost use Rattle.seg_spec.specs.Reads.{count_at, start};
 ghost use Rattle.seg_spec.specs.Window.{with_bytes};
 
@@ -20,6 +20,14 @@ pub fn start<A: Allocator>(w: &Window<A>, cell: u32) -> u32
     ensures { result ≡ start w.now.bytes cell }
 {
     w.target(cell as usize).unwrap_or(0)
+}
+
+/// The number at a position.
+#[tactic(auto, unfolding(seg_spec::specs::Bytes::signed))]
+pub fn load<A: Allocator>(w: &Window<A>, at: u32) -> i64
+    ensures { result ≡ signed_long w.now.bytes at }
+{
+    w.get64(at as usize).cast_signed()
 }
 
 /// The cells of values: a number, or a pointer and then a count.
@@ -45,15 +53,20 @@ impl<F: Fit, A: Allocator> Heap<F, A> {
         start(&self.window, cell)
     }
 
-    /// Reads a number.
-    pub fn load(&self, at: u32) -> i64 {
-        self.window.get64(at as usize).cast_signed()
+    /// As [`load`](crate::load) in the heap's window.
+    pub fn load(&self, at: u32) -> i64
+        ensures { result ≡ signed_long self.now.window.bytes at }
+    {
+        load(&self.window, at)
     }
 
     /// Writes a number.
     pub fn store(&mut self, at: u32, value: i64)
         ensures window { self.new.window ≡ with_bytes self.old.window self.new.window.bytes }
         ensures types { self.new.types ≡ self.old.types }
+        ensures stored { at + 8 ≤ length self.old.window.bytes →
+            signed_long self.new.window.bytes at ≡ value }
+        ensures changes { ChangesOnly self.old.window.bytes self.new.window.bytes at 8 }
     {
         self.window.put64(at as usize, value.cast_unsigned());
     }

@@ -1,7 +1,11 @@
 //! The cells of a value. A struct's are those of its fields, which have lower type ids, so going over them recurses no
 //! deeper than the table is long.
 
-ghost use Rattle.std.specs.Prelude.{◌≡◌};
+ghost use Rattle.std.specs.Prelude.{◌≡◌, ℕ, ◌+◌, ◌*◌, ◌≤◌, map};
+ghost use Rattle.seg_spec.specs.Bytes.{word, set_word};
+ghost use Rattle.seg_spec.specs.Cells.{further, IsWithin, ChangesCells, ChangesEach, IsDefaulted, IsFurther};
+ghost use Rattle.seg_spec.specs.Reads.{spaced};
+ghost use Rattle.seg_spec.specs.Types.{IsTable, size};
 ghost use Rattle.seg_spec.specs.Window.{with_bytes};
 
 use crate::entry::{Entry, Held};
@@ -19,6 +23,9 @@ const EMPTY: u64 = 1;
 /// Writes the default of a value: 0 for numbers, empty or null for all else.
 pub(crate) fn set_default<A: Allocator>(w: &mut Window<A>, types: &TypeTable, place: Place)
     ensures host { w.new ≡ with_bytes w.old w.new.bytes }
+    ensures cells { IsWithin w.old.bytes place.at (size types.now place.type_id) →
+        ChangesCells IsDefaulted w.old.bytes w.new.bytes types.now place.at place.type_id }
+    ensures table { IsTable types.now }
 {
     let fields = types.field_count(place.type_id);
     if fields == 0 {
@@ -45,6 +52,9 @@ pub(crate) fn point_again<A: Allocator>(
     distance: u32,
 )
     ensures host { w.new ≡ with_bytes w.old w.new.bytes }
+    ensures pointed { IsWithin w.old.bytes place.at (size types.now place.type_id) →
+        ChangesCells (λ old new at form. IsFurther old new distance at form)
+        w.old.bytes w.new.bytes types.now place.at place.type_id }
 {
     if !types.has_pointers(place.type_id) {
         return;
@@ -71,6 +81,11 @@ pub(crate) fn point_each_again<A: Allocator>(
     distance: u32,
 )
     ensures host { w.new ≡ with_bytes w.old w.new.bytes }
+    ensures bytes { entry.held ≡ Held.Bytes → w.new ≡ w.old }
+    ensures values { (t : ℕ) → entry.held ≡ Held.Value t → entry.before + size types.now t ≤ entry.size →
+        IsWithin w.old.bytes start (n * entry.size) →
+        ChangesEach (λ old new at form. IsFurther old new distance at form) w.old.bytes w.new.bytes types.now
+        t start (n * entry.size) (map (λ p. p + entry.before) (spaced start entry.size n)) }
 {
     match entry.held {
         Held::Bytes => {}
@@ -105,6 +120,10 @@ fn point_values_again<A: Allocator>(
     distance: u32,
 )
     ensures host { w.new ≡ with_bytes w.old w.new.bytes }
+    ensures pointed { entry.before + size types.now t ≤ entry.size →
+        IsWithin w.old.bytes start (n * entry.size) →
+        ChangesEach (λ old new at form. IsFurther old new distance at form) w.old.bytes w.new.bytes types.now
+        t start (n * entry.size) (map (λ p. p + entry.before) (spaced start entry.size n)) }
 {
     if !types.has_pointers(t) {
         return;
@@ -120,7 +139,8 @@ fn point_values_again<A: Allocator>(
 
 /// Makes a pointer name what it named so many bytes before.
 fn point_cell_again<A: Allocator>(w: &mut Window<A>, pointer: usize, distance: u32)
-    ensures { w.new ≡ with_bytes w.old w.new.bytes }
+    ensures { w.new ≡ with_bytes w.old
+        (set_word w.old.bytes pointer (further distance (word w.old.bytes pointer))) }
 {
     let old = w.get32(pointer);
     let new = if old == NULL {

@@ -1,3 +1,9 @@
+ghost use Rattle.std.specs.Prelude.{◌≡◌, get_or, None};
+ghost use Rattle.seg_spec.specs.Types.{IsTable, form_at};
+ghost use Rattle.seg_spec.specs.Block as block;
+ghost use Rattle.seg_spec.specs.Block.{tag_of};
+ghost use Rattle.seg_block.specs.Tags.{word_of};
+
 use crate::entry::{Entry, KEY, LIST_LINKS};
 use seg_block::{Kind, Tag};
 use seg_layout::{MAX_TYPES, Type, TypeId, TypeTable};
@@ -27,9 +33,13 @@ pub struct Content {
 }
 
 impl Content {
+    ghost use Rattle.seg_value.specs.Contents.{IsContent, ContentOf, kind_of_shape};
+
     /// What the cell of a type names. None for types whose values name nothing themselves, numbers and structs, and for
     /// those that the table lacks.
-    pub fn of(types: &TypeTable, t: TypeId) -> Option<Content> {
+    pub fn of(types: &TypeTable, t: TypeId) -> Option<Content>
+        ensures { ContentOf types.now t (form_at types.now t) result }
+    {
         let (shape, entry) = match types.kind(t)? {
             Type::I64 | Type::Struct(_) => return None,
             Type::Own(held) => return Some(Content::object(types, held)),
@@ -46,7 +56,10 @@ impl Content {
     }
 
     /// An object of a type: one value.
-    pub fn object(types: &TypeTable, t: TypeId) -> Content {
+    pub fn object(types: &TypeTable, t: TypeId) -> Content
+        ensures content { IsContent types.now Shape.Object (tag_of block.Kind.object t) 0 t result }
+        ensures table { IsTable types.now }
+    {
         let entry = Entry::with_value(types, t, 0);
         Content::new(Shape::Object, t, entry)
     }
@@ -72,7 +85,11 @@ impl Content {
         }
     }
 
-    fn new(shape: Shape, type_id: TypeId, entry: Entry) -> Content {
+    fn new(shape: Shape, type_id: TypeId, entry: Entry) -> Content
+        ensures shape { result.shape ≡ shape }
+        ensures entry { result.entry ≡ entry }
+        ensures tag { word_of result.tag ≡ tag_of (kind_of_shape shape) type_id }
+    {
         let kind = match shape {
             Shape::Buffer => Kind::Buffer,
             Shape::Ring | Shape::Tree => Kind::Node,
@@ -93,7 +110,11 @@ pub(crate) struct Contents {
 }
 
 impl Contents {
-    pub(crate) fn of(types: &TypeTable) -> Contents {
+    ghost use Rattle.seg_value.specs.Contents.{AreContents};
+
+    pub(crate) fn of(types: &TypeTable) -> Contents
+        ensures { AreContents types.now result.of_types }
+    {
         let mut of_types = [None; MAX_TYPES];
         for t in 0..types.len() {
             of_types[t] = Content::of(types, t as TypeId);
@@ -102,7 +123,9 @@ impl Contents {
     }
 
     /// As [`Content::of`] a type of the table.
-    pub(crate) fn get(&self, t: TypeId) -> Option<Content> {
+    pub(crate) fn get(&self, t: TypeId) -> Option<Content>
+        ensures { result ≡ get_or self.now.of_types t None }
+    {
         self.of_types.get(t as usize).copied().flatten()
     }
 }

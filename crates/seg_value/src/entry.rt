@@ -1,4 +1,6 @@
-ghost use Rattle.std.specs.Prelude.{◌≡◌, ◌+◌, ◌*◌, ◌%◌, ◌^◌, ◌≤◌};
+ghost use Rattle.std.specs.Prelude.{◌≡◌, ℕ, ◌+◌, ◌*◌, ◌%◌, ◌^◌, ◌<◌, ◌≤◌, Some, IfSome};
+ghost use Rattle.seg_spec.specs.Demand.{need};
+ghost use Rattle.seg_spec.specs.Types.{IsTable};
 
 use crate::place::Place;
 use seg_block::need;
@@ -36,8 +38,14 @@ pub struct Entry {
 }
 
 impl Entry {
+    ghost use Rattle.seg_value.specs.Contents.{IsEntryOf};
+
     /// A byte of a string.
-    pub(crate) fn byte() -> Entry {
+    pub(crate) fn byte() -> Entry
+        ensures size { result.size ≡ 1 }
+        ensures before { result.before ≡ 0 }
+        ensures held { result.held ≡ Held.Bytes }
+    {
         Entry {
             size: 1,
             before: 0,
@@ -46,7 +54,11 @@ impl Entry {
     }
 
     /// An entry of the flat index.
-    pub(crate) fn name() -> Entry {
+    pub(crate) fn name() -> Entry
+        ensures size { result.size ≡ 8 }
+        ensures before { result.before ≡ 0 }
+        ensures held { result.held ≡ Held.Pointer }
+    {
         Entry {
             size: NAME_ENTRY,
             before: 0,
@@ -57,6 +69,8 @@ impl Entry {
     /// The entry with a value of a type after so many bytes.
     pub(crate) fn with_value(types: &TypeTable, t: TypeId, before: u32) -> Entry
         requires { before ≤ 24 }
+        ensures entry { IsEntryOf types.now before t result }
+        ensures table { IsTable types.now }
     {
         Entry {
             size: before + types.size(t),
@@ -80,7 +94,11 @@ impl Entry {
     }
 
     /// The value that an entry holds, if these entries hold values.
-    pub fn value(self, start: u32, index: u32) -> Option<Place> {
+    pub fn value(self, start: u32, index: u32) -> Option<Place>
+        ensures value { (t : ℕ) → self.held ≡ Held.Value t →
+            result ≡ Some (record { at = (start + index * self.size + self.before) % 2 ^ 32; type_id = t }) }
+        ensures held { IfSome result (λ place. self.held ≡ Held.Value place.type_id) }
+    {
         match self.held {
             Held::Value(type_id) => Some(Place {
                 at: self.value_at(start, index),
@@ -92,7 +110,8 @@ impl Entry {
 
     /// The units of a block for so many entries. What no segment has room for is more than any block has.
     pub fn need(self, entries: u32) -> u32
-        ensures { 2 ≤ result }
+        ensures some { 2 ≤ result }
+        ensures exact { entries * self.size < 2 ^ 32 → result ≡ need (entries * self.size) }
     {
         need(entries.saturating_mul(self.size))
     }

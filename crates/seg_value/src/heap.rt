@@ -1,4 +1,6 @@
 ghost use Rattle.std.specs.Prelude.{◌≡◌};
+ghost use Rattle.seg_spec.specs.Types.{form_at};
+ghost use Rattle.seg_value.specs.Contents.{ContentOf};
 
 use crate::content::{Content, Contents};
 use seg_block::Fit;
@@ -18,11 +20,14 @@ pub struct Heap<F: Fit, A: Allocator> {
 }
 
 impl<F: Fit, A: Allocator> Model for Heap<F, A> {
+    ghost use Rattle.seg_value.specs.Contents.{AreContents};
     ghost use Rattle.seg_value.specs.Stored.{Stored};
 
     ghost Value = { Stored };
 
     ghost view = { λ heap. record { window = heap.window; types = heap.types } };
+
+    ghost invariant = { λ heap. AreContents heap.types heap.contents.of_types };
 }
 
 impl<F: Fit, A: Allocator> Heap<F, A> {
@@ -96,7 +101,9 @@ impl<F: Fit, A: Allocator> Heap<F, A> {
 
     /// What the cell of a type names. None for types whose values name nothing themselves, numbers and structs, and for
     /// those that the table lacks.
-    pub fn content(&self, t: TypeId) -> Option<Content> {
+    pub fn content(&self, t: TypeId) -> Option<Content>
+        ensures { ContentOf self.now.types t (form_at self.now.types t) result }
+    {
         self.contents.get(t)
     }
 }

@@ -1,9 +1,17 @@
-ghost use Rattle.std.specs.Prelude.{◌≡◌};
+ghost use Rattle.std.specs.Prelude.{◌≡◌, ℕ, ◌+◌, ◌*◌, ◌%◌, ◌^◌, List};
+ghost use Rattle.seg_spec.specs.Bytes.{slice, put, ChangesOnly};
+ghost use Rattle.seg_spec.specs.Cells.{IsWithin, Shifts};
+ghost use Rattle.seg_spec.specs.Heap.{IsHeap};
+ghost use Rattle.seg_spec.specs.Owning.{StandsBeside};
+ghost use Rattle.seg_spec.specs.Reads.{items, HoldsEach};
+ghost use Rattle.seg_spec.specs.Types.{size};
+ghost use Rattle.seg_spec.specs.Value.{Values};
 ghost use Rattle.seg_spec.specs.Window.{with_bytes};
+ghost use Rattle.seg_value.specs.Contents.{IsEntryOf};
 
 use crate::cells::point_each_again;
 use crate::content::Content;
-use crate::entry::Entry;
+use crate::entry::{Entry, Held};
 use crate::heap::Heap;
 use seg_block::Fit;
 use seg_layout::TypeId;
@@ -16,6 +24,15 @@ impl<F: Fit, A: Allocator> Heap<F, A> {
     pub fn shift(&mut self, t: TypeId, from: u32, to: u32, n: u32)
         ensures window { self.new.window ≡ with_bytes self.old.window self.new.window.bytes }
         ensures types { self.new.types ≡ self.old.types }
+        ensures changes { IsWithin self.old.window.bytes from (n * size self.old.types t) →
+            IsWithin self.old.window.bytes to (n * size self.old.types t) →
+            ChangesOnly self.old.window.bytes self.new.window.bytes to (n * size self.old.types t) }
+        ensures values { (allocator home : ℕ) (vs : Values) (blocks : List ℕ) →
+            IsHeap allocator self.old.window.bytes → to % 8 ≡ 0 →
+            IsWithin self.old.window.bytes from (n * size self.old.types t) →
+            StandsBeside self.old.window.bytes home to (n * size self.old.types t) blocks →
+            HoldsEach self.old.window.bytes self.old.types (items self.old.types from t n) vs blocks →
+            HoldsEach self.new.window.bytes self.old.types (items self.old.types to t n) vs blocks }
     {
         let entry = Content::object(&self.types, t).entry;
         self.shift_entries(entry, from, to, n);
@@ -25,6 +42,14 @@ impl<F: Fit, A: Allocator> Heap<F, A> {
     pub fn shift_entries(&mut self, entry: Entry, from: u32, to: u32, n: u32)
         ensures window { self.new.window ≡ with_bytes self.old.window self.new.window.bytes }
         ensures types { self.new.types ≡ self.old.types }
+        ensures text { entry.held ≡ Held.Bytes → IsWithin self.old.window.bytes from (n * entry.size) →
+            IsWithin self.old.window.bytes to (n * entry.size) →
+            self.new.window.bytes ≡
+            put self.old.window.bytes to (slice self.old.window.bytes from (n * entry.size)) }
+        ensures shifted { (U before : ℕ) → IsEntryOf self.old.types before U entry →
+            IsWithin self.old.window.bytes from (n * entry.size) →
+            IsWithin self.old.window.bytes to (n * entry.size) →
+            Shifts self.old.window.bytes self.new.window.bytes self.old.types before U entry.size from to n }
     {
         let bytes = (n as usize).saturating_mul(entry.size as usize);
         if !self.window.holds(from as usize, bytes) || !self.window.holds(to as usize, bytes) {
@@ -37,6 +62,8 @@ impl<F: Fit, A: Allocator> Heap<F, A> {
 }
 
 /// How far one position is after another, modulo 2^32.
-fn distance(from: u32, to: u32) -> u32 {
+fn distance(from: u32, to: u32) -> u32
+    ensures { (from + result) % 2 ^ 32 ≡ to }
+{
     to.wrapping_sub(from)
 }

@@ -1,4 +1,5 @@
 ghost use Rattle.std.specs.Prelude.{◌≤◌, ◌<◌, IfOk, IfErr};
+ghost use Rattle.seg_value.specs.Search.{IsBetween};
 
 use std::cmp::Ordering;
 
@@ -7,8 +8,8 @@ use std::cmp::Ordering;
 /// would stand.
 pub fn binary_search<C: Fn(u32) -> Ordering>(n: u32, compare: C) -> Result<u32, u32>
     requires { C.IsAlwaysCallable compare }
-    ensures found { IfOk result (λ index. index < n) }
-    ensures missing { IfErr result (λ index. index ≤ n) }
+    ensures found { IfOk result (λ index. (index < n) × C.post compare index Ordering.Equal) }
+    ensures missing { IfErr result (λ index. (index ≤ n) × IsBetween (C.post compare) n index) }
 {
     let mut low = 0;
     let mut high = n;

@@ -37,10 +37,11 @@ impl<'a, R: rt::Files<File = File> + AllocGlobal> HostFiles<'a, R> {
     }
 
     fn read_at_most(&self, alloc: Global, name: &str, limit: u64) -> io::Result<Vec<u8>> {
-        let mut bytes = Vec::new(alloc);
-        fs::open(self.rt, name)?
-            .take(limit)
-            .read_to_end(&mut bytes)?;
+        let file = fs::open(self.rt, name)?;
+        // one more than the file has, so that its end is seen without another request
+        let room = file.metadata()?.len().min(limit).saturating_add(1);
+        let mut bytes = Vec::with_capacity(alloc, room as usize)?;
+        file.take(limit).read_to_end(&mut bytes)?;
         Ok(bytes)
     }
 

@@ -1,11 +1,9 @@
 ghost use Rattle.std.specs.Prelude.{◌≡◌, ℕ, IfOk, IfErr};
-ghost use Rattle.client_spec.specs.Code as code;
-ghost use Rattle.client_spec.specs.Grammar.{Spells};
 ghost use Rattle.client_spec.specs.Run as run;
 ghost use Rattle.client_spec.specs.Safe.{IsAccepted};
 ghost use Rattle.client_spec.specs.Typed.{Reason, reason_number};
 ghost use Rattle.client_spec.specs.Clients.{IsVerified};
-ghost use Rattle.client_code.specs.Clients.{bytes_of};
+ghost use Rattle.client_code.specs.Clients.{OfTree};
 ghost use Rattle.client_verify.specs.Accepted.{client_of};
 ghost use Rattle.client_verify.specs.Passing.{at_most};
 ghost use Rattle.client_verify.specs.Refusals.{IsRefused, IsRejected, IsRejectedAt};
@@ -20,10 +18,9 @@ use seg_raw::Fault;
 /// is within the limit. The faults, in this order: `TypeMismatch`, `Rejected`, `TooLong`.
 pub fn verify<'a>(client: Client<'a>, table: &TypeTable) -> Result<Verified<'a>, Fault>
     ensures client { IfOk result (λ verified. client_of verified ≡ client.entry) }
-    ensures accepted { IfOk result (λ verified. (tree : code.Client) →
-        Spells (bytes_of client.entry) tree → IsVerified table.now tree) }
-    ensures refused { IfErr result (λ fault. (tree : code.Client) →
-        Spells (bytes_of client.entry) tree → IsRefused table.now tree fault) }
+    ensures accepted { IfOk result (λ verified. OfTree client.entry (IsVerified table.now)) }
+    ensures refused { IfErr result (λ fault. OfTree client.entry
+        (λ tree. IsRefused table.now tree fault)) }
 {
     let types = client.types();
     table.extends(&types)?;
@@ -40,13 +37,11 @@ pub fn verify<'a>(client: Client<'a>, table: &TypeTable) -> Result<Verified<'a>,
 
 /// The most steps of a client's code, or the first instruction that is rejected.
 fn bound_of(client: Client, types: &TypeTable) -> Result<u64, Fault>
-    ensures accepted { IfOk result (λ bound. (tree : code.Client) →
-        Spells (bytes_of client.entry) tree → types.now ≡ tree.types →
-        IsAccepted tree × (bound ≡ at_most (run.bound tree.code))) }
-    ensures rejected { IfErr result (λ fault. (tree : code.Client) →
-        Spells (bytes_of client.entry) tree → types.now ≡ tree.types →
+    ensures accepted { IfOk result (λ bound. OfTree client.entry (λ tree. types.now ≡ tree.types →
+        IsAccepted tree × (bound ≡ at_most (run.bound tree.code)))) }
+    ensures rejected { IfErr result (λ fault. OfTree client.entry (λ tree. types.now ≡ tree.types →
         (i : ℕ) × (reason : Reason) × (fault ≡ Fault.Rejected i (reason_number reason)) ×
-        IsRejected tree reason × IsRejectedAt tree i reason) }
+        IsRejected tree reason × IsRejectedAt tree i reason)) }
 {
     let mut verifier = Verifier::new(types);
     for i in 0..client.instruction_count() {

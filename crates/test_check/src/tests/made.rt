@@ -2,16 +2,15 @@
 
 use crate::tests::image::{I64, Image, STR, Spelled, flat_map_of, list_of, map_of, own_of, vec_of};
 use seg_bestfit::BestFit;
-use seg_block::{Fit, block_of};
+use seg_block::Fit;
 use seg_check::check;
 use seg_layout::{TypeId, TypeTable};
 use seg_manager::{IndexKind, Segment};
-use seg_ptr::Window;
 use seg_ptr::header::TYPES;
 use seg_raw::{Code, Fault, Region};
 use seg_seq::{assign, pop_back, pop_front, push_back, push_front};
 use seg_seqfit::SeqFit;
-use seg_value::{Content, clear, destroy, new_block, set_own, take_own};
+use seg_value::{Content, Heap, Place};
 use std::alloc::Global;
 use std::process::Abort;
 use std::test::Fail;
@@ -63,102 +62,102 @@ fn some_text(random: &mut Random) -> &'static [u8] {
     text.get(..len).unwrap_or(b"")
 }
 
-/// Adds a text to a vector or a list: at its end or, of a list, also at its front.
-fn add_text<F: Fit>(
-    w: &mut Window<Global>,
-    table: &TypeTable,
-    t: TypeId,
-    cell: u32,
-    random: &mut Random,
-) -> Result<(), Code> {
-    let item = if t == LIST && random.below(2) == 0 {
-        push_front::<F, Global>(w, table, t, cell)?
-    } else {
-        push_back::<F, Global>(w, table, t, cell)?
-    };
-    assign::<F, Global>(w, table, TEXT, item, some_text(random))
+/// A value of a type at a position.
+fn place_of(type_id: TypeId, at: u32) -> Place {
+    Place { at, type_id }
 }
 
-/// Adds a text to the vector or the list that a map of a type has with a key.
-fn put_text<F: Fit>(
-    w: &mut Window<Global>,
-    table: &TypeTable,
-    t: TypeId,
-    cell: u32,
+/// Adds a text to a vector or a list: at its end or, of a list, also at its front.
+fn add_text<F: Fit>(
+    heap: &mut Heap<F, Global>,
+    texts: Place,
     random: &mut Random,
 ) -> Result<(), Code> {
-    let texts = seg_map::put::<F, Global>(w, table, t, cell, some_key(random))?;
-    let inner = if t == FLAT { TEXTS } else { LIST };
-    add_text::<F>(w, table, inner, texts, random)
+    let text = if texts.type_id == LIST && random.below(2) == 0 {
+        push_front(heap, texts)?
+    } else {
+        push_back(heap, texts)?
+    };
+    assign(heap, place_of(TEXT, text), some_text(random))
+}
+
+/// Adds a text to the vector or the list that a map has with a key.
+fn put_text<F: Fit>(
+    heap: &mut Heap<F, Global>,
+    map: Place,
+    random: &mut Random,
+) -> Result<(), Code> {
+    let texts = seg_map::put(heap, map, some_key(random))?;
+    let inner = if map.type_id == FLAT { TEXTS } else { LIST };
+    add_text(heap, place_of(inner, texts), random)
 }
 
 fn some_key(random: &mut Random) -> i64 {
     i64::from(random.below(12)).wrapping_sub(6)
 }
 
-/// Puts a link before the chain that an own holds, and answers where it is.
-fn push_link<F: Fit>(w: &mut Window<Global>, table: &TypeTable, cell: u32) -> Result<u32, Code> {
-    let link = new_block::<F, Global>(w, table, &Content::object(table, LINK))?;
-    if let Some(rest) = take_own(w, cell) {
-        set_own::<F, Global>(w, table, link.wrapping_add(16), rest);
+/// Puts a link before the chain that an own holds, and returns where it is.
+fn push_link<F: Fit>(heap: &mut Heap<F, Global>, own: Place) -> Result<u32, Code> {
+    let content = Content::object(heap.types(), LINK);
+    let link = heap.new_block(&content)?;
+    if let Some(rest) = heap.take_own(own) {
+        heap.set_own(place_of(OWN, link.wrapping_add(16)), rest);
     }
-    set_own::<F, Global>(w, table, cell, link);
+    heap.set_own(own, link);
     Ok(link)
 }
 
 /// Puts a link with a text before a chain.
 fn add_link<F: Fit>(
-    w: &mut Window<Global>,
-    table: &TypeTable,
-    cell: u32,
+    heap: &mut Heap<F, Global>,
+    own: Place,
     random: &mut Random,
 ) -> Result<(), Code> {
-    let link = push_link::<F>(w, table, cell)?;
-    assign::<F, Global>(w, table, TEXT, link.wrapping_add(8), some_text(random))
+    let link = push_link(heap, own)?;
+    assign(
+        heap,
+        place_of(TEXT, link.wrapping_add(8)),
+        some_text(random),
+    )
 }
 
 /// Destroys the chain that an own holds.
-fn drop_links<F: Fit>(w: &mut Window<Global>, table: &TypeTable, cell: u32) {
-    if let Some(link) = take_own(w, cell) {
-        destroy::<F, Global>(w, table, block_of(link));
+fn drop_links<F: Fit>(heap: &mut Heap<F, Global>, own: Place) {
+    if let Some(link) = heap.take_own(own) {
+        heap.destroy(link);
     }
 }
 
+/// A cell of an object of all kinds, by its type.
+fn cell_of(object: u32, type_id: TypeId) -> Place {
+    let fields = ALL_TYPE.iter().skip(2);
+    let before = fields.take_while(|field| **field != type_id).count() as u32;
+    place_of(type_id, object.wrapping_add(before.wrapping_mul(8)))
+}
+
 /// A random call that adds to one of the cells of an object of all kinds. There may be no room.
-fn add<F: Fit>(
-    w: &mut Window<Global>,
-    table: &TypeTable,
-    object: u32,
-    random: &mut Random,
-) -> Result<(), Code> {
-    let cell = |k: u32| object.wrapping_add(k.wrapping_mul(8));
+fn add<F: Fit>(heap: &mut Heap<F, Global>, object: u32, random: &mut Random) -> Result<(), Code> {
     match random.below(6) {
-        0 => assign::<F, Global>(w, table, TEXT, cell(0), some_text(random)),
-        1 => add_text::<F>(w, table, TEXTS, cell(1), random),
-        2 => add_text::<F>(w, table, LIST, cell(2), random),
-        3 => put_text::<F>(w, table, FLAT, cell(3), random),
-        4 => put_text::<F>(w, table, MAP, cell(4), random),
-        _ => add_link::<F>(w, table, cell(5), random),
+        0 => assign(heap, cell_of(object, TEXT), some_text(random)),
+        1 => add_text(heap, cell_of(object, TEXTS), random),
+        2 => add_text(heap, cell_of(object, LIST), random),
+        3 => put_text(heap, cell_of(object, FLAT), random),
+        4 => put_text(heap, cell_of(object, MAP), random),
+        _ => add_link(heap, cell_of(object, OWN), random),
     }
 }
 
 /// A random call that takes from one of the cells. There may be nothing.
-fn take<F: Fit>(
-    w: &mut Window<Global>,
-    table: &TypeTable,
-    object: u32,
-    random: &mut Random,
-) -> Result<(), Code> {
-    let cell = |k: u32| object.wrapping_add(k.wrapping_mul(8));
+fn take<F: Fit>(heap: &mut Heap<F, Global>, object: u32, random: &mut Random) -> Result<(), Code> {
     match random.below(8) {
-        0 => return pop_back::<F, Global>(w, table, TEXTS, cell(1)),
-        1 => return pop_back::<F, Global>(w, table, LIST, cell(2)),
-        2 => return pop_front::<F, Global>(w, table, LIST, cell(2)),
-        3 => drop(seg_map::remove::<F, Global>(w, table, FLAT, cell(3), some_key(random))),
-        4 => drop(seg_map::remove::<F, Global>(w, table, MAP, cell(4), some_key(random))),
-        5 => seg_seq::shrink_to_fit::<F, Global>(w, table, FLAT, cell(3)),
-        6 => drop_links::<F>(w, table, cell(5)),
-        _ => clear::<F, Global>(w, table, TEXTS, cell(1)),
+        0 => return pop_back(heap, cell_of(object, TEXTS)),
+        1 => return pop_back(heap, cell_of(object, LIST)),
+        2 => return pop_front(heap, cell_of(object, LIST)),
+        3 => drop(seg_map::remove(heap, cell_of(object, FLAT), some_key(random))),
+        4 => drop(seg_map::remove(heap, cell_of(object, MAP), some_key(random))),
+        5 => heap.shrink_to_fit(cell_of(object, FLAT)),
+        6 => drop_links(heap, cell_of(object, OWN)),
+        _ => heap.clear(cell_of(object, TEXTS)),
     }
     Ok(())
 }
@@ -187,13 +186,17 @@ fn try_calls<F: Fit>(
     let object = segment.construct_unique(ALL)?;
     let mut random = Random::new(u64::from(size));
     for turn in 0..400 {
-        let (w, table) = (&mut segment.window, &segment.types);
+        let heap = segment.heap_mut();
         let _ = if random.below(3) == 0 {
-            take::<F>(w, table, object, &mut random)
+            take(heap, object, &mut random)
         } else {
-            add::<F>(w, table, object, &mut random)
+            add(heap, object, &mut random)
         };
-        assert_eq!(rt; check(rt.alloc(), w).err(), None, "in turn {turn}");
+        assert_eq!(rt;
+            check(rt.alloc(), heap.window()).err(),
+            None,
+            "in turn {turn}"
+        );
     }
     Ok(())
 }
@@ -213,12 +216,13 @@ fn accepts_what_the_library_makes(rt: HostRuntime) -> Result<(), Fail> {
 #[test]
 fn reads_values_of_any_depth(rt: HostRuntime) -> Result<(), Fail> {
     let mut segment = new_segment::<SeqFit>(rt.alloc(), 1 << 20, IndexKind::Flat)?;
-    let cell = segment.construct_unique(OWN)?;
-    let (w, table) = (&mut segment.window, &segment.types);
-    let last = push_link::<SeqFit>(w, table, cell)?.wrapping_add(16);
+    let own = place_of(OWN, segment.construct_unique(OWN)?);
+    let heap = segment.heap_mut();
+    let last = push_link(heap, own)?.wrapping_add(16);
     for _ in 1..20_000 {
-        push_link::<SeqFit>(w, table, cell)?;
+        push_link(heap, own)?;
     }
+    let w = heap.window_mut();
     assert_eq!(rt; check(rt.alloc(), w).err(), None);
     w.put32(last as usize + 4, 2);
     assert_eq!(rt; check(rt.alloc(), w).err(), Some(Fault::BadValue(last)));

@@ -1,4 +1,4 @@
-use client_code::{Number, Operand, Operation, Place, assemble, parse, print};
+use client_code::{Number, Operand, Operation, Role, assemble, parse, print};
 use std::alloc::AllocError;
 use std::process::Abort;
 use std::test::Fail;
@@ -59,7 +59,7 @@ impl Writer<'_> {
                 let n = self.random.below(1_000_000_000) + 1;
                 write!(self.text, " {n}")
             }
-            Number::Type => write!(self.text, " t{t}"),
+            Number::TypeId => write!(self.text, " t{t}"),
             Number::Text => write!(self.text, " k{k}"),
             Number::TypedName => {
                 let k = k + if is_exact { FIRST_NAME } else { FIRST_FAMILY };
@@ -73,7 +73,7 @@ impl Writer<'_> {
         let row = operation.row();
         let is_exact = self.random.below(2) == 0;
         let has_count = self.random.below(2) == 0;
-        self.text.push_str(row.text)?;
+        self.text.push_str(operation.word())?;
         self.operand(row.a, false)?;
         self.operand(row.b, is_exact)?;
         self.operand(row.c, has_count)?;
@@ -88,21 +88,21 @@ impl Writer<'_> {
             let Some(operation) = Operation::from_number(number) else {
                 continue;
             };
-            match operation.row().place {
-                Place::Plain => self.line(operation)?,
-                Place::Opener if depth > 0 => {
+            match operation.row().role {
+                Role::Plain => self.line(operation)?,
+                Role::Opener if depth > 0 => {
                     self.line(operation)?;
                     self.part(depth - 1)?;
                     self.text.push_str("ELSE\n")?;
                     self.part(depth - 1)?;
                     self.text.push_str("END\n")?;
                 }
-                Place::Loop if depth > 0 => {
+                Role::Loop if depth > 0 => {
                     self.line(operation)?;
                     self.part(depth - 1)?;
                     self.text.push_str("END\n")?;
                 }
-                _ => {}
+                Role::Opener | Role::Loop | Role::Else | Role::End => {}
             }
         }
         Ok(())

@@ -2,7 +2,7 @@
 //! succeeds prints a mark first. All else must be as printed.
 
 use crate::tests::model::Objects;
-use client_code::{Client, ConstantKind, Instruction, Place};
+use client_code::{Client, ConstantKind, Instruction, Role};
 use itoa::Buffer;
 use std::alloc::Global;
 use std::test::Fail;
@@ -140,35 +140,35 @@ impl<'a> AbstractRun<'a> {
     }
 
     fn turn(&mut self, objects: &mut Objects, i: Instruction) -> Result<(), Fail> {
-        match i.operation.row().place {
-            Place::Plain => {
+        match i.operation.row().role {
+            Role::Plain => {
                 self.count_step();
                 self.act(objects, i)?;
                 self.go_behind(self.at);
             }
-            Place::Opener => {
+            Role::Opener => {
                 self.count_step();
                 let opens = self.open(objects, i)?;
                 self.parts.push(Part::Opener)?;
                 self.go_behind(if opens {
                     self.at
                 } else {
-                    self.mark(Place::Else)
+                    self.mark(Role::Else)
                 });
             }
-            Place::Loop => {
+            Role::Loop => {
                 self.count_step();
                 self.parts.push(Part::Loop {
                     start: self.at,
                     turns: i.number,
                 })?;
-                self.at = self.mark(Place::End);
+                self.at = self.mark(Role::End);
             }
-            Place::Else => {
+            Role::Else => {
                 let _ = self.parts.pop();
-                self.go_behind(self.mark(Place::End));
+                self.go_behind(self.mark(Role::End));
             }
-            Place::End => self.end()?,
+            Role::End => self.end()?,
         }
         Ok(())
     }
@@ -203,21 +203,21 @@ impl<'a> AbstractRun<'a> {
     }
 
     /// The `ELSE` or the `END` that belongs to the instruction at hand.
-    fn mark(&self, wanted: Place) -> u32 {
+    fn mark(&self, wanted: Role) -> u32 {
         let mut depth = 0u32;
         let end = self.client.instruction_count();
         for at in self.at.wrapping_add(1)..end {
             let Some(i) = self.client.instruction(at) else {
                 break;
             };
-            let place = i.operation.row().place;
-            if depth == 0 && place == wanted {
+            let role = i.operation.row().role;
+            if depth == 0 && role == wanted {
                 return at;
             }
-            match place {
-                Place::Opener | Place::Loop => depth = depth.wrapping_add(1),
-                Place::End => depth = depth.wrapping_sub(1),
-                Place::Plain | Place::Else => {}
+            match role {
+                Role::Opener | Role::Loop => depth = depth.wrapping_add(1),
+                Role::End => depth = depth.wrapping_sub(1),
+                Role::Plain | Role::Else => {}
             }
         }
         end

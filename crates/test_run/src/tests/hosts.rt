@@ -43,14 +43,14 @@ fn increments(
 ) -> Result<Region<Global>, Fail> {
     let mut segment = placed(rt.alloc(), base)?;
     assert_eq!(rt; moves_fit(&segment, moves), None);
-    let verified = verify(parse(&INCREMENT_FILE)?, &segment.types)?;
+    let verified = verify(parse(&INCREMENT_FILE)?, segment.types())?;
     let mut out = Through::new(Limited::new(rt.alloc(), 1, usize::MAX));
     let report = run(&mut segment, &verified, b"", moves, &mut out);
     assert_eq!(rt; report.steps, 6);
     assert!(rt; report.ended == Ended::Done);
     assert_eq!(rt; out.into_inner().bytes.as_slice(), b"42\n".as_slice());
     let saved = counter_with(rt.alloc(), &[(720, 42)])?;
-    assert_eq!(rt; segment.window.slice(0, 784), saved.as_slice());
+    assert_eq!(rt; segment.window().slice(0, 784), saved.as_slice());
     Ok(segment.into_region())
 }
 

@@ -3,7 +3,7 @@ use Rattle.std.proofs.lemmas.Bool.{false≢true}
 use Rattle.client_spec.proofs.OneClient.{instruction_front}
 use Rattle.client_code.specs.Views.{constants_of, instruction_of}
 use Rattle.client_code.specs.Parts.{passed, open_parts}
-use Rattle.client_code.proofs.Nested.{Right, place_of}
+use Rattle.client_code.proofs.Nested.{Right, role_of}
 use Rattle.client_code.proofs.Instructions.{CodeTo, starts, goes_on, ends, stands, closed}
 use Rattle.client_code.proofs.parser.check_code.Goals as goal
 use Rattle.client_code.proofs.parser.check_code.Goals.{then-not-is_valid-via-then-not-is_valid, then-not-is_valid-via-else-not-is_valid+then-not-pass}
@@ -19,7 +19,7 @@ loop-i-preserved c =
     let cs = constants_of c.args.constants.now in
     goes_on c.args.file.now c.args.at c.args.types.now cs c.loop-i.i (open_parts c.loop-i.nesting) (open_parts c.pass.new.self) (instruction_of c.in-Some.instruction) c.loop-i.invariant (c.in-Some.ensures.found.1)
     ((c.is_valid.ensures c.args.types.now (sym c.len.ensures.len)).0 c.if-not-is_valid.false)
-    (ap (passed (open_parts c.loop-i.nesting)) (sym (ap (λ row. row.place) c.row.ensures.row)) ∙ c.if-not-pass.ensures)
+    (ap (passed (open_parts c.loop-i.nesting)) (sym (ap (λ row. row.role) c.row.ensures.row)) ∙ c.if-not-pass.ensures)
 
 pub returns-in_default-clause-wrong : goal.returns-in_default-clause-wrong
 returns-in_default-clause-wrong c tree count whole =
@@ -36,7 +36,7 @@ returns-then-not-is_valid-clause-wrong c tree count whole =
       | then-not-is_valid-via-then-not-is_valid w ↦
           false≢true (sym w.if-not-is_valid.true ∙ (c.is_valid.ensures c.args.types.now (sym c.len.ensures.len)).1 (subst (Right c.args.types.now cs) (sym same) s.1))
       | then-not-is_valid-via-else-not-is_valid+then-not-pass w ↦
-          s.4 (ap (λ i. passed (open_parts c.loop-i.nesting) (place_of i)) (sym same) ∙ ap (passed (open_parts c.loop-i.nesting)) (sym (ap (λ row. row.place) w.row.ensures.row)) ∙ w.if-not-pass.ensures)
+          s.4 (ap (λ i. passed (open_parts c.loop-i.nesting) (role_of i)) (sym same) ∙ ap (passed (open_parts c.loop-i.nesting)) (sym (ap (λ row. row.role) w.row.ensures.row)) ∙ w.if-not-pass.ensures)
     ]
 
 pub returns-then-not-is_closed-clause-wrong : goal.returns-then-not-is_closed-clause-wrong

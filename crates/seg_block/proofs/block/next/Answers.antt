@@ -1,4 +1,4 @@
-use Rattle.std.proofs.Common.{length}
+use Rattle.std.proofs.Common.{◌+◌, ◌*◌}
 use Rattle.seg_block.proofs.Neighbours.{next_block, last_end, none_at_end}
 use Rattle.seg_block.proofs.block.next.Goals as goal
 
@@ -9,4 +9,4 @@ returns-clause-read g c = λ xs ys l t was.
 
 pub returns-clause-none : goal.returns-clause-none
 returns-clause-none g c = λ xs l was.
-    none_at_end c.block_at.result _ (length c.args.w.now.bytes) (last_end c.args.w.now.bytes xs c.args.block.at c.args.block.units l was) c.block_at.ensures.bounds
+    none_at_end c.args.w.now.bytes c.block_at.result (c.args.block.at + 16 * c.args.block.units) (last_end c.args.w.now.bytes xs c.args.block.at c.args.block.units l was) c.block_at.ensures.bounds

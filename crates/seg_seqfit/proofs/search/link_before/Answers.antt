@@ -14,7 +14,8 @@ loop-gap-preserved g c = λ xs ys b was.
     let bytes = c.args.w.now.bytes in
     let gap = c.in-Some.gap in
     let so_far = c.loop-gap.invariant xs ys b was in (
-      passed_more bytes (free_of xs) (free_of (tile c.args.block.at c.args.block.units b ∷ ys)) c.args.block.at c.loop-gap.link c.loop-gap.low gap.at gap.units (λ e. some_none gap (c.in-Some.ensures.none e), c.in-Some.ensures.named) c.if-gap-block.false so_far.0,
+      passed_more bytes (free_of xs) (free_of (tile c.args.block.at c.args.block.units b ∷ ys)) c.args.block.at c.loop-gap.link c.loop-gap.low gap.at gap.units
+          (λ e. some_none gap (c.in-Some.ensures.none e), c.in-Some.ensures.named) c.if-gap-block.false so_far.0,
       near_more bytes xs c.loop-gap.near so_far.1 c.in-Some-previous.before c.is_live.result c.is_live.ensures c.in-Some-previous.ensures.read c.in-Some-previous.ensures.none c.if-not-is_live.false,
     )
 

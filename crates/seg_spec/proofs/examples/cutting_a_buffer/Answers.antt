@@ -1,4 +1,4 @@
-use Rattle.seg_spec.proofs.CutBuffers.{cut-changes, cut-not_whole, cut-paths, cut-shrinks, cut-root_paths, unnamed-lost, unnamed-lost_inside, unnamed-beside, unnamed-not_beside}
+use Rattle.seg_spec.proofs.CutBuffers.{cut-changes, cut-not_whole, cut-shrinks, cut-root_paths, unnamed-lost, unnamed-lost_inside, unnamed-beside, unnamed-not_beside}
 use Rattle.seg_spec.proofs.examples.cutting_a_buffer.Goals as goal
 
 pub returns : goal.returns

@@ -3,7 +3,8 @@ use Rattle.std.proofs.lemmas.Result.{err_from_is_err_and}
 use Rattle.client_spec.specs.Code.{Constant}
 use Rattle.client_spec.specs.Grammar.{IsInstruction}
 use Rattle.client_spec.specs.Typed.{◌>>=◌}
-use Rattle.client_code.specs.Views.{instruction_of, definition}
+use Rattle.client_code.specs.Views.{instruction_of}
+use Rattle.client_spec.specs.Operations.{row_of}
 use Rattle.client_verify.specs.declared.rule.Rule.{Rule}
 use Rattle.client_verify.specs.Views.{registers_of, both_of, checked}
 use Rattle.client_verify.specs.Passing.{rule_at}
@@ -13,11 +14,11 @@ use Rattle.client_verify.proofs.Numbers.{are_named}
 use Rattle.client_verify.proofs.Rules.{rule_same}
 use Rattle.client_verify.proofs.rule.Rule.apply.Goals as goal
 
-columns_say : (r : Rule) (constants : List Constant) → IsInstruction r.types.now constants (definition r.instruction.operation).place (instruction_of r.instruction) → applied (step_of r) ≡ rule_at r.types.now constants (instruction_of r.instruction) (registers_of r.before.now)
+columns_say : (r : Rule) (constants : List Constant) → IsInstruction r.types.now constants (row_of r.instruction.operation).role (instruction_of r.instruction) → applied (step_of r) ≡ rule_at r.types.now constants (instruction_of r.instruction) (registers_of r.before.now)
 columns_say r constants right =
     let i = r.instruction in
-    rule_same (step_of r) constants i.operation r.own r.place right
-    (are_named r.types.now constants i.b r.type_id r.constant (definition i.operation).number i.number r.few right.number r.named r.unique r.name)
+    rule_same (step_of r) constants i.operation r.own right
+    (are_named r.types.now constants i.b r.type_id r.constant (row_of i.operation).number i.number r.few right.number r.named r.unique r.name)
 
 pub returns-in_err-check : goal.returns-in_err-check
 returns-in_err-check c constants right =

@@ -21,4 +21,4 @@ returns-clause-takes g c = λ h.
     let best = c.in_ok-gap.ensures.best (gaps old) h.free (heap_free_blocks old h) (Fill-le (tiles old) heap_start (length old) h.filled) h.small in
     let s = best_fit-smallest (gaps old) c.args.need (record { at = gap.at; units = gap.units }) best in
     takes_gap (λ _. ⊤) old c.args.need gap.at gap.units h best s.before s.after s.gaps_are c.cut.new.w.bytes c.granted.result c.take.new.w.bytes tt c.granted.ensures c.requires (omega (arith, c.in_ok-gap.ensures.bounds))
-    (λ xs ys _ t. c.take.ensures.tiles xs ys t) (λ k. ap bytes (c.cut.ensures.whole k)) (λ more xs ys _ t. c.cut.ensures.tiles more xs ys t)
+    c.take.ensures.tiles (λ k. ap bytes (c.cut.ensures.whole k)) c.cut.ensures.tiles

@@ -11,16 +11,20 @@ returns-in_default-clause-cuts g c = λ large h.
 
 pub returns-then-is_live-clause-cuts : goal.returns-then-is_live-clause-cuts
 returns-then-is_live-clause-cuts g c = λ large h.
-    cuts_live c.args.w.now.bytes c.len-len.result large h c.len-len.ensures.len c.in-Some.last.at c.in-Some.last.units c.in-Some.ensures.last c.put32.new.self.bytes (sym c.is_live.ensures ∙ c.if-is_live.true) (ap (λ (p : Placement). p.bytes) c.put32.ensures)
+    cuts_live c.args.w.now.bytes c.len-len.result large h c.len-len.ensures.len c.in-Some.last.at c.in-Some.last.units c.in-Some.ensures.last c.put32.new.self.bytes
+    (sym c.is_live.ensures ∙ c.if-is_live.true) (ap (λ (p : Placement). p.bytes) c.put32.ensures)
 
 pub returns-then-last-le-HEAP_START-clause-cuts : goal.returns-then-last-le-HEAP_START-clause-cuts
 returns-then-last-le-HEAP_START-clause-cuts g c = λ large h.
-    cuts_whole c.args.w.now.bytes c.len-len.result large h c.len-len.ensures.len c.in-Some.last.at c.in-Some.last.units c.in-Some.ensures.last (sym c.is_live.ensures ∙ c.if-is_live.false) c.take_out.new.w.bytes (c.take_out.ensures.leaves h.small)
-    c.set_size.new.w.bytes c.put_in.new.w.bytes c.if-last-le-HEAP_START.true (ap (λ (p : Placement). p.bytes) c.set_size.ensures ∙ ap (λ (p : Placement). set_size p.bytes 704 2 false) c.put32-then-last-le-HEAP_START.ensures) c.put_in.ensures.joins
+    cuts_whole c.args.w.now.bytes c.len-len.result large h c.len-len.ensures.len c.in-Some.last.at c.in-Some.last.units c.in-Some.ensures.last
+    (sym c.is_live.ensures ∙ c.if-is_live.false) c.take_out.new.w.bytes (c.take_out.ensures.leaves h.small)
+    c.set_size.new.w.bytes c.put_in.new.w.bytes c.if-last-le-HEAP_START.true
+    (ap (λ (p : Placement). p.bytes) c.set_size.ensures ∙ ap (λ (p : Placement). set_size p.bytes 704 2 false) c.put32-then-last-le-HEAP_START.ensures) c.put_in.ensures.joins
 
 pub returns-clause-cuts : goal.returns-clause-cuts
 returns-clause-cuts g c = λ large h.
-    cuts_gap c.args.w.now.bytes c.len-len.result large h c.len-len.ensures.len c.in-Some.last.at c.in-Some.last.units c.in-Some.ensures.last (sym c.is_live.ensures ∙ c.if-is_live.false) c.take_out.new.w.bytes (c.take_out.ensures.leaves h.small)
+    cuts_gap c.args.w.now.bytes c.len-len.result large h c.len-len.ensures.len c.in-Some.last.at c.in-Some.last.units c.in-Some.ensures.last
+    (sym c.is_live.ensures ∙ c.if-is_live.false) c.take_out.new.w.bytes (c.take_out.ensures.leaves h.small)
     c.put32-2.new.self.bytes c.if-last-le-HEAP_START.false (ap (λ (p : Placement). p.bytes) c.put32-2.ensures)
 
 pub returns-then-last-le-HEAP_START-clause-unchanged : goal.returns-then-last-le-HEAP_START-clause-unchanged

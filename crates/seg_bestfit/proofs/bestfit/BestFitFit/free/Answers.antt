@@ -10,5 +10,6 @@ returns-in_default-clause-gives g c = λ h held. absurd (unread c.args.w.now.byt
 pub returns-clause-gives : goal.returns-clause-gives
 returns-clause-gives g c = λ h held.
     let whole = c.join_before-whole.result in
-    freed_named c.args.w.now.bytes c.absorb.new.w.bytes c.join_before-whole.new.w.bytes c.release.new.w.bytes c.args.block c.in-Some.block.at c.in-Some.block.units c.room_behind-room.result whole.at whole.units h held
-    c.in-Some.ensures.read c.room_behind-room.ensures.room (λ k. ap (λ (p : Placement). p.bytes) (c.absorb.ensures.none k)) c.absorb.ensures.tiles c.join_before-whole.ensures.joins c.release.ensures.tiles
+    freed_named c.args.w.now.bytes c.absorb.new.w.bytes c.join_before-whole.new.w.bytes c.release.new.w.bytes c.args.block c.in-Some.block.at c.in-Some.block.units c.room_after-room.result whole.at whole.units h held
+    c.in-Some.ensures.read c.room_after-room.ensures.room (λ k. ap (λ (p : Placement). p.bytes) (c.absorb.ensures.none k)) (λ xs ys t. c.absorb.ensures.tiles xs ys tt t) c.join_before-whole.ensures.joins
+    (λ xs ys t. c.release.ensures.tiles xs ys tt t)

@@ -15,4 +15,4 @@ returns-clause-begins g c = λ large whole.
     let sized = ap bytes c.set_size.ensures ∙ ap (λ b. set_size b 704 u true) rooted in
     let one = subst (λ (b : List ℕ). IsTiling 1 b (tile 704 u true ∷ [])) (sym sized) (one_block old u (omega arith) (omega arith) (omega arith)) in
     begins old u (omega arith) (omega arith) (omega arith) c.release.new.w.bytes
-    (subst (λ (b : List ℕ). Retiles 1 b c.release.new.w.bytes [] (tile 704 u false ∷ []) []) sized (c.release.ensures.tiles [] [] one))
+    (subst (λ (b : List ℕ). Retiles 1 b c.release.new.w.bytes [] (tile 704 u false ∷ []) []) sized (c.release.ensures.tiles [] [] tt one))

@@ -1,4 +1,5 @@
-use Rattle.std.proofs.Common.{◌∙◌, sym}
+use Rattle.std.proofs.Common.{ℕ, ◌∙◌, sym, subst}
+use Rattle.seg_spec.specs.Search.{IsSearchTree}
 use Rattle.seg_rbtree.proofs.Removed.{left_alone, not_absent, not_named, named}
 use Rattle.seg_rbtree.proofs.tree.Tree.remove.Goals as goal
 
@@ -6,11 +7,15 @@ pub returns-then-ne-clause-removed : goal.returns-then-ne-clause-removed
 returns-then-ne-clause-removed g c = λ exact shape t a apart.
     let bytes = c.args.w.now.bytes in
     let order = g.O.NodeOrder.compare c.args.order.now bytes in
-    left_alone bytes c.args.self.root c.path_to-path.result order c.args.node shape c.path_to-path.ensures.root (c.path_to-path.ensures.leads exact shape t) (g.met.O.NodeOrder.total exact c.args.order.now bytes) t a
+    let root = c.descend.ensures.root ∙ c.new-path.ensures.root in
+    let way = c.descend.ensures.leads exact c.new-path.ensures.steps shape (subst (λ (r : ℕ). IsSearchTree bytes r shape) (sym c.new-path.ensures.root) t) in
+    left_alone bytes c.args.self.root c.descend.new.self order c.args.node shape root way (g.met.O.NodeOrder.total exact c.args.order.now bytes) t a
     (λ e. not_named c.node.result c.ne.result c.args.node c.ne.ensures c.if-ne.true (c.node.ensures ∙ e))
 
 pub returns-clause-stays : goal.returns-clause-stays
 returns-clause-stays g c = λ exact shape t a missing.
     let bytes = c.args.w.now.bytes in
-    absurd (not_absent bytes c.args.self.root c.path_to-path.result (g.O.NodeOrder.compare c.args.order.now bytes c.args.node) c.args.node shape c.path_to-path.ensures.root (c.path_to-path.ensures.leads exact shape t) t
+    let root = c.descend.ensures.root ∙ c.new-path.ensures.root in
+    let way = c.descend.ensures.leads exact c.new-path.ensures.steps shape (subst (λ (r : ℕ). IsSearchTree bytes r shape) (sym c.new-path.ensures.root) t) in
+    absurd (not_absent bytes c.args.self.root c.descend.new.self (g.O.NodeOrder.compare c.args.order.now bytes c.args.node) c.args.node shape root way t
     (sym c.node.ensures ∙ named c.node.result c.ne.result c.args.node c.ne.ensures c.if-ne.false) missing)

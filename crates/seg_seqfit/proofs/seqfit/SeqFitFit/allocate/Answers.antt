@@ -18,5 +18,6 @@ returns-clause-takes g c = λ h.
     let gap = c.in_ok-link.field-0.block in
     let bytes = λ (p : Placement). p.bytes in
     let f = c.in_ok-link.ensures.first (gaps old) h.free (heap_free_blocks old h) in
-    takes_gap (Place link) old c.args.need gap.at gap.units h f.is_first f.seen f.rest f.parts c.cut.new.w.bytes c.granted.result c.take.new.w.bytes (place_of_gap old c.args.need link gap.at gap.units h f) c.granted.ensures c.requires (omega (arith, c.in_ok-link.ensures.bounds))
+    takes_gap (Place link) old c.args.need gap.at gap.units h f.is_first f.seen f.rest f.parts c.cut.new.w.bytes c.granted.result c.take.new.w.bytes
+    (place_of_gap old c.args.need link gap.at gap.units h f) c.granted.ensures c.requires (omega (arith, c.in_ok-link.ensures.bounds))
     c.take.ensures.tiles (λ k. ap bytes (c.cut.ensures.whole k)) c.cut.ensures.tiles

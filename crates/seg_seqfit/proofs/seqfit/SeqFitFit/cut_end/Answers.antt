@@ -12,7 +12,8 @@ returns-in_default-clause-cuts g c = λ large h.
 
 pub returns-then-is_live-clause-cuts : goal.returns-then-is_live-clause-cuts
 returns-then-is_live-clause-cuts g c = λ large h.
-    cuts_live c.args.w.now.bytes c.len-len.result large h c.len-len.ensures.len c.in-Some.last.at c.in-Some.last.units c.in-Some.ensures.last c.put32.new.self.bytes (sym c.is_live.ensures ∙ c.if-is_live.true) (ap (λ (p : Placement). p.bytes) c.put32.ensures)
+    cuts_live c.args.w.now.bytes c.len-len.result large h c.len-len.ensures.len c.in-Some.last.at c.in-Some.last.units c.in-Some.ensures.last c.put32.new.self.bytes
+    (sym c.is_live.ensures ∙ c.if-is_live.true) (ap (λ (p : Placement). p.bytes) c.put32.ensures)
 
 pub returns-then-last-le-HEAP_START-clause-cuts : goal.returns-then-last-le-HEAP_START-clause-cuts
 returns-then-last-le-HEAP_START-clause-cuts g c = λ large h.
@@ -21,7 +22,8 @@ returns-then-last-le-HEAP_START-clause-cuts g c = λ large h.
 
 pub returns-clause-cuts : goal.returns-clause-cuts
 returns-clause-cuts g c = λ large h.
-    cuts_gap c.args.w.now.bytes c.len-len.result large h c.len-len.ensures.len c.in-Some.last.at c.in-Some.last.units c.in-Some.ensures.last c.point.new.self.bytes c.link_before-link.result (sym c.is_live.ensures ∙ c.if-is_live.false) c.if-last-le-HEAP_START.false
+    cuts_gap c.args.w.now.bytes c.len-len.result large h c.len-len.ensures.len c.in-Some.last.at c.in-Some.last.units c.in-Some.ensures.last c.point.new.self.bytes c.link_before-link.result
+    (sym c.is_live.ensures ∙ c.if-is_live.false) c.if-last-le-HEAP_START.false
     c.link_before-link.ensures (ap (λ (p : Placement). p.bytes) c.point.ensures ∙ ap (λ (p : Placement). set_pointer p.bytes c.link_before-link.result None) c.put32-2.ensures)
 
 pub returns-then-last-le-HEAP_START-clause-unchanged : goal.returns-then-last-le-HEAP_START-clause-unchanged

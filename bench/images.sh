@@ -1,0 +1,58 @@
+#!/usr/bin/env bash
+# What whole images take: runs of an empty client on 1 KiB, 1 MiB and 64 MiB, checks of 64 MiB with few and with many
+# blocks, and beside them the machine's own copying and reading of such a file.
+#
+#   images.sh SEGTOOL
+#
+# Prints the least of ROUNDS runs (5 if not set) in milliseconds, wall, user and system, then page faults and MiB.
+set -euo pipefail
+segtool=${1:?the program segtool}
+rounds=${ROUNDS:-5}
+here=$(cd "$(dirname "${BASH_SOURCE[0]}")" && pwd)
+work=$(mktemp -d)
+trap 'rm -rf "$work"' EXIT
+
+# a row: its name, and the command
+row() {
+  local name=$1
+  shift
+  printf '%-36s ' "$name"
+  for _ in $(seq "$rounds"); do
+    python3 - "$@" << 'P'
+import os, subprocess, sys, time
+start = time.perf_counter()
+child = subprocess.Popen(sys.argv[1:], stdout=subprocess.DEVNULL)
+_, status, used = os.wait4(child.pid, 0)
+wall = time.perf_counter() - start
+child.returncode = os.waitstatus_to_exitcode(status)
+if child.returncode:
+    raise SystemExit(f"{sys.argv[1:]}: status {child.returncode}")
+times = (wall * 1e3, used.ru_utime * 1e3, used.ru_stime * 1e3)
+print(*(f"{it:9.1f}" for it in times), f"{used.ru_minflt:9d} {used.ru_maxrss >> 10:6d}")
+P
+  done | sort -n | head -1
+}
+
+# assembles a client of bench/clients with a number of turns
+client() {
+  sed "s/@N/$2/g" "$here/clients/$1.text" > "$work/$1.text"
+  "$segtool" asm "$work/$1.text" "$work/$1"
+}
+
+printf '%-36s %9s %9s %9s %9s %6s\n' work wall user system faults MiB
+client empty 0
+for size in 1024 $((1 << 20)) $((64 << 20)); do
+  "$segtool" new "$work/image" "$size" best tree
+  row "run of nothing, $size bytes" "$segtool" run "$work/image" "$work/saved" "$work/empty"
+done
+row "check, 64 MiB, one gap" "$segtool" check "$work/image"
+client arrays 130
+"$segtool" run "$work/image" "$work/large" "$work/arrays" > "$work/printed"
+row "check, 64 MiB, 130 blocks" "$segtool" check "$work/large"
+client nodes 1000000
+"$segtool" new "$work/image" $((64 << 20)) seq flat
+"$segtool" run "$work/image" "$work/small" "$work/nodes" > "$work/printed"
+row "check, 64 MiB, 1,000,000 blocks" "$segtool" check "$work/small"
+row "run of nothing, 1,000,000 blocks" "$segtool" run "$work/small" "$work/saved" "$work/empty"
+row "cp of 64 MiB" cp "$work/image" "$work/saved"
+row "cat of 64 MiB" cat "$work/image"

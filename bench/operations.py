@@ -1,0 +1,177 @@
+#!/usr/bin/env python3
+"""Compares the clients of segtool with Boost.Interprocess and Lua, an operation at a time.
+
+    operations.py SEGTOOL [--time ROUNDS] [--only WORK,..] [--configs best+tree,seq+flat] [--no-count]
+
+Each work is a client and a base: the same loop without the library's operations. Both run on the same image; the
+difference, divided by the operations, is what one takes. Instructions are counted by callgrind, which is exact whatever
+else the machine does; times are the least of ROUNDS rounds in which client, base and peer run by turns.
+
+Needs valgrind, lua5.4, g++ and libboost-dev."""
+import argparse
+import os
+import subprocess
+import tempfile
+from dataclasses import dataclass
+
+HERE = os.path.dirname(os.path.abspath(__file__))
+
+# glibc's large clears and copies are one instruction a byte to callgrind where they use rep stosb and rep movsb
+TUNABLES = "glibc.cpu.x86_rep_stosb_threshold=1000000000:glibc.cpu.x86_rep_movsb_threshold=1000000000"
+
+
+@dataclass
+class Work:
+    client: str
+    base: str
+    turns: int
+    operations: int  # in a turn
+    before: str | None  # a client that runs on the image first
+    size: int  # of the image, in MiB
+
+
+WORKS = {
+    "vec_push": Work("vec_push", "base_loop", 1000000, 1, None, 32),
+    "map_put": Work("map_put", "base_random", 100000, 1, None, 8),
+    "map_walk": Work("map_walk", "base_walk", 100000, 1, "map_put", 8),
+    "flat_map_put": Work("flat_map_put", "base_random", 20000, 1, None, 2),
+    "list_push_pop": Work("list_push_pop", "base_list", 200000, 1, None, 8),
+    "str_push": Work("str_push", "base_loop", 1000000, 1, None, 4),
+    "churn": Work("churn", "base_churn", 2000, 16, "churn.setup", 1),
+    "new_drop": Work("new_drop", "base_loop", 100000, 1, None, 1),
+    "named_construct": Work("named_construct", "base_named", 10000, 1, None, 2),
+    "named_find": Work("named_find", "base_loop", 10000, 1, "named_construct", 2),
+    "named_destroy": Work("named_destroy", "base_loop", 10000, 1, "named_construct", 2),
+    "named_destroy_up": Work("named_destroy_up", "base_loop", 10000, 1, "named_construct", 2),
+    "chain": Work("chain", "base_loop", 20000, 1, None, 2),
+}
+
+# the steps of a turn of the loops that Lua runs too
+LOOPS = {"loop_count": 3, "loop_mixed": 9}
+
+
+def run(*words):
+    return subprocess.run(words, check=True, capture_output=True, text=True)
+
+
+def instructions(words, flags=()):
+    """How many instructions a command executes."""
+    with tempfile.NamedTemporaryFile() as out:
+        valgrind = ["valgrind", "--tool=callgrind", f"--callgrind-out-file={out.name}", *flags]
+        subprocess.run(
+            [*valgrind, *words], check=True, capture_output=True, env={**os.environ, "GLIBC_TUNABLES": TUNABLES}
+        )
+        totals = [line for line in open(out.name) if line.startswith(("summary:", "totals:"))]
+        return int(totals[-1].split()[1])
+
+
+def seconds(words):
+    """The processor time of a command, which other jobs disturb less than the time of the clock."""
+    child = subprocess.Popen(words, stdout=subprocess.DEVNULL)
+    _, status, used = os.wait4(child.pid, 0)
+    child.returncode = os.waitstatus_to_exitcode(status)
+    if child.returncode:
+        raise SystemExit(f"{words}: status {child.returncode}")
+    return used.ru_utime + used.ru_stime
+
+
+class Bench:
+    """The clients and the images, made where they are first asked for, in a folder."""
+
+    def __init__(self, segtool, folder):
+        self.segtool, self.folder = segtool, folder
+
+    def client(self, name, turns):
+        made = f"{self.folder}/{name}.{turns}"
+        if not os.path.exists(made):
+            text = open(f"{HERE}/clients/{name}.text").read().replace("@N", str(turns))
+            open(f"{made}.text", "w").write(text)
+            run(self.segtool, "asm", f"{made}.text", made)
+        return made
+
+    def image(self, config, size, before=None, turns=0):
+        made = f"{self.folder}/{config}.{size}.{before}.{turns}.image"
+        if not os.path.exists(made):
+            run(self.segtool, "new", made, str(size), *config.split("+"))
+            if before:
+                run(self.segtool, "run", made, made, self.client(before, turns))
+        return made
+
+    def command(self, image, client):
+        return [self.segtool, "run", image, f"{self.folder}/saved", client]
+
+    def pair(self, work, config, turns):
+        """The commands of a work's client and of its base."""
+        image = self.image(config, work.size << 20, work.before, turns if work.before != "churn.setup" else 0)
+        clients = self.client(work.client, turns), self.client(work.base, turns)
+        return [self.command(image, client) for client in clients]
+
+
+def row(name, config, ours, our_time, peer, peer_time):
+    ratio = ours / peer if peer else 0
+    print(
+        f"{name:17}{config:10}{ours:10.1f}{our_time:9.1f}{peer:10.1f}{peer_time:9.1f}"
+        f"{ratio:8.2f}{our_time / peer_time:8.2f}",
+        flush=True,
+    )
+
+
+def compare_loop(bench, name, rounds, count):
+    """A loop of a client beside the same loop in Lua: what a step takes."""
+    steps, image = LOOPS[name], bench.image("seq+flat", 65536)
+    ours = lambda turns: bench.command(image, bench.client(name, turns))
+    lua = lambda turns: ["lua5.4", f"{HERE}/{name}.lua", str(turns)]
+    counted = [0, 0]
+    if count:
+        counted = [(instructions(it(400000)) - instructions(it(200000))) / 200000 / steps for it in (ours, lua)]
+    turns, least, nothing = 20000000, [1e9, 1e9], [1e9, 1e9]
+    for _ in range(rounds):
+        for i, it in enumerate((ours, lua)):
+            least[i] = min(least[i], seconds(it(turns)))
+            nothing[i] = min(nothing[i], seconds(it(1)))
+    times = [(least[i] - nothing[i]) / turns / steps * 1e9 for i in range(2)]
+    row(name, "a step", counted[0], times[0], counted[1], times[1])
+
+
+def compare_work(bench, peer, name, config, rounds, count):
+    """A client beside Boost.Interprocess: what an operation takes."""
+    work = WORKS[name]
+    operations = work.turns * work.operations
+    client, base = bench.pair(work, config, work.turns)
+    other = [peer, name, config, str(operations)]
+    ours = theirs = 0
+    if count:
+        ours = (instructions(client) - instructions(base)) / operations
+        theirs = instructions(other, ["--instr-atstart=no"]) / operations
+    least = {"client": 1e9, "base": 1e9, "peer": 1e9}
+    for _ in range(rounds):
+        least["client"] = min(least["client"], seconds(client))
+        least["base"] = min(least["base"], seconds(base))
+        least["peer"] = min(least["peer"], float(run(*other).stdout.split()[3]))
+    our_time = (least["client"] - least["base"]) / operations * 1e9
+    row(name, config, ours, our_time, theirs, least["peer"])
+
+
+def main():
+    parser = argparse.ArgumentParser(description=__doc__, formatter_class=argparse.RawDescriptionHelpFormatter)
+    parser.add_argument("segtool")
+    parser.add_argument("--time", type=int, default=5, metavar="ROUNDS")
+    parser.add_argument("--only", default=",".join([*LOOPS, *WORKS]), metavar="WORK,..")
+    parser.add_argument("--configs", default="best+tree,seq+flat", metavar="CONFIG,..")
+    parser.add_argument("--no-count", action="store_true")
+    words = parser.parse_args()
+    only = words.only.split(",")
+    with tempfile.TemporaryDirectory() as folder:
+        bench, peer = Bench(os.path.abspath(words.segtool), folder), f"{folder}/peer"
+        run("g++", "-O2", "-std=c++17", f"{HERE}/peer.cpp", "-o", peer, "-lpthread", "-lrt")
+        print(f"{'':27}{'ours':>10}{'':9}{'peer':>10}{'':9}{'ratio':>8}")
+        print(f"{'work':17}{'config':10}" + f"{'instr.':>10}{'ns':>9}" * 2 + f"{'instr.':>8}{'ns':>8}")
+        for name in filter(LOOPS.__contains__, only):
+            compare_loop(bench, name, words.time, not words.no_count)
+        for name in filter(WORKS.__contains__, only):
+            for config in words.configs.split(","):
+                compare_work(bench, peer, name, config, words.time, not words.no_count)
+
+
+if __name__ == "__main__":
+    main()

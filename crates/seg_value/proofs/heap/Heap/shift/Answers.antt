@@ -1,0 +1,33 @@
+use Rattle.std.proofs.Common.{◌≡◌, ℕ, ◌+◌, ◌*◌, ◌∙◌, subst, List, zero-add}
+use Rattle.seg_spec.specs.Types.{Table, size, IsTable}
+use Rattle.seg_spec.specs.Cells.{IsWithin, Shifts}
+use Rattle.seg_value.specs.Contents.{IsEntryOf}
+use Rattle.seg_value.specs.Stored.{Stored}
+use Rattle.seg_value.proofs.Shifts.{moved_changes, moved_items, stands_within}
+use Rattle.seg_value.proofs.heap.Heap.shift.Goals as goal
+
+sized : (old new : List ℕ) (table : Table) (T from to n k : ℕ) → k ≡ 0 + size table T
+    → (IsWithin old from (n * k) → IsWithin old to (n * k) → Shifts old new table 0 T k from to n)
+    → IsWithin old from (n * size table T) → IsWithin old to (n * size table T) → Shifts old new table 0 T (size table T) from to n
+sized old new table T from to n k e f a b =
+    let is : k ≡ size table T = e ∙ zero-add (size table T) in
+    rw is at (f (rw is a) (rw is b))
+
+pub returns-clause-changes : goal.returns-clause-changes
+returns-clause-changes g c = λ from_in to_in.
+    let entry = subst (λ (s : Stored). IsEntryOf s.types 0 c.args.t c.object.result.entry) c.self.view_is c.object.ensures.content.entry_is in
+    let valid = subst (λ (s : Stored). IsTable s.types) c.self.view_is c.object.ensures.table in
+    let s = sized c.args.self.now.window.bytes c.shift_entries.new.self.window.bytes c.args.self.now.types c.args.t c.args.from c.args.to c.args.n
+    c.object.result.entry.size entry.size_is (c.shift_entries.ensures.shifted c.args.t 0 entry) from_in to_in in
+    moved_changes c.args.self.now.window.bytes c.shift_entries.new.self.window.bytes c.args.self.now.types valid 0 c.args.t
+    (size c.args.self.now.types c.args.t) c.args.from c.args.to c.args.n s from_in
+
+pub returns-clause-values : goal.returns-clause-values
+returns-clause-values g c = λ allocator home vs blocks heap even from_in stands h.
+    let entry = subst (λ (s : Stored). IsEntryOf s.types 0 c.args.t c.object.result.entry) c.self.view_is c.object.ensures.content.entry_is in
+    let valid = subst (λ (s : Stored). IsTable s.types) c.self.view_is c.object.ensures.table in
+    let to_in = stands_within c.args.self.now.window.bytes allocator home c.args.to (c.args.n * size c.args.self.now.types c.args.t) blocks heap stands in
+    let s = sized c.args.self.now.window.bytes c.shift_entries.new.self.window.bytes c.args.self.now.types c.args.t c.args.from c.args.to c.args.n
+    c.object.result.entry.size entry.size_is (c.shift_entries.ensures.shifted c.args.t 0 entry) from_in to_in in
+    moved_items c.args.self.now.window.bytes c.shift_entries.new.self.window.bytes c.args.self.now.types valid c.args.t
+    c.args.from c.args.to c.args.n s from_in allocator home vs blocks heap stands even h

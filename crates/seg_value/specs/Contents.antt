@@ -1,0 +1,88 @@
+-- Entries and contents of the program as the definitions know them.
+--     IsEntryOf table before U entry      an entry with a value of the type after so many bytes
+--     ContentOf table T form content      what the cell of a type names, by the form of the type
+--     AreContents table contents          that of each type
+--     GivesBlock ..                       a new block, with the default of a value
+use Rattle.std.specs.Prelude.{◌≡◌, ℕ, ◌+◌, ◌≤◌, ⊤, List, [], ◌∷◌, length, Option, Some, None, get_or}
+use Rattle.seg_spec.specs.Bytes.{IsSame}
+use Rattle.seg_spec.specs.Value.{default_of}
+use Rattle.seg_spec.specs.Heap.{IsHeap, live, link_at}
+use Rattle.seg_spec.specs.Reads.{Holds}
+use Rattle.seg_spec.specs.Sound.{times, positions}
+use Rattle.seg_spec.specs.Demand.{after_asks, block_for}
+use Rattle.seg_spec.specs.Types.{Form, Table, form_at, size}
+use Rattle.seg_spec.specs.Block as block
+use Rattle.seg_spec.specs.Block.{tag_of}
+use Rattle.seg_block.specs.Tags.{word_of}
+use Rattle.seg_value.specs.declared.entry.Entry.{Entry}
+use Rattle.seg_value.specs.declared.entry.Held.TheVariants as held
+use Rattle.seg_value.specs.declared.content.Content.{Content}
+use Rattle.seg_value.specs.declared.content.Shape.{Shape}
+use Rattle.seg_value.specs.declared.content.Shape.TheVariants as shape
+
+-- an entry with a value of the type after so many bytes
+pub record IsEntryOf (table : Table) (before U : ℕ) (entry : Entry) : Type 0 where
+  pub size_is : entry.size ≡ before + size table U
+  pub before_is : entry.before ≡ before
+  pub held_is : entry.held ≡ held.Value U
+
+-- blocks of this shape and tag, with such entries
+pub record IsContent (table : Table) (shape : Shape) (tag before U : ℕ)
+    (content : Content) : Type 0 where
+  pub shape_is : content.shape ≡ shape
+  pub tag_is : word_of content.tag ≡ tag
+  pub entry_is : IsEntryOf table before U content.entry
+
+-- a buffer of bytes
+pub record IsText (tag : ℕ) (content : Content) : Type 0 where
+  pub shape_is : content.shape ≡ shape.Buffer
+  pub tag_is : word_of content.tag ≡ tag
+  pub size_is : content.entry.size ≡ 1
+  pub before_is : content.entry.before ≡ 0
+  pub held_is : content.entry.held ≡ held.Bytes
+
+-- the kind of the blocks of a shape
+abbrev pub kind_of_shape : Shape → block.Kind
+kind_of_shape shape.Buffer = block.Kind.buffer
+kind_of_shape shape.Ring = block.Kind.node
+kind_of_shape shape.Tree = block.Kind.node
+kind_of_shape shape.Object = block.Kind.object
+
+-- what the cell of a type of this form names
+abbrev pub ContentOf : Table → ℕ → Option Form → Option Content → Type 0
+ContentOf table T None None = ⊤
+ContentOf table T (Some Form.i64) None = ⊤
+ContentOf table T (Some (Form.struct Us)) None = ⊤
+ContentOf table T (Some Form.str) (Some content) = IsText (tag_of block.Kind.buffer T) content
+ContentOf table T (Some (Form.vec U)) (Some content) =
+    IsContent table shape.Buffer (tag_of block.Kind.buffer T) 0 U content
+ContentOf table T (Some (Form.flat_map U)) (Some content) =
+    IsContent table shape.Buffer (tag_of block.Kind.buffer T) 8 U content
+ContentOf table T (Some (Form.list U)) (Some content) =
+    IsContent table shape.Ring (tag_of block.Kind.node T) 8 U content
+ContentOf table T (Some (Form.map U)) (Some content) =
+    IsContent table shape.Tree (tag_of block.Kind.node T) 24 U content
+ContentOf table T (Some (Form.own U)) (Some content) =
+    IsContent table shape.Object (tag_of block.Kind.object U) 0 U content
+ContentOf _ _ _ _ = ⊥
+
+-- what the cell of each type names, one after the other
+abbrev pub AreContents : Table → List (Option Content) → Type 0
+AreContents table contents =
+    (T : ℕ) → ContentOf table T (form_at table T) (get_or contents T None)
+
+-- a new block of this tag, with the default of a value after so many bytes; all other live blocks are kept
+pub record GivesBlock (allocator : ℕ) (old new : List ℕ) (table : Table) (tag before U : ℕ)
+    (payload : ℕ) : Type 0 where
+  pub length_kept : length new ≡ length old
+  pub front_kept : IsSame old new 0 24
+  pub back_kept : IsSame old new 28 676
+  pub heap : IsHeap allocator new
+  pub is_block : block.IsBlock new payload tag (before + size table U)
+  pub link_is : link_at new (block.block_of payload) ≡ None
+  pub value : Holds new table (record { at = payload + before; type = U }) (default_of table U) []
+  pub granted_is :
+      after_asks allocator (live old) (length old) (block_for (before + size table U) ∷ []) ≡ Some (live new)
+  pub was_free : times (block.block_of payload) (positions (live old)) ≡ 0
+  pub kept : (h : ℕ) → 1 ≤ times h (positions (live old)) →
+      block.KeepsBlock old new h × (link_at new h ≡ link_at old h)

@@ -1,0 +1,28 @@
+-- Places of the program as the definitions know them, and what calls on owns leave.
+--     TakesOwn old new table own U v blocks result     an own gave up its object, and holds nothing now
+use Rattle.std.specs.Prelude.{◌≡◌, ℕ, List, [], ◌∷◌, Option, Some}
+use Rattle.seg_spec.specs.Types.{Table}
+use Rattle.seg_spec.specs.Value.{Value, Empty}
+use Rattle.seg_spec.specs.Heap.{live}
+use Rattle.seg_spec.specs.Block.{block_of}
+use Rattle.seg_spec.specs.Reads as reads
+use Rattle.seg_spec.specs.Roots.{ChangesPlace}
+use Rattle.seg_spec.specs.Calls.{IsLoose}
+use Rattle.seg_value.specs.declared.place.Place.{Place}
+
+abbrev pub place_of : Place → reads.Place
+place_of place = record { at = place.at; type = place.type_id }
+
+-- the place of an object's value
+abbrev pub object_at : ℕ → ℕ → reads.Place
+object_at at U = record { at = at; type = U }
+
+-- the own holds nothing now; the object that it held is loose, with its value, and the live blocks are those before
+pub record TakesOwn (old new : List ℕ) (table : Table) (own : reads.Place) (U : ℕ) (v : Value)
+    (blocks : List ℕ) (result : Option ℕ) : Type 0 where
+  pub object : ℕ
+  pub inside : List ℕ
+  pub result_is : result ≡ Some object
+  pub blocks_are : blocks ≡ block_of object ∷ inside
+  pub loose : IsLoose new table (object_at object U) v inside
+  pub changes : ChangesPlace old new table own Empty [] (live old) blocks blocks
