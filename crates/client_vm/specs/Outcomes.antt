@@ -85,7 +85,8 @@ module _ (image : List ℕ) (texts : List (List ℕ)) (room base : ℕ) (moves :
   IsFaultOfCall (fault.BadFree at) = IsBadImage image texts room base moves (fault.BadFree at)
   IsFaultOfCall (fault.BadIndex at) = IsBadImage image texts room base moves (fault.BadIndex at)
   IsFaultOfCall (fault.BadPointer at) = IsBadImage image texts room base moves (fault.BadPointer at)
-  IsFaultOfCall (fault.DoubleOwner at) = IsBadImage image texts room base moves (fault.DoubleOwner at)
+  IsFaultOfCall (fault.DoubleOwner at) =
+      IsBadImage image texts room base moves (fault.DoubleOwner at)
   IsFaultOfCall (fault.Unowned at) = IsBadImage image texts room base moves (fault.Unowned at)
   IsFaultOfCall (fault.BadValue at) = IsBadImage image texts room base moves (fault.BadValue at)
   IsFaultOfCall (fault.TypeMismatch k) = ⊥
@@ -98,9 +99,12 @@ module _ (image : List ℕ) (texts : List (List ℕ)) (room base : ℕ) (moves :
 
   -- a fault of client k
   abbrev pub IsFaultOfClient : ℕ → Fault → Type 0
-  IsFaultOfClient k (fault.BadCode at) = IsRefusalOf image texts room base moves (Refusal.bad_text k)
-  IsFaultOfClient k (fault.TypeMismatch i) = IsBadClient image texts room base moves k (fault.TypeMismatch i)
-  IsFaultOfClient k (fault.Rejected i reason) = IsBadClient image texts room base moves k (fault.Rejected i reason)
+  IsFaultOfClient k (fault.BadCode at) =
+      IsRefusalOf image texts room base moves (Refusal.bad_text k)
+  IsFaultOfClient k (fault.TypeMismatch i) =
+      IsBadClient image texts room base moves k (fault.TypeMismatch i)
+  IsFaultOfClient k (fault.Rejected i reason) =
+      IsBadClient image texts room base moves k (fault.Rejected i reason)
   IsFaultOfClient k fault.TooLong = IsBadClient image texts room base moves k fault.TooLong
   IsFaultOfClient k fault.Memory = ⊥
   IsFaultOfClient k fault.Misplaced = ⊥
@@ -118,7 +122,7 @@ module _ (image : List ℕ) (texts : List (List ℕ)) (room base : ℕ) (moves :
   IsFaultOfClient k (fault.BadLine line) = ⊥
   IsFaultOfClient k (fault.BadMove i) = ⊥
 
-  abbrev IsFault : Option ℕ → Fault → Type 0
+  abbrev pub IsFault : Option ℕ → Fault → Type 0
   IsFault None f = IsFaultOfCall f
   IsFault (Some k) f = IsFaultOfClient k f
 

@@ -76,6 +76,7 @@ impl<A: Allocator> Claims<A> {
 
     /// Claims the block that a pointer names, and returns where its payload begins. `BadPointer` where it isn't a live block
     /// of this tag with `size` bytes of payload, then `DoubleOwner` where it was claimed before.
+    // Inlined, since most of what a check does is claims.
     #[inline(always)]
     pub(crate) fn claim<B: Allocator>(
         &mut self,

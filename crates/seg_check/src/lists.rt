@@ -19,13 +19,13 @@ impl<A: Allocator> Image<'_, A> {
     ) -> Result<(), Fault>
         ensures taken { claims.new.taken ≡ claims.old.taken }
     {
-        let Some(filled) = self.filled_nodes(cell)? else {
+        let Some(count) = self.counted_blocks(cell)? else {
             return Ok(());
         };
         let first = self.claim_entries(claims, cell, content, 1)?;
         let mut last = first;
         let mut is_linked = true;
-        for _ in 1..filled.count {
+        for _ in 1..count {
             let next = self.claim_entries(claims, last, content, 1)?;
             is_linked = is_linked && self.is_previous(last, next);
             last = next;

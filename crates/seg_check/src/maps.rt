@@ -17,12 +17,12 @@ impl<A: Allocator> Image<'_, A> {
     ) -> Result<(), Fault>
         ensures taken { claims.new.taken ≡ claims.old.taken }
     {
-        let Some(filled) = self.filled(cell)? else {
+        let Some(count) = self.counted(cell)? else {
             return Ok(());
         };
-        let start = self.claim_entries(claims, cell, content, filled.count)?;
+        let start = self.claim_entries(claims, cell, content, count)?;
         let mut keys = Keys::new();
-        for index in 0..filled.count {
+        for index in 0..count {
             keys.add(self.key(content.entry.value_at(start, index)));
         }
         keys.check(cell)
@@ -37,12 +37,12 @@ impl<A: Allocator> Image<'_, A> {
     ) -> Result<(), Fault>
         ensures taken { claims.new.taken ≡ claims.old.taken }
     {
-        let Some(filled) = self.filled_nodes(cell)? else {
+        let Some(count) = self.counted_blocks(cell)? else {
             return Ok(());
         };
         let tree = Tree {
             root: cell,
-            nodes: filled.count as usize,
+            nodes: count as usize,
             fault: Fault::BadValue(cell),
         };
         let mut walk = tree.walk(self.w);

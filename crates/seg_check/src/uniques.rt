@@ -1,5 +1,3 @@
-ghost use Rattle.std.specs.Prelude.{◌≡◌};
-
 use crate::claims::Claims;
 use crate::image::Image;
 use seg_index::{unique, unique_word};

@@ -9,13 +9,6 @@ use seg_raw::Fault;
 use seg_value::{Content, Entry, Place, count};
 use std::alloc::Allocator;
 
-/// A cell that isn't empty: where the payload begins that it names, and how many entries or nodes it counts.
-#[derive(Debug, Clone, Copy, PartialEq, Eq)]
-pub(crate) struct Filled {
-    pub(crate) start: u32,
-    pub(crate) count: u32,
-}
-
 impl<A: Allocator> Image<'_, A> {
     /// The values in the claimed blocks, and in the blocks that their cells claim.
     pub(crate) fn check_values<B: Allocator>(&self, claims: &mut Claims<B>) -> Result<(), Fault> {
@@ -101,8 +94,8 @@ impl<A: Allocator> Image<'_, A> {
     ) -> Result<(), Fault>
         ensures taken { claims.new.taken ≡ claims.old.taken }
     {
-        if let Some(filled) = self.filled(cell)? {
-            self.claim_entries(claims, cell, content, filled.count)?;
+        if let Some(count) = self.counted(cell)? {
+            self.claim_entries(claims, cell, content, count)?;
         }
         Ok(())
     }
@@ -119,26 +112,26 @@ impl<A: Allocator> Image<'_, A> {
         if count(self.w, cell) > 1 {
             return Err(Fault::BadValue(cell));
         }
-        if self.filled_nodes(cell)?.is_some() {
+        if self.counted_blocks(cell)?.is_some() {
             self.claim_entries(claims, cell, content, 1)?;
         }
         Ok(())
     }
 
-    /// What a cell names and counts, if it isn't empty. `BadPointer` where it counts something and names nothing.
-    pub(crate) fn filled(&self, cell: u32) -> Result<Option<Filled>, Fault> {
+    /// How much a cell counts that isn't empty. `BadPointer` where it counts something and names nothing.
+    pub(crate) fn counted(&self, cell: u32) -> Result<Option<u32>, Fault> {
         match (self.w.target(cell as usize), count(self.w, cell)) {
             (None, 0) => Ok(None),
             (None, _) => Err(Fault::BadPointer(cell)),
-            (Some(start), count) => Ok(Some(Filled { start, count })),
+            (Some(_), count) => Ok(Some(count)),
         }
     }
 
-    /// The same of a cell that counts all blocks that it names: `BadValue` where it names one and counts none.
-    pub(crate) fn filled_nodes(&self, cell: u32) -> Result<Option<Filled>, Fault> {
-        match self.filled(cell)? {
-            Some(Filled { count: 0, .. }) => Err(Fault::BadValue(cell)),
-            filled => Ok(filled),
+    /// The same of a cell that counts the blocks that it leads to: `BadValue` where it names one and counts none.
+    pub(crate) fn counted_blocks(&self, cell: u32) -> Result<Option<u32>, Fault> {
+        match self.counted(cell)? {
+            Some(0) => Err(Fault::BadValue(cell)),
+            count => Ok(count),
         }
     }
 }

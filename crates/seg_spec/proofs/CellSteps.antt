@@ -129,7 +129,7 @@ module _ (table : Table) (valid : IsTable table) where
       (λ T form f h. let eight = size_one T form f h in each_one (λ d form. LiesAt (size table T) d) T form f h (omega arith, refl))
       (λ T f. let eight : size table T ≡ 8 = size-form table valid T Form.i64 f in each_i64 (λ d form. LiesAt (size table T) d) T f (omega arith, refl))
       (λ T Us f a. let total : size table T ≡ sum_by (size table) Us = size-form table valid T (Form.struct Us) f in
-          fields_struct table valid (λ d form. LiesAt (size table T) d) T Us f (fields_lie 0 (size table T) Us refl (omega arith) a)) T
+      fields_struct table valid (λ d form. LiesAt (size table T) d) T Us f (fields_lie 0 (size table T) Us refl (omega arith) a)) T
 
   pub each_cell_weaker : (P Q : ℕ → Option Form → Type 0) (T : ℕ) → ((d : ℕ) (form : Option Form) → d + 8 ≤ size table T → d % 8 ≡ 0 → P d form → Q d form) → EachCell table T P → EachCell table T Q
   each_cell_weaker P Q T f a = each_both _ _ _ (λ c p l. f c.from (form_at table c.type) l.0 l.1 p) (cells table T) a (cells_lie T)

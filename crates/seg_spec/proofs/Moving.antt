@@ -184,7 +184,7 @@ module _ (old new : List ℕ) (table : Table) (valid : IsTable table) where
   by_cell : (place : Place) (to : ℕ) (form : Form) (opened : Opened) (inside : Values) (owned : List ℕ) → form_at table place.type ≡ Some form → Opens old table place form opened →
       {v : Value} {blocks : List ℕ} → v ≡ Value.node opened.label inside → blocks ≡ opened.blocks ++ owned
       → ((Us : List ℕ) → form ≡ Form.struct Us → ⊥) → IsMoved old new place.at to (Some form) → AllByRecursion (KeepsBlock old new) blocks → HoldsEach old table opened.parts inside owned →
-          Holds new table (record { at = to; type = place.type }) v blocks
+      Holds new table (record { at = to; type = place.type }) v blocks
   by_cell place to form opened inside owned f o v_is blocks_is flat m ks hs =
       let all = subst (λ bs. AllByRecursion (KeepsBlock old new) bs) blocks_is ks in
       let stays = Opens-moved place to form opened flat m (each_left _ opened.blocks owned all) o in
@@ -216,7 +216,7 @@ module _ (old new : List ℕ) (table : Table) (valid : IsTable table) where
         let inner = Fields-moved place.at to 0 Us hs fields_from_0 each (subst (λ bs. AllByRecursion (KeepsBlock old new) bs) blocks_owned ks) in
         let inner_there = rw (add-zero to) at inner in
         holds {place = record { at = to; type = place.type }} (Form.struct Us) (record { label = Label.struct; blocks = []; parts = fields table to Us }) inside owned f refl inner_there
-            (v_is ∙ ap (λ (r : Opened). Value.node r.label inside) o) blocks_owned
+        (v_is ∙ ap (λ (r : Opened). Value.node r.label inside) o) blocks_owned
 
     Fields-moved : {places : List Place} {vs : Values} {blocks : List ℕ} (from to n : ℕ) (Us : List ℕ) → HoldsEach old table places vs blocks → places ≡ fields table (from + n) Us
         → EachField table n Us (λ d form. IsMoved old new (from + d) (to + d) form) → AllByRecursion (KeepsBlock old new) blocks → HoldsEach new table (fields table (to + n) Us) vs blocks

@@ -251,9 +251,9 @@ module _ (old raw new : List ℕ) (table : Table) (valid : IsTable table) (n : �
       let one = part_there before (size table T) (omega arith) in
       let next = part_there each (k * each) (omega arith) in
       let first_there = value_there (from + before) (to + before) T u mine (λ h m. aligned h (omega (arith, times-append h mine rest))) (omega arith) (omega arith) (omega arith)
-          (omega arith) one further.0 (each_left _ mine rest kept) first in
+      (omega arith) one further.0 (each_left _ mine rest kept) first in
       let more_there = values_there before each T k (from + each) (to + each) us rest fits (λ h m. aligned h (omega (arith, times-append h mine rest))) (omega arith) (omega arith) (omega arith)
-          (omega arith) e8 b8 next further.1 (each_right _ mine rest kept) more in
+      (omega arith) e8 b8 next further.1 (each_right _ mine rest kept) more in
       holds_more first_there more_there
     where
       part_there : (i m : ℕ) → i + m ≤ suc k * each → slice raw (to + i) m ≡ slice old (from + i) m
@@ -285,11 +285,11 @@ module _ (old raw new : List ℕ) (table : Table) (valid : IsTable table) (n : �
     beside_kept = each_there (KeepsBlock old new) blocks (λ h some.
         let other = stands.others h some in
         (there (KeptBut old new to (k * each) shift_changes allocator heap home stands.inside stands.home_live) h (positions (live old))
-            (live_kept_but old new to (k * each) shift_changes allocator heap home stands.inside stands.home_live) other.0).kept other.1)
+        (live_kept_but old new to (k * each) shift_changes allocator heap home stands.inside stands.home_live) other.0).kept other.1)
 
     pub shifted : before + size table T ≤ each → (to + n) % 2 ^ 32 ≡ from → to % 8 ≡ 0 → each % 8 ≡ 0 → before % 8 ≡ 0
         → HoldsEach old table (places_of T (values_at old raw new table valid n before from each k)) vs blocks → HoldsEach new table (places_of T (values_at old raw new table valid n before to each k)) vs blocks
     shifted fits far even e8 b8 h =
         let low = to_in in
         values_there old raw new table valid n before each T k from to vs blocks fits (λ g some. (lies g (stands.others g some).0).aligned) far (omega (arith, from_in.small))
-            (omega (arith, from_in.fits, from_in.small)) even e8 b8 copied changed.cells beside_kept h
+        (omega (arith, from_in.fits, from_in.small)) even e8 b8 copied changed.cells beside_kept h

@@ -82,7 +82,7 @@ module _ (bytes : List ℕ) (table : Table) where
               let n8 = times-append k l.blocks (r.blocks ++ []) in
               let n9 : times k (r.blocks ++ []) ≡ times k r.blocks = ap (times k) (no_more r.blocks) in
               let m1 : times k (map block_of (nodes_of left ++ at ∷ nodes_of right)) ≡ times k (map block_of (nodes_of left) ++ (block_of at ∷ map block_of (nodes_of right))) = ap (times k)
-                  (map-append block_of (nodes_of left) (at ∷ nodes_of right)) in
+              (map-append block_of (nodes_of left) (at ∷ nodes_of right)) in
               let m2 = times-append k (map block_of (nodes_of left)) (block_of at ∷ map block_of (nodes_of right)) in
               let m3 : times k (block_of p ∷ []) ≡ times k (block_of at ∷ []) = ap (λ q. times k (block_of q ∷ [])) (sym at_is) in
               omega arith;

@@ -75,4 +75,4 @@ pub gives_block_for : (allocator h tag before U V b need_is each payload at : â„
     â†’ GivesBlock allocator old new table tag before U payload
 gives_block_for allocator h tag before U V b need_is each payload at old taken tagged_is new table here table_is type_is before_is valid low_before below small heap t each_is need_by payload_is at_is tagged_by changes fills =
     gives_block_at allocator h tag before U need_is each payload at old taken tagged_is new table valid low_before below small heap t each_is need_by payload_is (rw before_is at at_is) tagged_by
-        (rw (table_is, type_is) at changes) (rw (table_is, type_is) at fills)
+    (rw (table_is, type_is) at changes) (rw (table_is, type_is) at fills)

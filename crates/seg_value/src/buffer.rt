@@ -38,7 +38,8 @@ impl<F: Fit, A: Allocator> Heap<F, A> {
             IsTable self.old.types → U < length self.old.types →
             IsHeap F.code self.old.window.bytes →
             MatchResult result
-            (GivesBlock F.code self.old.window.bytes self.new.window.bytes self.old.types tag before U)
+            (GivesBlock F.code self.old.window.bytes self.new.window.bytes self.old.types
+            tag before U)
             (λ code. Refuses F.code self.old.window.bytes self.new.window.bytes
             (block_for (before + size self.old.types U) ∷ [])) }
     {

@@ -96,7 +96,10 @@ impl Entry {
     /// The value that an entry holds, if these entries hold values.
     pub fn value(self, start: u32, index: u32) -> Option<Place>
         ensures value { (t : ℕ) → self.held ≡ Held.Value t →
-            result ≡ Some (record { at = (start + index * self.size + self.before) % 2 ^ 32; type_id = t }) }
+            result ≡ Some (record {
+              at = (start + index * self.size + self.before) % 2 ^ 32;
+              type_id = t;
+            }) }
         ensures held { IfSome result (λ place. self.held ≡ Held.Value place.type_id) }
     {
         match self.held {

@@ -31,8 +31,10 @@ impl<F: Fit, A: Allocator> Heap<F, A> {
             IsHeap allocator self.old.window.bytes → to % 8 ≡ 0 →
             IsWithin self.old.window.bytes from (n * size self.old.types t) →
             StandsBeside self.old.window.bytes home to (n * size self.old.types t) blocks →
-            HoldsEach self.old.window.bytes self.old.types (items self.old.types from t n) vs blocks →
-            HoldsEach self.new.window.bytes self.old.types (items self.old.types to t n) vs blocks }
+            HoldsEach self.old.window.bytes self.old.types
+            (items self.old.types from t n) vs blocks →
+            HoldsEach self.new.window.bytes self.old.types
+            (items self.old.types to t n) vs blocks }
     {
         let entry = Content::object(&self.types, t).entry;
         self.shift_entries(entry, from, to, n);
@@ -42,14 +44,16 @@ impl<F: Fit, A: Allocator> Heap<F, A> {
     pub fn shift_entries(&mut self, entry: Entry, from: u32, to: u32, n: u32)
         ensures window { self.new.window ≡ with_bytes self.old.window self.new.window.bytes }
         ensures types { self.new.types ≡ self.old.types }
-        ensures text { entry.held ≡ Held.Bytes → IsWithin self.old.window.bytes from (n * entry.size) →
+        ensures text { entry.held ≡ Held.Bytes →
+            IsWithin self.old.window.bytes from (n * entry.size) →
             IsWithin self.old.window.bytes to (n * entry.size) →
             self.new.window.bytes ≡
             put self.old.window.bytes to (slice self.old.window.bytes from (n * entry.size)) }
         ensures shifted { (U before : ℕ) → IsEntryOf self.old.types before U entry →
             IsWithin self.old.window.bytes from (n * entry.size) →
             IsWithin self.old.window.bytes to (n * entry.size) →
-            Shifts self.old.window.bytes self.new.window.bytes self.old.types before U entry.size from to n }
+            Shifts self.old.window.bytes self.new.window.bytes self.old.types
+            before U entry.size from to n }
     {
         let bytes = (n as usize).saturating_mul(entry.size as usize);
         if !self.window.holds(from as usize, bytes) || !self.window.holds(to as usize, bytes) {

@@ -66,9 +66,9 @@ returns-then-fields-eq0-clause-cells g t c = λ within.
       | then-has_pointers w ↦
           let one = cell_of_type table valid T (c.has_pointers.ensures.cells ∙ w.if-has_pointers.true) (sym c.field_count-fields.ensures.count ∙ c.if-fields-eq0.true) in
           subst (λ b. ChangesCells IsDefaulted old b table c.args.place.at T) (sym (written c.args.w.now c.put64.new.self c.args.place.at c.if-has_pointers.cell 1 c.put64.ensures w.cell-is))
-              (empty_cell table valid T old c.args.place.at within one)
+          (empty_cell table valid T old c.args.place.at within one)
       | else-has_pointers w ↦
           let none = c.has_pointers.ensures.cells ∙ w.if-has_pointers.false in
           subst (λ b. ChangesCells IsDefaulted old b table c.args.place.at T) (sym (written c.args.w.now c.put64.new.self c.args.place.at c.if-has_pointers.cell 0 c.put64.ensures w.cell-is))
-              (zero_cell table valid T old c.args.place.at within none)
+          (zero_cell table valid T old c.args.place.at within none)
     ]

@@ -1,4 +1,4 @@
-use Rattle.std.proofs.Common.{arith, ◌-◌, ◌^◌, ◌<◌}
+use Rattle.std.proofs.Common.{arith}
 use Rattle.seg_check.proofs.image.Image.check_values.Goals as goal
 
 pub loop-turn-smaller : goal.loop-turn-smaller

@@ -1,5 +1,5 @@
 use Rattle.std.proofs.Common.{◌≡◌, ℕ, suc, ◌+◌, ap, ◌∙◌, sym, refl, Some, List, [], ◌∷◌, length}
-use Rattle.seg_spec.specs.Types.{Form, Table, size, fields_by, fields_from}
+use Rattle.seg_spec.specs.Types.{Table, size, fields_by, fields_from}
 use Rattle.seg_layout.specs.Forms.{form_of}
 use Rattle.seg_layout.proofs.table.TypeTable.field_count.Goals as goal
 

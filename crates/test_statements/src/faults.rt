@@ -1,0 +1,37 @@
+//! What the faults of images stand for.
+
+ghost use Rattle.std.specs.Prelude.{◌≡◌, ℕ, List, [], ◌∷◌};
+ghost use Rattle.seg_spec.specs.Types.{Form, Table};
+ghost use Rattle.seg_spec.specs.Sound.{IsSound};
+ghost use Rattle.seg_spec.specs.Fixtures.{counter, other_magic, odd_type, linked, lost_gap, two_owners, no_owner};
+ghost use Rattle.seg_check.specs.Faults.{IsImageOf, IsFaultOf, IsFaultOfOpening};
+
+use seg_raw::Fault;
+
+/// A sound image has one table of types and gets no fault, but where memory is refused.
+pub fn sound_images()
+    ensures sound { (bytes : List ℕ) (table : Table) → IsImageOf bytes table → IsSound bytes }
+    ensures table { (bytes : List ℕ) (table other : Table) →
+        IsImageOf bytes table → IsImageOf bytes other → table ≡ other }
+    ensures no_fault { (bytes : List ℕ) (fault : Fault) →
+        IsSound bytes → IsFaultOf bytes fault → fault ≡ Fault.Memory }
+{}
+
+/// Images with one fault each, and one with none.
+pub fn small_images()
+    ensures magic { IsFaultOf other_magic Fault.BadHeader }
+    ensures no_type { IsFaultOf other_magic (Fault.BadType 0) → ⊥ }
+    ensures odd_type { IsFaultOf odd_type (Fault.BadType 0) }
+    ensures block { IsFaultOf linked (Fault.BadBlock 704) }
+    ensures not_free { IsFaultOf linked (Fault.BadFree 24) → ⊥ }
+    ensures free { IsFaultOf lost_gap (Fault.BadFree 24) }
+    ensures not_block { IsFaultOf lost_gap (Fault.BadBlock 704) → ⊥ }
+    ensures owners { IsFaultOf two_owners (Fault.DoubleOwner 704) }
+    ensures unowned { IsFaultOf no_owner (Fault.Unowned 704) }
+    ensures none { (fault : Fault) → IsFaultOf counter fault → fault ≡ Fault.Memory }
+    ensures memory { IsFaultOf counter Fault.Memory }
+    ensures image { IsImageOf counter (Form.i64 ∷ []) }
+    ensures no_image { (table : Table) → IsImageOf no_owner table → ⊥ }
+    ensures other_allocator { IsFaultOfOpening 1 counter Fault.BadHeader }
+    ensures its_allocator { IsFaultOfOpening 0 counter Fault.BadHeader → ⊥ }
+{}
