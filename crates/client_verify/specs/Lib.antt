@@ -4,3 +4,4 @@ pub mod Verifiers
 pub mod Refusals
 pub mod Checking
 pub mod Steps
+pub mod Accepted

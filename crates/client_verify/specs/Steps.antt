@@ -1,7 +1,11 @@
 -- What the verifier's rule reads, as the definitions know it.
---     step_of rule     of an instruction
+--     step_of rule                     of an instruction
+--     types_of, before_of, instruction_in     the types, what is known in front of it, and itself
+use Rattle.seg_spec.specs.Types.{Table}
+use Rattle.client_code.specs.declared.instruction.Instruction.{Instruction}
 use Rattle.client_code.specs.Views.{place_of}
 use Rattle.client_code.specs.Checks.{checks_in}
+use Rattle.client_verify.specs.declared.registers.Registers.{Registers}
 use Rattle.client_verify.specs.declared.rule.Rule.{Rule}
 use Rattle.client_verify.specs.Views.{registers_of}
 use Rattle.client_verify.specs.Checking.{Step}
@@ -19,3 +23,12 @@ step_of rule = record {
   type_id = rule.type_id;
   constant = rule.constant;
 }
+
+abbrev pub types_of : Rule → Table
+types_of rule = rule.types.now
+
+abbrev pub before_of : Rule → Registers
+before_of rule = rule.before.now
+
+abbrev pub instruction_in : Rule → Instruction
+instruction_in rule = rule.instruction

@@ -44,13 +44,13 @@ impl<'a> Rule<'a> {
     ghost use Rattle.seg_layout.specs.Forms.{form_of};
     ghost use Rattle.client_verify.specs.Views.{class_of, known_of};
     ghost use Rattle.client_verify.specs.Checking.{referred, field_at, part_of, is_kind, is_kind_at, is_inside, is_lost, part_known, owned_by, otherwise_by, others, held, part as part_in, meets as meets_in, given as given_in, ended_in, checked_first, known_behind};
-    ghost use Rattle.client_verify.specs.Steps.{step_of};
+    ghost use Rattle.client_verify.specs.Steps.{types_of, before_of, instruction_in, step_of};
 
     /// The rule of an instruction, in front of which this is known.
     pub fn new(types: &'a TypeTable, before: &'a Registers, instruction: Instruction) -> Rule<'a>
-        ensures types { result.types.now ≡ types.now }
-        ensures before { result.before.now ≡ before.now }
-        ensures instruction { result.instruction ≡ instruction }
+        ensures types { types_of result ≡ types.now }
+        ensures before { before_of result ≡ before.now }
+        ensures instruction { instruction_in result ≡ instruction }
     {
         // a table is short, so that a byte of the number is the whole id of a type
         let _ = types.len();
@@ -66,8 +66,11 @@ impl<'a> Rule<'a> {
 
     /// What is known behind the instruction, or the first reason to reject it.
     pub fn apply(&self) -> Result<After, Reason>
-        ensures { (constants : List code.Constant) → IsInstruction self.now.types.now constants (definition self.now.instruction.operation).place (instruction_of self.now.instruction)
-            → checked both_of result ≡ rule_at self.now.types.now constants (instruction_of self.now.instruction) (registers_of self.now.before.now) }
+        ensures { (constants : List code.Constant) →
+            IsInstruction (types_of self.now) constants (definition (instruction_in self.now).operation).place
+            (instruction_of (instruction_in self.now)) →
+            checked both_of result ≡ rule_at (types_of self.now) constants
+            (instruction_of (instruction_in self.now)) (registers_of (before_of self.now)) }
     {
         self.check()?;
         Ok(self.after())

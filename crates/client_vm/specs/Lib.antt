@@ -1,2 +1,5 @@
 pub mod Moves
 pub mod Writes
+pub mod Sinks
+pub mod Runs
+pub mod Outcomes

@@ -2,12 +2,12 @@ ghost use Rattle.std.specs.Prelude.{IfOk, OnOk};
 ghost use Rattle.seg_spec.specs.Types.{IsTable, HasTable};
 ghost use Rattle.seg_spec.specs.Sound.{HasHeader};
 
-use crate::claims::{Claimed, Claims};
+use crate::claims::Claims;
 use crate::header::check_header;
-use seg_layout::{ENTRY, MAX_TYPES, TypeId, TypeTable};
+use crate::image::Image;
+use seg_layout::{ENTRY, MAX_TYPES, TypeTable};
 use seg_ptr::{Window, header};
 use seg_raw::Fault;
-use seg_value::Content;
 use std::alloc::Allocator;
 
 /// The types of a segment whose bytes are an image, or the first fault in this order: the header, the types, the
@@ -30,63 +30,15 @@ fn check_heap<A: Allocator, B: Allocator + Copy>(
     w: &Window<A>,
     types: &TypeTable,
 ) -> Result<(), Fault> {
-    let claims = Claims::new(alloc, w)?;
-    let mut checker = Checker { w, types, claims };
-    checker.check_tiles()?;
-    checker.check_free()?;
-    checker.check_index()?;
-    checker.check_uniques()?;
-    checker.check_values()?;
-    checker.check_owners()
-}
-
-/// An image whose header and types are right: its bytes, its types, and what is known of its blocks so far.
-#[derive(Drop)]
-pub(crate) struct Checker<'a, A: Allocator, B: Allocator> {
-    pub(crate) w: &'a Window<A>,
-    pub(crate) types: &'a TypeTable,
-    pub(crate) claims: Claims<B>,
-}
-
-impl<A: Allocator, B: Allocator> Checker<'_, A, B> {
-    /// The free structure of the image's allocator.
-    fn check_free(&self) -> Result<(), Fault> {
-        match self.w.get32(header::ALLOCATOR) {
-            0 => self.check_free_list(),
-            _ => self.check_free_tree(),
-        }
-    }
-
-    /// The words of the unique objects. No live block is an object of an unused type, so the word of such a type is null.
-    fn check_uniques(&mut self) -> Result<(), Fault> {
-        for t in 0..MAX_TYPES {
-            let word = header::UNIQUES + 4 * t;
-            if self.w.target(word).is_some() {
-                let content = Content::object(self.types, t as TypeId);
-                self.claim_entries(word as u32, &content, 1)?;
-            }
-        }
-        Ok(())
-    }
-
-    /// Each live block has an owner.
-    fn check_owners(&self) -> Result<(), Fault> {
-        match self.claims.first_unowned() {
-            Some(block) => Err(Fault::Unowned(block)),
-            None => Ok(()),
-        }
-    }
-
-    /// Claims the block that a pointer names, which has room for so many entries. Their cells are looked at later.
-    pub(crate) fn claim_entries(
-        &mut self,
-        pointer: u32,
-        content: &Content,
-        count: u32,
-    ) -> Result<u32, Fault> {
-        let size = u64::from(count) * u64::from(content.entry.size);
-        let start = self.claims.claim(self.w, pointer, content.tag, size)?;
-        self.claims.await_turn(Claimed { start, count })?;
-        Ok(start)
+    let mut claims = Claims::new(alloc, w)?;
+    let image = Image { w, types };
+    image.check_tiles(&mut claims)?;
+    image.check_free(&claims)?;
+    image.check_index(&mut claims)?;
+    image.check_uniques(&mut claims)?;
+    image.check_values(&mut claims)?;
+    match claims.first_unowned() {
+        Some(block) => Err(Fault::Unowned(block)),
+        None => Ok(()),
     }
 }

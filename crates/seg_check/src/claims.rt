@@ -1,32 +1,21 @@
+ghost use Rattle.std.specs.Prelude.{◌≡◌, ◌+◌, ◌^◌, ◌<◌, IfSome};
+
+use crate::marks::{Mark, Turn};
 use seg_block::{HEAP_START, Tag, UNIT, payload, tag_word};
 use seg_ptr::Window;
 use seg_raw::Fault;
 use std::alloc::{AllocError, Allocator};
 
-/// What is known of a unit of the heap.
-#[derive(Debug, Clone, Copy, PartialEq, Eq)]
-enum Mark {
-    /// No block begins here.
-    Inside,
-    Free,
-    /// A live block begins here, and nothing has claimed it so far.
-    Live,
-    Claimed,
-}
-
-/// A claimed block with values: where its payload begins, and how many entries it has.
-#[derive(Debug, Clone, Copy, PartialEq, Eq)]
-pub(crate) struct Claimed {
-    pub(crate) start: u32,
-    pub(crate) count: u32,
-}
-
 /// The blocks of a heap, which of them have an owner, and those whose values are still to be looked at.
 #[derive(Drop)]
 pub(crate) struct Claims<A: Allocator> {
     marks: Vec<Mark, A>,
+    /// How many blocks are free.
+    free: usize,
+    /// How many live blocks nothing has claimed so far.
+    unclaimed: usize,
     /// The claimed blocks with values, in the order of their claims.
-    queue: Vec<Claimed, A>,
+    queue: Vec<Turn, A>,
     /// How many of these have had their turn.
     taken: usize,
 }
@@ -40,29 +29,40 @@ impl<A: Allocator> Claims<A> {
         let units = (w.len().saturating_sub(HEAP_START) / UNIT) as usize;
         Ok(Claims {
             marks: Vec::from_elem(alloc, Mark::Inside, units)?,
+            free: 0,
+            unclaimed: 0,
             // a block has two units, and is claimed once
             queue: Vec::with_capacity(alloc, units / 2)?,
             taken: 0,
         })
     }
 
-    /// A block begins at this position.
+    /// A block begins at this position, which was not added before.
     pub(crate) fn add(&mut self, block: u32, is_live: bool) {
-        self.set_mark(block, if is_live { Mark::Live } else { Mark::Free });
+        if is_live {
+            self.set_mark(block, Mark::Live);
+            self.unclaimed = self.unclaimed.saturating_add(1);
+        } else {
+            self.set_mark(block, Mark::Free);
+            self.free = self.free.saturating_add(1);
+        }
     }
 
-    fn set_mark(&mut self, block: u32, new: Mark) {
+    fn set_mark(&mut self, block: u32, new: Mark)
+        ensures taken { self.new.taken ≡ self.old.taken }
+    {
         if let Some(unit) = unit_at(block) {
-            if let Some(mark) = self.marks.get_mut(unit) {
-                *mark = new;
+            if unit < self.marks.len() {
+                self.marks[unit] = new;
             }
         }
     }
 
     fn mark(&self, block: u32) -> Mark {
-        unit_at(block)
-            .and_then(|unit| self.marks.get(unit).copied())
-            .unwrap_or(Mark::Inside)
+        match unit_at(block) {
+            Some(unit) if unit < self.marks.len() => self.marks[unit],
+            _ => Mark::Inside,
+        }
     }
 
     /// Whether a free block begins at this position.
@@ -70,22 +70,22 @@ impl<A: Allocator> Claims<A> {
         self.mark(block) == Mark::Free
     }
 
-    pub(crate) fn count_free(&self) -> usize {
-        self.marks
-            .iter()
-            .filter(|mark| **mark == Mark::Free)
-            .count()
+    pub(crate) fn free_count(&self) -> usize {
+        self.free
     }
 
-    /// Claims the block that a pointer names, and answers where its payload begins. `BadPointer` where it isn't a live
-    /// block of this tag with `size` bytes of payload, then `DoubleOwner` where it was claimed before.
+    /// Claims the block that a pointer names, and returns where its payload begins. `BadPointer` where it isn't a live block
+    /// of this tag with `size` bytes of payload, then `DoubleOwner` where it was claimed before.
+    #[inline(always)]
     pub(crate) fn claim<B: Allocator>(
         &mut self,
         w: &Window<B>,
         pointer: u32,
         tag: Tag,
         size: u64,
-    ) -> Result<u32, Fault> {
+    ) -> Result<u32, Fault>
+        ensures taken { self.new.taken ≡ self.old.taken }
+    {
         let bad = Fault::BadPointer(pointer);
         let start = w.target(pointer as usize).ok_or(bad)?;
         let block = start.checked_sub(UNIT).ok_or(bad)?;
@@ -98,24 +98,32 @@ impl<A: Allocator> Claims<A> {
             return Err(Fault::DoubleOwner(block));
         }
         self.set_mark(block, Mark::Claimed);
+        self.unclaimed = self.unclaimed.saturating_sub(1);
         Ok(start)
     }
 
     /// Lets a claimed block wait for its turn.
-    pub(crate) fn await_turn(&mut self, claimed: Claimed) -> Result<(), Fault> {
-        self.queue.push(claimed).map_err(AllocError::from)?;
+    pub(crate) fn await_turn(&mut self, turn: Turn) -> Result<(), Fault>
+        ensures taken { self.new.taken ≡ self.old.taken }
+    {
+        self.queue.push(turn).map_err(AllocError::from)?;
         Ok(())
     }
 
     /// The next block in the order of the claims, each once.
-    pub(crate) fn next_turn(&mut self) -> Option<Claimed> {
+    pub(crate) fn next_turn(&mut self) -> Option<Turn>
+        ensures next { IfSome result (λ _. (self.old.taken < 2 ^ 64) × (self.new.taken ≡ self.old.taken + 1)) }
+    {
         let next = self.queue.get(self.taken).copied()?;
-        self.taken = self.taken.saturating_add(1);
+        self.taken += 1;
         Some(next)
     }
 
     /// The lowest live block without an owner.
     pub(crate) fn first_unowned(&self) -> Option<u32> {
+        if self.unclaimed == 0 {
+            return None;
+        }
         let mut block = HEAP_START;
         for mark in &self.marks {
             if *mark == Mark::Live {

@@ -1,10 +1,10 @@
-use crate::checker::Checker;
+use crate::image::Image;
 use seg_block::{HEAP_START, LINK, UNIT, block_at, is_live};
 use seg_ptr::{Window, header};
 use seg_raw::Fault;
 use std::alloc::Allocator;
 
-impl<A: Allocator, B: Allocator> Checker<'_, A, B> {
+impl<A: Allocator> Image<'_, A> {
     /// The list of sequential fit: each of its pointers names the next free block, and the last one none.
     pub(crate) fn check_free_list(&self) -> Result<(), Fault> {
         let w = self.w;

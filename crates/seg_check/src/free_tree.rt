@@ -1,4 +1,5 @@
-use crate::checker::Checker;
+use crate::claims::Claims;
+use crate::image::Image;
 use crate::walk::{Tree, Visit};
 use seg_block::{block_of, link, units};
 use seg_ptr::{Window, header};
@@ -9,19 +10,23 @@ use std::cmp::Ordering;
 /// The pointer to the root.
 const FREE: u32 = header::FREE as u32;
 
-impl<A: Allocator, B: Allocator> Checker<'_, A, B> {
+impl<A: Allocator> Image<'_, A> {
     /// The tree of best fit: all free blocks, in order of their units, then of their positions. None has a link.
-    pub(crate) fn check_free_tree(&self) -> Result<(), Fault> {
+    pub(crate) fn check_free_tree<B: Allocator>(&self, claims: &Claims<B>) -> Result<(), Fault> {
         let tree = Tree {
             root: FREE,
-            nodes: self.claims.count_free(),
+            nodes: claims.free_count(),
             fault: Fault::BadFree(FREE),
         };
+        let mut walk = tree.walk(self.w);
         let mut before = None;
-        for visit in tree.walk(self.w) {
-            if let Visit::Pass(node) = visit? {
+        while let Some(visit) = walk.next()? {
+            if let Visit::Pass(node) = visit {
                 let block = block_of(node);
-                if !self.is_unlinked(block) || !is_behind(self.w, before, block) {
+                if !claims.is_free(block)
+                    || link(self.w, block).is_some()
+                    || !is_above(self.w, before, block)
+                {
                     return Err(tree.fault);
                 }
                 before = Some(block);
@@ -29,15 +34,10 @@ impl<A: Allocator, B: Allocator> Checker<'_, A, B> {
         }
         Ok(())
     }
-
-    /// Whether a free block without a link begins at this position.
-    fn is_unlinked(&self, block: u32) -> bool {
-        self.claims.is_free(block) && link(self.w, block).is_none()
-    }
 }
 
-/// Whether a free block comes behind the one before it in the tree, if there is one.
-fn is_behind<A: Allocator>(w: &Window<A>, before: Option<u32>, block: u32) -> bool {
+/// Whether a free block is above the one before it in the tree, if there is one.
+fn is_above<A: Allocator>(w: &Window<A>, before: Option<u32>, block: u32) -> bool {
     let Some(before) = before else {
         return true;
     };

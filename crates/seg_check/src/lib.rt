@@ -6,12 +6,15 @@ mod claims;
 mod free_list;
 mod free_tree;
 mod header;
+mod image;
 mod index;
 mod lists;
 mod maps;
+mod marks;
 mod opening;
 mod saving;
 mod tiles;
+mod uniques;
 mod values;
 mod walk;
 

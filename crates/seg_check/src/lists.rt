@@ -1,41 +1,46 @@
-use crate::checker::Checker;
-use seg_ptr::Window;
+ghost use Rattle.std.specs.Prelude.{◌≡◌};
+
+use crate::claims::Claims;
+use crate::image::Image;
 use seg_raw::Fault;
-use seg_value::Content;
+use seg_value::{Content, LIST_LINKS};
 use std::alloc::Allocator;
 
-impl<A: Allocator, B: Allocator> Checker<'_, A, B> {
-    /// The list at a cell that names its first node and counts `n`: its nodes are claimed before the ring is looked at.
-    pub(crate) fn check_list(
-        &mut self,
+/// From a node to its pointer to the node before it, in bytes. The one to the next node comes first.
+const PREVIOUS: u32 = LIST_LINKS / 2;
+
+impl<A: Allocator> Image<'_, A> {
+    /// A list: its nodes along next, and then whether they are a ring, in which each is the one before the next.
+    pub(crate) fn check_list<B: Allocator>(
+        &self,
+        claims: &mut Claims<B>,
         content: &Content,
         cell: u32,
-        first: u32,
-        n: u32,
-    ) -> Result<(), Fault> {
-        let mut pointer = cell;
-        for _ in 0..n {
-            pointer = self.claim_entries(pointer, content, 1)?;
+    ) -> Result<(), Fault>
+        ensures taken { claims.new.taken ≡ claims.old.taken }
+    {
+        let Some(filled) = self.filled_nodes(cell)? else {
+            return Ok(());
+        };
+        let first = self.claim_entries(claims, cell, content, 1)?;
+        let mut last = first;
+        let mut is_linked = true;
+        for _ in 1..filled.count {
+            let next = self.claim_entries(claims, last, content, 1)?;
+            is_linked = is_linked && self.is_previous(last, next);
+            last = next;
         }
-        if is_ring(self.w, first, n) {
+        let is_closed = self.w.target(last as usize) == Some(first)
+            && self.is_previous(last, first);
+        if is_linked && is_closed {
             Ok(())
         } else {
             Err(Fault::BadValue(cell))
         }
     }
-}
 
-/// Whether `n` nodes from a first one on are a closed ring, in which each is the one before the next.
-fn is_ring<A: Allocator>(w: &Window<A>, first: u32, n: u32) -> bool {
-    let mut node = first;
-    for _ in 0..n {
-        let Some(next) = w.target(node as usize) else {
-            return false;
-        };
-        if w.target(next as usize + 4) != Some(node) {
-            return false;
-        }
-        node = next;
+    /// Whether a node is the one before another, as that one says.
+    fn is_previous(&self, node: u32, next: u32) -> bool {
+        self.w.target(next.wrapping_add(PREVIOUS) as usize) == Some(node)
     }
-    node == first
 }

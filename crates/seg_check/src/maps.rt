@@ -1,37 +1,56 @@
-use crate::checker::Checker;
+ghost use Rattle.std.specs.Prelude.{◌≡◌};
+
+use crate::claims::Claims;
+use crate::image::Image;
 use crate::walk::{Tree, Visit};
 use seg_raw::Fault;
 use seg_value::{Content, KEY};
 use std::alloc::Allocator;
 
-impl<A: Allocator, B: Allocator> Checker<'_, A, B> {
-    /// The flat map of `n` entries at a cell: its buffer, and then the order of its keys.
-    pub(crate) fn check_flat_map(
-        &mut self,
+impl<A: Allocator> Image<'_, A> {
+    /// A flat map: its buffer, and then the order of its keys.
+    pub(crate) fn check_flat_map<B: Allocator>(
+        &self,
+        claims: &mut Claims<B>,
         content: &Content,
         cell: u32,
-        n: u32,
-    ) -> Result<(), Fault> {
-        let start = self.claim_entries(cell, content, n)?;
+    ) -> Result<(), Fault>
+        ensures taken { claims.new.taken ≡ claims.old.taken }
+    {
+        let Some(filled) = self.filled(cell)? else {
+            return Ok(());
+        };
+        let start = self.claim_entries(claims, cell, content, filled.count)?;
         let mut keys = Keys::new();
-        for index in 0..n {
+        for index in 0..filled.count {
             keys.add(self.key(content.entry.value_at(start, index)));
         }
         keys.check(cell)
     }
 
-    /// The map of `n` nodes at a cell: its nodes, and then the tree and the order of its keys.
-    pub(crate) fn check_map(&mut self, content: &Content, cell: u32, n: u32) -> Result<(), Fault> {
+    /// A map: its nodes, and then the tree and the order of its keys.
+    pub(crate) fn check_map<B: Allocator>(
+        &self,
+        claims: &mut Claims<B>,
+        content: &Content,
+        cell: u32,
+    ) -> Result<(), Fault>
+        ensures taken { claims.new.taken ≡ claims.old.taken }
+    {
+        let Some(filled) = self.filled_nodes(cell)? else {
+            return Ok(());
+        };
         let tree = Tree {
             root: cell,
-            nodes: n as usize,
+            nodes: filled.count as usize,
             fault: Fault::BadValue(cell),
         };
+        let mut walk = tree.walk(self.w);
         let mut keys = Keys::new();
-        for visit in tree.walk(self.w) {
-            match visit? {
+        while let Some(visit) = walk.next()? {
+            match visit {
                 Visit::Enter(pointer) => {
-                    self.claim_entries(pointer, content, 1)?;
+                    self.claim_entries(claims, pointer, content, 1)?;
                 }
                 Visit::Pass(node) => keys.add(self.key(content.entry.value_at(node, 0))),
             }

@@ -1,9 +1,9 @@
-use crate::checker::Checker;
+use crate::claims::Claims;
+use crate::image::Image;
 use seg_block::{HEAP_START, Kind, Tag, UNIT, is_live, link, tag_word, units, units_before};
-use seg_layout::TypeTable;
+use seg_layout::{Type, TypeTable};
 use seg_ptr::Window;
 use seg_raw::Fault;
-use seg_value::Content;
 use std::alloc::Allocator;
 
 /// The block before the one at hand.
@@ -13,10 +13,10 @@ struct Before {
     is_live: bool,
 }
 
-impl<A: Allocator, B: Allocator> Checker<'_, A, B> {
-    /// The blocks, one behind the other to the end of the image: each with at least two units, the units of the one
+impl<A: Allocator> Image<'_, A> {
+    /// The blocks, one after the other to the end of the image: each with at least two units, the units of the one
     /// before, a tag that the types allow, and if it is live no link; and no two free ones side by side.
-    pub(crate) fn check_tiles(&mut self) -> Result<(), Fault> {
+    pub(crate) fn check_tiles<B: Allocator>(&self, claims: &mut Claims<B>) -> Result<(), Fault> {
         let w = self.w;
         let end = w.len();
         let mut at = HEAP_START;
@@ -30,7 +30,7 @@ impl<A: Allocator, B: Allocator> Checker<'_, A, B> {
                 return Err(Fault::BadBlock(at));
             }
             let is_live = is_live(w, at);
-            self.claims.add(at, is_live);
+            claims.add(at, is_live);
             before = Before { units, is_live };
             at += UNIT * units;
         }
@@ -55,11 +55,11 @@ fn is_block<A: Allocator>(w: &Window<A>, types: &TypeTable, block: u32, before: 
 
 /// Whether a live block may have this tag.
 fn is_live_tag(types: &TypeTable, tag: Tag) -> bool {
+    let kind = types.kind(tag.type_id);
     match tag.kind {
-        Kind::Named | Kind::Object => types.kind(tag.type_id).is_some(),
-        Kind::Buffer | Kind::Node => {
-            Content::of(types, tag.type_id).is_some_and(|content| content.tag == tag)
-        }
+        Kind::Named | Kind::Object => kind.is_some(),
+        Kind::Buffer => matches!(kind, Some(Type::Str | Type::Vec(_) | Type::FlatMap(_))),
+        Kind::Node => matches!(kind, Some(Type::List(_) | Type::Map(_))),
         Kind::IndexBuffer | Kind::IndexNode => tag.type_id == 0,
     }
 }

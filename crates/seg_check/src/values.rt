@@ -1,76 +1,144 @@
-use crate::checker::Checker;
-use crate::claims::Claimed;
-use seg_block::{Kind, Tag, UNIT, block_of, tag_word};
-use seg_layout::{Cell, Type, TypeId};
+ghost use Rattle.std.specs.Prelude.{◌≡◌};
+
+use crate::claims::Claims;
+use crate::image::Image;
+use crate::marks::Turn;
+use seg_block::{Kind, Tag, block_of, tag_word};
+use seg_layout::Type;
 use seg_raw::Fault;
-use seg_value::{Content, Entry, Shape, count};
+use seg_value::{Content, Entry, Place, count};
 use std::alloc::Allocator;
 
-impl<A: Allocator, B: Allocator> Checker<'_, A, B> {
+/// A cell that isn't empty: where the payload begins that it names, and how many entries or nodes it counts.
+#[derive(Debug, Clone, Copy, PartialEq, Eq)]
+pub(crate) struct Filled {
+    pub(crate) start: u32,
+    pub(crate) count: u32,
+}
+
+impl<A: Allocator> Image<'_, A> {
     /// The values in the claimed blocks, and in the blocks that their cells claim.
-    pub(crate) fn check_values(&mut self) -> Result<(), Fault> {
-        // there are fewer blocks than units
-        for _ in 0..self.w.len() / UNIT {
-            let Some(claimed) = self.claims.next_turn() else {
-                break;
-            };
-            self.check_block(claimed)?;
+    pub(crate) fn check_values<B: Allocator>(&self, claims: &mut Claims<B>) -> Result<(), Fault> {
+        while let Some(turn) = claims.next_turn() {
+            self.check_block(claims, turn)?;
         }
         Ok(())
     }
 
-    fn check_block(&mut self, claimed: Claimed) -> Result<(), Fault> {
-        let Some(entry) = self.entry_of(block_of(claimed.start)) else {
+    /// The values in a claimed block.
+    fn check_block<B: Allocator>(&self, claims: &mut Claims<B>, turn: Turn) -> Result<(), Fault>
+        ensures taken { claims.new.taken ≡ claims.old.taken }
+    {
+        let Some(entry) = self.entry_of(block_of(turn.start)) else {
             return Ok(());
         };
-        let Some(item) = entry.item else {
-            return Ok(());
-        };
-        let cells = self.types.pointers(item);
-        for index in 0..claimed.count {
-            self.check_cells(cells.as_slice(), entry.value_at(claimed.start, index))?;
+        for index in 0..turn.count {
+            if let Some(value) = entry.value(turn.start, index) {
+                self.check_value(claims, value)?;
+            }
         }
         Ok(())
     }
 
-    /// What stands in a block, if values do.
+    /// What stands in a claimed block that waited for its turn.
     fn entry_of(&self, block: u32) -> Option<Entry> {
         let tag = Tag::read(tag_word(self.w, block))?;
         let content = match tag.kind {
             Kind::Named => Content::object(self.types, tag.type_id),
-            _ => Content::of_block(self.types, tag)?,
+            Kind::Object | Kind::Buffer | Kind::Node | Kind::IndexBuffer | Kind::IndexNode => {
+                Content::of_block(self.types, tag)?
+            }
         };
         Some(content.entry)
     }
 
-    /// The cells of the value at a position.
-    fn check_cells(&mut self, cells: &[Cell], at: u32) -> Result<(), Fault> {
-        for cell in cells {
-            self.check_cell(cell.type_id, at.wrapping_add(cell.from))?;
+    /// The cells of a value, by ascending position. A struct's are those of its fields, which have lower types, so this
+    /// recurses no deeper than the table is long.
+    fn check_value<B: Allocator>(&self, claims: &mut Claims<B>, value: Place) -> Result<(), Fault>
+        ensures taken { claims.new.taken ≡ claims.old.taken }
+    {
+        if !self.types.has_pointers(value.type_id) {
+            return Ok(());
+        }
+        let fields = self.types.field_count(value.type_id);
+        if fields == 0 {
+            return self.check_cell(claims, value);
+        }
+        for index in 0..fields {
+            if let Some(field) = self.types.field(value.type_id, index) {
+                self.check_value(claims, value.part(field))?;
+            }
         }
         Ok(())
     }
 
     /// A cell, and the blocks that it names, which it claims.
-    fn check_cell(&mut self, t: TypeId, cell: u32) -> Result<(), Fault> {
-        let Some(content) = Content::of(self.types, t) else {
+    fn check_cell<B: Allocator>(&self, claims: &mut Claims<B>, place: Place) -> Result<(), Fault>
+        ensures taken { claims.new.taken ≡ claims.old.taken }
+    {
+        let (Some(kind), Some(content)) = (
+            self.types.kind(place.type_id),
+            Content::of(self.types, place.type_id),
+        ) else {
             return Ok(());
         };
-        let n = count(self.w, cell);
-        match (self.w.target(cell as usize), n) {
-            (_, n) if n > 1 && content.shape == Shape::Object => Err(Fault::BadValue(cell)),
-            (None, 0) => Ok(()),
+        match kind {
+            Type::I64 | Type::Struct(_) => Ok(()),
+            Type::Str | Type::Vec(_) => self.check_buffer(claims, &content, place.at),
+            Type::FlatMap(_) => self.check_flat_map(claims, &content, place.at),
+            Type::List(_) => self.check_list(claims, &content, place.at),
+            Type::Map(_) => self.check_map(claims, &content, place.at),
+            Type::Own(_) => self.check_own(claims, &content, place.at),
+        }
+    }
+
+    /// A string or a vector: its buffer.
+    fn check_buffer<B: Allocator>(
+        &self,
+        claims: &mut Claims<B>,
+        content: &Content,
+        cell: u32,
+    ) -> Result<(), Fault>
+        ensures taken { claims.new.taken ≡ claims.old.taken }
+    {
+        if let Some(filled) = self.filled(cell)? {
+            self.claim_entries(claims, cell, content, filled.count)?;
+        }
+        Ok(())
+    }
+
+    /// An own: its object.
+    fn check_own<B: Allocator>(
+        &self,
+        claims: &mut Claims<B>,
+        content: &Content,
+        cell: u32,
+    ) -> Result<(), Fault>
+        ensures taken { claims.new.taken ≡ claims.old.taken }
+    {
+        if count(self.w, cell) > 1 {
+            return Err(Fault::BadValue(cell));
+        }
+        if self.filled_nodes(cell)?.is_some() {
+            self.claim_entries(claims, cell, content, 1)?;
+        }
+        Ok(())
+    }
+
+    /// What a cell names and counts, if it isn't empty. `BadPointer` where it counts something and names nothing.
+    pub(crate) fn filled(&self, cell: u32) -> Result<Option<Filled>, Fault> {
+        match (self.w.target(cell as usize), count(self.w, cell)) {
+            (None, 0) => Ok(None),
             (None, _) => Err(Fault::BadPointer(cell)),
-            (Some(_), 0) if content.shape != Shape::Buffer => Err(Fault::BadValue(cell)),
-            (Some(first), n) => match self.types.kind(t) {
-                Some(Type::FlatMap(_)) => self.check_flat_map(&content, cell, n),
-                Some(Type::Map(_)) => self.check_map(&content, cell, n),
-                Some(Type::List(_)) => self.check_list(&content, cell, first, n),
-                _ => {
-                    self.claim_entries(cell, &content, n)?;
-                    Ok(())
-                }
-            },
+            (Some(start), count) => Ok(Some(Filled { start, count })),
+        }
+    }
+
+    /// The same of a cell that counts all blocks that it names: `BadValue` where it names one and counts none.
+    pub(crate) fn filled_nodes(&self, cell: u32) -> Result<Option<Filled>, Fault> {
+        match self.filled(cell)? {
+            Some(Filled { count: 0, .. }) => Err(Fault::BadValue(cell)),
+            filled => Ok(filled),
         }
     }
 }

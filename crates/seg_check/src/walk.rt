@@ -1,19 +1,16 @@
-ghost use Rattle.std.specs.Iterator.{at_most};
+ghost use Rattle.std.specs.Prelude.{◌≡◌, ◌<◌, OnOk};
 
 use arrayvec::ArrayVec;
 use seg_block::UNIT;
 use seg_ptr::Window;
 use seg_raw::Fault;
+use seg_rbtree::{Colour, Side, child_word, node_colour};
 use std::alloc::Allocator;
 
-/// No node stands below so many others.
+/// The most nodes on a way down a tree. An image holds fewer than 2^26 nodes, so a red-black tree of them has at most 52 on
+/// a way. The tree's own paths are longer, since they bound trees of 2^32 nodes; which way is too long for an image is
+/// part of its format.
 const DEPTH: usize = 60;
-
-/// From a node's pointer to its left child to that to its right child, in bytes.
-const RIGHT: u32 = 4;
-
-/// The colour of a red node. Black is 0.
-const RED: u32 = 1;
 
 /// A tree as it is to be.
 #[derive(Debug, Clone, Copy)]
@@ -21,26 +18,26 @@ pub(crate) struct Tree {
     /// The position of the pointer to its root.
     pub(crate) root: u32,
     pub(crate) nodes: usize,
-    /// The answer where it isn't a red-black tree of so many nodes.
+    /// The fault where it isn't a red-black tree of so many nodes.
     pub(crate) fault: Fault,
 }
 
 impl Tree {
     /// A walk through the tree. It ends with the tree's fault where there is one: at once before a node that would stand
-    /// too deep, else behind the last node.
+    /// too deep, else after the last node.
     pub(crate) fn walk<A: Allocator>(self, w: &Window<A>) -> Walk<'_, A> {
         Walk {
             w,
             tree: self,
             turns: w.len() / UNIT,
-            place: Place {
-                pointer: self.root,
-                depth: 0,
+            pointer: self.root,
+            above: Above {
+                nodes: 0,
                 blacks: 0,
                 // a root is black
-                below_red: true,
+                is_red: true,
             },
-            rights: ArrayVec::new(),
+            entered: ArrayVec::new(),
             nodes: 0,
             height: None,
             is_red_black: true,
@@ -57,17 +54,22 @@ pub(crate) enum Visit {
     Pass(u32),
 }
 
-/// A place in a tree, where a node stands or none.
+/// What is above a place in a tree.
 #[derive(Debug, Clone, Copy, Default)]
-struct Place {
-    /// The position of the pointer that leads there.
-    pointer: u32,
-    /// How many nodes are above it.
-    depth: usize,
+struct Above {
+    /// How many nodes.
+    nodes: u8,
     /// How many of these are black.
-    blacks: usize,
-    /// Whether a node there has to be black.
-    below_red: bool,
+    blacks: u8,
+    /// Whether the nearest one is red, so that a node at the place has to be black.
+    is_red: bool,
+}
+
+/// A node that was entered and not passed, and what is above its children.
+#[derive(Debug, Clone, Copy, Default)]
+struct Entered {
+    node: u32,
+    above: Above,
 }
 
 /// A walk through a tree, from left to right.
@@ -77,41 +79,34 @@ pub(crate) struct Walk<'w, A: Allocator> {
     tree: Tree,
     /// More turns than the walk of a tree in this segment takes: two for each node, and one.
     turns: u32,
-    place: Place,
-    /// The places to the right of the nodes that were entered and not passed.
-    rights: ArrayVec<Place, DEPTH>,
+    /// The position of the pointer that leads to the place where the walk is.
+    pointer: u32,
+    above: Above,
+    /// The nodes to the left of the place and above it.
+    entered: ArrayVec<Entered, DEPTH>,
     /// How many nodes were entered.
     nodes: usize,
     /// How many black nodes are above the empty places, once one was met.
-    height: Option<usize>,
+    height: Option<u8>,
     /// Whether what was met so far may be of a red-black tree.
     is_red_black: bool,
 }
 
-impl<A: Allocator> Iterator for Walk<'_, A> {
-    type Item = Result<Visit, Fault>;
-
-    ghost remaining = { λ s. at_most s.turns };
-
-    fn next(&mut self) -> Option<Result<Visit, Fault>> {
-        let left = self.turns.checked_sub(1)?;
-        let visit = match left {
-            0 => Err(self.tree.fault),
-            _ => self.step(),
-        };
-        self.turns = left;
-        visit.transpose()
-    }
-}
-
 impl<A: Allocator> Walk<'_, A> {
-    fn step(&mut self) -> Result<Option<Visit>, Fault> {
-        let pointer = self.place.pointer;
+    /// What the walk comes to next, until it has come to the end.
+    pub(crate) fn next(&mut self) -> Result<Option<Visit>, Fault>
+        ensures fewer { OnOk result (self.new.turns < self.old.turns) }
+    {
+        if self.turns == 0 {
+            return Err(self.tree.fault);
+        }
+        self.turns -= 1;
+        let pointer = self.pointer;
         if let Some(node) = self.w.target(pointer as usize) {
             self.enter(node)?;
             return Ok(Some(Visit::Enter(pointer)));
         }
-        let passed = self.leave();
+        let passed = self.pass();
         if passed.is_some() || self.is_right() {
             Ok(passed.map(Visit::Pass))
         } else {
@@ -120,42 +115,48 @@ impl<A: Allocator> Walk<'_, A> {
     }
 
     /// Goes on from the node at the place to its left part.
-    fn enter(&mut self, node: u32) -> Result<(), Fault> {
-        let colour = self.w.get32(node as usize + 8);
-        let zero = self.w.get32(node as usize + 12);
-        let is_red = colour == RED;
-        let below = Place {
-            pointer: node,
-            depth: self.place.depth.saturating_add(1),
-            blacks: self.place.blacks.saturating_add(usize::from(!is_red)),
-            below_red: is_red,
+    fn enter(&mut self, node: u32) -> Result<(), Fault>
+        ensures turns { self.new.turns ≡ self.old.turns }
+    {
+        let colour = node_colour(self.w, node);
+        let is_red = colour == Some(Colour::Red);
+        let above = Above {
+            nodes: self.above.nodes.saturating_add(1),
+            blacks: self.above.blacks.saturating_add(u8::from(!is_red)),
+            is_red,
         };
-        let right = Place {
-            pointer: node.wrapping_add(RIGHT),
-            ..below
-        };
-        if self.place.depth >= DEPTH || self.rights.try_push(right).is_err() {
+        let is_deep = usize::from(self.above.nodes) >= DEPTH;
+        if is_deep || self.entered.try_push(Entered { node, above }).is_err() {
             return Err(self.tree.fault);
         }
-        let is_right = colour <= RED && zero == 0 && !(is_red && self.place.below_red);
+        let is_right = colour.is_some() && !(is_red && self.above.is_red);
         self.is_red_black = self.is_red_black && is_right;
         self.nodes = self.nodes.saturating_add(1);
-        self.place = below;
+        self.pointer = child_pointer(node, Side::Left);
+        self.above = above;
         Ok(())
     }
 
-    /// Goes on from an empty place to the right part of the next node in order, and answers this node.
-    fn leave(&mut self) -> Option<u32> {
-        let blacks = self.place.blacks;
+    /// Goes on from an empty place to the right part of the next node in order, and returns this node.
+    fn pass(&mut self) -> Option<u32>
+        ensures turns { self.new.turns ≡ self.old.turns }
+    {
+        let blacks = self.above.blacks;
         self.is_red_black = self.is_red_black && self.height.is_none_or(|height| height == blacks);
         self.height = Some(blacks);
-        let right = self.rights.pop()?;
-        self.place = right;
-        Some(right.pointer.wrapping_sub(RIGHT))
+        let Entered { node, above } = self.entered.pop()?;
+        self.pointer = child_pointer(node, Side::Right);
+        self.above = above;
+        Some(node)
     }
 
     /// Whether the tree is as it is to be, once all of it was walked.
     fn is_right(&self) -> bool {
         self.is_red_black && self.nodes == self.tree.nodes
     }
+}
+
+/// The position of the pointer to a child. A node that lies in the segment has one.
+fn child_pointer(node: u32, side: Side) -> u32 {
+    u32::try_from(child_word(node, side)).unwrap_or(u32::MAX)
 }

@@ -9,9 +9,20 @@ use std::alloc::Allocator;
 /// The bytes of an entry.
 pub const ENTRY: u32 = 8;
 
-/// An entry of the index.
+/// The tag of a named object's block.
+pub fn named_tag(type_id: TypeId) -> Tag
+    ensures kind { result.kind ≡ Kind.Named }
+    ensures type_id { result.type_id ≡ type_id }
+{
+    Tag {
+        kind: Kind::Named,
+        type_id,
+    }
+}
+
+/// What the index has of a name.
 #[derive(Debug, Clone, Copy, PartialEq, Eq)]
-pub struct Entry {
+pub struct NameEntry {
     /// The first payload byte of the named object's block, if the entry names one.
     pub object: Option<u32>,
     /// How many values the object has.
@@ -22,10 +33,10 @@ pub struct Entry {
     pub zero: u8,
 }
 
-impl Entry {
+impl NameEntry {
     /// The entry of an object of `count` values, whose name has `name_len` bytes.
-    pub fn new(object: u32, count: u16, name_len: u8) -> Entry {
-        Entry {
+    pub fn new(object: u32, count: u16, name_len: u8) -> NameEntry {
+        NameEntry {
             object: Some(object),
             count,
             name_len,
@@ -34,9 +45,9 @@ impl Entry {
     }
 
     /// The entry at a position.
-    pub fn read<A: Allocator>(w: &Window<A>, at: usize) -> Entry {
+    pub fn read<A: Allocator>(w: &Window<A>, at: usize) -> NameEntry {
         let [low, high, name_len, zero] = w.get32(at.saturating_add(4)).to_le_bytes();
-        Entry {
+        NameEntry {
             object: w.target(at),
             count: u16::from_le_bytes([low, high]),
             name_len,
@@ -66,7 +77,7 @@ impl Entry {
         }
     }
 
-    /// The bytes of the object's values, where each has `size` bytes. The name stands behind them.
+    /// The bytes of the object's values, where each has `size` bytes. The name stands after them.
     pub fn values_len(&self, size: u32) -> usize
         ensures { result < 2 ^ 48 }
     {

@@ -1,21 +1,30 @@
+ghost use Rattle.std.specs.Prelude.{◌≡◌};
+ghost use Rattle.seg_spec.specs.Window.{with_bytes};
+
 use crate::segment::Segment;
-use seg_block::{Fit, block_of};
+use seg_block::Fit;
 use seg_layout::TypeId;
 use seg_raw::Code;
-use seg_value::{Content, destroy, new_block};
+use seg_value::Content;
 use std::alloc::Allocator;
 
 /// Objects without a name, which whoever made them must own or destroy.
 impl<F: Fit, A: Allocator> Segment<F, A> {
-    /// Makes an object with the default value of a type, and answers where it is. `BadAlloc` where there is no room; then
-    /// nothing changes.
-    pub fn new_anonymous(&mut self, t: TypeId) -> Result<u32, Code> {
-        let content = Content::object(&self.types, t);
-        new_block::<F, A>(&mut self.window, &self.types, &content)
+    /// Makes an object with the default value of a type, and returns the value's position. `BadAlloc` where there is no
+    /// room; then nothing changes.
+    pub fn new_anonymous(&mut self, t: TypeId) -> Result<u32, Code>
+        ensures window { self.new.window ≡ with_bytes self.old.window self.new.window.bytes }
+        ensures types { self.new.types ≡ self.old.types }
+    {
+        let content = Content::object(self.types(), t);
+        self.heap_mut().new_block(&content)
     }
 
     /// Destroys an object that no pointer names, given by the position of its value, with all that it owns.
-    pub fn destroy_anonymous(&mut self, at: u32) {
-        destroy::<F, A>(&mut self.window, &self.types, block_of(at));
+    pub fn destroy_anonymous(&mut self, object: u32)
+        ensures window { self.new.window ≡ with_bytes self.old.window self.new.window.bytes }
+        ensures types { self.new.types ≡ self.old.types }
+    {
+        self.heap_mut().destroy(object);
     }
 }

@@ -1,9 +1,12 @@
+ghost use Rattle.std.specs.Prelude.{◌≡◌};
+ghost use Rattle.seg_spec.specs.Window.{with_bytes};
+
 use crate::segment::Segment;
-use seg_block::{Fit, Kind, Tag, UNIT, block_of, need};
-use seg_index::{Entry, add, find, first_name, name_count, next_name, remove};
+use seg_block::{Fit, Kind, Tag, UNIT, need};
+use seg_index::{NameEntry, Vacant, find, first_name, look_up, name_count, next_name};
 use seg_layout::TypeId;
 use seg_raw::Code;
-use seg_value::{clear, init_default};
+use seg_value::Place;
 use std::alloc::Allocator;
 
 /// The most bytes of a name.
@@ -44,32 +47,52 @@ impl<'a> Name<'a> {
 
 /// Named objects.
 impl<F: Fit, A: Allocator> Segment<F, A> {
-    /// Makes an object of `count` default values, and answers where the first one is. `OutOfRange` where the name is none
-    /// or the count isn't from 1 to 65535, `AlreadyExists` where an object has the name, `BadAlloc` where there is no room
-    /// for the object or its entry in the index; then nothing changes.
-    pub fn construct(&mut self, name: &[u8], t: TypeId, count: u32) -> Result<u32, Code> {
+    /// Makes an object of `count` default values, and returns the position of the first one. `OutOfRange` where the name is
+    /// none or the count isn't from 1 to 65535, `AlreadyExists` where an object has the name, `BadAlloc` where there is no
+    /// room for the object or its entry in the index; then nothing changes.
+    pub fn construct(&mut self, name: &[u8], t: TypeId, count: u32) -> Result<u32, Code>
+        ensures window { self.new.window ≡ with_bytes self.old.window self.new.window.bytes }
+        ensures types { self.new.types ≡ self.old.types }
+    {
         let count = u16::try_from(count).map_err(|_| Code::OutOfRange)?;
         let name = Name::of(name).ok_or(Code::OutOfRange)?;
         if count == 0 {
             return Err(Code::OutOfRange);
         }
-        if find(&self.window, &self.types, name.bytes).is_some() {
-            return Err(Code::AlreadyExists);
+        match look_up(self.heap(), name.bytes) {
+            Ok(_) => Err(Code::AlreadyExists),
+            Err(vacant) => self.construct_at(vacant, name, t, count),
         }
-        let object = self.new_named(name, t, count)?;
-        let added = add::<F, A>(&mut self.window, &self.types, object, count, name.len);
-        if added.is_err() {
-            F::free(&mut self.window, block_of(object));
-        }
-        added.map(|_| object)
     }
 
-    /// A block for the object of a name, with default values and the name behind them.
-    fn new_named(&mut self, name: Name, t: TypeId, count: u16) -> Result<u32, Code> {
-        let size = self.types.size(t);
+    /// Makes the object of a name that the index doesn't have, and enters it there.
+    fn construct_at(
+        &mut self,
+        vacant: Vacant,
+        name: Name,
+        t: TypeId,
+        count: u16,
+    ) -> Result<u32, Code>
+        ensures window { self.new.window ≡ with_bytes self.old.window self.new.window.bytes }
+        ensures types { self.new.types ≡ self.old.types }
+    {
+        let object = self.new_named(name, t, count)?;
+        let entered = vacant.insert(self.heap_mut(), object, count, name.len);
+        if entered.is_err() {
+            self.heap_mut().free_block(object);
+        }
+        entered.map(|()| object)
+    }
+
+    /// A block for the object of a name, with default values and the name after them.
+    fn new_named(&mut self, name: Name, t: TypeId, count: u16) -> Result<u32, Code>
+        ensures window { self.new.window ≡ with_bytes self.old.window self.new.window.bytes }
+        ensures types { self.new.types ≡ self.old.types }
+    {
+        let size = self.types().size(t);
         let values = u32::from(count).saturating_mul(size);
         let units = need(values.saturating_add(u32::from(name.len)));
-        let w = &mut self.window;
+        let w = self.heap_mut().window_mut();
         let block = F::allocate(w, units).ok_or(Code::BadAlloc)?;
         let tag = Tag {
             kind: Kind::Named,
@@ -77,18 +100,24 @@ impl<F: Fit, A: Allocator> Segment<F, A> {
         };
         tag.write(w, block);
         let object = block.wrapping_add(UNIT);
-        for i in 0..u32::from(count) {
-            init_default(w, &self.types, t, object.wrapping_add(i.wrapping_mul(size)));
-        }
         w.copy_in(object as usize + values as usize, name.bytes);
+        for index in 0..count {
+            let value = value_of(object, t, size, index);
+            self.heap_mut().init_default(value);
+        }
         Ok(object)
     }
 
     /// The object of a name. `Absent` where there is none, `OtherType` where it has another type.
     pub fn find(&self, name: &[u8], t: TypeId) -> Result<Found, Code> {
-        let entry = find(&self.window, &self.types, name).ok_or(Code::Absent)?;
+        let entry = find(self.heap(), name).ok_or(Code::Absent)?;
+        self.found(entry, t)
+    }
+
+    /// The object of an entry. `OtherType` where it has another type.
+    fn found(&self, entry: NameEntry, t: TypeId) -> Result<Found, Code> {
         let at = entry.object.ok_or(Code::Absent)?;
-        if entry.type_id(&self.window) != Some(t) {
+        if entry.type_id(self.window()) != Some(t) {
             return Err(Code::OtherType);
         }
         Ok(Found {
@@ -97,64 +126,79 @@ impl<F: Fit, A: Allocator> Segment<F, A> {
         })
     }
 
-    /// Where the first value of a name's object is. An object of one default value is made where there is none.
+    /// The position of the first value of a name's object. An object of one default value is made where there is none.
     /// `OutOfRange` where the name is none, `OtherType` where its object has another type, `BadAlloc` where there is no room.
-    pub fn find_or_construct(&mut self, name: &[u8], t: TypeId) -> Result<u32, Code> {
-        match self.find(name, t) {
-            Ok(found) => Ok(found.at),
-            Err(Code::Absent) => self.construct(name, t, 1),
-            Err(code) => Err(code),
+    pub fn find_or_construct(&mut self, name: &[u8], t: TypeId) -> Result<u32, Code>
+        ensures window { self.new.window ≡ with_bytes self.old.window self.new.window.bytes }
+        ensures types { self.new.types ≡ self.old.types }
+    {
+        match look_up(self.heap(), name) {
+            Ok(occupied) => Ok(self.found(occupied.entry(), t)?.at),
+            Err(vacant) => {
+                let name = Name::of(name).ok_or(Code::OutOfRange)?;
+                self.construct_at(vacant, name, t, 1)
+            }
         }
     }
 
     /// Destroys the object of a name, with all that its values own. False where there is none of this type.
-    pub fn destroy(&mut self, name: &[u8], t: TypeId) -> bool {
-        if self.find(name, t).is_err() {
+    pub fn destroy(&mut self, name: &[u8], t: TypeId) -> bool
+        ensures window { self.new.window ≡ with_bytes self.old.window self.new.window.bytes }
+        ensures types { self.new.types ≡ self.old.types }
+    {
+        let Ok(occupied) = look_up(self.heap(), name) else {
             return false;
-        }
-        match remove::<F, A>(&mut self.window, &self.types, name) {
-            Some(entry) => {
-                self.destroy_named(entry, t);
-                true
-            }
-            None => false,
-        }
+        };
+        let Ok(found) = self.found(occupied.entry(), t) else {
+            return false;
+        };
+        occupied.remove(self.heap_mut());
+        self.destroy_named(found, t);
+        true
     }
 
     /// Destroys a named object whose entry is out of the index.
-    fn destroy_named(&mut self, entry: Entry, t: TypeId) {
-        let Some(object) = entry.object else {
-            return;
-        };
-        let size = self.types.size(t);
-        for i in 0..u32::from(entry.count) {
-            let value = object.wrapping_add(i.wrapping_mul(size));
-            clear::<F, A>(&mut self.window, &self.types, t, value);
+    fn destroy_named(&mut self, found: Found, t: TypeId)
+        ensures window { self.new.window ≡ with_bytes self.old.window self.new.window.bytes }
+        ensures types { self.new.types ≡ self.old.types }
+    {
+        let size = self.types().size(t);
+        for index in 0..found.count {
+            let value = value_of(found.at, t, size, index);
+            self.heap_mut().clear(value);
         }
-        F::free(&mut self.window, block_of(object));
+        self.heap_mut().free_block(found.at);
     }
 
     /// How many names there are.
     pub fn num_named(&self) -> u32 {
-        name_count(&self.window)
+        name_count(self.window())
     }
 
     /// The least name.
     pub fn first_name(&self) -> Option<Named<'_>> {
-        self.named(first_name(&self.window)?)
+        self.named(first_name(self.heap())?)
     }
 
     /// The least name above another one, which need not be there.
     pub fn next_name(&self, after: &[u8]) -> Option<Named<'_>> {
-        self.named(next_name(&self.window, &self.types, after)?)
+        self.named(next_name(self.heap(), after)?)
     }
 
     /// What an entry says.
-    fn named(&self, entry: Entry) -> Option<Named<'_>> {
+    fn named(&self, entry: NameEntry) -> Option<Named<'_>> {
         Some(Named {
-            name: entry.name(&self.window, &self.types),
-            type_id: entry.type_id(&self.window)?,
+            name: entry.name(self.window(), self.types()),
+            type_id: entry.type_id(self.window())?,
             count: entry.count,
         })
+    }
+}
+
+/// A value of an object, by its index. Each has `size` bytes.
+fn value_of(object: u32, type_id: TypeId, size: u32, index: u16) -> Place {
+    Place {
+        at: object.wrapping_add(u32::from(index).wrapping_mul(size)),
+        type_id,
     }
 }

@@ -5,8 +5,9 @@ use seg_index::{IndexKind, set_unique};
 use seg_layout::{ENTRY, MAX_TYPES, TypeId, TypeTable};
 use seg_ptr::{MAX_LEN, Window, header};
 use seg_raw::{Fault, Region};
+use seg_value::Heap;
 use std::alloc::Allocator;
-use std::marker::PhantomData;
+use std::marker::Model;
 
 /// The fewest bytes that a segment has: the header and tables, and a block of two units.
 pub const MIN_LEN: u32 = 736;
@@ -16,9 +17,15 @@ pub const MIN_LEN: u32 = 736;
 /// return.
 #[derive(Drop)]
 pub struct Segment<F: Fit, A: Allocator> {
-    pub window: Window<A>,
-    pub types: TypeTable,
-    fit: PhantomData<F>,
+    heap: Heap<F, A>,
+}
+
+impl<F: Fit, A: Allocator> Model for Segment<F, A> {
+    ghost use Rattle.seg_value.specs.Stored.{Stored};
+
+    ghost Value = { Stored };
+
+    ghost view = { λ segment. segment.heap };
 }
 
 impl<F: Fit, A: Allocator> Segment<F, A> {
@@ -28,10 +35,40 @@ impl<F: Fit, A: Allocator> Segment<F, A> {
         ensures types { result.types ≡ types }
     {
         Segment {
-            window,
-            types,
-            fit: PhantomData,
+            heap: Heap::new(window, types),
         }
+    }
+
+    /// The values of the segment.
+    pub fn heap(&self) -> &Heap<F, A>
+        ensures { result.now ≡ self.now }
+    {
+        &self.heap
+    }
+
+    ghost use Rattle.std.specs.Borrow.{Lends, sem};
+    ghost use Rattle.seg_value.specs.contracts.heap.Heap as the_heap;
+    ghost use Rattle.seg_manager.specs.contracts.segment.Segment.{the_row};
+
+    /// The values of the segment, to change.
+    pub fn heap_mut(&mut self) -> &mut Heap<F, A>
+        ensures value { result.now ≡ self.old }
+        ensures* writes_back { sem 𝓛 (Lends (the_row F.row A.row F.Fit A.Allocator) (the_heap.the_row F.row A.row F.Fit A.Allocator) self.entry result
+            (λ heap. heap)) }
+    {
+        &mut self.heap
+    }
+
+    pub fn window(&self) -> &Window<A>
+        ensures { result.now ≡ self.now.window }
+    {
+        self.heap.window()
+    }
+
+    pub fn types(&self) -> &TypeTable
+        ensures { result.now ≡ self.now.types }
+    {
+        self.heap.types()
     }
 
     /// An empty segment of `size` bytes at a base of a region: all zero but for its header and a heap of one gap. The region
@@ -53,22 +90,27 @@ impl<F: Fit, A: Allocator> Segment<F, A> {
 
     /// Adds the types of a longer table, in the bytes too. `TypeMismatch` where both tables have an entry that differs.
     pub fn add_types(&mut self, types: &TypeTable) -> Result<(), Fault> {
-        self.types = self.types.extends(types)?;
-        for t in 0..MAX_TYPES {
-            let entry = self.types.entry(t as TypeId);
-            self.window.copy_in(header::TYPES + ENTRY * t, &entry);
-        }
+        let types = self.types().extends(types)?;
+        write_types(self.heap.window_mut(), &types);
+        self.heap.set_types(types);
         Ok(())
     }
 
     pub fn into_region(self) -> Region<A> {
-        self.window.into_region()
+        self.heap.into_window().into_region()
     }
 }
 
 /// Whether a segment may have so many bytes.
 pub(crate) fn is_size(size: u32) -> bool {
     (MIN_LEN..=MAX_LEN).contains(&size) && size % UNIT == 0
+}
+
+/// Writes a table of types into the image.
+fn write_types<A: Allocator>(w: &mut Window<A>, types: &TypeTable) {
+    for t in 0..MAX_TYPES {
+        w.copy_in(header::TYPES + ENTRY * t, &types.entry(t as TypeId));
+    }
 }
 
 /// Writes the image of an empty segment.

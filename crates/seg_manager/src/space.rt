@@ -21,7 +21,7 @@ impl Gaps {
             if !is_live(w, at) {
                 gaps.add(UNIT * block.units);
             }
-            at = behind(block);
+            at = end_of(block);
         }
         gaps
     }
@@ -33,8 +33,8 @@ impl Gaps {
     }
 }
 
-/// Where the block behind a block begins.
-fn behind(block: Block) -> u32
+/// Where a block ends.
+fn end_of(block: Block) -> u32
     requires { block.at + 16 * block.units ≤ 2 ^ 30 }
     ensures { result ≡ block.at + 16 * block.units }
 {
@@ -45,23 +45,23 @@ fn behind(block: Block) -> u32
 impl<F: Fit, A: Allocator> Segment<F, A> {
     /// The bytes of all gaps, with their headers.
     pub fn free_memory(&self) -> u32 {
-        Gaps::of(&self.window).total
+        Gaps::of(self.window()).total
     }
 
     /// The bytes of the largest gap, with its header.
     pub fn largest_gap(&self) -> u32 {
-        Gaps::of(&self.window).largest
+        Gaps::of(self.window()).largest
     }
 
     /// Whether one gap is the whole heap.
     pub fn all_memory_deallocated(&self) -> bool {
-        let heap = self.window.len().saturating_sub(HEAP_START);
-        Gaps::of(&self.window).largest == heap
+        let heap = self.window().len().saturating_sub(HEAP_START);
+        Gaps::of(self.window()).largest == heap
     }
 
     /// Writes 0 to each byte of the gaps that holds no header and that the allocator doesn't use.
     pub fn zero_free_memory(&mut self) {
-        let w = &mut self.window;
+        let w = self.heap_mut().window_mut();
         let end = w.len();
         let mut at = HEAP_START;
         while at < end {
@@ -71,12 +71,12 @@ impl<F: Fit, A: Allocator> Segment<F, A> {
             if !is_live(w, at) {
                 zero_payload::<F, A>(w, block);
             }
-            at = behind(block);
+            at = end_of(block);
         }
     }
 }
 
-/// Writes 0 to the payload of a free block, behind what the allocator keeps there.
+/// Writes 0 to the payload of a free block, after what the allocator keeps there.
 fn zero_payload<F: Fit, A: Allocator>(w: &mut Window<A>, block: Block)
     requires { block.at + 16 * block.units ≤ 2 ^ 30 }
 {

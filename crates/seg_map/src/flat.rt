@@ -1,131 +1,125 @@
 //! A flat map: a buffer of entries {key, value} in order of their keys.
 
-use crate::key::key_at;
+ghost use Rattle.std.specs.Prelude.{◌≡◌};
+ghost use Rattle.seg_spec.specs.Window.{with_bytes};
+
 use seg_block::Fit;
-use seg_layout::TypeTable;
-use seg_ptr::Window;
 use seg_raw::Code;
-use seg_value::{
-    Content, Entry, clear, count, init_default, reserve, set_count, shift_entries, start, store,
-};
+use seg_value::{Content, Entry, Heap, binary_search};
 use std::alloc::Allocator;
 
-/// Where a search for a key ended: at the entry of the key, or where one would stand.
-#[derive(Debug, Clone, Copy, PartialEq, Eq)]
-enum Slot {
-    Found(u32),
-    Missing(u32),
+/// The index of a key's entry, or the index where one would stand.
+fn search<F: Fit, A: Allocator>(
+    heap: &Heap<F, A>,
+    entry: Entry,
+    cell: u32,
+    key: i64,
+) -> Result<u32, u32> {
+    let entries = heap.start(cell);
+    binary_search(heap.count(cell), |index| {
+        heap.load(entry.at(entries, index)).cmp(&key)
+    })
 }
 
-/// Looks for a key, by halves.
-fn search<A: Allocator>(w: &Window<A>, entry: Entry, cell: u32, key: i64) -> Slot {
-    let entries = start(w, cell);
-    let mut low = 0;
-    let mut high = count(w, cell);
-    while low < high {
-        let middle = low + (high - low) / 2;
-        let other = key_at(w, entry.at(entries, middle));
-        if other == key {
-            return Slot::Found(middle);
-        }
-        if other < key {
-            low = middle + 1;
-        } else {
-            high = middle;
-        }
-    }
-    Slot::Missing(low)
+/// The position of a key's value.
+pub(crate) fn get<F: Fit, A: Allocator>(
+    heap: &Heap<F, A>,
+    entry: Entry,
+    cell: u32,
+    key: i64,
+) -> Option<u32> {
+    let index = search(heap, entry, cell, key).ok()?;
+    Some(entry.value_at(heap.start(cell), index))
 }
 
-/// Where the value of a key is.
-pub(crate) fn get<A: Allocator>(w: &Window<A>, entry: Entry, cell: u32, key: i64) -> Option<u32> {
-    match search(w, entry, cell, key) {
-        Slot::Found(index) => Some(entry.value_at(start(w, cell), index)),
-        Slot::Missing(_) => None,
-    }
-}
-
-/// Where the value of a key is, which is added if it is missing.
+/// The position of a key's value, which is added if it is missing.
 pub(crate) fn put<F: Fit, A: Allocator>(
-    w: &mut Window<A>,
-    table: &TypeTable,
+    heap: &mut Heap<F, A>,
     content: &Content,
     cell: u32,
     key: i64,
-) -> Result<u32, Code> {
-    let entry = content.entry;
-    let index = match search(w, entry, cell, key) {
-        Slot::Found(index) => return Ok(entry.value_at(start(w, cell), index)),
-        Slot::Missing(index) => index,
-    };
-    let kept = count(w, cell);
-    let len = kept.saturating_add(1);
-    reserve::<F, A>(w, table, content, cell, len)?;
-    let entries = start(w, cell);
-    let (place, next) = (
-        entry.at(entries, index),
-        entry.at(entries, index.saturating_add(1)),
-    );
-    shift_entries(w, table, entry, place, next, kept.saturating_sub(index));
-    set_count(w, cell, len);
-    store(w, place, key);
-    let value = entry.value_at(entries, index);
-    if let Some(item) = entry.item {
-        init_default(w, table, item, value);
+) -> Result<u32, Code>
+    ensures window { heap.new.window ≡ with_bytes heap.old.window heap.new.window.bytes }
+    ensures types { heap.new.types ≡ heap.old.types }
+{
+    match search(heap, content.entry, cell, key) {
+        Ok(index) => Ok(content.entry.value_at(heap.start(cell), index)),
+        Err(index) => insert(heap, content, cell, index, key),
     }
-    Ok(value)
 }
 
-/// Removes a key with its value, and closes the gap.
+/// Adds a key with a default value at its place in the order, and returns the position of the value.
+fn insert<F: Fit, A: Allocator>(
+    heap: &mut Heap<F, A>,
+    content: &Content,
+    cell: u32,
+    index: u32,
+    key: i64,
+) -> Result<u32, Code>
+    ensures window { heap.new.window ≡ with_bytes heap.old.window heap.new.window.bytes }
+    ensures types { heap.new.types ≡ heap.old.types }
+{
+    let at = heap.open_entry(content, cell, index)?;
+    heap.store(at, key);
+    if let Some(value) = content.entry.value(at, 0) {
+        heap.init_default(value);
+    }
+    Ok(content.entry.value_at(at, 0))
+}
+
+/// Removes a key with its value, and closes the gap. False where the map doesn't have the key.
 pub(crate) fn remove<F: Fit, A: Allocator>(
-    w: &mut Window<A>,
-    table: &TypeTable,
+    heap: &mut Heap<F, A>,
     content: &Content,
     cell: u32,
     key: i64,
-) -> bool {
-    let entry = content.entry;
-    let Slot::Found(index) = search(w, entry, cell, key) else {
+) -> bool
+    ensures window { heap.new.window ≡ with_bytes heap.old.window heap.new.window.bytes }
+    ensures types { heap.new.types ≡ heap.old.types }
+{
+    let Ok(index) = search(heap, content.entry, cell, key) else {
         return false;
     };
-    let entries = start(w, cell);
-    if let Some(item) = entry.item {
-        clear::<F, A>(w, table, item, entry.value_at(entries, index));
+    if let Some(value) = content.entry.value(heap.start(cell), index) {
+        heap.clear(value);
     }
-    let last = count(w, cell).saturating_sub(1);
-    let (place, next) = (
-        entry.at(entries, index),
-        entry.at(entries, index.saturating_add(1)),
-    );
-    shift_entries(w, table, entry, next, place, last.saturating_sub(index));
-    set_count(w, cell, last);
+    heap.close_entry(content, cell, index);
     true
 }
 
 /// The key of an entry, if the map has so many.
-fn key_of<A: Allocator>(w: &Window<A>, entry: Entry, cell: u32, index: u32) -> Option<i64> {
-    if index < count(w, cell) {
-        Some(key_at(w, entry.at(start(w, cell), index)))
+fn key_of<F: Fit, A: Allocator>(
+    heap: &Heap<F, A>,
+    entry: Entry,
+    cell: u32,
+    index: u32,
+) -> Option<i64> {
+    if index < heap.count(cell) {
+        Some(heap.load(entry.at(heap.start(cell), index)))
     } else {
         None
     }
 }
 
 /// The least key.
-pub(crate) fn first_key<A: Allocator>(w: &Window<A>, entry: Entry, cell: u32) -> Option<i64> {
-    key_of(w, entry, cell, 0)
+pub(crate) fn first_key<F: Fit, A: Allocator>(
+    heap: &Heap<F, A>,
+    entry: Entry,
+    cell: u32,
+) -> Option<i64> {
+    key_of(heap, entry, cell, 0)
 }
 
 /// The least key above another.
-pub(crate) fn next_key<A: Allocator>(
-    w: &Window<A>,
+pub(crate) fn next_key<F: Fit, A: Allocator>(
+    heap: &Heap<F, A>,
     entry: Entry,
     cell: u32,
     after: i64,
 ) -> Option<i64> {
-    let index = match search(w, entry, cell, after) {
-        Slot::Found(index) => index.saturating_add(1),
-        Slot::Missing(index) => index,
+    let index = match search(heap, entry, cell, after) {
+        Ok(index) => index.saturating_add(1),
+        Err(index) => index,
     };
-    key_of(w, entry, cell, index)
+    key_of(heap, entry, cell, index)
 }

@@ -6,17 +6,16 @@ ghost use Rattle.std.specs.Cmp.{on_total, int_cmp_total};
 ghost use Rattle.std.proofs.Common.{arith, inl, inr, ⊎_elim};
 ghost use Rattle.std.proofs.lemmas.Bool.{cases_lt};
 ghost use Rattle.seg_spec.specs.Bytes.{signed, signed_long};
+ghost use Rattle.seg_spec.specs.Window.{with_bytes};
 ghost use Rattle.seg_spec.proofs.BytesLaws.{number-slice};
 ghost use Rattle.seg_spec.proofs.OrderSteps.{steps_up};
 ghost use Rattle.seg_rbtree.specs.Parts.{part};
 
-use crate::key::key_at;
 use seg_block::Fit;
-use seg_layout::TypeTable;
 use seg_ptr::Window;
 use seg_raw::Code;
 use seg_rbtree::{NodeOrder, TREE_WORDS, Tree};
-use seg_value::{Content, Entry, block_of, clear, count, new_block, set_count, store};
+use seg_value::{Content, Entry, Heap};
 use std::alloc::Allocator;
 use std::cmp::Ordering;
 
@@ -57,70 +56,86 @@ fn key_place(node: u32) -> u32
     node.wrapping_add(TREE_WORDS)
 }
 
+#[tactic(auto, unfolding(seg_spec::specs::Bytes::signed))]
 fn key_of<A: Allocator>(w: &Window<A>, node: u32) -> i64
     ensures { result ≡ signed_long w.now.bytes ((node + 16) % 2 ^ 32) }
 {
-    key_at(w, key_place(node))
+    w.get64(key_place(node) as usize).cast_signed()
 }
 
 fn tree_of(cell: u32) -> Tree {
     Tree::new(cell as usize)
 }
 
-/// Where the value of a key is.
-pub(crate) fn get<A: Allocator>(w: &Window<A>, entry: Entry, cell: u32, key: i64) -> Option<u32> {
-    let node = tree_of(cell).find(w, &ByKey, key)?;
+/// The position of a key's value.
+pub(crate) fn get<F: Fit, A: Allocator>(
+    heap: &Heap<F, A>,
+    entry: Entry,
+    cell: u32,
+    key: i64,
+) -> Option<u32> {
+    let node = tree_of(cell).find(heap.window(), &ByKey, key)?;
     Some(entry.value_at(node, 0))
 }
 
-/// Where the value of a key is, which is added if it is missing.
+/// The position of a key's value, which is added if it is missing.
 pub(crate) fn put<F: Fit, A: Allocator>(
-    w: &mut Window<A>,
-    table: &TypeTable,
+    heap: &mut Heap<F, A>,
     content: &Content,
     cell: u32,
     key: i64,
-) -> Result<u32, Code> {
-    if let Some(value) = get(w, content.entry, cell, key) {
-        return Ok(value);
+) -> Result<u32, Code>
+    ensures window { heap.new.window ≡ with_bytes heap.old.window heap.new.window.bytes }
+    ensures types { heap.new.types ≡ heap.old.types }
+{
+    let path = tree_of(cell).path_to_key(heap.window(), &ByKey, key);
+    if let Some(node) = path.node(heap.window()) {
+        return Ok(content.entry.value_at(node, 0));
     }
-    let node = new_block::<F, A>(w, table, content)?;
-    store(w, key_place(node), key);
-    tree_of(cell).insert(w, &ByKey, node);
-    let nodes = count(w, cell).saturating_add(1);
-    set_count(w, cell, nodes);
+    let node = heap.new_block(content)?;
+    heap.store(key_place(node), key);
+    path.insert(heap.window_mut(), node);
+    let nodes = heap.count(cell).saturating_add(1);
+    heap.set_count(cell, nodes);
     Ok(content.entry.value_at(node, 0))
 }
 
-/// Removes a key with its value.
+/// Removes a key with its value. False where the map doesn't have the key.
 pub(crate) fn remove<F: Fit, A: Allocator>(
-    w: &mut Window<A>,
-    table: &TypeTable,
+    heap: &mut Heap<F, A>,
     content: &Content,
     cell: u32,
     key: i64,
-) -> bool {
-    let Some(node) = tree_of(cell).find(w, &ByKey, key) else {
+) -> bool
+    ensures window { heap.new.window ≡ with_bytes heap.old.window heap.new.window.bytes }
+    ensures types { heap.new.types ≡ heap.old.types }
+{
+    let path = tree_of(cell).path_to_key(heap.window(), &ByKey, key);
+    let Some(node) = path.node(heap.window()) else {
         return false;
     };
-    tree_of(cell).remove(w, &ByKey, node);
-    let nodes = count(w, cell).saturating_sub(1);
-    set_count(w, cell, nodes);
-    if let Some(item) = content.entry.item {
-        clear::<F, A>(w, table, item, content.entry.value_at(node, 0));
+    path.remove(heap.window_mut());
+    let nodes = heap.count(cell).saturating_sub(1);
+    heap.set_count(cell, nodes);
+    if let Some(value) = content.entry.value(node, 0) {
+        heap.clear(value);
     }
-    F::free(w, block_of(node));
+    heap.free_block(node);
     true
 }
 
 /// The least key.
-pub(crate) fn first_key<A: Allocator>(w: &Window<A>, cell: u32) -> Option<i64> {
-    let node = tree_of(cell).first(w)?;
-    Some(key_of(w, node))
+pub(crate) fn first_key<F: Fit, A: Allocator>(heap: &Heap<F, A>, cell: u32) -> Option<i64> {
+    let node = tree_of(cell).first(heap.window())?;
+    Some(key_of(heap.window(), node))
 }
 
 /// The least key above another.
-pub(crate) fn next_key<A: Allocator>(w: &Window<A>, cell: u32, after: i64) -> Option<i64> {
-    let node = tree_of(cell).next_after(w, &ByKey, after)?;
-    Some(key_of(w, node))
+pub(crate) fn next_key<F: Fit, A: Allocator>(
+    heap: &Heap<F, A>,
+    cell: u32,
+    after: i64,
+) -> Option<i64> {
+    let node = tree_of(cell).next_after(heap.window(), &ByKey, after)?;
+    Some(key_of(heap.window(), node))
 }

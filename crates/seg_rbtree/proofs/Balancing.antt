@@ -55,7 +55,8 @@ pub record IsBalancedAt (tree : Tree) (layers : List Layer) : Type 0 where
   pub wants : Wants layers height
   pub top : IsBlack tree ⊎ IsBelowBlack layers
 
-unplug_step : (side : Side) (at : ℕ) (colour : Colour) (tree other : Tree) (layers : List Layer) → IsBalancedAt (branch side at colour tree other) layers → IsBalancedAt tree (record { side = side; at = at; colour = colour; other = other } ∷ layers)
+unplug_step : (side : Side) (at : ℕ) (colour : Colour) (tree other : Tree) (layers : List Layer) → IsBalancedAt (branch side at colour tree other) layers
+    → IsBalancedAt tree (record { side = side; at = at; colour = colour; other = other } ∷ layers)
 unplug_step side at black tree other layers h =
     let p = black-parts side at tree other h.height h.balanced in
     record {
@@ -82,7 +83,8 @@ balanced-down tree [] r = record { height = r.height; balanced = r.balanced; wan
 balanced-down tree (layer ∷ layers) r =
     unplug_step layer.side layer.at layer.colour tree layer.other layers (balanced-down (grow layer tree) layers r)
 
-plug_step : (side : Side) (at : ℕ) (colour : Colour) (tree other : Tree) (layers : List Layer) → IsBalancedAt tree (record { side = side; at = at; colour = colour; other = other } ∷ layers) → IsBalancedAt (branch side at colour tree other) layers
+plug_step : (side : Side) (at : ℕ) (colour : Colour) (tree other : Tree) (layers : List Layer) → IsBalancedAt tree (record { side = side; at = at; colour = colour; other = other } ∷ layers)
+    → IsBalancedAt (branch side at colour tree other) layers
 plug_step side at black tree other layers h = record {
   height = suc h.height;
   balanced = balanced-black side at tree other h.height h.balanced h.wants.0;

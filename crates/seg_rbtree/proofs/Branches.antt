@@ -29,7 +29,8 @@ branch-parts bytes (Some p) Right at colour near far h = record {
   far_hangs = subst (λ q. IsTree bytes (target bytes q) far) (sym h.0) h.2;
 }
 
-pub branch-whole : (bytes : List ℕ) (side : Side) (at : ℕ) (colour : Colour) (near far : Tree) → HasColour bytes at colour → IsTree bytes (target bytes (side_word at side)) near → IsTree bytes (target bytes (side_word at (opposite side))) far → IsTree bytes (Some at) (branch side at colour near far)
+pub branch-whole : (bytes : List ℕ) (side : Side) (at : ℕ) (colour : Colour) (near far : Tree) → HasColour bytes at colour → IsTree bytes (target bytes (side_word at side)) near
+    → IsTree bytes (target bytes (side_word at (opposite side))) far → IsTree bytes (Some at) (branch side at colour near far)
 branch-whole bytes Left at colour near far c n f = (refl, c, n, f)
 branch-whole bytes Right at colour near far c n f = (refl, c, f, n)
 

@@ -12,8 +12,9 @@ use Rattle.seg_spec.proofs.Frame.{each_left, each_right}
 use Rattle.seg_rbtree.specs.declared.node.Side.{Side}
 use Rattle.seg_rbtree.specs.declared.node.Side.TheVariants.{Left, Right}
 use Rattle.seg_rbtree.specs.declared.path.Step.{Step}
+use Rattle.seg_rbtree.specs.declared.path.Path.{Path}
 use Rattle.seg_rbtree.specs.Nodes.{with_new_node}
-use Rattle.seg_rbtree.specs.Ways.{Layer, branch, grow, plug, place, steps_of, last_word, LeadBy, EndsAt, IsWayTo}
+use Rattle.seg_rbtree.specs.Ways.{Layer, branch, grow, plug, place, steps_of, last_word, LeadBy, EndsAt, LeadsTo}
 use Rattle.seg_rbtree.specs.Changes.{StandApart, IsNew, with_node, KeepsBeside, Leaves}
 use Rattle.seg_rbtree.specs.Balance.{Wants}
 use Rattle.seg_rbtree.specs.Rising.{IsRising, IsSettled, Settles}
@@ -86,7 +87,7 @@ module _ (order : ℕ → ℕ → Ordering) (total : IsTotalOrder order) (old : 
     abbrev leafy : Tree
     leafy = fork leaf node red leaf
 
-    start_at : (steps : List Step) (layers : List Layer) → plug leaf layers ≡ shape → steps ≡ steps_of layers → LeadBy order node layers
+    start_at : (steps : List Step) (layers : List Layer) → plug leaf layers ≡ shape → steps ≡ steps_of layers → LeadBy (order node) layers
         → IsGrowing old (set_pointer (with_new_node old node) (last_word root steps) (Some node)) root nodes steps (Some node) 0
     start_at steps layers whole e leads =
         let at : place root layers ≡ last_word root steps = sym (ap (last_word root) e ∙ last_word-steps root layers) in
@@ -119,12 +120,14 @@ module _ (order : ℕ → ℕ → Ordering) (total : IsTotalOrder order) (old : 
           );
         })
 
-    start_below : (steps : List Step) (layers : List Layer) (rest : Tree) → plug rest layers ≡ shape → steps ≡ steps_of layers → LeadBy order node layers → EndsAt order node rest → AllByRecursion (λ x. order node x ≢ Equal) (nodes_of rest)
+    start_below : (steps : List Step) (layers : List Layer) (rest : Tree) → plug rest layers ≡ shape → steps ≡ steps_of layers → LeadBy (order node) layers → EndsAt (order node) rest
+        → AllByRecursion (λ x. order node x ≢ Equal) (nodes_of rest)
         → IsGrowing old (set_pointer (with_new_node old node) (last_word root steps) (Some node)) root nodes steps (Some node) 0
     start_below steps layers leaf whole e leads ends new = start_at steps layers whole e leads
     start_below steps layers (fork left at colour right) whole e leads ends new = absurd ((each_right _ (nodes_of left) (at ∷ nodes_of right) new).0 ends)
 
     -- the new node stands, red, at the place that the order leads to
-    pub growing_start : (steps : List Step) → IsNew order node (nodes_of shape) → IsWayTo order node shape steps → IsGrowing old (set_pointer (with_new_node old node) (last_word root steps) (Some node)) root nodes steps (Some node) 0
-    growing_start steps new w =
-        start_below steps w.layers w.rest w.shape_is w.steps_are w.leads w.ends (each-down _ w.rest w.layers (subst (λ s. IsNew order node (nodes_of s)) (sym w.shape_is) new))
+    pub growing_start : (path : Path) → IsNew order node (nodes_of shape) → LeadsTo (order node) shape path
+        → IsGrowing old (set_pointer (with_new_node old node) (last_word root path.steps.items) (Some node)) root nodes path.steps.items (Some node) 0
+    growing_start path new w =
+        start_below path.steps.items w.layers w.rest w.shape_is w.steps_are w.leads w.ends (each-down _ w.rest w.layers (subst (λ s. IsNew order node (nodes_of s)) (sym w.shape_is) new))

@@ -155,7 +155,8 @@ here_apart bytes path layers tree s = apart-down (length bytes) path.root tree l
 same_some : (o : Option ℕ) (x y : ℕ) → o ≡ Some x → o ≡ Some y → x ≡ y
 same_some o x y e f = cc
 
-module _ (bytes one two new : List ℕ) (path : Path) (side : Side) (node up : ℕ) (colour other : Colour) (layers : List Layer) (x m d : Tree) (upper lower : Paint) (s : StandsAt bytes path layers (branch side node colour x (branch side up other m d))) where
+module _ (bytes one two new : List ℕ) (path : Path) (side : Side) (node up : ℕ) (colour other : Colour) (layers : List Layer) (x m d : Tree) (upper lower : Paint)
+    (s : StandsAt bytes path layers (branch side node colour x (branch side up other m d))) where
   -- the two that change places are painted
   pub both_painted : (read : ℕ) → target bytes (side_word node (opposite side)) ≡ Some read → one ≡ rotated bytes (last_word path.root path.steps.items) node side → two ≡ with_colour one read upper → new ≡ with_colour two node lower
       → Turns bytes new path.root (plug (branch side node colour x (branch side up other m d)) layers) (plug (branch side up (shade upper) (branch side node (shade lower) x m) d) layers)
@@ -170,7 +171,8 @@ module _ (bytes one two new : List ℕ) (path : Path) (side : Side) (node up : �
       let is : new ≡ with_colour (with_colour (rotated bytes at node side) up upper) node lower =
       e3 ∙ ap (λ b. with_colour b node lower) (e2 ∙ ap (λ p. with_colour one p upper) same ∙ ap (λ b. with_colour b up upper) (e1 ∙ ap (λ q. rotated bytes q node side) w)) in
       turned_at bytes new path layers (branch side node colour x (branch side up other m d)) (branch side up (shade upper) (branch side node (shade lower) x m) d) s
-      (subst (λ b. Turns bytes b at (branch side node colour x (branch side up other m d)) (branch side up (shade upper) (branch side node (shade lower) x m) d)) (sym is) (turned_painted bytes at side node up colour other x m d upper lower h a))
+      (subst (λ b. Turns bytes b at (branch side node colour x (branch side up other m d)) (branch side up (shade upper) (branch side node (shade lower) x m) d)) (sym is)
+      (turned_painted bytes at side node up colour other x m d upper lower h a))
 
 -- the node beside comes up in the colour of the one above both
 pub came_up : (bytes one two new : List ℕ) (path : Path) (side : Side) (node read : ℕ) (top : Paint) → top ≡ colour_at bytes (Some node) → target bytes (side_word node (opposite side)) ≡ Some read
@@ -182,17 +184,20 @@ came_up bytes one two new path side node read top et er e1 e2 e3 layers x m d up
     subst (λ c. Turns bytes new path.root (plug (branch side node colour x (branch side up other m d)) layers) (plug (branch side up c (branch side node black x m) d) layers)) tint
     (both_painted bytes one two new path side node up colour other layers x m d top Black s read er e1 e2 e3)
 
-pub sibling_named : (bytes : List ℕ) (path : Path) (layers : List Layer) (side : Side) (node up : ℕ) (colour other : Colour) (x m d : Tree) → StandsAt bytes path layers (branch side node colour x (branch side up other m d)) → target bytes (side_word node (opposite side)) ≡ Some up
+pub sibling_named : (bytes : List ℕ) (path : Path) (layers : List Layer) (side : Side) (node up : ℕ) (colour other : Colour) (x m d : Tree) → StandsAt bytes path layers (branch side node colour x (branch side up other m d))
+    → target bytes (side_word node (opposite side)) ≡ Some up
 sibling_named bytes path layers side node up colour other x m d s =
     let low = branch-parts bytes (target bytes (place path.root layers)) side node colour x (branch side up other m d) (here bytes path layers (branch side node colour x (branch side up other m d)) s) in
     (branch-parts bytes (target bytes (side_word node (opposite side))) side up other m d low.far_hangs).named
 
 -- ---- a red sibling
 
-pub lowered_whole : (bytes one two new : List ℕ) (path next last : Path) (side : Side) (node sibling : ℕ) (r q : Bool) → one ≡ rotated bytes (last_word path.root path.steps.items) node side → two ≡ with_colour one sibling Black → new ≡ with_colour two node Red
+pub lowered_whole : (bytes one two new : List ℕ) (path next last : Path) (side : Side) (node sibling : ℕ) (r q : Bool) → one ≡ rotated bytes (last_word path.root path.steps.items) node side → two ≡ with_colour one sibling Black
+    → new ≡ with_colour two node Red
     → next.root ≡ path.root → (length path.steps.items < 64 → IsTrue r) → (IsTrue r → next.steps.items ≡ path.steps.items ++ record { node = sibling; side = side } ∷ [])
     → last.root ≡ next.root → (length next.steps.items < 64 → IsTrue q) → (IsTrue q → last.steps.items ≡ next.steps.items ++ record { node = node; side = side } ∷ [])
-    → (layers : List Layer) (x m d : Tree) (colour other : Colour) → StandsAt bytes path layers (branch side node colour x (branch side sibling other m d)) → length layers < 63 → Lowers bytes new last side node sibling colour other layers x m d
+    → (layers : List Layer) (x m d : Tree) (colour other : Colour) → StandsAt bytes path layers (branch side node colour x (branch side sibling other m d)) → length layers < 63
+    → Lowers bytes new last side node sibling colour other layers x m d
 lowered_whole bytes one two new path next last side node sibling r q e1 e2 e3 r1 room1 push1 r2 room2 push2 layers x m d colour other s few =
     let long : length path.steps.items ≡ length layers = ap length s.steps_are ∙ length-steps layers in
     let first : next.steps.items ≡ path.steps.items ++ record { node = sibling; side = side } ∷ [] = push1 (room1 (omega arith)) in
@@ -219,14 +224,16 @@ lowering old new path side node sibling colour layers x m d l s b =
 -- ---- a black sibling
 
 -- up to a node from its other side
-pub turns_up_far : (old new : List ℕ) (at : ℕ) (side : Side) (node : ℕ) (colour : Colour) (near far y : Tree) → IsTree old (target old at) (branch side node colour near far) → StandApart (length old) at (nodes_of (branch side node colour near far))
+pub turns_up_far : (old new : List ℕ) (at : ℕ) (side : Side) (node : ℕ) (colour : Colour) (near far y : Tree) → IsTree old (target old at) (branch side node colour near far)
+    → StandApart (length old) at (nodes_of (branch side node colour near far))
     → Turns old new (side_word node (opposite side)) far y → Turns old new at (branch side node colour near far) (branch side node colour near y)
 turns_up_far old new at Left node colour near far y h a t = turns-up old new at Right node colour far near far y h a t
 turns_up_far old new at Right node colour near far y h a t = turns-up old new at Left node colour far near far y h a t
 
 -- the near child comes up over its parent
 rotated_back : (bytes : List ℕ) (at : ℕ) (side : Side) (node up : ℕ) (colour upper : Colour) (near between far : Tree) → IsTree bytes (target bytes at) (branch side node colour (branch side up upper near between) far)
-    → StandApart (length bytes) at (nodes_of (branch side node colour (branch side up upper near between) far)) → Turns bytes (rotated bytes at node (opposite side)) at (branch side node colour (branch side up upper near between) far) (branch side up upper near (branch side node colour between far))
+    → StandApart (length bytes) at (nodes_of (branch side node colour (branch side up upper near between) far))
+    → Turns bytes (rotated bytes at node (opposite side)) at (branch side node colour (branch side up upper near between) far) (branch side up upper near (branch side node colour between far))
 rotated_back bytes at Left node up colour upper near between far h a = turns-rotated bytes at Right node up colour upper far between near h a
 rotated_back bytes at Right node up colour upper near between far h a = turns-rotated bytes at Left node up colour upper far between near h a
 
@@ -239,7 +246,8 @@ module _ (bytes new : List ℕ) (path : Path) (side : Side) (node sibling : ℕ)
 
   -- a turn of the sibling's part
   sibling_turned : (y : Tree) → Turns bytes new (side_word node (opposite side)) (branch side sibling black m d) y → Turns bytes new path.root (plug both layers) (plug (branch side node colour x y) layers)
-  sibling_turned y t = turned_at bytes new path layers both (branch side node colour x y) s (turns_up_far bytes new at side node colour x (branch side sibling black m d) y (here bytes path layers both s) (here_apart bytes path layers both s) t)
+  sibling_turned y t = turned_at bytes new path layers both (branch side node colour x y) s (turns_up_far bytes new at side node colour x (branch side sibling black m d) y (here bytes path layers both s)
+      (here_apart bytes path layers both s) t)
 
   sibling_hangs : IsTree bytes (target bytes (side_word node (opposite side))) (branch side sibling black m d)
   sibling_hangs = (branch-parts bytes (target bytes at) side node colour x (branch side sibling black m d) (here bytes path layers both s)).far_hangs
@@ -272,7 +280,8 @@ module _ (bytes new : List ℕ) (path : Path) (side : Side) (node sibling : ℕ)
     above = layers;
     part = branch side node colour x (branch side sibling red m d);
     turned = sibling_painted e;
-    nodes_are = nodes-plug (branch side node colour x (branch side sibling red m d)) both layers (outer_nodes side x (branch side sibling red m d) (branch side sibling black m d) node colour (nodes-branch side sibling red black m m d refl));
+    nodes_are = nodes-plug (branch side node colour x (branch side sibling red m d)) both layers (outer_nodes side x (branch side sibling red m d) (branch side sibling black m d) node colour
+        (nodes-branch side sibling red black m m d refl));
     state = (
       shortened side node sibling colour m d layers x bx (black_root bytes (target bytes (side_word sibling side)) m inner_hangs bm) (black_root bytes (target bytes (side_word sibling (opposite side))) d outer_hangs bd) short,
       s.steps_are,
@@ -286,10 +295,13 @@ module _ (bytes one : List ℕ) (path : Path) (side : Side) (node sibling : ℕ)
       → Turns bytes one path.root (plug (branch side node colour x (branch side sibling black m (fork l outer red r))) layers) (plug (branch side node colour x (branch side sibling black m (fork l outer black r))) layers)
   outer_painted l r outer s e =
       outer_turned bytes one path side node sibling colour layers x m (fork l outer red r) s (fork l outer black r) (subst (λ b. Turns bytes b (side_word sibling (opposite side)) (fork l outer red r) (fork l outer black r)) (sym e)
-      (turns-painted bytes (side_word sibling (opposite side)) Left outer red Black l r (outer_hangs bytes one path side node sibling colour layers x m (fork l outer red r) s) (outer_apart bytes one path side node sibling colour layers x m (fork l outer red r) s)))
+      (turns-painted bytes (side_word sibling (opposite side)) Left outer red Black l r (outer_hangs bytes one path side node sibling colour layers x m (fork l outer red r) s)
+      (outer_apart bytes one path side node sibling colour layers x m (fork l outer red r) s)))
 
-  outer_same : (l r : Tree) (outer : ℕ) → nodes_of (plug (branch side node colour x (branch side sibling black m (fork l outer black r))) layers) ≡ nodes_of (plug (branch side node colour x (branch side sibling black m (fork l outer red r))) layers)
-  outer_same l r outer = nodes-plug _ _ layers (outer_nodes side x (branch side sibling black m (fork l outer black r)) (branch side sibling black m (fork l outer red r)) node colour (outer_nodes side m (fork l outer black r) (fork l outer red r) sibling black refl))
+  outer_same : (l r : Tree) (outer : ℕ) → nodes_of (plug (branch side node colour x (branch side sibling black m (fork l outer black r))) layers) ≡ nodes_of
+      (plug (branch side node colour x (branch side sibling black m (fork l outer red r))) layers)
+  outer_same l r outer = nodes-plug _ _ layers (outer_nodes side x (branch side sibling black m (fork l outer black r)) (branch side sibling black m (fork l outer red r)) node colour
+      (outer_nodes side m (fork l outer black r) (fork l outer red r) sibling black refl))
 
   by_outer_at : (new : List ℕ) (l r : Tree) (outer : ℕ) (s : StandsAt bytes path layers (branch side node colour x (branch side sibling black m (fork l outer red r)))) → one ≡ with_colour bytes outer Black
       → (StandsAt one path layers (branch side node colour x (branch side sibling black m (fork l outer black r))) → ComesUp one new path.root side node sibling colour black layers x m (fork l outer black r))
@@ -297,13 +309,16 @@ module _ (bytes one : List ℕ) (path : Path) (side : Side) (node sibling : ℕ)
   by_outer_at new l r outer s e up short bx =
       let t = outer_painted l r outer s e in
       let n = outer_same l r outer in
-      let u = up (stands_again bytes one path path layers layers (branch side node colour x (branch side sibling black m (fork l outer red r))) (branch side node colour x (branch side sibling black m (fork l outer black r))) s refl s.steps_are t n) in
+      let u = up (stands_again bytes one path path layers layers (branch side node colour x (branch side sibling black m (fork l outer red r))) (branch side node colour x (branch side sibling black m (fork l outer black r))) s refl
+      s.steps_are t n) in
       let after = branch side sibling colour (branch side node black x m) (fork l outer black r) in
       record {
         above = layers;
         part = after;
-        turned = turns-then bytes one new path.root (plug (branch side node colour x (branch side sibling black m (fork l outer red r))) layers) (plug (branch side node colour x (branch side sibling black m (fork l outer black r))) layers) (plug after layers) t
-            (turns-room one new path.root (plug (branch side node colour x (branch side sibling black m (fork l outer black r))) layers) (plug (branch side node colour x (branch side sibling black m (fork l outer red r))) layers) (plug after layers) n u);
+        turned = turns-then bytes one new path.root (plug (branch side node colour x (branch side sibling black m (fork l outer red r))) layers) (plug (branch side node colour x (branch side sibling black m (fork l outer black r))) layers)
+            (plug after layers) t
+            (turns-room one new path.root (plug (branch side node colour x (branch side sibling black m (fork l outer black r))) layers) (plug (branch side node colour x (branch side sibling black m (fork l outer red r))) layers)
+            (plug after layers) n u);
         nodes_are = nodes-plug after (branch side node colour x (branch side sibling black m (fork l outer black r))) layers (nodes-rotated side node sibling colour black black colour x m (fork l outer black r)) ∙ n;
         state = outer_came_up side node sibling outer colour m l r layers x bx short;
       }
@@ -316,7 +331,8 @@ module _ (bytes one : List ℕ) (path : Path) (side : Side) (node sibling : ℕ)
   by_outer new outer d e is_red e1 up s short bx =
       let f = red_root bytes (target bytes (side_word sibling (opposite side))) d (outer_hangs bytes one path side node sibling colour layers x m d s) (ap (colour_at bytes) e ∙ is_red) in
       let same : outer ≡ f.at = same_some (target bytes (side_word sibling (opposite side))) outer f.at e f.named in
-      let law = λ (s : StandsAt bytes path layers (branch side node colour x (branch side sibling black m (fork f.left f.at red f.right)))). by_outer_at new f.left f.right f.at s (e1 ∙ ap (λ p. with_colour bytes p Black) same) (up (fork f.left f.at black f.right)) in
+      let law = λ (s : StandsAt bytes path layers (branch side node colour x (branch side sibling black m (fork f.left f.at red f.right)))). by_outer_at new f.left f.right f.at s (e1 ∙ ap (λ p. with_colour bytes p Black) same)
+      (up (fork f.left f.at black f.right)) in
       (subst (λ o. StandsAt bytes path layers (branch side node colour x (branch side sibling black m o)) → IsShort (layer_at side node colour (branch side sibling black m o) ∷ layers) x → IsBlack x
       → Lengthens bytes new path (layer_at side node colour (branch side sibling black m o) ∷ layers) x false) (sym f.tree_is) law) s short bx
 
@@ -332,9 +348,11 @@ red_branch Left tree to f = record { at = f.at; near = f.left; far = f.right; tr
 red_branch Right tree to f = record { at = f.at; near = f.right; far = f.left; tree_is = f.tree_is }
 
 module _ (bytes one : List ℕ) (path : Path) (side : Side) (node sibling : ℕ) (colour : Colour) (layers : List Layer) (x d : Tree) where
-  by_inner_at : (new : List ℕ) (inner : ℕ) (near far : Tree) (s : StandsAt bytes path layers (branch side node colour x (branch side sibling black (branch side inner red near far) d))) → one ≡ rotated bytes (side_word node (opposite side)) sibling (opposite side)
+  by_inner_at : (new : List ℕ) (inner : ℕ) (near far : Tree) (s : StandsAt bytes path layers (branch side node colour x (branch side sibling black (branch side inner red near far) d)))
+      → one ≡ rotated bytes (side_word node (opposite side)) sibling (opposite side)
       → (StandsAt one path layers (branch side node colour x (branch side inner red near (branch side sibling black far d))) → ComesUp one new path.root side node inner colour red layers x near (branch side sibling black far d))
-      → IsShort (layer_at side node colour (branch side sibling black (branch side inner red near far) d) ∷ layers) x → IsBlack x → Lengthens bytes new path (layer_at side node colour (branch side sibling black (branch side inner red near far) d) ∷ layers) x false
+      → IsShort (layer_at side node colour (branch side sibling black (branch side inner red near far) d) ∷ layers) x → IsBlack x
+      → Lengthens bytes new path (layer_at side node colour (branch side sibling black (branch side inner red near far) d) ∷ layers) x false
   by_inner_at new inner near far s e up short bx =
       let m = branch side inner red near far in
       let turned_part = branch side inner red near (branch side sibling black far d) in
@@ -343,8 +361,10 @@ module _ (bytes one : List ℕ) (path : Path) (side : Side) (node sibling : ℕ)
       let after = branch side inner colour (branch side node black x near) (branch side sibling black far d) in
       let t : Turns bytes one path.root (plug old layers) (plug between layers) = sibling_turned bytes one path side node sibling colour layers x m d s turned_part
       (subst (λ b. Turns bytes b (side_word node (opposite side)) (branch side sibling black m d) turned_part) (sym e)
-      (rotated_back bytes (side_word node (opposite side)) side sibling inner black red near far d (sibling_hangs bytes one path side node sibling colour layers x m d s) (sibling_apart bytes one path side node sibling colour layers x m d s))) in
-      let n : nodes_of (plug between layers) ≡ nodes_of (plug old layers) = nodes-plug between old layers (outer_nodes side x turned_part (branch side sibling black m d) node colour (sym (nodes-rotated side inner sibling red black red black near far d))) in
+      (rotated_back bytes (side_word node (opposite side)) side sibling inner black red near far d (sibling_hangs bytes one path side node sibling colour layers x m d s)
+      (sibling_apart bytes one path side node sibling colour layers x m d s))) in
+      let n : nodes_of (plug between layers) ≡ nodes_of (plug old layers) = nodes-plug between old layers (outer_nodes side x turned_part (branch side sibling black m d) node colour
+      (sym (nodes-rotated side inner sibling red black red black near far d))) in
       let u = up (stands_again bytes one path path layers layers old between s refl s.steps_are t n) in
       record {
         above = layers;
@@ -380,7 +400,8 @@ fails_if r P h e p = let t : r ≡ true = h.1 p in cc
 
 -- ---- a sibling of either colour
 
-pub beside_hangs : (bytes : List ℕ) (path : Path) (layers : List Layer) (side : Side) (node : ℕ) (colour : Colour) (x other : Tree) → StandsAt bytes path layers (branch side node colour x other) → IsTree bytes (target bytes (side_word node (opposite side))) other
+pub beside_hangs : (bytes : List ℕ) (path : Path) (layers : List Layer) (side : Side) (node : ℕ) (colour : Colour) (x other : Tree) → StandsAt bytes path layers (branch side node colour x other)
+    → IsTree bytes (target bytes (side_word node (opposite side))) other
 beside_hangs bytes path layers side node colour x other s = (branch-parts bytes (target bytes (place path.root layers)) side node colour x other (here bytes path layers (branch side node colour x other) s)).far_hangs
 
 pub record IsPainted (side : Side) (at : ℕ) (colour : Colour) (tree : Tree) : Type 0 where
@@ -399,8 +420,10 @@ short_few : (layer : Layer) (layers : List Layer) (x : Tree) → IsShort (layer 
 short_few layer layers x s = omega (arith, (few_above (layer ∷ layers) (suc s.height) s.wanted).0, s.low)
 
 pub by_lower : (bytes new : List ℕ) (path last : Path) (side : Side) (node sibling : ℕ) → target bytes (side_word node (opposite side)) ≡ Some sibling → colour_at bytes (Some sibling) ≡ Red
-    → ((layers : List Layer) (x m d : Tree) (colour other : Colour) → StandsAt bytes path layers (branch side node colour x (branch side sibling other m d)) → length layers < 63 → Lowers bytes new last side node sibling colour other layers x m d)
-    → (layers : List Layer) (x other : Tree) (colour : Colour) → StandsAt bytes path layers (branch side node colour x other) → IsShort (layer_at side node colour other ∷ layers) x → IsBlack x → Lengthens bytes new last (layer_at side node colour other ∷ layers) x true
+    → ((layers : List Layer) (x m d : Tree) (colour other : Colour) → StandsAt bytes path layers (branch side node colour x (branch side sibling other m d)) → length layers < 63
+    → Lowers bytes new last side node sibling colour other layers x m d)
+    → (layers : List Layer) (x other : Tree) (colour : Colour) → StandsAt bytes path layers (branch side node colour x other) → IsShort (layer_at side node colour other ∷ layers) x → IsBlack x
+    → Lengthens bytes new last (layer_at side node colour other ∷ layers) x true
 by_lower bytes new path last side node sibling e is_red low layers x other colour s short b =
     let f = painted_fork bytes side sibling (target bytes (side_word node (opposite side))) other Red e is_red (beside_hangs bytes path layers side node colour x other s) in
     let law = λ (s : StandsAt bytes path layers (branch side node colour x (branch side sibling red f.near f.far))) (short : IsShort (layer_at side node colour (branch side sibling red f.near f.far) ∷ layers) x).
@@ -408,12 +431,15 @@ by_lower bytes new path last side node sibling e is_red low layers x other colou
     (subst (λ o. StandsAt bytes path layers (branch side node colour x o) → IsShort (layer_at side node colour o ∷ layers) x → Lengthens bytes new last (layer_at side node colour o ∷ layers) x true) (sym f.tree_is) law) s short
 
 pub by_borrow : (bytes new : List ℕ) (path last : Path) (side : Side) (node sibling : ℕ) (more : Bool) → target bytes (side_word node (opposite side)) ≡ Some sibling → colour_at bytes (Some sibling) ≡ Black
-    → ((layers : List Layer) (x m d : Tree) (colour : Colour) → StandsAt bytes path layers (branch side node colour x (branch side sibling black m d)) → IsShort (layer_at side node colour (branch side sibling black m d) ∷ layers) x → IsBlack x
+    → ((layers : List Layer) (x m d : Tree) (colour : Colour) → StandsAt bytes path layers (branch side node colour x (branch side sibling black m d)) → IsShort (layer_at side node colour (branch side sibling black m d) ∷ layers) x
+    → IsBlack x
     → Lengthens bytes new last (layer_at side node colour (branch side sibling black m d) ∷ layers) x more)
-    → (layers : List Layer) (x other : Tree) (colour : Colour) → StandsAt bytes path layers (branch side node colour x other) → IsShort (layer_at side node colour other ∷ layers) x → IsBlack x → Lengthens bytes new last (layer_at side node colour other ∷ layers) x more
+    → (layers : List Layer) (x other : Tree) (colour : Colour) → StandsAt bytes path layers (branch side node colour x other) → IsShort (layer_at side node colour other ∷ layers) x → IsBlack x
+    → Lengthens bytes new last (layer_at side node colour other ∷ layers) x more
 by_borrow bytes new path last side node sibling more e is_black law layers x other colour s short b =
     let f = painted_fork bytes side sibling (target bytes (side_word node (opposite side))) other Black e is_black (beside_hangs bytes path layers side node colour x other s) in
-    (subst (λ o. StandsAt bytes path layers (branch side node colour x o) → IsShort (layer_at side node colour o ∷ layers) x → IsBlack x → Lengthens bytes new last (layer_at side node colour o ∷ layers) x more) (sym f.tree_is) (law layers x f.near f.far colour)) s short b
+    (subst (λ o. StandsAt bytes path layers (branch side node colour x o) → IsShort (layer_at side node colour o ∷ layers) x → IsBlack x
+    → Lengthens bytes new last (layer_at side node colour o ∷ layers) x more) (sym f.tree_is) (law layers x f.near f.far colour)) s short b
 
 pub no_sibling : (bytes : List ℕ) (path : Path) (side : Side) (node : ℕ) → target bytes (side_word node (opposite side)) ≡ None
     → (layers : List Layer) (x other : Tree) (colour : Colour) → StandsAt bytes path layers (branch side node colour x other) → IsShort (layer_at side node colour other ∷ layers) x → ⊥
@@ -447,7 +473,8 @@ black_part bytes path to e n layers x s =
     (ap (λ w. colour_at bytes (target bytes w)) (sym (path_word bytes path layers x s)) ∙ ap (colour_at bytes) (sym e) ∙ not_red_paint bytes to n)
 
 -- the path leads to the root
-pub short_whole : (bytes : List ℕ) (path last : Path) → path.steps.items ≡ [] → last.root ≡ path.root → (layers : List Layer) (x : Tree) → StandsAt bytes path layers x → IsShort layers x → IsBlack x → Lengthens bytes bytes last layers x false
+pub short_whole : (bytes : List ℕ) (path last : Path) → path.steps.items ≡ [] → last.root ≡ path.root → (layers : List Layer) (x : Tree) → StandsAt bytes path layers x → IsShort layers x → IsBlack x
+    → Lengthens bytes bytes last layers x false
 short_whole bytes path last e r [] x s short b = record {
   above = [];
   part = x;

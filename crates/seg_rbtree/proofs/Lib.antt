@@ -17,6 +17,7 @@ pub mod Restoring
 pub mod TakingOut
 pub mod NextNode
 pub mod Removed
+pub mod Paths
 pub mod Raising
 pub mod Settling
 pub mod Parting

@@ -86,10 +86,13 @@ module _ (b : List ℕ) (at node next : ℕ) (colour tint : Colour) (left only :
       let coloured : HasColour taken next tint = colour-word b word v next tint (separate-part next 16 word 4 (next + 8) 8 (omega arith) (omega arith) word_next) was.coloured in
       let same_right : target taken (next + 4) ≡ target b (next + 4) = target-word b word v (next + 4) (separate-part next 16 word 4 (next + 4) 4 (omega arith) (omega arith) word_next) in
       let only_hangs : IsTree taken (target taken (next + 4)) only = subst (λ o. IsTree taken o only) (sym same_right) (tree-word b word v (target b (next + 4)) only f.word_far was.far_hangs) in
-      let one : IsTree first (Some next) (fork left next tint only) = relink taken next tint Left (target taken node) left only coloured now.far_hangs only_hangs (subst (λ n. StandApart n next (nodes_of left)) (sym len1) q.far_apart) f.node_far in
+      let one : IsTree first (Some next) (fork left next tint only) = relink taken next tint Left (target taken node) left only coloured now.far_hangs only_hangs (subst (λ n. StandApart n next (nodes_of left)) (sym len1) q.far_apart)
+      f.node_far in
       let parts1 = branch-parts first (Some next) Right next tint only left one in
-      let rest_hangs : IsTree first (target taken (node + 4)) rest = tree-word taken next (distance next (target taken node)) (target taken (node + 4)) rest (clear-part next 16 next 4 (nodes_of rest) (omega arith) (omega arith) q.node_near) now.near_hangs in
-      let two : IsTree second (Some next) (fork left next tint rest) = relink first next tint Right (target taken (node + 4)) rest left parts1.coloured rest_hangs parts1.far_hangs (subst (λ n. StandApart n (next + 4) (nodes_of rest)) (sym (len2 ∙ len1)) q.near_apart) q.node_far in
+      let rest_hangs : IsTree first (target taken (node + 4)) rest = tree-word taken next (distance next (target taken node)) (target taken (node + 4)) rest (clear-part next 16 next 4 (nodes_of rest) (omega arith) (omega arith) q.node_near)
+      now.near_hangs in
+      let two : IsTree second (Some next) (fork left next tint rest) = relink first next tint Right (target taken (node + 4)) rest left parts1.coloured rest_hangs parts1.far_hangs
+      (subst (λ n. StandApart n (next + 4) (nodes_of rest)) (sym (len2 ∙ len1)) q.near_apart) q.node_far in
       let three : IsTree placed (Some next) (fork left next (shade paint) rest) = recolour second next Right tint paint rest left (omega (arith, q.node_fits, len1, len2, len3)) q.node_near q.node_far two in
       let tinted : shade paint ≡ colour = colour_read taken node colour now.coloured in
       let four : IsTree placed (Some next) new = subst (λ c. IsTree placed (Some next) (fork left next c rest)) tinted three in
@@ -138,7 +141,8 @@ module _ (b b1 b2 b3 : List ℕ) (path one two : Path) (node depth : ℕ) (gone 
       → b1 ≡ set_pointer b (last_word one.root one.steps.items) (target b (next + 4)) → b2 ≡ in_place_of b1 node next
       → ((step : Step) → depth < length one.steps.items → step ≡ slice_index_or one.steps.items depth step → two.steps.items ≡ slice_set one.steps.items depth (record { node = next; side = step.side }))
       → (depth ≤ length two.steps.items → b3 ≡ set_pointer b2 (last_word two.root (take depth two.steps.items)) (Some next))
-      → AreLeft lower → one.steps.items ≡ steps_of (lower ++ layer_at Right node colour left ∷ layers) → StandsAt b path layers whole → IsRedBlack (plug whole layers) → length (nodes_of (plug whole layers)) < 2 ^ 32 → Unlinks b b3 two layers whole node gone
+      → AreLeft lower → one.steps.items ≡ steps_of (lower ++ layer_at Right node colour left ∷ layers) → StandsAt b path layers whole → IsRedBlack (plug whole layers) → length (nodes_of (plug whole layers)) < 2 ^ 32
+      → Unlinks b b3 two layers whole node gone
   at_next d r1 r2 eg e1 e2 replaced e3 leftward steps s r few =
       let at = place path.root layers in
       let N = layer_at Right node colour left in
@@ -177,17 +181,22 @@ module _ (b b1 b2 b3 : List ℕ) (path one two : Path) (node depth : ℕ) (gone 
           let parts = branch-parts b (target b (place path.root layers)) Right node colour (plug (fork leaf next tint only) lower) left (here b path layers whole s) in
           (branch-parts b (target b (place (node + 4) lower)) Left next tint leaf only (tree-down b (node + 4) (fork leaf next tint only) lower parts.near_hangs)).coloured
 
-pub by_next : (b b1 b2 b3 : List ℕ) (path one two : Path) (node read depth : ℕ) (gone : Paint) (result : Option ℕ) → depth ≡ length path.steps.items → one.root ≡ path.root → two.root ≡ one.root → result ≡ Some read → gone ≡ colour_at b (Some read)
+pub by_next : (b b1 b2 b3 : List ℕ) (path one two : Path) (node read depth : ℕ) (gone : Paint) (result : Option ℕ) → depth ≡ length path.steps.items → one.root ≡ path.root → two.root ≡ one.root → result ≡ Some read
+    → gone ≡ colour_at b (Some read)
     → b1 ≡ set_pointer b (last_word one.root one.steps.items) (target b (read + 4)) → b2 ≡ in_place_of b1 node read
     → ((step : Step) → depth < length one.steps.items → step ≡ slice_index_or one.steps.items depth step → two.steps.items ≡ slice_set one.steps.items depth (record { node = read; side = step.side }))
     → (depth ≤ length two.steps.items → b3 ≡ set_pointer b2 (last_word two.root (take depth two.steps.items)) (Some read))
-    → (layers : List Layer) (left right : Tree) (colour : Colour) → StandsAt b path layers (fork left node colour right) → IsRedBlack (plug (fork left node colour right) layers) → length (nodes_of (plug (fork left node colour right) layers)) < 2 ^ 32
+    → (layers : List Layer) (left right : Tree) (colour : Colour) → StandsAt b path layers (fork left node colour right) → IsRedBlack (plug (fork left node colour right) layers)
+    → length (nodes_of (plug (fork left node colour right) layers)) < 2 ^ 32
     → Descends one (layer_at Right node colour left ∷ layers) right result → Unlinks b b3 two layers (fork left node colour right) node gone
 by_next b b1 b2 b3 path one two node read depth gone result d r1 r2 er eg e1 e2 replaced e3 layers left right colour s r few to =
     let same : read ≡ to.next = named_alike result read to.next er to.result_is in
-    let law = at_next b b1 b2 b3 path one two node depth gone layers to.lower left to.only colour to.tint to.next d r1 r2 (eg ∙ ap (λ p. colour_at b (Some p)) same) (e1 ∙ ap (λ p. set_pointer b (last_word one.root one.steps.items) (target b (p + 4))) same) (e2 ∙ ap (λ p. in_place_of b1 node p) same)
-    (λ step low at. replaced step low at ∙ ap (λ p. set one.steps.items depth (record { node = p; side = step.side })) same) (λ low. e3 low ∙ ap (λ p. set_pointer b2 (last_word two.root (take depth two.steps.items)) (Some p)) same) to.leftward to.steps_are in
-    (subst (λ t. StandsAt b path layers (fork left node colour t) → IsRedBlack (plug (fork left node colour t) layers) → length (nodes_of (plug (fork left node colour t) layers)) < 2 ^ 32 → Unlinks b b3 two layers (fork left node colour t) node gone) (sym to.tree_is) law) s r few
+    let law = at_next b b1 b2 b3 path one two node depth gone layers to.lower left to.only colour to.tint to.next d r1 r2 (eg ∙ ap (λ p. colour_at b (Some p)) same)
+    (e1 ∙ ap (λ p. set_pointer b (last_word one.root one.steps.items) (target b (p + 4))) same) (e2 ∙ ap (λ p. in_place_of b1 node p) same)
+    (λ step low at. replaced step low at ∙ ap (λ p. set one.steps.items depth (record { node = p; side = step.side })) same) (λ low. e3 low ∙ ap (λ p. set_pointer b2 (last_word two.root (take depth two.steps.items)) (Some p)) same)
+    to.leftward to.steps_are in
+    (subst (λ t. StandsAt b path layers (fork left node colour t) → IsRedBlack (plug (fork left node colour t) layers) → length (nodes_of (plug (fork left node colour t) layers)) < 2 ^ 32
+    → Unlinks b b3 two layers (fork left node colour t) node gone) (sym to.tree_is) law) s r few
 
 -- there is a next node
 pub no_next : (path : Path) (layers : List Layer) (right : Tree) (result : Option ℕ) → result ≡ None → Descends path layers right result → ⊥

@@ -130,7 +130,8 @@ module _ (order : ℕ → ℕ → Ordering) (node : ℕ) where
         ap (λ ns. nodes_of layer.other ++ layer.at ∷ ns) h ∙ sym (with_node-right (nodes_of layer.other) layer.at (nodes_of t) (below_all layer.at (nodes_of layer.other) e parts.before) e)
 
     -- with one more at the place that the order leads to, the whole has one more in its place
-    pub nodes-added : (x t : Tree) (layers : List Layer) → LeadBy order node layers → Ascend order (nodes_of (plug t layers)) → nodes_of x ≡ with_node order node (nodes_of t) → nodes_of (plug x layers) ≡ with_node order node (nodes_of (plug t layers))
+    pub nodes-added : (x t : Tree) (layers : List Layer) → LeadBy (order node) layers → Ascend order (nodes_of (plug t layers)) → nodes_of x ≡ with_node order node (nodes_of t)
+        → nodes_of (plug x layers) ≡ with_node order node (nodes_of (plug t layers))
     nodes-added x t [] l a h = h
     nodes-added x t (layer ∷ layers) l a h =
         nodes-added (grow layer x) (grow layer t) layers l.1 a (grown layer.side layer x t l.0 (ascend-down order (grow layer t) layers a) h)

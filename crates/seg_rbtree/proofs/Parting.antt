@@ -22,7 +22,8 @@ use Rattle.seg_rbtree.proofs.Raising.{straightens}
 use Rattle.seg_rbtree.proofs.Settling.{read-red, read-black, becomes, IsFamily}
 
 -- a change of the other child of a node
-pub turns-up_far : (old new : List ℕ) (at : ℕ) (side : Side) (node : ℕ) (colour : Shapes.Colour) (near x room y : Tree) → IsTree old (target old at) (branch side node colour near x) → StandApart (length old) at (nodes_of (branch side node colour near room))
+pub turns-up_far : (old new : List ℕ) (at : ℕ) (side : Side) (node : ℕ) (colour : Shapes.Colour) (near x room y : Tree) → IsTree old (target old at) (branch side node colour near x)
+    → StandApart (length old) at (nodes_of (branch side node colour near room))
     → Turns old new (side_word node (opposite side)) room y → Turns old new at (branch side node colour near room) (branch side node colour near y)
 turns-up_far old new at side node colour near x room y h apart t =
     let back = λ (z : Tree). branch-flip side node colour z near in
@@ -89,7 +90,8 @@ module _ (bytes : List ℕ) (at : ℕ) (way : Side) (g : ℕ) (turn : Side) (p u
 -- ---- one turn
 
 -- a red node at a place, seen as one that rises
-rising : (bytes : List ℕ) (root : ℕ) (steps : List Step) (nodes : List ℕ) (way : Side) (g : ℕ) (near far : Tree) (layers : List Layer) (height : ℕ) → steps ≡ steps_of layers → IsTree bytes (target bytes root) (plug (branch way g red near far) layers)
+rising : (bytes : List ℕ) (root : ℕ) (steps : List Step) (nodes : List ℕ) (way : Side) (g : ℕ) (near far : Tree) (layers : List Layer) (height : ℕ) → steps ≡ steps_of layers
+    → IsTree bytes (target bytes root) (plug (branch way g red near far) layers)
     → nodes_of (plug (branch way g red near far) layers) ≡ nodes → StandApart (length bytes) root nodes → IsBalanced (branch way g red near far) height → Wants layers height → IsRising bytes root steps nodes g
 rising bytes root steps nodes Left g near far layers height e h n apart b w = record { layers = layers; left = near; right = far; steps_are = e; hangs = h; nodes_are = n; apart = apart; height = height; balanced = b; wants = w }
 rising bytes root steps nodes Right g near far layers height e h n apart b w = record { layers = layers; left = far; right = near; steps_are = e; hangs = h; nodes_are = n; apart = apart; height = height; balanced = b; wants = w }
@@ -146,8 +148,10 @@ module _ (bytes : List ℕ) (root : ℕ) (nodes : List ℕ) (node : ℕ) (parent
       let after = branch way g red (branch parent.side p black lower f.sibling) (fork left u black right) in
       let new = with_colour (with_colour (with_colour bytes p Black) u Black) g Red in
       let whole : branch way g black low f.uncle ≡ before = ap (λ t. branch way g black low t) e in
-      let turned = turns-parted bytes (place root f.layers) way g parent.side p u lower f.sibling left right (subst (IsTree bytes (target bytes (place root f.layers))) whole at_grandparent) (subst (λ t. StandApart (length bytes) (place root f.layers) (nodes_of t)) whole apart_there) in
-      let all = becomes bytes new root nodes before after f.layers (subst (λ t. IsTree bytes (target bytes root) (plug t f.layers)) whole f.hangs) (subst (λ t. nodes_of (plug t f.layers) ≡ nodes) whole f.nodes_are) f.apart turned (nodes-parted bytes (place root f.layers) way g parent.side p u lower f.sibling left right) in
+      let turned = turns-parted bytes (place root f.layers) way g parent.side p u lower f.sibling left right (subst (IsTree bytes (target bytes (place root f.layers))) whole at_grandparent)
+      (subst (λ t. StandApart (length bytes) (place root f.layers) (nodes_of t)) whole apart_there) in
+      let all = becomes bytes new root nodes before after f.layers (subst (λ t. IsTree bytes (target bytes root) (plug t f.layers)) whole f.hangs) (subst (λ t. nodes_of (plug t f.layers) ≡ nodes) whole f.nodes_are) f.apart turned
+      (nodes-parted bytes (place root f.layers) way g parent.side p u lower f.sibling left right) in
       let uncle_fine : IsBalanced (fork left u red right) f.height = subst (λ t. IsBalanced t f.height) e f.uncle_balanced in
       let parts = red-parts Left u left right f.height uncle_fine in
       let uncle_now : IsBalanced (fork left u black right) (suc f.height) = balanced-black Left u left right f.height parts.near_balanced parts.far_balanced in
@@ -169,7 +173,8 @@ module _ (bytes : List ℕ) (root : ℕ) (nodes : List ℕ) (node : ℕ) (parent
       parted u t.left t.right t.tree_is (shorter e d)
 
   -- the uncle is black: the middle one of the three comes up
-  pub settled_straight : (to : Option ℕ) (word : ℕ) → to ≡ target bytes (side_word g (opposite way)) → (colour_at bytes to ≡ Red → ⊥) → word ≡ last_word root more → Settles bytes (straightened bytes word g way p parent.side) root steps more nodes None
+  pub settled_straight : (to : Option ℕ) (word : ℕ) → to ≡ target bytes (side_word g (opposite way)) → (colour_at bytes to ≡ Red → ⊥) → word ≡ last_word root more
+      → Settles bytes (straightened bytes word g way p parent.side) root steps more nodes None
   settled_straight to word at c e =
       let uncle_black : IsBlack f.uncle = black_tree bytes to f.uncle (uncle_hangs to at) c in
       let here : word ≡ place root f.layers = e ∙ ap (last_word root) f.rest_are ∙ last_word-steps root f.layers in

@@ -32,10 +32,12 @@ module _ (bytes : List ℕ) (at : ℕ) (side : Side) (node up : ℕ) (colour upp
       let low = branch side node colour x m in
       let one = turns-rotated bytes at side node up colour upper x m d h apart in
       let same : nodes_of (branch side up upper low d) ≡ nodes_of before = nodes-rotated side node up colour upper colour upper x m d in
-      let apart_first : StandApart (length first) at (nodes_of (branch side up upper low d)) = subst (λ n. StandApart n at (nodes_of (branch side up upper low d))) (sym one.kept.length_kept) (subst (StandApart (length bytes) at) (sym same) apart) in
+      let apart_first : StandApart (length first) at (nodes_of (branch side up upper low d)) = subst (λ n. StandApart n at (nodes_of (branch side up upper low d))) (sym one.kept.length_kept)
+      (subst (StandApart (length bytes) at) (sym same) apart) in
       let two = turns-painted first at side up upper Black low d one.hangs apart_first in
       let blacker : nodes_of (branch side up black low d) ≡ nodes_of (branch side up upper low d) = nodes-branch side up black upper low low d refl in
-      let apart_second : StandApart (length second) at (nodes_of (branch side up black low d)) = subst (λ n. StandApart n at (nodes_of (branch side up black low d))) (sym two.kept.length_kept) (subst (StandApart (length first) at) (sym blacker) apart_first) in
+      let apart_second : StandApart (length second) at (nodes_of (branch side up black low d)) = subst (λ n. StandApart n at (nodes_of (branch side up black low d))) (sym two.kept.length_kept)
+      (subst (StandApart (length first) at) (sym blacker) apart_first) in
       let parts = branch-parts second (target second at) side up black low d two.hangs in
       let apart_parts = parts-apart (length second) at side up black low d apart_second in
       let inner = turns-painted second (side_word up side) side node colour Red x m parts.near_hangs apart_parts.near_apart in
@@ -81,7 +83,8 @@ straight_on bytes at way g p lower sibling uncle h t apart bl ks bs ku bu =
 
 -- it turns below the parent, so that the lower one comes up first
 turned_back : (bytes : List ℕ) (at : ℕ) (way : Side) (g p n : ℕ) (m d sibling uncle : Tree) (h : ℕ) → IsTree bytes (target bytes at) (branch way g black (branch (opposite way) p red (branch way n red m d) sibling) uncle)
-    → StandApart (length bytes) at (nodes_of (branch way g black (branch (opposite way) p red (branch way n red m d) sibling) uncle)) → IsBalanced (branch way n red m d) h → IsBlack sibling → IsBalanced sibling h → IsBlack uncle → IsBalanced uncle h
+    → StandApart (length bytes) at (nodes_of (branch way g black (branch (opposite way) p red (branch way n red m d) sibling) uncle)) → IsBalanced (branch way n red m d) h → IsBlack sibling → IsBalanced sibling h → IsBlack uncle
+    → IsBalanced uncle h
     → Straightens bytes (raised (rotated bytes (side_word g way) p way) at g (opposite way)) at (branch way g black (branch (opposite way) p red (branch way n red m d) sibling) uncle) h
 turned_back bytes at way g p n m d sibling uncle h t apart bl ks bs ku bu =
     let low = branch way p red sibling (branch way n red m d) in
@@ -110,8 +113,10 @@ turned_back bytes at way g p n m d sibling uncle h t apart bl ks bs ku bu =
       balanced = rest.balanced;
     }
 
-pub straightens : (bytes : List ℕ) (at : ℕ) (way : Side) (g : ℕ) (turn : Side) (p n : ℕ) (left right sibling uncle : Tree) (h : ℕ) → IsTree bytes (target bytes at) (branch way g black (branch turn p red (fork left n red right) sibling) uncle)
-    → StandApart (length bytes) at (nodes_of (branch way g black (branch turn p red (fork left n red right) sibling) uncle)) → IsBalanced (fork left n red right) h → IsBlack sibling → IsBalanced sibling h → IsBlack uncle → IsBalanced uncle h
+pub straightens : (bytes : List ℕ) (at : ℕ) (way : Side) (g : ℕ) (turn : Side) (p n : ℕ) (left right sibling uncle : Tree) (h : ℕ)
+    → IsTree bytes (target bytes at) (branch way g black (branch turn p red (fork left n red right) sibling) uncle)
+    → StandApart (length bytes) at (nodes_of (branch way g black (branch turn p red (fork left n red right) sibling) uncle)) → IsBalanced (fork left n red right) h → IsBlack sibling → IsBalanced sibling h → IsBlack uncle
+    → IsBalanced uncle h
     → Straightens bytes (straightened bytes at g way p turn) at (branch way g black (branch turn p red (fork left n red right) sibling) uncle) h
 straightens bytes at Left g Left p n left right sibling uncle h t apart bl ks bs ku bu = straight_on bytes at Left g p (fork left n red right) sibling uncle h t apart bl ks bs ku bu
 straightens bytes at Left g Right p n left right sibling uncle h t apart bl ks bs ku bu = turned_back bytes at Left g p n left right sibling uncle h t apart bl ks bs ku bu

@@ -17,7 +17,8 @@ use Rattle.seg_rbtree.specs.declared.node.Side.{Side}
 use Rattle.seg_rbtree.specs.declared.node.Side.TheVariants.{Left, Right}
 use Rattle.seg_rbtree.specs.declared.node.Colour.TheVariants.{Black, Red}
 use Rattle.seg_rbtree.specs.declared.path.Path.{Path}
-use Rattle.seg_rbtree.specs.Ways.{Layer, branch, grow, plug, place, last_word, turn_of, LeadBy, EndsAt, IsWayTo}
+use Rattle.seg_rbtree.specs.Ways.{Layer, branch, grow, plug, place, last_word, turn_of, LeadBy, EndsAt, LeadsTo}
+use Rattle.seg_rbtree.specs.Paths.{node_at}
 use Rattle.seg_rbtree.specs.Changes.{StandApart, KeepsBeside, Leaves, without_node}
 use Rattle.seg_rbtree.specs.Turns.{Turns}
 use Rattle.seg_rbtree.specs.Removing.{StandsAt, Loses, Unlinks, Restores}
@@ -61,7 +62,7 @@ module _ (order : ℕ → ℕ → Ordering) (total : IsTotalOrder order) (node :
   Misses ns = AllByRecursion (λ x. node ≢ x) ns
 
   -- what the way leaves aside doesn't have the node
-  not_aside : (layers : List Layer) (rest : Tree) → Ascend order (nodes_of (plug rest layers)) → LeadBy order node layers → Misses (nodes_of rest) → Misses (nodes_of (plug rest layers))
+  not_aside : (layers : List Layer) (rest : Tree) → Ascend order (nodes_of (plug rest layers)) → LeadBy (order node) layers → Misses (nodes_of rest) → Misses (nodes_of (plug rest layers))
   not_aside [] rest a l m = m
   not_aside (layer ∷ layers) rest a l m = not_aside layers (grow layer rest) a l.1 (go layer.side l.0 (ascend-down order (grow layer rest) layers a))
     where
@@ -73,7 +74,7 @@ module _ (order : ℕ → ℕ → Ordering) (total : IsTotalOrder order) (node :
           let p = ascend-parts order (nodes_of layer.other) layer.at (nodes_of rest) h in
           each_join _ (nodes_of layer.other) (layer.at ∷ nodes_of rest) (each_weaker _ _ (λ x f. not_before layer.at x Greater e (λ q. cc) f) (nodes_of layer.other) p.before) (other_than layer.at Greater e (λ q. cc), m)
 
-  not_at_end : (bytes : List ℕ) (to : Option ℕ) (rest : Tree) → IsTree bytes to rest → EndsAt order node rest → Ascend order (nodes_of rest) → (to ≡ Some node → ⊥) → Misses (nodes_of rest)
+  not_at_end : (bytes : List ℕ) (to : Option ℕ) (rest : Tree) → IsTree bytes to rest → EndsAt (order node) rest → Ascend order (nodes_of rest) → (to ≡ Some node → ⊥) → Misses (nodes_of rest)
   not_at_end bytes to leaf h e a n = tt
   not_at_end bytes None (fork l at c r) h e a n = absurd h
   not_at_end bytes (Some q) (fork l at c r) h e a n =
@@ -95,11 +96,8 @@ root_among bytes node (fork l at c r) h m = middle (λ x. node ≢ x) (nodes_of 
 
 -- ---- from the way on
 
-module _ (bytes : List ℕ) (root : ℕ) (path : Path) (order : ℕ → ℕ → Ordering) (node : ℕ) (shape : Tree) (r : path.root ≡ root) (way : IsWayTo order node shape path.steps.items) where
-  abbrev found : Option ℕ
-  found = target bytes (last_word path.root path.steps.items)
-
-  rest_hangs : IsTree bytes (target bytes root) shape → IsTree bytes found way.rest
+module _ (bytes : List ℕ) (root : ℕ) (path : Path) (turn : ℕ → Ordering) (node : ℕ) (shape : Tree) (r : path.root ≡ root) (way : LeadsTo turn shape path) where
+  pub rest_hangs : IsTree bytes (target bytes root) shape → IsTree bytes (node_at bytes path) way.rest
   rest_hangs h =
       let word : last_word path.root path.steps.items ≡ place path.root way.layers = ap (last_word path.root) way.steps_are ∙ last_word-steps path.root way.layers in
       subst (λ w. IsTree bytes (target bytes w) way.rest) (sym word)
@@ -112,20 +110,12 @@ module _ (bytes : List ℕ) (root : ℕ) (path : Path) (order : ℕ → ℕ → 
     apart = subst (λ q. StandApart (length bytes) q (nodes_of (plug way.rest way.layers))) (sym r) (subst (λ t. StandApart (length bytes) root (nodes_of t)) (sym way.shape_is) a);
   }
 
-  -- no node is there: nothing changes
-  pub left_alone : IsTotalOrder order → IsSearchTree bytes root shape → Ascend order (nodes_of shape) → (found ≡ Some node → ⊥) → Leaves bytes bytes root (nodes_of shape) (without_node node (nodes_of shape))
-  left_alone total t a n =
-      let in_order : Ascend order (nodes_of (plug way.rest way.layers)) = subst (λ t. Ascend order (nodes_of t)) (sym way.shape_is) a in
-      let ends = not_at_end order total node bytes found way.rest (rest_hangs t.is_tree) way.ends (ascend-down order way.rest way.layers in_order) n in
-      let missing : AllByRecursion (λ x. node ≢ x) (nodes_of shape) = subst (λ t. AllByRecursion (λ x. node ≢ x) (nodes_of t)) way.shape_is (not_aside order total node way.layers way.rest in_order way.leads ends) in
-      record { shape = shape; tree = t; nodes_are = sym (without_absent node (nodes_of shape) missing); kept = keeps-none bytes root (nodes_of shape) }
-
-  pub not_absent : IsSearchTree bytes root shape → found ≡ Some node → AllByRecursion (λ x. node ≢ x) (nodes_of shape) → ⊥
+  pub not_absent : IsSearchTree bytes root shape → node_at bytes path ≡ Some node → AllByRecursion (λ x. node ≢ x) (nodes_of shape) → ⊥
   not_absent t e m =
       let all : AllByRecursion (λ x. node ≢ x) (before way.layers ++ (nodes_of way.rest ++ behind way.layers)) = subst (λ ns. AllByRecursion (λ x. node ≢ x) ns) (ap nodes_of (sym way.shape_is) ∙ nodes_plug way.layers way.rest) m in
       root_among bytes node way.rest (subst (λ o. IsTree bytes o way.rest) e (rest_hangs t.is_tree)) (each_left _ (nodes_of way.rest) (behind way.layers) (each_right _ (before way.layers) (nodes_of way.rest ++ behind way.layers) all))
 
-  pub named_there : found ≡ Some node → target bytes (place path.root way.layers) ≡ Some node
+  pub named_there : node_at bytes path ≡ Some node → target bytes (place path.root way.layers) ≡ Some node
   named_there e = ap (target bytes) (sym (ap (last_word path.root) way.steps_are ∙ last_word-steps path.root way.layers)) ∙ e
 
   pub whole_red : IsSearchTree bytes root shape → IsRedBlack (plug way.rest way.layers)
@@ -134,13 +124,23 @@ module _ (bytes : List ℕ) (root : ℕ) (path : Path) (order : ℕ → ℕ → 
   pub whole_few : IsSearchTree bytes root shape → length (nodes_of (plug way.rest way.layers)) < 2 ^ 32
   whole_few t = subst (λ s. length (nodes_of s) < 2 ^ 32) (sym way.shape_is) t.few
 
+module _ (bytes : List ℕ) (root : ℕ) (path : Path) (order : ℕ → ℕ → Ordering) (node : ℕ) (shape : Tree) (r : path.root ≡ root) (way : LeadsTo (order node) shape path) where
+  -- no node is there: nothing changes
+  pub left_alone : IsTotalOrder order → IsSearchTree bytes root shape → Ascend order (nodes_of shape) → (node_at bytes path ≡ Some node → ⊥) → Leaves bytes bytes root (nodes_of shape) (without_node node (nodes_of shape))
+  left_alone total t a n =
+      let in_order : Ascend order (nodes_of (plug way.rest way.layers)) = subst (λ t. Ascend order (nodes_of t)) (sym way.shape_is) a in
+      let ends = not_at_end order total node bytes (node_at bytes path) way.rest (rest_hangs bytes root path (order node) node shape r way t.is_tree) way.ends (ascend-down order way.rest way.layers in_order) n in
+      let missing : AllByRecursion (λ x. node ≢ x) (nodes_of shape) = subst (λ t. AllByRecursion (λ x. node ≢ x) (nodes_of t)) way.shape_is (not_aside order total node way.layers way.rest in_order way.leads ends) in
+      record { shape = shape; tree = t; nodes_are = sym (without_absent node (nodes_of shape) missing); kept = keeps-none bytes root (nodes_of shape) }
+
 fewer : (node : ℕ) (old new : List ℕ) → Loses node old new → length old < 2 ^ 32 → length new < 2 ^ 32
 fewer node old new l few =
     let o : length old ≡ length l.front + length (node ∷ l.back) = ap length l.old_is ∙ length-append l.front (node ∷ l.back) in
     let n : length new ≡ length l.front + length l.back = ap length l.new_is ∙ length-append l.front l.back in
     omega arith
 
-module _ (bytes one : List ℕ) (root : ℕ) (path last : Path) (order : ℕ → ℕ → Ordering) (node : ℕ) (shape : Tree) (r : path.root ≡ root) (way : IsWayTo order node shape path.steps.items) (q : last.root ≡ path.root) (t : IsSearchTree bytes root shape) (a : StandApart (length bytes) root (nodes_of shape)) where
+module _ (bytes one : List ℕ) (root : ℕ) (path last : Path) (turn : ℕ → Ordering) (node : ℕ) (shape : Tree) (r : path.root ≡ root) (way : LeadsTo turn shape path) (q : last.root ≡ path.root) (t : IsSearchTree bytes root shape)
+    (a : StandApart (length bytes) root (nodes_of shape)) where
   -- a red node was taken out: the rules of colour hold
   pub red_left : Unlinks bytes one last way.layers way.rest node Red → Leaves bytes one root (nodes_of shape) (without_node node (nodes_of shape))
   red_left u =
@@ -159,7 +159,8 @@ module _ (bytes one : List ℕ) (root : ℕ) (path last : Path) (order : ℕ →
       record {
         steps_are = u.steps_are;
         hangs = u.turned.hangs;
-        apart = subst (λ w. StandApart (length one) w (nodes_of (plug u.part u.above))) (sym (q ∙ r)) (subst (λ n. StandApart n root (nodes_of (plug u.part u.above))) (sym u.turned.kept.length_kept) (apart_lost (length bytes) root node (nodes_of shape) (nodes_of (plug u.part u.above)) lost a));
+        apart = subst (λ w. StandApart (length one) w (nodes_of (plug u.part u.above))) (sym (q ∙ r)) (subst (λ n. StandApart n root (nodes_of (plug u.part u.above))) (sym u.turned.kept.length_kept)
+            (apart_lost (length bytes) root node (nodes_of shape) (nodes_of (plug u.part u.above)) lost a));
       }
 
   -- a black one was, and what was short is restored
@@ -168,7 +169,8 @@ module _ (bytes one : List ℕ) (root : ℕ) (path last : Path) (order : ℕ →
       let lost : Loses node (nodes_of shape) (nodes_of (plug u.part u.above)) = subst (λ s. Loses node (nodes_of s) (nodes_of (plug u.part u.above))) way.shape_is u.lost in
       let first : Turns bytes one root shape (plug u.part u.above) = subst (λ w. Turns bytes one w shape (plug u.part u.above)) (q ∙ r) (subst (λ s. Turns bytes one last.root s (plug u.part u.above)) way.shape_is u.turned) in
       let second : Turns one new root (plug u.part u.above) s.shape = subst (λ w. Turns one new w (plug u.part u.above) s.shape) (q ∙ r) s.turned in
-      let wider : KeepsBeside one new root (nodes_of shape) = keeps-wider one new root root (nodes_of (plug u.part u.above)) (nodes_of shape) (λ p n h k. (h, each_lost (λ x. Separate p n x 16) node (nodes_of shape) (nodes_of (plug u.part u.above)) lost k)) second.kept in
+      let wider : KeepsBeside one new root (nodes_of shape) = keeps-wider one new root root (nodes_of (plug u.part u.above)) (nodes_of shape)
+      (λ p n h k. (h, each_lost (λ x. Separate p n x 16) node (nodes_of shape) (nodes_of (plug u.part u.above)) lost k)) second.kept in
       record {
         shape = s.shape;
         tree = record { is_tree = second.hangs; red_black = s.red_black; few = subst (λ ns. length ns < 2 ^ 32) (sym s.nodes_are) (fewer node (nodes_of shape) (nodes_of (plug u.part u.above)) lost t.few) };

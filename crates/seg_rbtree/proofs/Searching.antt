@@ -118,7 +118,8 @@ right bytes p shape (fork l a c r) at found count e t u f k =
       looks_are = omega (arith, k, way);
     }
 
-pub searching_right : (bytes : List ℕ) (p : ℕ → Bool) (shape : Tree) (at : ℕ) (found : Option ℕ) (count : ℕ) → p at ≡ false → IsSearching bytes p shape (Some at) found count → IsSearching bytes p shape (target bytes (at + 4)) found (count + 1)
+pub searching_right : (bytes : List ℕ) (p : ℕ → Bool) (shape : Tree) (at : ℕ) (found : Option ℕ) (count : ℕ) → p at ≡ false → IsSearching bytes p shape (Some at) found count
+    → IsSearching bytes p shape (target bytes (at + 4)) found (count + 1)
 searching_right bytes p shape at found count e s = right bytes p shape s.rest at found count e s.hangs s.upward s.node_is s.looks_are
 
 -- what a search ends with
@@ -144,11 +145,13 @@ searching_stop bytes p shape place found count m s = no_more bytes p shape s.res
 
 -- ---- as the code walks
 
-pub went_left : (bytes : List ℕ) (p : ℕ → Bool) (shape : Tree) (place found next : Option ℕ) (at count : ℕ) → place ≡ Some at → p at ≡ true → next ≡ target bytes at → IsSearching bytes p shape place found count → IsSearching bytes p shape next (Some at) (count + 1)
+pub went_left : (bytes : List ℕ) (p : ℕ → Bool) (shape : Tree) (place found next : Option ℕ) (at count : ℕ) → place ≡ Some at → p at ≡ true → next ≡ target bytes at → IsSearching bytes p shape place found count
+    → IsSearching bytes p shape next (Some at) (count + 1)
 went_left bytes p shape place found next at count e t n s =
     subst (λ o. IsSearching bytes p shape o (Some at) (count + 1)) (sym n) (searching_left bytes p shape at found count t (subst (λ o. IsSearching bytes p shape o found count) e s))
 
-pub went_right : (bytes : List ℕ) (p : ℕ → Bool) (shape : Tree) (place found next : Option ℕ) (at count : ℕ) → place ≡ Some at → p at ≡ false → next ≡ target bytes (at + 4) → IsSearching bytes p shape place found count → IsSearching bytes p shape next found (count + 1)
+pub went_right : (bytes : List ℕ) (p : ℕ → Bool) (shape : Tree) (place found next : Option ℕ) (at count : ℕ) → place ≡ Some at → p at ≡ false → next ≡ target bytes (at + 4) → IsSearching bytes p shape place found count
+    → IsSearching bytes p shape next found (count + 1)
 went_right bytes p shape place found next at count e t n s =
     subst (λ o. IsSearching bytes p shape o found (count + 1)) (sym n) (searching_right bytes p shape at found count t (subst (λ o. IsSearching bytes p shape o found count) e s))
 

@@ -74,7 +74,8 @@ becomes old new root nodes before after layers h n apart t e =
 -- ---- the red node is the root
 
 module _ (bytes : List ℕ) (root : ℕ) (nodes : List ℕ) (node : ℕ) where
-  at_root : (rest : List Step) (left right : Tree) (layers : List Layer) (height : ℕ) → steps_of layers ≡ [] → IsTree bytes (target bytes root) (plug (fork left node red right) layers) → nodes_of (plug (fork left node red right) layers) ≡ nodes
+  at_root : (rest : List Step) (left right : Tree) (layers : List Layer) (height : ℕ) → steps_of layers ≡ [] → IsTree bytes (target bytes root) (plug (fork left node red right) layers)
+      → nodes_of (plug (fork left node red right) layers) ≡ nodes
       → StandApart (length bytes) root nodes → IsBalanced (fork left node red right) height → Settles bytes (with_colour bytes node Black) root [] rest nodes None
   at_root rest left right [] height e h n apart b =
       let t = turns-painted bytes root Left node red Black left right h (subst (StandApart (length bytes) root) (sym n) apart) in
@@ -138,13 +139,15 @@ module _ (bytes : List ℕ) (root : ℕ) (nodes : List ℕ) (node : ℕ) where
     pub wants : Wants layers (suc height)
 
   -- the layer of a red node that is named, and what it wants
-  is_red_layer : (left right : Tree) (layer : Layer) (layers : List Layer) (parent : Step) → step_of layer ≡ parent → colour_at bytes (Some parent.node) ≡ Red → IsTree bytes (target bytes root) (plug (fork left node red right) (layer ∷ layers)) → layer.colour ≡ red
+  is_red_layer : (left right : Tree) (layer : Layer) (layers : List Layer) (parent : Step) → step_of layer ≡ parent → colour_at bytes (Some parent.node) ≡ Red
+      → IsTree bytes (target bytes root) (plug (fork left node red right) (layer ∷ layers)) → layer.colour ≡ red
   is_red_layer left right layer layers parent same c h =
       let here = branch-parts bytes (target bytes (place root layers)) layer.side layer.at layer.colour (fork left node red right) layer.other (tree-down bytes root (grow layer (fork left node red right)) layers h) in
       read-red bytes layer.at layer.colour here.coloured (ap (λ (s : Step). colour_at bytes (Some s.node)) same ∙ c)
 
   family_of : (rest more : List Step) (parent grandparent : Step) (left right : Tree) (layers : List Layer) (height : ℕ) → rest ++ parent ∷ [] ≡ steps_of layers → rest ≡ more ++ grandparent ∷ [] → colour_at bytes (Some parent.node) ≡ Red
-      → IsTree bytes (target bytes root) (plug (fork left node red right) layers) → nodes_of (plug (fork left node red right) layers) ≡ nodes → StandApart (length bytes) root nodes → IsBalanced (fork left node red right) height → Wants layers height
+      → IsTree bytes (target bytes root) (plug (fork left node red right) layers) → nodes_of (plug (fork left node red right) layers) ≡ nodes → StandApart (length bytes) root nodes → IsBalanced (fork left node red right) height
+      → Wants layers height
       → IsFamily parent grandparent more
   family_of rest more parent grandparent left right [] height e f c h n apart b w = absurd (some_step rest parent e)
   family_of rest more parent grandparent left right (layer ∷ []) height e f c h n apart b w =
@@ -162,7 +165,8 @@ module _ (bytes : List ℕ) (root : ℕ) (nodes : List ℕ) (node : ℕ) where
       let above : Wants layers (suc height) = subst (λ q. Wants layers (height_above q height)) is_black rest_wants.1 in
       let parent_tree = branch parent.side parent.node red node_tree layer.other in
       let low : grow layer node_tree ≡ parent_tree = same_layer parent.side parent.node red layer node_tree (ap (λ (s : Step). s.side) (sym last.1)) (ap (λ (s : Step). s.node) (sym last.1)) is_red in
-      let top : grow high parent_tree ≡ branch grandparent.side grandparent.node black parent_tree high.other = same_layer grandparent.side grandparent.node black high parent_tree (ap (λ (s : Step). s.side) (sym next.1)) (ap (λ (s : Step). s.node) (sym next.1)) is_black in
+      let top : grow high parent_tree ≡ branch grandparent.side grandparent.node black parent_tree high.other = same_layer grandparent.side grandparent.node black high parent_tree (ap (λ (s : Step). s.side) (sym next.1))
+      (ap (λ (s : Step). s.node) (sym next.1)) is_black in
       let whole : grow high (grow layer node_tree) ≡ branch grandparent.side grandparent.node black parent_tree high.other = ap (λ t. grow high t) low ∙ top in
       record {
         layers = layers;
@@ -182,7 +186,8 @@ module _ (bytes : List ℕ) (root : ℕ) (nodes : List ℕ) (node : ℕ) where
         wants = above;
       }
 
-  pub family : (steps rest more : List Step) (parent grandparent : Step) → steps ≡ rest ++ parent ∷ [] → rest ≡ more ++ grandparent ∷ [] → colour_at bytes (Some parent.node) ≡ Red → IsRising bytes root steps nodes node → IsFamily parent grandparent more
+  pub family : (steps rest more : List Step) (parent grandparent : Step) → steps ≡ rest ++ parent ∷ [] → rest ≡ more ++ grandparent ∷ [] → colour_at bytes (Some parent.node) ≡ Red → IsRising bytes root steps nodes node
+      → IsFamily parent grandparent more
   family steps rest more parent grandparent e f c s = family_of rest more parent grandparent s.left s.right s.layers s.height (sym e ∙ s.steps_are) f c s.hangs s.nodes_are s.apart s.balanced s.wants
 
   no_root_above : (rest : List Step) (parent : Step) (left right : Tree) (layers : List Layer) (height : ℕ) → rest ++ parent ∷ [] ≡ steps_of layers → rest ≡ [] → colour_at bytes (Some parent.node) ≡ Red

@@ -34,7 +34,8 @@ top_branch side at black near far layers r = inl (black-branch side at near far)
 top_branch side at red near far layers r = inr (r refl)
 
 -- a node of any colour on two black trees
-pub coloured_whole : (side : Side) (at : ℕ) (colour : Colour) (near far : Tree) (h : ℕ) (layers : List Layer) → IsBalanced near h → IsBalanced far h → IsBlack near → IsBlack far → (colour ≡ red → IsBelowBlack layers) → Wants layers (height_above colour h) → IsRedBlack (plug (branch side at colour near far) layers)
+pub coloured_whole : (side : Side) (at : ℕ) (colour : Colour) (near far : Tree) (h : ℕ) (layers : List Layer) → IsBalanced near h → IsBalanced far h → IsBlack near → IsBlack far → (colour ≡ red → IsBelowBlack layers)
+    → Wants layers (height_above colour h) → IsRedBlack (plug (branch side at colour near far) layers)
 coloured_whole side at colour near far h layers n f bn bf r w =
     balanced-up (branch side at colour near far) layers (record { height = height_above colour h; balanced = balanced_branch side at colour near far h n f (λ _. (bn, bf)); wants = w; top = top_branch side at colour near far layers r })
 
@@ -102,7 +103,8 @@ module _ (side : Side) (at sibling : ℕ) (colour : Colour) (inner outer : Tree)
   shortened bt bi bo s =
       let f = black-parts side sibling inner outer (suc s.height) (side_parts colour (branch side sibling black inner outer) layers (suc s.height) s.wanted.0).balanced in
       let same : s.height ≡ f.below = omega (arith, f.height_is) in
-      let beside_it : IsBalanced (branch side sibling red inner outer) s.height = subst (λ h. IsBalanced (branch side sibling red inner outer) h) (sym same) (balanced-red side sibling inner outer f.below bi bo f.near_balanced f.far_balanced) in
+      let beside_it : IsBalanced (branch side sibling red inner outer) s.height = subst (λ h. IsBalanced (branch side sibling red inner outer) h) (sym same)
+      (balanced-red side sibling inner outer f.below bi bo f.near_balanced f.far_balanced) in
       record {
         height = height_above colour s.height;
         wanted = subst (λ h. Wants layers h) (over_suc colour s.height) s.wanted.1;
@@ -120,7 +122,8 @@ inner_came_up side at sibling inner colour near far outer layers tree bt s =
     let g = red-parts side inner near far f.below f.near_balanced in
     let same : s.height ≡ f.below = omega (arith, f.height_is) in
     let t = subst (λ h. IsBalanced tree h) same (nearly_balanced tree s.height bt s.nearly) in
-    coloured_whole side inner colour (branch side at black tree near) (branch side sibling black far outer) (suc f.below) layers (balanced-black side at tree near f.below t g.near_balanced) (balanced-black side sibling far outer f.below g.far_balanced f.far_balanced)
+    coloured_whole side inner colour (branch side at black tree near) (branch side sibling black far outer) (suc f.below) layers (balanced-black side at tree near f.below t g.near_balanced)
+    (balanced-black side sibling far outer f.below g.far_balanced f.far_balanced)
     (black-branch side at tree near) (black-branch side sibling far outer) (λ e. (p.below_red e).1) (subst (λ h. Wants layers (height_above colour (suc h))) same s.wanted.1)
 
 -- the child on the other side is red: the sibling comes up, and this child is painted black

@@ -70,14 +70,16 @@ apart_lost len word node old new l a = record {
 
 -- ---- a node with one child at most
 
-pub lone_turned : (bytes : List ℕ) (at : ℕ) (side : Side) (node : ℕ) (colour : Colour) (only : Tree) → IsTree bytes (target bytes at) (branch side node colour leaf only) → StandApart (length bytes) at (nodes_of (branch side node colour leaf only))
+pub lone_turned : (bytes : List ℕ) (at : ℕ) (side : Side) (node : ℕ) (colour : Colour) (only : Tree) → IsTree bytes (target bytes at) (branch side node colour leaf only)
+    → StandApart (length bytes) at (nodes_of (branch side node colour leaf only))
     → Turns bytes (set_pointer bytes at (target bytes (side_word node (opposite side)))) at (branch side node colour leaf only) only
 lone_turned bytes at side node colour only h a =
     let p = parts-apart (length bytes) at side node colour leaf only a in
     let apart : StandApart (length bytes) at (nodes_of only) = record { small = a.small; word_fits = a.word_fits; nodes_fit = p.far_apart.nodes_fit; word_apart = p.word_far; nodes_apart = p.far_apart.nodes_apart } in
     turns-hung bytes at (target bytes (side_word node (opposite side))) (branch side node colour leaf only) only apart (branch-parts bytes (target bytes at) side node colour leaf only h).far_hangs
 
-left_state : (layers : List Layer) (side : Side) (only : Tree) (node : ℕ) (gone : Paint) → IsRedBlack (plug (branch side node (shade gone) leaf only) layers) → length (nodes_of (plug (branch side node (shade gone) leaf only) layers)) < 2 ^ 32 → IsLeft gone layers only
+left_state : (layers : List Layer) (side : Side) (only : Tree) (node : ℕ) (gone : Paint) → IsRedBlack (plug (branch side node (shade gone) leaf only) layers)
+    → length (nodes_of (plug (branch side node (shade gone) leaf only) layers)) < 2 ^ 32 → IsLeft gone layers only
 left_state layers side only node Black r few = black_unlinked layers side only node r few
 left_state layers side only node Red r few = red_unlinked layers side only node r
 
@@ -86,7 +88,8 @@ pub record IsLone (side : Side) (node : ℕ) (colour : Colour) (tree : Tree) : T
   pub only : Tree
   pub tree_is : tree ≡ branch side node colour leaf only
 
-pub lone_root : (bytes : List ℕ) (side : Side) (node : ℕ) (to : Option ℕ) (tree : Tree) (paint : Paint) → to ≡ Some node → paint ≡ colour_at bytes (Some node) → target bytes (side_word node side) ≡ None → IsTree bytes to tree → IsLone side node (shade paint) tree
+pub lone_root : (bytes : List ℕ) (side : Side) (node : ℕ) (to : Option ℕ) (tree : Tree) (paint : Paint) → to ≡ Some node → paint ≡ colour_at bytes (Some node) → target bytes (side_word node side) ≡ None → IsTree bytes to tree
+    → IsLone side node (shade paint) tree
 lone_root bytes side node to tree paint e p n h =
     let f = painted_fork bytes side node to tree paint e (sym p) h in
     let parts = branch-parts bytes to side node (shade paint) f.near f.far (subst (λ t. IsTree bytes to t) f.tree_is h) in
@@ -95,7 +98,8 @@ lone_root bytes side node to tree paint e p n h =
 
 pub lone_unlinked : (bytes new : List ℕ) (path : Path) (node : ℕ) (empty : Side) (gone : Paint) → gone ≡ colour_at bytes (Some node) → target bytes (side_word node empty) ≡ None
     → new ≡ set_pointer bytes (last_word path.root path.steps.items) (target bytes (side_word node (opposite empty)))
-    → (layers : List Layer) (tree : Tree) → StandsAt bytes path layers tree → IsRedBlack (plug tree layers) → length (nodes_of (plug tree layers)) < 2 ^ 32 → target bytes (place path.root layers) ≡ Some node → Unlinks bytes new path layers tree node gone
+    → (layers : List Layer) (tree : Tree) → StandsAt bytes path layers tree → IsRedBlack (plug tree layers) → length (nodes_of (plug tree layers)) < 2 ^ 32 → target bytes (place path.root layers) ≡ Some node
+    → Unlinks bytes new path layers tree node gone
 lone_unlinked bytes new path node empty gone eg en e3 layers tree s r few named =
     let f = lone_root bytes empty node (target bytes (place path.root layers)) tree gone named eg en (here bytes path layers tree s) in
     let old = branch empty node (shade gone) leaf f.only in
@@ -127,7 +131,8 @@ pub record IsDescending (bytes : List ℕ) (path : Path) (layers : List Layer) (
   pub left_hangs : IsTree bytes (target bytes first) left
   pub count_is : count ≡ length lower
 
-pub descending_start : (bytes : List ℕ) (path : Path) (to : Option ℕ) (first : ℕ) → to ≡ target bytes (last_word path.root path.steps.items) → to ≡ Some first → (layers : List Layer) (tree : Tree) → StandsAt bytes path layers tree → IsDescending bytes path layers tree first 0
+pub descending_start : (bytes : List ℕ) (path : Path) (to : Option ℕ) (first : ℕ) → to ≡ target bytes (last_word path.root path.steps.items) → to ≡ Some first → (layers : List Layer) (tree : Tree) → StandsAt bytes path layers tree
+    → IsDescending bytes path layers tree first 0
 descending_start bytes path to first e n layers tree s =
     let named : target bytes (place path.root layers) ≡ Some first = ap (target bytes) (sym (path_word bytes path layers tree s)) ∙ sym e ∙ n in
     start tree (subst (λ o. IsTree bytes o tree) named (here bytes path layers tree s))
@@ -136,7 +141,8 @@ descending_start bytes path to first e n layers tree s =
     start leaf h = absurd h
     start (fork l a c r) h = record { lower = []; left = l; tint = c; right = r; tree_is = ap (λ p. fork l p c r) h.0; leftward = tt; steps_are = s.steps_are; left_hangs = h.2; count_is = refl }
 
-pub descending_on : (bytes : List ℕ) (path next : Path) (layers : List Layer) (tree : Tree) (first left count : ℕ) (to : Option ℕ) → to ≡ target bytes first → to ≡ Some left → next.steps.items ≡ path.steps.items ++ record { node = first; side = Left } ∷ []
+pub descending_on : (bytes : List ℕ) (path next : Path) (layers : List Layer) (tree : Tree) (first left count : ℕ) (to : Option ℕ) → to ≡ target bytes first → to ≡ Some left
+    → next.steps.items ≡ path.steps.items ++ record { node = first; side = Left } ∷ []
     → IsDescending bytes path layers tree first count → IsDescending bytes next layers tree left (count + 1)
 descending_on bytes path next layers tree first left count to e n p d = go d.left d.tree_is (subst (λ o. IsTree bytes o d.left) (sym e ∙ n) d.left_hangs)
   where
@@ -154,7 +160,8 @@ descending_on bytes path next layers tree first left count to e n p d = go d.lef
       count_is = omega (arith, d.count_is);
     }
 
-pub descended : (bytes : List ℕ) (path : Path) (layers : List Layer) (tree : Tree) (first count : ℕ) (to : Option ℕ) → to ≡ target bytes first → to ≡ None → IsDescending bytes path layers tree first count → Descends path layers tree (Some first)
+pub descended : (bytes : List ℕ) (path : Path) (layers : List Layer) (tree : Tree) (first count : ℕ) (to : Option ℕ) → to ≡ target bytes first → to ≡ None → IsDescending bytes path layers tree first count
+    → Descends path layers tree (Some first)
 descended bytes path layers tree first count to e n d =
     let none : d.left ≡ leaf = no_tree bytes d.left (subst (λ o. IsTree bytes o d.left) (sym e ∙ n) d.left_hangs) in
     record {
@@ -169,20 +176,23 @@ descended bytes path layers tree first count to e n d =
     }
 
 -- there is room for the step
-pub descending_room : (bytes : List ℕ) (path : Path) (layers : List Layer) (tree : Tree) (first count : ℕ) → IsRedBlack (plug tree layers) → length (nodes_of (plug tree layers)) < 2 ^ 32 → IsDescending bytes path layers tree first count → length path.steps.items < 64
+pub descending_room : (bytes : List ℕ) (path : Path) (layers : List Layer) (tree : Tree) (first count : ℕ) → IsRedBlack (plug tree layers) → length (nodes_of (plug tree layers)) < 2 ^ 32 → IsDescending bytes path layers tree first count
+    → length path.steps.items < 64
 descending_room bytes path layers tree first count r few d =
     let same : plug tree layers ≡ plug (fork d.left first d.tint d.right) (d.lower ++ layers) = ap (λ t. plug t layers) d.tree_is ∙ sym (plug_on (fork d.left first d.tint d.right) d.lower layers) in
     let long : length path.steps.items ≡ length (d.lower ++ layers) = ap length d.steps_are ∙ length-steps (d.lower ++ layers) in
     let room : length (d.lower ++ layers) < 64 = room_above (d.lower ++ layers) d.left d.right first d.tint (subst (λ t. IsRedBlack t) same r) (subst (λ t. length (nodes_of t) < 2 ^ 32) same few) in
     omega arith
 
-pub descending_few : (bytes : List ℕ) (path : Path) (layers : List Layer) (tree : Tree) (first count : ℕ) → IsRedBlack (plug tree layers) → length (nodes_of (plug tree layers)) < 2 ^ 32 → IsDescending bytes path layers tree first count → count < 64
+pub descending_few : (bytes : List ℕ) (path : Path) (layers : List Layer) (tree : Tree) (first count : ℕ) → IsRedBlack (plug tree layers) → length (nodes_of (plug tree layers)) < 2 ^ 32 → IsDescending bytes path layers tree first count
+    → count < 64
 descending_few bytes path layers tree first count r few d =
     let long : length path.steps.items ≡ length (d.lower ++ layers) = ap length d.steps_are ∙ length-steps (d.lower ++ layers) in
     omega (arith, descending_room bytes path layers tree first count r few d, length-append d.lower layers, d.count_is)
 
 -- one step to the right
-pub stepped : (bytes : List ℕ) (path next : Path) (layers : List Layer) (left right : Tree) (node : ℕ) (colour : Colour) → StandsAt bytes path layers (fork left node colour right) → next.root ≡ path.root → next.steps.items ≡ path.steps.items ++ record { node = node; side = Right } ∷ []
+pub stepped : (bytes : List ℕ) (path next : Path) (layers : List Layer) (left right : Tree) (node : ℕ) (colour : Colour) → StandsAt bytes path layers (fork left node colour right) → next.root ≡ path.root
+    → next.steps.items ≡ path.steps.items ++ record { node = node; side = Right } ∷ []
     → StandsAt bytes next (layer_at Right node colour left ∷ layers) right
 stepped bytes path next layers left right node colour s r p = record {
   steps_are = p ∙ ap (λ ss. ss ++ record { node = node; side = Right } ∷ []) s.steps_are;
@@ -190,18 +200,22 @@ stepped bytes path next layers left right node colour s r p = record {
   apart = subst (λ root. StandApart (length bytes) root (nodes_of (plug (fork left node colour right) layers))) (sym r) s.apart;
 }
 
-pub step_room : (bytes : List ℕ) (path : Path) (layers : List Layer) (left right : Tree) (node : ℕ) (colour : Colour) → StandsAt bytes path layers (fork left node colour right) → IsRedBlack (plug (fork left node colour right) layers) → length (nodes_of (plug (fork left node colour right) layers)) < 2 ^ 32 → length path.steps.items < 64
+pub step_room : (bytes : List ℕ) (path : Path) (layers : List Layer) (left right : Tree) (node : ℕ) (colour : Colour) → StandsAt bytes path layers (fork left node colour right) → IsRedBlack (plug (fork left node colour right) layers)
+    → length (nodes_of (plug (fork left node colour right) layers)) < 2 ^ 32 → length path.steps.items < 64
 step_room bytes path layers left right node colour s r few = let long : length path.steps.items ≡ length layers = ap length s.steps_are ∙ length-steps layers in omega (arith, room_above layers left right node colour r few)
 
 -- ---- any node
 
 pub any_unlinked : (bytes new : List ℕ) (path last : Path) (node : ℕ) (gone : Paint) → (target bytes (node + 4) ≡ None → ⊥)
-    → ((layers : List Layer) (left right : Tree) (colour : Colour) → StandsAt bytes path layers (fork left node colour right) → IsRedBlack (plug (fork left node colour right) layers) → length (nodes_of (plug (fork left node colour right) layers)) < 2 ^ 32
+    → ((layers : List Layer) (left right : Tree) (colour : Colour) → StandsAt bytes path layers (fork left node colour right) → IsRedBlack (plug (fork left node colour right) layers)
+    → length (nodes_of (plug (fork left node colour right) layers)) < 2 ^ 32
     → target bytes (node + 4) ≢ None → Unlinks bytes new last layers (fork left node colour right) node gone)
-    → (layers : List Layer) (tree : Tree) → StandsAt bytes path layers tree → IsRedBlack (plug tree layers) → length (nodes_of (plug tree layers)) < 2 ^ 32 → target bytes (place path.root layers) ≡ Some node → Unlinks bytes new last layers tree node gone
+    → (layers : List Layer) (tree : Tree) → StandsAt bytes path layers tree → IsRedBlack (plug tree layers) → length (nodes_of (plug tree layers)) < 2 ^ 32 → target bytes (place path.root layers) ≡ Some node
+    → Unlinks bytes new last layers tree node gone
 any_unlinked bytes new path last node gone some law layers tree s r few named =
     let f = fork_at bytes Left node (target bytes (place path.root layers)) tree named (here bytes path layers tree s) in
-    (subst (λ t. StandsAt bytes path layers t → IsRedBlack (plug t layers) → length (nodes_of (plug t layers)) < 2 ^ 32 → Unlinks bytes new last layers t node gone) (sym f.tree_is) (λ s r few. law layers f.near f.far f.colour s r few some)) s r few
+    (subst (λ t. StandsAt bytes path layers t → IsRedBlack (plug t layers) → length (nodes_of (plug t layers)) < 2 ^ 32 → Unlinks bytes new last layers t node gone) (sym f.tree_is) (λ s r few. law layers f.near f.far f.colour s r few some))
+    s r few
 
 pub nothing_there : (o : Option ℕ) (r : Bool) → is_some o ≡ not r → r ≡ true → o ≡ None
 nothing_there None r e t = refl

@@ -60,7 +60,8 @@ colour_beside at Right = inr (omega arith)
 
 -- ---- up one layer, and to the root
 
-pub turns-up : (old new : List ℕ) (at : ℕ) (side : Side) (node : ℕ) (colour : Colour) (x far room y : Tree) → IsTree old (target old at) (branch side node colour x far) → StandApart (length old) at (nodes_of (branch side node colour room far))
+pub turns-up : (old new : List ℕ) (at : ℕ) (side : Side) (node : ℕ) (colour : Colour) (x far room y : Tree) → IsTree old (target old at) (branch side node colour x far)
+    → StandApart (length old) at (nodes_of (branch side node colour room far))
     → Turns old new (side_word node side) room y → Turns old new at (branch side node colour room far) (branch side node colour y far)
 turns-up old new at side node colour x far room y h apart t =
     let was = branch-parts old (target old at) side node colour x far h in
@@ -68,7 +69,8 @@ turns-up old new at side node colour x far room y h apart t =
     let root : target new at ≡ Some node = target-kept old new (side_word node side) at (nodes_of room) t.kept (side_word-apart node at 4 side p.word_node) p.word_near ∙ was.named in
     let opp = side_word node (opposite side) in
     let other : target new opp ≡ target old opp = target-kept old new (side_word node side) opp (nodes_of room) t.kept (two_words node side) (side_word-clear node (opposite side) (nodes_of room) p.node_near) in
-    let colours : HasColour new node colour = colour-kept old new (side_word node side) node (nodes_of room) colour t.kept (colour_beside node side) (clear-part node 16 (node + 8) 8 (nodes_of room) (omega arith) (omega arith) p.node_near) was.coloured in
+    let colours : HasColour new node colour = colour-kept old new (side_word node side) node (nodes_of room) colour t.kept (colour_beside node side) (clear-part node 16 (node + 8) 8 (nodes_of room) (omega arith) (omega arith) p.node_near)
+    was.coloured in
     let behind : IsTree new (target old opp) far = tree-kept old new (side_word node side) (nodes_of room) (target old opp) far t.kept (side_word-clear node side (nodes_of far) p.node_far) p.far_near was.far_hangs in
     record {
       hangs = subst (λ o. IsTree new o (branch side node colour y far)) (sym root) (branch-whole new side node colour y far colours t.hangs (subst (λ o. IsTree new o far) (sym other) behind));
@@ -127,8 +129,10 @@ recolour bytes node side colour paint near far fits cn cf h =
       colour_is = number-set_same 4 bytes (node + 8) v (omega arith) (small_colour paint) ∙ same_colour paint;
       zero_is = zero was.coloured.zero_is;
     })
-    (subst (λ o. IsTree new o near) (sym (target-word bytes (node + 8) v (side_word node side) (beside side))) (tree-word bytes (node + 8) v _ near (clear-part node 16 (node + 8) 4 (nodes_of near) (omega arith) (omega arith) cn) was.near_hangs))
-    (subst (λ o. IsTree new o far) (sym (target-word bytes (node + 8) v (side_word node (opposite side)) (beside (opposite side)))) (tree-word bytes (node + 8) v _ far (clear-part node 16 (node + 8) 4 (nodes_of far) (omega arith) (omega arith) cf) was.far_hangs))
+    (subst (λ o. IsTree new o near) (sym (target-word bytes (node + 8) v (side_word node side) (beside side)))
+    (tree-word bytes (node + 8) v _ near (clear-part node 16 (node + 8) 4 (nodes_of near) (omega arith) (omega arith) cn) was.near_hangs))
+    (subst (λ o. IsTree new o far) (sym (target-word bytes (node + 8) v (side_word node (opposite side)) (beside (opposite side))))
+    (tree-word bytes (node + 8) v _ far (clear-part node 16 (node + 8) 4 (nodes_of far) (omega arith) (omega arith) cf) was.far_hangs))
   where
     beside : (s : Side) → Separate (side_word node s) 4 (node + 8) 4
     beside Left = inl (omega arith)
@@ -137,14 +141,17 @@ recolour bytes node side colour paint near far fits cn cf h =
     zero : word bytes (node + 12) ≡ 0 → word (with_colour bytes node paint) (node + 12) ≡ 0
     zero z = number-set_other 4 4 bytes (node + 8) (colour_number paint) (node + 12) (inr (omega arith)) ∙ z
 
-pub turns-painted : (bytes : List ℕ) (at : ℕ) (side : Side) (node : ℕ) (colour : Colour) (paint : Paint) (near far : Tree) → IsTree bytes (target bytes at) (branch side node colour near far) → StandApart (length bytes) at (nodes_of (branch side node colour near far))
+pub turns-painted : (bytes : List ℕ) (at : ℕ) (side : Side) (node : ℕ) (colour : Colour) (paint : Paint) (near far : Tree) → IsTree bytes (target bytes at) (branch side node colour near far)
+    → StandApart (length bytes) at (nodes_of (branch side node colour near far))
     → Turns bytes (with_colour bytes node paint) at (branch side node colour near far) (branch side node (shade paint) near far)
 turns-painted bytes at side node colour paint near far h apart =
     let was = branch-parts bytes (target bytes at) side node colour near far h in
     let p = parts-apart (length bytes) at side node colour near far apart in
-    let named : target (with_colour bytes node paint) at ≡ Some node = target-word bytes (node + 8) (colour_number paint) at (separate-swap (node + 8) 4 at 4 (separate-part node 16 at 4 (node + 8) 4 (omega arith) (omega arith) (separate-swap at 4 node 16 p.word_node))) ∙ was.named in
+    let named : target (with_colour bytes node paint) at ≡ Some node = target-word bytes (node + 8) (colour_number paint) at
+    (separate-swap (node + 8) 4 at 4 (separate-part node 16 at 4 (node + 8) 4 (omega arith) (omega arith) (separate-swap at 4 node 16 p.word_node))) ∙ was.named in
     record {
-      hangs = subst (λ o. IsTree (with_colour bytes node paint) o (branch side node (shade paint) near far)) (sym named) (recolour bytes node side colour paint near far p.node_fits p.node_near p.node_far (subst (λ o. IsTree bytes o (branch side node colour near far)) was.named h));
+      hangs = subst (λ o. IsTree (with_colour bytes node paint) o (branch side node (shade paint) near far)) (sym named)
+          (recolour bytes node side colour paint near far p.node_fits p.node_near p.node_far (subst (λ o. IsTree bytes o (branch side node colour near far)) was.named h));
       kept = keeps-inside bytes (node + 8) (colour_number paint) at (nodes_of (branch side node colour near far)) (λ q n k.
           separate-swap (node + 8) 4 q n (separate-part node 16 q n (node + 8) 4 (omega arith) (omega arith) (separate-swap q n node 16 (clear-parts q n side node colour near far k).node_apart)));
     }
@@ -183,20 +190,34 @@ module _ (bytes : List ℕ) (at : ℕ) (side : Side) (node up : ℕ) (colour upp
       let long_first : length first ≡ length bytes = length-set_number 4 bytes (side_word node (opposite side)) (distance (side_word node (opposite side)) (target bytes (side_word up side))) in
       let long_second : length second ≡ length bytes = length-set_number 4 first (side_word up side) (distance (side_word up side) (Some node)) ∙ long_first in
       let v = distance (side_word node (opposite side)) (target bytes (side_word up side)) in
-      let apart_between : StandApart (length bytes) (side_word node (opposite side)) (nodes_of m) = record { small = apart.small; word_fits = p.far_apart.word_fits; nodes_fit = q.near_apart.nodes_fit; word_apart = q.word_near; nodes_apart = q.near_apart.nodes_apart } in
+      let apart_between : StandApart (length bytes) (side_word node (opposite side)) (nodes_of m) = record {
+        small = apart.small;
+        word_fits = p.far_apart.word_fits;
+        nodes_fit = q.near_apart.nodes_fit;
+        word_apart = q.word_near;
+        nodes_apart =
+            q.near_apart.nodes_apart;
+      } in
       let near_back : IsTree bytes (target bytes (side_word node (opposite (opposite side)))) x = subst (λ s. IsTree bytes (target bytes (side_word node s)) x) (sym (opposite-twice side)) low.near_hangs in
-      let lower : IsTree first (Some node) (branch side node colour x m) = subst (IsTree first (Some node)) (branch-flip side node colour m x) (relink bytes node colour (opposite side) (target bytes (side_word up side)) m x low.coloured high.near_hangs near_back apart_between p.node_near) in
+      let lower : IsTree first (Some node) (branch side node colour x m) = subst (IsTree first (Some node)) (branch-flip side node colour m x)
+      (relink bytes node colour (opposite side) (target bytes (side_word up side)) m x low.coloured high.near_hangs near_back apart_between p.node_near) in
       let up_clear = (clear-parts (side_word node (opposite side)) 4 side up upper m d p.far_apart.word_apart) in
       let word_up : Separate (side_word node (opposite side)) 4 up 16 = up_clear.node_apart in
-      let up_colour : HasColour first up upper = colour-word bytes (side_word node (opposite side)) v up upper (separate-part up 16 (side_word node (opposite side)) 4 (up + 8) 8 (omega arith) (omega arith) (separate-swap (side_word node (opposite side)) 4 up 16 word_up)) high.coloured in
-      let up_far : target first (side_word up (opposite side)) ≡ target bytes (side_word up (opposite side)) = target-word bytes (side_word node (opposite side)) v (side_word up (opposite side)) (separate-swap (side_word node (opposite side)) 4 (side_word up (opposite side)) 4 (side_word-apart up (side_word node (opposite side)) 4 (opposite side) word_up)) in
-      let behind : IsTree first (target first (side_word up (opposite side))) d = subst (λ o. IsTree first o d) (sym up_far) (tree-word bytes (side_word node (opposite side)) v (target bytes (side_word up (opposite side))) d up_clear.far_clear high.far_hangs) in
-      let whole : IsTree second (Some up) after = relink first up upper side (Some node) (branch side node colour x m) d up_colour lower behind (subst (λ n. StandApart n (side_word up side) (nodes_of (branch side node colour x m))) (sym long_first) r.near_apart) r.node_far in
+      let up_colour : HasColour first up upper = colour-word bytes (side_word node (opposite side)) v up upper
+      (separate-part up 16 (side_word node (opposite side)) 4 (up + 8) 8 (omega arith) (omega arith) (separate-swap (side_word node (opposite side)) 4 up 16 word_up)) high.coloured in
+      let up_far : target first (side_word up (opposite side)) ≡ target bytes (side_word up (opposite side)) = target-word bytes (side_word node (opposite side)) v (side_word up (opposite side))
+      (separate-swap (side_word node (opposite side)) 4 (side_word up (opposite side)) 4 (side_word-apart up (side_word node (opposite side)) 4 (opposite side) word_up)) in
+      let behind : IsTree first (target first (side_word up (opposite side))) d = subst (λ o. IsTree first o d) (sym up_far)
+      (tree-word bytes (side_word node (opposite side)) v (target bytes (side_word up (opposite side))) d up_clear.far_clear high.far_hangs) in
+      let whole : IsTree second (Some up) after = relink first up upper side (Some node) (branch side node colour x m) d up_colour lower behind
+      (subst (λ n. StandApart n (side_word up side) (nodes_of (branch side node colour x m))) (sym long_first) r.near_apart) r.node_far in
       let last = turns-hung second at (Some up) before after (subst (λ n. StandApart n at (nodes_of after)) (sym long_second) apart_after) whole in
       record {
         hangs = last.hangs;
-        kept = keeps-trans bytes first (set_pointer second at (Some up)) at (nodes_of before) (keeps-inside bytes (side_word node (opposite side)) v at (nodes_of before) (in_branch side node colour x (branch side up upper m d) (opposite side)))
-            (keeps-trans first second (set_pointer second at (Some up)) at (nodes_of before) (keeps-inside first (side_word up side) (distance (side_word up side) (Some node)) at (nodes_of before) (in_far side node up colour upper x m d side)) last.kept);
+        kept = keeps-trans bytes first (set_pointer second at (Some up)) at (nodes_of before) (keeps-inside bytes (side_word node (opposite side)) v at (nodes_of before)
+            (in_branch side node colour x (branch side up upper m d) (opposite side)))
+            (keeps-trans first second (set_pointer second at (Some up)) at (nodes_of before) (keeps-inside first (side_word up side) (distance (side_word up side) (Some node)) at (nodes_of before)
+            (in_far side node up colour upper x m d side)) last.kept);
       }
 
   -- the child on the other side comes up, the node goes down to a side, and what was between them stays between them

@@ -73,7 +73,8 @@ red_unlinked layers side only node r =
     balanced-up only layers (record { height = w.height; balanced = f.far_balanced; wants = w.wants; top = inl f.far_black })
 
 -- black: what is left is short
-pub black_unlinked : (layers : List Layer) (side : Side) (only : Tree) (node : ℕ) → IsRedBlack (plug (branch side node black leaf only) layers) → length (nodes_of (plug (branch side node black leaf only) layers)) < 2 ^ 32 → IsShort layers only
+pub black_unlinked : (layers : List Layer) (side : Side) (only : Tree) (node : ℕ) → IsRedBlack (plug (branch side node black leaf only) layers) → length (nodes_of (plug (branch side node black leaf only) layers)) < 2 ^ 32
+    → IsShort layers only
 black_unlinked layers side only node r few =
     let w = balanced-down (branch side node black leaf only) layers r in
     let f = black-parts side node leaf only w.height w.balanced in

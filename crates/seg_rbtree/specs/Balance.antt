@@ -23,4 +23,6 @@ SideFits red other layers height = IsBlack other × IsBalanced other height × I
 -- a balanced tree of this black height at the place makes the whole balanced
 abbrev pub Wants : List Layer → ℕ → Type 0
 Wants [] height = ⊤
-Wants (layer ∷ layers) height = SideFits layer.colour layer.other layers height × Wants layers (height_above layer.colour height)
+Wants (layer ∷ layers) height =
+    SideFits layer.colour layer.other layers height
+    × Wants layers (height_above layer.colour height)

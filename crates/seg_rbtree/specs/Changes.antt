@@ -35,7 +35,8 @@ IsNew order node nodes = AllByRecursion (λ x. order node x ≢ Equal) nodes
 -- the nodes with one more, in front of the first that is above it
 abbrev pub with_node : (ℕ → ℕ → Ordering) → ℕ → List ℕ → List ℕ
 with_node order node [] = node ∷ []
-with_node order node (x ∷ xs) = if is_lt (order node x) then node ∷ x ∷ xs else x ∷ with_node order node xs
+with_node order node (x ∷ xs) =
+    if is_lt (order node x) then node ∷ x ∷ xs else x ∷ with_node order node xs
 
 -- the nodes without that one
 abbrev pub without_node : ℕ → List ℕ → List ℕ
@@ -45,7 +46,8 @@ without_node node (x ∷ xs) = if node == x then xs else x ∷ without_node node
 -- there are as many bytes as before, and what lies beside the pointer word and the tree words of the nodes is kept
 pub record KeepsBeside (old new : List ℕ) (word : ℕ) (nodes : List ℕ) : Type 0 where
   pub length_kept : length new ≡ length old
-  pub others : (p n : ℕ) → Separate p n word 4 → AllByRecursion (λ q. Separate p n q 16) nodes → IsSame old new p n
+  pub others : (p n : ℕ) → Separate p n word 4 → AllByRecursion (λ q. Separate p n q 16) nodes
+      → IsSame old new p n
 
 -- a search tree of these nodes hangs at the pointer word `root`; beside it and what was touched all bytes are kept
 pub record Leaves (old new : List ℕ) (root : ℕ) (touched nodes : List ℕ) : Type 0 where

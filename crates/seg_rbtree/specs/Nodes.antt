@@ -51,17 +51,21 @@ with_colour bytes node colour = set_word bytes (node + 8) (colour_number colour)
 
 -- the bytes with a red node without children
 abbrev pub with_new_node : List ℕ → ℕ → List ℕ
-with_new_node bytes node = set_word (with_colour (with_child (with_child bytes node Left None) node Right None) node Red) (node + 12) 0
+with_new_node bytes node =
+    let lone = with_child (with_child bytes node Left None) node Right None in
+    set_word (with_colour lone node Red) (node + 12) 0
 
 -- the bytes after a node went down to a side of the node that comes up to its pointer word
 abbrev pub rotated_up : List ℕ → ℕ → ℕ → Side → Option ℕ → List ℕ
 rotated_up bytes word node side None = bytes
 rotated_up bytes word node side (Some up) =
-    set_pointer (with_child (with_child bytes node (opposite side) (target bytes (side_word up side))) up side (Some node)) word (Some up)
+    let moved = with_child bytes node (opposite side) (target bytes (side_word up side)) in
+    set_pointer (with_child moved up side (Some node)) word (Some up)
 
 -- the bytes after the node at a pointer word went down to a side, and its child on the other side came up
 abbrev pub rotated : List ℕ → ℕ → ℕ → Side → List ℕ
-rotated bytes word node side = rotated_up bytes word node side (target bytes (side_word node (opposite side)))
+rotated bytes word node side =
+    rotated_up bytes word node side (target bytes (side_word node (opposite side)))
 
 -- the bytes with the node that came up black, and the other one red
 abbrev pub raised_up : List ℕ → ℕ → Option ℕ → List ℕ
@@ -70,7 +74,8 @@ raised_up bytes node (Some up) = with_colour (with_colour bytes up Black) node R
 
 -- the bytes after the node at a pointer word went down to a side, red, and its child on the other side came up, black
 abbrev pub raised : List ℕ → ℕ → ℕ → Side → List ℕ
-raised bytes word node side = raised_up (rotated bytes word node side) node (target bytes (side_word node (opposite side)))
+raised bytes word node side =
+    raised_up (rotated bytes word node side) node (target bytes (side_word node (opposite side)))
 
 abbrev pub is_same : Side → Side → Bool
 is_same Left Left = true
@@ -80,8 +85,10 @@ is_same Right Right = true
 
 -- the bytes after the inner one of a node's grandchildren on a side came up, where the way turns
 abbrev pub turned_out : List ℕ → ℕ → Side → ℕ → Side → List ℕ
-turned_out bytes grandparent way parent turn = if is_same turn way then bytes else rotated bytes (side_word grandparent way) parent way
+turned_out bytes grandparent way parent turn =
+    if is_same turn way then bytes else rotated bytes (side_word grandparent way) parent way
 
 -- the bytes after the middle one of three nodes came up to the pointer word
 abbrev pub straightened : List ℕ → ℕ → ℕ → Side → ℕ → Side → List ℕ
-straightened bytes word grandparent way parent turn = raised (turned_out bytes grandparent way parent turn) word grandparent (opposite way)
+straightened bytes word grandparent way parent turn =
+    raised (turned_out bytes grandparent way parent turn) word grandparent (opposite way)

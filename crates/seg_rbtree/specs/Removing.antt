@@ -2,8 +2,9 @@
 --     IsShort layers tree                 it has one black node too few on each way down
 --     turns layers tree                   so many turns make that good at most
 --     StandsAt bytes path layers tree     a tree stands at the place that a path leads to
+--     WhereRedBlack bytes path layers tree claim      a claim of such a place in a red-black tree
 --     Lengthens, Unlinks ..               what the steps do
-use Rattle.std.specs.Prelude.{◌≡◌, ℕ, suc, ◌+◌, ◌<◌, ⊤, Bool, MatchBool, List, [], ◌∷◌, ◌++◌, length, Option, Some}
+use Rattle.std.specs.Prelude.{◌≡◌, ℕ, suc, ◌+◌, ◌^◌, ◌<◌, ⊤, Bool, MatchBool, List, [], ◌∷◌, ◌++◌, length, Option, Some}
 use Rattle.seg_spec.specs.Pointer.{target}
 use Rattle.seg_spec.specs.Shapes.{Colour, black, red, Tree, leaf, fork, nodes_of, IsTree, IsBalanced, IsRedBlack}
 use Rattle.seg_rbtree.specs.declared.node.Side.{Side}
@@ -66,13 +67,23 @@ layer_at side at colour other = record { side = side; at = at; colour = colour; 
 
 -- the bytes with the children and the colour of a node given to another
 abbrev pub in_place_of : List ℕ → ℕ → ℕ → List ℕ
-in_place_of bytes from to = with_colour (with_child (with_child bytes to Left (target bytes from)) to Right (target bytes (from + 4))) to (colour_at bytes (Some from))
+in_place_of bytes from to =
+    let left = with_child bytes to Left (target bytes from) in
+    let both = with_child left to Right (target bytes (from + 4)) in
+    with_colour both to (colour_at bytes (Some from))
 
 -- a tree stands at the place that a path leads to, below layers
-pub record StandsAt (bytes : List ℕ) (path : Path) (layers : List Layer) (tree : Tree) : Type 0 where
+pub record StandsAt (bytes : List ℕ) (path : Path) (layers : List Layer)
+    (tree : Tree) : Type 0 where
   pub steps_are : path.steps.items ≡ steps_of layers
   pub hangs : IsTree bytes (target bytes path.root) (plug tree layers)
   pub apart : StandApart (length bytes) path.root (nodes_of (plug tree layers))
+
+-- the claim holds where the whole tree keeps the rules of colour, and has no more nodes than a segment
+abbrev pub WhereRedBlack : List ℕ → Path → List Layer → Tree → Type 0 → Type 0
+WhereRedBlack bytes path layers tree claim =
+    StandsAt bytes path layers tree → IsRedBlack (plug tree layers)
+    → length (nodes_of (plug tree layers)) < 2 ^ 32 → claim
 
 -- what a removed node of a colour leaves
 abbrev pub IsLeft : Tint → List Layer → Tree → Type 0
@@ -80,7 +91,8 @@ IsLeft Black layers tree = IsShort layers tree
 IsLeft Red layers tree = IsRedBlack (plug tree layers)
 
 -- a node is taken out of a tree, which may be short then at the place that the path leads to
-pub record Unlinks (old new : List ℕ) (path : Path) (layers : List Layer) (tree : Tree) (node : ℕ) (gone : Tint) : Type 0 where
+pub record Unlinks (old new : List ℕ) (path : Path) (layers : List Layer) (tree : Tree) (node : ℕ)
+    (gone : Tint) : Type 0 where
   pub above : List Layer
   pub part : Tree
   pub steps_are : path.steps.items ≡ steps_of above
@@ -89,15 +101,20 @@ pub record Unlinks (old new : List ℕ) (path : Path) (layers : List Layer) (tre
   pub state : IsLeft gone above part
 
 -- a short part is made longer, or a larger one around it is short, or one for which it is easier
-pub record Lengthens (old new : List ℕ) (path : Path) (layers : List Layer) (tree : Tree) (more : Bool) : Type 0 where
+pub record Lengthens (old new : List ℕ) (path : Path) (layers : List Layer) (tree : Tree)
+    (more : Bool) : Type 0 where
   pub above : List Layer
   pub part : Tree
   pub turned : Turns old new path.root (plug tree layers) (plug part above)
   pub nodes_are : nodes_of (plug part above) ≡ nodes_of (plug tree layers)
-  pub state : MatchBool more (IsShort above part × (path.steps.items ≡ steps_of above) × (turns above part < turns layers tree)) (IsRedBlack (plug part above))
+  pub state : MatchBool more
+      (IsShort above part × (path.steps.items ≡ steps_of above)
+      × (turns above part < turns layers tree))
+      (IsRedBlack (plug part above))
 
 -- from a place below layers a path goes on to the first node below it
-pub record Descends (path : Path) (layers : List Layer) (tree : Tree) (result : Option ℕ) : Type 0 where
+pub record Descends (path : Path) (layers : List Layer) (tree : Tree)
+    (result : Option ℕ) : Type 0 where
   pub lower : List Layer
   pub next : ℕ
   pub tint : Colour
@@ -108,14 +125,21 @@ pub record Descends (path : Path) (layers : List Layer) (tree : Tree) (result : 
   pub steps_are : path.steps.items ≡ steps_of (lower ++ layers)
 
 -- the sibling comes up, black, and the path goes on to the part beside it
-pub record Lowers (old new : List ℕ) (path : Path) (side : Side) (node sibling : ℕ) (colour other : Colour) (layers : List Layer) (tree inner outer : Tree) : Type 0 where
-  pub turned : Turns old new path.root (plug (branch side node colour tree (branch side sibling other inner outer)) layers) (plug (branch side sibling black (branch side node red tree inner) outer) layers)
-  pub steps_are : path.steps.items ≡ steps_of (layer_at side node red inner ∷ layer_at side sibling black outer ∷ layers)
+pub record Lowers (old new : List ℕ) (path : Path) (side : Side) (node sibling : ℕ)
+    (colour other : Colour) (layers : List Layer) (tree inner outer : Tree) : Type 0 where
+  pub turned : Turns old new path.root
+      (plug (branch side node colour tree (branch side sibling other inner outer)) layers)
+      (plug (branch side sibling black (branch side node red tree inner) outer) layers)
+  pub steps_are : path.steps.items
+      ≡ steps_of (layer_at side node red inner ∷ layer_at side sibling black outer ∷ layers)
 
 -- the node beside a part comes up in the colour of the node above both, which goes down, black
-abbrev pub ComesUp : List ℕ → List ℕ → ℕ → Side → ℕ → ℕ → Colour → Colour → List Layer → Tree → Tree → Tree → Type 0
+abbrev pub ComesUp : List ℕ → List ℕ → ℕ → Side → ℕ → ℕ → Colour → Colour → List Layer
+    → Tree → Tree → Tree → Type 0
 ComesUp old new root side node up colour other layers tree inner outer =
-    Turns old new root (plug (branch side node colour tree (branch side up other inner outer)) layers) (plug (branch side up colour (branch side node black tree inner) outer) layers)
+    Turns old new root
+    (plug (branch side node colour tree (branch side up other inner outer)) layers)
+    (plug (branch side up colour (branch side node black tree inner) outer) layers)
 
 -- the rules of colour hold again
 pub record Restores (old new : List ℕ) (root : ℕ) (whole : Tree) : Type 0 where

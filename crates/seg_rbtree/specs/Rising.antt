@@ -11,7 +11,8 @@ use Rattle.seg_rbtree.specs.Changes.{StandApart, KeepsBeside}
 use Rattle.seg_rbtree.specs.Balance.{Wants}
 
 -- the steps lead to a red node; all is in order but that the node above it may be red, or that it is the root
-pub record IsRising (bytes : List ℕ) (root : ℕ) (steps : List Step) (nodes : List ℕ) (node : ℕ) : Type 0 where
+pub record IsRising (bytes : List ℕ) (root : ℕ) (steps : List Step) (nodes : List ℕ)
+    (node : ℕ) : Type 0 where
   pub layers : List Layer
   pub left : Tree
   pub right : Tree
@@ -31,6 +32,8 @@ pub record IsSettled (bytes : List ℕ) (root : ℕ) (nodes : List ℕ) : Type 0
   pub red_black : IsRedBlack shape
 
 -- one turn: it is settled, or a red node rises that is two steps further up
-pub record Settles (old new : List ℕ) (root : ℕ) (steps rest : List Step) (nodes : List ℕ) (result : Option ℕ) : Type 0 where
+pub record Settles (old new : List ℕ) (root : ℕ) (steps rest : List Step) (nodes : List ℕ)
+    (result : Option ℕ) : Type 0 where
   pub kept : KeepsBeside old new root nodes
-  pub rises : MatchOption result (IsSettled new root nodes) (λ up. IsRising new root rest nodes up × (length rest + 2 ≤ length steps))
+  pub rises : MatchOption result (IsSettled new root nodes)
+      (λ up. IsRising new root rest nodes up × (length rest + 2 ≤ length steps))

@@ -5,7 +5,7 @@
 --     place root layers                   the position of the pointer to the place
 --     steps_of layers                     the layers as a path names them, the outermost first
 --     last_word root steps                the position of the pointer behind the last step
---     IsWayTo order node shape steps      these steps lead to a node, or to the empty place where it would stand
+--     LeadsTo turn shape path             the path leads to what is sought, or to the empty place where it would stand
 use Rattle.std.specs.Prelude.{◌≡◌, ℕ, ⊤, List, [], ◌∷◌, ◌++◌}
 use Rattle.std.specs.List.{AllByRecursion}
 use Rattle.std.specs.declared.cmp.Ordering.{Ordering}
@@ -14,6 +14,7 @@ use Rattle.seg_spec.specs.Shapes.{Colour, Tree, leaf, fork}
 use Rattle.seg_rbtree.specs.declared.node.Side.{Side}
 use Rattle.seg_rbtree.specs.declared.node.Side.TheVariants.{Left, Right}
 use Rattle.seg_rbtree.specs.declared.path.Step.{Step}
+use Rattle.seg_rbtree.specs.declared.path.Path.{Path}
 use Rattle.seg_rbtree.specs.Nodes.{side_word}
 
 -- a node with one tree on a side, and another on the other
@@ -56,25 +57,26 @@ abbrev pub last_word : ℕ → List Step → ℕ
 last_word root [] = root
 last_word root (step ∷ steps) = last_word (side_word step.node step.side) steps
 
--- how a node compares with one that it stands on a side of
+-- how what is sought compares with a node on whose side it stands
 abbrev pub turn_of : Side → Ordering
 turn_of Left = Less
 turn_of Right = Greater
 
--- from each layer the way goes on to the side where the node stands
-abbrev pub LeadBy : (ℕ → ℕ → Ordering) → ℕ → List Layer → Type 0
-LeadBy order node layers = AllByRecursion (λ layer. order node layer.at ≡ turn_of layer.side) layers
+-- from each layer the way goes on to the side that the turn says
+abbrev pub LeadBy : (ℕ → Ordering) → List Layer → Type 0
+LeadBy turn layers = AllByRecursion (λ layer. turn layer.at ≡ turn_of layer.side) layers
 
--- nothing stands there, or a node that equals this one
-abbrev pub EndsAt : (ℕ → ℕ → Ordering) → ℕ → Tree → Type 0
-EndsAt order node leaf = ⊤
-EndsAt order node (fork left at colour right) = order node at ≡ Equal
+-- nothing stands there, or a node that equals what is sought
+abbrev pub EndsAt : (ℕ → Ordering) → Tree → Type 0
+EndsAt turn leaf = ⊤
+EndsAt turn (fork left at colour right) = turn at ≡ Equal
 
--- the steps lead to the node, or to the empty place where it would stand
-pub record IsWayTo (order : ℕ → ℕ → Ordering) (node : ℕ) (shape : Tree) (steps : List Step) : Type 0 where
+-- The path leads to what is sought, or to the empty place where it would stand. Turn says how what is sought compares with a
+-- node. Neither speaks of bytes: a path leads where it led while the nodes compare as they did.
+pub record LeadsTo (turn : ℕ → Ordering) (shape : Tree) (path : Path) : Type 0 where
   pub layers : List Layer
   pub rest : Tree
   pub shape_is : plug rest layers ≡ shape
-  pub steps_are : steps ≡ steps_of layers
-  pub leads : LeadBy order node layers
-  pub ends : EndsAt order node rest
+  pub steps_are : path.steps.items ≡ steps_of layers
+  pub leads : LeadBy turn layers
+  pub ends : EndsAt turn rest

@@ -1,14 +1,18 @@
 ghost use Rattle.std.specs.Prelude.{◌≡◌, ℕ, ◌+◌, ◌<◌, ◌^◌, List, ◌∷◌, length};
+ghost use Rattle.std.specs.Cmp.{IsTotalOrder};
+ghost use Rattle.std.specs.declared.cmp.Ordering.{Ordering};
 ghost use Rattle.seg_spec.specs.Shapes.{nodes_of};
 ghost use Rattle.seg_spec.specs.Search.{Ascend, IsSearchTree};
 ghost use Rattle.seg_spec.specs.Window.{with_bytes};
 ghost use Rattle.seg_rbtree.specs.Changes.{StandApart, IsNew, with_node, Leaves};
 ghost use Rattle.seg_rbtree.specs.Nodes.{with_colour, raised, straightened};
 ghost use Rattle.seg_rbtree.specs.Rising.{IsRising, Settles};
-ghost use Rattle.seg_rbtree.specs.Roots.{root_word};
+ghost use Rattle.seg_rbtree.specs.Ways.{LeadsTo};
+ghost use Rattle.seg_rbtree.specs.Paths.{WhereOrdered};
+ghost use Rattle.seg_rbtree.specs.Roots.{root_word, path_root};
 
 use crate::node::{Colour, Side, child, child_word, init, is_red, paint, rotate};
-use crate::order::NodeOrder;
+use crate::order::{NodeOrder, Sought};
 use crate::path::{DEPTH, Path, Step};
 use crate::tree::Tree;
 use seg_ptr::Window;
@@ -23,20 +27,37 @@ impl Tree {
         node: u32,
     )
         ensures host { w.new ≡ with_bytes w.old w.new.bytes }
-        ensures added { O.exact → (shape : _) → IsSearchTree w.old.bytes (root_word self) shape → Ascend (O.compare order.now w.old.bytes) (nodes_of shape)
-            → IsNew (O.compare order.now w.old.bytes) node (nodes_of shape) → StandApart (length w.old.bytes) (root_word self) (node ∷ nodes_of shape)
+        ensures added { O.exact → WhereOrdered (O.compare order.now) w.old (root_word self)
+            (λ shape. IsNew (O.compare order.now w.old.bytes) node (nodes_of shape)
+            → StandApart (length w.old.bytes) (root_word self) (node ∷ nodes_of shape)
             → length (nodes_of shape) + 1 < 2 ^ 32
-            → Leaves w.old.bytes w.new.bytes (root_word self) (node ∷ nodes_of shape) (with_node (O.compare order.now w.old.bytes) node (nodes_of shape)) }
+            → Leaves w.old.bytes w.new.bytes (root_word self) (node ∷ nodes_of shape)
+            (with_node (O.compare order.now w.old.bytes) node (nodes_of shape))) }
     {
-        let mut path = self.path_to(w, order, node);
+        self.path_to(w, order, Sought::Node(node)).insert(w, node);
+    }
+}
+
+impl Path {
+    /// Adds a node at the empty place at the path's end. Only tree words and the root word change.
+    pub fn insert<A: Allocator>(mut self, w: &mut Window<A>, node: u32)
+        ensures host { w.new ≡ with_bytes w.old w.new.bytes }
+        ensures added { (order : ℕ → ℕ → Ordering) (shape : _) → IsTotalOrder order
+            → IsSearchTree w.old.bytes (path_root self) shape → Ascend order (nodes_of shape)
+            → LeadsTo (order node) shape self → IsNew order node (nodes_of shape)
+            → StandApart (length w.old.bytes) (path_root self) (node ∷ nodes_of shape)
+            → length (nodes_of shape) + 1 < 2 ^ 32
+            → Leaves w.old.bytes w.new.bytes (path_root self) (node ∷ nodes_of shape)
+            (with_node order node (nodes_of shape)) }
+    {
         init(w, node);
-        path.set(w, Some(node));
+        self.set(w, Some(node));
         let mut red = Some(node);
         for _ in 0..DEPTH {
             let Some(node) = red else {
                 break;
             };
-            red = settle(w, &mut path, node);
+            red = settle(w, &mut self, node);
         }
     }
 }
@@ -45,8 +66,10 @@ impl Tree {
 fn settle<A: Allocator>(w: &mut Window<A>, path: &mut Path, node: u32) -> Option<u32>
     ensures host { w.new ≡ with_bytes w.old w.new.bytes }
     ensures root { path.new.root ≡ path.old.root }
-    ensures settled { (nodes : List ℕ) → IsRising w.old.bytes path.old.root path.old.steps.items nodes node
-        → Settles w.old.bytes w.new.bytes path.old.root path.old.steps.items path.new.steps.items nodes result }
+    ensures settled { (nodes : List ℕ)
+        → IsRising w.old.bytes path.old.root path.old.steps.items nodes node
+        → Settles w.old.bytes w.new.bytes path.old.root
+        path.old.steps.items path.new.steps.items nodes result }
 {
     let Some(parent) = path.pop() else {
         paint(w, node, Colour::Black);
@@ -72,7 +95,9 @@ fn settle<A: Allocator>(w: &mut Window<A>, path: &mut Path, node: u32) -> Option
 
 /// Makes a node red and its two children black.
 fn push_red_up<A: Allocator>(w: &mut Window<A>, node: u32, child: u32, other: u32)
-    ensures { w.new ≡ with_bytes w.old (with_colour (with_colour (with_colour w.old.bytes child Colour.Black) other Colour.Black) node Colour.Red) }
+    ensures { w.new ≡ with_bytes w.old
+        (with_colour (with_colour (with_colour w.old.bytes child Colour.Black) other Colour.Black)
+        node Colour.Red) }
 {
     paint(w, child, Colour::Black);
     paint(w, other, Colour::Black);
@@ -81,7 +106,8 @@ fn push_red_up<A: Allocator>(w: &mut Window<A>, node: u32, child: u32, other: u3
 
 /// Ends two reds in a row below a black node: the middle one of the three comes up, black, and the others go below it, red.
 fn straighten<A: Allocator>(w: &mut Window<A>, word: usize, grandparent: Step, parent: Step)
-    ensures { w.new ≡ with_bytes w.old (straightened w.old.bytes word grandparent.node grandparent.side parent.node parent.side) }
+    ensures { w.new ≡ with_bytes w.old
+        (straightened w.old.bytes word grandparent.node grandparent.side parent.node parent.side) }
 {
     let side = grandparent.side;
     if parent.side != side {

@@ -13,7 +13,8 @@ mod remove;
 mod search;
 mod tree;
 
+pub use node::{Colour, Side, child, child_word, node_colour};
 pub use order::NodeOrder;
-pub use path::DEPTH;
+pub use path::{DEPTH, Path};
 pub use search::Looked;
 pub use tree::{TREE_WORDS, Tree};

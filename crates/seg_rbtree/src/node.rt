@@ -1,14 +1,24 @@
-ghost use Rattle.std.specs.Prelude.{◌≡◌, ◌↔◌, IsTrue};
+ghost use Rattle.std.specs.Prelude.{◌≡◌, ◌↔◌, IsTrue, MatchOption};
 ghost use Rattle.seg_spec.specs.Pointer.{target};
+ghost use Rattle.seg_spec.specs.Shapes.{HasColour};
 ghost use Rattle.seg_spec.specs.Window.{with_bytes};
-ghost use Rattle.seg_rbtree.specs.Nodes.{side_word, opposite, colour_at, with_child, with_colour, with_new_node, rotated};
+ghost use Rattle.seg_rbtree.specs.Nodes.{side_word, opposite, colour_at, shade, with_child, with_colour, with_new_node, rotated};
 
 use seg_ptr::Window;
 use std::alloc::Allocator;
 
+/// From a node to its pointer to the right child, in bytes. The pointer to the left child comes first.
+const RIGHT: usize = 4;
+
+/// From a node to its colour, in bytes.
+const COLOUR: usize = 8;
+
+/// From a node to the word that is 0, in bytes.
+const ZERO: usize = 12;
+
 /// One of a node's two children.
 #[derive(Debug, Clone, Copy, PartialEq, Eq, Default)]
-pub(crate) enum Side {
+pub enum Side {
     #[default]
     Left,
     Right,
@@ -25,23 +35,25 @@ impl Side {
     }
 }
 
+/// The colour of a node, with its number in the segment.
 #[derive(Debug, Clone, Copy, PartialEq, Eq)]
-pub(crate) enum Colour {
+pub enum Colour {
     Black = 0,
     Red = 1,
 }
 
 /// The position of the pointer to a child.
-pub(crate) fn child_word(node: u32, side: Side) -> usize
+pub fn child_word(node: u32, side: Side) -> usize
     ensures { result ≡ side_word node side }
 {
     match side {
         Side::Left => node as usize,
-        Side::Right => node as usize + 4,
+        Side::Right => node as usize + RIGHT,
     }
 }
 
-pub(crate) fn child<A: Allocator>(w: &Window<A>, node: u32, side: Side) -> Option<u32>
+/// The child of a node on a side.
+pub fn child<A: Allocator>(w: &Window<A>, node: u32, side: Side) -> Option<u32>
     ensures { result ≡ target w.now.bytes (side_word node side) }
 {
     w.target(child_word(node, side))
@@ -53,12 +65,27 @@ pub(crate) fn set_child<A: Allocator>(w: &mut Window<A>, node: u32, side: Side, 
     w.point(child_word(node, side), child);
 }
 
-/// The colour of a node. Where there is none it is black.
+/// The colour of a node. None where its words are those of no colour.
+pub fn node_colour<A: Allocator>(w: &Window<A>, node: u32) -> Option<Colour>
+    ensures { MatchOption result ((c : _) → HasColour w.now.bytes node c → ⊥)
+        (λ c. HasColour w.now.bytes node (shade c)) }
+{
+    if w.get32(node as usize + ZERO) != 0 {
+        return None;
+    }
+    match w.get32(node as usize + COLOUR) {
+        0 => Some(Colour::Black),
+        1 => Some(Colour::Red),
+        _ => None,
+    }
+}
+
+/// The colour of a node, red where its word says so. Where there is no node it is black.
 pub(crate) fn colour_of<A: Allocator>(w: &Window<A>, node: Option<u32>) -> Colour
     ensures { result ≡ colour_at w.now.bytes node }
 {
     match node {
-        Some(node) if w.get32(node as usize + 8) == Colour::Red as u32 => Colour::Red,
+        Some(node) if w.get32(node as usize + COLOUR) == Colour::Red as u32 => Colour::Red,
         _ => Colour::Black,
     }
 }
@@ -72,7 +99,7 @@ pub(crate) fn is_red<A: Allocator>(w: &Window<A>, node: Option<u32>) -> bool
 pub(crate) fn paint<A: Allocator>(w: &mut Window<A>, node: u32, colour: Colour)
     ensures { w.new ≡ with_bytes w.old (with_colour w.old.bytes node colour) }
 {
-    w.put32(node as usize + 8, colour as u32);
+    w.put32(node as usize + COLOUR, colour as u32);
 }
 
 /// Makes a node a red one without children.
@@ -82,7 +109,7 @@ pub(crate) fn init<A: Allocator>(w: &mut Window<A>, node: u32)
     set_child(w, node, Side::Left, None);
     set_child(w, node, Side::Right, None);
     paint(w, node, Colour::Red);
-    w.put32(node as usize + 12, 0);
+    w.put32(node as usize + ZERO, 0);
 }
 
 /// Lets the node at a pointer word and its child on the other side change places: the child comes up, the node goes down

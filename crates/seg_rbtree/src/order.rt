@@ -7,6 +7,7 @@ ghost use Rattle.seg_spec.specs.Apart.{Separate};
 ghost use Rattle.seg_spec.specs.Bytes.{IsSame};
 ghost use Rattle.seg_spec.specs.Search.{step_of};
 ghost use Rattle.seg_rbtree.specs.Parts.{Part};
+ghost use Rattle.seg_rbtree.specs.Paths.{sought_by};
 
 use seg_ptr::Window;
 use std::alloc::Allocator;
@@ -39,14 +40,44 @@ pub trait NodeOrder<K: Copy> {
     ghost total: { exact → (order : Self) (bytes : List ℕ) → IsTotalOrder (compare order bytes) };
 
     // A node before another one is no further up from any key.
-    ghost keyed: { exact → (order : Self) (bytes : List ℕ) (x y : ℕ) (key : K) → compare order bytes x y ≡ Less →
-        step_of (compare_key order bytes x key) ≤ step_of (compare_key order bytes y key) };
+    ghost keyed: { exact → (order : Self) (bytes : List ℕ) (x y : ℕ) (key : K)
+        → compare order bytes x y ≡ Less
+        → step_of (compare_key order bytes x key) ≤ step_of (compare_key order bytes y key) };
 
     // It reads no tree word of the node, where a header may lie before it.
-    ghost apart: { exact → (order : Self) (bytes : List ℕ) (x : ℕ) → 16 ≤ x → AllByRecursion (λ p. Separate p.at p.len x 16) (read order bytes x) };
+    ghost apart: { exact → (order : Self) (bytes : List ℕ) (x : ℕ) → 16 ≤ x
+        → AllByRecursion (λ p. Separate p.at p.len x 16) (read order bytes x) };
 
     // Nodes of which it reads the same compare as before.
-    ghost steady: { exact → (order : Self) (old new : List ℕ) (x y : ℕ) →
-        AllByRecursion (λ p. IsSame old new p.at p.len) (read order old x) → AllByRecursion (λ p. IsSame old new p.at p.len) (read order old y) →
-        compare order new x y ≡ compare order old x y };
+    ghost steady: { exact → (order : Self) (old new : List ℕ) (x y : ℕ)
+        → AllByRecursion (λ p. IsSame old new p.at p.len) (read order old x)
+        → AllByRecursion (λ p. IsSame old new p.at p.len) (read order old y)
+        → compare order new x y ≡ compare order old x y };
+}
+
+/// What a walk down a tree leads to.
+#[derive(Debug, Clone, Copy)]
+pub(crate) enum Sought<K> {
+    /// A node, or the empty place where it would stand.
+    Node(u32),
+    /// A node that equals a key, or the empty place where one would stand.
+    Key(K),
+}
+
+impl<K: Copy> Sought<K> {
+    /// Compares what is sought with a node.
+    pub(crate) fn compare<O: NodeOrder<K>, A: Allocator>(
+        self,
+        w: &Window<A>,
+        order: &O,
+        node: u32,
+    ) -> Ordering
+        ensures { O.exact → result ≡ sought_by (O.compare order.now w.now.bytes)
+            (O.compare_key order.now w.now.bytes) self node }
+    {
+        match self {
+            Sought::Node(sought) => order.nodes(w, sought, node),
+            Sought::Key(key) => order.key(w, node, key).reverse(),
+        }
+    }
 }

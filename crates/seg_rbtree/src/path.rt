@@ -1,15 +1,16 @@
-ghost use Rattle.std.specs.Prelude.{slice_set, slice_index_or, ◌≡◌, ◌<◌, ◌≤◌, IsTrue, List, [], ◌∷◌, ◌++◌, length, take, Option, Some, MatchOption};
+ghost use Rattle.std.specs.Prelude.{slice_set, slice_index_or, ◌≡◌, ◌<◌, ◌≤◌, IsTrue, List, [], ◌∷◌, ◌++◌, length, Option, Some, MatchOption};
 ghost use Rattle.seg_spec.specs.Pointer.{target, set_pointer};
 ghost use Rattle.seg_spec.specs.Window.{with_bytes};
 ghost use Rattle.seg_rbtree.specs.Nodes.{side_word, opposite, rotated};
-ghost use Rattle.seg_rbtree.specs.Ways.{last_word};
+ghost use Rattle.seg_rbtree.specs.Paths.{end_word, word_after, node_at};
 
 use crate::node::{Side, child_word, rotate};
 use arrayvec::ArrayVec;
 use seg_ptr::Window;
 use std::alloc::Allocator;
 
-/// The most nodes on a way down a tree. A red-black tree that fits a segment has fewer.
+/// The most nodes on a way down a tree. A red-black tree of fewer than 2^32 nodes has no more, and a segment has room for
+/// fewer than 2^26: with these it has at most 52.
 pub const DEPTH: usize = 64;
 
 /// A node, and the side on which the way goes on.
@@ -19,15 +20,17 @@ pub(crate) struct Step {
     pub(crate) side: Side,
 }
 
-/// A way down from the root: the nodes above a place.
+/// A way down from the root of a tree: the nodes above a place, where a node stands or none. It holds no part of the window, so
+/// other bytes may change before a node is added or removed at its end; with another change of the tree it is out of date.
 #[derive(Drop)]
-pub(crate) struct Path {
+pub struct Path {
     root: usize,
     steps: ArrayVec<Step, DEPTH>,
 }
 
 impl Path {
     /// The place of the root itself, which this pointer word names.
+    #[inline(always)]
     pub(crate) fn new(root: usize) -> Path
         ensures root { result.root ≡ root }
         ensures steps { result.steps.items ≡ [] }
@@ -42,7 +45,8 @@ impl Path {
     pub(crate) fn push(&mut self, node: u32, side: Side) -> bool
         ensures root { self.new.root ≡ self.old.root }
         ensures room { length self.old.steps.items < 64 → IsTrue result }
-        ensures pushed { IsTrue result → self.new.steps.items ≡ self.old.steps.items ++ record { node = node; side = side } ∷ [] }
+        ensures pushed { IsTrue result → self.new.steps.items
+            ≡ self.old.steps.items ++ record { node = node; side = side } ∷ [] }
     {
         self.steps.try_push(Step { node, side }).is_ok()
     }
@@ -50,7 +54,8 @@ impl Path {
     /// One step up: the node above the place, and the place's side of it.
     pub(crate) fn pop(&mut self) -> Option<Step>
         ensures root { self.new.root ≡ self.old.root }
-        ensures popped { MatchOption result (self.old.steps.items ≡ []) (λ step. self.old.steps.items ≡ self.new.steps.items ++ step ∷ []) }
+        ensures popped { MatchOption result (self.old.steps.items ≡ [])
+            (λ step. self.old.steps.items ≡ self.new.steps.items ++ step ∷ []) }
     {
         self.steps.pop()
     }
@@ -66,8 +71,10 @@ impl Path {
     /// Puts another node at step `i` of the way.
     pub(crate) fn replace(&mut self, i: usize, node: u32)
         ensures root { self.new.root ≡ self.old.root }
-        ensures replaced { (step : _) → i < length self.old.steps.items → step ≡ slice_index_or self.old.steps.items i step
-            → self.new.steps.items ≡ slice_set self.old.steps.items i (record { node = node; side = step.side }) }
+        ensures replaced { (step : _) → i < length self.old.steps.items
+            → step ≡ slice_index_or self.old.steps.items i step
+            → self.new.steps.items
+            ≡ slice_set self.old.steps.items i (record { node = node; side = step.side }) }
     {
         if let Some(step) = self.steps.get_mut(i) {
             step.node = node;
@@ -76,7 +83,8 @@ impl Path {
 
     /// The pointer word that leads to the place below so many steps.
     fn word_below(&self, steps: usize) -> usize
-        ensures { steps ≤ length self.now.steps.items → result ≡ last_word self.now.root (take steps self.now.steps.items) }
+        ensures { steps ≤ length self.now.steps.items
+            → result ≡ word_after steps self.now }
     {
         if steps == 0 {
             return self.root;
@@ -89,21 +97,21 @@ impl Path {
 
     /// The pointer word that leads to the place.
     pub(crate) fn word(&self) -> usize
-        ensures { result ≡ last_word self.now.root self.now.steps.items }
+        ensures { result ≡ end_word self.now }
     {
         self.word_below(self.steps.len())
     }
 
-    /// The node at the place.
-    pub(crate) fn node<A: Allocator>(&self, w: &Window<A>) -> Option<u32>
-        ensures { result ≡ target w.now.bytes (last_word self.now.root self.now.steps.items) }
+    /// The node at the path's end, if there is one.
+    pub fn node<A: Allocator>(&self, w: &Window<A>) -> Option<u32>
+        ensures { result ≡ node_at w.now.bytes self.now }
     {
         w.target(self.word())
     }
 
     /// Lets another node stand at the place.
     pub(crate) fn set<A: Allocator>(&self, w: &mut Window<A>, node: Option<u32>)
-        ensures { w.new ≡ with_bytes w.old (set_pointer w.old.bytes (last_word self.now.root self.now.steps.items) node) }
+        ensures { w.new ≡ with_bytes w.old (set_pointer w.old.bytes (end_word self.now) node) }
     {
         w.point(self.word(), node);
     }
@@ -112,7 +120,8 @@ impl Path {
     pub(crate) fn set_at<A: Allocator>(&self, w: &mut Window<A>, steps: usize, node: u32)
         ensures host { w.new ≡ with_bytes w.old w.new.bytes }
         ensures set { steps ≤ length self.now.steps.items
-            → w.new ≡ with_bytes w.old (set_pointer w.old.bytes (last_word self.now.root (take steps self.now.steps.items)) (Some node)) }
+            → w.new ≡ with_bytes w.old
+            (set_pointer w.old.bytes (word_after steps self.now) (Some node)) }
     {
         w.point(self.word_below(steps), Some(node));
     }
@@ -126,7 +135,8 @@ impl Path {
         side: Side,
     ) -> Option<u32>
         ensures up { result ≡ target w.old.bytes (side_word node (opposite side)) }
-        ensures rotated { w.new ≡ with_bytes w.old (rotated w.old.bytes (last_word self.now.root self.now.steps.items) node side) }
+        ensures rotated { w.new
+            ≡ with_bytes w.old (rotated w.old.bytes (end_word self.now) node side) }
     {
         rotate(w, self.word(), node, side)
     }

@@ -1,17 +1,19 @@
-ghost use Rattle.std.specs.Prelude.{◌≡◌, ◌≢◌, ◌<◌, ◌^◌, ◌∷◌, length, Some, None, IfSome, IfNone};
+ghost use Rattle.std.specs.Prelude.{◌≡◌, ◌≢◌, ℕ, ◌<◌, ◌^◌, ◌∷◌, length, Some, None, IfSome, IfNone};
 ghost use Rattle.std.specs.List.{AllByRecursion};
+ghost use Rattle.std.specs.declared.cmp.Ordering.{Ordering};
 ghost use Rattle.seg_spec.specs.Pointer.{target, set_pointer};
-ghost use Rattle.seg_spec.specs.Search.{Ascend, IsSearchTree};
+ghost use Rattle.seg_spec.specs.Search.{IsSearchTree};
 ghost use Rattle.seg_spec.specs.Shapes.{fork, black, nodes_of, IsBlack, IsRedBlack};
 ghost use Rattle.seg_spec.specs.Window.{with_bytes};
 ghost use Rattle.seg_rbtree.specs.Nodes.{side_word, opposite, colour_at};
 ghost use Rattle.seg_rbtree.specs.Changes.{StandApart, without_node, Leaves};
-ghost use Rattle.seg_rbtree.specs.Ways.{branch, plug, place, last_word};
-ghost use Rattle.seg_rbtree.specs.Removing.{layer_at, in_place_of, IsShort, StandsAt, Descends, Unlinks, Lowers, ComesUp, Lengthens, Restores};
-ghost use Rattle.seg_rbtree.specs.Roots.{root_word};
+ghost use Rattle.seg_rbtree.specs.Ways.{branch, plug, place, LeadsTo};
+ghost use Rattle.seg_rbtree.specs.Removing.{layer_at, in_place_of, IsShort, StandsAt, WhereRedBlack, Descends, Unlinks, Lowers, ComesUp, Lengthens, Restores};
+ghost use Rattle.seg_rbtree.specs.Paths.{WhereOrdered, end_word, node_at};
+ghost use Rattle.seg_rbtree.specs.Roots.{root_word, path_root};
 
 use crate::node::{Colour, Side, child, child_word, colour_of, is_red, paint, rotate, set_child};
-use crate::order::NodeOrder;
+use crate::order::{NodeOrder, Sought};
 use crate::path::{DEPTH, Path, Step};
 use crate::tree::Tree;
 use seg_ptr::Window;
@@ -26,18 +28,38 @@ impl Tree {
         node: u32,
     )
         ensures host { w.new ≡ with_bytes w.old w.new.bytes }
-        ensures removed { O.exact → (shape : _) → IsSearchTree w.old.bytes (root_word self) shape → Ascend (O.compare order.now w.old.bytes) (nodes_of shape)
-            → StandApart (length w.old.bytes) (root_word self) (nodes_of shape)
-            → Leaves w.old.bytes w.new.bytes (root_word self) (nodes_of shape) (without_node node (nodes_of shape)) }
-        ensures stays { O.exact → (shape : _) → IsSearchTree w.old.bytes (root_word self) shape → Ascend (O.compare order.now w.old.bytes) (nodes_of shape)
-            → AllByRecursion (λ x. node ≢ x) (nodes_of shape) → w.new ≡ w.old }
+        ensures removed { O.exact → WhereOrdered (O.compare order.now) w.old (root_word self)
+            (λ shape. StandApart (length w.old.bytes) (root_word self) (nodes_of shape)
+            → Leaves w.old.bytes w.new.bytes (root_word self) (nodes_of shape)
+            (without_node node (nodes_of shape))) }
+        ensures stays { O.exact → WhereOrdered (O.compare order.now) w.old (root_word self)
+            (λ shape. AllByRecursion (λ x. node ≢ x) (nodes_of shape) → w.new ≡ w.old) }
     {
-        let mut path = self.path_to(w, order, node);
+        let path = self.path_to(w, order, Sought::Node(node));
         if path.node(w) != Some(node) {
             return;
         }
-        match unlink(w, &mut path, node) {
-            Colour::Black => restore(w, &mut path),
+        path.remove(w);
+    }
+}
+
+impl Path {
+    /// Takes out the node at the path's end, and no other. Only tree words and the root word change.
+    pub fn remove<A: Allocator>(mut self, w: &mut Window<A>)
+        ensures host { w.new ≡ with_bytes w.old w.new.bytes }
+        ensures removed { (turn : ℕ → Ordering) (node : ℕ) (shape : _)
+            → IsSearchTree w.old.bytes (path_root self) shape → LeadsTo turn shape self
+            → node_at w.old.bytes self ≡ Some node
+            → StandApart (length w.old.bytes) (path_root self) (nodes_of shape)
+            → Leaves w.old.bytes w.new.bytes (path_root self) (nodes_of shape)
+            (without_node node (nodes_of shape)) }
+        ensures stays { node_at w.old.bytes self ≡ None → w.new ≡ w.old }
+    {
+        let Some(node) = self.node(w) else {
+            return;
+        };
+        match unlink(w, &mut self, node) {
+            Colour::Black => restore(w, &mut self),
             Colour::Red => {}
         }
     }
@@ -48,8 +70,10 @@ impl Tree {
 fn unlink<A: Allocator>(w: &mut Window<A>, path: &mut Path, node: u32) -> Colour
     ensures host { w.new ≡ with_bytes w.old w.new.bytes }
     ensures root { path.new.root ≡ path.old.root }
-    ensures unlinked { (layers : _) (tree : _) → StandsAt w.old.bytes path.old layers tree → IsRedBlack (plug tree layers) → length (nodes_of (plug tree layers)) < 2 ^ 32
-        → target w.old.bytes (place path.old.root layers) ≡ Some node → Unlinks w.old.bytes w.new.bytes path.new layers tree node result }
+    ensures unlinked { (layers : _) (tree : _)
+        → WhereRedBlack w.old.bytes path.old layers tree
+        (target w.old.bytes (place path.old.root layers) ≡ Some node
+        → Unlinks w.old.bytes w.new.bytes path.new layers tree node result) }
 {
     if child(w, node, Side::Left).is_none() {
         return unlink_lone(w, path, node, Side::Left);
@@ -63,7 +87,8 @@ fn unlink<A: Allocator>(w: &mut Window<A>, path: &mut Path, node: u32) -> Colour
 /// Takes a node with nothing on a side out of the place that a path leads to. Answers its colour.
 fn unlink_lone<A: Allocator>(w: &mut Window<A>, path: &Path, node: u32, empty: Side) -> Colour
     ensures gone { result ≡ colour_at w.old.bytes (Some node) }
-    ensures set { w.new ≡ with_bytes w.old (set_pointer w.old.bytes (last_word path.now.root path.now.steps.items) (target w.old.bytes (side_word node (opposite empty)))) }
+    ensures set { w.new ≡ with_bytes w.old (set_pointer w.old.bytes (end_word path.now)
+        (target w.old.bytes (side_word node (opposite empty)))) }
 {
     let gone = colour_of(w, Some(node));
     let only = child(w, node, empty.other());
@@ -75,9 +100,11 @@ fn unlink_lone<A: Allocator>(w: &mut Window<A>, path: &Path, node: u32, empty: S
 fn unlink_by_next<A: Allocator>(w: &mut Window<A>, path: &mut Path, node: u32) -> Colour
     ensures host { w.new ≡ with_bytes w.old w.new.bytes }
     ensures root { path.new.root ≡ path.old.root }
-    ensures unlinked { (layers : _) (left right : _) (colour : _) → StandsAt w.old.bytes path.old layers (fork left node colour right)
-        → IsRedBlack (plug (fork left node colour right) layers) → length (nodes_of (plug (fork left node colour right) layers)) < 2 ^ 32
-        → target w.old.bytes (side_word node Side.Right) ≢ None → Unlinks w.old.bytes w.new.bytes path.new layers (fork left node colour right) node result }
+    ensures unlinked { (layers : _) (left right : _) (colour : _)
+        → WhereRedBlack w.old.bytes path.old layers (fork left node colour right)
+        (target w.old.bytes (side_word node Side.Right) ≢ None
+        → Unlinks w.old.bytes w.new.bytes path.new layers
+        (fork left node colour right) node result) }
 {
     let depth = path.len();
     let Some(next) = descend_to_next(w, path, node) else {
@@ -93,9 +120,10 @@ fn unlink_by_next<A: Allocator>(w: &mut Window<A>, path: &mut Path, node: u32) -
 /// Goes on from a node to the next one in order, which has no left child.
 fn descend_to_next<A: Allocator>(w: &Window<A>, path: &mut Path, node: u32) -> Option<u32>
     ensures root { path.new.root ≡ path.old.root }
-    ensures descended { (layers : _) (left right : _) (colour : _) → StandsAt w.now.bytes path.old layers (fork left node colour right)
-        → IsRedBlack (plug (fork left node colour right) layers) → length (nodes_of (plug (fork left node colour right) layers)) < 2 ^ 32
-        → target w.now.bytes (side_word node Side.Right) ≢ None → Descends path.new (layer_at Side.Right node colour left ∷ layers) right result }
+    ensures descended { (layers : _) (left right : _) (colour : _)
+        → WhereRedBlack w.now.bytes path.old layers (fork left node colour right)
+        (target w.now.bytes (side_word node Side.Right) ≢ None
+        → Descends path.new (layer_at Side.Right node colour left ∷ layers) right result) }
 {
     if path.push(node, Side::Right) {
         descend_to_first(w, path)
@@ -107,9 +135,10 @@ fn descend_to_next<A: Allocator>(w: &Window<A>, path: &mut Path, node: u32) -> O
 /// Goes on to the first node below a place.
 fn descend_to_first<A: Allocator>(w: &Window<A>, path: &mut Path) -> Option<u32>
     ensures root { path.new.root ≡ path.old.root }
-    ensures descended { (layers : _) (tree : _) → StandsAt w.now.bytes path.old layers tree
-        → IsRedBlack (plug tree layers) → length (nodes_of (plug tree layers)) < 2 ^ 32
-        → target w.now.bytes (place path.old.root layers) ≢ None → Descends path.new layers tree result }
+    ensures descended { (layers : _) (tree : _)
+        → WhereRedBlack w.now.bytes path.old layers tree
+        (target w.now.bytes (place path.old.root layers) ≢ None
+        → Descends path.new layers tree result) }
 {
     let mut first = path.node(w)?;
     for _ in 0..DEPTH {
@@ -139,7 +168,8 @@ fn take_place<A: Allocator>(w: &mut Window<A>, from: u32, to: u32)
 /// Makes good that the part at the end of a path has one black node too few on every way.
 fn restore<A: Allocator>(w: &mut Window<A>, path: &mut Path)
     ensures host { w.new ≡ with_bytes w.old w.new.bytes }
-    ensures restored { (layers : _) (tree : _) → StandsAt w.old.bytes path.old layers tree → IsShort layers tree
+    ensures restored { (layers : _) (tree : _) → StandsAt w.old.bytes path.old layers tree
+        → IsShort layers tree
         → Restores w.old.bytes w.new.bytes path.old.root (plug tree layers) }
 {
     for _ in 0..DEPTH {
@@ -153,7 +183,8 @@ fn restore<A: Allocator>(w: &mut Window<A>, path: &mut Path)
 fn lengthen<A: Allocator>(w: &mut Window<A>, path: &mut Path) -> bool
     ensures host { w.new ≡ with_bytes w.old w.new.bytes }
     ensures root { path.new.root ≡ path.old.root }
-    ensures lengthened { (layers : _) (tree : _) → StandsAt w.old.bytes path.old layers tree → IsShort layers tree
+    ensures lengthened { (layers : _) (tree : _) → StandsAt w.old.bytes path.old layers tree
+        → IsShort layers tree
         → Lengthens w.old.bytes w.new.bytes path.new layers tree result }
 {
     let here = path.node(w);
@@ -173,9 +204,11 @@ fn lengthen<A: Allocator>(w: &mut Window<A>, path: &mut Path) -> bool
 fn lengthen_beside<A: Allocator>(w: &mut Window<A>, path: &mut Path, short: Step) -> bool
     ensures host { w.new ≡ with_bytes w.old w.new.bytes }
     ensures root { path.new.root ≡ path.old.root }
-    ensures lengthened { (layers : _) (tree other : _) (colour : _) → StandsAt w.old.bytes path.old layers (branch short.side short.node colour tree other)
+    ensures lengthened { (layers : _) (tree other : _) (colour : _)
+        → StandsAt w.old.bytes path.old layers (branch short.side short.node colour tree other)
         → IsShort (layer_at short.side short.node colour other ∷ layers) tree → IsBlack tree
-        → Lengthens w.old.bytes w.new.bytes path.new (layer_at short.side short.node colour other ∷ layers) tree result }
+        → Lengthens w.old.bytes w.new.bytes path.new
+        (layer_at short.side short.node colour other ∷ layers) tree result }
 {
     let Some(sibling) = child(w, short.node, short.side.other()) else {
         return false;
@@ -192,8 +225,12 @@ fn lengthen_beside<A: Allocator>(w: &mut Window<A>, path: &mut Path, short: Step
 fn lower<A: Allocator>(w: &mut Window<A>, path: &mut Path, short: Step, sibling: u32)
     ensures host { w.new ≡ with_bytes w.old w.new.bytes }
     ensures root { path.new.root ≡ path.old.root }
-    ensures lowered { (layers : _) (tree inner outer : _) (colour other : _) → StandsAt w.old.bytes path.old layers (branch short.side short.node colour tree (branch short.side sibling other inner outer))
-        → length layers < 63 → Lowers w.old.bytes w.new.bytes path.new short.side short.node sibling colour other layers tree inner outer }
+    ensures lowered { (layers : _) (tree inner outer : _) (colour other : _)
+        → StandsAt w.old.bytes path.old layers
+        (branch short.side short.node colour tree (branch short.side sibling other inner outer))
+        → length layers < 63
+        → Lowers w.old.bytes w.new.bytes path.new short.side short.node sibling
+        colour other layers tree inner outer }
 {
     let _ = path.rotate(w, short.node, short.side);
     paint(w, sibling, Colour::Black);
@@ -207,9 +244,14 @@ fn lower<A: Allocator>(w: &mut Window<A>, path: &mut Path, short: Step, sibling:
 fn borrow<A: Allocator>(w: &mut Window<A>, path: &mut Path, short: Step, sibling: u32) -> bool
     ensures host { w.new ≡ with_bytes w.old w.new.bytes }
     ensures root { path.new.root ≡ path.old.root }
-    ensures lengthened { (layers : _) (tree inner outer : _) (colour : _) → StandsAt w.old.bytes path.old layers (branch short.side short.node colour tree (branch short.side sibling black inner outer))
-        → IsShort (layer_at short.side short.node colour (branch short.side sibling black inner outer) ∷ layers) tree → IsBlack tree
-        → Lengthens w.old.bytes w.new.bytes path.new (layer_at short.side short.node colour (branch short.side sibling black inner outer) ∷ layers) tree result }
+    ensures lengthened { (layers : _) (tree inner outer : _) (colour : _)
+        → StandsAt w.old.bytes path.old layers
+        (branch short.side short.node colour tree (branch short.side sibling black inner outer))
+        → IsShort (layer_at short.side short.node colour
+        (branch short.side sibling black inner outer) ∷ layers) tree
+        → IsBlack tree
+        → Lengthens w.old.bytes w.new.bytes path.new (layer_at short.side short.node colour
+        (branch short.side sibling black inner outer) ∷ layers) tree result }
 {
     let far = short.side.other();
     if let Some(outer) = red_child(w, sibling, far) {
@@ -228,8 +270,10 @@ fn borrow<A: Allocator>(w: &mut Window<A>, path: &mut Path, short: Step, sibling
 
 /// The child on a side, if it is red.
 fn red_child<A: Allocator>(w: &Window<A>, node: u32, side: Side) -> Option<u32>
-    ensures red { IfSome result (λ child. (target w.now.bytes (side_word node side) ≡ Some child) × (colour_at w.now.bytes (Some child) ≡ Colour.Red)) }
-    ensures none { IfNone result (colour_at w.now.bytes (target w.now.bytes (side_word node side)) ≡ Colour.Black) }
+    ensures red { IfSome result (λ child. (target w.now.bytes (side_word node side) ≡ Some child)
+        × (colour_at w.now.bytes (Some child) ≡ Colour.Red)) }
+    ensures none { IfNone result
+        (colour_at w.now.bytes (target w.now.bytes (side_word node side)) ≡ Colour.Black) }
 {
     match child(w, node, side) {
         Some(child) if is_red(w, Some(child)) => Some(child),
@@ -240,8 +284,11 @@ fn red_child<A: Allocator>(w: &Window<A>, node: u32, side: Side) -> Option<u32>
 /// Lets the node beside a short part come up in its parent's colour, and the parent go down, black.
 fn come_up<A: Allocator>(w: &mut Window<A>, path: &Path, short: Step)
     ensures host { w.new ≡ with_bytes w.old w.new.bytes }
-    ensures came_up { (layers : _) (tree inner outer : _) (up : _) (colour other : _) → StandsAt w.old.bytes path.now layers (branch short.side short.node colour tree (branch short.side up other inner outer))
-        → ComesUp w.old.bytes w.new.bytes path.now.root short.side short.node up colour other layers tree inner outer }
+    ensures came_up { (layers : _) (tree inner outer : _) (up : _) (colour other : _)
+        → StandsAt w.old.bytes path.now layers
+        (branch short.side short.node colour tree (branch short.side up other inner outer))
+        → ComesUp w.old.bytes w.new.bytes path.now.root short.side short.node up
+        colour other layers tree inner outer }
 {
     let top = colour_of(w, Some(short.node));
     if let Some(up) = path.rotate(w, short.node, short.side) {

@@ -1,14 +1,15 @@
 //! Searches down a tree.
 
 ghost use Rattle.std.specs.Prelude.{◌≡◌, ◌+◌, ◌^◌, ◌≤◌, length};
-ghost use Rattle.std.specs.Ordering.{is_eq};
+ghost use Rattle.std.specs.Ordering.{is_eq, ordering_reverse};
 ghost use Rattle.seg_spec.specs.Shapes.{nodes_of};
-ghost use Rattle.seg_spec.specs.Search.{reaches, Ascend, first_where, looks, IsSearchTree};
-ghost use Rattle.seg_rbtree.specs.Ways.{IsWayTo};
-ghost use Rattle.seg_rbtree.specs.Roots.{root_word};
+ghost use Rattle.seg_spec.specs.Search.{reaches, first_where, looks, IsSearchTree};
+ghost use Rattle.seg_rbtree.specs.Ways.{LeadsTo};
+ghost use Rattle.seg_rbtree.specs.Paths.{WhereOrdered, FindsEqual, node_at, sought_by};
+ghost use Rattle.seg_rbtree.specs.Roots.{root_word, path_root};
 
-use crate::node::{Side, child};
-use crate::order::NodeOrder;
+use crate::node::{Side, child, child_word};
+use crate::order::{NodeOrder, Sought};
 use crate::path::{DEPTH, Path};
 use crate::tree::Tree;
 use seg_ptr::Window;
@@ -43,8 +44,9 @@ impl Tree {
         order: &O,
         key: K,
     ) -> Option<u32>
-        ensures { O.exact → (shape : _) → IsSearchTree w.now.bytes (root_word self) shape → Ascend (O.compare order.now w.now.bytes) (nodes_of shape)
-            → result ≡ first_where (λ node. is_eq (O.compare_key order.now w.now.bytes node key)) (nodes_of shape) }
+        ensures { O.exact → WhereOrdered (O.compare order.now) w.now (root_word self)
+            (λ shape. result ≡ first_where
+            (λ node. is_eq (O.compare_key order.now w.now.bytes node key)) (nodes_of shape)) }
     {
         let node = self.first_at_least(w, order, key).node?;
         match order.key(w, node, key) {
@@ -60,13 +62,16 @@ impl Tree {
         order: &O,
         key: K,
     ) -> Looked
-        ensures node { O.exact → (shape : _) → IsSearchTree w.now.bytes (root_word self) shape → Ascend (O.compare order.now w.now.bytes) (nodes_of shape)
-            → result.node ≡ first_where (λ node. reaches Ordering.Equal (O.compare_key order.now w.now.bytes node key)) (nodes_of shape) }
-        ensures looks { O.exact → (shape : _) → IsSearchTree w.now.bytes (root_word self) shape → Ascend (O.compare order.now w.now.bytes) (nodes_of shape)
-            → result.looks ≡ looks (λ node. reaches Ordering.Equal (O.compare_key order.now w.now.bytes node key)) shape }
+        ensures node { O.exact → WhereOrdered (O.compare order.now) w.now (root_word self)
+            (λ shape. result.node ≡ first_where
+            (λ node. reaches Ordering.Equal (O.compare_key order.now w.now.bytes node key))
+            (nodes_of shape)) }
+        ensures looks { O.exact → WhereOrdered (O.compare order.now) w.now (root_word self)
+            (λ shape. result.looks ≡ looks
+            (λ node. reaches Ordering.Equal (O.compare_key order.now w.now.bytes node key)) shape) }
         ensures at_most { result.looks ≤ 64 }
-        ensures bound { O.exact → (shape : _) → IsSearchTree w.now.bytes (root_word self) shape → Ascend (O.compare order.now w.now.bytes) (nodes_of shape)
-            → 2 ^ result.looks ≤ (length (nodes_of shape) + 1) ^ 2 }
+        ensures bound { O.exact → WhereOrdered (O.compare order.now) w.now (root_word self)
+            (λ shape. 2 ^ result.looks ≤ (length (nodes_of shape) + 1) ^ 2) }
     {
         self.first_from(w, order, key, Ordering::Equal)
     }
@@ -78,8 +83,10 @@ impl Tree {
         order: &O,
         key: K,
     ) -> Option<u32>
-        ensures { O.exact → (shape : _) → IsSearchTree w.now.bytes (root_word self) shape → Ascend (O.compare order.now w.now.bytes) (nodes_of shape)
-            → result ≡ first_where (λ node. reaches Ordering.Greater (O.compare_key order.now w.now.bytes node key)) (nodes_of shape) }
+        ensures { O.exact → WhereOrdered (O.compare order.now) w.now (root_word self)
+            (λ shape. result ≡ first_where
+            (λ node. reaches Ordering.Greater (O.compare_key order.now w.now.bytes node key))
+            (nodes_of shape)) }
     {
         self.first_from(w, order, key, Ordering::Greater).node
     }
@@ -92,10 +99,13 @@ impl Tree {
         key: K,
         least: Ordering,
     ) -> Looked
-        ensures node { O.exact → (shape : _) → IsSearchTree w.now.bytes (root_word self) shape → Ascend (O.compare order.now w.now.bytes) (nodes_of shape)
-            → result.node ≡ first_where (λ node. reaches least (O.compare_key order.now w.now.bytes node key)) (nodes_of shape) }
-        ensures looks { O.exact → (shape : _) → IsSearchTree w.now.bytes (root_word self) shape → Ascend (O.compare order.now w.now.bytes) (nodes_of shape)
-            → result.looks ≡ looks (λ node. reaches least (O.compare_key order.now w.now.bytes node key)) shape }
+        ensures node { O.exact → WhereOrdered (O.compare order.now) w.now (root_word self)
+            (λ shape. result.node ≡ first_where
+            (λ node. reaches least (O.compare_key order.now w.now.bytes node key))
+            (nodes_of shape)) }
+        ensures looks { O.exact → WhereOrdered (O.compare order.now) w.now (root_word self)
+            (λ shape. result.looks
+            ≡ looks (λ node. reaches least (O.compare_key order.now w.now.bytes node key)) shape) }
         ensures bound { result.looks ≤ 64 }
     {
         let mut place = w.target(self.root);
@@ -118,29 +128,53 @@ impl Tree {
         found
     }
 
-    /// The way to a node, or to the empty place where it would stand.
+    /// The path to the node that equals a key, or to the empty place where one would stand.
+    #[inline]
+    pub fn path_to_key<K: Copy, O: NodeOrder<K>, A: Allocator>(
+        self,
+        w: &Window<A>,
+        order: &O,
+        key: K,
+    ) -> Path
+        ensures root { path_root result ≡ root_word self }
+        ensures leads { O.exact → (shape : _) → IsSearchTree w.now.bytes (root_word self) shape
+            → LeadsTo (λ x. ordering_reverse (O.compare_key order.now w.now.bytes x key))
+            shape result }
+        ensures found { O.exact → WhereOrdered (O.compare order.now) w.now (root_word self)
+            (λ shape. FindsEqual (λ x. O.compare_key order.now w.now.bytes x key) (nodes_of shape)
+            (node_at w.now.bytes result)) }
+    {
+        self.path_to(w, order, Sought::Key(key))
+    }
+
+    /// The path to what is sought, or to the empty place where it would stand.
+    #[inline(always)]
     pub(crate) fn path_to<K: Copy, O: NodeOrder<K>, A: Allocator>(
         self,
         w: &Window<A>,
         order: &O,
-        node: u32,
+        sought: Sought<K>,
     ) -> Path
-        ensures root { result.root ≡ self.root }
-        ensures way { O.exact → (shape : _) → IsSearchTree w.now.bytes (root_word self) shape → IsWayTo (O.compare order.now w.now.bytes) node shape result.steps.items }
+        ensures root { path_root result ≡ root_word self }
+        ensures leads { O.exact → (shape : _) → IsSearchTree w.now.bytes (root_word self) shape
+            → LeadsTo (sought_by (O.compare order.now w.now.bytes)
+            (O.compare_key order.now w.now.bytes) sought) shape result }
     {
         let mut path = Path::new(self.root);
+        let mut word = self.root;
         for _ in 0..DEPTH {
-            let Some(other) = path.node(w) else {
+            let Some(node) = w.target(word) else {
                 break;
             };
-            let side = match order.nodes(w, node, other) {
+            let side = match sought.compare(w, order, node) {
                 Ordering::Less => Side::Left,
                 Ordering::Equal => break,
                 Ordering::Greater => Side::Right,
             };
-            if !path.push(other, side) {
+            if !path.push(node, side) {
                 break;
             }
+            word = child_word(node, side);
         }
         path
     }

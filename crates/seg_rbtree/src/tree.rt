@@ -26,14 +26,16 @@ impl Tree {
 
     /// Whether the tree has no node.
     pub fn is_empty<A: Allocator>(self, w: &Window<A>) -> bool
-        ensures { (shape : _) → IsSearchTree w.now.bytes (root_word self) shape → IsTrue result ↔ (nodes_of shape ≡ []) }
+        ensures { (shape : _) → IsSearchTree w.now.bytes (root_word self) shape
+            → IsTrue result ↔ (nodes_of shape ≡ []) }
     {
         w.target(self.root).is_none()
     }
 
     /// The first node.
     pub fn first<A: Allocator>(self, w: &Window<A>) -> Option<u32>
-        ensures { (shape : _) → IsSearchTree w.now.bytes (root_word self) shape → result ≡ first_where (λ _. true) (nodes_of shape) }
+        ensures { (shape : _) → IsSearchTree w.now.bytes (root_word self) shape
+            → result ≡ first_where (λ _. true) (nodes_of shape) }
     {
         let mut place = w.target(self.root);
         let mut first = None;

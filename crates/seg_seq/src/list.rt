@@ -1,9 +1,10 @@
+ghost use Rattle.std.specs.Prelude.{◌≡◌};
+ghost use Rattle.seg_spec.specs.Window.{with_bytes};
+
 use crate::ring::{Way, insert, neighbour, remove};
 use seg_block::Fit;
-use seg_layout::{TypeId, TypeTable};
-use seg_ptr::Window;
 use seg_raw::Code;
-use seg_value::{Content, LIST_LINKS, block_of, clear, new_block};
+use seg_value::{Content, Heap, LIST_LINKS, Place, Shape};
 use std::alloc::Allocator;
 
 /// The node that holds an item.
@@ -16,65 +17,76 @@ pub(crate) fn item_of(node: u32) -> u32 {
     node.wrapping_add(LIST_LINKS)
 }
 
-/// The item behind an item of a list: the first one behind the last.
-pub fn next<A: Allocator>(w: &Window<A>, item: u32) -> u32 {
-    item_of(neighbour(w, node_of(item), Way::Forward))
+/// The item after an item of a list: the first one after the last.
+pub fn next<F: Fit, A: Allocator>(heap: &Heap<F, A>, item: u32) -> u32 {
+    item_of(neighbour(heap, node_of(item), Way::Forward))
 }
 
 /// The item before an item of a list: the last one before the first.
-pub fn prev<A: Allocator>(w: &Window<A>, item: u32) -> u32 {
-    item_of(neighbour(w, node_of(item), Way::Backward))
+pub fn prev<F: Fit, A: Allocator>(heap: &Heap<F, A>, item: u32) -> u32 {
+    item_of(neighbour(heap, node_of(item), Way::Backward))
 }
 
-/// Adds a default item before the others of a list, and answers where it is. BadAlloc where there is no room for it.
-pub fn push_front<F: Fit, A: Allocator>(
-    w: &mut Window<A>,
-    table: &TypeTable,
-    t: TypeId,
-    cell: u32,
-) -> Result<u32, Code> {
-    let content = Content::of(table, t).ok_or(Code::OtherType)?;
-    let item = push_node::<F, A>(w, table, &content, cell)?;
-    w.point(cell as usize, Some(node_of(item)));
+/// What the cell of a list names. `OtherType` where the place is no list.
+fn list_content<F: Fit, A: Allocator>(heap: &Heap<F, A>, list: Place) -> Result<Content, Code> {
+    let content = heap.content(list.type_id).ok_or(Code::OtherType)?;
+    match content.shape {
+        Shape::Ring => Ok(content),
+        Shape::Buffer | Shape::Tree | Shape::Object => Err(Code::OtherType),
+    }
+}
+
+/// Adds a default item before the others of a list, and returns its position. `OtherType` where the place is no list,
+/// `BadAlloc` where there is no room for the item; then nothing changes.
+pub fn push_front<F: Fit, A: Allocator>(heap: &mut Heap<F, A>, list: Place) -> Result<u32, Code>
+    ensures window { heap.new.window ≡ with_bytes heap.old.window heap.new.window.bytes }
+    ensures types { heap.new.types ≡ heap.old.types }
+{
+    let content = list_content(heap, list)?;
+    let item = push_node(heap, &content, list.at)?;
+    heap.window_mut()
+        .point(list.at as usize, Some(node_of(item)));
     Ok(item)
 }
 
-/// Adds a node with a default item behind the last one, and answers where the item is.
+/// Adds a node with a default item after the last one, and returns the item's position.
 pub(crate) fn push_node<F: Fit, A: Allocator>(
-    w: &mut Window<A>,
-    table: &TypeTable,
+    heap: &mut Heap<F, A>,
     content: &Content,
     cell: u32,
-) -> Result<u32, Code> {
-    let node = new_block::<F, A>(w, table, content)?;
-    insert(w, cell, node);
+) -> Result<u32, Code>
+    ensures window { heap.new.window ≡ with_bytes heap.old.window heap.new.window.bytes }
+    ensures types { heap.new.types ≡ heap.old.types }
+{
+    let node = heap.new_block(content)?;
+    insert(heap, cell, node);
     Ok(item_of(node))
 }
 
-/// Destroys the first item of a list. Null where it is empty.
-pub fn pop_front<F: Fit, A: Allocator>(
-    w: &mut Window<A>,
-    table: &TypeTable,
-    t: TypeId,
-    cell: u32,
-) -> Result<(), Code> {
-    let content = Content::of(table, t).ok_or(Code::OtherType)?;
-    let first = w.target(cell as usize).ok_or(Code::Null)?;
-    remove_node::<F, A>(w, table, &content, cell, first);
+/// Destroys the first item of a list. `OtherType` where the place is no list, `Null` where the list is empty.
+pub fn pop_front<F: Fit, A: Allocator>(heap: &mut Heap<F, A>, list: Place) -> Result<(), Code>
+    ensures window { heap.new.window ≡ with_bytes heap.old.window heap.new.window.bytes }
+    ensures types { heap.new.types ≡ heap.old.types }
+{
+    let content = list_content(heap, list)?;
+    let first = heap.window().target(list.at as usize).ok_or(Code::Null)?;
+    remove_node(heap, &content, list.at, first);
     Ok(())
 }
 
 /// Takes a node out of a list, and destroys it with its item.
 pub(crate) fn remove_node<F: Fit, A: Allocator>(
-    w: &mut Window<A>,
-    table: &TypeTable,
+    heap: &mut Heap<F, A>,
     content: &Content,
     cell: u32,
     node: u32,
-) {
-    remove(w, cell, node);
-    if let Some(item) = content.entry.item {
-        clear::<F, A>(w, table, item, item_of(node));
+)
+    ensures window { heap.new.window ≡ with_bytes heap.old.window heap.new.window.bytes }
+    ensures types { heap.new.types ≡ heap.old.types }
+{
+    remove(heap, cell, node);
+    if let Some(item) = content.entry.value(node, 0) {
+        heap.clear(item);
     }
-    F::free(w, block_of(node));
+    heap.free_block(node);
 }

@@ -1,7 +1,11 @@
 //! The nodes of a list: a ring, in which each one names the next and the previous one. The list's cell names the first.
 
+ghost use Rattle.std.specs.Prelude.{◌≡◌};
+ghost use Rattle.seg_spec.specs.Window.{with_bytes};
+
+use seg_block::Fit;
 use seg_ptr::Window;
-use seg_value::{count, set_count, start};
+use seg_value::Heap;
 use std::alloc::Allocator;
 
 /// A way round the ring.
@@ -12,66 +16,75 @@ pub(crate) enum Way {
 }
 
 /// A node's neighbour.
-pub(crate) fn neighbour<A: Allocator>(w: &Window<A>, node: u32, way: Way) -> u32 {
+pub(crate) fn neighbour<F: Fit, A: Allocator>(heap: &Heap<F, A>, node: u32, way: Way) -> u32 {
     match way {
-        Way::Forward => start(w, node),
-        Way::Backward => start(w, node.wrapping_add(4)),
+        Way::Forward => heap.start(node),
+        Way::Backward => heap.start(node.wrapping_add(4)),
     }
 }
 
 /// The node so many steps from another.
-fn walk<A: Allocator>(w: &Window<A>, from: u32, way: Way, steps: u32) -> u32 {
+fn walk<F: Fit, A: Allocator>(heap: &Heap<F, A>, from: u32, way: Way, steps: u32) -> u32 {
     let mut node = from;
-    for _ in 0..steps.min(w.len()) {
-        node = neighbour(w, node, way);
+    for _ in 0..steps.min(heap.window().len()) {
+        node = neighbour(heap, node, way);
     }
     node
 }
 
 /// The node of an item that a list has, from the nearer end.
-pub(crate) fn node_at<A: Allocator>(w: &Window<A>, cell: u32, index: u32) -> u32 {
-    let first = start(w, cell);
-    let behind = count(w, cell).saturating_sub(index);
-    if index <= behind {
-        walk(w, first, Way::Forward, index)
+pub(crate) fn node_at<F: Fit, A: Allocator>(heap: &Heap<F, A>, cell: u32, index: u32) -> u32 {
+    let first = heap.start(cell);
+    let from_end = heap.count(cell).saturating_sub(index);
+    if index <= from_end {
+        walk(heap, first, Way::Forward, index)
     } else {
-        walk(w, first, Way::Backward, behind)
+        walk(heap, first, Way::Backward, from_end)
     }
 }
 
-/// Lets one node be the next of another.
-fn join<A: Allocator>(w: &mut Window<A>, node: u32, next: u32) {
+/// Makes one node the next of another.
+fn join<A: Allocator>(w: &mut Window<A>, node: u32, next: u32)
+    ensures { w.new ≡ with_bytes w.old w.new.bytes }
+{
     w.point(node as usize, Some(next));
     w.point(next as usize + 4, Some(node));
 }
 
 /// Puts a new node between the last and the first one. It is the last one, unless the cell's pointer is set to it.
-pub(crate) fn insert<A: Allocator>(w: &mut Window<A>, cell: u32, node: u32) {
-    match w.target(cell as usize) {
+pub(crate) fn insert<F: Fit, A: Allocator>(heap: &mut Heap<F, A>, cell: u32, node: u32)
+    ensures window { heap.new.window ≡ with_bytes heap.old.window heap.new.window.bytes }
+    ensures types { heap.new.types ≡ heap.old.types }
+{
+    match heap.window().target(cell as usize) {
         None => {
-            join(w, node, node);
-            w.point(cell as usize, Some(node));
+            join(heap.window_mut(), node, node);
+            heap.window_mut().point(cell as usize, Some(node));
         }
         Some(first) => {
-            let last = neighbour(w, first, Way::Backward);
-            join(w, last, node);
-            join(w, node, first);
+            let last = neighbour(heap, first, Way::Backward);
+            join(heap.window_mut(), last, node);
+            join(heap.window_mut(), node, first);
         }
     }
-    let nodes = count(w, cell).saturating_add(1);
-    set_count(w, cell, nodes);
+    let nodes = heap.count(cell).saturating_add(1);
+    heap.set_count(cell, nodes);
 }
 
 /// Takes a node out of the ring.
-pub(crate) fn remove<A: Allocator>(w: &mut Window<A>, cell: u32, node: u32) {
-    let nodes = count(w, cell).saturating_sub(1);
-    set_count(w, cell, nodes);
+pub(crate) fn remove<F: Fit, A: Allocator>(heap: &mut Heap<F, A>, cell: u32, node: u32)
+    ensures window { heap.new.window ≡ with_bytes heap.old.window heap.new.window.bytes }
+    ensures types { heap.new.types ≡ heap.old.types }
+{
+    let nodes = heap.count(cell).saturating_sub(1);
+    heap.set_count(cell, nodes);
     if nodes == 0 {
-        w.point(cell as usize, None);
+        heap.window_mut().point(cell as usize, None);
         return;
     }
-    let next = neighbour(w, node, Way::Forward);
-    let prev = neighbour(w, node, Way::Backward);
+    let next = neighbour(heap, node, Way::Forward);
+    let prev = neighbour(heap, node, Way::Backward);
+    let w = heap.window_mut();
     join(w, prev, next);
     if w.target(cell as usize) == Some(node) {
         w.point(cell as usize, Some(next));

@@ -1,79 +1,86 @@
+ghost use Rattle.std.specs.Prelude.{◌≡◌};
+ghost use Rattle.seg_spec.specs.Window.{with_bytes};
+
 use crate::list::{item_of, push_node, remove_node};
 use crate::ring::{Way, neighbour, node_at};
 use seg_block::Fit;
-use seg_layout::{TypeId, TypeTable};
-use seg_ptr::Window;
 use seg_raw::Code;
-use seg_value::{Content, Shape, clear, count, init_default, reserve, set_count, start};
+use seg_value::{Content, Heap, Held, Place, Shape};
 use std::alloc::Allocator;
 
-/// Where an item of a vector or a list is, or a byte of a string. OutOfRange where there are not so many.
-pub fn at<A: Allocator>(
-    w: &Window<A>,
-    table: &TypeTable,
-    t: TypeId,
-    cell: u32,
+/// The position of an item of a vector or a list, or of a byte of a string. `OtherType` where the place has no items,
+/// `OutOfRange` where there are not so many.
+pub fn at<F: Fit, A: Allocator>(
+    heap: &Heap<F, A>,
+    sequence: Place,
     index: u32,
 ) -> Result<u32, Code> {
-    let content = Content::of(table, t).ok_or(Code::OtherType)?;
-    if index >= count(w, cell) {
+    let content = heap.content(sequence.type_id).ok_or(Code::OtherType)?;
+    if index >= heap.count(sequence.at) {
         return Err(Code::OutOfRange);
     }
     match content.shape {
-        Shape::Buffer => Ok(content.entry.value_at(start(w, cell), index)),
-        Shape::Ring => Ok(item_of(node_at(w, cell, index))),
+        Shape::Buffer => Ok(content.entry.value_at(heap.start(sequence.at), index)),
+        Shape::Ring => Ok(item_of(node_at(heap, sequence.at, index))),
         Shape::Tree | Shape::Object => Err(Code::OtherType),
     }
 }
 
-/// Adds a default item behind the others of a vector or a list, and answers where it is. BadAlloc where there is no room
-/// for it.
-pub fn push_back<F: Fit, A: Allocator>(
-    w: &mut Window<A>,
-    table: &TypeTable,
-    t: TypeId,
-    cell: u32,
-) -> Result<u32, Code> {
-    let content = Content::of(table, t).ok_or(Code::OtherType)?;
+/// Whether the entries of a buffer are values alone: not the bytes of a string, nor with the keys of a flat map.
+fn is_vector(content: &Content) -> bool {
+    match content.entry.held {
+        Held::Value(_) => content.entry.before == 0,
+        Held::Bytes | Held::Pointer => false,
+    }
+}
+
+/// Adds a default item after the others of a vector or a list, and returns its position. `OtherType` where the place is
+/// neither, `BadAlloc` where there is no room for the item; then nothing changes.
+pub fn push_back<F: Fit, A: Allocator>(heap: &mut Heap<F, A>, sequence: Place) -> Result<u32, Code>
+    ensures window { heap.new.window ≡ with_bytes heap.old.window heap.new.window.bytes }
+    ensures types { heap.new.types ≡ heap.old.types }
+{
+    let content = heap.content(sequence.type_id).ok_or(Code::OtherType)?;
     match content.shape {
-        Shape::Buffer => push_entry::<F, A>(w, table, &content, cell),
-        Shape::Ring => push_node::<F, A>(w, table, &content, cell),
-        Shape::Tree | Shape::Object => Err(Code::OtherType),
+        Shape::Buffer if is_vector(&content) => push_entry(heap, &content, sequence.at),
+        Shape::Ring => push_node(heap, &content, sequence.at),
+        Shape::Buffer | Shape::Tree | Shape::Object => Err(Code::OtherType),
     }
 }
 
-/// Adds a default entry to a buffer.
+/// Adds a default entry to a buffer, and returns the position of its value.
 fn push_entry<F: Fit, A: Allocator>(
-    w: &mut Window<A>,
-    table: &TypeTable,
+    heap: &mut Heap<F, A>,
     content: &Content,
     cell: u32,
-) -> Result<u32, Code> {
-    let kept = count(w, cell);
+) -> Result<u32, Code>
+    ensures window { heap.new.window ≡ with_bytes heap.old.window heap.new.window.bytes }
+    ensures types { heap.new.types ≡ heap.old.types }
+{
+    let kept = heap.count(cell);
     let len = kept.saturating_add(1);
-    reserve::<F, A>(w, table, content, cell, len)?;
-    set_count(w, cell, len);
-    let value = content.entry.value_at(start(w, cell), kept);
-    if let Some(item) = content.entry.item {
-        init_default(w, table, item, value);
+    heap.reserve(content, cell, len)?;
+    heap.set_count(cell, len);
+    let start = heap.start(cell);
+    if let Some(item) = content.entry.value(start, kept) {
+        heap.init_default(item);
     }
-    Ok(value)
+    Ok(content.entry.value_at(start, kept))
 }
 
-/// Destroys the last item of a vector or a list, or drops the last byte of a string. Null where there is none.
-pub fn pop_back<F: Fit, A: Allocator>(
-    w: &mut Window<A>,
-    table: &TypeTable,
-    t: TypeId,
-    cell: u32,
-) -> Result<(), Code> {
-    let content = Content::of(table, t).ok_or(Code::OtherType)?;
-    let last = count(w, cell).checked_sub(1).ok_or(Code::Null)?;
+/// Destroys the last item of a vector or a list, or drops the last byte of a string. `OtherType` where the place has no
+/// items, `Null` where there is no item.
+pub fn pop_back<F: Fit, A: Allocator>(heap: &mut Heap<F, A>, sequence: Place) -> Result<(), Code>
+    ensures window { heap.new.window ≡ with_bytes heap.old.window heap.new.window.bytes }
+    ensures types { heap.new.types ≡ heap.old.types }
+{
+    let content = heap.content(sequence.type_id).ok_or(Code::OtherType)?;
+    let last = heap.count(sequence.at).checked_sub(1).ok_or(Code::Null)?;
     match content.shape {
-        Shape::Buffer => pop_entry::<F, A>(w, table, &content, cell, last),
+        Shape::Buffer => pop_entry(heap, &content, sequence.at, last),
         Shape::Ring => {
-            let node = neighbour(w, start(w, cell), Way::Backward);
-            remove_node::<F, A>(w, table, &content, cell, node);
+            let node = neighbour(heap, heap.start(sequence.at), Way::Backward);
+            remove_node(heap, &content, sequence.at, node);
         }
         Shape::Tree | Shape::Object => return Err(Code::OtherType),
     }
@@ -81,16 +88,12 @@ pub fn pop_back<F: Fit, A: Allocator>(
 }
 
 /// Destroys the last entry of a buffer.
-fn pop_entry<F: Fit, A: Allocator>(
-    w: &mut Window<A>,
-    table: &TypeTable,
-    content: &Content,
-    cell: u32,
-    last: u32,
-) {
-    if let Some(item) = content.entry.item {
-        let value = content.entry.value_at(start(w, cell), last);
-        clear::<F, A>(w, table, item, value);
+fn pop_entry<F: Fit, A: Allocator>(heap: &mut Heap<F, A>, content: &Content, cell: u32, last: u32)
+    ensures window { heap.new.window ≡ with_bytes heap.old.window heap.new.window.bytes }
+    ensures types { heap.new.types ≡ heap.old.types }
+{
+    if let Some(item) = content.entry.value(heap.start(cell), last) {
+        heap.clear(item);
     }
-    set_count(w, cell, last);
+    heap.set_count(cell, last);
 }

@@ -1,58 +1,76 @@
+ghost use Rattle.std.specs.Prelude.{◌≡◌};
+ghost use Rattle.seg_spec.specs.Window.{with_bytes};
+
 use seg_block::Fit;
-use seg_layout::{TypeId, TypeTable};
-use seg_ptr::Window;
 use seg_raw::Code;
-use seg_value::{Content, count, reserve, set_count, start};
+use seg_value::{Content, Heap, Held, Place};
 use std::alloc::Allocator;
 
-/// Adds bytes to a string. BadAlloc where there is no room for them.
+/// Adds bytes to a string. `OtherType` where the place is no string, `BadAlloc` where there is no room for them; then
+/// nothing changes.
 pub fn append<F: Fit, A: Allocator>(
-    w: &mut Window<A>,
-    table: &TypeTable,
-    t: TypeId,
-    cell: u32,
+    heap: &mut Heap<F, A>,
+    text: Place,
     bytes: &[u8],
-) -> Result<(), Code> {
-    let kept = count(w, cell);
-    write::<F, A>(w, table, t, cell, kept, bytes)
+) -> Result<(), Code>
+    ensures window { heap.new.window ≡ with_bytes heap.old.window heap.new.window.bytes }
+    ensures types { heap.new.types ≡ heap.old.types }
+{
+    let kept = heap.count(text.at);
+    write(heap, text, kept, bytes)
 }
 
-/// Replaces the text of a string. BadAlloc where there is no room for the new one, and then the old one stays.
+/// Replaces the text of a string. `OtherType` where the place is no string, `BadAlloc` where there is no room for the new
+/// text; then the old one stays.
 pub fn assign<F: Fit, A: Allocator>(
-    w: &mut Window<A>,
-    table: &TypeTable,
-    t: TypeId,
-    cell: u32,
+    heap: &mut Heap<F, A>,
+    text: Place,
     bytes: &[u8],
-) -> Result<(), Code> {
-    write::<F, A>(w, table, t, cell, 0, bytes)
+) -> Result<(), Code>
+    ensures window { heap.new.window ≡ with_bytes heap.old.window heap.new.window.bytes }
+    ensures types { heap.new.types ≡ heap.old.types }
+{
+    write(heap, text, 0, bytes)
 }
 
-/// Adds a byte to a string. BadAlloc where there is no room for it.
+/// Adds a byte to a string. `OtherType` where the place is no string, `BadAlloc` where there is no room for it; then
+/// nothing changes.
 pub fn push_byte<F: Fit, A: Allocator>(
-    w: &mut Window<A>,
-    table: &TypeTable,
-    t: TypeId,
-    cell: u32,
+    heap: &mut Heap<F, A>,
+    text: Place,
     byte: u8,
-) -> Result<(), Code> {
-    append::<F, A>(w, table, t, cell, &[byte])
+) -> Result<(), Code>
+    ensures window { heap.new.window ≡ with_bytes heap.old.window heap.new.window.bytes }
+    ensures types { heap.new.types ≡ heap.old.types }
+{
+    append(heap, text, &[byte])
 }
 
-/// Lets a string end with these bytes behind the first `kept` ones.
+/// What the cell of a string names. `OtherType` where the place is no string.
+fn text_content<F: Fit, A: Allocator>(heap: &Heap<F, A>, text: Place) -> Result<Content, Code> {
+    let content = heap.content(text.type_id).ok_or(Code::OtherType)?;
+    match content.entry.held {
+        Held::Bytes => Ok(content),
+        Held::Value(_) | Held::Pointer => Err(Code::OtherType),
+    }
+}
+
+/// Replaces what stands in a string after its first `kept` bytes.
 fn write<F: Fit, A: Allocator>(
-    w: &mut Window<A>,
-    table: &TypeTable,
-    t: TypeId,
-    cell: u32,
+    heap: &mut Heap<F, A>,
+    text: Place,
     kept: u32,
     bytes: &[u8],
-) -> Result<(), Code> {
-    let content = Content::of(table, t).ok_or(Code::OtherType)?;
+) -> Result<(), Code>
+    ensures window { heap.new.window ≡ with_bytes heap.old.window heap.new.window.bytes }
+    ensures types { heap.new.types ≡ heap.old.types }
+{
+    let content = text_content(heap, text)?;
     let added = u32::try_from(bytes.len()).map_err(|_| Code::BadAlloc)?;
     let len = kept.saturating_add(added);
-    reserve::<F, A>(w, table, &content, cell, len)?;
-    w.copy_in(start(w, cell) as usize + kept as usize, bytes);
-    set_count(w, cell, len);
+    heap.reserve(&content, text.at, len)?;
+    let end = heap.start(text.at) as usize + kept as usize;
+    heap.window_mut().copy_in(end, bytes);
+    heap.set_count(text.at, len);
     Ok(())
 }

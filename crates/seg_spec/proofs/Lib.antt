@@ -29,6 +29,7 @@ pub mod Parts
 pub mod UniqueLaws
 pub mod TypesLaws
 pub mod EntryLaws
+pub mod RightTables
 pub mod CellLaws
 pub mod AddTypes
 pub mod PickLaws
@@ -41,6 +42,9 @@ pub mod NoGaps
 pub mod NoRoots
 pub mod PartLaw
 pub mod RootPaths
+pub mod PathsBehind
+pub mod Denials
+pub mod CutBuffers
 pub mod Composing
 pub mod StretchLaws
 pub mod WorkedCalls

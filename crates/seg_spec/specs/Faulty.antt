@@ -3,6 +3,7 @@
 --     HasTiles bytes table       tiles in order by themselves: all of the heap but the free structure
 --     HoldsAll bytes             all of a sound image but one owner for each live block
 --     LacksHeader, LacksType, LacksTiles, LacksGaps, LacksContent, LacksOwner   what is wrong, where all before it is right
+--     Lacks bytes failure        the same by a name for each but the last, which is a case of the one before it
 use Rattle.std.specs.Prelude.{◌≡◌, ℕ, ◌%◌, ◌^◌, ◌≤◌, true, List, [], ◌++◌, length}
 use Rattle.std.specs.List.{AllByRecursion}
 use Rattle.seg_spec.specs.Bytes.{word, slice}
@@ -70,3 +71,20 @@ LacksContent bytes =
 -- nothing but an owner for a live block
 abbrev pub LacksOwner : List ℕ → Type 0
 LacksOwner bytes = HoldsAll bytes × (IsSound bytes → ⊥)
+
+-- ---- the failures by name
+
+-- in the order in which they are looked for
+pub data Failure : Type 0 where
+  bad_header : Failure
+  bad_type : (k : ℕ) → Failure
+  bad_tiles : Failure
+  bad_gaps : Failure
+  bad_content : Failure
+
+abbrev pub Lacks : List ℕ → Failure → Type 0
+Lacks bytes Failure.bad_header = LacksHeader bytes
+Lacks bytes (Failure.bad_type k) = LacksType bytes k
+Lacks bytes Failure.bad_tiles = LacksTiles bytes
+Lacks bytes Failure.bad_gaps = LacksGaps bytes
+Lacks bytes Failure.bad_content = LacksContent bytes

@@ -20,4 +20,5 @@ pub mod Cells
 pub mod Owning
 pub mod Calls
 pub mod Spending
+pub mod Shrinking
 pub mod Fixtures

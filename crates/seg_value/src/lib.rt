@@ -7,6 +7,7 @@ mod cell;
 mod cells;
 mod content;
 mod destruction;
+mod entries;
 mod entry;
 mod heap;
 mod moving;

@@ -9,7 +9,7 @@ ghost use Rattle.seg_spec.proofs.OrderSteps.{steps_up};
 
 use seg_ptr::Window;
 use seg_raw::Region;
-use seg_rbtree::{NodeOrder, TREE_WORDS, Tree};
+use seg_rbtree::{Colour, NodeOrder, Side, TREE_WORDS, Tree, child, node_colour};
 use std::alloc::{AllocError, Allocator, Global};
 use std::cmp::Ordering;
 use std::process::Abort;
@@ -142,6 +142,7 @@ fn searches(rt: &impl Abort, w: &Window<Global>, numbers: &[u32], key: u32) {
     let same = tree.find(w, &ByNumber, key);
     assert!(rt; same.is_some() == numbers.contains(&key));
     assert!(rt; same.is_none() || found(w, same) == Some(key));
+    assert_eq!(rt; tree.path_to_key(w, &ByNumber, key).node(w), same);
 }
 
 /// The tree's first node has the first number.
@@ -151,19 +152,51 @@ fn begins(rt: &impl Abort, w: &Window<Global>, numbers: &[u32]) {
     assert_eq!(rt; tree.is_empty(w), numbers.is_empty());
 }
 
+/// How a node is added or removed.
+#[derive(Clone, Copy)]
+enum Way {
+    /// By the node, which is looked for.
+    Node,
+    /// At the end of the path to its number.
+    Path,
+}
+
+fn add(w: &mut Window<Global>, way: Way, node: u32, n: u32) {
+    let tree = Tree::new(0);
+    let path = tree.path_to_key(w, &ByNumber, n);
+    // the number may be written after the walk
+    w.put32(node as usize + TREE_WORDS as usize, n);
+    match way {
+        Way::Node => tree.insert(w, &ByNumber, node),
+        Way::Path => path.insert(w, node),
+    }
+}
+
+fn take_out(w: &mut Window<Global>, way: Way, node: u32, n: u32) {
+    let tree = Tree::new(0);
+    match way {
+        Way::Node => tree.remove(w, &ByNumber, node),
+        Way::Path => tree.path_to_key(w, &ByNumber, n).remove(w),
+    }
+}
+
 /// Adds or removes the node of a number.
-fn toggle(w: &mut Window<Global>, numbers: &mut Vec<u32>, n: u32) -> Result<(), Fail> {
+fn toggle(
+    w: &mut Window<Global>,
+    numbers: &mut Vec<u32>,
+    way: Way,
+    n: u32,
+) -> Result<(), AllocError> {
     let node = NODE.saturating_mul(n.saturating_add(1));
     match numbers.binary_search(&n) {
         Ok(i) => {
-            Tree::new(0).remove(w, &ByNumber, node);
+            take_out(w, way, node, n);
             if i < numbers.len() {
                 numbers.remove(i);
             }
         }
         Err(i) => {
-            w.put32(node as usize + TREE_WORDS as usize, n);
-            Tree::new(0).insert(w, &ByNumber, node);
+            add(w, way, node, n);
             if i <= numbers.len() {
                 numbers.insert(i, n)?;
             }
@@ -179,7 +212,11 @@ fn keeps_nodes_in_order(rt: HostRuntime) -> Result<(), Fail> {
         let mut w = window(rt.alloc(), size)?;
         let mut numbers = Vec::new(rt.alloc());
         for _ in 0..400 {
-            toggle(&mut w, &mut numbers, random.below(size))?;
+            let way = match random.below(2) {
+                0 => Way::Node,
+                _ => Way::Path,
+            };
+            toggle(&mut w, &mut numbers, way, random.below(size))?;
             holds(&rt, &w, numbers.as_slice())?;
             searches(&rt, &w, numbers.as_slice(), random.below(size));
             begins(&rt, &w, numbers.as_slice());
@@ -199,8 +236,32 @@ fn is_safe_on_any_bytes(rt: HostRuntime) -> Result<(), Fail> {
         let tree = Tree::new(0);
         tree.insert(&mut w, &ByNumber, 32);
         tree.remove(&mut w, &ByNumber, 64);
+        tree.path_to_key(&w, &ByNumber, 5).insert(&mut w, 96);
+        tree.path_to_key(&w, &ByNumber, 7).remove(&mut w);
         let _ = tree.first_at_least(&w, &ByNumber, 5);
         let _ = tree.first(&w);
     }
+    Ok(())
+}
+
+#[test]
+fn reads_the_words_of_a_node(rt: HostRuntime) -> Result<(), Fail> {
+    let mut w = window(rt.alloc(), 4)?;
+    let words = [
+        (0, 0, Some(Colour::Black)),
+        (1, 0, Some(Colour::Red)),
+        (2, 0, None),
+        (0, 1, None),
+        (1, 256, None),
+    ];
+    for (colour, zero, read) in words {
+        w.put32(32 + 8, colour);
+        w.put32(32 + 12, zero);
+        assert_eq!(rt; node_colour(&w, 32), read);
+    }
+    w.point(32, Some(64));
+    w.point(36, Some(96));
+    assert_eq!(rt; child(&w, 32, Side::Left), Some(64));
+    assert_eq!(rt; child(&w, 32, Side::Right), Some(96));
     Ok(())
 }

@@ -1,16 +1,16 @@
-use crate::tests::support::{NAMES, Segment, new_segment};
+use crate::tests::support::{NAMES, Segment, add, new_segment, remove};
 use seg_bestfit::BestFit;
 use seg_block::Fit;
-use seg_index::{IndexKind, add, find, first_name, next_name, remove, set_unique, unique};
+use seg_index::{IndexKind, find, first_name, next_name, set_unique, unique};
 use seg_ptr::header;
 use seg_seqfit::SeqFit;
-use std::alloc::Global;
 use std::test::Fail;
 use support_data::Random;
 
 /// Writes random words over the segment but for the kind of its index: small numbers, so that many pointers lead to places
 /// in it.
 fn damage<F: Fit>(s: &mut Segment<F>, kind: IndexKind, random: &mut Random) {
+    let w = s.heap.window_mut();
     for at in 0..256usize {
         let word = match random.below(4) {
             0 => random.below(1 << 10),
@@ -18,21 +18,21 @@ fn damage<F: Fit>(s: &mut Segment<F>, kind: IndexKind, random: &mut Random) {
             2 => random.below(1 << 10).wrapping_add(1 << 31),
             _ => random.below(u32::MAX),
         };
-        s.w.put32(4 * at, word);
+        w.put32(4 * at, word);
     }
-    s.w.put32(header::INDEX_KIND, kind.word());
+    w.put32(header::INDEX_KIND, kind.word());
 }
 
 /// Each of the calls, with a name.
 fn call<F: Fit>(s: &mut Segment<F>, name: &[u8], random: &mut Random) {
-    let _ = find(&s.w, &s.types, name);
-    let _ = first_name(&s.w);
-    let _ = next_name(&s.w, &s.types, name);
-    let _ = add::<F, Global>(&mut s.w, &s.types, random.below(1024), 1, 3);
-    let _ = remove::<F, Global>(&mut s.w, &s.types, name);
+    let _ = find(&s.heap, name);
+    let _ = first_name(&s.heap);
+    let _ = next_name(&s.heap, name);
+    let _ = add(s, name, random.below(1024), 1);
+    let _ = remove(s, name);
     let t = u8::try_from(random.below(256)).unwrap_or(0);
-    let object = unique(&s.w, t);
-    set_unique(&mut s.w, t, object);
+    let object = unique(s.heap.window(), t);
+    set_unique(s.heap.window_mut(), t, object);
 }
 
 fn try_calls<F: Fit>(rt: &impl AllocGlobal, kind: IndexKind) -> Result<(), Fail> {

@@ -1,12 +1,11 @@
 //! Blocks and bytes that follow from the rules of growth and from the format, worked out by hand.
 
-use crate::tests::support::{Segment, name_len, new_object, new_segment};
+use crate::tests::support::{Segment, add, new_object, new_segment, remove};
 use seg_block::{Fit, block_of};
-use seg_index::{IndexKind, add, name_count, remove, set_unique, unique};
+use seg_index::{IndexKind, name_count, set_unique, unique};
 use seg_ptr::header;
 use seg_raw::Code;
 use seg_seqfit::SeqFit;
-use std::alloc::Global;
 use std::process::Abort;
 use std::test::Fail;
 use support_heap::tiles;
@@ -24,7 +23,7 @@ fn segment(rt: &impl AllocGlobal, len: u32, kind: IndexKind) -> Result<Segment<S
 /// An object of one number that has a name, and is in the index.
 fn add_named<F: Fit>(s: &mut Segment<F>, name: &[u8]) -> Result<(), Code> {
     let object = new_object(s, name, 1).ok_or(Code::BadAlloc)?;
-    add::<F, Global>(&mut s.w, &s.types, object, 1, name_len(name))
+    add(s, name, object, 1)
 }
 
 /// The live blocks: where they are, their units and their tags.
@@ -34,7 +33,7 @@ fn live_are<F: Fit>(
     wanted: &[(u32, u32, u32)],
 ) -> Result<(), Fail> {
     let mut live = Vec::new(rt.alloc());
-    for tile in tiles(rt.alloc(), &s.w)?.as_slice() {
+    for tile in tiles(rt.alloc(), s.heap.window())?.as_slice() {
         if tile.live {
             live.push((tile.at, tile.units, tile.tag))?;
         }
@@ -49,15 +48,18 @@ fn the_first_name_takes_a_buffer_of_4(rt: HostRuntime) -> Result<(), Fail> {
     let mut s = segment(&rt, 1024, IndexKind::Flat)?;
     add_named(&mut s, b"x")?;
     live_are(&rt, &s, &[(704, 2, OBJECT), (736, 3, BUFFER)])?;
-    assert_eq!(rt; s.w.slice(32, 8), [0xd0, 2, 0, 0, 1, 0, 0, 0].as_slice());
     assert_eq!(rt;
-        s.w.slice(752, 8),
+        s.heap.window().slice(32, 8),
+        [0xd0, 2, 0, 0, 1, 0, 0, 0].as_slice()
+    );
+    assert_eq!(rt;
+        s.heap.window().slice(752, 8),
         [0xe0, 0xff, 0xff, 0xff, 1, 0, 1, 0].as_slice()
     );
-    assert!(rt; remove::<SeqFit, Global>(&mut s.w, &s.types, b"x").is_some());
+    assert!(rt; remove(&mut s, b"x").is_some());
     live_are(&rt, &s, &[(704, 2, OBJECT)])?;
-    assert_eq!(rt; s.w.target(header::INDEX), None);
-    assert_eq!(rt; name_count(&s.w), 0);
+    assert_eq!(rt; s.heap.window().target(header::INDEX), None);
+    assert_eq!(rt; name_count(s.heap.window()), 0);
     Ok(())
 }
 
@@ -76,13 +78,13 @@ fn an_index_finds_no_room(rt: HostRuntime) -> Result<(), Fail> {
         let mut s = segment(&rt, 752, kind)?;
         assert_eq!(rt; add_named(&mut s, b"x"), Err(Code::BadAlloc));
         live_are(&rt, &s, &[(704, 3, OBJECT)])?;
-        assert_eq!(rt; s.w.target(header::INDEX), None);
-        assert_eq!(rt; name_count(&s.w), 0);
+        assert_eq!(rt; s.heap.window().target(header::INDEX), None);
+        assert_eq!(rt; name_count(s.heap.window()), 0);
     }
     Ok(())
 }
 
-/// The fifth entry doubles the buffer where it stands, if there is room behind it, else elsewhere.
+/// The fifth entry doubles the buffer where it stands, if there is room after it, else elsewhere.
 #[test]
 fn the_fifth_name_doubles_the_buffer(rt: HostRuntime) -> Result<(), Fail> {
     let names: [&[u8]; 5] = [b"e", b"b", b"c", b"a", b"d"];
@@ -90,9 +92,10 @@ fn the_fifth_name_doubles_the_buffer(rt: HostRuntime) -> Result<(), Fail> {
     for name in names {
         let _ = new_object(&mut s, name, 1);
     }
-    for (object, units) in [(720, 3), (752, 3), (784, 3), (816, 3), (848, 5)] {
-        add::<SeqFit, Global>(&mut s.w, &s.types, object, 1, 1)?;
-        let buffer = tiles(rt.alloc(), &s.w)?;
+    let wanted = [(720, 3), (752, 3), (784, 3), (816, 3), (848, 5)];
+    for (name, (object, units)) in names.into_iter().zip(wanted) {
+        add(&mut s, name, object, 1)?;
+        let buffer = tiles(rt.alloc(), s.heap.window())?;
         assert_eq!(rt;
             buffer.get(5).map(|tile| (tile.at, tile.units)),
             Some((864, units))
@@ -133,15 +136,15 @@ fn a_tree_node_takes_3_units(rt: HostRuntime) -> Result<(), Fail> {
         ],
     )?;
     // the root's left child, no right one, black; the object, one number, one byte of a name
-    assert_eq!(rt; s.w.target(header::INDEX), Some(752));
+    assert_eq!(rt; s.heap.window().target(header::INDEX), Some(752));
     assert_eq!(rt;
-        s.w.slice(752, 24),
+        s.heap.window().slice(752, 24),
         [
             80, 0, 0, 0, 1, 0, 0, 0, 0, 0, 0, 0, 0, 0, 0, 0, 0xd0, 0xff, 0xff, 0xff, 1, 0, 1, 0
         ]
         .as_slice()
     );
-    assert!(rt; remove::<SeqFit, Global>(&mut s.w, &s.types, b"y").is_some());
+    assert!(rt; remove(&mut s, b"y").is_some());
     live_are(
         &rt,
         &s,
@@ -154,11 +157,17 @@ fn a_tree_node_takes_3_units(rt: HostRuntime) -> Result<(), Fail> {
 fn a_type_has_one_unique_object(rt: HostRuntime) -> Result<(), Fail> {
     let mut s = segment(&rt, 1024, IndexKind::Flat)?;
     for t in 0..32 {
-        set_unique(&mut s.w, t, None);
+        set_unique(s.heap.window_mut(), t, None);
     }
-    set_unique(&mut s.w, 31, Some(720));
-    assert_eq!(rt; s.w.slice(696, 8), [1, 0, 0, 0, 20, 0, 0, 0].as_slice());
-    assert_eq!(rt; (unique(&s.w, 30), unique(&s.w, 31)), (None, Some(720)));
+    set_unique(s.heap.window_mut(), 31, Some(720));
+    assert_eq!(rt;
+        s.heap.window().slice(696, 8),
+        [1, 0, 0, 0, 20, 0, 0, 0].as_slice()
+    );
+    assert_eq!(rt;
+        (unique(s.heap.window(), 30), unique(s.heap.window(), 31)),
+        (None, Some(720))
+    );
     assert_eq!(rt; block_of(720), 704);
     Ok(())
 }

@@ -1,6 +1,6 @@
 use crate::tests::support::{NAMES, NUMBER, Segment, name_len};
 use seg_block::{Fit, Kind, Tag, UNIT};
-use seg_index::{Entry, IndexKind, find, first_name, name_count, next_name};
+use seg_index::{IndexKind, NameEntry, find, first_name, name_count, next_name};
 use seg_ptr::header;
 use std::alloc::AllocError;
 use std::process::Abort;
@@ -48,45 +48,40 @@ impl Model {
 fn is_entry_of<F: Fit>(
     rt: &impl Abort,
     s: &Segment<F>,
-    found: Option<Entry>,
+    found: Option<NameEntry>,
     wanted: Option<Named>,
 ) {
     let (Some(entry), Some(named)) = (found, wanted) else {
         assert!(rt; found.is_none() && wanted.is_none());
         return;
     };
-    let expected = Entry {
+    let expected = NameEntry {
         object: Some(named.at),
         count: named.count,
         name_len: name_len(named.name),
         zero: 0,
     };
     assert_eq!(rt; entry, expected);
-    assert_eq!(rt; entry.name(&s.w, &s.types), named.name);
-    assert_eq!(rt; entry.type_id(&s.w), Some(NUMBER));
+    assert_eq!(rt; entry.name(s.heap.window(), s.heap.types()), named.name);
+    assert_eq!(rt; entry.type_id(s.heap.window()), Some(NUMBER));
 }
 
 /// The index is walked in order of the names.
 fn walks<F: Fit>(rt: &impl Abort, s: &Segment<F>, model: &Model) {
-    let mut found = first_name(&s.w);
+    let mut found = first_name(&s.heap);
     for named in &model.names {
         is_entry_of(rt, s, found, Some(*named));
-        found = next_name(&s.w, &s.types, named.name);
+        found = next_name(&s.heap, named.name);
     }
     assert!(rt; found.is_none());
-    assert_eq!(rt; name_count(&s.w) as usize, model.names.len());
+    assert_eq!(rt; name_count(s.heap.window()) as usize, model.names.len());
 }
 
 /// Each name is found exactly where it is in the model, and so is the least one above it.
 fn answers<F: Fit>(rt: &impl Abort, s: &Segment<F>, model: &Model) {
     for name in NAMES {
-        is_entry_of(rt, s, find(&s.w, &s.types, name), model.find(name));
-        is_entry_of(
-            rt,
-            s,
-            next_name(&s.w, &s.types, name),
-            model.next_after(name),
-        );
+        is_entry_of(rt, s, find(&s.heap, name), model.find(name));
+        is_entry_of(rt, s, next_name(&s.heap, name), model.next_after(name));
     }
 }
 
@@ -95,7 +90,7 @@ fn keeps_numbers<F: Fit>(rt: &impl Abort, s: &Segment<F>, model: &Model) {
     for named in &model.names {
         for index in 0..usize::from(named.count) {
             let at = named.at as usize + 8 * index;
-            assert_eq!(rt; s.w.get64(at), at as u64);
+            assert_eq!(rt; s.heap.window().get64(at), at as u64);
         }
     }
 }
@@ -106,14 +101,14 @@ fn owns_its_blocks<F: Fit>(
     s: &Segment<F>,
     model: &Model,
 ) -> Result<(), Fail> {
-    let (kind, wanted) = match IndexKind::of(&s.w) {
+    let (kind, wanted) = match IndexKind::of(s.heap.window()) {
         IndexKind::Flat => (Kind::IndexBuffer, model.names.len().min(1)),
         IndexKind::Tree => (Kind::IndexNode, model.names.len()),
     };
     let own = Tag { kind, type_id: 0 }.word();
     let mut objects = 0usize;
     let mut blocks = 0usize;
-    for tile in tiles(rt.alloc(), &s.w)?.as_slice() {
+    for tile in tiles(rt.alloc(), s.heap.window())?.as_slice() {
         if tile.tag == own {
             blocks = blocks.saturating_add(1);
         } else if tile.live {
@@ -123,7 +118,10 @@ fn owns_its_blocks<F: Fit>(
         }
     }
     assert_eq!(rt; (objects, blocks), (model.names.len(), wanted));
-    assert_eq!(rt; s.w.target(header::INDEX).is_none(), model.names.is_empty());
+    assert_eq!(rt;
+        s.heap.window().target(header::INDEX).is_none(),
+        model.names.is_empty()
+    );
     Ok(())
 }
 

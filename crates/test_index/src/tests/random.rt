@@ -1,8 +1,8 @@
 use crate::tests::model::{Model, Named, is_model};
-use crate::tests::support::{NAMES, Segment, name_len, new_object, new_segment};
+use crate::tests::support::{NAMES, Segment, add, new_object, new_segment, remove};
 use seg_bestfit::BestFit;
 use seg_block::{Fit, HEAP_START, UNIT, block_of};
-use seg_index::{IndexKind, add, remove};
+use seg_index::IndexKind;
 use seg_raw::Code;
 use seg_seqfit::SeqFit;
 use std::alloc::{AllocError, Global};
@@ -20,11 +20,11 @@ enum Answer {
 
 /// All that a refused call leaves as it was: the bytes that lie in no gap.
 fn outside_gaps<F: Fit>(alloc: Global, s: &Segment<F>) -> Result<Vec<u8>, AllocError> {
-    let mut bytes = Vec::from_slice(alloc, s.w.slice(0, HEAP_START as usize))?;
-    for tile in tiles(alloc, &s.w)?.as_slice() {
+    let mut bytes = Vec::from_slice(alloc, s.heap.window().slice(0, HEAP_START as usize))?;
+    for tile in tiles(alloc, s.heap.window())?.as_slice() {
         let units = if tile.live { tile.units } else { 1 };
         let len = units as usize * UNIT as usize;
-        bytes.extend_from_slice(s.w.slice(tile.at as usize, len))?;
+        bytes.extend_from_slice(s.heap.window().slice(tile.at as usize, len))?;
     }
     Ok(bytes)
 }
@@ -41,7 +41,7 @@ fn add_name<F: Fit>(
         return Ok(Answer::Done);
     };
     let before = outside_gaps(rt.alloc(), s)?;
-    match add::<F, Global>(&mut s.w, &s.types, at, count, name_len(name)) {
+    match add(s, name, at, count) {
         Ok(()) => {
             model.add(Named { name, at, count })?;
             Ok(Answer::Done)
@@ -49,7 +49,7 @@ fn add_name<F: Fit>(
         Err(code) => {
             assert_eq!(rt; code, Code::BadAlloc);
             assert_eq!(rt; outside_gaps(rt.alloc(), s)?.as_slice(), before.as_slice());
-            F::free(&mut s.w, block_of(at));
+            F::free(s.heap.window_mut(), block_of(at));
             Ok(Answer::NoRoom)
         }
     }
@@ -57,12 +57,12 @@ fn add_name<F: Fit>(
 
 /// Removes a name, and then its object.
 fn remove_name<F: Fit>(rt: &impl Abort, s: &mut Segment<F>, model: &mut Model, name: &[u8]) {
-    let removed = remove::<F, Global>(&mut s.w, &s.types, name);
+    let removed = remove(s, name);
     let object = removed.and_then(|entry| entry.object);
     assert_eq!(rt; object, model.find(name).map(|named| named.at));
     model.remove(name);
     if let Some(object) = object {
-        F::free(&mut s.w, block_of(object));
+        F::free(s.heap.window_mut(), block_of(object));
     }
 }
 
@@ -105,8 +105,8 @@ fn try_out<F: Fit>(
         remove_name(rt, &mut s, &mut model, name);
         is_model(rt, &s, &model)?;
     }
-    let left = tiles(rt.alloc(), &s.w)?;
-    assert_eq!(rt; left.as_slice(), [whole_gap(&s.w)].as_slice());
+    let left = tiles(rt.alloc(), s.heap.window())?;
+    assert_eq!(rt; left.as_slice(), [whole_gap(s.heap.window())].as_slice());
     Ok(refused)
 }
 

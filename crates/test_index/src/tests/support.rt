@@ -1,10 +1,10 @@
 use seg_block::{Fit, Kind, Tag, UNIT, need};
-use seg_index::IndexKind;
+use seg_index::{IndexKind, NameEntry, look_up};
 use seg_layout::{TypeId, TypeTable};
 use seg_ptr::{Window, header};
-use seg_raw::Region;
+use seg_raw::{Code, Region};
+use seg_value::Heap;
 use std::alloc::Global;
-use std::marker::PhantomData;
 use std::test::Fail;
 
 /// The one type of the segments, numbers of 8 bytes.
@@ -40,10 +40,8 @@ pub(crate) const NAMES: [&[u8]; 24] = [
 
 /// A segment of numbers, whose heap an allocator keeps.
 #[derive(Drop)]
-pub(crate) struct Segment<F> {
-    pub(crate) w: Window<Global>,
-    pub(crate) types: TypeTable,
-    fit: PhantomData<F>,
+pub(crate) struct Segment<F: Fit> {
+    pub(crate) heap: Heap<F, Global>,
 }
 
 /// A segment without names, whose heap is one gap.
@@ -62,17 +60,15 @@ pub(crate) fn new_segment<F: Fit>(
             w.point(header::INDEX, None);
             F::init(&mut w);
             Ok(Segment {
-                w,
-                types,
-                fit: PhantomData,
+                heap: Heap::new(w, types),
             })
         }
         Err(_) => Err(Fail::from("misplaced")),
     }
 }
 
-/// A block with `count` numbers, each of them its own position, and a name behind them. No index has it yet. Answers where
-/// the first number is, none where there is no room.
+/// A block with `count` numbers, each of them its own position, and a name after them. No index has it yet. Returns the
+/// position of the first number, none where there is no room.
 pub(crate) fn new_object<F: Fit>(s: &mut Segment<F>, name: &[u8], count: u16) -> Option<u32> {
     let tag = Tag {
         kind: Kind::Named,
@@ -80,18 +76,40 @@ pub(crate) fn new_object<F: Fit>(s: &mut Segment<F>, name: &[u8], count: u16) ->
     };
     let values = 8 * u32::from(count);
     let name_len = u32::try_from(name.len()).unwrap_or(0);
-    let block = F::allocate(&mut s.w, need(values.saturating_add(name_len)))?;
-    tag.write(&mut s.w, block);
+    let w = s.heap.window_mut();
+    let block = F::allocate(w, need(values.saturating_add(name_len)))?;
+    tag.write(w, block);
     let object = block.wrapping_add(UNIT);
     for index in 0..usize::from(count) {
         let at = object as usize + 8 * index;
-        s.w.put64(at, at as u64);
+        w.put64(at, at as u64);
     }
-    s.w.copy_in(object as usize + values as usize, name);
+    w.copy_in(object as usize + values as usize, name);
     Some(object)
 }
 
 /// The bytes of a name that the random tests use.
 pub(crate) fn name_len(name: &[u8]) -> u8 {
     u8::try_from(name.len()).unwrap_or(0)
+}
+
+/// Enters a name for an object of `count` numbers. The index doesn't have the name.
+pub(crate) fn add<F: Fit>(
+    s: &mut Segment<F>,
+    name: &[u8],
+    object: u32,
+    count: u16,
+) -> Result<(), Code> {
+    match look_up(&s.heap, name) {
+        Ok(_) => Err(Code::AlreadyExists),
+        Err(vacant) => vacant.insert(&mut s.heap, object, count, name_len(name)),
+    }
+}
+
+/// Takes out the entry of a name, and returns it.
+pub(crate) fn remove<F: Fit>(s: &mut Segment<F>, name: &[u8]) -> Option<NameEntry> {
+    let occupied = look_up(&s.heap, name).ok()?;
+    let entry = occupied.entry();
+    occupied.remove(&mut s.heap);
+    Some(entry)
 }

@@ -19,7 +19,7 @@ fn is_sound<F: Fit>(
     segment: &Segment<F, Global>,
     free: u32,
 ) -> Result<(), Fail> {
-    check(rt.alloc(), &segment.window)?;
+    check(rt.alloc(), segment.window())?;
     assert_eq!(rt; segment.free_memory(), free);
     Ok(())
 }
@@ -208,7 +208,7 @@ fn refusals_in_order(rt: HostRuntime) -> Result<(), Fail> {
         assert_eq!(rt; segment.find(b"x", NUMBER)?.count, 2);
         assert_eq!(rt; segment.num_named(), 1);
         segment.construct(&[b'a'; 63], NUMBER, 1)?;
-        check(rt.alloc(), &segment.window)?;
+        check(rt.alloc(), segment.window())?;
     }
     Ok(())
 }
@@ -240,7 +240,13 @@ fn new_segments_are_empty(rt: HostRuntime) -> Result<(), Fail> {
         assert_eq!(rt; segment.largest_gap(), 320);
         assert_eq!(rt; segment.num_named(), 0);
         assert!(rt; segment.all_memory_deallocated());
-        assert!(rt; segment.window.slice(720, 304).iter().all(|byte| *byte == 0));
+        assert!(rt;
+            segment
+                .window()
+                .slice(720, 304)
+                .iter()
+                .all(|byte| *byte == 0)
+        );
     }
     for (base, size, fault) in [
         (0, 720, Fault::BadSize),
@@ -266,14 +272,20 @@ fn new_segments_are_empty(rt: HostRuntime) -> Result<(), Fail> {
 fn free_memory_is_zeroed(rt: HostRuntime) -> Result<(), Fail> {
     for index in BOTH {
         let mut segment = segment::<SeqFit>(rt.alloc(), 1024, index, &[I64])?;
-        segment.window.fill(720, 304, 0xa5);
+        segment.heap_mut().window_mut().fill(720, 304, 0xa5);
         segment.zero_free_memory();
-        assert!(rt; segment.window.slice(720, 304).iter().all(|byte| *byte == 0));
+        assert!(rt;
+            segment
+                .window()
+                .slice(720, 304)
+                .iter()
+                .all(|byte| *byte == 0)
+        );
         is_sound(&rt, &segment, 320)?;
         segment.construct(b"x", NUMBER, 1)?;
-        segment.window.put64(720, u64::MAX);
+        segment.heap_mut().window_mut().put64(720, u64::MAX);
         segment.zero_free_memory();
-        assert_eq!(rt; segment.window.get64(720), u64::MAX);
+        assert_eq!(rt; segment.window().get64(720), u64::MAX);
         is_sound(&rt, &segment, 240)?;
     }
     Ok(())
@@ -283,9 +295,15 @@ fn free_memory_is_zeroed(rt: HostRuntime) -> Result<(), Fail> {
 #[test]
 fn free_tree_stays(rt: HostRuntime) -> Result<(), Fail> {
     let mut segment = segment::<BestFit>(rt.alloc(), 1024, IndexKind::Flat, &[I64])?;
-    segment.window.fill(736, 288, 0xa5);
+    segment.heap_mut().window_mut().fill(736, 288, 0xa5);
     segment.zero_free_memory();
-    assert!(rt; segment.window.slice(736, 288).iter().all(|byte| *byte == 0));
+    assert!(rt;
+        segment
+            .window()
+            .slice(736, 288)
+            .iter()
+            .all(|byte| *byte == 0)
+    );
     is_sound(&rt, &segment, 320)
 }
 
@@ -316,7 +334,7 @@ fn grows<F: Fit>(rt: &(impl Abort + AllocGlobal)) -> Result<(), Fail> {
     ] {
         let mut segment = full_segment::<F>(rt.alloc(), room)?;
         assert_eq!(rt; segment.grow(extra), grown);
-        assert_eq!(rt; segment.window.len(), grown.unwrap_or(784));
+        assert_eq!(rt; segment.window().len(), grown.unwrap_or(784));
         assert_eq!(rt; segment.num_named(), 1);
         is_sound(rt, &segment, free)?;
         assert_eq!(rt; segment.shrink_to_fit(), shrunk);

@@ -76,7 +76,7 @@ fn compare_object<F: Fit>(
     object: &Object,
 ) -> Result<(), Fail> {
     let found = s.find(name, object.type_id)?;
-    let size = s.types.size(object.type_id);
+    let size = s.types().size(object.type_id);
     let mut at = found.at;
     for value in &object.values {
         let read = Value::read(rt.alloc(), s, object.type_id, at)?;

@@ -121,7 +121,7 @@ impl<F: Fit> Pair<F> {
         };
         let index = self.random.below(3);
         let found = self.segment.find(name, object.type_id)?;
-        let size = self.segment.types.size(object.type_id);
+        let size = self.segment.types().size(object.type_id);
         match object.values.get_mut(index as usize) {
             Some(value) => {
                 let at = found.at.wrapping_add(index.wrapping_mul(size));
@@ -179,7 +179,7 @@ impl<F: Fit> Pair<F> {
             assert_eq!(rt; self.segment.free_memory(), free);
             assert_eq!(rt; self.segment.largest_gap(), largest);
         }
-        let types = check(rt.alloc(), &self.segment.window)?;
+        let types = check(rt.alloc(), self.segment.window())?;
         assert_eq!(rt; types.len(), 4);
         self.model.compare(rt, &self.segment)?;
         Ok(no_room)
@@ -224,7 +224,7 @@ fn follow<F: Fit>(rt: &(impl Abort + AllocGlobal), index: IndexKind) -> Result<(
     assert!(rt; refused >= 50, "{refused} calls found no room");
     pair.destroy_all(rt);
     assert!(rt; pair.segment.all_memory_deallocated());
-    check(rt.alloc(), &pair.segment.window)?;
+    check(rt.alloc(), pair.segment.window())?;
     Ok(())
 }
 

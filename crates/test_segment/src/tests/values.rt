@@ -3,8 +3,8 @@ use seg_block::Fit;
 use seg_layout::TypeId;
 use seg_manager::Segment;
 use seg_raw::Code;
-use seg_seq::{append, assign, at as item_at, len, pop_back, push_back};
-use seg_value::{set_own, store, take_own};
+use seg_seq::{append, assign, at as item_at, pop_back, push_back};
+use seg_value::Place;
 use std::alloc::{AllocError, Global};
 use std::test::Fail;
 use support_data::Random;
@@ -45,7 +45,11 @@ impl Value {
             0 => Value::Number(number_at(s, at)),
             1 => Value::Text(text_at(alloc, s, at)?),
             2 => Value::Numbers(numbers_at(alloc, s, at)?),
-            _ => Value::Owned(s.window.target(at as usize).map(|held| number_at(s, held))),
+            _ => Value::Owned(
+                s.window()
+                    .target(at as usize)
+                    .map(|held| number_at(s, held)),
+            ),
         })
     }
 
@@ -59,7 +63,7 @@ impl Value {
         let number = i64::from(random.below(1000));
         match self {
             Value::Number(value) => {
-                store(&mut s.window, at, number);
+                s.heap_mut().store(at, number);
                 *value = number;
                 Ok(Ok(()))
             }
@@ -71,19 +75,24 @@ impl Value {
 }
 
 fn number_at<F: Fit>(s: &Segment<F, Global>, at: u32) -> i64 {
-    s.window.get64(at as usize).cast_signed()
+    s.heap().load(at)
 }
 
 fn text_at<F: Fit>(alloc: Global, s: &Segment<F, Global>, at: u32) -> Result<Vec<u8>, AllocError> {
-    let start = s.window.target(at as usize).unwrap_or(0);
-    let bytes = s.window.slice(start as usize, len(&s.window, at) as usize);
+    let (start, len) = (s.heap().start(at), s.heap().count(at));
+    let bytes = s.window().slice(start as usize, len as usize);
     Vec::from_slice(alloc, bytes)
+}
+
+/// A vector of numbers.
+fn numbers_place(at: u32) -> Place {
+    Place { at, type_id: 2 }
 }
 
 fn numbers_at<F: Fit>(alloc: Global, s: &Segment<F, Global>, at: u32) -> Result<Vec<i64>, Fail> {
     let mut numbers = Vec::new(alloc);
-    for index in 0..len(&s.window, at) {
-        let item = item_at(&s.window, &s.types, 2, at, index)?;
+    for index in 0..s.heap().count(at) {
+        let item = item_at(s.heap(), numbers_place(at), index)?;
         numbers.push(number_at(s, item))?;
     }
     Ok(numbers)
@@ -98,11 +107,12 @@ fn change_text<F: Fit>(
 ) -> Result<Result<(), Code>, Fail> {
     let bytes = [b'a'; 40];
     let bytes = bytes.get(..random.below(40) as usize).unwrap_or(&[]);
-    let (w, types) = (&mut s.window, &s.types);
+    let heap = s.heap_mut();
+    let place = Place { at, type_id: 1 };
     let answer = if random.below(2) == 0 {
-        append::<F, Global>(w, types, 1, at, bytes)
+        append(heap, place, bytes)
     } else {
-        assign::<F, Global>(w, types, 1, at, bytes).map(|()| text.clear())
+        assign(heap, place, bytes).map(|()| text.clear())
     };
     if answer.is_ok() {
         text.extend_from_slice(bytes)?;
@@ -119,7 +129,7 @@ fn change_numbers<F: Fit>(
     random: &mut Random,
 ) -> Result<Result<(), Code>, Fail> {
     if random.below(4) == 0 {
-        let popped = pop_back::<F, Global>(&mut s.window, &s.types, 2, at);
+        let popped = pop_back(s.heap_mut(), numbers_place(at));
         let wanted = numbers.pop().map(|_| ()).ok_or(Code::Null);
         return if popped == wanted {
             Ok(popped)
@@ -127,9 +137,9 @@ fn change_numbers<F: Fit>(
             Err(Fail::from("popped"))
         };
     }
-    match push_back::<F, Global>(&mut s.window, &s.types, 2, at) {
+    match push_back(s.heap_mut(), numbers_place(at)) {
         Ok(item) => {
-            store(&mut s.window, item, number);
+            s.heap_mut().store(item, number);
             numbers.push(number)?;
             Ok(Ok(()))
         }
@@ -145,16 +155,17 @@ fn change_held<F: Fit>(
     number: i64,
     random: &mut Random,
 ) -> Result<(), Code> {
+    let own = Place { at, type_id: 3 };
     if random.below(2) == 0 {
-        if let Some(object) = take_own(&mut s.window, at) {
+        if let Some(object) = s.heap_mut().take_own(own) {
             s.destroy_anonymous(object);
         }
         *held = None;
         return Ok(());
     }
     let object = s.new_anonymous(0)?;
-    store(&mut s.window, object, number);
-    set_own::<F, Global>(&mut s.window, &s.types, at, object);
+    s.heap_mut().store(object, number);
+    s.heap_mut().set_own(own, object);
     *held = Some(number);
     Ok(())
 }

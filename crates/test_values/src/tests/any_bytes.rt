@@ -1,8 +1,7 @@
-use crate::tests::support::{I64, ROOT, STR, Segment, Spelled, new_segment};
+use crate::tests::support::{I64, ROOT, STR, Segment, Spelled, new_segment, place_of};
 use seg_bestfit::BestFit;
 use seg_block::Fit;
 use seg_seqfit::SeqFit;
-use std::alloc::Global;
 use std::test::Fail;
 use support_data::Random;
 
@@ -27,7 +26,7 @@ fn damage<F: Fit>(s: &mut Segment<F>, random: &mut Random) {
             2 => random.below(1 << 10).wrapping_add(1 << 31),
             _ => random.below(u32::MAX),
         };
-        s.w.put32(4 * at, word);
+        s.heap.window_mut().put32(4 * at, word);
     }
 }
 
@@ -35,26 +34,26 @@ fn damage<F: Fit>(s: &mut Segment<F>, random: &mut Random) {
 fn call<F: Fit>(s: &mut Segment<F>, t: u8, random: &mut Random) {
     let cell = random.below(256).wrapping_mul(4);
     let key = i64::from(random.below(8));
-    let (w, table) = (&mut s.w, &s.table);
+    let heap = &mut s.heap;
     match random.below(18) {
-        0 => drop(seg_seq::at(w, table, t, cell, random.below(8))),
-        1 => drop(seg_seq::push_back::<F, Global>(w, table, t, cell)),
-        2 => drop(seg_seq::push_front::<F, Global>(w, table, t, cell)),
-        3 => drop(seg_seq::append::<F, Global>(w, table, t, cell, b"abc")),
-        4 => drop(seg_seq::assign::<F, Global>(w, table, t, cell, b"abc")),
-        5 => drop(seg_seq::push_byte::<F, Global>(w, table, t, cell, 7)),
-        6 => drop(seg_seq::pop_back::<F, Global>(w, table, t, cell)),
-        7 => drop(seg_seq::pop_front::<F, Global>(w, table, t, cell)),
-        8 => seg_seq::shrink_to_fit::<F, Global>(w, table, t, cell),
-        9 => drop(seg_map::get(w, table, t, cell, key)),
-        10 => drop(seg_map::put::<F, Global>(w, table, t, cell, key)),
-        11 => drop(seg_map::remove::<F, Global>(w, table, t, cell, key)),
-        12 => drop(seg_map::first_key(w, table, t, cell)),
-        13 => drop(seg_map::next_key(w, table, t, cell, key)),
-        14 => seg_value::clear::<F, Global>(w, table, t, cell),
-        15 => seg_value::destroy::<F, Global>(w, table, cell),
-        16 => seg_value::set_own::<F, Global>(w, table, cell, 720),
-        _ => seg_value::shift(w, table, t, cell, ROOT, random.below(8)),
+        0 => drop(seg_seq::at(heap, place_of(t, cell), random.below(8))),
+        1 => drop(seg_seq::push_back(heap, place_of(t, cell))),
+        2 => drop(seg_seq::push_front(heap, place_of(t, cell))),
+        3 => drop(seg_seq::append(heap, place_of(t, cell), b"abc")),
+        4 => drop(seg_seq::assign(heap, place_of(t, cell), b"abc")),
+        5 => drop(seg_seq::push_byte(heap, place_of(t, cell), 7)),
+        6 => drop(seg_seq::pop_back(heap, place_of(t, cell))),
+        7 => drop(seg_seq::pop_front(heap, place_of(t, cell))),
+        8 => heap.shrink_to_fit(place_of(t, cell)),
+        9 => drop(seg_map::get(heap, place_of(t, cell), key)),
+        10 => drop(seg_map::put(heap, place_of(t, cell), key)),
+        11 => drop(seg_map::remove(heap, place_of(t, cell), key)),
+        12 => drop(seg_map::first_key(heap, place_of(t, cell))),
+        13 => drop(seg_map::next_key(heap, place_of(t, cell), key)),
+        14 => heap.clear(place_of(t, cell)),
+        15 => heap.destroy(cell),
+        16 => heap.set_own(place_of(2, cell), 720),
+        _ => heap.shift(t, cell, ROOT, random.below(8)),
     }
 }
 

@@ -34,10 +34,10 @@ pub(crate) fn is_one_gap<F: Fit>(
     s: &Segment<F>,
 ) -> Result<(), Fail> {
     assert_eq!(rt;
-        tiles(rt.alloc(), &s.w)?.as_slice(),
-        [whole_gap(&s.w)].as_slice()
+        tiles(rt.alloc(), s.heap.window())?.as_slice(),
+        [whole_gap(s.heap.window())].as_slice()
     );
-    assert_eq!(rt; s.w.target(FREE), Some(HEAP_START + UNIT));
-    assert_eq!(rt; s.w.target(HEAP_START as usize + 12), None);
+    assert_eq!(rt; s.heap.window().target(FREE), Some(HEAP_START + UNIT));
+    assert_eq!(rt; s.heap.window().target(HEAP_START as usize + 12), None);
     Ok(())
 }

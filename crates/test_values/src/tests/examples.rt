@@ -1,14 +1,13 @@
 //! Sizes of blocks that follow from the rules of growth, worked out by hand.
 
 use crate::tests::blocks::is_one_gap;
-use crate::tests::support::{I64, ROOT, STR, Segment, new_segment, of, pair};
+use crate::tests::support::{I64, ROOT, STR, Segment, new_segment, of, pair, place_of};
 use crate::tests::trial::reads_as;
 use seg_map::put;
 use seg_raw::Code;
-use seg_seq::{append, assign, pop_back, push_back, shrink_to_fit};
+use seg_seq::{append, assign, pop_back, push_back};
 use seg_seqfit::SeqFit;
-use seg_value::{Content, clear, new_block, set_own, shift, store, take_own};
-use std::alloc::Global;
+use seg_value::Content;
 use std::process::Abort;
 use std::test::Fail;
 use support_heap::tiles;
@@ -20,7 +19,7 @@ fn live_are(
     wanted: &[(u32, u32)],
 ) -> Result<(), Fail> {
     let mut live = Vec::new(rt.alloc());
-    for tile in tiles(rt.alloc(), &s.w)?.as_slice() {
+    for tile in tiles(rt.alloc(), s.heap.window())?.as_slice() {
         if tile.live {
             live.push((tile.at, tile.units))?;
         }
@@ -32,19 +31,22 @@ fn live_are(
 #[test]
 fn a_string_grows_and_shrinks_in_place(rt: HostRuntime) -> Result<(), Fail> {
     let mut s = new_segment::<SeqFit>(rt.alloc(), 1024, &[STR], 0)?;
-    assign::<SeqFit, Global>(&mut s.w, &s.table, 0, ROOT, b"hello")?;
+    assign(&mut s.heap, place_of(0, ROOT), b"hello")?;
     live_are(&rt, &s, &[(704, 2)])?;
-    append::<SeqFit, Global>(&mut s.w, &s.table, 0, ROOT, b", dear neighbours!!")?;
+    append(&mut s.heap, place_of(0, ROOT), b", dear neighbours!!")?;
     live_are(&rt, &s, &[(704, 3)])?;
-    assert_eq!(rt; s.w.slice(720, 24), b"hello, dear neighbours!!".as_slice());
+    assert_eq!(rt;
+        s.heap.window().slice(720, 24),
+        b"hello, dear neighbours!!".as_slice()
+    );
     // an assigned text keeps the buffer
-    assign::<SeqFit, Global>(&mut s.w, &s.table, 0, ROOT, b"hello")?;
+    assign(&mut s.heap, place_of(0, ROOT), b"hello")?;
     live_are(&rt, &s, &[(704, 3)])?;
-    shrink_to_fit::<SeqFit, Global>(&mut s.w, &s.table, 0, ROOT);
+    s.heap.shrink_to_fit(place_of(0, ROOT));
     live_are(&rt, &s, &[(704, 2)])?;
-    assign::<SeqFit, Global>(&mut s.w, &s.table, 0, ROOT, b"")?;
+    assign(&mut s.heap, place_of(0, ROOT), b"")?;
     live_are(&rt, &s, &[(704, 2)])?;
-    shrink_to_fit::<SeqFit, Global>(&mut s.w, &s.table, 0, ROOT);
+    s.heap.shrink_to_fit(place_of(0, ROOT));
     is_one_gap(&rt, &s)
 }
 
@@ -53,7 +55,7 @@ fn a_string_grows_and_shrinks_in_place(rt: HostRuntime) -> Result<(), Fail> {
 fn a_vector_doubles_in_place(rt: HostRuntime) -> Result<(), Fail> {
     let mut s = new_segment::<SeqFit>(rt.alloc(), 1024, &[I64, of(3, 0)], 1)?;
     for units in [3, 3, 3, 3, 5] {
-        let _ = push_back::<SeqFit, Global>(&mut s.w, &s.table, 1, ROOT)?;
+        let _ = push_back(&mut s.heap, place_of(1, ROOT))?;
         live_are(&rt, &s, &[(704, units)])?;
     }
     Ok(())
@@ -64,16 +66,16 @@ fn a_vector_doubles_in_place(rt: HostRuntime) -> Result<(), Fail> {
 fn a_fifth_push_takes_its_limit(rt: HostRuntime) -> Result<(), Fail> {
     let mut s = new_segment::<SeqFit>(rt.alloc(), 704 + 9 * 16, &[I64, of(3, 0)], 1)?;
     for _ in 0..4 {
-        let _ = push_back::<SeqFit, Global>(&mut s.w, &s.table, 1, ROOT)?;
+        let _ = push_back(&mut s.heap, place_of(1, ROOT))?;
     }
-    let number = Content::object(&s.table, 0);
-    let _ = new_block::<SeqFit, Global>(&mut s.w, &s.table, &number)?;
+    let number = Content::object(s.heap.types(), 0);
+    let _ = s.heap.new_block(&number)?;
     live_are(&rt, &s, &[(704, 3), (752, 2)])?;
     for _ in 0..2 {
-        let _ = push_back::<SeqFit, Global>(&mut s.w, &s.table, 1, ROOT)?;
+        let _ = push_back(&mut s.heap, place_of(1, ROOT))?;
         live_are(&rt, &s, &[(752, 2), (784, 4)])?;
     }
-    let seventh = push_back::<SeqFit, Global>(&mut s.w, &s.table, 1, ROOT);
+    let seventh = push_back(&mut s.heap, place_of(1, ROOT));
     assert_eq!(rt; seventh, Err(Code::BadAlloc));
     live_are(&rt, &s, &[(752, 2), (784, 4)])
 }
@@ -82,10 +84,10 @@ fn a_fifth_push_takes_its_limit(rt: HostRuntime) -> Result<(), Fail> {
 fn list_nodes_of_numbers_have_2_units(rt: HostRuntime) -> Result<(), Fail> {
     let mut s = new_segment::<SeqFit>(rt.alloc(), 1024, &[I64, of(4, 0)], 1)?;
     for _ in 0..3 {
-        let _ = push_back::<SeqFit, Global>(&mut s.w, &s.table, 1, ROOT)?;
+        let _ = push_back(&mut s.heap, place_of(1, ROOT))?;
     }
     live_are(&rt, &s, &[(704, 2), (736, 2), (768, 2)])?;
-    pop_back::<SeqFit, Global>(&mut s.w, &s.table, 1, ROOT)?;
+    pop_back(&mut s.heap, place_of(1, ROOT))?;
     live_are(&rt, &s, &[(704, 2), (736, 2)])
 }
 
@@ -93,7 +95,7 @@ fn list_nodes_of_numbers_have_2_units(rt: HostRuntime) -> Result<(), Fail> {
 fn a_flat_map_of_numbers_has_5_then_9_units(rt: HostRuntime) -> Result<(), Fail> {
     let mut s = new_segment::<SeqFit>(rt.alloc(), 1024, &[I64, of(5, 0)], 1)?;
     for (key, units) in [(1, 5), (2, 5), (3, 5), (4, 5), (5, 9)] {
-        let _ = put::<SeqFit, Global>(&mut s.w, &s.table, 1, ROOT, key)?;
+        let _ = put(&mut s.heap, place_of(1, ROOT), key)?;
         live_are(&rt, &s, &[(704, units)])?;
     }
     Ok(())
@@ -101,13 +103,13 @@ fn a_flat_map_of_numbers_has_5_then_9_units(rt: HostRuntime) -> Result<(), Fail>
 
 /// Puts an object that owns what the root owned before into the root.
 fn push_owned(s: &mut Segment<SeqFit>, number: i64) -> Result<(), Fail> {
-    let object = Content::object(&s.table, 2);
-    let node = new_block::<SeqFit, Global>(&mut s.w, &s.table, &object)?;
-    store(&mut s.w, node, number);
-    if let Some(rest) = take_own(&mut s.w, ROOT) {
-        set_own::<SeqFit, Global>(&mut s.w, &s.table, node.wrapping_add(8), rest);
+    let object = Content::object(s.heap.types(), 2);
+    let node = s.heap.new_block(&object)?;
+    s.heap.store(node, number);
+    if let Some(rest) = s.heap.take_own(place_of(1, ROOT)) {
+        s.heap.set_own(place_of(1, node.wrapping_add(8)), rest);
     }
-    set_own::<SeqFit, Global>(&mut s.w, &s.table, ROOT, node);
+    s.heap.set_own(place_of(1, ROOT), node);
     Ok(())
 }
 
@@ -118,8 +120,8 @@ fn a_deep_value_is_destroyed(rt: HostRuntime) -> Result<(), Fail> {
     for number in 0..20_000 {
         push_owned(&mut s, number)?;
     }
-    assert_eq!(rt; tiles(rt.alloc(), &s.w)?.len(), 20_001);
-    clear::<SeqFit, Global>(&mut s.w, &s.table, 1, ROOT);
+    assert_eq!(rt; tiles(rt.alloc(), s.heap.window())?.len(), 20_001);
+    s.heap.clear(place_of(1, ROOT));
     is_one_gap(&rt, &s)
 }
 
@@ -127,10 +129,10 @@ fn a_deep_value_is_destroyed(rt: HostRuntime) -> Result<(), Fail> {
 #[test]
 fn shifted_values_read_the_same(rt: HostRuntime) -> Result<(), Fail> {
     let mut s = new_segment::<SeqFit>(rt.alloc(), 1024, &[STR, pair(0, 0)], 1)?;
-    assign::<SeqFit, Global>(&mut s.w, &s.table, 0, ROOT, b"ab")?;
+    assign(&mut s.heap, place_of(0, ROOT), b"ab")?;
     reads_as(&rt, &s, "([97, 98], [])")?;
-    shift(&mut s.w, &s.table, 1, ROOT, ROOT + 8, 1);
-    shift(&mut s.w, &s.table, 1, ROOT + 8, ROOT, 1);
+    s.heap.shift(1, ROOT, ROOT + 8, 1);
+    s.heap.shift(1, ROOT + 8, ROOT, 1);
     reads_as(&rt, &s, "([97, 98], [])")
 }
 
@@ -138,12 +140,12 @@ fn shifted_values_read_the_same(rt: HostRuntime) -> Result<(), Fail> {
 #[test]
 fn unused_items_own_nothing(rt: HostRuntime) -> Result<(), Fail> {
     let mut s = new_segment::<SeqFit>(rt.alloc(), 1024, &[STR, of(3, 0)], 1)?;
-    let item = push_back::<SeqFit, Global>(&mut s.w, &s.table, 1, ROOT)?;
-    assign::<SeqFit, Global>(&mut s.w, &s.table, 0, item, b"hello")?;
-    let other = Content::object(&s.table, 0);
-    let stays = new_block::<SeqFit, Global>(&mut s.w, &s.table, &other)?;
+    let item = push_back(&mut s.heap, place_of(1, ROOT))?;
+    assign(&mut s.heap, place_of(0, item), b"hello")?;
+    let other = Content::object(s.heap.types(), 0);
+    let stays = s.heap.new_block(&other)?;
     live_are(&rt, &s, &[(704, 3), (752, 2), (784, 2)])?;
-    s.w.point(item as usize + 8, Some(stays));
-    clear::<SeqFit, Global>(&mut s.w, &s.table, 1, ROOT);
+    s.heap.window_mut().point(item as usize + 8, Some(stays));
+    s.heap.clear(place_of(1, ROOT));
     live_are(&rt, &s, &[(784, 2)])
 }

@@ -1,8 +1,8 @@
-use crate::tests::support::{ROOT, Segment};
+use crate::tests::support::Segment;
 use crate::tests::trial::{Answer, Trial};
 use seg_block::Fit;
 use seg_raw::Code;
-use seg_seq::{at, pop_back, push_back, shrink_to_fit};
+use seg_seq::{at, pop_back, push_back};
 use std::alloc::{AllocError, Global};
 use std::fmt::Debug;
 use std::process::Abort;
@@ -38,7 +38,7 @@ impl<T: Item> Items<T> {
     }
 
     fn push<F: Fit>(&mut self, alloc: Global, s: &mut Segment<F>) -> Result<Answer, Fail> {
-        let pushed = push_back::<F, Global>(&mut s.w, &s.table, s.root, ROOT);
+        let pushed = push_back(&mut s.heap, s.root);
         if pushed.is_ok() {
             self.model.push(T::empty(alloc))?;
         }
@@ -46,7 +46,7 @@ impl<T: Item> Items<T> {
     }
 
     fn pop<F: Fit>(&mut self, rt: &impl Abort, s: &mut Segment<F>) -> Answer {
-        let popped = pop_back::<F, Global>(&mut s.w, &s.table, s.root, ROOT);
+        let popped = pop_back(&mut s.heap, s.root);
         assert_eq!(rt; popped.is_ok(), self.model.pop().is_some());
         popped
     }
@@ -59,7 +59,7 @@ impl<T: Item> Items<T> {
         random: &mut Random,
     ) -> Result<Answer, Fail> {
         let index = random.below(8);
-        let place = at(&s.w, &s.table, s.root, ROOT, index);
+        let place = at(&s.heap, s.root, index);
         match self.model.get_mut(index as usize) {
             Some(item) => item.change(rt, s, place?, random),
             None => {
@@ -81,7 +81,7 @@ impl<F: Fit, T: Item> Trial<F> for Items<T> {
             0 | 1 => self.push(rt.alloc(), s),
             2 => Ok(self.pop(rt, s)),
             3 => {
-                shrink_to_fit::<F, Global>(&mut s.w, &s.table, s.root, ROOT);
+                s.heap.shrink_to_fit(s.root);
                 Ok(Ok(()))
             }
             _ => self.change(rt, s, random),

@@ -1,10 +1,11 @@
-use crate::tests::support::{I64, ROOT, Segment, new_segment, of};
+use crate::tests::support::{I64, Segment, new_segment, of, place_of};
 use crate::tests::trial::{Answer, Trial, try_out};
 use seg_bestfit::BestFit;
 use seg_block::Fit;
 use seg_raw::Code;
 use seg_seq::{at, next, pop_back, pop_front, prev, push_back, push_front};
 use seg_seqfit::SeqFit;
+use seg_value::Place;
 use std::alloc::{AllocError, Global};
 use std::process::Abort;
 use std::test::Fail;
@@ -26,7 +27,7 @@ impl Lists {
         s: &mut Segment<F>,
         front: bool,
     ) -> Result<Answer, Fail> {
-        let pushed = push(s, s.root, ROOT, front);
+        let pushed = push(s, s.root, front);
         if pushed.is_ok() {
             let place = if front { 0 } else { self.model.len() };
             self.model.insert(place, Vec::new(alloc))?;
@@ -35,7 +36,7 @@ impl Lists {
     }
 
     fn pop<F: Fit>(&mut self, rt: &impl Abort, s: &mut Segment<F>, front: bool) -> Answer {
-        let popped = pop(s, s.root, ROOT, front);
+        let popped = pop(s, s.root, front);
         assert_eq!(rt; popped.is_ok(), take(&mut self.model, front).is_some());
         popped
     }
@@ -48,7 +49,7 @@ impl Lists {
         random: &mut Random,
     ) -> Result<Answer, Fail> {
         let index = random.below(4);
-        let place = at(&s.w, &s.table, s.root, ROOT, index);
+        let place = at(&s.heap, s.root, index);
         let lists = self.model.len();
         let Some(numbers) = self.model.get_mut(index as usize) else {
             assert_eq!(rt; place, Err(Code::OutOfRange));
@@ -61,30 +62,30 @@ impl Lists {
 
 /// Where an item of the root list is.
 fn item<F: Fit>(s: &Segment<F>, index: u32) -> u32 {
-    at(&s.w, &s.table, s.root, ROOT, index).unwrap_or(0)
+    at(&s.heap, s.root, index).unwrap_or(0)
 }
 
 /// The item at an index and the one behind it, round the ring, are neighbours.
 fn check_neighbours<F: Fit>(rt: &impl Abort, s: &Segment<F>, index: u32, n: usize) {
     let behind = index.wrapping_add(1);
     let after = if behind as usize == n { 0 } else { behind };
-    assert_eq!(rt; next(&s.w, item(s, index)), item(s, after));
-    assert_eq!(rt; prev(&s.w, item(s, after)), item(s, index));
+    assert_eq!(rt; next(&s.heap, item(s, index)), item(s, after));
+    assert_eq!(rt; prev(&s.heap, item(s, after)), item(s, index));
 }
 
-fn push<F: Fit>(s: &mut Segment<F>, t: u8, cell: u32, front: bool) -> Result<u32, Code> {
+fn push<F: Fit>(s: &mut Segment<F>, list: Place, front: bool) -> Result<u32, Code> {
     if front {
-        push_front::<F, Global>(&mut s.w, &s.table, t, cell)
+        push_front(&mut s.heap, list)
     } else {
-        push_back::<F, Global>(&mut s.w, &s.table, t, cell)
+        push_back(&mut s.heap, list)
     }
 }
 
-fn pop<F: Fit>(s: &mut Segment<F>, t: u8, cell: u32, front: bool) -> Answer {
+fn pop<F: Fit>(s: &mut Segment<F>, list: Place, front: bool) -> Answer {
     if front {
-        pop_front::<F, Global>(&mut s.w, &s.table, t, cell)
+        pop_front(&mut s.heap, list)
     } else {
-        pop_back::<F, Global>(&mut s.w, &s.table, t, cell)
+        pop_back(&mut s.heap, list)
     }
 }
 
@@ -105,16 +106,17 @@ fn change_numbers<F: Fit>(
     numbers: &mut Vec<i64>,
     random: &mut Random,
 ) -> Result<Answer, Fail> {
+    let list = place_of(NUMBERS, cell);
     let front = random.below(2) == 0;
     if random.below(4) == 0 {
-        let popped = pop(s, NUMBERS, cell, front);
+        let popped = pop(s, list, front);
         assert_eq!(rt; popped.is_ok(), take(numbers, front).is_some());
         return Ok(popped);
     }
-    match push(s, NUMBERS, cell, front) {
+    match push(s, list, front) {
         Ok(item) => {
             let number = i64::from(random.below(100));
-            seg_value::store(&mut s.w, item, number);
+            s.heap.store(item, number);
             let place = if front { 0 } else { numbers.len() };
             numbers.insert(place, number)?;
             Ok(Ok(()))

@@ -1,10 +1,10 @@
-use crate::tests::support::{I64, ROOT, Segment, new_segment, of};
+use crate::tests::support::{I64, Segment, new_segment, of, place_of};
 use crate::tests::trial::{Answer, Trial, try_out};
 use seg_bestfit::BestFit;
 use seg_block::Fit;
 use seg_map::{first_key, get, next_key, put, remove};
 use seg_raw::Code;
-use seg_seq::{pop_back, push_back, shrink_to_fit};
+use seg_seq::{pop_back, push_back};
 use seg_seqfit::SeqFit;
 use std::alloc::{AllocError, Global};
 use std::collections::BTreeMap;
@@ -27,7 +27,7 @@ fn key(random: &mut Random) -> i64 {
 
 impl Vectors {
     fn put<F: Fit>(&mut self, alloc: Global, s: &mut Segment<F>, key: i64) -> Result<Answer, Fail> {
-        let put = put::<F, Global>(&mut s.w, &s.table, s.root, ROOT, key);
+        let put = put(&mut s.heap, s.root, key);
         if put.is_ok() && !self.model.contains_key(&key) {
             let _ = self.model.insert(key, Vec::new(alloc))?;
         }
@@ -35,7 +35,7 @@ impl Vectors {
     }
 
     fn remove<F: Fit>(&mut self, rt: &impl Abort, s: &mut Segment<F>, key: i64) -> Answer {
-        let removed = remove::<F, Global>(&mut s.w, &s.table, s.root, ROOT, key);
+        let removed = remove(&mut s.heap, s.root, key);
         assert_eq!(rt; removed, self.model.remove(&key).is_some());
         Ok(())
     }
@@ -48,7 +48,7 @@ impl Vectors {
         key: i64,
         random: &mut Random,
     ) -> Result<Answer, Fail> {
-        let place = get(&s.w, &s.table, s.root, ROOT, key);
+        let place = get(&s.heap, s.root, key);
         let Some(numbers) = self.model.get_mut(&key) else {
             assert_eq!(rt; place, Err(Code::Absent));
             return Ok(Ok(()));
@@ -66,14 +66,14 @@ fn change_numbers<F: Fit>(
     random: &mut Random,
 ) -> Result<Answer, Fail> {
     if random.below(4) == 0 {
-        let popped = pop_back::<F, Global>(&mut s.w, &s.table, NUMBERS, cell);
+        let popped = pop_back(&mut s.heap, place_of(NUMBERS, cell));
         assert_eq!(rt; popped.is_ok(), numbers.pop().is_some());
         return Ok(popped);
     }
-    match push_back::<F, Global>(&mut s.w, &s.table, NUMBERS, cell) {
+    match push_back(&mut s.heap, place_of(NUMBERS, cell)) {
         Ok(item) => {
             let number = i64::from(random.below(1000)).wrapping_sub(500);
-            seg_value::store(&mut s.w, item, number);
+            s.heap.store(item, number);
             numbers.push(number)?;
             Ok(Ok(()))
         }
@@ -93,7 +93,7 @@ impl<F: Fit> Trial<F> for Vectors {
             0..=2 => self.put(rt.alloc(), s, key),
             3 => Ok(self.remove(rt, s, key)),
             4 => {
-                shrink_to_fit::<F, Global>(&mut s.w, &s.table, s.root, ROOT);
+                s.heap.shrink_to_fit(s.root);
                 Ok(Ok(()))
             }
             _ => self.change(rt, s, key, random),
@@ -110,11 +110,8 @@ impl<F: Fit> Trial<F> for Vectors {
 fn try_maps<F: Fit>(rt: &(impl Abort + AllocGlobal)) -> Result<(), Fail> {
     for kind in [5, 6] {
         let mut s = new_segment::<F>(rt.alloc(), 1312, &[I64, of(3, 0), of(kind, NUMBERS)], 2)?;
-        assert_eq!(rt; first_key(&s.w, &s.table, 2, ROOT), Err(Code::Null));
-        assert_eq!(rt;
-            next_key(&s.w, &s.table, 2, ROOT, i64::MIN),
-            Err(Code::Null)
-        );
+        assert_eq!(rt; first_key(&s.heap, s.root), Err(Code::Null));
+        assert_eq!(rt; next_key(&s.heap, s.root, i64::MIN), Err(Code::Null));
         let mut vectors = Vectors {
             model: BTreeMap::new(rt.alloc()),
         };

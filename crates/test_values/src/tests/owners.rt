@@ -1,11 +1,11 @@
 use crate::tests::items::{Item, Items};
-use crate::tests::support::{I64, STR, Segment, new_segment, of, pair, some_text};
+use crate::tests::support::{I64, STR, Segment, new_segment, of, pair, place_of, some_text};
 use crate::tests::trial::{Answer, try_out};
 use seg_bestfit::BestFit;
 use seg_block::Fit;
 use seg_seq::assign;
 use seg_seqfit::SeqFit;
-use seg_value::{Content, block_of, destroy, new_block, set_own, store, take_own};
+use seg_value::Content;
 use std::alloc::Global;
 use std::process::Abort;
 use std::test::Fail;
@@ -14,6 +14,8 @@ use support_data::Random;
 const NUMBER: u8 = 0;
 
 const STRING: u8 = 1;
+
+const OWN: u8 = 2;
 
 /// An owned number and a string, 8 bytes apart.
 impl Item for (Option<i64>, Vec<u8>) {
@@ -46,7 +48,7 @@ fn change_text<F: Fit>(
     random: &mut Random,
 ) -> Result<Answer, Fail> {
     let bytes = some_text(random);
-    let answer = assign::<F, Global>(&mut s.w, &s.table, STRING, cell, bytes);
+    let answer = assign(&mut s.heap, place_of(STRING, cell), bytes);
     if answer.is_ok() {
         text.clear();
         text.extend_from_slice(bytes)?;
@@ -61,21 +63,21 @@ fn own_new<F: Fit>(
     number: &mut Option<i64>,
     random: &mut Random,
 ) -> Answer {
-    let object = Content::object(&s.table, NUMBER);
-    let place = new_block::<F, Global>(&mut s.w, &s.table, &object)?;
+    let object = Content::object(s.heap.types(), NUMBER);
+    let place = s.heap.new_block(&object)?;
     let value = i64::from(random.below(100));
-    store(&mut s.w, place, value);
-    set_own::<F, Global>(&mut s.w, &s.table, cell, place);
+    s.heap.store(place, value);
+    s.heap.set_own(place_of(OWN, cell), place);
     *number = Some(value);
     Ok(())
 }
 
 /// Takes the number out of the own, and destroys it.
 fn take_back<F: Fit>(rt: &impl Abort, s: &mut Segment<F>, cell: u32, number: &mut Option<i64>) {
-    let taken = take_own(&mut s.w, cell);
+    let taken = s.heap.take_own(place_of(OWN, cell));
     assert_eq!(rt; taken.is_some(), number.is_some());
     if let Some(object) = taken {
-        destroy::<F, Global>(&mut s.w, &s.table, block_of(object));
+        s.heap.destroy(object);
     }
     *number = None;
 }
@@ -83,7 +85,7 @@ fn take_back<F: Fit>(rt: &impl Abort, s: &mut Segment<F>, cell: u32, number: &mu
 /// A vector and a list of pairs, whose own names the block of a number.
 fn try_owners<F: Fit>(rt: &(impl Abort + AllocGlobal)) -> Result<(), Fail> {
     for kind in [3, 4] {
-        let types = [I64, STR, of(7, NUMBER), pair(2, STRING), of(kind, 3)];
+        let types = [I64, STR, of(7, NUMBER), pair(OWN, STRING), of(kind, 3)];
         let mut s = new_segment::<F>(rt.alloc(), 1216, &types, 4)?;
         let mut pairs = Items::<(Option<i64>, Vec<u8>)>::new(rt.alloc());
         try_out(rt, &mut s, &mut pairs, 1000)?;

@@ -1,7 +1,7 @@
 //! What a value reads as, and the blocks that it owns, read from the bytes.
 
 use crate::tests::blocks::Owned;
-use crate::tests::support::{ROOT, Segment};
+use crate::tests::support::{Segment, place_of};
 use seg_block::Fit;
 use seg_layout::{Type, TypeId};
 use std::alloc::{AllocError, Global};
@@ -27,7 +27,7 @@ pub(crate) fn draw<F: Fit>(alloc: Global, s: &Segment<F>) -> Result<Picture, Fai
     let mut text = String::new(alloc);
     let mut blocks = Vec::new(alloc);
     let mut pending = Vec::new(alloc);
-    pending.push(Piece::Value(s.root, ROOT))?;
+    pending.push(Piece::Value(s.root.type_id, s.root.at))?;
     for _ in 0..1_000_000 {
         match pending.pop() {
             None => break,
@@ -58,13 +58,13 @@ fn add_pieces<F: Fit>(
 
 /// The text of a value, with the values inside.
 fn pieces<F: Fit>(alloc: Global, s: &Segment<F>, t: TypeId, at: u32) -> Result<Vec<Piece>, Fail> {
-    let Some(kind) = s.table.kind(t) else {
+    let Some(kind) = s.heap.types().kind(t) else {
         return Err(Fail::from("no such type"));
     };
     match kind {
         Type::I64 => {
             let mut pieces = Vec::new(alloc);
-            pieces.push(Piece::Number(s.w.get64(at as usize).cast_signed()))?;
+            pieces.push(Piece::Number(s.heap.window().get64(at as usize).cast_signed()))?;
             Ok(pieces)
         }
         Type::Str | Type::Vec(_) | Type::List(_) => items(alloc, s, t, kind, at),
@@ -83,14 +83,14 @@ fn items<F: Fit>(
 ) -> Result<Vec<Piece>, Fail> {
     let mut pieces = Vec::new(alloc);
     pieces.push(Piece::Text("["))?;
-    for index in 0..seg_seq::len(&s.w, at) {
+    for index in 0..s.heap.count(at) {
         if index > 0 {
             pieces.push(Piece::Text(", "))?;
         }
-        let item = seg_seq::at(&s.w, &s.table, t, at, index)?;
+        let item = seg_seq::at(&s.heap, place_of(t, at), index)?;
         pieces.push(match kind {
             Type::Vec(part) | Type::List(part) => Piece::Value(part, item),
-            _ => Piece::Number(i64::from(s.w.get8(item as usize))),
+            _ => Piece::Number(i64::from(s.heap.window().get8(item as usize))),
         })?;
     }
     pieces.push(Piece::Text("]"))?;
@@ -106,17 +106,17 @@ fn entries<F: Fit>(
 ) -> Result<Vec<Piece>, Fail> {
     let mut pieces = Vec::new(alloc);
     pieces.push(Piece::Text("{"))?;
-    let mut next = seg_map::first_key(&s.w, &s.table, t, at);
-    for index in 0..seg_map::len(&s.w, at) {
+    let mut next = seg_map::first_key(&s.heap, place_of(t, at));
+    for index in 0..s.heap.count(at) {
         let key = next?;
         if index > 0 {
             pieces.push(Piece::Text(", "))?;
         }
         pieces.push(Piece::Number(key))?;
         pieces.push(Piece::Text(": "))?;
-        let value = seg_map::get(&s.w, &s.table, t, at, key)?;
+        let value = seg_map::get(&s.heap, place_of(t, at), key)?;
         pieces.push(Piece::Value(item, value))?;
-        next = seg_map::next_key(&s.w, &s.table, t, at, key);
+        next = seg_map::next_key(&s.heap, place_of(t, at), key);
     }
     if next.is_ok() {
         return Err(Fail::from("more keys than entries"));
@@ -127,7 +127,7 @@ fn entries<F: Fit>(
 
 fn own<F: Fit>(alloc: Global, s: &Segment<F>, item: TypeId, at: u32) -> Result<Vec<Piece>, Fail> {
     let mut pieces = Vec::new(alloc);
-    match s.w.target(at as usize) {
+    match s.heap.window().target(at as usize) {
         None => pieces.push(Piece::Text("None"))?,
         Some(object) => {
             pieces.push(Piece::Text("Some("))?;
@@ -142,7 +142,7 @@ fn fields<F: Fit>(alloc: Global, s: &Segment<F>, t: TypeId, at: u32) -> Result<V
     let mut pieces = Vec::new(alloc);
     pieces.push(Piece::Text("("))?;
     for index in 0..8 {
-        let Some(field) = s.table.field(t, index) else {
+        let Some(field) = s.heap.types().field(t, index) else {
             break;
         };
         if index > 0 {
@@ -164,7 +164,7 @@ fn add_blocks<F: Fit>(
 ) -> Result<(), Fail> {
     let buffer = 3 + 256 * u32::from(t);
     let node = 4 + 256 * u32::from(t);
-    match s.table.kind(t) {
+    match s.heap.types().kind(t) {
         Some(Type::Str | Type::Vec(_) | Type::FlatMap(_)) => {
             add_named(s, cell, buffer, blocks)?;
         }
@@ -184,7 +184,7 @@ fn add_named<F: Fit>(
     tag: u32,
     blocks: &mut Vec<Owned>,
 ) -> Result<Option<u32>, AllocError> {
-    let named = s.w.target(pointer as usize);
+    let named = s.heap.window().target(pointer as usize);
     if let Some(payload) = named {
         blocks.push(Owned {
             at: payload.saturating_sub(16),
@@ -201,19 +201,19 @@ fn add_ring<F: Fit>(
     tag: u32,
     blocks: &mut Vec<Owned>,
 ) -> Result<(), Fail> {
-    let first = s.w.target(cell as usize);
+    let first = s.heap.window().target(cell as usize);
     let mut pointer = cell;
-    for _ in 0..seg_seq::len(&s.w, cell) {
+    for _ in 0..s.heap.count(cell) {
         let Some(node) = add_named(s, pointer, tag, blocks)? else {
             return Err(Fail::from("the ring ends"));
         };
-        let next = s.w.target(node as usize);
-        if next.and_then(|next| s.w.target(next as usize + 4)) != Some(node) {
+        let next = s.heap.window().target(node as usize);
+        if next.and_then(|next| s.heap.window().target(next as usize + 4)) != Some(node) {
             return Err(Fail::from("the next node doesn't name this one"));
         }
         pointer = node;
     }
-    if s.w.target(pointer as usize) != first {
+    if s.heap.window().target(pointer as usize) != first {
         return Err(Fail::from("the ring doesn't close"));
     }
     Ok(())

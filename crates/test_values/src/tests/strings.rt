@@ -1,9 +1,9 @@
 use crate::tests::items::{Item, Items};
-use crate::tests::support::{STR, Segment, new_segment, of, some_text};
+use crate::tests::support::{STR, Segment, new_segment, of, place_of, some_text};
 use crate::tests::trial::{Answer, try_out};
 use seg_bestfit::BestFit;
 use seg_block::Fit;
-use seg_seq::{append, assign, pop_back, push_byte, shrink_to_fit};
+use seg_seq::{append, assign, pop_back, push_byte};
 use seg_seqfit::SeqFit;
 use std::alloc::Global;
 use std::process::Abort;
@@ -38,26 +38,26 @@ fn change_text<F: Fit>(
     random: &mut Random,
 ) -> Result<Answer, Fail> {
     let added = some_text(random);
-    let (w, table) = (&mut s.w, &s.table);
+    let heap = &mut s.heap;
     match random.below(8) {
         0 => {
-            shrink_to_fit::<F, Global>(w, table, STRING, cell);
+            heap.shrink_to_fit(place_of(STRING, cell));
             Ok(Ok(()))
         }
         1 => {
-            let popped = pop_back::<F, Global>(w, table, STRING, cell);
+            let popped = pop_back(heap, place_of(STRING, cell));
             assert_eq!(rt; popped.is_ok(), text.pop().is_some());
             Ok(popped)
         }
         2 => {
-            let answer = push_byte::<F, Global>(w, table, STRING, cell, b'!');
+            let answer = push_byte(heap, place_of(STRING, cell), b'!');
             if answer.is_ok() {
                 text.push(b'!')?;
             }
             Ok(answer)
         }
         3 | 4 => {
-            let answer = assign::<F, Global>(w, table, STRING, cell, added);
+            let answer = assign(heap, place_of(STRING, cell), added);
             if answer.is_ok() {
                 text.clear();
                 text.extend_from_slice(added)?;
@@ -65,7 +65,7 @@ fn change_text<F: Fit>(
             Ok(answer)
         }
         _ => {
-            let answer = append::<F, Global>(w, table, STRING, cell, added);
+            let answer = append(heap, place_of(STRING, cell), added);
             if answer.is_ok() {
                 text.extend_from_slice(added)?;
             }

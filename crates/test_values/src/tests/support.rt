@@ -2,9 +2,8 @@ use seg_block::Fit;
 use seg_layout::{TypeId, TypeTable};
 use seg_ptr::Window;
 use seg_raw::Region;
-use seg_value::init_default;
+use seg_value::{Heap, Place};
 use std::alloc::{AllocError, Global};
-use std::marker::PhantomData;
 use std::test::Fail;
 use support_data::Random;
 
@@ -30,11 +29,14 @@ pub(crate) fn pair(first: TypeId, second: TypeId) -> Spelled {
 
 /// A segment with a root value, whose heap an allocator keeps.
 #[derive(Drop)]
-pub(crate) struct Segment<F> {
-    pub(crate) w: Window<Global>,
-    pub(crate) table: TypeTable,
-    pub(crate) root: TypeId,
-    pub(crate) fit: PhantomData<F>,
+pub(crate) struct Segment<F: Fit> {
+    pub(crate) heap: Heap<F, Global>,
+    pub(crate) root: Place,
+}
+
+/// The place of a value of a type.
+pub(crate) fn place_of(type_id: TypeId, at: u32) -> Place {
+    Place { at, type_id }
 }
 
 fn spelled(alloc: Global, types: &[Spelled]) -> Result<Vec<u8>, AllocError> {
@@ -58,13 +60,10 @@ pub(crate) fn new_segment<F: Fit>(
     match Window::place(Region::new(alloc, len)?, 0, len) {
         Ok(mut w) => {
             F::init(&mut w);
-            init_default(&mut w, &table, root, ROOT);
-            Ok(Segment {
-                w,
-                table,
-                root,
-                fit: PhantomData,
-            })
+            let mut heap = Heap::new(w, table);
+            let root = place_of(root, ROOT);
+            heap.init_default(root);
+            Ok(Segment { heap, root })
         }
         Err(_) => Err(Fail::from("misplaced")),
     }

@@ -1,6 +1,6 @@
 use crate::tests::blocks::{Owned, is_one_gap, live};
 use crate::tests::picture::draw;
-use crate::tests::support::{ROOT, Segment};
+use crate::tests::support::Segment;
 use seg_block::Fit;
 use seg_raw::Code;
 use std::alloc::{AllocError, Global};
@@ -44,7 +44,7 @@ pub(crate) fn reads_as<F: Fit>(
     assert_eq!(rt; picture.text.as_str(), wanted);
     check_owned(
         rt,
-        live(rt.alloc(), &s.w)?.as_slice(),
+        live(rt.alloc(), s.heap.window())?.as_slice(),
         picture.blocks.as_slice(),
     );
     Ok(())
@@ -57,11 +57,14 @@ fn checked_step<F: Fit, T: Trial<F>>(
     trial: &mut T,
     random: &mut Random,
 ) -> Result<bool, Fail> {
-    let before = tiles(rt.alloc(), &s.w)?;
+    let before = tiles(rt.alloc(), s.heap.window())?;
     let answer = trial.step(rt, s, random)?;
     let no_room = answer == Err(Code::BadAlloc);
     if no_room {
-        assert_eq!(rt; tiles(rt.alloc(), &s.w)?.as_slice(), before.as_slice());
+        assert_eq!(rt;
+            tiles(rt.alloc(), s.heap.window())?.as_slice(),
+            before.as_slice()
+        );
     }
     reads_as(rt, s, trial.text(rt.alloc())?.as_str())?;
     Ok(no_room)
@@ -82,6 +85,6 @@ pub(crate) fn try_out<F: Fit, T: Trial<F>>(
         }
     }
     assert!(rt; refused >= steps / 20, "{refused} of {steps} found no room");
-    seg_value::clear::<F, Global>(&mut s.w, &s.table, s.root, ROOT);
+    s.heap.clear(s.root);
     is_one_gap(rt, s)
 }

@@ -40,7 +40,8 @@ returns-in-Some-uncle-clause-settled g c = λ nodes s.
     let f = family bytes root nodes c.args.node steps rest more parent grandparent c.in-Some.ensures.popped c.in_ok-grandparent.ensures.popped (c.is_red.ensures.0 c.if-not-is_red.false) s in
     let at : c.child-uncle.result ≡ target bytes (side_word grandparent.node (opposite grandparent.side)) = c.child-uncle.ensures ∙ ap (λ w. target bytes (side_word grandparent.node w)) c.other.ensures in
     subst (λ (v : Placement). Settles bytes v.bytes root steps more nodes (Some grandparent.node)) (sym c.push_red_up.ensures)
-    (settled_parting bytes root nodes c.args.node parent grandparent steps rest more f c.child-uncle.result c.in-Some-uncle.uncle c.in-Some.ensures.popped c.in_ok-grandparent.ensures.popped at c.in-Some-uncle.is (c.if-is_red.ensures.0 refl))
+    (settled_parting bytes root nodes c.args.node parent grandparent steps rest more f c.child-uncle.result c.in-Some-uncle.uncle c.in-Some.ensures.popped c.in_ok-grandparent.ensures.popped at c.in-Some-uncle.is
+    (c.if-is_red.ensures.0 refl))
 
 pub returns-in_default-uncle-clause-settled : goal.returns-in_default-uncle-clause-settled
 returns-in_default-uncle-clause-settled g c = λ nodes s.

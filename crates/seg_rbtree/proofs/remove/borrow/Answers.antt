@@ -19,7 +19,8 @@ returns-then-is_red-clause-lengthened g c = λ layers tree inner outer colour s 
     let bytes = c.args.w.now.bytes in
     by_inner bytes c.rotate.new.w.bytes c.args.path.now c.args.short.side c.args.short.node c.args.sibling colour layers tree outer c.come_up-then-is_red.new.w.bytes inner
     (sym (ap (λ (o : Option ℕ). colour_at bytes o) c.child.ensures) ∙ holds_if c.is_red.result (colour_at bytes c.child.result ≡ Red) c.is_red.ensures c.if-is_red.true)
-    (ap (λ (p : Placement). p.bytes) c.rotate.ensures.rotated ∙ ap (λ (at : ℕ). rotated bytes at c.args.sibling c.other-far.result) c.child_word.ensures ∙ ap (λ (d : Side). rotated bytes (side_word c.args.short.node d) c.args.sibling d) c.other-far.ensures)
+    (ap (λ (p : Placement). p.bytes) c.rotate.ensures.rotated ∙ ap (λ (at : ℕ). rotated bytes at c.args.sibling c.other-far.result) c.child_word.ensures ∙ ap (λ (d : Side). rotated bytes (side_word c.args.short.node d) c.args.sibling d)
+    c.other-far.ensures)
     (λ up m d t. c.come_up-then-is_red.ensures.came_up layers tree m d up colour red t) s short b
 
 pub returns-clause-lengthened : goal.returns-clause-lengthened

@@ -18,7 +18,8 @@ pub loop-preserved : goal.loop-preserved
 loop-preserved g c = record {
   root = c.push.ensures.root ∙ c.loop.invariant.root;
   descending = λ layers tree s.
-      descending_on c.args.w.now.bytes c.loop.path c.push.new.self layers tree c.loop.first c.in-Some.left c.loop.counter c.child.result c.child.ensures c.in-Some.is (c.push.ensures.pushed c.if-not-push.false) (c.loop.invariant.descending layers tree s);
+      descending_on c.args.w.now.bytes c.loop.path c.push.new.self layers tree c.loop.first c.in-Some.left c.loop.counter c.child.result c.child.ensures c.in-Some.is (c.push.ensures.pushed c.if-not-push.false)
+      (c.loop.invariant.descending layers tree s);
 }
 
 pub returns-then-not-push-clause-descended : goal.returns-then-not-push-clause-descended

@@ -1,6 +1,7 @@
 use Rattle.std.proofs.Common.{lit≤, refl, arith}
-use Rattle.seg_spec.proofs.Parts.{lost_gap-tiles, neighbours-tiles, linked-tiles, odd_kind-tiles, counter-all, no_owner-all, other_magic-lacks, lost_gap-lacks, no_owner-lacks}
-use Rattle.seg_spec.proofs.SoundImages.{counter_held}
+use Rattle.seg_spec.proofs.Parts.{lost_gap-tiles, neighbours-tiles, linked-tiles, odd_kind-tiles, counter-all, no_owner-all, other_magic-lacks, odd_type-lacks, linked-lacks, linked-right_type, lost_gap-lacks, lost_gap-tiles_right, lost_gap-content_right, two_owners-lacks, no_owner-lacks, unsound}
+use Rattle.seg_spec.specs.Fixtures.{counter}
+use Rattle.seg_spec.proofs.SoundImages.{counter_sound}
 use Rattle.seg_spec.proofs.examples.parts_of_images.Goals as goal
 
 pub returns : goal.returns
@@ -16,7 +17,13 @@ returns c = record {
   whole = counter-all;
   no_owner = no_owner-all;
   wrong_magic = other_magic-lacks;
+  wrong_type = odd_type-lacks;
+  wrong_link = linked-lacks;
   wrong_gaps = lost_gap-lacks;
+  wrong_content = two_owners-lacks;
   wrong_owners = no_owner-lacks;
-  nothing_wrong = λ l. l counter_held.laid_out.header;
+  nothing_wrong = λ failure l. unsound counter failure l counter_sound;
+  right_type = linked-right_type;
+  right_tiles = lost_gap-tiles_right;
+  right_content = lost_gap-content_right;
 }

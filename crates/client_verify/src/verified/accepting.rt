@@ -1,0 +1,63 @@
+ghost use Rattle.std.specs.Prelude.{◌≡◌, ℕ, IfOk, IfErr};
+ghost use Rattle.client_spec.specs.Code as code;
+ghost use Rattle.client_spec.specs.Grammar.{Spells};
+ghost use Rattle.client_spec.specs.Run as run;
+ghost use Rattle.client_spec.specs.Safe.{IsAccepted};
+ghost use Rattle.client_spec.specs.Typed.{Reason, reason_number};
+ghost use Rattle.client_spec.specs.Clients.{IsVerified};
+ghost use Rattle.client_code.specs.Clients.{bytes_of};
+ghost use Rattle.client_verify.specs.Accepted.{client_of};
+ghost use Rattle.client_verify.specs.Passing.{at_most};
+ghost use Rattle.client_verify.specs.Refusals.{IsRefused, IsRejected, IsRejectedAt};
+
+use super::{MOST_STEPS, Verified};
+use crate::verifier::Verifier;
+use client_code::Client;
+use seg_layout::TypeTable;
+use seg_raw::Fault;
+
+/// Accepts a client whose types agree with a table, whose instructions find in the registers what they need, and whose bound
+/// is within the limit. The faults, in this order: `TypeMismatch`, `Rejected`, `TooLong`.
+pub fn verify<'a>(client: Client<'a>, table: &TypeTable) -> Result<Verified<'a>, Fault>
+    ensures client { IfOk result (λ verified. client_of verified ≡ client.entry) }
+    ensures accepted { IfOk result (λ verified. (tree : code.Client) →
+        Spells (bytes_of client.entry) tree → IsVerified table.now tree) }
+    ensures refused { IfErr result (λ fault. (tree : code.Client) →
+        Spells (bytes_of client.entry) tree → IsRefused table.now tree fault) }
+{
+    let types = client.types();
+    table.extends(&types)?;
+    let bound = bound_of(client, &types)?;
+    if bound > MOST_STEPS {
+        return Err(Fault::TooLong);
+    }
+    Ok(Verified {
+        client,
+        types,
+        bound,
+    })
+}
+
+/// The most steps of a client's code, or the first instruction that is rejected.
+fn bound_of(client: Client, types: &TypeTable) -> Result<u64, Fault>
+    ensures accepted { IfOk result (λ bound. (tree : code.Client) →
+        Spells (bytes_of client.entry) tree → types.now ≡ tree.types →
+        IsAccepted tree × (bound ≡ at_most (run.bound tree.code))) }
+    ensures rejected { IfErr result (λ fault. (tree : code.Client) →
+        Spells (bytes_of client.entry) tree → types.now ≡ tree.types →
+        (i : ℕ) × (reason : Reason) × (fault ≡ Fault.Rejected i (reason_number reason)) ×
+        IsRejected tree reason × IsRejectedAt tree i reason) }
+{
+    let mut verifier = Verifier::new(types);
+    for i in 0..client.instruction_count() {
+        if let Some(instruction) = client.instruction(i) {
+            if let Err(reason) = verifier.pass(instruction) {
+                return Err(Fault::Rejected {
+                    instruction: i,
+                    reason: reason.number(),
+                });
+            }
+        }
+    }
+    Ok(verifier.steps())
+}

@@ -1,0 +1,127 @@
+-- Clients on an image, from bytes to bytes: what the caller gets.
+--     AreReports reports lefts    what the reports say of the runs
+--     HasOutcome ..               the saved image, the reports, the ending and what the output took are those of the runs
+--     IsRefusedFor .. refused     why no client ran, fault by fault
+use Rattle.std.specs.Prelude.{◌≡◌, ◌⊎◌, ⊤, ℕ, ◌-◌, ◌^◌, min, List, [], ◌∷◌, Option, Some, None}
+use Rattle.seg_spec.specs.Sound.{IsSound}
+use Rattle.seg_raw.specs.declared.fault.Fault.{Fault}
+use Rattle.seg_raw.specs.declared.fault.Fault.TheVariants as fault
+use Rattle.seg_check.specs.Faults.{IsFaultOf}
+use Rattle.client_spec.specs.Code.{Client}
+use Rattle.client_spec.specs.Grammar.{Spells}
+use Rattle.client_spec.specs.OnImages.{Move, Left}
+use Rattle.client_spec.specs.Clients.{outputs, image_behind, ending_behind, table_behind, StayWithin}
+use Rattle.client_spec.specs.Outcome.{IsOutcome, Refusal, IsTurnOf, IsRefusalOf}
+use Rattle.client_verify.specs.Refusals.{IsRefused}
+use Rattle.client_vm.specs.declared.report.Report.{Report}
+use Rattle.client_vm.specs.declared.report.Ended.{Ended}
+use Rattle.client_vm.specs.declared.report.Refused.{Refused}
+use Rattle.client_vm.specs.Writes.{Took}
+use Rattle.client_vm.specs.Runs.{ending_of}
+
+-- ---- the clients ran
+
+-- what a report says of a run
+pub record IsReport (report : Report) (left : Left) : Type 0 where
+  pub steps : report.steps ≡ left.steps
+  pub read : report.read ≡ left.read
+  pub ending : ending_of report.ended ≡ left.ending
+
+-- a report for each run, in order
+abbrev pub AreReports : List Report → List Left → Type 0
+AreReports [] [] = ⊤
+AreReports [] (left ∷ lefts) = ⊥
+AreReports (report ∷ reports) [] = ⊥
+AreReports (report ∷ reports) (left ∷ lefts) = IsReport report left × AreReports reports lefts
+
+-- The clients were accepted, one after the other, on a sound image, and ran, each within its bound. What they leave is a sound
+-- image again.
+pub record HasOutcome (image : List ℕ) (texts : List (List ℕ)) (input : List ℕ) (room base : ℕ)
+    (moves : List Move) (taken taken_then : Option (List ℕ))
+    (saved : List ℕ) (reports : List Report) (ended : Ended) : Type 0 where
+  pub lefts : List Left
+  pub outcome : IsOutcome image texts input room base moves lefts
+  pub within : StayWithin outcome.clients lefts
+  pub reports_are : AreReports reports lefts
+  pub ended_is : ending_of ended ≡ ending_behind lefts
+  pub took : Took taken taken_then (outputs lefts)
+  pub saved_is : saved ≡ image_behind image lefts
+  pub sound : IsSound saved
+
+-- ---- none of them ran
+
+-- the image has this fault, where it has a place and the moves have
+pub record IsBadImage (image : List ℕ) (texts : List (List ℕ)) (room base : ℕ)
+    (moves : List Move) (f : Fault) : Type 0 where
+  pub refusal : IsRefusalOf image texts room base moves Refusal.bad_image
+  pub fault : IsFaultOf image f
+
+-- client k has this fault, where the image is sound and those before it were accepted
+pub record IsBadClient (image : List ℕ) (texts : List (List ℕ)) (room base : ℕ)
+    (moves : List Move) (k : ℕ) (f : Fault) : Type 0 where
+  pub refusal : IsRefusalOf image texts room base moves (Refusal.bad_client k)
+  pub text : List ℕ
+  pub turn : IsTurnOf image texts k text
+  pub client : Client
+  pub spells : Spells text client
+  pub fault : IsRefused (table_behind turn.sound.picture.table turn.clients) client f
+
+module _ (image : List ℕ) (texts : List (List ℕ)) (room base : ℕ) (moves : List Move) where
+  -- the move with this index is the first that may not be made; one past 32 bits is told as the largest number
+  abbrev pub IsBadMove : ℕ → Type 0
+  IsBadMove told = (i : ℕ) × (told ≡ min i (2 ^ 32 - 1)) ×
+      IsRefusalOf image texts room base moves (Refusal.bad_move i)
+
+  -- a fault that is no client's
+  abbrev pub IsFaultOfCall : Fault → Type 0
+  IsFaultOfCall fault.Memory = IsRefusalOf image texts room base moves Refusal.no_memory
+  IsFaultOfCall fault.Misplaced = IsRefusalOf image texts room base moves Refusal.misplaced
+  IsFaultOfCall fault.BadHeader =
+      IsRefusalOf image texts room base moves Refusal.bad_size ⊎
+      IsBadImage image texts room base moves fault.BadHeader
+  IsFaultOfCall (fault.BadMove i) = IsBadMove i
+  IsFaultOfCall (fault.BadType k) = IsBadImage image texts room base moves (fault.BadType k)
+  IsFaultOfCall (fault.BadBlock at) = IsBadImage image texts room base moves (fault.BadBlock at)
+  IsFaultOfCall (fault.BadFree at) = IsBadImage image texts room base moves (fault.BadFree at)
+  IsFaultOfCall (fault.BadIndex at) = IsBadImage image texts room base moves (fault.BadIndex at)
+  IsFaultOfCall (fault.BadPointer at) = IsBadImage image texts room base moves (fault.BadPointer at)
+  IsFaultOfCall (fault.DoubleOwner at) = IsBadImage image texts room base moves (fault.DoubleOwner at)
+  IsFaultOfCall (fault.Unowned at) = IsBadImage image texts room base moves (fault.Unowned at)
+  IsFaultOfCall (fault.BadValue at) = IsBadImage image texts room base moves (fault.BadValue at)
+  IsFaultOfCall (fault.TypeMismatch k) = ⊥
+  IsFaultOfCall fault.BadSize = ⊥
+  IsFaultOfCall fault.NoHostRoom = ⊥
+  IsFaultOfCall (fault.BadCode at) = ⊥
+  IsFaultOfCall (fault.BadLine line) = ⊥
+  IsFaultOfCall (fault.Rejected instruction reason) = ⊥
+  IsFaultOfCall fault.TooLong = ⊥
+
+  -- a fault of client k
+  abbrev pub IsFaultOfClient : ℕ → Fault → Type 0
+  IsFaultOfClient k (fault.BadCode at) = IsRefusalOf image texts room base moves (Refusal.bad_text k)
+  IsFaultOfClient k (fault.TypeMismatch i) = IsBadClient image texts room base moves k (fault.TypeMismatch i)
+  IsFaultOfClient k (fault.Rejected i reason) = IsBadClient image texts room base moves k (fault.Rejected i reason)
+  IsFaultOfClient k fault.TooLong = IsBadClient image texts room base moves k fault.TooLong
+  IsFaultOfClient k fault.Memory = ⊥
+  IsFaultOfClient k fault.Misplaced = ⊥
+  IsFaultOfClient k (fault.BadType i) = ⊥
+  IsFaultOfClient k fault.BadSize = ⊥
+  IsFaultOfClient k fault.NoHostRoom = ⊥
+  IsFaultOfClient k fault.BadHeader = ⊥
+  IsFaultOfClient k (fault.BadBlock at) = ⊥
+  IsFaultOfClient k (fault.BadFree at) = ⊥
+  IsFaultOfClient k (fault.BadIndex at) = ⊥
+  IsFaultOfClient k (fault.BadPointer at) = ⊥
+  IsFaultOfClient k (fault.DoubleOwner at) = ⊥
+  IsFaultOfClient k (fault.Unowned at) = ⊥
+  IsFaultOfClient k (fault.BadValue at) = ⊥
+  IsFaultOfClient k (fault.BadLine line) = ⊥
+  IsFaultOfClient k (fault.BadMove i) = ⊥
+
+  abbrev IsFault : Option ℕ → Fault → Type 0
+  IsFault None f = IsFaultOfCall f
+  IsFault (Some k) f = IsFaultOfClient k f
+
+  -- why no client ran: the fault, and the client that has it, where one has
+  abbrev pub IsRefusedFor : Refused → Type 0
+  IsRefusedFor refused = IsFault refused.client refused.fault

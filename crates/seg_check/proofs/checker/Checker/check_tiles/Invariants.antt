@@ -1,5 +1,0 @@
-use Rattle.std.proofs.Common.{◌-◌, length}
-use Rattle.seg_check.proofs.checker.Checker.check_tiles.Given as goal
-
-abbrev pub decreases-loop-at : goal.decreases-loop-at
-decreases-loop-at g l = length l.w.bytes - l.at

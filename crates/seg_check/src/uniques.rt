@@ -1,0 +1,23 @@
+ghost use Rattle.std.specs.Prelude.{◌≡◌};
+
+use crate::claims::Claims;
+use crate::image::Image;
+use seg_index::{unique, unique_word};
+use seg_layout::{MAX_TYPES, TypeId};
+use seg_raw::Fault;
+use seg_value::Content;
+use std::alloc::Allocator;
+
+impl<A: Allocator> Image<'_, A> {
+    /// The words of the unique objects. No live block is an object of an unused type, so the word of such a type is null.
+    pub(crate) fn check_uniques<B: Allocator>(&self, claims: &mut Claims<B>) -> Result<(), Fault> {
+        for t in 0..MAX_TYPES {
+            let t = t as TypeId;
+            if unique(self.w, t).is_some() {
+                let content = Content::object(self.types, t);
+                self.claim_entries(claims, unique_word(t) as u32, &content, 1)?;
+            }
+        }
+        Ok(())
+    }
+}

@@ -1,0 +1,90 @@
+ghost use Rattle.std.specs.Prelude.{◌≡◌};
+ghost use Rattle.seg_spec.specs.Window.{with_bytes};
+
+use crate::entry::NameEntry;
+use crate::kind::IndexKind;
+use crate::{flat, tree};
+use seg_block::Fit;
+use seg_raw::Code;
+use seg_rbtree::Path;
+use seg_value::Heap;
+use std::alloc::Allocator;
+
+/// Where a search for a name ended.
+#[derive(Drop)]
+enum Spot {
+    /// At an index of the buffer.
+    Flat(u32),
+    /// At the end of a path down the tree.
+    Tree(Path),
+}
+
+/// A name that the index has. It is good until the index changes.
+#[derive(Drop)]
+pub struct Occupied {
+    spot: Spot,
+    entry: NameEntry,
+}
+
+/// A name that the index doesn't have, by the spot where its entry would stand. It is good until the index changes.
+#[derive(Drop)]
+pub struct Vacant {
+    spot: Spot,
+}
+
+impl Occupied {
+    /// The name's entry.
+    pub fn entry(&self) -> NameEntry {
+        self.entry
+    }
+
+    /// Takes the entry out of the index. The object stays.
+    pub fn remove<F: Fit, A: Allocator>(self, heap: &mut Heap<F, A>)
+        ensures window { heap.new.window ≡ with_bytes heap.old.window heap.new.window.bytes }
+        ensures types { heap.new.types ≡ heap.old.types }
+    {
+        match self.spot {
+            Spot::Flat(index) => flat::remove(heap, index),
+            Spot::Tree(path) => tree::remove(heap, path),
+        }
+    }
+}
+
+impl Vacant {
+    /// Enters the name for the object at a position, where `count` values and after them the name of `name_len` bytes
+    /// stand. `BadAlloc` where there is no room for the entry; then nothing changes.
+    pub fn insert<F: Fit, A: Allocator>(
+        self,
+        heap: &mut Heap<F, A>,
+        object: u32,
+        count: u16,
+        name_len: u8,
+    ) -> Result<(), Code>
+        ensures window { heap.new.window ≡ with_bytes heap.old.window heap.new.window.bytes }
+        ensures types { heap.new.types ≡ heap.old.types }
+    {
+        let entry = NameEntry::new(object, count, name_len);
+        match self.spot {
+            Spot::Flat(index) => flat::insert(heap, index, entry),
+            Spot::Tree(path) => tree::insert(heap, path, entry),
+        }
+    }
+}
+
+/// Looks for a name, to remove it where the index has it, and to insert it where not.
+pub fn look_up<F: Fit, A: Allocator>(heap: &Heap<F, A>, name: &[u8]) -> Result<Occupied, Vacant> {
+    let (spot, entry) = match IndexKind::of(heap.window()) {
+        IndexKind::Flat => {
+            let (index, entry) = flat::look_up(heap, name);
+            (Spot::Flat(index), entry)
+        }
+        IndexKind::Tree => {
+            let (path, entry) = tree::look_up(heap, name);
+            (Spot::Tree(path), entry)
+        }
+    };
+    match entry {
+        Some(entry) => Ok(Occupied { spot, entry }),
+        None => Err(Vacant { spot }),
+    }
+}

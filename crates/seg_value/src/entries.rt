@@ -1,0 +1,45 @@
+ghost use Rattle.std.specs.Prelude.{◌≡◌};
+ghost use Rattle.seg_spec.specs.Window.{with_bytes};
+
+use crate::content::Content;
+use crate::heap::Heap;
+use seg_block::Fit;
+use seg_raw::Code;
+use std::alloc::Allocator;
+
+/// Entries between others of a buffer: those of flat maps and of the flat index.
+impl<F: Fit, A: Allocator> Heap<F, A> {
+    /// Makes room for an entry at an index of a cell's buffer: those from there on move one further, and the cell counts one
+    /// more. Returns the position of the new entry, whose bytes the caller writes. `BadAlloc` where no gap gives that room,
+    /// and then nothing changes.
+    pub fn open_entry(&mut self, content: &Content, cell: u32, index: u32) -> Result<u32, Code>
+        ensures window { self.new.window ≡ with_bytes self.old.window self.new.window.bytes }
+        ensures types { self.new.types ≡ self.old.types }
+    {
+        let entry = content.entry;
+        let kept = self.count(cell);
+        let len = kept.saturating_add(1);
+        self.reserve(content, cell, len)?;
+        let start = self.start(cell);
+        let at = entry.at(start, index);
+        let next = entry.at(start, index.saturating_add(1));
+        self.shift_entries(entry, at, next, kept.saturating_sub(index));
+        self.set_count(cell, len);
+        Ok(at)
+    }
+
+    /// Takes out the entry at an index of a cell's buffer, which owns nothing any more: those after it move one back, and
+    /// the cell counts one less.
+    pub fn close_entry(&mut self, content: &Content, cell: u32, index: u32)
+        ensures window { self.new.window ≡ with_bytes self.old.window self.new.window.bytes }
+        ensures types { self.new.types ≡ self.old.types }
+    {
+        let entry = content.entry;
+        let last = self.count(cell).saturating_sub(1);
+        let start = self.start(cell);
+        let at = entry.at(start, index);
+        let next = entry.at(start, index.saturating_add(1));
+        self.shift_entries(entry, next, at, last.saturating_sub(index));
+        self.set_count(cell, last);
+    }
+}
