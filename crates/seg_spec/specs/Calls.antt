@@ -11,7 +11,8 @@ use Rattle.seg_spec.specs.Sound.{times, positions}
 use Rattle.seg_spec.specs.Demand.{Ask, NoRoom}
 
 -- an object without a name that nothing holds: its block has its tag, and with the blocks of its value it is live, each once
-pub record IsLoose (bytes : List ℕ) (table : Table) (object : Place) (v : Value) (inside : List ℕ) : Type 0 where
+pub record IsLoose (bytes : List ℕ) (table : Table) (object : Place) (v : Value)
+    (inside : List ℕ) : Type 0 where
   pub block : IsBlock bytes object.at (tag_of Kind.object object.type) (size table object.type)
   pub holds_it : Holds bytes table object v inside
   pub owned : (h : ℕ) → times h (block_of object.at ∷ inside) ≤ times h (positions (live bytes))

@@ -30,7 +30,8 @@ IsDefaulted old new at form = IsFreshCell new at form
 -- the cell at `to` is now what the one at `from` was
 abbrev pub IsMoved : List ℕ → List ℕ → ℕ → ℕ → Option Form → Type 0
 IsMoved old new from to (Some Form.i64) = long new to ≡ long old from
-IsMoved old new from to _ = (target new to ≡ target old from) × (count_at new to ≡ count_at old from)
+IsMoved old new from to _ =
+    (target new to ≡ target old from) × (count_at new to ≡ count_at old from)
 
 -- a distance that is greater by n, where it isn't that of a pointer to nothing
 abbrev pub further : ℕ → ℕ → ℕ
@@ -39,20 +40,22 @@ further n distance = if distance == 1 then 1 else (distance + n) % 2 ^ 32
 -- the distance in the cell is greater by n; what it counts, or the number that it is, is as it was
 abbrev pub IsFurther : List ℕ → List ℕ → ℕ → ℕ → Option Form → Type 0
 IsFurther old new n at (Some Form.i64) = long new at ≡ long old at
-IsFurther old new n at _ = (word new at ≡ further n (word old at)) × (count_at new at ≡ count_at old at)
+IsFurther old new n at _ =
+    (word new at ≡ further n (word old at)) × (count_at new at ≡ count_at old at)
 
 -- only the bytes of a value of the type changed, and each of its cells as R says
-pub record ChangesCells (R : List ℕ → List ℕ → ℕ → Option Form → Type 0) (old new : List ℕ) (table : Table)
-    (at T : ℕ) : Type 0 where
+pub record ChangesCells (R : List ℕ → List ℕ → ℕ → Option Form → Type 0)
+    (old new : List ℕ) (table : Table) (at T : ℕ) : Type 0 where
   pub changes : ChangesOnly old new at (size table T)
   pub cells : EachCell table T (λ d form. R old new (at + d) form)
 
 -- the same of values of the type at these positions, which stand in n bytes; what lies beside each of them is kept
-pub record ChangesEach (R : List ℕ → List ℕ → ℕ → Option Form → Type 0) (old new : List ℕ) (table : Table)
-    (T at n : ℕ) (positions : List ℕ) : Type 0 where
+pub record ChangesEach (R : List ℕ → List ℕ → ℕ → Option Form → Type 0)
+    (old new : List ℕ) (table : Table) (T at n : ℕ) (positions : List ℕ) : Type 0 where
   pub changes : ChangesOnly old new at n
   pub cells : AllByRecursion (λ p. EachCell table T (λ d form. R old new (p + d) form)) positions
-  pub beside : (q m : ℕ) → AllByRecursion (λ p. (q + m ≤ p) ⊎ (p + size table T ≤ q)) positions → IsSame old new q m
+  pub beside : (q m : ℕ) → AllByRecursion (λ p. (q + m ≤ p) ⊎ (p + size table T ≤ q)) positions →
+      IsSame old new q m
 
 -- n entries of some bytes each, with a value of the type behind so many bytes, were copied, and the distances in the values
 -- are greater by how much closer the entries are now

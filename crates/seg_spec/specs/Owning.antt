@@ -18,7 +18,8 @@ pub record StandsBeside (bytes : List ℕ) (home at n : ℕ) (blocks : List ℕ)
   pub others : (h : ℕ) → 1 ≤ times h blocks → (1 ≤ times h (positions (live bytes))) × (h ≢ home)
 
 -- what a call on a place finds: the heap is in order, the place lies in a live block and holds v, and it owns these other live blocks, each once
-pub record Stands (allocator : ℕ) (bytes : List ℕ) (table : Table) (place : Place) (v : Value) (blocks : List ℕ) : Type 0 where
+pub record Stands (allocator : ℕ) (bytes : List ℕ) (table : Table) (place : Place) (v : Value)
+    (blocks : List ℕ) : Type 0 where
   pub heap : IsHeap allocator bytes
   pub allocator_is : word bytes 16 ≡ allocator
   pub is_table : IsTable table

@@ -82,7 +82,8 @@ pub record GivesBlock (allocator : ℕ) (old new : List ℕ) (table : Table) (ta
   pub link_is : link_at new (block.block_of payload) ≡ None
   pub value : Holds new table (record { at = payload + before; type = U }) (default_of table U) []
   pub granted_is :
-      after_asks allocator (live old) (length old) (block_for (before + size table U) ∷ []) ≡ Some (live new)
+      after_asks allocator (live old) (length old) (block_for (before + size table U) ∷ [])
+      ≡ Some (live new)
   pub was_free : times (block.block_of payload) (positions (live old)) ≡ 0
   pub kept : (h : ℕ) → 1 ≤ times h (positions (live old)) →
       block.KeepsBlock old new h × (link_at new h ≡ link_at old h)

@@ -40,7 +40,8 @@ impl<F: Fit, A: Allocator> Heap<F, A> {
     }
 
     pub fn set_count(&mut self, cell: u32, count: u32)
-        ensures window { self.new.window ≡ with_bytes self.old.window (set_word self.old.window.bytes (cell + 4) count) }
+        ensures window { self.new.window ≡
+            with_bytes self.old.window (set_word self.old.window.bytes (cell + 4) count) }
         ensures types { self.new.types ≡ self.old.types }
     {
         self.window.put32(cell as usize + 4, count);

@@ -82,7 +82,8 @@ pub(crate) fn point_each_again<A: Allocator>(
 )
     ensures host { w.new ≡ with_bytes w.old w.new.bytes }
     ensures bytes { entry.held ≡ Held.Bytes → w.new ≡ w.old }
-    ensures values { (t : ℕ) → entry.held ≡ Held.Value t → entry.before + size types.now t ≤ entry.size →
+    ensures values { (t : ℕ) → entry.held ≡ Held.Value t →
+        entry.before + size types.now t ≤ entry.size →
         IsWithin w.old.bytes start (n * entry.size) →
         ChangesEach (λ old new at form. IsFurther old new distance at form) w.old.bytes w.new.bytes types.now
         t start (n * entry.size) (map (λ p. p + entry.before) (spaced start entry.size n)) }
