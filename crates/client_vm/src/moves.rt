@@ -64,6 +64,7 @@ impl<'a> Moves<'a> {
     }
 
     /// Makes the next move.
+    #[inline(never)]
     pub(crate) fn make<A: Allocator>(&mut self, w: &mut Window<A>) {
         if let Some((next, rest)) = self.rest.split_first() {
             let _ = w.relocate(next.base);
