@@ -5,7 +5,7 @@ ghost use Rattle.seg_spec.specs.Demand.{block_for};
 ghost use Rattle.seg_spec.specs.Heap.{Span, IsHeap};
 ghost use Rattle.seg_spec.specs.Types.{IsTable, size};
 ghost use Rattle.seg_spec.specs.Window.{with_bytes};
-ghost use Rattle.seg_block.specs.Blocks.{IsBlock};
+ghost use Rattle.seg_block.specs.Blocks.{IsSized};
 ghost use Rattle.seg_block.specs.Tags.{word_of};
 ghost use Rattle.seg_value.specs.Contents.{IsContent, GivesBlock};
 
@@ -21,7 +21,7 @@ use std::alloc::Allocator;
 impl<F: Fit, A: Allocator> Heap<F, A> {
     /// How many entries the block has room for whose payload begins at `start`.
     pub fn capacity(&self, entry: Entry, start: u32) -> u32
-        ensures { (g : Span) → start ≡ g.at + 16 → IsBlock self.now.window.bytes g →
+        ensures { (g : Span) → start ≡ g.at + 16 → IsSized self.now.window.bytes g →
             result ≡ (16 * g.units - 16) / entry.size }
     {
         seg_block::capacity(&self.window, start, entry.size)
