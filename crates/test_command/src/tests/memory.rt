@@ -89,7 +89,7 @@ fn opens(rt: &(impl Abort + AllocGlobal), heap: &LocalHeap) -> Result<Option<Fau
     let image = counter(rt.alloc())?;
     match open::<SeqFit, Global, &LocalHeap>(heap, counter_window(rt.alloc())?) {
         Ok(segment) => {
-            assert_eq!(rt; segment.window.slice(0, 784), image.as_slice());
+            assert_eq!(rt; segment.window().slice(0, 784), image.as_slice());
             Ok(None)
         }
         Err((fault, window)) => {
