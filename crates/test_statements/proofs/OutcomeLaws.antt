@@ -4,10 +4,10 @@ use Rattle.seg_spec.specs.Types.{Form, Table, form_at}
 use Rattle.seg_spec.specs.Faulty.{IsImageLength}
 use Rattle.seg_spec.specs.Fixtures.{counter, greeting, empty, lost_gap, counter_picture, greeting_picture}
 use Rattle.seg_spec.specs.Bytes.{put, set_number}
-use Rattle.seg_spec.proofs.OnePicture.{Held-one}
-use Rattle.seg_spec.proofs.Parts.{lost_gap-lacks}
-use Rattle.seg_spec.proofs.SoundImages.{counter_held, counter_sound, greeting_held}
-use Rattle.seg_spec.proofs.UnsoundImages.{lost_gap-unsound}
+use Rattle.test_definitions.proofs.OnePicture.{Held-one}
+use Rattle.test_definitions.proofs.Parts.{lost_gap-lacks}
+use Rattle.test_definitions.proofs.SoundImages.{counter_held, counter_sound, greeting_held}
+use Rattle.test_definitions.proofs.UnsoundImages.{lost_gap-unsound}
 use Rattle.seg_raw.specs.declared.fault.Fault.{Fault}
 use Rattle.seg_raw.specs.declared.fault.Fault.TheVariants as fault
 use Rattle.client_spec.specs.Code.{Client}
@@ -19,8 +19,8 @@ use Rattle.client_spec.specs.Outcome.{CanLie, CanMove, IsOutcome, Refusal, IsTur
 use Rattle.client_spec.specs.Fixtures.{increment, move_to}
 use Rattle.client_verify.specs.Refusals.{IsRefused}
 use Rattle.client_spec.proofs.OneClient.{one_client}
-use Rattle.client_spec.proofs.Worked.{increment_spelled}
-use Rattle.client_spec.proofs.Whole as whole
+use Rattle.test_machine.proofs.Worked.{increment_spelled}
+use Rattle.test_machine.proofs.Whole as whole
 use Rattle.client_vm.specs.declared.report.Report.{Report}
 use Rattle.client_vm.specs.declared.report.Refused.{Refused}
 use Rattle.client_vm.specs.declared.report.Ended.{Ended}

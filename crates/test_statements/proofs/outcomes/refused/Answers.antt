@@ -1,5 +1,5 @@
 use Rattle.std.proofs.Common.{inl}
-use Rattle.seg_spec.proofs.SoundImages.{counter_sound}
+use Rattle.test_definitions.proofs.SoundImages.{counter_sound}
 use Rattle.test_statements.proofs.OutcomeLaws as laws
 use Rattle.test_statements.proofs.outcomes.refused.Goals as goal
 

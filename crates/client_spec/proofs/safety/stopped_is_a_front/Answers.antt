@@ -1,5 +1,0 @@
-use Rattle.client_spec.proofs.Stopped.{front_of_whole}
-use Rattle.client_spec.proofs.safety.stopped_is_a_front.Goals as goal
-
-pub returns : goal.returns
-returns c = front_of_whole

@@ -1,8 +1,0 @@
-use Rattle.seg_spec.proofs.Denials.{second_is_denied, growth_is_granted}
-use Rattle.seg_spec.proofs.examples.spending.Goals as goal
-
-pub returns-clause-denied : goal.returns-clause-denied
-returns-clause-denied c = second_is_denied
-
-pub returns-clause-granted : goal.returns-clause-granted
-returns-clause-granted c = growth_is_granted

@@ -1,5 +1,0 @@
-use Rattle.seg_spec.proofs.GiveOrder.{in_any_order}
-use Rattle.seg_spec.proofs.heaps.giving_in_any_order.Goals as goal
-
-pub returns : goal.returns
-returns c = in_any_order

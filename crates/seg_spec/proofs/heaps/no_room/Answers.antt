@@ -1,5 +1,0 @@
-use Rattle.seg_spec.proofs.NoGaps.{denied as law, no_room as law_back}
-use Rattle.seg_spec.proofs.heaps.no_room.Goals as goal
-
-pub returns : goal.returns
-returns c = record { denied = law; back = law_back }

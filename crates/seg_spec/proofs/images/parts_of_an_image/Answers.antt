@@ -1,5 +1,0 @@
-use Rattle.seg_spec.proofs.Parts.{image_length, tiles_held, heap_of_tiles, all_held, sound_of_all}
-use Rattle.seg_spec.proofs.images.parts_of_an_image.Goals as goal
-
-pub returns : goal.returns
-returns c = record { length_is = image_length; tiles = tiles_held; heap = heap_of_tiles; all = all_held; sound = sound_of_all }

@@ -1,5 +1,0 @@
-use Rattle.seg_spec.proofs.PathsBehind.{after_a_cut}
-use Rattle.seg_spec.proofs.images.paths_after_a_cut.Goals as goal
-
-pub returns : goal.returns
-returns c = after_a_cut

@@ -1,5 +1,0 @@
-use Rattle.seg_spec.proofs.RootPaths.{root_paths}
-use Rattle.seg_spec.proofs.images.paths_of_a_root.Goals as goal
-
-pub returns : goal.returns
-returns c = λ old new table root blocks valid o kept. root_paths old new table valid root blocks o kept

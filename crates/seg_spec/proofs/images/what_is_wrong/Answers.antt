@@ -1,5 +1,0 @@
-use Rattle.seg_spec.proofs.Parts.{unsound, one_failure, owner_is_content}
-use Rattle.seg_spec.proofs.images.what_is_wrong.Goals as goal
-
-pub returns : goal.returns
-returns c = record { unsound = unsound; one = one_failure; owner = owner_is_content }

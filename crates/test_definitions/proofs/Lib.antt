@@ -1,0 +1,16 @@
+pub mod OnePicture
+pub mod Evaluating
+pub mod SoundImages
+pub mod UnsoundImages
+pub mod Parts
+pub mod UniqueLaws
+pub mod AddTypes
+pub mod EveryImage
+pub mod NoRoots
+pub mod PartLaw
+pub mod RootPaths
+pub mod PathsBehind
+pub mod Denials
+pub mod CutBuffers
+pub mod WorkedCalls
+pub mod MoveLaw

@@ -1,0 +1,5 @@
+use Rattle.seg_spec.proofs.GiveOrder.{in_any_order}
+use Rattle.test_definitions.proofs.heaps.giving_in_any_order.Goals as goal
+
+pub returns : goal.returns
+returns c = in_any_order

@@ -1,0 +1,5 @@
+use Rattle.test_definitions.proofs.NoRoots.{nothing_held}
+use Rattle.test_definitions.proofs.images.no_roots.Goals as goal
+
+pub returns : goal.returns
+returns c = nothing_held

@@ -1,0 +1,5 @@
+use Rattle.seg_spec.proofs.Writing.{Held-apart}
+use Rattle.test_definitions.proofs.images.owners_apart.Goals as goal
+
+pub returns : goal.returns
+returns c = λ bytes picture held. Held-apart bytes picture held

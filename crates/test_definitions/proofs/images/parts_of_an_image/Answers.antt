@@ -1,0 +1,5 @@
+use Rattle.test_definitions.proofs.Parts.{image_length, tiles_held, heap_of_tiles, all_held, sound_of_all}
+use Rattle.test_definitions.proofs.images.parts_of_an_image.Goals as goal
+
+pub returns : goal.returns
+returns c = record { length_is = image_length; tiles = tiles_held; heap = heap_of_tiles; all = all_held; sound = sound_of_all }

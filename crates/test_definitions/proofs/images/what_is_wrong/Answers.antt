@@ -1,0 +1,5 @@
+use Rattle.test_definitions.proofs.Parts.{unsound, one_failure, owner_is_content}
+use Rattle.test_definitions.proofs.images.what_is_wrong.Goals as goal
+
+pub returns : goal.returns
+returns c = record { unsound = unsound; one = one_failure; owner = owner_is_content }

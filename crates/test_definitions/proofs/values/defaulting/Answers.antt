@@ -1,0 +1,5 @@
+use Rattle.seg_spec.proofs.Defaults.{Holds-default}
+use Rattle.test_definitions.proofs.values.defaulting.Goals as goal
+
+pub returns : goal.returns
+returns c = λ bytes table place valid known fresh. Holds-default bytes table valid place known fresh

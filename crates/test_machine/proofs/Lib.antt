@@ -1,0 +1,11 @@
+pub mod Held
+pub mod PictureLaws
+pub mod Simulated
+pub mod Worked
+pub mod Outside
+pub mod Placed
+pub mod Following
+pub mod Stopped
+pub mod Several
+pub mod Whole
+pub mod CounterRun

@@ -1,0 +1,87 @@
+-- The increment is a client, and the image of the number 41 named x pictures the state that has just that.
+use Rattle.std.proofs.Common.{◌≡◌, ℕ, ◌<◌, pos, Bool, true, false, List, [], Some, None, refl, arith}
+use Rattle.std.specs.Prelude.{codes, option_map, if◌then◌else◌, FitsSigned}
+use Rattle.std.specs.Int.{w32}
+use Rattle.std.proofs.lemmas.Int.{ints}
+use Rattle.std.proofs.lemmas.List.Elements.{All-nil, All-cons}
+use Rattle.seg_spec.specs.Types.{Table}
+use Rattle.seg_spec.specs.Value.{Int, nil, cons}
+use Rattle.seg_spec.specs.Fixtures.{counter, counter_picture}
+use Rattle.seg_spec.specs.Index.{same_name}
+use Rattle.test_definitions.proofs.SoundImages.{counter_held}
+use Rattle.client_spec.specs.declared.table.Operation.{Operation}
+use Rattle.client_spec.specs.Code.{Constant}
+use Rattle.client_spec.specs.declared.table.Role.{Role}
+use Rattle.client_spec.specs.Operations.{row_of}
+use Rattle.client_spec.specs.Grammar.{IsNameByte, IsConstant, IsOperand, IsNumber, IsInstruction, IsCode, IsClient, Spells, listing, depth, spelling}
+use Rattle.client_spec.specs.Pictures.{Pictures, names_in, object_of}
+use Rattle.client_spec.specs.Fixtures.{at, increment, counted}
+
+letter_x : IsNameByte 120
+letter_x = (omega arith, omega arith, λ e. omega arith)
+
+name_x : IsConstant (Constant.Name (codes "x"))
+name_x = (omega arith, omega arith, All-cons IsNameByte 120 [] letter_x (All-nil IsNameByte))
+
+fits : (n : ℕ) → n < 2 → FitsSigned w32 (pos n)
+fits n h = search (arith, ints)
+
+module _ (types : Table) (constants : List Constant) where
+  -- an instruction whose operands are registers, by what each of them has to be
+  simple : (o : Operation) (role : Role) (a b c n : ℕ) → (row_of o).role ≡ role → IsOperand (row_of o).a a → IsOperand (row_of o).b b → IsOperand (row_of o).c c → IsNumber types constants b (row_of o).number (pos n) → n < 2 → IsInstruction types constants role (at o a b c (pos n))
+  simple o role a b c n p x y z w l = record { role = p; a = x; b = y; c = z; number = w; range = fits n l }
+
+increment_code : IsCode increment.types increment.constants increment.code
+unfolding IsCode
+increment_code =
+    let s = simple increment.types increment.constants in (
+      (
+        s Operation.Find Role.Opener 0 16 16 0 refl (omega arith) (omega arith) (omega arith) (omega arith, refl) (omega arith),
+        (
+          s Operation.Load Role.Plain 1 0 0 0 refl (omega arith) (omega arith) refl refl (omega arith),
+          (
+            s Operation.Const Role.Plain 2 0 0 1 refl (omega arith) refl refl tt (omega arith),
+            (
+              s Operation.Add Role.Plain 1 1 2 0 refl (omega arith) (omega arith) (omega arith) refl (omega arith),
+              (s Operation.Store Role.Plain 0 0 1 0 refl refl (omega arith) (omega arith) refl (omega arith), (s Operation.OutInt Role.Plain 0 1 0 0 refl refl (omega arith) refl refl (omega arith), tt)),
+            ),
+          ),
+        ),
+        tt,
+      ),
+      tt,
+    )
+
+increment_valid : IsClient increment
+unfolding listing depth
+increment_valid = record {
+  types = counter_held.laid_out.is_table;
+  few_constants = omega arith;
+  constants = All-cons IsConstant (Constant.Name (codes "x")) [] name_x (All-nil IsConstant);
+  different = λ k l d lt h. absurd (omega arith);
+  few_instructions = omega arith;
+  shallow = omega arith;
+  code = increment_code;
+}
+
+pub increment_spelled : Spells (spelling increment) increment
+increment_spelled = record { valid = increment_valid; spelled = refl }
+
+pub same_x : (name : List ℕ) → counted.names name ≡ names_in counter_picture name
+same_x name = choose (same_name name (codes "x"))
+  where
+    choose : (b : Bool) → (if b then Some (record { type = 0; values = cons (Int (pos 41)) nil }) else None) ≡ option_map object_of (if b then Some (record { name = codes "x"; at = 720; type = 0; values = cons (Int (pos 41)) nil }) else None)
+    choose true = refl
+    choose false = refl
+
+pub counter_pictured : Pictures [] counted counter
+counter_pictured = record {
+  picture = counter_picture;
+  held = counter_held;
+  types = refl;
+  names = same_x;
+  uniques = λ T. refl;
+  owned = [];
+  are_owned = tt;
+  loose = refl;
+}

@@ -1,0 +1,5 @@
+use Rattle.test_machine.proofs.PictureLaws.{begins_first}
+use Rattle.test_machine.proofs.pictures.first_situation.Goals as goal
+
+pub returns : goal.returns
+returns c = begins_first

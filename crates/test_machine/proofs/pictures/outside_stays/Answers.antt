@@ -1,0 +1,5 @@
+use Rattle.test_machine.proofs.Outside.{outside_stays as law}
+use Rattle.test_machine.proofs.pictures.outside_stays.Goals as goal
+
+pub returns : goal.returns
+returns c = law

@@ -1,0 +1,5 @@
+use Rattle.test_machine.proofs.PictureLaws.{pictured_typed}
+use Rattle.test_machine.proofs.pictures.pictured_is_typed.Goals as goal
+
+pub returns : goal.returns
+returns c = pictured_typed

@@ -1,0 +1,119 @@
+//! Small clients, worked out.
+
+ghost use Rattle.std.specs.Prelude.{◌≡◌, ℕ, ◌^◌, ◌<◌, ◌++◌, pos, [], ◌∷◌, codes, replicate, Ok, Err};
+ghost use Rattle.client_spec.specs.Code.{Constant, Statements};
+ghost use Rattle.client_spec.specs.Grammar.{spelling, Spells};
+ghost use Rattle.client_spec.specs.Text.{text_of};
+ghost use Rattle.client_spec.specs.Run.{finished, stopped, stuck, bound};
+ghost use Rattle.client_spec.specs.Clients.{outputs, image_behind, ending_behind, table_behind, StayWithin, AreMoves, IsFirstBadMove, IsLeftInPlace};
+ghost use Rattle.client_spec.specs.Safe.{IsFront, Writes};
+ghost use Rattle.client_spec.specs.Typed.{Reason, RegisterType, reason_number, types_after};
+ghost use Rattle.client_spec.specs.Fixtures.{increment, chain, cycle, dangling, lost, changed, three_turns, counting_down, idle, echo, kill_twice, as_a_text, nested, types, constants, beginning, counted, no_names, RunsTo, left_with, two_runs, given_at_0, move_to};
+ghost use Rattle.seg_spec.specs.Types.{Form};
+
+/// The client that adds one to x: its 103 bytes, its text, the most steps that it takes, and what is known behind it.
+#[tactic(auto, unfolding(client_spec::specs::Grammar::spelling, client_spec::specs::Grammar::listing, client_spec::specs::Typed::types_after, client_spec::specs::Typed::rule))]
+pub fn the_increment()
+    ensures bytes { spelling increment ≡
+        83 ∷ 69 ∷ 71 ∷ 67 ∷ 1 ∷ 0 ∷ 0 ∷ 0 ∷ 1 ∷ 0 ∷ 0 ∷ 0 ∷ 1 ∷ 0 ∷ 0 ∷ 0 ∷ 8 ∷ 0 ∷ 0 ∷ 0
+        ∷ 1 ∷ 0 ∷ 0 ∷ 0 ∷ 0 ∷ 0 ∷ 0 ∷ 0 ∷ 0 ∷ 0 ∷ 0 ∷ 0 ∷ 0 ∷ 0 ∷ 0 ∷ 0 ∷ 2 ∷ 1 ∷ 120
+        ∷ 17 ∷ 0 ∷ 16 ∷ 16 ∷ 0 ∷ 0 ∷ 0 ∷ 0 ∷ 33 ∷ 1 ∷ 0 ∷ 0 ∷ 0 ∷ 0 ∷ 0 ∷ 0
+        ∷ 1 ∷ 2 ∷ 0 ∷ 0 ∷ 1 ∷ 0 ∷ 0 ∷ 0 ∷ 3 ∷ 1 ∷ 1 ∷ 2 ∷ 0 ∷ 0 ∷ 0 ∷ 0
+        ∷ 34 ∷ 0 ∷ 0 ∷ 1 ∷ 0 ∷ 0 ∷ 0 ∷ 0 ∷ 12 ∷ 0 ∷ 1 ∷ 0 ∷ 0 ∷ 0 ∷ 0 ∷ 0
+        ∷ 10 ∷ 0 ∷ 0 ∷ 0 ∷ 0 ∷ 0 ∷ 0 ∷ 0 ∷ 11 ∷ 0 ∷ 0 ∷ 0 ∷ 0 ∷ 0 ∷ 0 ∷ 0 ∷ [] }
+    ensures client { Spells (spelling increment) increment }
+    ensures text { text_of increment ≡ codes "type i64\nname x\nFIND r0 - - t0 k0\nLOAD r1 r0\nCONST r2 1\nADD r1 r1 r2\nSTORE r0 r1\nOUTI r1\nELSE\nEND\n" }
+    ensures steps { bound increment.code ≡ 6 }
+    ensures accepted { types_after increment.types increment.constants increment.code
+        (replicate 16 RegisterType.Undefined) ≡ Ok (replicate 16 RegisterType.Undefined) }
+{}
+
+/// The client that makes a chain of 20,000 owned nodes and destroys it.
+#[tactic(auto, unfolding(client_spec::specs::Grammar::listing, client_spec::specs::Typed::types_after, client_spec::specs::Typed::rule))]
+pub fn the_chain()
+    ensures text { text_of chain ≡ codes "type i64\ntype own t2\ntype struct t0 t1\nname h\nCONST r0 20000\nCONST r1 1\nFINDOR r2 - t1 k0\nWHILE r0 20000\nNEW r3 t2\nREF r4 r3\nFIELD r5 r4 1\nTAKE r6 r2\nPUT r5 r6\nELSE\nEND\nPUT r2 r3\nELSE\nEND\nSUB r0 r0 r1\nEND\nELSE\nEND\nKILL r7 - t1 k0\n" }
+    ensures steps { bound chain.code ≡ 160005 }
+    ensures accepted { types_after chain.types chain.constants chain.code
+        (replicate 16 RegisterType.Undefined) ≡
+        Ok (RegisterType.Int ∷ RegisterType.Int ∷ replicate 5 RegisterType.Undefined ++
+        RegisterType.Int ∷ replicate 8 RegisterType.Undefined) }
+{}
+
+/// Clients that are refused: an object put into itself, a reference into a family of which an object may have been destroyed,
+/// an object that is never dropped, and a register that a loop changes.
+#[tactic(auto, unfolding(client_spec::specs::Typed::types_after, client_spec::specs::Typed::rule))]
+pub fn refused()
+    ensures cycle { types_after cycle.types cycle.constants cycle.code
+        (replicate 16 RegisterType.Undefined) ≡ Err Reason.PutIntoItself }
+    ensures dangling { types_after dangling.types dangling.constants dangling.code
+        (replicate 16 RegisterType.Undefined) ≡ Err Reason.WrongOperand }
+    ensures lost { types_after types constants lost (replicate 16 RegisterType.Undefined) ≡
+        Err Reason.OwnerLost }
+    ensures changed { types_after types constants changed (replicate 16 RegisterType.Undefined) ≡
+        Err Reason.ChangedInLoop }
+{}
+
+/// A loop's steps count as often as it may turn: three turns of one instruction behind two instructions, five turns of one
+/// behind one, and seven loops of 1000 turns in one another.
+pub fn steps_of_loops()
+    ensures three { bound (three_turns (pos 1)) ≡ 9 }
+    ensures idle { bound idle ≡ 12 }
+    ensures nested { 10 ^ 9 < bound (nested 7) }
+{}
+
+/// Runs: three turns, a loop that its register ends, one that makes no turn, the increment of 41, input bytes that are printed, an object destroyed twice,
+/// and one of another type.
+pub fn runs()
+    ensures three { RunsTo [] (three_turns (pos 1)) (beginning [] no_names []) 9
+        (codes "7\n7\n7\n") }
+    ensures down { RunsTo [] counting_down (beginning [] no_names []) 9 (codes "2\n1\n") }
+    ensures idle { RunsTo [] idle (beginning [] no_names []) 2 (codes "") }
+    ensures increment { RunsTo increment.constants increment.code counted 6 (codes "42\n") }
+    ensures echo { RunsTo [] echo (beginning [] no_names (codes "A")) 4 (codes "65\n6\n") }
+    ensures destroyed { RunsTo increment.constants kill_twice counted 4 (codes "1\n0\n") }
+    ensures other_type { RunsTo increment.constants as_a_text
+        (record counted { types = Form.i64 ∷ Form.str ∷ [] }) 2 (codes "4\n") }
+{}
+
+/// Two runs, of which the second was cut short: what both wrote, the image after them and how they ended. The increment takes
+/// 6 steps and no more, and never gets stuck.
+#[tactic(auto, unfolding(client_spec::specs::Grammar::listing))]
+pub fn several_runs()
+    ensures outputs { outputs two_runs ≡ codes "424" }
+    ensures image { image_behind (codes "0") two_runs ≡ codes "b" }
+    ensures first_image { image_behind (codes "0") [] ≡ codes "0" }
+    ensures ending { ending_behind two_runs ≡ stopped }
+    ensures no_ending { ending_behind [] ≡ finished }
+    ensures table { table_behind [] (increment ∷ chain ∷ []) ≡ chain.types }
+    ensures shorter { table_behind chain.types (increment ∷ []) ≡ chain.types }
+    ensures within { StayWithin (increment ∷ increment ∷ []) two_runs }
+    ensures too_long { StayWithin (increment ∷ []) (left_with 7 finished [] [] ∷ []) → ⊥ }
+    ensures stuck { StayWithin (increment ∷ []) (left_with 6 stuck [] [] ∷ []) → ⊥ }
+    ensures too_many { StayWithin [] (left_with 6 finished [] [] ∷ []) → ⊥ }
+{}
+
+/// In a room of 2048 bytes a segment of 1024 may go to 1024 and back. A base of 8 and one too far may not be, nor may steps
+/// that don't ascend.
+pub fn bad_moves()
+    ensures all_fit { AreMoves 2048 1024 0 (move_to 1 1024 ∷ move_to 3 0 ∷ []) }
+    ensures odd_base { IsFirstBadMove 2048 1024 (move_to 1 1024 ∷ move_to 3 8 ∷ []) 1 }
+    ensures too_far { IsFirstBadMove 2048 1024 (move_to 1 1040 ∷ []) 0 }
+    ensures not_ascending { IsFirstBadMove 2048 1024 (move_to 1 1024 ∷ move_to 1 0 ∷ []) 1 }
+    ensures step_zero { IsFirstBadMove 2048 1024 (move_to 0 1024 ∷ []) 0 }
+    ensures not_first { IsFirstBadMove 2048 1024 (move_to 1 8 ∷ move_to 3 8 ∷ []) 1 → ⊥ }
+    ensures none { (k : ℕ) → IsFirstBadMove 2048 1024 [] k → ⊥ }
+{}
+
+/// An image of two bytes that fills its host is left in place with two others, and not with three. The increment's output is
+/// cut short where it wrote "4" of "42". What was written stays at the front of the output.
+pub fn what_is_left()
+    ensures placed { IsLeftInPlace (given_at_0 (codes "ab"))
+        (left_with 1 finished [] (codes "cd")) }
+    ensures larger { IsLeftInPlace (given_at_0 (codes "ab"))
+        (left_with 1 finished [] (codes "cde")) → ⊥ }
+    ensures front { IsFront increment counted (record counted { output = codes "4" }) }
+    ensures more { Writes (record counted { output = codes "4" })
+        (record counted { output = codes "42" }) }
+    ensures less { Writes (record counted { output = codes "4" }) counted → ⊥ }
+    ensures other_types { Writes counted (record counted { types = [] }) → ⊥ }
+{}
