@@ -2,11 +2,13 @@
 --     IsImageOf bytes table                    a sound image with these types
 --     IsFaultOf bytes fault                    what is wrong, where all that is looked at before it is right
 --     IsFaultOfOpening allocator bytes fault   or the image names another allocator
+--     FitsFront bytes fault                    what of it is about the header and the types
+--     FitsFrontForOpening allocator bytes fault
 use Rattle.std.specs.Prelude.{◌≡◌, ◌≢◌, ◌⊎◌, ⊤, ℕ, List, []}
 use Rattle.seg_spec.specs.Bytes.{word}
 use Rattle.seg_spec.specs.Types.{Table}
 use Rattle.seg_spec.specs.Sound.{Picture, IsHeld, IsSound}
-use Rattle.seg_spec.specs.Faulty.{LacksHeader, LacksType, LacksTiles, LacksGaps, LacksContent, LacksOwner}
+use Rattle.seg_spec.specs.Faulty.{HasFront, LacksHeader, LacksType, LacksTiles, LacksGaps, LacksContent, LacksOwner}
 use Rattle.seg_raw.specs.declared.fault.Fault.{Fault}
 use Rattle.seg_raw.specs.declared.fault.Fault.TheVariants as fault
 
@@ -44,3 +46,38 @@ abbrev pub IsFaultOfOpening : ℕ → List ℕ → Fault → Type 0
 IsFaultOfOpening allocator bytes f =
     IsFaultOf bytes f ⊎
     ((f ≡ fault.BadHeader) × IsSound bytes × (word bytes 16 ≢ allocator))
+
+-- ---- the front: the header and the types
+
+-- both are in order
+abbrev pub IsFrontRight : List ℕ → Type 0
+IsFrontRight bytes = (table : Table) × HasFront bytes table
+
+-- What is wrong with the front where the bytes get this fault. Memory is asked for, and the heap looked at, only where the front
+-- is right.
+abbrev pub FitsFront : List ℕ → Fault → Type 0
+FitsFront bytes fault.BadHeader = LacksHeader bytes
+FitsFront bytes (fault.BadType k) = LacksType bytes k
+FitsFront bytes fault.Memory = IsFrontRight bytes
+FitsFront bytes (fault.BadBlock at) = IsFrontRight bytes
+FitsFront bytes (fault.BadFree at) = IsFrontRight bytes
+FitsFront bytes (fault.BadIndex at) = IsFrontRight bytes
+FitsFront bytes (fault.BadPointer at) = IsFrontRight bytes
+FitsFront bytes (fault.DoubleOwner at) = IsFrontRight bytes
+FitsFront bytes (fault.BadValue at) = IsFrontRight bytes
+FitsFront bytes (fault.Unowned at) = IsFrontRight bytes
+FitsFront bytes fault.Misplaced = ⊥
+FitsFront bytes (fault.TypeMismatch k) = ⊥
+FitsFront bytes fault.BadSize = ⊥
+FitsFront bytes fault.NoHostRoom = ⊥
+FitsFront bytes (fault.BadCode at) = ⊥
+FitsFront bytes (fault.BadLine line) = ⊥
+FitsFront bytes (fault.Rejected instruction reason) = ⊥
+FitsFront bytes fault.TooLong = ⊥
+FitsFront bytes (fault.BadMove i) = ⊥
+
+-- The same for an allocator of this number, or the front is right and names another one.
+abbrev pub FitsFrontForOpening : ℕ → List ℕ → Fault → Type 0
+FitsFrontForOpening allocator bytes f =
+    FitsFront bytes f ⊎
+    ((f ≡ fault.BadHeader) × IsFrontRight bytes × (word bytes 16 ≢ allocator))

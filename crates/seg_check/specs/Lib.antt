@@ -1,2 +1,3 @@
 pub mod Headers
+pub mod ContentFaults
 pub mod Faults

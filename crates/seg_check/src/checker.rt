@@ -1,6 +1,8 @@
-ghost use Rattle.std.specs.Prelude.{IfOk, OnOk};
+ghost use Rattle.std.specs.Prelude.{IfErr, IfOk, OnOk};
 ghost use Rattle.seg_spec.specs.Types.{IsTable, HasTable};
 ghost use Rattle.seg_spec.specs.Sound.{HasHeader};
+ghost use Rattle.seg_spec.specs.Faulty.{HasFront};
+ghost use Rattle.seg_check.specs.Faults.{FitsFront};
 
 use crate::claims::Claims;
 use crate::header::check_header;
@@ -17,6 +19,7 @@ use std::alloc::Allocator;
 pub fn check<A: Allocator, B: Allocator>(alloc: B, w: &Window<A>) -> Result<TypeTable, Fault>
     ensures header { OnOk result (HasHeader w.now.bytes) }
     ensures types { IfOk result (λ types. IsTable types × HasTable w.now.bytes 64 types) }
+    ensures fault { IfErr result (FitsFront w.now.bytes) }
 {
     check_header(w)?;
     let types = TypeTable::read(w.slice(header::TYPES, ENTRY * MAX_TYPES))?;
@@ -29,11 +32,13 @@ fn check_heap<A: Allocator, B: Allocator + Copy>(
     alloc: B,
     w: &Window<A>,
     types: &TypeTable,
-) -> Result<(), Fault> {
+) -> Result<(), Fault>
+    ensures fault { HasFront w.now.bytes types.now → IfErr result (FitsFront w.now.bytes) }
+{
     let mut claims = Claims::new(alloc, w)?;
     let image = Image { w, types };
-    image.check_tiles(&mut claims)?;
-    image.check_free(&claims)?;
+    image.check_tiles(&mut claims).map_err(Fault::BadBlock)?;
+    image.check_free(&claims).map_err(Fault::BadFree)?;
     image.check_index(&mut claims)?;
     image.check_uniques(&mut claims)?;
     image.check_values(&mut claims)?;

@@ -1,9 +1,9 @@
 ghost use Rattle.std.specs.Prelude.{◌≡◌, ◌+◌, ◌^◌, ◌<◌, IfSome};
 
+use crate::fault::ContentFault;
 use crate::marks::{Mark, Turn};
 use seg_block::{HEAP_START, Tag, UNIT, payload, tag_word};
 use seg_ptr::Window;
-use seg_raw::Fault;
 use std::alloc::{AllocError, Allocator};
 
 /// The blocks of a heap, which of them have an owner, and those whose values are still to be looked at.
@@ -22,7 +22,7 @@ pub(crate) struct Claims<A: Allocator> {
 
 impl<A: Allocator> Claims<A> {
     /// No block is known yet.
-    pub(crate) fn new<B: Allocator>(alloc: A, w: &Window<B>) -> Result<Claims<A>, Fault>
+    pub(crate) fn new<B: Allocator>(alloc: A, w: &Window<B>) -> Result<Claims<A>, AllocError>
     where
         A: Copy,
     {
@@ -84,10 +84,10 @@ impl<A: Allocator> Claims<A> {
         pointer: u32,
         tag: Tag,
         size: u64,
-    ) -> Result<u32, Fault>
+    ) -> Result<u32, ContentFault>
         ensures taken { self.new.taken ≡ self.old.taken }
     {
-        let bad = Fault::BadPointer(pointer);
+        let bad = ContentFault::BadPointer(pointer);
         let start = w.target(pointer as usize).ok_or(bad)?;
         let block = start.checked_sub(UNIT).ok_or(bad)?;
         let mark = self.mark(block);
@@ -96,7 +96,7 @@ impl<A: Allocator> Claims<A> {
             return Err(bad);
         }
         if mark == Mark::Claimed {
-            return Err(Fault::DoubleOwner(block));
+            return Err(ContentFault::DoubleOwner(block));
         }
         self.set_mark(block, Mark::Claimed);
         self.unclaimed = self.unclaimed.saturating_sub(1);
@@ -104,10 +104,10 @@ impl<A: Allocator> Claims<A> {
     }
 
     /// Lets a claimed block wait for its turn.
-    pub(crate) fn await_turn(&mut self, turn: Turn) -> Result<(), Fault>
+    pub(crate) fn await_turn(&mut self, turn: Turn) -> Result<(), ContentFault>
         ensures taken { self.new.taken ≡ self.old.taken }
     {
-        self.queue.push(turn).map_err(AllocError::from)?;
+        self.queue.push(turn)?;
         Ok(())
     }
 

@@ -1,12 +1,12 @@
 use crate::image::Image;
 use seg_block::{HEAP_START, LINK, UNIT, block_at, is_live};
 use seg_ptr::{Window, header};
-use seg_raw::Fault;
 use std::alloc::Allocator;
 
 impl<A: Allocator> Image<'_, A> {
-    /// The list of sequential fit: each of its pointers names the next free block, and the last one none.
-    pub(crate) fn check_free_list(&self) -> Result<(), Fault> {
+    /// The list of sequential fit: each of its pointers names the next free block, and the last one none. `Err` has the
+    /// position of the first that doesn't.
+    pub(crate) fn check_free_list(&self) -> Result<(), u32> {
         let w = self.w;
         let mut word = header::FREE as u32;
         let mut at = HEAP_START;
@@ -21,11 +21,11 @@ impl<A: Allocator> Image<'_, A> {
     }
 }
 
-/// The pointer at a position names this, else `BadFree`.
-fn check_word<A: Allocator>(w: &Window<A>, word: u32, named: Option<u32>) -> Result<(), Fault> {
+/// The pointer at a position names this, else `Err` with the position.
+fn check_word<A: Allocator>(w: &Window<A>, word: u32, named: Option<u32>) -> Result<(), u32> {
     if w.target(word as usize) == named {
         Ok(())
     } else {
-        Err(Fault::BadFree(word))
+        Err(word)
     }
 }

@@ -3,7 +3,6 @@ use crate::image::Image;
 use crate::walk::{Tree, Visit};
 use seg_block::{block_of, link, units};
 use seg_ptr::{Window, header};
-use seg_raw::Fault;
 use std::alloc::Allocator;
 use std::cmp::Ordering;
 
@@ -11,12 +10,12 @@ use std::cmp::Ordering;
 const FREE: u32 = header::FREE as u32;
 
 impl<A: Allocator> Image<'_, A> {
-    /// The tree of best fit: all free blocks, in order of their units, then of their positions. None has a link.
-    pub(crate) fn check_free_tree<B: Allocator>(&self, claims: &Claims<B>) -> Result<(), Fault> {
+    /// The tree of best fit: all free blocks, in order of their units, then of their positions. None has a link. `Err` has
+    /// the position of the pointer to the root.
+    pub(crate) fn check_free_tree<B: Allocator>(&self, claims: &Claims<B>) -> Result<(), u32> {
         let tree = Tree {
             root: FREE,
             nodes: claims.free_count(),
-            fault: Fault::BadFree(FREE),
         };
         let mut walk = tree.walk(self.w);
         let mut before = None;
@@ -27,7 +26,7 @@ impl<A: Allocator> Image<'_, A> {
                     || link(self.w, block).is_some()
                     || !is_above(self.w, before, block)
                 {
-                    return Err(tree.fault);
+                    return Err(FREE);
                 }
                 before = Some(block);
             }

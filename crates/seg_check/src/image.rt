@@ -1,10 +1,10 @@
 ghost use Rattle.std.specs.Prelude.{◌≡◌};
 
 use crate::claims::Claims;
+use crate::fault::ContentFault;
 use crate::marks::Turn;
 use seg_layout::TypeTable;
 use seg_ptr::{Window, header};
-use seg_raw::Fault;
 use seg_value::{Content, Entry, Held};
 use std::alloc::Allocator;
 
@@ -16,8 +16,8 @@ pub(crate) struct Image<'a, A: Allocator> {
 }
 
 impl<A: Allocator> Image<'_, A> {
-    /// The free structure of the image's allocator.
-    pub(crate) fn check_free<B: Allocator>(&self, claims: &Claims<B>) -> Result<(), Fault> {
+    /// The free structure of the image's allocator. `Err` has the position of the pointer that is wrong.
+    pub(crate) fn check_free<B: Allocator>(&self, claims: &Claims<B>) -> Result<(), u32> {
         match self.w.get32(header::ALLOCATOR) {
             0 => self.check_free_list(),
             _ => self.check_free_tree(claims),
@@ -33,7 +33,7 @@ impl<A: Allocator> Image<'_, A> {
         pointer: u32,
         content: &Content,
         count: u32,
-    ) -> Result<u32, Fault>
+    ) -> Result<u32, ContentFault>
         ensures taken { claims.new.taken ≡ claims.old.taken }
     {
         let size = u64::from(count) * u64::from(content.entry.size);
@@ -48,7 +48,7 @@ impl<A: Allocator> Image<'_, A> {
         claims: &mut Claims<B>,
         entry: Entry,
         turn: Turn,
-    ) -> Result<(), Fault>
+    ) -> Result<(), ContentFault>
         ensures taken { claims.new.taken ≡ claims.old.taken }
     {
         match entry.held {

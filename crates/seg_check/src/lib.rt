@@ -3,6 +3,7 @@
 
 mod checker;
 mod claims;
+mod fault;
 mod free_list;
 mod free_tree;
 mod header;

@@ -1,8 +1,8 @@
 ghost use Rattle.std.specs.Prelude.{◌≡◌};
 
 use crate::claims::Claims;
+use crate::fault::ContentFault;
 use crate::image::Image;
-use seg_raw::Fault;
 use seg_value::{Content, LIST_LINKS};
 use std::alloc::Allocator;
 
@@ -16,7 +16,7 @@ impl<A: Allocator> Image<'_, A> {
         claims: &mut Claims<B>,
         content: &Content,
         cell: u32,
-    ) -> Result<(), Fault>
+    ) -> Result<(), ContentFault>
         ensures taken { claims.new.taken ≡ claims.old.taken }
     {
         let Some(count) = self.counted_blocks(cell)? else {
@@ -35,7 +35,7 @@ impl<A: Allocator> Image<'_, A> {
         if is_linked && is_closed {
             Ok(())
         } else {
-            Err(Fault::BadValue(cell))
+            Err(ContentFault::BadValue(cell))
         }
     }
 

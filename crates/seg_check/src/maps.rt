@@ -1,9 +1,9 @@
 ghost use Rattle.std.specs.Prelude.{◌≡◌};
 
 use crate::claims::Claims;
+use crate::fault::ContentFault;
 use crate::image::Image;
 use crate::walk::{Tree, Visit};
-use seg_raw::Fault;
 use seg_value::{Content, KEY};
 use std::alloc::Allocator;
 
@@ -14,7 +14,7 @@ impl<A: Allocator> Image<'_, A> {
         claims: &mut Claims<B>,
         content: &Content,
         cell: u32,
-    ) -> Result<(), Fault>
+    ) -> Result<(), ContentFault>
         ensures taken { claims.new.taken ≡ claims.old.taken }
     {
         let Some(count) = self.counted(cell)? else {
@@ -34,7 +34,7 @@ impl<A: Allocator> Image<'_, A> {
         claims: &mut Claims<B>,
         content: &Content,
         cell: u32,
-    ) -> Result<(), Fault>
+    ) -> Result<(), ContentFault>
         ensures taken { claims.new.taken ≡ claims.old.taken }
     {
         let Some(count) = self.counted_blocks(cell)? else {
@@ -43,11 +43,10 @@ impl<A: Allocator> Image<'_, A> {
         let tree = Tree {
             root: cell,
             nodes: count as usize,
-            fault: Fault::BadValue(cell),
         };
         let mut walk = tree.walk(self.w);
         let mut keys = Keys::new();
-        while let Some(visit) = walk.next()? {
+        while let Some(visit) = walk.next().map_err(ContentFault::BadValue)? {
             match visit {
                 Visit::Enter(pointer) => {
                     self.claim_entries(claims, pointer, content, 1)?;
@@ -85,11 +84,11 @@ impl Keys {
     }
 
     /// Each key is above the one before, else `BadValue` with the map's cell.
-    fn check(self, cell: u32) -> Result<(), Fault> {
+    fn check(self, cell: u32) -> Result<(), ContentFault> {
         if self.ascend {
             Ok(())
         } else {
-            Err(Fault::BadValue(cell))
+            Err(ContentFault::BadValue(cell))
         }
     }
 }

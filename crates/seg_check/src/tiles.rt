@@ -3,7 +3,6 @@ use crate::image::Image;
 use seg_block::{HEAP_START, Kind, Tag, UNIT, is_live, link, tag_word, units, units_before};
 use seg_layout::{Type, TypeTable};
 use seg_ptr::Window;
-use seg_raw::Fault;
 use std::alloc::Allocator;
 
 /// The block before the one at hand.
@@ -15,8 +14,9 @@ struct Before {
 
 impl<A: Allocator> Image<'_, A> {
     /// The blocks, one after the other to the end of the image: each with at least two units, the units of the one
-    /// before, a tag that the types allow, and if it is live no link; and no two free ones side by side.
-    pub(crate) fn check_tiles<B: Allocator>(&self, claims: &mut Claims<B>) -> Result<(), Fault> {
+    /// before, a tag that the types allow, and if it is live no link; and no two free ones side by side. `Err` has the
+    /// position of the first header that is wrong.
+    pub(crate) fn check_tiles<B: Allocator>(&self, claims: &mut Claims<B>) -> Result<(), u32> {
         let w = self.w;
         let end = w.len();
         let mut at = HEAP_START;
@@ -27,7 +27,7 @@ impl<A: Allocator> Image<'_, A> {
         while at < end {
             let units = units(w, at);
             if units < 2 || units > (end - at) / UNIT || !is_block(w, self.types, at, before) {
-                return Err(Fault::BadBlock(at));
+                return Err(at);
             }
             let is_live = is_live(w, at);
             claims.add(at, is_live);

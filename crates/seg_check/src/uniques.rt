@@ -1,14 +1,17 @@
 use crate::claims::Claims;
+use crate::fault::ContentFault;
 use crate::image::Image;
 use seg_index::{unique, unique_word};
 use seg_layout::{MAX_TYPES, TypeId};
-use seg_raw::Fault;
 use seg_value::Content;
 use std::alloc::Allocator;
 
 impl<A: Allocator> Image<'_, A> {
     /// The words of the unique objects. No live block is an object of an unused type, so the word of such a type is null.
-    pub(crate) fn check_uniques<B: Allocator>(&self, claims: &mut Claims<B>) -> Result<(), Fault> {
+    pub(crate) fn check_uniques<B: Allocator>(
+        &self,
+        claims: &mut Claims<B>,
+    ) -> Result<(), ContentFault> {
         for t in 0..MAX_TYPES {
             let t = t as TypeId;
             if unique(self.w, t).is_some() {

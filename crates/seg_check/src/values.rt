@@ -1,17 +1,20 @@
 ghost use Rattle.std.specs.Prelude.{◌≡◌};
 
 use crate::claims::Claims;
+use crate::fault::ContentFault;
 use crate::image::Image;
 use crate::marks::Turn;
 use seg_block::{Kind, Tag, block_of, tag_word};
 use seg_layout::Type;
-use seg_raw::Fault;
 use seg_value::{Content, Entry, Place, count};
 use std::alloc::Allocator;
 
 impl<A: Allocator> Image<'_, A> {
     /// The values in the claimed blocks, and in the blocks that their cells claim.
-    pub(crate) fn check_values<B: Allocator>(&self, claims: &mut Claims<B>) -> Result<(), Fault> {
+    pub(crate) fn check_values<B: Allocator>(
+        &self,
+        claims: &mut Claims<B>,
+    ) -> Result<(), ContentFault> {
         while let Some(turn) = claims.next_turn() {
             self.check_block(claims, turn)?;
         }
@@ -19,7 +22,11 @@ impl<A: Allocator> Image<'_, A> {
     }
 
     /// The values in a claimed block.
-    fn check_block<B: Allocator>(&self, claims: &mut Claims<B>, turn: Turn) -> Result<(), Fault>
+    fn check_block<B: Allocator>(
+        &self,
+        claims: &mut Claims<B>,
+        turn: Turn,
+    ) -> Result<(), ContentFault>
         ensures taken { claims.new.taken ≡ claims.old.taken }
     {
         let Some(entry) = self.entry_of(block_of(turn.start)) else {
@@ -47,7 +54,11 @@ impl<A: Allocator> Image<'_, A> {
 
     /// The cells of a value, by ascending position. A struct's are those of its fields, which have lower types, so this
     /// recurses no deeper than the table is long.
-    fn check_value<B: Allocator>(&self, claims: &mut Claims<B>, value: Place) -> Result<(), Fault>
+    fn check_value<B: Allocator>(
+        &self,
+        claims: &mut Claims<B>,
+        value: Place,
+    ) -> Result<(), ContentFault>
         ensures taken { claims.new.taken ≡ claims.old.taken }
     {
         if !self.types.has_pointers(value.type_id) {
@@ -66,7 +77,11 @@ impl<A: Allocator> Image<'_, A> {
     }
 
     /// A cell, and the blocks that it names, which it claims.
-    fn check_cell<B: Allocator>(&self, claims: &mut Claims<B>, place: Place) -> Result<(), Fault>
+    fn check_cell<B: Allocator>(
+        &self,
+        claims: &mut Claims<B>,
+        place: Place,
+    ) -> Result<(), ContentFault>
         ensures taken { claims.new.taken ≡ claims.old.taken }
     {
         let (Some(kind), Some(content)) = (
@@ -91,7 +106,7 @@ impl<A: Allocator> Image<'_, A> {
         claims: &mut Claims<B>,
         content: &Content,
         cell: u32,
-    ) -> Result<(), Fault>
+    ) -> Result<(), ContentFault>
         ensures taken { claims.new.taken ≡ claims.old.taken }
     {
         if let Some(count) = self.counted(cell)? {
@@ -106,11 +121,11 @@ impl<A: Allocator> Image<'_, A> {
         claims: &mut Claims<B>,
         content: &Content,
         cell: u32,
-    ) -> Result<(), Fault>
+    ) -> Result<(), ContentFault>
         ensures taken { claims.new.taken ≡ claims.old.taken }
     {
         if count(self.w, cell) > 1 {
-            return Err(Fault::BadValue(cell));
+            return Err(ContentFault::BadValue(cell));
         }
         if self.counted_blocks(cell)?.is_some() {
             self.claim_entries(claims, cell, content, 1)?;
@@ -119,18 +134,18 @@ impl<A: Allocator> Image<'_, A> {
     }
 
     /// How much a cell counts that isn't empty. `BadPointer` where it counts something and names nothing.
-    pub(crate) fn counted(&self, cell: u32) -> Result<Option<u32>, Fault> {
+    pub(crate) fn counted(&self, cell: u32) -> Result<Option<u32>, ContentFault> {
         match (self.w.target(cell as usize), count(self.w, cell)) {
             (None, 0) => Ok(None),
-            (None, _) => Err(Fault::BadPointer(cell)),
+            (None, _) => Err(ContentFault::BadPointer(cell)),
             (Some(_), count) => Ok(Some(count)),
         }
     }
 
     /// The same of a cell that counts the blocks that it leads to: `BadValue` where it names one and counts none.
-    pub(crate) fn counted_blocks(&self, cell: u32) -> Result<Option<u32>, Fault> {
+    pub(crate) fn counted_blocks(&self, cell: u32) -> Result<Option<u32>, ContentFault> {
         match self.counted(cell)? {
-            Some(0) => Err(Fault::BadValue(cell)),
+            Some(0) => Err(ContentFault::BadValue(cell)),
             count => Ok(count),
         }
     }

@@ -3,7 +3,6 @@ ghost use Rattle.std.specs.Prelude.{◌≡◌, ◌<◌, OnOk};
 use arrayvec::ArrayVec;
 use seg_block::UNIT;
 use seg_ptr::Window;
-use seg_raw::Fault;
 use seg_rbtree::{Colour, Side, child_word, node_colour};
 use std::alloc::Allocator;
 
@@ -18,13 +17,11 @@ pub(crate) struct Tree {
     /// The position of the pointer to its root.
     pub(crate) root: u32,
     pub(crate) nodes: usize,
-    /// The fault where it isn't a red-black tree of so many nodes.
-    pub(crate) fault: Fault,
 }
 
 impl Tree {
-    /// A walk through the tree. It ends with the tree's fault where there is one: at once before a node that would stand
-    /// too deep, else after the last node.
+    /// A walk through the tree. Where it isn't a red-black tree of so many nodes, the walk ends with the position of the
+    /// pointer to the root as `Err`: at once before a node that would stand too deep, else after the last node.
     pub(crate) fn walk<A: Allocator>(self, w: &Window<A>) -> Walk<'_, A> {
         Walk {
             w,
@@ -94,11 +91,11 @@ pub(crate) struct Walk<'w, A: Allocator> {
 
 impl<A: Allocator> Walk<'_, A> {
     /// What the walk comes to next, until it has come to the end.
-    pub(crate) fn next(&mut self) -> Result<Option<Visit>, Fault>
+    pub(crate) fn next(&mut self) -> Result<Option<Visit>, u32>
         ensures fewer { OnOk result (self.new.turns < self.old.turns) }
     {
         if self.turns == 0 {
-            return Err(self.tree.fault);
+            return Err(self.tree.root);
         }
         self.turns -= 1;
         let pointer = self.pointer;
@@ -110,12 +107,12 @@ impl<A: Allocator> Walk<'_, A> {
         if passed.is_some() || self.is_right() {
             Ok(passed.map(Visit::Pass))
         } else {
-            Err(self.tree.fault)
+            Err(self.tree.root)
         }
     }
 
     /// Goes on from the node at the place to its left part.
-    fn enter(&mut self, node: u32) -> Result<(), Fault>
+    fn enter(&mut self, node: u32) -> Result<(), u32>
         ensures turns { self.new.turns ≡ self.old.turns }
     {
         let colour = node_colour(self.w, node);
@@ -127,7 +124,7 @@ impl<A: Allocator> Walk<'_, A> {
         };
         let is_deep = usize::from(self.above.nodes) >= DEPTH;
         if is_deep || self.entered.try_push(Entered { node, above }).is_err() {
-            return Err(self.tree.fault);
+            return Err(self.tree.root);
         }
         let is_right = colour.is_some() && !(is_red && self.above.is_red);
         self.is_red_black = self.is_red_black && is_right;

@@ -1,12 +1,27 @@
-use Rattle.std.proofs.Common.{◌+◌, ◌≤◌, length, arith, sym, ap, ◌∙◌}
+use Rattle.std.proofs.Common.{◌≡◌, ℕ, ◌+◌, ◌≤◌, List, length, arith, sym, ap, ◌∙◌}
+use Rattle.std.proofs.lemmas.Result.{err_from_is_err_and}
 use Rattle.std.specs.Prelude.{flat_map as flat_map_list}
-use Rattle.seg_spec.specs.Types.{padded, form_bytes}
+use Rattle.seg_spec.specs.Bytes.{slice}
+use Rattle.seg_spec.specs.Types.{Table, HasTable, Spells, padded, form_bytes}
+use Rattle.seg_spec.specs.Sound.{HasHeader}
 use Rattle.seg_spec.proofs.BytesLaws.{length-slice}
 use Rattle.seg_check.proofs.checker.check.Goals as goal
+
+-- the bytes after the header, and what they spell
+has_table : (bytes read : List ℕ) (table : Table) → HasHeader bytes → read ≡ slice bytes 64 512 → Spells read table → HasTable bytes 64 table
+has_table bytes read table header is spells =
+    let enough : 64 + 512 ≤ length bytes = let large = header.not_small in omega (arith, large) in
+    sym is ∙ spells ∙ ap (λ n. padded n (flat_map_list form_bytes table)) (ap length is ∙ length-slice bytes 64 512 enough)
 
 pub returns-clause-types : goal.returns-clause-types
 returns-clause-types g c =
     let table = c.in_ok-types.ensures.table in
-    let is = c.slice.ensures in
-    let enough : 64 + 512 ≤ length c.args.w.now.bytes = let large = c.in_ok-check_header.ensures.header.not_small in omega (arith, large) in
-    (table.0, sym is ∙ table.1 ∙ ap (λ n. padded n (flat_map_list form_bytes c.in_ok-types.types)) (ap length is ∙ length-slice c.args.w.now.bytes 64 512 enough))
+    (table.0, has_table c.args.w.now.bytes c.slice.result.now c.in_ok-types.types c.in_ok-check_header.ensures.header c.slice.ensures table.1)
+
+pub returns-in_err-check_heap-clause-fault : goal.returns-in_err-check_heap-clause-fault
+returns-in_err-check_heap-clause-fault g c =
+    let header = c.in_ok-check_header.ensures.header in
+    let table = c.in_ok-types.ensures.table in
+    let types = has_table c.args.w.now.bytes c.slice.result.now c.in_ok-types.types header c.slice.ensures table.1 in
+    let p = err_from_is_err_and c.from_residual-in_err-check_heap.result c.from_residual-in_err-check_heap.ensures.1 in
+    rw (p.1, p.2) (c.in_err-check_heap.ensures.fault (record { header = header; types = types; is_table = table.0 }))
