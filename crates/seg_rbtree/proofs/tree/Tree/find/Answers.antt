@@ -35,8 +35,8 @@ returns-in-Equal g c = λ exact shape t a.
     sought_node compare order (λ x y less. g.met.O.NodeOrder.keyed exact c.args.order.now bytes x y c.args.key less) (λ x y e f. g.met.O.UniqueKeys.one exact c.args.order.now bytes x y c.args.key e f)
     bytes shape c.loop.place c.in_ok-node.node c.loop.counter c.in_ok-node.was (sym (c.key.ensures exact) ∙ c.in-Equal.is) a (c.loop.invariant exact shape t)
 
-pub returns-after-loop : goal.returns-after-loop
-returns-after-loop g c = λ exact shape t a.
+pub returns : goal.returns
+returns g c = λ exact shape t a.
     let bytes = c.args.w.now.bytes in
     let order = g.O.NodeOrder.compare c.args.order.now bytes in
     let compare = λ (x : ℕ). g.O.NodeOrder.compare_key c.args.order.now bytes x c.args.key in
