@@ -39,12 +39,12 @@ impl Occupied {
     }
 
     /// Takes the entry out of the index. The object stays.
-    pub fn remove<F: Fit, A: Allocator>(self, heap: &mut Heap<F, A>)
+    pub fn remove<F: Fit, A: Allocator>(mut self, heap: &mut Heap<F, A>)
         ensures window { heap.new.window ≡ with_bytes heap.old.window heap.new.window.bytes }
         ensures types { heap.new.types ≡ heap.old.types }
     {
-        match self.spot {
-            Spot::Flat(index) => flat::remove(heap, index),
+        match &mut self.spot {
+            Spot::Flat(index) => flat::remove(heap, *index),
             Spot::Tree(path) => tree::remove(heap, path),
         }
     }
@@ -54,7 +54,7 @@ impl Vacant {
     /// Enters the name for the object at a position, where `count` values and after them the name of `name_len` bytes
     /// stand. `BadAlloc` where there is no room for the entry; then nothing changes.
     pub fn insert<F: Fit, A: Allocator>(
-        self,
+        mut self,
         heap: &mut Heap<F, A>,
         object: u32,
         count: u16,
@@ -64,8 +64,8 @@ impl Vacant {
         ensures types { heap.new.types ≡ heap.old.types }
     {
         let entry = NameEntry::new(object, count, name_len);
-        match self.spot {
-            Spot::Flat(index) => flat::insert(heap, index, entry),
+        match &mut self.spot {
+            Spot::Flat(index) => flat::insert(heap, *index, entry),
             Spot::Tree(path) => tree::insert(heap, path, entry),
         }
     }

@@ -10,11 +10,12 @@ ghost use Rattle.seg_spec.specs.Window.{with_bytes};
 ghost use Rattle.seg_spec.proofs.BytesLaws.{number-slice};
 ghost use Rattle.seg_spec.proofs.OrderSteps.{steps_up};
 ghost use Rattle.seg_rbtree.specs.Parts.{part};
+ghost use Rattle.seg_rbtree.proofs.Keys.{equal_to_one};
 
 use seg_block::Fit;
 use seg_ptr::Window;
 use seg_raw::Code;
-use seg_rbtree::{NodeOrder, TREE_WORDS, Tree};
+use seg_rbtree::{NodeOrder, TREE_WORDS, Tree, UniqueKeys};
 use seg_value::{Content, Entry, Heap};
 use std::alloc::Allocator;
 use std::cmp::Ordering;
@@ -47,6 +48,10 @@ impl NodeOrder<i64> for ByKey {
 
     ghost steady = { λ _ _ old new x y same_x same_y i. int_cmp (signed (number-slice 8 old new ((x + 16) % 2 ^ 32) ((x + 16) % 2 ^ 32) same_x.0 i))
         (signed (number-slice 8 old new ((y + 16) % 2 ^ 32) ((y + 16) % 2 ^ 32) same_y.0 i)) };
+}
+
+impl UniqueKeys<i64> for ByKey {
+    ghost one = { λ _ _ bytes x y key first second. equal_to_one int_cmp_total (signed_long bytes ((x + 16) % 2 ^ 32)) (signed_long bytes ((y + 16) % 2 ^ 32)) key first second };
 }
 
 /// Where a node has its key.
@@ -88,7 +93,7 @@ pub(crate) fn put<F: Fit, A: Allocator>(
     ensures window { heap.new.window ≡ with_bytes heap.old.window heap.new.window.bytes }
     ensures types { heap.new.types ≡ heap.old.types }
 {
-    let path = tree_of(cell).path_to_key(heap.window(), &ByKey, key);
+    let mut path = tree_of(cell).path_to_key(heap.window(), &ByKey, key);
     if let Some(node) = path.node(heap.window()) {
         return Ok(content.entry.value_at(node, 0));
     }
@@ -110,7 +115,7 @@ pub(crate) fn remove<F: Fit, A: Allocator>(
     ensures window { heap.new.window ≡ with_bytes heap.old.window heap.new.window.bytes }
     ensures types { heap.new.types ≡ heap.old.types }
 {
-    let path = tree_of(cell).path_to_key(heap.window(), &ByKey, key);
+    let mut path = tree_of(cell).path_to_key(heap.window(), &ByKey, key);
     let Some(node) = path.node(heap.window()) else {
         return false;
     };

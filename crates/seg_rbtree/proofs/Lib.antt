@@ -1,5 +1,4 @@
 pub mod Searching
-pub mod Finding
 pub mod Steps
 pub mod Apartness
 pub mod Branches
@@ -22,3 +21,5 @@ pub mod Raising
 pub mod Settling
 pub mod Parting
 pub mod Growing
+pub mod Seeking
+pub mod Keys

@@ -74,7 +74,7 @@ module _ (compare : ℕ → Ordering) (order : ℕ → ℕ → Ordering) (keyed 
     equals = f;
   }
 
-  at_end : (bytes : List ℕ) (to : Option ℕ) (layers : List Layer) (rest : Tree) → IsTree bytes to rest → EndsAt turn rest → LeadBy turn layers → Ascend order (nodes_of (plug rest layers))
+  pub at_end : (bytes : List ℕ) (to : Option ℕ) (layers : List Layer) (rest : Tree) → IsTree bytes to rest → EndsAt turn rest → LeadBy turn layers → Ascend order (nodes_of (plug rest layers))
       → FindsEqual compare (nodes_of (plug rest layers)) to
   at_end bytes None layers leaf h e l a = aside layers leaf a l tt
   at_end bytes None layers (fork left at colour right) h e l a = absurd h

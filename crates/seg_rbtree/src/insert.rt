@@ -32,23 +32,14 @@ impl Tree {
     {
         let mut path = Path::new(self.root);
         path.descend(w, order, Sought::Node(node));
-        path.add(w, node);
+        path.insert(w, node);
     }
 }
 
 impl Path {
     /// Adds a node at the empty place at the path's end. It may be written between the walk and this. Only tree words and the
-    /// root word change.
-    #[inline]
-    pub fn insert<A: Allocator>(mut self, w: &mut Window<A>, node: u32)
-        ensures host { w.new ≡ with_bytes w.old w.new.bytes }
-        ensures added { AddsAt w.old.bytes w.new.bytes self node }
-    {
-        self.add(w, node);
-    }
-
-    /// The same, where the path stands. It is large to move, and of no use afterwards.
-    fn add<A: Allocator>(&mut self, w: &mut Window<A>, node: u32)
+    /// root word change. The path leads nowhere then.
+    pub fn insert<A: Allocator>(&mut self, w: &mut Window<A>, node: u32)
         ensures host { w.new ≡ with_bytes w.old w.new.bytes }
         ensures added { AddsAt w.old.bytes w.new.bytes self.old node }
     {

@@ -14,7 +14,7 @@ mod search;
 mod tree;
 
 pub use node::{Colour, Side, child, child_word, node_colour};
-pub use order::NodeOrder;
+pub use order::{NodeOrder, UniqueKeys};
 pub use path::{DEPTH, Path};
 pub use search::Looked;
 pub use tree::{TREE_WORDS, Tree};

@@ -2,7 +2,7 @@ ghost use Rattle.std.specs.Prelude.{◌≡◌, ℕ, ◌≤◌, List};
 ghost use Rattle.std.specs.List.{AllByRecursion};
 ghost use Rattle.std.specs.Cmp.{IsTotalOrder};
 ghost use Rattle.std.specs.declared.cmp.Ordering.{Ordering};
-ghost use Rattle.std.specs.declared.cmp.Ordering.TheVariants.{Less};
+ghost use Rattle.std.specs.declared.cmp.Ordering.TheVariants.{Less, Equal};
 ghost use Rattle.seg_spec.specs.Apart.{Separate};
 ghost use Rattle.seg_spec.specs.Bytes.{IsSame};
 ghost use Rattle.seg_spec.specs.Search.{step_of};
@@ -53,6 +53,14 @@ pub trait NodeOrder<K: Copy> {
         → AllByRecursion (λ p. IsSame old new p.at p.len) (read order old x)
         → AllByRecursion (λ p. IsSame old new p.at p.len) (read order old y)
         → compare order new x y ≡ compare order old x y };
+}
+
+/// An order in which a key has one place: nodes that equal the same key equal each other.
+pub trait UniqueKeys<K: Copy>: NodeOrder<K> {
+    // Two nodes that equal a key stand in one place.
+    ghost one: { Self.exact → (order : Self) (bytes : List ℕ) (x y : ℕ) (key : K)
+        → Self.compare_key order bytes x key ≡ Equal → Self.compare_key order bytes y key ≡ Equal
+        → Self.compare order bytes x y ≡ Equal };
 }
 
 /// What a walk down a tree leads to.

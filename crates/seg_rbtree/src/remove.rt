@@ -38,23 +38,14 @@ impl Tree {
         if path.node(w) != Some(node) {
             return;
         }
-        path.take_out(w);
+        path.remove(w);
     }
 }
 
 impl Path {
-    /// Takes out the node at the path's end, and no other. Only tree words and the root word change.
-    #[inline]
-    pub fn remove<A: Allocator>(mut self, w: &mut Window<A>)
-        ensures host { w.new ≡ with_bytes w.old w.new.bytes }
-        ensures removed { TakesOutAt w.old.bytes w.new.bytes self }
-        ensures stays { node_at w.old.bytes self ≡ None → w.new ≡ w.old }
-    {
-        self.take_out(w);
-    }
-
-    /// The same, where the path stands.
-    fn take_out<A: Allocator>(&mut self, w: &mut Window<A>)
+    /// Takes out the node at the path's end, and no other. Only tree words and the root word change. The path leads nowhere
+    /// then.
+    pub fn remove<A: Allocator>(&mut self, w: &mut Window<A>)
         ensures host { w.new ≡ with_bytes w.old w.new.bytes }
         ensures removed { TakesOutAt w.old.bytes w.new.bytes self.old }
         ensures stays { node_at w.old.bytes self.old ≡ None → w.new ≡ w.old }

@@ -10,7 +10,7 @@ ghost use Rattle.seg_rbtree.specs.Roots.{root_word, path_root};
 ghost use Rattle.seg_rbtree.specs.declared.path.TheConstants.{DEPTH};
 
 use crate::node::{Side, child, child_word};
-use crate::order::{NodeOrder, Sought};
+use crate::order::{NodeOrder, Sought, UniqueKeys};
 use crate::path::{DEPTH, Path};
 use crate::tree::Tree;
 use seg_ptr::Window;
@@ -39,7 +39,7 @@ fn is_reached(least: Ordering, found: Ordering) -> bool
 
 impl Tree {
     /// The first node that equals a key.
-    pub fn find<K: Copy, O: NodeOrder<K>, A: Allocator>(
+    pub fn find<K: Copy, O: UniqueKeys<K>, A: Allocator>(
         self,
         w: &Window<A>,
         order: &O,
@@ -49,11 +49,17 @@ impl Tree {
             (λ shape. result ≡ first_where
             (λ node. is_eq (O.compare_key order.now w.now.bytes node key)) (nodes_of shape)) }
     {
-        let node = self.first_at_least(w, order, key).node?;
-        match order.key(w, node, key) {
-            Ordering::Equal => Some(node),
-            _ => None,
+        let mut place = w.target(self.root);
+        for _ in 0..DEPTH {
+            let node = place?;
+            let side = match order.key(w, node, key) {
+                Ordering::Less => Side::Right,
+                Ordering::Equal => return Some(node),
+                Ordering::Greater => Side::Left,
+            };
+            place = child(w, node, side);
         }
+        None
     }
 
     /// The first node that is at or above a key.

@@ -4,12 +4,13 @@ ghost use Rattle.std.specs.Ordering.{nat_cmp};
 ghost use Rattle.std.specs.Cmp.{on_total, nat_cmp_total};
 ghost use Rattle.seg_spec.specs.Bytes.{word};
 ghost use Rattle.seg_rbtree.specs.Parts.{part};
+ghost use Rattle.seg_rbtree.proofs.Keys.{equal_to_one};
 ghost use Rattle.seg_spec.proofs.BytesLaws.{number-slice};
 ghost use Rattle.seg_spec.proofs.OrderSteps.{steps_up};
 
 use seg_ptr::Window;
 use seg_raw::Region;
-use seg_rbtree::{Colour, NodeOrder, Side, TREE_WORDS, Tree, child, node_colour};
+use seg_rbtree::{Colour, NodeOrder, Side, TREE_WORDS, Tree, UniqueKeys, child, node_colour};
 use std::alloc::{AllocError, Allocator, Global};
 use std::cmp::Ordering;
 use std::process::Abort;
@@ -52,6 +53,10 @@ impl NodeOrder<u32> for ByNumber {
     ghost apart = { λ _ _ _ x low. (inr (omega arith), tt) };
 
     ghost steady = { λ _ _ old new x y same_x same_y i. nat_cmp (number-slice 4 old new (x + 16) (x + 16) same_x.0 i) (number-slice 4 old new (y + 16) (y + 16) same_y.0 i) };
+}
+
+impl UniqueKeys<u32> for ByNumber {
+    ghost one = { λ _ _ bytes x y key. equal_to_one nat_cmp_total (word bytes (x + 16)) (word bytes (y + 16)) key };
 }
 
 /// A window with the root word at 0, and room for nodes from 32 on.
@@ -163,7 +168,7 @@ enum Way {
 
 fn add(w: &mut Window<Global>, way: Way, node: u32, n: u32) {
     let tree = Tree::new(0);
-    let path = tree.path_to_key(w, &ByNumber, n);
+    let mut path = tree.path_to_key(w, &ByNumber, n);
     // the number may be written after the walk
     w.put32(node as usize + TREE_WORDS as usize, n);
     match way {

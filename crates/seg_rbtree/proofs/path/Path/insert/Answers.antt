@@ -7,7 +7,7 @@ use Rattle.seg_rbtree.specs.Ways.{last_word}
 use Rattle.seg_rbtree.specs.Changes.{with_node}
 use Rattle.seg_rbtree.specs.Rising.{IsRising, Settles}
 use Rattle.seg_rbtree.proofs.Growing.{IsGrowing, grown, growing_start, settled_end, settled_late}
-use Rattle.seg_rbtree.proofs.path.Path.add.Goals as goal
+use Rattle.seg_rbtree.proofs.path.Path.insert.Goals as goal
 
 both : (a b c : Placement) (x y : List ℕ) → b ≡ with_bytes a x → c ≡ with_bytes b y → c ≡ with_bytes a c.bytes
 both a b c x y e f = f ∙ ap (λ (p : Placement). with_bytes p y) e ∙ ap (λ (bs : List ℕ). with_bytes a bs) (sym (ap (λ (p : Placement). p.bytes) f))
