@@ -43,7 +43,10 @@ pub fn push_byte<F: Fit, A: Allocator>(
     ensures window { heap.new.window ≡ with_bytes heap.old.window heap.new.window.bytes }
     ensures types { heap.new.types ≡ heap.old.types }
 {
-    append(heap, text, &[byte])
+    let kept = heap.count(text.at);
+    let end = make_room(heap, text, kept, 1)?;
+    heap.window_mut().put8(end, byte);
+    Ok(())
 }
 
 /// What the cell of a string names. `OtherType` where the place is no string.
@@ -65,12 +68,25 @@ fn write<F: Fit, A: Allocator>(
     ensures window { heap.new.window ≡ with_bytes heap.old.window heap.new.window.bytes }
     ensures types { heap.new.types ≡ heap.old.types }
 {
+    let end = make_room(heap, text, kept, bytes.len())?;
+    heap.window_mut().copy_in(end, bytes);
+    Ok(())
+}
+
+/// Makes a string one of its first `kept` bytes and `added` more, which the caller writes, and returns where these begin.
+fn make_room<F: Fit, A: Allocator>(
+    heap: &mut Heap<F, A>,
+    text: Place,
+    kept: u32,
+    added: usize,
+) -> Result<usize, Code>
+    ensures window { heap.new.window ≡ with_bytes heap.old.window heap.new.window.bytes }
+    ensures types { heap.new.types ≡ heap.old.types }
+{
     let content = text_content(heap, text)?;
-    let added = u32::try_from(bytes.len()).map_err(|_| Code::BadAlloc)?;
+    let added = u32::try_from(added).map_err(|_| Code::BadAlloc)?;
     let len = kept.saturating_add(added);
     heap.reserve(&content, text.at, len)?;
-    let end = heap.start(text.at) as usize + kept as usize;
-    heap.window_mut().copy_in(end, bytes);
     heap.set_count(text.at, len);
-    Ok(())
+    Ok(heap.start(text.at) as usize + kept as usize)
 }
