@@ -6,7 +6,7 @@ use Rattle.seg_spec.specs.Value.{Value, Values}
 use Rattle.seg_spec.specs.Block.{Kind, tag_of, IsBlock, block_of}
 use Rattle.seg_spec.specs.Reads.{Place, places_of, AreNodes, Holds, HoldsEach, holds_none, holds_more}
 use Rattle.seg_spec.specs.Sound.{times}
-use Rattle.seg_spec.proofs.Owing.{no_parts, more_parts, OpensBlock, Owes, owes, OwesLinks, no_links, null_link, node_link}
+use Rattle.seg_spec.specs.Owing.{no_parts, more_parts, OpensBlock, Owes, owes, OwesLinks, no_links, null_link, node_link}
 use Rattle.seg_spec.proofs.LiveLaws.{times-append}
 
 -- each node names the next, and the last one none

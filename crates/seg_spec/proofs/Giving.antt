@@ -7,12 +7,13 @@ use Rattle.seg_spec.specs.Bytes.{Agrees}
 use Rattle.seg_spec.specs.Types.{Table, IsTable}
 use Rattle.seg_spec.specs.Heap.{Span, without, IsHeap, live, Gives}
 use Rattle.seg_spec.specs.Sound.{times, positions}
-use Rattle.seg_spec.proofs.Owing.{Waits}
+use Rattle.seg_spec.specs.Owing.{Waits}
 use Rattle.seg_spec.proofs.BytesLaws.{number-agrees}
 use Rattle.seg_spec.proofs.PointerLaws.{target-same}
 use Rattle.seg_spec.proofs.LiveLaws.{times-other, each_there}
 use Rattle.seg_spec.proofs.KeptLaws.{each_contained, StatesSpan, live_stated, block_kept}
-use Rattle.seg_spec.proofs.Owed.{KeepsLinked, Waits-kept}
+use Rattle.seg_spec.specs.Owing.{KeepsLinked}
+use Rattle.seg_spec.proofs.Owed.{Waits-kept}
 
 -- the block at a position
 pub record Found (k : ℕ) (bs : List Span) : Type 0 where

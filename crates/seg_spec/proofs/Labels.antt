@@ -13,7 +13,7 @@ use Rattle.seg_spec.proofs.Frame.{word-same, target-same, each_weaker}
 use Rattle.seg_spec.proofs.HeapFrame.{HoldsGaps-kept}
 use Rattle.seg_spec.proofs.LiveLaws.{LiesIn, there, live-lie, live-apart, OneOrApart}
 use Rattle.seg_spec.proofs.WriteInside.{Spot, spots, each_free_tile}
-use Rattle.seg_spec.proofs.Owed.{KeepsLinked}
+use Rattle.seg_spec.specs.Owing.{KeepsLinked}
 
 module _ (old new : List ℕ) (h : ℕ) (changes : ChangesOnly old new (h + 8) 8) (allocator : ℕ) (heap : IsHeap allocator old) (owned : 1 ≤ times h (positions (live old))) where
   all_spots : AllByRecursion (Spot old h) (tiles old)

@@ -40,7 +40,6 @@ pub mod CellSteps
 pub mod Shifting
 pub mod PlaceSteps
 pub mod OwnSteps
-pub mod Owing
 pub mod Owed
 pub mod Labels
 pub mod Pushing
@@ -48,3 +47,7 @@ pub mod Giving
 pub mod NewBlock
 pub mod TreeOwed
 pub mod ChainOwed
+pub mod Destruction
+pub mod PartsOwed
+pub mod CellOwed
+pub mod RingOwed

@@ -16,7 +16,7 @@ use Rattle.seg_spec.proofs.HeapFrame.{IsHeap-kept, live-kept}
 use Rattle.seg_spec.proofs.WriteInside.{tiles_kept, KeptBut, live_kept_but}
 use Rattle.seg_spec.proofs.Writing.{set_number-changes}
 use Rattle.seg_spec.proofs.CellSteps.{ChangesOnly-wider}
-use Rattle.seg_spec.proofs.Owed.{KeepsLinked}
+use Rattle.seg_spec.specs.Owing.{KeepsLinked}
 use Rattle.seg_spec.proofs.Labels.{labelled_live, labelled_heap, labelled_other}
 use Rattle.seg_spec.proofs.Giving.{found}
 

@@ -7,20 +7,10 @@ use Rattle.seg_spec.specs.Types.{Form, Table, form_at, size, IsTable}
 use Rattle.seg_spec.specs.Heap.{link_at}
 use Rattle.seg_spec.specs.Block.{Kind, tag_of, IsBlock, KeepsBlock, block_of, payload_size}
 use Rattle.seg_spec.specs.Reads.{Place, spaced, places_of}
-use Rattle.seg_spec.proofs.Owing.{NamesNothing, IsPart, AreParts, no_parts, more_parts, entries_of, OpensBlock, Owes, owes, OwesLinks, no_links, null_link, node_link, Waits, none_waits, waits}
+use Rattle.seg_spec.specs.Owing.{KeepsWhole, KeepsLinked, NamesNothing, IsPart, AreParts, no_parts, more_parts, entries_of, OpensBlock, Owes, owes, OwesLinks, no_links, null_link, node_link, Waits, none_waits, waits}
 use Rattle.seg_spec.proofs.SliceLaws.{IsSame-part}
 use Rattle.seg_spec.proofs.Frame.{SamePlace, target-same, each_left, each_right, each_weaker, Holds-kept, IsBlock-kept, payload-same}
 use Rattle.seg_spec.proofs.CellSteps.{each_cell_weaker}
-
--- a block is there again, with its payload and no other size
-pub record KeepsWhole (old new : List ℕ) (h : ℕ) : Type 0 where
-  pub kept : KeepsBlock old new h
-  pub size_kept : payload_size new h ≡ payload_size old h
-
--- and with its link
-pub record KeepsLinked (old new : List ℕ) (h : ℕ) : Type 0 where
-  pub whole : KeepsWhole old new h
-  pub link_kept : link_at new h ≡ link_at old h
 
 module _ (old new : List ℕ) (table : Table) (valid : IsTable table) where
   nothing_kept : (at : ℕ) (form : Option Form) → IsSame old new at 8 → NamesNothing old at form → NamesNothing new at form

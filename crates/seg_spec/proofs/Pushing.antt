@@ -9,13 +9,13 @@ use Rattle.seg_spec.specs.Heap.{link_at, IsHeap, live, heap_start}
 use Rattle.seg_spec.specs.Block.{Kind, block_of, payload_size}
 use Rattle.seg_spec.specs.Reads.{Place}
 use Rattle.seg_spec.specs.Sound.{times, positions}
-use Rattle.seg_spec.proofs.Owing.{OpensBlock, Owes, owes, Waits, none_waits, waits}
+use Rattle.seg_spec.specs.Owing.{KeepsWhole, KeepsLinked, OpensBlock, Owes, owes, Waits, none_waits, waits}
 use Rattle.seg_spec.proofs.PointerLaws.{target-set_same}
 use Rattle.seg_spec.proofs.Frame.{word-same}
 use Rattle.seg_spec.proofs.LiveLaws.{times-append, times-same, there, each_there, LiesIn, live-lie, live-once}
 use Rattle.seg_spec.proofs.Writing.{set_number-changes}
 use Rattle.seg_spec.proofs.CellSteps.{ChangesOnly-wider}
-use Rattle.seg_spec.proofs.Owed.{KeepsWhole, KeepsLinked, push_waits}
+use Rattle.seg_spec.proofs.Owed.{push_waits}
 use Rattle.seg_spec.proofs.Labels.{labelled_live, labelled_heap, labelled_other}
 
 -- what waits begins with its own block

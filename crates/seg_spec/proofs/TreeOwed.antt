@@ -8,7 +8,7 @@ use Rattle.seg_spec.specs.Block.{Kind, tag_of, IsBlock, block_of}
 use Rattle.seg_spec.specs.Shapes.{Tree, leaf, fork, nodes_of, IsTree}
 use Rattle.seg_spec.specs.Reads.{Place, places_of, AreNodes, HoldsEach, holds_none, holds_more}
 use Rattle.seg_spec.specs.Sound.{times}
-use Rattle.seg_spec.proofs.Owing.{AreParts, no_parts, more_parts, OpensBlock, Owes, owes, OwesLinks, no_links, null_link, node_link}
+use Rattle.seg_spec.specs.Owing.{AreParts, no_parts, more_parts, OpensBlock, Owes, owes, OwesLinks, no_links, null_link, node_link}
 use Rattle.seg_spec.proofs.Frame.{each_left, each_right}
 use Rattle.seg_spec.proofs.LiveLaws.{times-append}
 

@@ -19,6 +19,8 @@ pub mod Items
 pub mod Cells
 pub mod Owning
 pub mod Calls
+pub mod Owing
+pub mod Destroying
 pub mod Spending
 pub mod Shrinking
 pub mod Fixtures

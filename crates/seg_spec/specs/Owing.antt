@@ -7,7 +7,7 @@ use Rattle.seg_spec.specs.Pointer.{target}
 use Rattle.seg_spec.specs.Types.{Form, Table, form_at, size}
 use Rattle.seg_spec.specs.Value.{Value}
 use Rattle.seg_spec.specs.Heap.{link_at}
-use Rattle.seg_spec.specs.Block.{Kind, tag_of, IsBlock, block_of, payload_size}
+use Rattle.seg_spec.specs.Block.{Kind, tag_of, IsBlock, KeepsBlock, block_of, payload_size}
 use Rattle.seg_spec.specs.Reads.{Place, spaced, places_of, Holds}
 use Rattle.seg_spec.specs.Cells.{EachCell}
 
@@ -26,11 +26,15 @@ pub data AreParts (bytes : List ℕ) (table : Table) : List Place → List ℕ �
   no_parts : AreParts bytes table [] []
   more_parts : {place : Place} {places : List Place} {blocks rest : List ℕ} → IsPart bytes table place blocks → AreParts bytes table places rest → AreParts bytes table (place ∷ places) (blocks ++ rest)
 
--- as many entries as a block has room for, with a value behind so many bytes
+-- the values of n entries from a position on, each after so many bytes
+abbrev pub entries_at : Table → ℕ → ℕ → ℕ → ℕ → List Place
+entries_at table start before U n =
+    places_of U (map (λ q. q + before) (spaced start (before + size table U) n))
+
+-- those of as many entries as a block has room for
 abbrev pub entries_of : List ℕ → Table → ℕ → ℕ → ℕ → List Place
 entries_of bytes table p before U =
-    let each = before + size table U in
-    places_of U (map (λ q. q + before) (spaced p each (payload_size bytes (block_of p) / each)))
+    entries_at table p before U (payload_size bytes (block_of p) / (before + size table U))
 
 -- what a block of a kind and a type shows: its values, and the words that name further nodes
 abbrev pub OpensBlock : List ℕ → Table → ℕ → Kind → ℕ → Option Form → List Place → List ℕ → Type 0
@@ -62,3 +66,15 @@ mutual
 pub data Waits (bytes : List ℕ) (table : Table) : Option ℕ → List ℕ → Type 0 where
   none_waits : Waits bytes table None []
   waits : {p : ℕ} {xs ys : List ℕ} (next : Option ℕ) → Owes bytes table p xs → link_at bytes (block_of p) ≡ next → Waits bytes table next ys → Waits bytes table (Some p) (xs ++ ys)
+
+-- ---- blocks that are kept with their size
+
+-- a block is there again, with its payload and no other size
+pub record KeepsWhole (old new : List ℕ) (h : ℕ) : Type 0 where
+  pub kept : KeepsBlock old new h
+  pub size_kept : payload_size new h ≡ payload_size old h
+
+-- and with its link
+pub record KeepsLinked (old new : List ℕ) (h : ℕ) : Type 0 where
+  pub whole : KeepsWhole old new h
+  pub link_kept : link_at new h ≡ link_at old h
