@@ -64,3 +64,8 @@ pub mod Giving
 pub mod NewBlock
 pub mod TreeOwed
 pub mod ChainOwed
+pub mod Standing
+pub mod Buffered
+pub mod BufferMoves
+pub mod Requested
+pub mod BufferGrows

@@ -22,3 +22,4 @@ pub mod Calls
 pub mod Spending
 pub mod Shrinking
 pub mod Fixtures
+pub mod Growing
