@@ -51,3 +51,8 @@ pub mod Destruction
 pub mod PartsOwed
 pub mod CellOwed
 pub mod RingOwed
+pub mod Standing
+pub mod Buffered
+pub mod BufferMoves
+pub mod Requested
+pub mod BufferGrows

@@ -24,3 +24,4 @@ pub mod Destroying
 pub mod Spending
 pub mod Shrinking
 pub mod Fixtures
+pub mod Growing
