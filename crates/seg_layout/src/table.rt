@@ -1,4 +1,4 @@
-ghost use Rattle.std.specs.Prelude.{◌≡◌, ℕ, ◌<◌, ◌≤◌, ◌==◌, ◌↔◌, ◌%◌, ◌+◌, ◌++◌, [], map, sum_by, length, slice_get, IsOk, IfOk, IfErr, IfSome};
+ghost use Rattle.std.specs.Prelude.{◌≡◌, ℕ, ◌<◌, ◌≤◌, ◌==◌, ◌↔◌, ◌%◌, ◌*◌, ◌+◌, ◌++◌, [], map, sum_by, length, slice_get, IsOk, IfOk, IfErr, IfSome};
 ghost use Rattle.arrayvec.specs.ArrayVec.{array_vec_len};
 ghost use Rattle.seg_spec.specs.Types.{Table, Agree, IsFirstDifference, longer, fields_of, fields_from, pointers, IsTable, form_at, entry_at, size, Spells, IsWrong, IsFirstWrong};
 ghost use Rattle.seg_layout.specs.Forms.{cell_of, form_of, map_option, has_cells};
@@ -48,7 +48,8 @@ impl TypeTable {
         ensures wrong { IfErr result (λ fault.
             (k : ℕ) × (fault ≡ Fault.BadType k) × IsFirstWrong bytes.now k) }
         ensures given { (table : Table) → IsTable table → Spells bytes.now table →
-            length bytes.now % 16 ≡ 0 → length bytes.now ≤ 512 → result ≡ Ok table }
+            length bytes.now % ENTRY ≡ 0 →
+            length bytes.now ≤ ENTRY * MAX_TYPES → result ≡ Ok table }
     {
         let mut entries = ArrayVec::new();
         for index in 0..bytes.len().div_ceil(ENTRY) {
@@ -63,7 +64,7 @@ impl TypeTable {
 
     pub fn len(&self) -> usize
         ensures len { result ≡ length self.now }
-        ensures few { result ≤ 32 }
+        ensures few { result ≤ MAX_TYPES }
     {
         self.entries.len()
     }
