@@ -1,6 +1,8 @@
 -- Clients on an image, as a whole: what comes of them, or why none of them runs.
---     IsOutcome image texts input room base moves lefts   the clients were accepted on a sound image, and ran
---     IsRefusalOf image texts room base moves refusal     why they weren't, where all that is looked at before it is right
+--     IsOutcome image texts input room base moves lefts   the clients were accepted on a
+--                                                         sound image, and ran
+--     IsRefusalOf image texts room base moves refusal     why they weren't, where all that is
+--                                                         looked at before it is right
 use Rattle.std.specs.Prelude.{◌≡◌, ⊤, ℕ, ◌^◌, ◌≤◌, List, [], length, take, Some, slice_get}
 use Rattle.seg_spec.specs.Window.{IsPlace}
 use Rattle.seg_spec.specs.Sound.{IsSound}

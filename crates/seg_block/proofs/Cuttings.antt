@@ -137,7 +137,7 @@ module _ {allocator : ℕ} (old : List ℕ) (large : 736 ≤ length old) (h : Is
         ∙ cut-front xs (record { at = at; units = u } ∷ []) heap_start at (length old) places.0 (let p = last_place in omega arith)
         ∙ rw (test_same (at + 16 * u) (length old) places.2) refl
 
-    -- a gap behind some block is cut whole, and of a heap that is one gap two units stay
+    -- a gap after some block is cut whole, and of a heap that is one gap two units stay
     pub units_of_gap : 704 < at → u ≡ units_to_cut (gaps old) (length old)
     units_of_gap above = sym (gap_units ∙ ap (λ b. cond b (u - 2) u) (test_other at heap_start (λ e. absurd (omega arith))))
 

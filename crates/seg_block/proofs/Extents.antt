@@ -1,4 +1,4 @@
--- A heap that takes in the units behind it, whatever the allocator is.
+-- A heap that takes in the units after it, whatever the allocator is.
 use Rattle.std.proofs.Common.{◌≡◌, ◌≢◌, ℕ, ◌+◌, ◌-◌, ◌*◌, ◌/◌, ◌^◌, ◌<◌, ◌≤◌, Bool, true, false, List, [], ◌∷◌, ◌++◌, length, min, cond, eqb, ◌&&◌, refl, sym, ap, ◌∙◌, subst, arith, inl, inr, ◌⊎◌, zero-add}
 use Rattle.std.specs.Prelude.{Contains}
 use Rattle.std.proofs.lemmas.Bool.Decides.{nat_tests}
@@ -302,7 +302,7 @@ module _ {allocator : ℕ} (old after : List ℕ) (n len : ℕ) (small : length 
         last (tiles (without_last old n)) (omega arith) (omega (arith, ap length after_is, length-set_number 4 old 12 (len / 16)))
         (subst (λ p. Fill heap_start (tiles (without_last old n)) p) e (filled old n small room h)) (subst (λ b. AreHeaders b 0 (tiles (without_last old n))) (sym sized_is) (headers old n small room h))
 
-    -- the units of the last tile and those behind it
+    -- the units of the last tile and those after it
     pub end_units : n ≡ 1 → ((len - at) / 16 ≡ u + 1) × (at + 16 * (u + 1) ≡ length after)
     end_units one =
         let e = the_end in

@@ -48,7 +48,7 @@ module _ (old new : List ℕ) where
       let rest = free_kept ts (from + 16 * t.units) to (λ p n low high. same p n (omega arith) high) f.2 in
       elim t.live as (λ b. KeepsGaps old new (cond b (free_of ts) (span_of t ∷ free_of ts))) [ true ↦ rest | false ↦ (same (t.at + 12) 20 (omega (arith, f.0)) (omega (arith, f.0, f.1)), rest) ]
 
-  -- only the bytes from lo up to hi and the word 4 behind hi change
+  -- only the bytes from lo up to hi and the word 4 after hi change
   module _ (lo hi : ℕ) (le : lo ≤ hi) (kept : (from to : ℕ) → (to ≤ lo) ⊎ (hi ≤ from) → (to ≤ hi + 4) ⊎ (hi + 8 ≤ from) → Agrees old new from to) (xs ys : List Tile) (front : Fill heap_start xs lo) (back : Fill hi ys (length old)) where
     same : (p n : ℕ) → p + n ≤ length old → (p + n ≤ lo) ⊎ (hi ≤ p) → (p + n ≤ hi + 4) ⊎ (hi + 8 ≤ p) → IsSame old new p n
     same p n fits out next = IsSame-agrees old new p (p + n) p n (kept p (p + n) out next) (omega arith) (omega arith) fits

@@ -20,7 +20,7 @@ IsSized-tile bytes xs ys at u live was =
       size_is = (header_of bytes xs ys (tile at u live) was).units_is;
     }
 
--- the tile behind
+-- the next tile
 pub next_block : (bytes : List ℕ) (xs ys : List Tile) (at u : ℕ) (live : Bool) (t : Tile) → IsTiled bytes (xs ++ (tile at u live ∷ t ∷ ys)) → (at + 16 * u ≡ t.at) × IsSized bytes (record { at = t.at; units = t.units })
 next_block bytes xs ys at u live t was =
     let parts = around xs (t ∷ ys) heap_start (length bytes) at u live was.filled in

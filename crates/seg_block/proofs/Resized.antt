@@ -1,4 +1,4 @@
--- A live block of another size, and what is left of the gap behind it.
+-- A live block of another size, and what is left of the gap after it.
 use Rattle.std.proofs.Common.{◌≡◌, ◌≢◌, ℕ, ◌+◌, ◌-◌, ◌*◌, ◌<◌, ◌≤◌, true, false, Bool, List, [], ◌∷◌, ◌++◌, length, min, cond, eqb, ltb, leb, Some, None, refl, sym, ap, ◌∙◌, subst, arith, inl, inr, ◌⊎◌, ⊎_elim, le-leb}
 use Rattle.std.specs.Prelude.{Contains}
 use Rattle.std.proofs.lemmas.Bool.Decides.{nat_tests}
@@ -21,7 +21,7 @@ test_same m n e = grind (arith, nat_tests)
 test_other : (m n : ℕ) → m ≢ n → eqb m n ≡ false
 test_other m n e = grind (arith, nat_tests)
 
--- ---- the room behind a block
+-- ---- the room after a block
 
 room_at-front : (xs : List Tile) (gs : List Span) (from to p : ℕ) → Fill from xs to → to < p → room_at (free_of xs ++ gs) p ≡ room_at gs p
 room_at-front [] gs from to p f h = refl
@@ -124,9 +124,9 @@ module _ {allocator : ℕ} (old : List ℕ) (at u : ℕ) (h : IsHeap allocator o
         live_is = new_live ∙ ap (λ l. live_of before ++ record { at = at; units = n } ∷ l) same ∙ sym (resized_is n);
       }
 
-  -- ---- the gap behind
+  -- ---- the gap after
 
-  -- no free tile stands right behind
+  -- no free tile stands right after
   pub gap_none : AreApart false behind → room_at (gaps old) (at + 16 * u) ≡ 0
   gap_none apart = room_is ∙ room_at-apart behind (at + 16 * u) (length old) parts.2 apart
 

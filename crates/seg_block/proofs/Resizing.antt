@@ -1,4 +1,4 @@
--- A live tile takes in the gap behind it, or gives its end back. `Place` is what an allocator has to know of the tiles in front.
+-- A live tile takes in the gap after it, or gives its end back. `Place` is what an allocator has to know of the tiles in front.
 use Rattle.std.proofs.Common.{◌≡◌, ℕ, suc, ◌+◌, ◌*◌, ◌≤◌, true, false, List, [], ◌∷◌, ◌++◌, length, cond, refl, sym, ap, ◌∙◌, subst, arith, ⊎_elim}
 use Rattle.std.specs.Prelude.{Contains}
 use Rattle.std.proofs.lemmas.List.{append_assoc}

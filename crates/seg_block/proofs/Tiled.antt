@@ -15,7 +15,7 @@ abbrev pub EachHeader : (ℕ → ℕ → Type 0) → List Tile → Type 0
 EachHeader misses [] = ⊤
 EachHeader misses (t ∷ ts) = misses t.at (t.at + 12) × EachHeader misses ts
 
--- The places that an allocator keeps for its free structure may change, and so may the bytes from lo up to hi and the word 4 behind hi. `misses` says of a range that it has none of those places.
+-- The places that an allocator keeps for its free structure may change, and so may the bytes from lo up to hi and the word 4 after hi. `misses` says of a range that it has none of those places.
 module _ (old new : List ℕ) (misses : ℕ → ℕ → Type 0) (part_misses : (from to low high : ℕ) → misses from to → from ≤ low → high ≤ to → misses low high) (lo hi : ℕ) (le : lo ≤ hi)
     (kept : (from to : ℕ) → misses from to → (to ≤ lo) ⊎ (hi ≤ from) → (to ≤ hi + 4) ⊎ (hi + 8 ≤ from) → Agrees old new from to) where
   headers_front : (xs : List Tile) (from before : ℕ) → EachHeader misses xs → Fill from xs lo → AreHeaders old before xs → AreHeaders new before xs

@@ -57,7 +57,7 @@ pub record HasEnd (bytes : List ℕ) (ts : List Tile) (at units : ℕ) : Type 0 
 abbrev pub IsLiveBlock : List ℕ → ℕ → ℕ → Type 0
 IsLiveBlock bytes at units = Contains (live bytes) (span at units)
 
--- the units of the gap right behind it, 0 where there is none
+-- the units of the gap right after it, 0 where there is none
 abbrev pub room_after : List ℕ → ℕ → ℕ → ℕ
 room_after bytes at units = room_at (gaps bytes) (at + 16 * units)
 

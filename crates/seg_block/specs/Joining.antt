@@ -4,8 +4,10 @@ use Rattle.seg_spec.specs.Heap.{Tile, AreApart, live_of}
 use Rattle.seg_spec.proofs.TileLaws.{live_after}
 use Rattle.seg_block.specs.Tiling.{tile, IsTiling, Spares}
 
--- the live tile behind xs took in the gap before it, where there is one: it begins at a position now, and is live or free
-pub record JoinsBefore (allocator : ℕ) (live : Bool) (old new : List ℕ) (xs : List Tile) (at units : ℕ) (ys : List Tile) : Type 0 where
+-- the live tile after xs took in the gap before it, where there is one: it begins at a position
+-- now, and is live or free
+pub record JoinsBefore (allocator : ℕ) (live : Bool) (old new : List ℕ) (xs : List Tile)
+    (at units : ℕ) (ys : List Tile) : Type 0 where
   pub front : List Tile
   pub tiling : IsTiling allocator new (front ++ tile at units live ∷ ys)
   pub apart : AreApart true front

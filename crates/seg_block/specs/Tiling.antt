@@ -14,7 +14,7 @@ tile at units live = record { at = at; units = units; live = live }
 abbrev pub tile_of : Block → Bool → Tile
 tile_of b live = tile b.at b.units live
 
--- the units right behind a block as a tile
+-- the units right after a block as a tile
 abbrev pub tile_behind : Block → ℕ → Bool → Tile
 tile_behind b units live = tile (b.at + 16 * b.units) units live
 
@@ -24,7 +24,8 @@ grown b more live = tile b.at (b.units + more) live
 
 -- the two tiles of a block that is cut: the front has these units
 abbrev pub halves : Block → ℕ → Bool → Bool → List Tile
-halves b units front_live back_live = tile b.at units front_live ∷ tile (b.at + 16 * units) (b.units - units) back_live ∷ []
+halves b units front_live back_live =
+    tile b.at units front_live ∷ tile (b.at + 16 * units) (b.units - units) back_live ∷ []
 
 -- these tiles, and a block as the last one
 abbrev pub ending : List Tile → Block → Bool → List Tile
@@ -36,33 +37,38 @@ pub record IsTiled (bytes : List ℕ) (ts : List Tile) : Type 0 where
   pub filled : Fill heap_start ts (length bytes)
   pub headers : AreHeaders bytes 0 ts
 
--- the bytes before the heap but the pointer to the free blocks, and the tag, link and payload of each of these live tiles
+-- the bytes before the heap but the pointer to the free blocks, and the tag, link and payload of
+-- each of these live tiles
 pub record Spares (old new : List ℕ) (ts : List Tile) : Type 0 where
   pub front_kept : Agrees old new 0 FREE
   pub back_kept : Agrees old new (FREE + 4) heap_start
   pub tiles_kept : (b : Span) → Contains (live_of ts) b → Agrees old new (b.at + TAG) (end_of b)
 
--- between the tiles xs and ys there are now the tiles ns, and the first of them kept n bytes of its own tag, link and payload
+-- between the tiles xs and ys there are now the tiles ns, and the first of them kept n bytes of its
+-- own tag, link and payload
 pub record Replaces (old new : List ℕ) (xs ns ys : List Tile) (at n : ℕ) : Type 0 where
   pub tiled : IsTiled new (xs ++ (ns ++ ys))
   pub spared : Spares old new (xs ++ ys)
   pub own_kept : Agrees old new (at + TAG) (at + n)
 
--- these tiles fill the heap with their headers, and the allocator's free structure holds the free ones
+-- these tiles fill the heap with their headers, and the allocator's free
+-- structure holds the free ones
 pub record IsTiling (allocator : ℕ) (bytes : List ℕ) (ts : List Tile) : Type 0 where
   pub tiled : IsTiled bytes ts
   pub free : HoldsGaps allocator bytes (free_of ts)
 
--- between the tiles xs and ys there are now the tiles ns, and the free structure holds the free ones
+-- between the tiles xs and ys there are now the tiles ns, and the free
+-- structure holds the free ones
 pub record Retiles (allocator : ℕ) (old new : List ℕ) (xs ns ys : List Tile) : Type 0 where
   pub tiling : IsTiling allocator new (xs ++ (ns ++ ys))
   pub spared : Spares old new (xs ++ ys)
 
 -- ---- the neighbours of a block, whatever the other tiles are
 
--- what the tile right behind it meets
+-- what the tile right after it meets
 abbrev pub ForNext : List ℕ → Block → (Tile → Type 0) → Type 0
-ForNext bytes b P = (xs ys : List Tile) (l : Bool) (t : Tile) → IsTiled bytes (xs ++ (tile_of b l ∷ t ∷ ys)) → P t
+ForNext bytes b P =
+    (xs ys : List Tile) (l : Bool) (t : Tile) → IsTiled bytes (xs ++ (tile_of b l ∷ t ∷ ys)) → P t
 
 -- what holds where it is the last one
 abbrev pub WhereLast : List ℕ → Block → Type 0 → Type 0
@@ -70,7 +76,8 @@ WhereLast bytes b P = (xs : List Tile) (l : Bool) → IsTiled bytes (xs ++ tile_
 
 -- what the tile right before it meets
 abbrev pub ForPrevious : List ℕ → Block → (Tile → Type 0) → Type 0
-ForPrevious bytes b P = (xs ys : List Tile) (l : Bool) (t : Tile) → IsTiled bytes (xs ++ (t ∷ tile_of b l ∷ ys)) → P t
+ForPrevious bytes b P =
+    (xs ys : List Tile) (l : Bool) (t : Tile) → IsTiled bytes (xs ++ (t ∷ tile_of b l ∷ ys)) → P t
 
 -- what holds where it is the first one
 abbrev pub WhereFirst : List ℕ → Block → Type 0 → Type 0

@@ -1,5 +1,5 @@
 ghost use Rattle.std.specs.Prelude.{◌≡◌, ℕ, ◌+◌, ◌*◌, ◌/◌, ◌%◌, ◌<◌, ◌≤◌, ◌⊎◌, Bool, List, length};
-ghost use Rattle.seg_spec.specs.Window.{with_bytes};
+ghost use Rattle.seg_spec.specs.Window.{with_bytes, KeepsHost};
 ghost use Rattle.seg_spec.specs.Heap.{Tile, Fill, AreHeaders, HoldsGaps, IsHeap, IsLive, Takes, Gives, Expands, Shrinks, Begins, Extends, Cuts, without_last, free_of, shrunk};
 ghost use Rattle.seg_block.specs.Blocks.{block_end, smallest, IsCut, IsLiveBlock, room_after, IsResized};
 ghost use Rattle.seg_block.specs.Extents.{Enlarges};
@@ -32,19 +32,19 @@ pub trait Fit {
 
     /// Makes the heap of a segment, which has room for two units, one gap.
     fn init<A: Allocator>(w: &mut Window<A>)
-        ensures host { w.new ≡ with_bytes w.old w.new.bytes }
+        ensures host { KeepsHost w.old w.new }
         ensures begins { smallest ≤ length w.old.bytes → length w.old.bytes % UNIT ≡ 0
             → Begins code w.old.bytes w.new.bytes };
 
     /// Takes a block of `need` units, or of one more where a single unit would be left. None where no gap has them.
     fn allocate<A: Allocator>(w: &mut Window<A>, need: u32) -> Option<u32>
         requires { 2 ≤ need }
-        ensures host { w.new ≡ with_bytes w.old w.new.bytes }
+        ensures host { KeepsHost w.old w.new }
         ensures takes { IsHeap code w.old.bytes → Takes code w.old.bytes w.new.bytes need result };
 
     /// Gives a live block back. It joins the gaps beside it.
     fn free<A: Allocator>(w: &mut Window<A>, block: u32)
-        ensures host { w.new ≡ with_bytes w.old w.new.bytes }
+        ensures host { KeepsHost w.old w.new }
         ensures gives { IsHeap code w.old.bytes → IsLive w.old.bytes block
             → Gives code w.old.bytes w.new.bytes block };
 
@@ -54,7 +54,7 @@ pub trait Fit {
         requires inside { block_end block + UNIT * room ≤ MAX_LEN }
         requires front { 2 ≤ units }
         requires rest { (units ≡ block.units) ⊎ IsCut (block.units + room) units }
-        ensures host { w.new ≡ with_bytes w.old w.new.bytes }
+        ensures host { KeepsHost w.old w.new }
         ensures same { units ≡ block.units → w.new ≡ w.old }
         ensures resized { IsHeap code w.old.bytes → IsLiveBlock w.old.bytes block.at block.units
             → room ≡ room_after w.old.bytes block.at block.units
@@ -64,7 +64,7 @@ pub trait Fit {
     fn enlarge<A: Allocator>(w: &mut Window<A>, last: Block, units: u32)
         requires inside { last.at + UNIT * units ≤ MAX_LEN }
         requires more { last.units ≤ units }
-        ensures host { w.new ≡ with_bytes w.old w.new.bytes }
+        ensures host { KeepsHost w.old w.new }
         ensures enlarges { (xs : List Tile) (l : Bool)
             → Fill HEAP_START (ending xs last l) (block_end last)
             → AreHeaders w.old.bytes 0 (ending xs last l)
@@ -75,7 +75,7 @@ pub trait Fit {
     /// Cuts the gap at the heap's end, but for two units of a heap that is one gap. Sets the image's size, and returns by
     /// how many units the window can be cut. Of a heap of more than two units that can't be cut the size alone is written.
     fn cut_end<A: Allocator>(w: &mut Window<A>) -> u32
-        ensures host { w.new ≡ with_bytes w.old w.new.bytes }
+        ensures host { KeepsHost w.old w.new }
         ensures cuts { smallest ≤ length w.old.bytes → IsHeap code w.old.bytes
             → Cuts code w.old.bytes w.new.bytes result }
         ensures unchanged { smallest < length w.old.bytes → IsHeap code w.old.bytes → result ≡ 0
@@ -84,7 +84,7 @@ pub trait Fit {
     /// Gives a live block `need` units where it stands, or one more. False where the gap right after it is too small.
     final fn expand<A: Allocator>(w: &mut Window<A>, block: u32, need: u32) -> bool
         requires { 2 ≤ need }
-        ensures host { w.new ≡ with_bytes w.old w.new.bytes }
+        ensures host { KeepsHost w.old w.new }
         ensures expands { (x : ℕ) → IsHeap code w.old.bytes → IsLiveBlock w.old.bytes block x
             → Expands code w.old.bytes w.new.bytes block x need result }
     {
@@ -103,7 +103,7 @@ pub trait Fit {
     /// changes.
     final fn shrink<A: Allocator>(w: &mut Window<A>, block: u32, need: u32)
         requires { 2 ≤ need }
-        ensures host { w.new ≡ with_bytes w.old w.new.bytes }
+        ensures host { KeepsHost w.old w.new }
         ensures shrinks { (x : ℕ) → IsHeap code w.old.bytes → IsLiveBlock w.old.bytes block x
             → need ≤ x → Shrinks code w.old.bytes w.new.bytes block x need }
         ensures unchanged { (x : ℕ) → IsHeap code w.old.bytes → IsLiveBlock w.old.bytes block x
@@ -122,7 +122,7 @@ pub trait Fit {
     /// Takes the last `units` units of the window into the heap, which ended before them, and sets the image's size.
     final fn extend_end<A: Allocator>(w: &mut Window<A>, units: u32)
         requires { UNIT * units ≤ length w.old.bytes }
-        ensures host { w.new ≡ with_bytes w.old w.new.bytes }
+        ensures host { KeepsHost w.old w.new }
         ensures extends { smallest + UNIT * units ≤ length w.old.bytes
             → IsHeap code (without_last w.old.bytes units)
             → Extends code w.old.bytes w.new.bytes units }

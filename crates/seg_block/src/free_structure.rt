@@ -2,7 +2,7 @@
 
 ghost use Rattle.std.specs.Prelude.{◌≡◌, ℕ, ◌+◌, ◌*◌, ◌≤◌, ◌⊎◌, Bool, true, false, List, [], ◌∷◌, ◌++◌, None};
 ghost use Rattle.seg_spec.specs.Bytes.{Agrees};
-ghost use Rattle.seg_spec.specs.Window.{with_bytes};
+ghost use Rattle.seg_spec.specs.Window.{KeepsHost};
 ghost use Rattle.seg_spec.specs.Heap.{Tile, IsHeap, link_at};
 ghost use Rattle.seg_block.specs.Blocks.{block_end, IsCut, IsLiveBlock, room_after, IsResized};
 ghost use Rattle.seg_block.specs.Tiling.{tile, tile_of, tile_behind, grown, halves, IsTiling, Retiles};
@@ -29,7 +29,7 @@ pub trait FreeStructure {
     /// Makes a free block live.
     fn take<A: Allocator>(w: &mut Window<A>, predecessor: Self::Predecessor, block: Block)
         requires { block_end block ≤ MAX_LEN }
-        ensures host { w.new ≡ with_bytes w.old w.new.bytes }
+        ensures host { KeepsHost w.old w.new }
         ensures tiles { (xs ys : List Tile) → leads predecessor xs
             → IsTiling code w.old.bytes (xs ++ tile_of block false ∷ ys)
             → Retiles code w.old.bytes w.new.bytes xs (tile_of block true ∷ []) ys
@@ -38,7 +38,7 @@ pub trait FreeStructure {
     /// Makes a live block free. It joins no gap.
     fn release<A: Allocator>(w: &mut Window<A>, predecessor: Self::Predecessor, block: Block)
         requires { block_end block ≤ MAX_LEN }
-        ensures host { w.new ≡ with_bytes w.old w.new.bytes }
+        ensures host { KeepsHost w.old w.new }
         ensures tiles { (xs ys : List Tile) → leads predecessor xs
             → IsTiling code w.old.bytes (xs ++ tile_of block true ∷ ys)
             → Retiles code w.old.bytes w.new.bytes xs (tile_of block false ∷ []) ys };
@@ -58,7 +58,7 @@ pub fn resize<S: FreeStructure, A: Allocator>(
     requires inside { block_end block + UNIT * room ≤ MAX_LEN }
     requires front { 2 ≤ units }
     requires rest { (units ≡ block.units) ⊎ IsCut (block.units + room) units }
-    ensures host { w.new ≡ with_bytes w.old w.new.bytes }
+    ensures host { KeepsHost w.old w.new }
     ensures same { units ≡ block.units → w.new ≡ w.old }
     ensures resized { IsHeap S.code w.old.bytes → IsLiveBlock w.old.bytes block.at block.units
         → room ≡ room_after w.old.bytes block.at block.units
@@ -84,7 +84,7 @@ pub fn absorb<S: FreeStructure, A: Allocator>(
     more: u32,
 )
     requires { block_end block + UNIT * more ≤ MAX_LEN }
-    ensures host { w.new ≡ with_bytes w.old w.new.bytes }
+    ensures host { KeepsHost w.old w.new }
     ensures none { more ≡ 0 → w.new ≡ w.old }
     ensures tiles { (xs ys : List Tile) → S.leads predecessor xs
         → IsTiling S.code w.old.bytes
@@ -113,7 +113,7 @@ pub fn cut<S: FreeStructure, A: Allocator>(
     requires inside { block_end block ≤ MAX_LEN }
     requires front { 2 ≤ units }
     requires rest { IsCut block.units units }
-    ensures host { w.new ≡ with_bytes w.old w.new.bytes }
+    ensures host { KeepsHost w.old w.new }
     ensures whole { units ≡ block.units → w.new ≡ w.old }
     ensures tiles { units + 2 ≤ block.units → (xs ys : List Tile) → S.leads predecessor xs
         → IsTiling S.code w.old.bytes (xs ++ tile_of block true ∷ ys)

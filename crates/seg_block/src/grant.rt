@@ -1,5 +1,5 @@
 ghost use Rattle.std.specs.Prelude.{◌≡◌, ℕ, ◌≤◌, Option, Some, None};
-ghost use Rattle.seg_spec.specs.Window.{with_bytes};
+ghost use Rattle.seg_spec.specs.Window.{KeepsHost};
 ghost use Rattle.seg_spec.specs.Heap.{IsHeap};
 ghost use Rattle.seg_block.specs.Blocks.{IsLiveBlock};
 ghost use Rattle.seg_block.specs.Request.{Grants, GrantsNew};
@@ -23,7 +23,7 @@ pub fn request_new<F: Fit, A: Allocator>(
 ) -> Option<Grant>
     requires preferred { 2 ≤ preferred }
     requires limit { 2 ≤ limit }
-    ensures host { w.new ≡ with_bytes w.old w.new.bytes }
+    ensures host { KeepsHost w.old w.new }
     ensures grants { IsHeap F.code w.old.bytes
         → GrantsNew F.code w.old.bytes w.new.bytes preferred limit result }
 {
@@ -42,7 +42,7 @@ pub fn request_at<F: Fit, A: Allocator>(
 ) -> Option<Grant>
     requires preferred { 2 ≤ preferred }
     requires limit { 2 ≤ limit }
-    ensures host { w.new ≡ with_bytes w.old w.new.bytes }
+    ensures host { KeepsHost w.old w.new }
     ensures grants { (x : ℕ) → IsHeap F.code w.old.bytes → IsLiveBlock w.old.bytes block x
         → Grants F.code w.old.bytes w.new.bytes block x preferred limit result }
 {
@@ -70,7 +70,7 @@ pub fn request<F: Fit, A: Allocator>(
 ) -> Option<Grant>
     requires preferred { 2 ≤ preferred }
     requires limit { 2 ≤ limit }
-    ensures host { w.new ≡ with_bytes w.old w.new.bytes }
+    ensures host { KeepsHost w.old w.new }
     ensures same { (at x : ℕ) → old ≡ Some at → IsHeap F.code w.old.bytes
         → IsLiveBlock w.old.bytes at x
         → Grants F.code w.old.bytes w.new.bytes at x preferred limit result }

@@ -1,4 +1,4 @@
-ghost use Rattle.std.specs.Prelude.{◌≡◌, ℕ, ◌<◌, ◌≤◌, ◌==◌, ◌↔◌, ◌%◌, ◌+◌, ◌++◌, [], map, sum_by, length, slice_get, IsOk, IfOk, IfErr, IfSome};
+ghost use Rattle.std.specs.Prelude.{◌≡◌, ℕ, ◌<◌, ◌≤◌, ◌==◌, ◌↔◌, ◌%◌, ◌*◌, ◌+◌, ◌++◌, [], map, sum_by, length, slice_get, IsOk, IfOk, IfErr, IfSome};
 ghost use Rattle.arrayvec.specs.ArrayVec.{array_vec_len};
 ghost use Rattle.seg_spec.specs.Types.{Table, Agree, IsFirstDifference, longer, fields_of, fields_from, pointers, IsTable, form_at, entry_at, size, Spells, IsWrong, IsFirstWrong};
 ghost use Rattle.seg_layout.specs.Forms.{cell_of, form_of, map_option, has_cells};
@@ -45,8 +45,11 @@ impl TypeTable {
     pub fn read(bytes: &[u8]) -> Result<TypeTable, Fault>
         ensures right { IsOk result ↔ ((k : ℕ) → IsWrong bytes.now k → ⊥) }
         ensures table { IfOk result (λ table. IsTable table × Spells bytes.now table) }
-        ensures wrong { IfErr result (λ fault. (k : ℕ) × (fault ≡ Fault.BadType k) × IsFirstWrong bytes.now k) }
-        ensures given { (table : Table) → IsTable table → Spells bytes.now table → length bytes.now % 16 ≡ 0 → length bytes.now ≤ 512 → result ≡ Ok table }
+        ensures wrong { IfErr result (λ fault.
+            (k : ℕ) × (fault ≡ Fault.BadType k) × IsFirstWrong bytes.now k) }
+        ensures given { (table : Table) → IsTable table → Spells bytes.now table →
+            length bytes.now % ENTRY ≡ 0 →
+            length bytes.now ≤ ENTRY * MAX_TYPES → result ≡ Ok table }
     {
         let mut entries = ArrayVec::new();
         for index in 0..bytes.len().div_ceil(ENTRY) {
@@ -61,7 +64,7 @@ impl TypeTable {
 
     pub fn len(&self) -> usize
         ensures len { result ≡ length self.now }
-        ensures few { result ≤ 32 }
+        ensures few { result ≤ MAX_TYPES }
     {
         self.entries.len()
     }
@@ -167,7 +170,8 @@ impl TypeTable {
     fn push_fields(&self, pending: &mut ArrayVec<Cell, MAX_CELLS>, start: u32, fields: &Fields)
         requires room { array_vec_len pending.old + length fields.now ≤ 512 }
         requires fits { start + sum_by (size self.now) fields.now ≤ 4096 }
-        ensures { map cell_of pending.new.items ≡ map cell_of pending.old.items ++ fields_from self.now start fields.now }
+        ensures { map cell_of pending.new.items
+            ≡ map cell_of pending.old.items ++ fields_from self.now start fields.now }
     {
         let mut from = start;
         for field in fields.as_slice() {
@@ -194,7 +198,8 @@ impl TypeTable {
     pub fn extends(&self, other: &TypeTable) -> Result<TypeTable, Fault>
         ensures agree { IsOk result ↔ Agree self.now other.now }
         ensures longer { IfOk result (λ table. table ≡ longer self.now other.now) }
-        ensures differs { IfErr result (λ fault. (k : ℕ) × (fault ≡ Fault.TypeMismatch k) × IsFirstDifference self.now other.now k) }
+        ensures differs { IfErr result (λ fault.
+            (k : ℕ) × (fault ≡ Fault.TypeMismatch k) × IsFirstDifference self.now other.now k) }
     {
         let (mine, theirs) = (self.entries.as_slice(), other.entries.as_slice());
         for index in 0..mine.len().min(theirs.len()) {

@@ -30,7 +30,7 @@ pub const FREE: usize = 24;
 /// A word that is 0.
 const ZERO: usize = 28;
 
-/// The index cell: a pointer to the entries, and behind it the number of names.
+/// The index cell: a pointer to the entries, and after it the number of names.
 pub const INDEX: usize = 32;
 
 /// Bytes that are 0, up to the type table.
@@ -44,7 +44,8 @@ pub const UNIQUES: usize = 576;
 
 /// Whether a segment begins as an image does, in the version that this library reads.
 pub fn is_current<A: Allocator>(w: &Window<A>) -> bool
-    ensures { IsTrue result ↔ ((slice w.now.bytes 0 8 ≡ codes "SEGIMAGE") × (word w.now.bytes 8 ≡ 1)) }
+    ensures { IsTrue result
+        ↔ ((slice w.now.bytes 0 8 ≡ codes "SEGIMAGE") × (word w.now.bytes 8 ≡ 1)) }
 {
     w.slice(0, MAGIC.len()) == MAGIC && w.get32(VERSION) == CURRENT_VERSION
 }
@@ -59,7 +60,8 @@ pub fn begin<A: Allocator>(w: &mut Window<A>)
 
 /// Whether the bytes of the header are 0 that are so in every image.
 pub fn has_zeros<A: Allocator>(w: &Window<A>) -> bool
-    ensures { IsTrue result ↔ ((word w.now.bytes 28 ≡ 0) × (slice w.now.bytes 40 24 ≡ replicate 24 0)) }
+    ensures { IsTrue result
+        ↔ ((word w.now.bytes 28 ≡ 0) × (slice w.now.bytes 40 24 ≡ replicate 24 0)) }
 {
     w.get32(ZERO) == 0 && w.slice(RESERVED, TYPES - RESERVED) == [0; TYPES - RESERVED].as_slice()
 }

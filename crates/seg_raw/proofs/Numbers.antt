@@ -6,7 +6,7 @@ use Rattle.std.specs.List.{copy_within}
 use Rattle.seg_spec.specs.Bytes.{slice, spelled, spelling, number, put, set_number}
 use Rattle.seg_spec.proofs.BytesLaws.{length-slice, number_in, put_in, set_number_in}
 
--- the number in the w bytes from place k behind a position on, byte by byte
+-- the number in the w bytes from place k after a position on, byte by byte
 abbrev read_from : ℕ → List ℕ → ℕ → ℕ → ℕ
 read_from zero bytes at k = 0
 read_from (suc w) bytes at k = get_or bytes (at + k) 0 + 256 * read_from w bytes at (k + 1)

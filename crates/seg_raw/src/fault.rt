@@ -5,7 +5,7 @@ use std::alloc::AllocError;
 use thiserror::Error;
 
 /// Why a call of the host was refused, and where. Positions are bytes from the start of the segment or of the file.
-/// `Display` writes the line that the program prints: `fault`, the code, and the numbers.
+/// `Display` writes the line that the program prints: `fault`, its number, and what it holds.
 #[derive(Debug, Clone, Copy, PartialEq, Eq, Error)]
 pub enum Fault {
     /// A request for host memory was refused.
@@ -71,7 +71,7 @@ impl Fault {
     ghost use Rattle.seg_raw.specs.Refusals.{fault_number};
 
     /// The fault's number, as printed.
-    pub fn code(self) -> u8
+    pub fn number(self) -> u8
         ensures { result ≡ fault_number self }
     {
         match self {

@@ -17,7 +17,7 @@ use Rattle.seg_block.proofs.ReadFree.{found_never, read_is_free, read_is_live}
 never : true ≡ false → ⊥
 never e = cc
 
--- ---- the join with what is behind
+-- ---- the join with what is after
 
 pub joins_none : (bytes : List ℕ) (xs ys : List Tile) (at u : ℕ) → IsTiling 0 bytes (xs ++ tile at u false ∷ ys) → AreApart true ys
     → ((zs vs : List Tile) (l : Bool) (t : Tile) → IsTiled bytes (zs ++ (tile at u l ∷ t ∷ vs)) → IsReadFree t None) → JoinsAfter bytes bytes xs at u ys

@@ -1,4 +1,4 @@
--- A free tile takes in the tile right behind it.
+-- A free tile takes in the tile right after it.
 use Rattle.std.proofs.Common.{◌≡◌, ℕ, ◌+◌, ◌*◌, ◌%◌, ◌≤◌, true, false, List, [], ◌∷◌, ◌++◌, length, None, refl, ap, ◌∙◌, arith, inl, inr}
 use Rattle.seg_spec.specs.Bytes.{word, set_word}
 use Rattle.seg_spec.specs.Pointer.{target, distance, set_pointer}
@@ -94,7 +94,7 @@ module _ (old : List ℕ) (xs ys : List Tile) (at u v : ℕ) (was : IsTiling 0 o
     spared = spares old joined xs (tile at u false ∷ tile behind v false ∷ []) (tile at (u + v) false ∷ []) ys at hi was first.0 middle back (local (link_behind 24 xs));
   }
 
--- a free tile takes in the live tile right behind it, and the list stays
+-- a free tile takes in the live tile right after it, and the list stays
 module _ (old : List ℕ) (xs ys : List Tile) (at u v : ℕ) (was : IsTiling 0 old (xs ++ (tile at u false ∷ tile (at + 16 * u) v true ∷ ys))) where
   abbrev widened : List ℕ
   widened = set_size old at (u + v) false

@@ -10,7 +10,7 @@ use Rattle.seg_seqfit.specs.Retiling.{link_behind}
 use Rattle.seg_block.proofs.LiveTiles.{cons_cases}
 use Rattle.seg_block.proofs.Heaps.{target-agrees}
 
--- ---- where the pointer word behind some tiles lies
+-- ---- where the pointer word after some tiles lies
 
 pub link_behind-low : (ts : List Tile) (p from to : ℕ) → p + 4 ≤ from → Fill from ts to → link_behind p ts + 4 ≤ to
 link_behind-low [] p from to low f = omega (arith, f)
@@ -53,7 +53,7 @@ Links-behind bytes (t ∷ xs) ys p last l =
     [ true ↦ (λ l. Links-behind bytes xs ys p last l) | false ↦ (λ l. Links-behind bytes xs ys (t.at + 12) last l.1) ] in
     go l
 
--- the words before the one behind some tiles stay, and what that one begins is changed
+-- the words before the one after some tiles stay, and what that one begins is changed
 pub Links-changed : (old new : List ℕ) (xs ys zs : List Tile) (p from to : ℕ) (last last' : Option ℕ) → p + 4 ≤ from → Fill from xs to → Agrees old new p (link_behind p xs)
     → Links old p (free_of (xs ++ ys)) last → Links new (link_behind p xs) (free_of zs) last' → Links new p (free_of (xs ++ zs)) last'
 Links-changed old new [] ys zs p from to last last' low f same l l' = l'
@@ -75,7 +75,7 @@ Links-changed old new (t ∷ xs) ys zs p from to last last' low f same l l' =
     within (inl e) = omega arith
     within (inr h) = omega (arith, f.0, f.1)
 
--- the list behind one word, moved to another word
+-- the list after one word, moved to another word
 pub Links-moved : (old new : List ℕ) (ts : List Tile) (p q from to : ℕ) (last : Option ℕ) → target new q ≡ target old p → Agrees old new (from + 8) to → Fill from ts to → Links old p (free_of ts) last → Links new q (free_of ts) last
 Links-moved old new [] p q from to last e same f l = e ∙ l
 Links-moved old new (t ∷ ts) p q from to last e same f l =
@@ -104,14 +104,14 @@ names_tile bytes (s ∷ ts) p from to t aligned f l e =
     same : Some t ≡ Some (s.at + 16) → t ≡ s.at + 16
     same h = cc
 
--- ---- a live tile lies beside the pointer word behind the tiles
+-- ---- a live tile lies beside the pointer word after the tiles
 
 beside_own : (ts : List Tile) (p from to : ℕ) (t : Tile) (b : Span) → p + 4 ≤ from → t.at ≡ from → Fill (from + 16 * t.units) ts to → span_of t ≡ b → (end_of b ≤ link_behind p ts) ⊎ (link_behind p ts + 4 ≤ b.at)
 beside_own ts p from to t b low at_is f e =
     subst (λ (s : Span). (end_of s ≤ link_behind p ts) ⊎ (link_behind p ts + 4 ≤ s.at)) e
     (⊎_elim (λ is. inr (omega arith)) (λ above. inl (omega arith)) (link_behind-cases ts p (from + 16 * t.units) to f))
 
--- a live tile lies beside the pointer word behind the tiles
+-- a live tile lies beside the pointer word after the tiles
 pub live_beside_link : (ts : List Tile) (p from to : ℕ) (b : Span) → p + 4 ≤ from → Fill from ts to → Contains (live_of ts) b → (end_of b ≤ link_behind p ts) ⊎ (link_behind p ts + 4 ≤ b.at)
 live_beside_link [] p from to b low f (n, k, e) = absurd (omega arith)
 live_beside_link (t ∷ ts) p from to b low f c =

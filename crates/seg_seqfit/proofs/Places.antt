@@ -1,4 +1,4 @@
--- The pointer word that an allocator without looks needs: the one behind the free tiles in front.
+-- The pointer word that an allocator without looks needs: the one after the free tiles in front.
 use Rattle.std.proofs.Common.{◌≡◌, ℕ, List, sym, ap, ◌∙◌}
 use Rattle.seg_spec.specs.Heap.{Tile, gaps, tiles, IsHeap}
 use Rattle.seg_block.proofs.FreeTiles.{HasFree, around_gap}

@@ -16,7 +16,7 @@ use Rattle.seg_block.proofs.Tiled.{EachHeader, retiled, spared_tiles}
 use Rattle.seg_seqfit.proofs.LinkLaws.{link_behind-low, link_behind-off, link_behind-cases, Links-behind, Links-changed, Links-moved, live_beside_link}
 use Rattle.seg_block.proofs.LiveTiles.{live_within}
 
--- only a pointer word, the bytes from lo up to hi, and the word 4 behind hi may change
+-- only a pointer word, the bytes from lo up to hi, and the word 4 after hi may change
 pub record IsLocal (old new : List ℕ) (link lo hi : ℕ) : Type 0 where
   pub length_kept : length new ≡ length old
   pub kept : (from to : ℕ) → (to ≤ link) ⊎ (link + 4 ≤ from) → (to ≤ lo) ⊎ (hi ≤ from) → (to ≤ hi + 4) ⊎ (hi + 8 ≤ from) → Agrees old new from to

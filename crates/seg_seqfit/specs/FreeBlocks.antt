@@ -4,7 +4,7 @@ use Rattle.seg_spec.specs.Heap.{Span, first_fit, span}
 use Rattle.seg_ptr.specs.declared.header.TheConstants.{FREE}
 use Rattle.seg_block.specs.declared.header.TheConstants.{LINK}
 
--- the pointer word behind these free blocks
+-- the pointer word after these free blocks
 abbrev pub link_after : ℕ → List Span → ℕ
 link_after at [] = at
 link_after at (g ∷ gs) = link_after (g.at + LINK) gs

@@ -1,7 +1,7 @@
 //! Changes of the tiles that keep the free list.
 
 ghost use Rattle.std.specs.Prelude.{◌≡◌, ℕ, ◌+◌, ◌*◌, ◌≤◌, true, false, List, [], ◌∷◌, ◌++◌};
-ghost use Rattle.seg_spec.specs.Window.{with_bytes};
+ghost use Rattle.seg_spec.specs.Window.{KeepsHost};
 ghost use Rattle.seg_spec.specs.Heap.{Tile, AreApart};
 ghost use Rattle.seg_block.specs.Joining.{JoinsBefore};
 ghost use Rattle.seg_block.specs.Blocks.{block_end};
@@ -50,7 +50,7 @@ impl FreeStructure for SeqFit {
 pub(crate) fn release_joined<A: Allocator>(w: &mut Window<A>, block: Block) -> Block
     requires { block_end block ≤ MAX_LEN }
     ensures bounds { block_end result ≤ MAX_LEN }
-    ensures host { w.new ≡ with_bytes w.old w.new.bytes }
+    ensures host { KeepsHost w.old w.new }
     ensures joins { (xs ys : List Tile)
         → IsTiling 0 w.old.bytes (xs ++ tile_of block true ∷ ys) → AreApart true xs
         → JoinsBefore 0 false w.old.bytes w.new.bytes xs result.at result.units ys }
@@ -70,7 +70,7 @@ pub(crate) fn release_joined<A: Allocator>(w: &mut Window<A>, block: Block) -> B
 /// Joins a free block with the free block right after it.
 pub(crate) fn merge<A: Allocator>(w: &mut Window<A>, front: Block, rest: Block)
     requires { block_end front + UNIT * rest.units ≤ MAX_LEN }
-    ensures host { w.new ≡ with_bytes w.old w.new.bytes }
+    ensures host { KeepsHost w.old w.new }
     ensures tiles { (xs ys : List Tile)
         → IsTiling 0 w.old.bytes
         (xs ++ (tile_of front false ∷ tile_behind front rest.units false ∷ ys))
@@ -85,7 +85,7 @@ pub(crate) fn merge<A: Allocator>(w: &mut Window<A>, front: Block, rest: Block)
 pub(crate) fn merge_after<A: Allocator>(w: &mut Window<A>, front: Block) -> Block
     requires { block_end front ≤ MAX_LEN }
     ensures bounds { (result.at ≡ front.at) × (block_end result ≤ MAX_LEN) }
-    ensures host { w.new ≡ with_bytes w.old w.new.bytes }
+    ensures host { KeepsHost w.old w.new }
     ensures joins { (xs ys : List Tile)
         → IsTiling 0 w.old.bytes (xs ++ tile_of front false ∷ ys) → AreApart true ys
         → JoinsAfter w.old.bytes w.new.bytes xs front.at result.units ys }

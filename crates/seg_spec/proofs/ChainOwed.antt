@@ -18,7 +18,7 @@ module _ (bytes : List ℕ) (table : Table) (T U : ℕ) (f : form_at table T ≡
   abbrev pub items_in : List ℕ → List Place
   items_in nodes = places_of U (map (λ p. p + 8) nodes)
 
-  -- what goes with a node: itself, those behind it, and what their values own
+  -- what goes with a node: itself, those after it, and what their values own
   pub record ChainOwes (x : ℕ) (nodes owned : List ℕ) : Type 0 where
     pub blocks : List ℕ
     pub counts : (h : ℕ) → times h blocks ≡ times h (map block_of nodes) + times h owned

@@ -73,7 +73,7 @@ same_selector (Label.map keys) (Selector.key a) (Selector.key b) i e f = ap Sele
 same_selector Label.opt Selector.content Selector.content i e f = refl
 same_selector label s t i e f = cc
 
--- an element of a list is one before another, that one, or one behind it
+-- an element of a list is one before another, that one, or one after it
 pub placed_beside : {X : Type 0} (before : List X) (x : X) (after : List X) (i : ℕ) (y : X) → slice_get (before ++ x ∷ after) i ≡ Some y
     → (slice_get before i ≡ Some y) ⊎ (((i ≡ length before) × (y ≡ x)) ⊎ ((k : ℕ) × (slice_get after k ≡ Some y)))
 placed_beside [] x after zero y e = inr (inl (refl, let f : x ≡ y = cc in sym f))

@@ -15,7 +15,7 @@ use Rattle.seg_spec.proofs.CellLaws.{cells-form}
 
 -- ---- the cells of a struct are those of its fields
 
--- of each cell of fields that stand one behind the other
+-- of each cell of fields that stand one after the other
 abbrev pub EachField : Table → ℕ → List ℕ → (ℕ → Option Form → Type 0) → Type 0
 EachField table n [] P = Unit {0}
 EachField table n (U ∷ Us) P = EachCell table U (λ d form. P (n + d) form) × EachField table (n + size table U) Us P

@@ -37,7 +37,7 @@ module _ (bytes : List ℕ) (table : Table) where
   pub owes_begins : (p : ℕ) (blocks : List ℕ) → Owes bytes table p blocks → Begins p blocks
   owes_begins p blocks (owes kind T values links xs ys o parts more is) = record { rest = xs ++ ys; blocks_are = is; behind_header = shown_low p kind T (form_at table T) values links o }
 
-  -- a first one that waits stands behind the header of a block that goes with it
+  -- a first one that waits stands after the header of a block that goes with it
   pub waits_begins : (q : ℕ) (first : Option ℕ) (blocks : List ℕ) → first ≡ Some q → Waits bytes table first blocks → (16 ≤ q) × (1 ≤ times (block_of q) blocks)
   waits_begins q first blocks e none_waits = absurd (cc)
   waits_begins q first blocks e (waits {p = p} {xs = xs} {ys = ys} next o link more) =

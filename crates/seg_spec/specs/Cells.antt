@@ -1,11 +1,15 @@
 -- The cells of a place, and how they change together.
 --     IsWithin bytes at n                n bytes from a position on lie in the bytes of a segment
---     EachCell table T P                 P holds of each cell of a type: of its distance, and of the form of its own type
---     ChangesCells R old new table at T  only the value of the type at a position changed, each cell as R says
+--     EachCell table T P                 P holds of each cell of a type: of its distance, and of
+--                                        the form of its own type
+--     ChangesCells R old new table at T  only the value of the type at a position
+--                                        changed, each cell as R says
 --     Shifts old new table before T each from to n   entries were moved, with the distances in them
 --     IsDefaulted old new at form        the cell is 0 now, or empty
---     IsMoved old new from to form       the cell is what another one was before: it names the same, and counts the same
---     IsFurther old new n at form        the distance in the cell is greater by n, unless it names nothing
+--     IsMoved old new from to form       the cell is what another one was before: it names the
+--                                        same, and counts the same
+--     IsFurther old new n at form        the distance in the cell is greater by
+--                                        n, unless it names nothing
 use Rattle.std.specs.Prelude.{◌≡◌, ℕ, ◌+◌, ◌*◌, ◌%◌, ◌^◌, ◌==◌, ◌≤◌, ◌⊎◌, if◌then◌else◌, List, length, map, Option, Some}
 use Rattle.std.specs.List.{AllByRecursion}
 use Rattle.seg_spec.specs.Bytes.{slice, put, word, long, IsSame, ChangesOnly}
@@ -49,7 +53,8 @@ pub record ChangesCells (R : List ℕ → List ℕ → ℕ → Option Form → T
   pub changes : ChangesOnly old new at (size table T)
   pub cells : EachCell table T (λ d form. R old new (at + d) form)
 
--- the same of values of the type at these positions, which stand in n bytes; what lies beside each of them is kept
+-- the same of values of the type at these positions, which stand in n bytes; what lies
+-- beside each of them is kept
 pub record ChangesEach (R : List ℕ → List ℕ → ℕ → Option Form → Type 0)
     (old new : List ℕ) (table : Table) (T at n : ℕ) (positions : List ℕ) : Type 0 where
   pub changes : ChangesOnly old new at n
@@ -57,8 +62,8 @@ pub record ChangesEach (R : List ℕ → List ℕ → ℕ → Option Form → Ty
   pub beside : (q m : ℕ) → AllByRecursion (λ p. (q + m ≤ p) ⊎ (p + size table T ≤ q)) positions →
       IsSame old new q m
 
--- n entries of some bytes each, with a value of the type behind so many bytes, were copied, and the distances in the values
--- are greater by how much closer the entries are now
+-- n entries of some bytes each, with a value of the type after so many bytes, were copied, and the
+-- distances in the values are greater by how much closer the entries are now
 pub record Shifts (old new : List ℕ) (table : Table) (before T each from to n : ℕ) : Type 0 where
   pub distance : ℕ
   pub back : (to + distance) % 2 ^ 32 ≡ from

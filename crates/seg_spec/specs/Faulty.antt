@@ -1,9 +1,12 @@
 -- Parts of what an image is, for telling what is wrong with one.
 --     IsImageLength n            a length that an image may have
---     HasTiles bytes table       tiles in order by themselves: all of the heap but the free structure
+--     HasTiles bytes table       tiles in order by themselves: all of the
+--                                heap but the free structure
 --     HoldsAll bytes             all of a sound image but one owner for each live block
---     LacksHeader, LacksType, LacksTiles, LacksGaps, LacksContent, LacksOwner   what is wrong, where all before it is right
---     Lacks bytes failure        the same by a name for each but the last, which is a case of the one before it
+--     LacksHeader, LacksType, LacksTiles, LacksGaps, LacksContent, LacksOwner
+--         what is wrong, where all before it is right
+--     Lacks bytes failure        the same by a name for each but the last, which is a
+--                                case of the one before it
 use Rattle.std.specs.Prelude.{◌≡◌, ℕ, ◌%◌, ◌^◌, ◌≤◌, true, List, [], ◌++◌, length}
 use Rattle.std.specs.List.{AllByRecursion}
 use Rattle.seg_spec.specs.Bytes.{word, slice}
@@ -25,8 +28,8 @@ pub record HasTiles (bytes : List ℕ) (table : Table) : Type 0 where
   pub apart : AreApart true (tiles bytes)
   pub ownable : AllByRecursion (λ b. IsOwnable bytes table b.at) (live bytes)
 
--- Laid out, each value reads, and all blocks that the index and the roots name are live ones, which may have several owners
--- or none.
+-- Laid out, each value reads, and all blocks that the index and the roots name are live ones, which
+-- may have several owners or none.
 pub record HoldsAll (bytes : List ℕ) : Type 0 where
   pub picture : Picture
   pub none_loose : picture.loose ≡ []

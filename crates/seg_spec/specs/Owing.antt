@@ -1,6 +1,6 @@
 -- Blocks that wait to be destroyed, and what goes with each.
 --     OpensBlock bytes table p values links    what a waiting block shows by itself: the values in it, and the words that may name further nodes
---     Owes bytes table p blocks                the block with payload p goes with these: itself, what its values own, and the nodes behind it
+--     Owes bytes table p blocks                the block with payload p goes with these: itself, what its values own, and the nodes after it
 --     Waits bytes table first blocks           blocks that are linked from a first one on, with all that goes with them
 use Rattle.std.specs.Prelude.{◌≡◌, ℕ, ◌+◌, ◌/◌, ◌⊎◌, ⊤, List, [], ◌∷◌, ◌++◌, map, Option, Some, None}
 use Rattle.seg_spec.specs.Pointer.{target}
@@ -16,7 +16,7 @@ abbrev pub NamesNothing : List ℕ → ℕ → Option Form → Type 0
 NamesNothing bytes at (Some Form.i64) = ⊤
 NamesNothing bytes at _ = target bytes at ≡ None
 
--- a value that waits holds something and owns these blocks, or its cells name nothing, as behind the items of a buffer
+-- a value that waits holds something and owns these blocks, or its cells name nothing, as after the items of a buffer
 abbrev pub IsPart : List ℕ → Table → Place → List ℕ → Type 0
 IsPart bytes table place blocks =
     ((v : Value) × Holds bytes table place v blocks) ⊎ (EachCell table place.type (λ d form. NamesNothing bytes (place.at + d) form) × (blocks ≡ []))

@@ -1,4 +1,4 @@
--- Paths that go on behind a place, and those after its buffer was cut.
+-- Paths that go on after a place, and those after its buffer was cut.
 use Rattle.std.proofs.Common.{◌≡◌, ℕ, ◌<◌, ◌⊎◌, inl, inr, List, ◌∷◌, ◌++◌, length, Some, sym, ap, ◌∙◌, subst, arith}
 use Rattle.std.proofs.lemmas.List.{length-append}
 use Rattle.std.specs.Prelude.{slice_get}
@@ -25,7 +25,7 @@ same_part bytes table form other_form opened other place s i k part other_part e
     let b : Some other_part ≡ Some part = sym is' ∙ ap (λ (x : Opened). slice_get x.parts k) (sym same) ∙ ap (slice_get opened.parts) (sym at) ∙ is in
     cc
 
--- what goes on behind a path goes on from where it leads
+-- what goes on after a path goes on from where it leads
 pub Leads-behind : (bytes : List ℕ) (table : Table) {place inner target : Place} {path more : List Selector} → Leads bytes table place path inner → Leads bytes table place (path ++ more) target → Leads bytes table inner more target
 Leads-behind bytes table here l = l
 Leads-behind bytes table {place = place} {target = target} {more = more} (into {s = s} {path = path} form opened i part f o index part_is rest) (into other_form other k other_part g p index' other_is l) =
@@ -59,7 +59,8 @@ module _ (old new : List ℕ) (table : Table) (root : Root) (j : ℕ) (path : Li
           let whole = Leads-append new table leads_then (inside more target rest) in
           subst (λ p. Leads new table (item_of table root i) p target) (sym b.1.2) (subst (λ n. Leads new table (item_of table root n) (path ++ more) target) (sym b.0) whole)
 
-pub after_a_cut : (old new : List ℕ) (picture : Picture) (held : IsHeld old picture) (which : Listed) (before : List Root) (root : Root) (after : List Root) (j : ℕ) (path : List Selector) (inner : Place) (form : Form) (v : Value) (blocks others : List ℕ)
+pub after_a_cut : (old new : List ℕ) (picture : Picture) (held : IsHeld old picture) (which : Listed) (before : List Root) (root : Root) (after : List Root)
+    (j : ℕ) (path : List Selector) (inner : Place) (form : Form) (v : Value) (blocks others : List ℕ)
     → roots_in picture which ≡ before ++ root ∷ after → j < count root.values → Leads old picture.table (item_of picture.table root j) path inner → Holds old picture.table inner v blocks
     → ShrinksPlace old new picture.table inner form v blocks others
     → KeepsPaths old new picture.table root × AllByRecursion (KeepsPaths old new picture.table) (roots_before picture which before ++ roots_after picture which after)

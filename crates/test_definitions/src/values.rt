@@ -79,7 +79,8 @@ pub fn more_types()
 /// A value whose cells move, and name there what they named, is the same value at its new place, where the blocks that it
 /// owns are kept.
 pub fn moving()
-    ensures { (old new : List ℕ) (table : Table) (place : Place) (to : ℕ) (v : Value) (blocks : List ℕ) →
+    ensures { (old new : List ℕ) (table : Table) (place : Place) (to : ℕ) (v : Value)
+        (blocks : List ℕ) →
         IsTable table → Holds old table place v blocks →
         EachCell table place.type (λ d form. IsMoved old new (place.at + d) (to + d) form) →
         AllByRecursion (KeepsBlock old new) blocks →

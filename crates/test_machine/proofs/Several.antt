@@ -1,4 +1,4 @@
--- Several clients, one after the other: each stays within its bound, and the image behind the last is one again.
+-- Several clients, one after the other: each stays within its bound, and the image after the last is one again.
 use Rattle.std.proofs.Common.{◌≡◌, ◌≢◌, ℕ, ◌≤◌, List, [], ◌∷◌, sym, ap, ◌∙◌, subst}
 use Rattle.seg_spec.specs.Types.{Table, Agree, longer}
 use Rattle.seg_spec.specs.Sound.{Picture, IsHeld}
@@ -11,7 +11,7 @@ use Rattle.client_spec.specs.Clients.{IsVerified, AreAccepted, given_next, GoesO
 use Rattle.test_machine.proofs.Simulated.{run_of_states, client_within_bound}
 use Rattle.test_machine.proofs.Stopped.{run_writes}
 
--- the table behind one client
+-- the table after one client
 table_left : (client : Client) (given : Given) (left : Left) (table : Table) (picture : Picture) → IsHeld given.image picture → picture.table ≡ table → (runs : RunsClient client given left)
     → runs.is_left.picture.table ≡ longer table client.types
 table_left client given left table picture held is runs =

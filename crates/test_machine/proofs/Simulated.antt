@@ -53,7 +53,10 @@ module _ (constants : List Constant) (others : List Root) (moves : List Move) wh
   turns_maps register zero a c f = nothing_maps
   turns_maps register (suc turns) a c f = turn_maps (then_maps _ _ _ _ step_maps (then_maps _ _ _ _ f (turns_maps register turns a c f)))
     where
-      turn_maps : Maps (Then Situation (Step Situation (TickOn moves)) (Then Situation a (Turns Situation (image_machine constants others moves) register turns a))) (Then State (Step State (λ s s'. s' ≡ s)) (Then State c (Turns State (plain_machine constants) register turns c))) → Maps (Turns Situation (image_machine constants others moves) register (suc turns) a) (Turns State (plain_machine constants) register (suc turns) c)
+      turn_maps : Maps
+          (Then Situation (Step Situation (TickOn moves)) (Then Situation a (Turns Situation (image_machine constants others moves) register turns a)))
+          (Then State (Step State (λ s s'. s' ≡ s)) (Then State c (Turns State (plain_machine constants) register turns c)))
+          → Maps (Turns Situation (image_machine constants others moves) register (suc turns) a) (Turns State (plain_machine constants) register (suc turns) c)
       turn_maps g = record { each = λ x y n end w. by x y n end w }
         where
           by : (x y : Situation) (n : ℕ) (end : Ending) → Turns Situation (image_machine constants others moves) register (suc turns) a x y n end → Turns State (plain_machine constants) register (suc turns) c x.state y.state n end
@@ -73,7 +76,8 @@ module _ (constants : List Constant) (others : List Root) (moves : List Move) wh
     one_maps (opener i on_success on_code) = performs_maps i _ _ _ _ (run_maps on_success) (run_maps on_code)
     one_maps (loop i body) = then_maps _ _ _ _ step_maps (turns_maps i.b (nat_abs i.number) _ _ (run_maps body))
 
-pub run_of_states : (constants : List Constant) (others : List Root) (moves : List Move) (code : Statements) (x y : Situation) (n : ℕ) (end : Ending) → Run Situation (image_machine constants others moves) code x y n end → Run State (plain_machine constants) code x.state y.state n end
+pub run_of_states : (constants : List Constant) (others : List Root) (moves : List Move) (code : Statements) (x y : Situation) (n : ℕ) (end : Ending)
+    → Run Situation (image_machine constants others moves) code x y n end → Run State (plain_machine constants) code x.state y.state n end
 run_of_states constants others moves code x y n end w = (run_maps constants others moves code).each x y n end w
 
 pub client_within_bound : (client : Client) (given : Given) (left : Left) → IsClient client → IsAccepted client → (runs : RunsClient client given left)

@@ -22,7 +22,7 @@ sound_behind image texts input room base moves lefts o =
     let last = held_behind o.clients given lefts o.sound.picture o.sound.held o.sound.none_loose o.runs in
     (all_within o.sound.picture.table texts o.clients given lefts o.sound.picture o.sound.held refl o.accepted o.runs, record { picture = last.0; held = last.1; none_loose = last.2 })
 
--- the client of a text, and that it is verified behind those before it
+-- the client of a text, and that it is verified after those before it
 its_client : (table : Table) (texts : List (List ℕ)) (clients before : List Client) (k : ℕ) (text : List ℕ) → AreAccepted table texts clients → AreAccepted table (take k texts) before → slice_get texts k ≡ Some text
     → (client : Client) × Spells text client × IsVerified (table_behind table before) client
 its_client table [] clients before k text a b e = cc

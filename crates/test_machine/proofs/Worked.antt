@@ -28,7 +28,8 @@ fits n h = search (arith, ints)
 
 module _ (types : Table) (constants : List Constant) where
   -- an instruction whose operands are registers, by what each of them has to be
-  simple : (o : Operation) (role : Role) (a b c n : ℕ) → (row_of o).role ≡ role → IsOperand (row_of o).a a → IsOperand (row_of o).b b → IsOperand (row_of o).c c → IsNumber types constants b (row_of o).number (pos n) → n < 2 → IsInstruction types constants role (at o a b c (pos n))
+  simple : (o : Operation) (role : Role) (a b c n : ℕ) → (row_of o).role ≡ role → IsOperand (row_of o).a a → IsOperand (row_of o).b b → IsOperand (row_of o).c c
+      → IsNumber types constants b (row_of o).number (pos n) → n < 2 → IsInstruction types constants role (at o a b c (pos n))
   simple o role a b c n p x y z w l = record { role = p; a = x; b = y; c = z; number = w; range = fits n l }
 
 increment_code : IsCode increment.types increment.constants increment.code
@@ -70,7 +71,8 @@ increment_spelled = record { valid = increment_valid; spelled = refl }
 pub same_x : (name : List ℕ) → counted.names name ≡ names_in counter_picture name
 same_x name = choose (same_name name (codes "x"))
   where
-    choose : (b : Bool) → (if b then Some (record { type = 0; values = cons (Int (pos 41)) nil }) else None) ≡ option_map object_of (if b then Some (record { name = codes "x"; at = 720; type = 0; values = cons (Int (pos 41)) nil }) else None)
+    choose : (b : Bool) → (if b then Some (record { type = 0; values = cons (Int (pos 41)) nil }) else None) ≡ option_map object_of
+        (if b then Some (record { name = codes "x"; at = 720; type = 0; values = cons (Int (pos 41)) nil }) else None)
     choose true = refl
     choose false = refl
 

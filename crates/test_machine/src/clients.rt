@@ -11,7 +11,7 @@ ghost use Rattle.client_spec.specs.Typed.{Reason, RegisterType, reason_number, t
 ghost use Rattle.client_spec.specs.Fixtures.{increment, chain, cycle, dangling, lost, changed, three_turns, counting_down, idle, echo, kill_twice, as_a_text, nested, types, constants, beginning, counted, no_names, RunsTo, left_with, two_runs, given_at_0, move_to};
 ghost use Rattle.seg_spec.specs.Types.{Form};
 
-/// The client that adds one to x: its 103 bytes, its text, the most steps that it takes, and what is known behind it.
+/// The client that adds one to x: its 103 bytes, its text, the most steps that it takes, and what is known after it.
 #[tactic(auto, unfolding(client_spec::specs::Grammar::spelling, client_spec::specs::Grammar::listing, client_spec::specs::Typed::types_after, client_spec::specs::Typed::rule))]
 pub fn the_increment()
     ensures bytes { spelling increment ≡
@@ -22,7 +22,9 @@ pub fn the_increment()
         ∷ 34 ∷ 0 ∷ 0 ∷ 1 ∷ 0 ∷ 0 ∷ 0 ∷ 0 ∷ 12 ∷ 0 ∷ 1 ∷ 0 ∷ 0 ∷ 0 ∷ 0 ∷ 0
         ∷ 10 ∷ 0 ∷ 0 ∷ 0 ∷ 0 ∷ 0 ∷ 0 ∷ 0 ∷ 11 ∷ 0 ∷ 0 ∷ 0 ∷ 0 ∷ 0 ∷ 0 ∷ 0 ∷ [] }
     ensures client { Spells (spelling increment) increment }
-    ensures text { text_of increment ≡ codes "type i64\nname x\nFIND r0 - - t0 k0\nLOAD r1 r0\nCONST r2 1\nADD r1 r1 r2\nSTORE r0 r1\nOUTI r1\nELSE\nEND\n" }
+    ensures text { text_of increment
+        ≡ codes "type i64\nname x\nFIND r0 - - t0 k0\nLOAD r1 r0\nCONST r2 1\n"
+        ++ codes "ADD r1 r1 r2\nSTORE r0 r1\nOUTI r1\nELSE\nEND\n" }
     ensures steps { bound increment.code ≡ 6 }
     ensures accepted { types_after increment.types increment.constants increment.code
         (replicate 16 RegisterType.Undefined) ≡ Ok (replicate 16 RegisterType.Undefined) }
@@ -31,7 +33,11 @@ pub fn the_increment()
 /// The client that makes a chain of 20,000 owned nodes and destroys it.
 #[tactic(auto, unfolding(client_spec::specs::Grammar::listing, client_spec::specs::Typed::types_after, client_spec::specs::Typed::rule))]
 pub fn the_chain()
-    ensures text { text_of chain ≡ codes "type i64\ntype own t2\ntype struct t0 t1\nname h\nCONST r0 20000\nCONST r1 1\nFINDOR r2 - t1 k0\nWHILE r0 20000\nNEW r3 t2\nREF r4 r3\nFIELD r5 r4 1\nTAKE r6 r2\nPUT r5 r6\nELSE\nEND\nPUT r2 r3\nELSE\nEND\nSUB r0 r0 r1\nEND\nELSE\nEND\nKILL r7 - t1 k0\n" }
+    ensures text { text_of chain
+        ≡ codes "type i64\ntype own t2\ntype struct t0 t1\nname h\nCONST r0 20000\nCONST r1 1\n"
+        ++ codes "FINDOR r2 - t1 k0\nWHILE r0 20000\nNEW r3 t2\nREF r4 r3\nFIELD r5 r4 1\n"
+        ++ codes "TAKE r6 r2\nPUT r5 r6\nELSE\nEND\nPUT r2 r3\nELSE\nEND\nSUB r0 r0 r1\n"
+        ++ codes "END\nELSE\nEND\nKILL r7 - t1 k0\n" }
     ensures steps { bound chain.code ≡ 160005 }
     ensures accepted { types_after chain.types chain.constants chain.code
         (replicate 16 RegisterType.Undefined) ≡
@@ -53,8 +59,8 @@ pub fn refused()
         Err Reason.ChangedInLoop }
 {}
 
-/// A loop's steps count as often as it may turn: three turns of one instruction behind two instructions, five turns of one
-/// behind one, and seven loops of 1000 turns in one another.
+/// A loop's steps count as often as it may turn: three turns of one instruction after two instructions, five turns of one
+/// after one, and seven loops of 1000 turns in one another.
 pub fn steps_of_loops()
     ensures three { bound (three_turns (pos 1)) ≡ 9 }
     ensures idle { bound idle ≡ 12 }

@@ -110,7 +110,8 @@ pub fn named_objects()
         (with_items 0 (cons (Int (pos 5)) (cons (Int (pos 8)) nil)) (pos 1)))
         ≡ Some (success, Some (Int (pos 0))) }
     ensures make_in_a_family_below_zero { value_after (path_from (Origin.Name (codes "p#-7") 0))
-        (row Operation.Make 0 2 16 (pos 2) true (with_items 0 (cons (Int (pos 5)) (cons (Int (pos 8)) nil)) (negsuc 6)))
+        (row Operation.Make 0 2 16 (pos 2) true
+        (with_items 0 (cons (Int (pos 5)) (cons (Int (pos 8)) nil)) (negsuc 6)))
         ≡ Some (success, Some (Int (pos 0))) }
     ensures make_none { register_after 0
         (row Operation.Make 0 16 2 (pos 1) true (holding 0 (Int (pos 5)) (pos 0)))

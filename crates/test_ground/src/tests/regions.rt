@@ -6,10 +6,10 @@ use std::fmt::InlineText;
 use std::process::Abort;
 use std::test::Fail;
 
-fn prints(rt: &impl Abort, fault: Fault, code: u8, line: &str) {
+fn prints(rt: &impl Abort, fault: Fault, number: u8, line: &str) {
     let printed = InlineText::<64>::of(fault);
     assert_eq!(rt; printed.as_str(), line);
-    assert!(rt; fault.code() == code, "the code of {line}");
+    assert!(rt; fault.number() == number, "the number of {line}");
 }
 
 #[test]
@@ -18,7 +18,7 @@ fn prints_faults(rt: HostRuntime) {
         instruction: 3,
         reason: 2,
     };
-    for (fault, code, line) in [
+    for (fault, number, line) in [
         (Fault::Memory, 1, "fault 1"),
         (Fault::Misplaced, 2, "fault 2"),
         (Fault::BadType(31), 3, "fault 3 31"),
@@ -39,7 +39,7 @@ fn prints_faults(rt: HostRuntime) {
         (Fault::TooLong, 23, "fault 23"),
         (Fault::BadMove(1), 24, "fault 24 1"),
     ] {
-        prints(&rt, fault, code, line);
+        prints(&rt, fault, number, line);
     }
 }
 
