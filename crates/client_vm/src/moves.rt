@@ -56,16 +56,30 @@ impl<'a> Moves<'a> {
     }
 
     /// How many steps come before the next move, and more than any run has where there is no move.
-    pub(crate) fn due(&self) -> u64 {
+    fn due(&self) -> u64 {
         match self.rest.first() {
             Some(next) => next.step.wrapping_sub(1),
             None => u64::MAX,
         }
     }
 
-    /// Makes the next move.
+    /// Makes the next move where it is due: so many steps were taken, and the next line is one. Returns how many more come
+    /// at least, 1 or more, before a move is due.
     #[inline(never)]
-    pub(crate) fn make<A: Allocator>(&mut self, w: &mut Window<A>) {
+    pub(crate) fn make_due<A: Allocator>(
+        &mut self,
+        steps: u64,
+        is_step: bool,
+        w: &mut Window<A>,
+    ) -> u64 {
+        if steps == self.due() && is_step {
+            self.make(w);
+        }
+        self.due().saturating_sub(steps).max(1)
+    }
+
+    /// Makes the next move.
+    fn make<A: Allocator>(&mut self, w: &mut Window<A>) {
         if let Some((next, rest)) = self.rest.split_first() {
             let _ = w.relocate(next.base);
             self.rest = rest;
