@@ -84,25 +84,43 @@ fn an_index_finds_no_room(rt: HostRuntime) -> Result<(), Fail> {
     Ok(())
 }
 
-/// The fifth entry doubles the buffer where it stands, if there is room after it, else elsewhere.
+const FIVE: [&[u8]; 5] = [b"e", b"b", b"c", b"a", b"d"];
+
+/// The buffer stands after five objects, and has so many units.
+fn buffer_has<F: Fit>(
+    rt: &(impl Abort + AllocGlobal),
+    s: &Segment<F>,
+    units: u32,
+) -> Result<(), Fail> {
+    let tiles = tiles(rt.alloc(), s.heap.window())?;
+    let Some(buffer) = tiles.get(5) else {
+        return Err(Fail::from("no buffer"));
+    };
+    assert_eq!(rt; buffer.at, 864);
+    assert_eq!(rt; buffer.units, units);
+    Ok(())
+}
+
+/// The fifth entry doubles the buffer where it stands, if there is room after it.
 #[test]
 fn the_fifth_name_doubles_the_buffer(rt: HostRuntime) -> Result<(), Fail> {
-    let names: [&[u8]; 5] = [b"e", b"b", b"c", b"a", b"d"];
     let mut s = segment(&rt, 1024, IndexKind::Flat)?;
-    for name in names {
+    for name in FIVE {
         let _ = new_object(&mut s, name, 1);
     }
     let wanted = [(720, 3), (752, 3), (784, 3), (816, 3), (848, 5)];
-    for (name, (object, units)) in names.into_iter().zip(wanted) {
+    for (name, (object, units)) in FIVE.into_iter().zip(wanted) {
         add(&mut s, name, object, 1)?;
-        let buffer = tiles(rt.alloc(), s.heap.window())?;
-        assert_eq!(rt;
-            buffer.get(5).map(|tile| (tile.at, tile.units)),
-            Some((864, units))
-        );
+        buffer_has(&rt, &s, units)?;
     }
+    Ok(())
+}
+
+/// Where there is no room after the buffer, the doubled one stands elsewhere.
+#[test]
+fn the_doubled_buffer_stands_elsewhere(rt: HostRuntime) -> Result<(), Fail> {
     let mut s = segment(&rt, 1024, IndexKind::Flat)?;
-    for name in names {
+    for name in FIVE {
         add_named(&mut s, name)?;
     }
     live_are(

@@ -48,11 +48,17 @@ fn add_name<F: Fit>(
         }
         Err(code) => {
             assert_eq!(rt; code, Code::BadAlloc);
-            assert_eq!(rt; outside_gaps(rt.alloc(), s)?.as_slice(), before.as_slice());
-            F::free(s.heap.window_mut(), block_of(at));
+            let after = outside_gaps(rt.alloc(), s)?;
+            assert_eq!(rt; after.as_slice(), before.as_slice());
+            free_object(s, at);
             Ok(Answer::NoRoom)
         }
     }
+}
+
+/// Gives back the block of an object that no name names.
+fn free_object<F: Fit>(s: &mut Segment<F>, at: u32) {
+    F::free(s.heap.window_mut(), block_of(at));
 }
 
 /// Removes a name, and then its object.
@@ -62,7 +68,7 @@ fn remove_name<F: Fit>(rt: &impl Abort, s: &mut Segment<F>, model: &mut Model, n
     assert_eq!(rt; object, model.find(name).map(|named| named.at));
     model.remove(name);
     if let Some(object) = object {
-        F::free(s.heap.window_mut(), block_of(object));
+        free_object(s, object);
     }
 }
 
@@ -83,7 +89,7 @@ fn step<F: Fit>(
     Ok(Answer::Done)
 }
 
-/// Random calls on a segment of a length, after which each name is removed. Answers how many found no room.
+/// Random calls on a segment of a length, after which each name is removed. Returns how many found no room.
 fn try_out<F: Fit>(
     rt: &(impl Abort + AllocGlobal),
     len: u32,

@@ -138,7 +138,7 @@ fn index_takes_what_is_there(rt: HostRuntime) -> Result<(), Fail> {
     tree_takes_three_units::<BestFit>(&rt)
 }
 
-/// What `first_name` and `next_name` must answer for a number.
+/// What `first_name` and `next_name` must return for a number.
 fn number(name: &[u8]) -> Option<Named<'_>> {
     Some(Named {
         name,
@@ -147,7 +147,14 @@ fn number(name: &[u8]) -> Option<Named<'_>> {
     })
 }
 
-/// Names come in order of their bytes, a prefix first.
+/// The names x and y in order of their bytes, a prefix first.
+fn has_x_and_y<F: Fit>(rt: &impl Abort, segment: &Segment<F, Global>) {
+    assert_eq!(rt; segment.first_name(), number(b"x"));
+    assert_eq!(rt; segment.next_name(b"x"), number(b"y"));
+    assert_eq!(rt; segment.next_name(b"xx"), number(b"y"));
+    assert_eq!(rt; segment.next_name(b"y"), None);
+}
+
 fn names_come_in_order<F: Fit>(
     rt: &(impl Abort + AllocGlobal),
     index: IndexKind,
@@ -158,10 +165,7 @@ fn names_come_in_order<F: Fit>(
     segment.construct(b"y", NUMBER, 1)?;
     segment.construct(b"x", NUMBER, 1)?;
     is_sound(rt, &segment, free)?;
-    assert_eq!(rt; segment.first_name(), number(b"x"));
-    assert_eq!(rt; segment.next_name(b"x"), number(b"y"));
-    assert_eq!(rt; segment.next_name(b"xx"), number(b"y"));
-    assert_eq!(rt; segment.next_name(b"y"), None);
+    has_x_and_y(rt, &segment);
     assert!(rt; segment.destroy(b"x", NUMBER));
     assert!(rt; segment.destroy(b"y", NUMBER));
     assert!(rt; !segment.destroy(b"y", NUMBER));
@@ -177,34 +181,50 @@ fn names_in_order(rt: HostRuntime) -> Result<(), Fail> {
     names_come_in_order::<BestFit>(&rt, IndexKind::Tree, 160)
 }
 
-/// A wrong name or count comes before a name that is there, and that before want of room.
+/// A wrong count comes before a name that is there.
+fn refuses_counts(rt: &impl Abort, segment: &mut Segment<SeqFit, Global>) {
+    for count in [0, 65_536, u32::MAX] {
+        let made = segment.construct(b"x", NUMBER, count);
+        assert_eq!(rt; made, Err(Code::OutOfRange));
+    }
+}
+
+/// A name that no object may have is refused, and never found.
+fn refuses_names(rt: &impl Abort, segment: &mut Segment<SeqFit, Global>) {
+    for name in [b"".as_slice(), b"a b", b"\x7f", &[b'a'; 64]] {
+        let made = segment.construct(name, NUMBER, 1);
+        assert_eq!(rt; made, Err(Code::OutOfRange));
+        let made = segment.find_or_construct(name, NUMBER);
+        assert_eq!(rt; made, Err(Code::OutOfRange));
+        assert_eq!(rt; segment.find(name, NUMBER), Err(Code::Absent));
+    }
+}
+
+/// A name that is there comes before want of room.
+fn refuses_what_is_there(rt: &impl Abort, segment: &mut Segment<SeqFit, Global>) {
+    let made = segment.construct(b"x", 1, 65_535);
+    assert_eq!(rt; made, Err(Code::AlreadyExists));
+    let made = segment.construct(b"y", 1, 65_535);
+    assert_eq!(rt; made, Err(Code::BadAlloc));
+}
+
+/// An object isn't found as one of another type, nor destroyed.
+fn refuses_types(rt: &impl Abort, segment: &mut Segment<SeqFit, Global>) {
+    assert_eq!(rt; segment.find(b"x", 1), Err(Code::OtherType));
+    let made = segment.find_or_construct(b"x", 1);
+    assert_eq!(rt; made, Err(Code::OtherType));
+    assert!(rt; !segment.destroy(b"x", 1));
+}
+
 #[test]
 fn refusals_in_order(rt: HostRuntime) -> Result<(), Fail> {
     for index in BOTH {
         let mut segment = segment::<SeqFit>(rt.alloc(), 1024, index, &[I64, map(NUMBER)])?;
         segment.construct(b"x", NUMBER, 2)?;
-        for count in [0, 65_536, u32::MAX] {
-            assert_eq!(rt;
-                segment.construct(b"x", NUMBER, count),
-                Err(Code::OutOfRange)
-            );
-        }
-        for name in [b"".as_slice(), b"a b", b"\x7f", &[b'a'; 64]] {
-            assert_eq!(rt; segment.construct(name, NUMBER, 1), Err(Code::OutOfRange));
-            assert_eq!(rt;
-                segment.find_or_construct(name, NUMBER),
-                Err(Code::OutOfRange)
-            );
-            assert_eq!(rt; segment.find(name, NUMBER), Err(Code::Absent));
-        }
-        assert_eq!(rt;
-            segment.construct(b"x", 1, 65_535),
-            Err(Code::AlreadyExists)
-        );
-        assert_eq!(rt; segment.construct(b"y", 1, 65_535), Err(Code::BadAlloc));
-        assert_eq!(rt; segment.find(b"x", 1), Err(Code::OtherType));
-        assert_eq!(rt; segment.find_or_construct(b"x", 1), Err(Code::OtherType));
-        assert!(rt; !segment.destroy(b"x", 1));
+        refuses_counts(&rt, &mut segment);
+        refuses_names(&rt, &mut segment);
+        refuses_what_is_there(&rt, &mut segment);
+        refuses_types(&rt, &mut segment);
         assert_eq!(rt; segment.find(b"x", NUMBER)?.count, 2);
         assert_eq!(rt; segment.num_named(), 1);
         segment.construct(&[b'a'; 63], NUMBER, 1)?;
@@ -231,6 +251,10 @@ fn one_unique_object_of_a_type(rt: HostRuntime) -> Result<(), Fail> {
     is_sound(&rt, &segment, 320)
 }
 
+fn is_filled(bytes: &[u8], with: u8) -> bool {
+    bytes.iter().all(|byte| *byte == with)
+}
+
 /// What the library makes anew has none of the bytes that the host had there.
 #[test]
 fn new_segments_are_empty(rt: HostRuntime) -> Result<(), Fail> {
@@ -240,14 +264,14 @@ fn new_segments_are_empty(rt: HostRuntime) -> Result<(), Fail> {
         assert_eq!(rt; segment.largest_gap(), 320);
         assert_eq!(rt; segment.num_named(), 0);
         assert!(rt; segment.all_memory_deallocated());
-        assert!(rt;
-            segment
-                .window()
-                .slice(720, 304)
-                .iter()
-                .all(|byte| *byte == 0)
-        );
+        assert!(rt; is_filled(segment.window().slice(720, 304), 0));
     }
+    Ok(())
+}
+
+/// A region in which a segment may not lie comes back as it was.
+#[test]
+fn refused_segments(rt: HostRuntime) -> Result<(), Fail> {
     for (base, size, fault) in [
         (0, 720, Fault::BadSize),
         (0, 1000, Fault::BadSize),
@@ -259,28 +283,21 @@ fn new_segments_are_empty(rt: HostRuntime) -> Result<(), Fail> {
             Ok(_) => return Err(Fail::from("made")),
             Err((refused, region)) => {
                 assert_eq!(rt; refused, fault);
-                let bytes = region.slice(0, region.len() as usize);
-                assert!(rt; bytes.iter().all(|byte| *byte == 0xa5));
+                assert!(rt; is_filled(region.slice(0, region.len() as usize), 0xa5));
             }
         }
     }
     Ok(())
 }
 
-/// Sequential fit uses no byte of a gap behind its header.
+/// Sequential fit uses no byte of a gap after its header.
 #[test]
 fn free_memory_is_zeroed(rt: HostRuntime) -> Result<(), Fail> {
     for index in BOTH {
         let mut segment = segment::<SeqFit>(rt.alloc(), 1024, index, &[I64])?;
         segment.heap_mut().window_mut().fill(720, 304, 0xa5);
         segment.zero_free_memory();
-        assert!(rt;
-            segment
-                .window()
-                .slice(720, 304)
-                .iter()
-                .all(|byte| *byte == 0)
-        );
+        assert!(rt; is_filled(segment.window().slice(720, 304), 0));
         is_sound(&rt, &segment, 320)?;
         segment.construct(b"x", NUMBER, 1)?;
         segment.heap_mut().window_mut().put64(720, u64::MAX);
@@ -291,19 +308,13 @@ fn free_memory_is_zeroed(rt: HostRuntime) -> Result<(), Fail> {
     Ok(())
 }
 
-/// Best fit keeps the tree's words behind the header of a gap.
+/// Best fit keeps the tree's words after the header of a gap.
 #[test]
 fn free_tree_stays(rt: HostRuntime) -> Result<(), Fail> {
     let mut segment = segment::<BestFit>(rt.alloc(), 1024, IndexKind::Flat, &[I64])?;
     segment.heap_mut().window_mut().fill(736, 288, 0xa5);
     segment.zero_free_memory();
-    assert!(rt;
-        segment
-            .window()
-            .slice(736, 288)
-            .iter()
-            .all(|byte| *byte == 0)
-    );
+    assert!(rt; is_filled(segment.window().slice(736, 288), 0));
     is_sound(&rt, &segment, 320)
 }
 
@@ -367,28 +378,40 @@ fn segments_shrink(rt: HostRuntime) -> Result<(), Fail> {
     shrinks::<BestFit>(&rt)
 }
 
-/// The counter's image opened: x at 720, one value; saved, it is the same bytes. It isn't an image of best fit.
+/// The counter's image in a window.
+fn counter_window(alloc: Global) -> Result<Window<Global>, Fail> {
+    match Window::place(used_region(alloc, 784)?, 0, 784) {
+        Ok(mut window) => {
+            window.copy_in(0, counter(alloc)?.as_slice());
+            Ok(window)
+        }
+        Err(_) => Err(Fail::from("misplaced")),
+    }
+}
+
+/// The counter's image opened: x at 720, one value; saved, it is the same bytes.
 #[test]
 fn opens_and_saves_the_counter(rt: HostRuntime) -> Result<(), Fail> {
-    let image = counter(rt.alloc())?;
-    let mut window = match Window::place(used_region(rt.alloc(), 784)?, 0, 784) {
-        Ok(window) => window,
-        Err(_) => return Err(Fail::from("misplaced")),
-    };
-    window.copy_in(0, image.as_slice());
-    let window = match open::<BestFit, Global, Global>(rt.alloc(), window) {
-        Ok(_) => return Err(Fail::from("opened")),
-        Err((fault, window)) => {
-            assert_eq!(rt; fault, Fault::BadHeader);
-            window
-        }
-    };
-    match open::<SeqFit, Global, Global>(rt.alloc(), window) {
+    match open::<SeqFit, Global, Global>(rt.alloc(), counter_window(rt.alloc())?) {
         Ok(segment) => {
             assert_eq!(rt; segment.find(b"x", NUMBER)?, Found { at: 720, count: 1 });
+            let image = counter(rt.alloc())?;
             assert_eq!(rt; save(rt.alloc(), &segment)?.as_slice(), image.as_slice());
             Ok(())
         }
         Err((fault, _)) => Err(Fail::from(fault)),
+    }
+}
+
+/// The counter's image isn't one of best fit. Its window comes back as it was.
+#[test]
+fn opens_no_image_of_another_allocator(rt: HostRuntime) -> Result<(), Fail> {
+    match open::<BestFit, Global, Global>(rt.alloc(), counter_window(rt.alloc())?) {
+        Ok(_) => Err(Fail::from("opened")),
+        Err((fault, window)) => {
+            assert_eq!(rt; fault, Fault::BadHeader);
+            assert_eq!(rt; window.slice(0, 784), counter(rt.alloc())?.as_slice());
+            Ok(())
+        }
     }
 }

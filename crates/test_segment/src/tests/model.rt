@@ -46,8 +46,16 @@ impl Model {
         rt: &(impl Abort + AllocGlobal),
         s: &Segment<F, Global>,
     ) -> Result<(), Fail> {
+        self.compare_named(rt, s)?;
+        self.compare_uniques(rt, s)
+    }
+
+    fn compare_named<F: Fit>(
+        &self,
+        rt: &(impl Abort + AllocGlobal),
+        s: &Segment<F, Global>,
+    ) -> Result<(), Fail> {
         assert_eq!(rt; s.num_named() as usize, self.named.len());
-        assert_eq!(rt; s.num_unique(), self.uniques.len());
         let mut next = s.first_name();
         for (name, object) in &self.named {
             let Some(named) = next else {
@@ -60,6 +68,15 @@ impl Model {
             next = s.next_name(name);
         }
         assert_eq!(rt; next, None);
+        Ok(())
+    }
+
+    fn compare_uniques<F: Fit>(
+        &self,
+        rt: &(impl Abort + AllocGlobal),
+        s: &Segment<F, Global>,
+    ) -> Result<(), Fail> {
+        assert_eq!(rt; s.num_unique(), self.uniques.len());
         for (t, value) in &self.uniques {
             let read = Value::read(rt.alloc(), s, *t, s.find_unique(*t)?)?;
             assert_eq!(rt; read, *value);

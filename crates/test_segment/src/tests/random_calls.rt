@@ -35,6 +35,18 @@ fn some_type(random: &mut Random) -> TypeId {
     random.below(4) as TypeId
 }
 
+/// Where the value with this index lies in the object of a name and a type.
+fn item_at<F: Fit>(
+    segment: &Segment<F, Global>,
+    name: &[u8],
+    t: TypeId,
+    index: u32,
+) -> Result<u32, Fail> {
+    let found = segment.find(name, t)?;
+    let from = index.wrapping_mul(segment.types().size(t));
+    Ok(found.at.wrapping_add(from))
+}
+
 /// A segment and its model, on which the same calls are made.
 #[derive(Drop)]
 struct Pair<F: Fit> {
@@ -44,7 +56,7 @@ struct Pair<F: Fit> {
 }
 
 impl<F: Fit> Pair<F> {
-    /// Makes an object, and answers what the model expects unless there is no room.
+    /// Makes an object, and returns what the model expects unless there is no room.
     fn construct(&mut self, rt: &(impl Abort + AllocGlobal)) -> Result<Answer, Fail> {
         let (name, t) = (some_name(&mut self.random), some_type(&mut self.random));
         let count = self.random.below(4);
@@ -120,13 +132,9 @@ impl<F: Fit> Pair<F> {
             return Ok(Ok(()));
         };
         let index = self.random.below(3);
-        let found = self.segment.find(name, object.type_id)?;
-        let size = self.segment.types().size(object.type_id);
+        let at = item_at(&self.segment, name, object.type_id, index)?;
         match object.values.get_mut(index as usize) {
-            Some(value) => {
-                let at = found.at.wrapping_add(index.wrapping_mul(size));
-                value.change(&mut self.segment, at, &mut self.random)
-            }
+            Some(value) => value.change(&mut self.segment, at, &mut self.random),
             None => Ok(Ok(())),
         }
     }
@@ -170,7 +178,7 @@ impl<F: Fit> Pair<F> {
         }
     }
 
-    /// A call, and what must hold behind it. True where it found no room; then no gap changed.
+    /// A call, and what must hold after it. True where it found no room; then no gap changed.
     fn step(&mut self, rt: &(impl Abort + AllocGlobal)) -> Result<bool, Fail> {
         let free = self.segment.free_memory();
         let largest = self.segment.largest_gap();
@@ -185,16 +193,17 @@ impl<F: Fit> Pair<F> {
         Ok(no_room)
     }
 
-    /// Destroys all objects.
-    fn destroy_all(&mut self, rt: &impl Abort) {
+    fn destroy_named(&mut self, rt: &impl Abort) {
         for (name, object) in &self.model.named {
-            assert!(rt; self.segment.destroy(name, object.type_id));
+            let is_destroyed = self.segment.destroy(name, object.type_id);
+            assert!(rt; is_destroyed);
         }
+    }
+
+    fn destroy_uniques(&mut self, rt: &impl Abort) {
         for t in 0..4 {
-            assert_eq!(rt;
-                self.segment.destroy_unique(t),
-                self.model.uniques.contains_key(&t)
-            );
+            let is_destroyed = self.segment.destroy_unique(t);
+            assert_eq!(rt; is_destroyed, self.model.uniques.contains_key(&t));
         }
     }
 }
@@ -222,7 +231,8 @@ fn follow<F: Fit>(rt: &(impl Abort + AllocGlobal), index: IndexKind) -> Result<(
         }
     }
     assert!(rt; refused >= 50, "{refused} calls found no room");
-    pair.destroy_all(rt);
+    pair.destroy_named(rt);
+    pair.destroy_uniques(rt);
     assert!(rt; pair.segment.all_memory_deallocated());
     check(rt.alloc(), pair.segment.window())?;
     Ok(())

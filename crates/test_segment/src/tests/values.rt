@@ -109,12 +109,16 @@ fn change_text<F: Fit>(
     let bytes = bytes.get(..random.below(40) as usize).unwrap_or(&[]);
     let heap = s.heap_mut();
     let place = Place { at, type_id: 1 };
-    let answer = if random.below(2) == 0 {
+    let is_longer = random.below(2) == 0;
+    let answer = if is_longer {
         append(heap, place, bytes)
     } else {
-        assign(heap, place, bytes).map(|()| text.clear())
+        assign(heap, place, bytes)
     };
     if answer.is_ok() {
+        if !is_longer {
+            text.clear();
+        }
         text.extend_from_slice(bytes)?;
     }
     Ok(answer)
