@@ -10,8 +10,9 @@ use Rattle.client_spec.specs.Grammar.{constant_bytes, IsConstant, Differ}
 use Rattle.client_spec.proofs.OneClient.{constant_front}
 use Rattle.client_code.specs.Files.{AreConstants}
 
--- what is spelled behind the same front, where each element has one spelling
-pub fronts : {A : Type 0} (f : A → List ℕ) (P : A → Type 0) → ((x y : A) (us vs : List ℕ) → P x → P y → f x ++ us ≡ f y ++ vs → (x ≡ y) × (us ≡ vs)) → (xs ys : List A) (us vs : List ℕ) → AllByRecursion P xs → AllByRecursion P ys → length xs ≤ length ys → flat_map f xs ++ us ≡ flat_map f ys ++ vs
+-- what is spelled after the same front, where each element has one spelling
+pub fronts : {A : Type 0} (f : A → List ℕ) (P : A → Type 0) → ((x y : A) (us vs : List ℕ) → P x → P y → f x ++ us ≡ f y ++ vs → (x ≡ y) × (us ≡ vs))
+    → (xs ys : List A) (us vs : List ℕ) → AllByRecursion P xs → AllByRecursion P ys → length xs ≤ length ys → flat_map f xs ++ us ≡ flat_map f ys ++ vs
     → (more : List A) × (ys ≡ xs ++ more) × (us ≡ flat_map f more ++ vs)
 fronts f P one [] ys us vs p q l e = (ys, refl, e)
 fronts f P one (x ∷ xs) [] us vs p q l e = absurd (omega arith)
@@ -43,7 +44,9 @@ pairs_push cs c pairs differs i j d l h =
     ]
 
 -- one constant on
-pub one_more : (file : List ℕ) (at next behind : ℕ) (cs : List Constant) (c : Constant) → AreConstants file at cs next → drop next file ≡ constant_bytes c ++ drop behind file → IsConstant c → behind ≡ next + length (constant_bytes c) → All (λ other. Differ other c) cs → AreConstants file at (cs ++ c ∷ []) behind
+pub one_more : (file : List ℕ) (at next behind : ℕ) (cs : List Constant) (c : Constant) → AreConstants file at cs next
+    → drop next file ≡ constant_bytes c ++ drop behind file → IsConstant c → behind ≡ next + length (constant_bytes c) → All (λ other. Differ other c) cs
+    → AreConstants file at (cs ++ c ∷ []) behind
 one_more file at next behind cs c so_far spelled right place differs =
     let flat : flat_map constant_bytes cs ++ constant_bytes c ≡ flat_map constant_bytes (cs ++ c ∷ []) = flat_map_more constant_bytes [] cs c in
     let long = length-append (flat_map constant_bytes cs) (constant_bytes c) in
@@ -69,7 +72,9 @@ last_differs cs more c pairs k d h =
     subst (λ x. Differ x c) (get_or_append_left cs (c ∷ more) d k h) (subst (λ y. Differ (get_or (cs ++ c ∷ more) k d) y) (get_or_at cs c more d (length cs) refl) p)
 
 -- no constants go on where none stands that may be there
-pub none_more : (file : List ℕ) (at next behind : ℕ) (cs ds : List Constant) → AreConstants file at cs next → ((c : Constant) (rest : List ℕ) → IsConstant c → All (λ other. Differ other c) cs → drop next file ≢ constant_bytes c ++ rest) → length cs < length ds → AreConstants file at ds behind → ⊥
+pub none_more : (file : List ℕ) (at next behind : ℕ) (cs ds : List Constant) → AreConstants file at cs next
+    → ((c : Constant) (rest : List ℕ) → IsConstant c → All (λ other. Differ other c) cs → drop next file ≢ constant_bytes c ++ rest) → length cs < length ds
+    → AreConstants file at ds behind → ⊥
 none_more file at next behind cs ds so_far none few all =
     let f = fronts constant_bytes (λ c. ⊤) (λ c d us vs p q e. constant_front c d us vs e) cs ds (drop next file) (drop behind file) (any cs) (any ds) (omega arith) (sym so_far.spelled ∙ all.spelled) in
     found f.0 (ap length f.1) f.1 f.2

@@ -17,7 +17,7 @@ use Rattle.client_code.specs.Files.{IsCodeAt}
 use Rattle.client_code.proofs.Nested.{role_of, roles, Right, code_of, code_closes, passed_more}
 use Rattle.client_code.proofs.Constants.{fronts}
 
--- the instructions up to the k-th, and the parts that are open behind them
+-- the instructions up to the k-th, and the parts that are open after them
 pub record CodeTo (file : List ℕ) (at : ℕ) (types : Table) (constants : List Constant) (k : ℕ) (parts : List Part) : Type 0 where
   pub list : List Instruction
   pub count : length list ≡ k
@@ -54,7 +54,8 @@ module _ (file : List ℕ) (at : ℕ) (types : Table) (constants : List Constant
   unfolding slice
   starts = record { list = []; count = refl; spelled = refl; right = tt; nested = refl }
 
-  pub goes_on : (k : ℕ) (parts now : List Part) (i : Instruction) → CodeTo file at types constants k parts → slice file (at + 8 * k) 8 ≡ instruction_bytes i → Right types constants i → passed parts (role_of i) ≡ Some now → CodeTo file at types constants (k + 1) now
+  pub goes_on : (k : ℕ) (parts now : List Part) (i : Instruction) → CodeTo file at types constants k parts → slice file (at + 8 * k) 8 ≡ instruction_bytes i
+      → Right types constants i → passed parts (role_of i) ≡ Some now → CodeTo file at types constants (k + 1) now
   goes_on k parts now i to spelled right nested =
       let eight : 8 * (k + 1) ≡ 8 * k + 8 = omega arith in
       let one = length-append to.list (i ∷ []) in
@@ -96,21 +97,26 @@ module _ (file : List ℕ) (at : ℕ) (types : Table) (constants : List Constant
     all_right : AllByRecursion (Right types constants) (listing code)
     all_right = all_listed types constants (Right types constants) (λ role i h. subst (λ p. IsInstruction types constants p i) (sym h.role) h) mark_else mark_end code whole.right
 
-    remaining : (k : ℕ) (parts : List Part) (to : CodeTo file at types constants k parts) → k ≤ length (listing code) → (more : List Instruction) × (listing code ≡ to.list ++ more) × (drop (at + 8 * k) file ≡ flat_map instruction_bytes more)
+    remaining : (k : ℕ) (parts : List Part) (to : CodeTo file at types constants k parts) → k ≤ length (listing code)
+        → (more : List Instruction) × (listing code ≡ to.list ++ more) × (drop (at + 8 * k) file ≡ flat_map instruction_bytes more)
     remaining k parts to h =
         let e : flat_map instruction_bytes to.list ++ drop (at + 8 * k) file ≡ flat_map instruction_bytes (listing code) ++ [] =
         ap (λ xs. xs ++ drop (at + 8 * k) file) (sym to.spelled) ∙ sym (split_at file at (8 * k)) ∙ whole.spelled ∙ sym (append-nil (flat_map instruction_bytes (listing code))) in
         let n = to.count in
-        let f = fronts instruction_bytes IsWord (λ i j us vs p q s. instruction_front i j us vs p q s) to.list (listing code) (drop (at + 8 * k) file) [] (all_words types constants to.list to.right) (all_words types constants (listing code) all_right) (omega arith) e in
+        let f = fronts instruction_bytes IsWord (λ i j us vs p q s. instruction_front i j us vs p q s) to.list (listing code)
+        (drop (at + 8 * k) file) [] (all_words types constants to.list to.right) (all_words types constants (listing code) all_right) (omega arith) e in
         (f.0, f.1, f.2 ∙ append-nil (flat_map instruction_bytes f.0))
 
     -- the next instruction stands there, and may stand there
-    pub stands : (k : ℕ) (parts : List Part) → CodeTo file at types constants k parts → k < length (listing code) → (j : Instruction) × Right types constants j × (at + 8 * k + 8 ≤ length file) × (slice file (at + 8 * k) 8 ≡ instruction_bytes j) × (passed parts (role_of j) ≡ None → ⊥)
+    pub stands : (k : ℕ) (parts : List Part) → CodeTo file at types constants k parts → k < length (listing code) → (j : Instruction) × Right types constants j
+        × (at + 8 * k + 8 ≤ length file) × (slice file (at + 8 * k) 8 ≡ instruction_bytes j) × (passed parts (role_of j) ≡ None → ⊥)
     stands k parts to h =
         let r = remaining k parts to (omega arith) in
         found r.0 r.1 r.2
       where
-        found : (more : List Instruction) → listing code ≡ to.list ++ more → drop (at + 8 * k) file ≡ flat_map instruction_bytes more → (j : Instruction) × Right types constants j × (at + 8 * k + 8 ≤ length file) × (slice file (at + 8 * k) 8 ≡ instruction_bytes j) × (passed parts (role_of j) ≡ None → ⊥)
+        found : (more : List Instruction) → listing code ≡ to.list ++ more → drop (at + 8 * k) file ≡ flat_map instruction_bytes more
+            → (j : Instruction) × Right types constants j × (at + 8 * k + 8 ≤ length file) × (slice file (at + 8 * k) 8 ≡ instruction_bytes j)
+            × (passed parts (role_of j) ≡ None → ⊥)
         found [] e s = absurd (let n = ap length e in let m = length-append {A = Instruction} to.list [] in let c = to.count in omega arith)
         found (j ∷ more) e s = (
           j,
@@ -126,7 +132,7 @@ module _ (file : List ℕ) (at : ℕ) (types : Table) (constants : List Constant
               cc,
         )
 
-    -- behind the last instruction nothing is open
+    -- after the last instruction nothing is open
     pub closed : (k : ℕ) (parts : List Part) → CodeTo file at types constants k parts → length (listing code) ≡ k → parts ≡ []
     closed k parts to h =
         let r = remaining k parts to (omega arith) in

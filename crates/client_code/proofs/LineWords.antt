@@ -37,7 +37,8 @@ ends s line i behind so_far =
 -- ---- words
 
 -- spaces in front say nothing
-skip : (t : Bool) (b : ℕ) (line : List ℕ) → (b == 32) ≡ t → words_of line ≡ words_of (drop (before_space false line) line) → words_of (b ∷ line) ≡ words_of (drop (if (if t then false else true) then 0 else suc (before_space false line)) (b ∷ line))
+skip : (t : Bool) (b : ℕ) (line : List ℕ) → (b == 32) ≡ t → words_of line ≡ words_of (drop (before_space false line) line)
+    → words_of (b ∷ line) ≡ words_of (drop (if (if t then false else true) then 0 else suc (before_space false line)) (b ∷ line))
 skip true b line e rest = ap (λ test. if test then words_from [] line else words_from (b ∷ []) line) e ∙ rest
 skip false b line e rest = refl
 
@@ -47,7 +48,9 @@ skip_spaces (b ∷ line) = skip (b == 32) b line refl (skip_spaces line)
 
 -- the bytes up to the next space belong to a word that has begun
 word_step : (t : Bool) (c : ℕ) (word : List ℕ) (b : ℕ) (line : List ℕ) (n : ℕ) → (b == 32) ≡ t → words_from (c ∷ (word ++ b ∷ [])) line ≡ ((c ∷ (word ++ b ∷ [])) ++ take n line) ∷ words_of (drop n line)
-    → (if t then (c ∷ word) ∷ words_from [] line else words_from (c ∷ (word ++ b ∷ [])) line) ≡ (c ∷ (word ++ take (if (if t then true else false) then 0 else suc n) (b ∷ line))) ∷ words_of (drop (if (if t then true else false) then 0 else suc n) (b ∷ line))
+    → (if t then (c ∷ word) ∷ words_from [] line else words_from (c ∷ (word ++ b ∷ [])) line)
+    ≡ (c ∷ (word ++ take (if (if t then true else false) then 0 else suc n) (b ∷ line)))
+    ∷ words_of (drop (if (if t then true else false) then 0 else suc n) (b ∷ line))
 word_step true c word b line n e rest = ap (λ w. (c ∷ w) ∷ words_from [] line) (sym (append-nil word)) ∙ ap (λ test. (c ∷ (word ++ [])) ∷ (if test then words_from [] line else words_from (b ∷ []) line)) (sym e)
 word_step false c word b line n e rest = rest ∙ ap (λ w. (c ∷ w) ∷ words_of (drop n line)) (append_assoc word (b ∷ []) (take n line))
 
@@ -55,7 +58,7 @@ pub word_goes_on : (c : ℕ) (word line : List ℕ) → words_from (c ∷ word) 
 word_goes_on c word [] = ap (λ w. (c ∷ w) ∷ []) (sym (append-nil word))
 word_goes_on c word (b ∷ line) = word_step (b == 32) c word b line (before_space true line) refl (word_goes_on c (word ++ b ∷ []) line)
 
--- a word and what is behind it
+-- a word and what is after it
 abbrev pub BeginsWithWord : List ℕ → Type 0
 BeginsWithWord line = words_of line ≡ take (before_space true line) line ∷ words_of (drop (before_space true line) line)
 
@@ -70,7 +73,7 @@ word_behind : (t : Bool) (b : ℕ) (line : List ℕ) → (b == 32) ≡ t → (0 
 word_behind true b line e rest some = rest some
 word_behind false b line e rest some = word_here b line e
 
--- behind the spaces there is a word, if there is anything
+-- after the spaces there is a word, if there is anything
 pub word_next : (line : List ℕ) → 0 < length (drop (before_space false line) line) → BeginsWithWord (drop (before_space false line) line)
 word_next [] some = absurd (omega arith)
 word_next (b ∷ line) some = word_behind (b == 32) b line refl (word_next line) some
@@ -82,13 +85,14 @@ rest_from line n = take_all (length line - n) (drop n line) (let l = length-drop
 pub no_words : (line left : List ℕ) (n : ℕ) → n ≡ before_space false line → left ≡ take (length line - n) (drop n line) → length left ≡ 0 → words_of line ≡ []
 no_words line left n e l none = skip_spaces line ∙ ap words_of (sym (ap (λ k. drop k line) e) ∙ sym (rest_from line n) ∙ sym l ∙ nil_from_length left none)
 
-pub one_word : (line left word rest : List ℕ) (n m : ℕ) → n ≡ before_space false line → left ≡ take (length line - n) (drop n line) → m ≡ before_space true left → 0 < length left → word ≡ take m left → rest ≡ drop m left → words_of line ≡ word ∷ words_of rest
+pub one_word : (line left word rest : List ℕ) (n m : ℕ) → n ≡ before_space false line → left ≡ take (length line - n) (drop n line) → m ≡ before_space true left
+    → 0 < length left → word ≡ take m left → rest ≡ drop m left → words_of line ≡ word ∷ words_of rest
 one_word line left word rest n m e l f some w r =
     let here : left ≡ drop (before_space false line) line = l ∙ rest_from line n ∙ ap (λ k. drop k line) e in
     let begins = subst BeginsWithWord (sym here) (word_next line (subst (λ xs. 0 < length xs) here some)) in
     skip_spaces line ∙ ap words_of (sym here) ∙ begins ∙ cc
 
--- groups of words, read one behind the other
+-- groups of words, read one after the other
 pub joined : (a b c n w0 w1 w2 w3 w4 : Words) → w0 ≡ a ++ w1 → w1 ≡ b ++ w2 → w2 ≡ c ++ w3 → w3 ≡ n ++ w4 → w0 ≡ (((a ++ b) ++ c) ++ n) ++ w4
 joined a b c n w0 w1 w2 w3 w4 e0 e1 e2 e3 =
     e0 ∙ ap (λ ws. a ++ ws) (e1 ∙ ap (λ ws. b ++ ws) (e2 ∙ ap (λ ws. c ++ ws) e3))

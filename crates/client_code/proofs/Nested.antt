@@ -100,7 +100,8 @@ module _ (types : Table) (constants : List Constant) where
   -- the instructions close these open parts, one after the other, and end with code outside of all
   abbrev Closes : List Part → List Instruction → Type 0
   Closes [] is = (cs : Statements) × Fits cs 0 × (is ≡ listing cs)
-  Closes (part.Success ∷ parts) is = (cs : Statements) × (ds : Statements) × (rest : List Instruction) × Fits cs (length parts + 1) × Fits ds (length parts + 1) × (is ≡ listing cs ++ mark Operation.Else ∷ (listing ds ++ mark Operation.End ∷ rest)) × Closes parts rest
+  Closes (part.Success ∷ parts) is = (cs : Statements) × (ds : Statements) × (rest : List Instruction) × Fits cs (length parts + 1) × Fits ds (length parts + 1)
+      × (is ≡ listing cs ++ mark Operation.Else ∷ (listing ds ++ mark Operation.End ∷ rest)) × Closes parts rest
   Closes (part.Else ∷ parts) is = (cs : Statements) × (rest : List Instruction) × Fits cs (length parts + 1) × (is ≡ listing cs ++ mark Operation.End ∷ rest) × Closes parts rest
   Closes (part.Body ∷ parts) is = (cs : Statements) × (rest : List Instruction) × Fits cs (length parts + 1) × (is ≡ listing cs ++ mark Operation.End ∷ rest) × Closes parts rest
 
@@ -121,7 +122,8 @@ module _ (types : Table) (constants : List Constant) where
   abbrev After : List Instruction → List Part → Type 0
   After is parts = length parts ≤ 8 → passed_all parts (roles is) ≡ Some [] → Closes parts is
 
-  step : (i : Instruction) (is : List Instruction) → Right i → ((parts : List Part) → After is parts) → (role : Role) → role_of i ≡ role → (parts : List Part) → length parts ≤ 8 → option_and_then (λ now. passed_all now (roles is)) (passed parts role) ≡ Some [] → Closes parts (i ∷ is)
+  step : (i : Instruction) (is : List Instruction) → Right i → ((parts : List Part) → After is parts) → (role : Role) → role_of i ≡ role → (parts : List Part)
+      → length parts ≤ 8 → option_and_then (λ now. passed_all now (roles is)) (passed parts role) ≡ Some [] → Closes parts (i ∷ is)
   unfolding IsCode listing depth
   step i is h rest Role.Plain e parts few p = in_front (plain i) parts is (standing Role.Plain i h e) (omega arith) (rest parts few p)
   step i is h rest Role.Opener e parts few p =
@@ -173,7 +175,8 @@ module _ (types : Table) (constants : List Constant) where
     listed_one : (c : Statement) (parts : List Part) (rest : List Role) → IsStatement types constants c → length parts + depth_one c ≤ 8 → passed_all parts (roles (listing_one c) ++ rest) ≡ passed_all parts rest
     listed_one (plain i) parts rest h d = ap (λ p. option_and_then (λ now. passed_all now rest) (passed parts p)) h.role
     listed_one (opener i s c) parts rest h d =
-        ap (λ ps. passed_all parts (ps ++ rest)) (map-append role_of ((i ∷ listing s) ++ mark Operation.Else ∷ listing c) (mark Operation.End ∷ []) ∙ ap (λ ps. ps ++ Role.End ∷ []) (map-append role_of (i ∷ listing s) (mark Operation.Else ∷ listing c)))
+        ap (λ ps. passed_all parts (ps ++ rest)) (map-append role_of ((i ∷ listing s) ++ mark Operation.Else ∷ listing c) (mark Operation.End ∷ [])
+        ∙ ap (λ ps. ps ++ Role.End ∷ []) (map-append role_of (i ∷ listing s) (mark Operation.Else ∷ listing c)))
         ∙ ap (passed_all parts) (placed_two (role_of i ∷ roles (listing s)) (roles (listing c)) rest)
         ∙ ap (λ p. option_and_then (λ now. passed_all now (roles (listing s) ++ Role.Else ∷ (roles (listing c) ++ Role.End ∷ rest))) (passed parts p)) h.0.role
         ∙ ap (option_and_then (λ now. passed_all now (roles (listing s) ++ Role.Else ∷ (roles (listing c) ++ Role.End ∷ rest)))) (opened_room parts part.Success (omega arith))
@@ -186,12 +189,13 @@ module _ (types : Table) (constants : List Constant) where
         ∙ ap (option_and_then (λ now. passed_all now (roles (listing s) ++ Role.End ∷ rest))) (opened_room parts part.Body (omega arith))
         ∙ listed s (part.Body ∷ parts) (Role.End ∷ rest) h.1 (omega arith)
 
--- what is open behind more instructions
+-- what is open after more instructions
 pub passed_more : (parts : List Part) (xs ys : List Role) → passed_all parts (xs ++ ys) ≡ option_and_then (λ now. passed_all now ys) (passed_all parts xs)
 passed_more parts [] ys = refl
 passed_more parts (x ∷ xs) ys = behind (passed parts x) (λ q. passed_more q xs ys)
   where
-    behind : (now : Option (List Part)) → ((q : List Part) → passed_all q (xs ++ ys) ≡ option_and_then (λ q'. passed_all q' ys) (passed_all q xs)) → option_and_then (λ q. passed_all q (xs ++ ys)) now ≡ option_and_then (λ q. passed_all q ys) (option_and_then (λ q. passed_all q xs) now)
+    behind : (now : Option (List Part)) → ((q : List Part) → passed_all q (xs ++ ys) ≡ option_and_then (λ q'. passed_all q' ys) (passed_all q xs))
+        → option_and_then (λ q. passed_all q (xs ++ ys)) now ≡ option_and_then (λ q. passed_all q ys) (option_and_then (λ q. passed_all q xs) now)
     behind None same = refl
     behind (Some q) same = same q
 

@@ -20,6 +20,6 @@ pub within : (z : ℤ) → FitsSigned w32 z → mag z < 2 ^ 63
 within (pos n) fits = omega arith
 within (negsuc n) fits = omega arith
 
--- the digits behind a letter
+-- the digits after a letter
 pub behind_letter : (letter : ℕ) (word digits : List ℕ) → word ≡ letter ∷ digits → take (length word - 1) (drop 1 word) ≡ digits
 behind_letter letter word digits same = subst (λ w. take (length w - 1) (drop 1 w) ≡ digits) (sym same) (take_all (length (letter ∷ digits) - 1) digits (omega arith))

@@ -16,8 +16,10 @@ lt_true m n h = search rules
 pub opened_room : (parts : List Part) (part : Part) → length parts < 8 → opened parts part ≡ Some (part ∷ parts)
 opened_room parts part h = ap (λ b. if b then Some (part ∷ parts) else None) (lt_true (length parts) 8 h)
 
--- past ELSE, the part behind an opener is the else part
-else_passed : (old rest new : List Part) (r : Bool) → old ≡ rest ++ part.Success ∷ [] → length old ≤ 8 → MatchBool r (opened (reverse rest) part.Else ≡ Some (reverse new)) (opened (reverse rest) part.Else ≡ None) → MatchBool r (passed (reverse old) Role.Else ≡ Some (reverse new)) (passed (reverse old) Role.Else ≡ None)
+-- past ELSE, the part after an opener is the else part
+else_passed : (old rest new : List Part) (r : Bool) → old ≡ rest ++ part.Success ∷ []
+    → length old ≤ 8 → MatchBool r (opened (reverse rest) part.Else ≡ Some (reverse new)) (opened (reverse rest) part.Else ≡ None)
+    → MatchBool r (passed (reverse old) Role.Else ≡ Some (reverse new)) (passed (reverse old) Role.Else ≡ None)
 else_passed old rest new true e h m =
     let room = opened_room (reverse rest) part.Else (let a = ap length e in let b = length-append rest (part.Success ∷ []) in let d = length-reverse rest in omega arith) in
     ap (λ parts. passed parts Role.Else) (ap reverse e ∙ reversed rest part.Success) ∙ sym room ∙ m
@@ -25,5 +27,7 @@ else_passed old rest new false e h m =
     let room = opened_room (reverse rest) part.Else (let a = ap length e in let b = length-append rest (part.Success ∷ []) in let d = length-reverse rest in omega arith) in
     cc
 
-pub else_passed_at : (old rest new : List Part) (r : Bool) (role : Role) → role ≡ Role.Else → old ≡ rest ++ part.Success ∷ [] → length old ≤ 8 → MatchBool r (opened (reverse rest) part.Else ≡ Some (reverse new)) (opened (reverse rest) part.Else ≡ None) → MatchBool r (passed (reverse old) role ≡ Some (reverse new)) (passed (reverse old) role ≡ None)
+pub else_passed_at : (old rest new : List Part) (r : Bool) (role : Role) → role ≡ Role.Else → old ≡ rest ++ part.Success ∷ []
+    → length old ≤ 8 → MatchBool r (opened (reverse rest) part.Else ≡ Some (reverse new)) (opened (reverse rest) part.Else ≡ None)
+    → MatchBool r (passed (reverse old) role ≡ Some (reverse new)) (passed (reverse old) role ≡ None)
 else_passed_at old rest new r role p e h m = subst (λ q. MatchBool r (passed (reverse old) q ≡ Some (reverse new)) (passed (reverse old) q ≡ None)) (sym p) (else_passed old rest new r e h m)

@@ -1,4 +1,4 @@
--- What a call's answer says.
+-- What a call's result says.
 use Rattle.std.proofs.Common.{◌≡◌, ℕ, sym, refl, subst, Bool, true, false, Option, Some, None, Result, Ok, Err, IfNone}
 use Rattle.std.specs.Prelude.{MatchOption, IfSome, OnOk, OnErr}
 use Rattle.std.specs.Bool.{then_some}
@@ -28,7 +28,7 @@ pub parsed_one : {N E : Type 0} (r : Result N E) (m n : N) → result_ok r ≡ S
 parsed_one (Ok x) m n given same = cc
 parsed_one (Err e) m n given same = cc
 
--- there is no answer only where a test failed
+-- there is no result only where a test failed
 pub failed_test : {N : Type 0} (test : Bool) (n : N) (r : Option N) (Q : Type 0) → r ≡ then_some test n → (test ≡ false → Q) → IfNone r Q
 failed_test true n r Q same q = subst (λ r. IfNone r Q) (sym same) tt
 failed_test false n r Q same q = subst (λ r. IfNone r Q) (sym same) (q refl)

@@ -5,9 +5,9 @@ use Rattle.client_code.specs.declared.outline.Section.{Section}
 use Rattle.client_code.specs.declared.outline.Section.TheVariants as section
 use Rattle.client_code.specs.Outlines.{outlined, IsOutline}
 
--- ---- what may stand behind lines in order
+-- ---- what may stand after lines in order
 
--- the section may stand behind so many instructions, of which there are more
+-- the section may stand after so many instructions, of which there are more
 last_next : (i : ℕ) (s : Section) (behind : List Section) (n : ℕ) → replicate i section.Instructions ++ s ∷ behind ≡ replicate n section.Instructions → (s ≡ section.Instructions) × (i < n)
 last_next zero s behind zero e = cc
 last_next zero s behind (suc n) e = ((tail_of s section.Instructions behind _ e).0, omega arith)
@@ -57,7 +57,7 @@ pub next_of : (t c i : ℕ) (s : Section) (behind : List Section) (l m n : ℕ) 
 next_of t c i s behind l m n e =
     next_in t c i s behind l m n (sym (regroup (replicate t section.Types) (replicate c section.Constants) (replicate i section.Instructions) (s ∷ behind)) ∙ e)
 
--- a type is refused behind a constant or code, and behind 32 types
+-- a type is refused after a constant or code, and after 32 types
 pub no_type : (t c i : ℕ) → (1 ≤ i) ⊎ ((1 ≤ c) ⊎ (32 ≤ t)) → (s : Section) → s ≡ section.Types → (behind : List Section) → IsOutline (outlined t c i ++ s ∷ behind) → ⊥
 no_type t c i refused s is behind outline = here (next_of t c i s behind outline.types outline.constants outline.instructions outline.in_order) refused
   where
@@ -68,7 +68,7 @@ no_type t c i refused s is behind outline = here (next_of t c i s behind outline
     here (inr (same, none, no_code, more)) (inr (inl r)) = omega arith
     here (inr (same, none, no_code, more)) (inr (inr r)) = let few = outline.few_types in omega arith
 
--- a constant is refused behind code, and behind 256 constants
+-- a constant is refused after code, and after 256 constants
 pub no_constant : (t c i : ℕ) → (1 ≤ i) ⊎ (256 ≤ c) → (s : Section) → s ≡ section.Constants → (behind : List Section) → IsOutline (outlined t c i ++ s ∷ behind) → ⊥
 no_constant t c i refused s is behind outline = here (next_of t c i s behind outline.types outline.constants outline.instructions outline.in_order) refused
   where
@@ -78,7 +78,7 @@ no_constant t c i refused s is behind outline = here (next_of t c i s behind out
     here (inl (inr (same, none, more))) (inr r) = let few = outline.few_constants in omega arith
     here (inr (same, none, no_code, more)) r = cc
 
--- an instruction is refused behind 4096
+-- an instruction is refused after 4096
 pub no_instruction : (t c i : ℕ) → 4096 ≤ i → (s : Section) → s ≡ section.Instructions → (behind : List Section) → IsOutline (outlined t c i ++ s ∷ behind) → ⊥
 no_instruction t c i full s is behind outline = here (next_of t c i s behind outline.types outline.constants outline.instructions outline.in_order)
   where

@@ -20,13 +20,15 @@ pub spaces_two : (xs ys : Words) → with_spaces (xs ++ ys) ≡ with_spaces xs +
 spaces_two [] ys = refl
 spaces_two (x ∷ xs) ys = ap (λ zs. (32 ∷ x) ++ zs) (spaces_two xs ys) ∙ sym (append_assoc (32 ∷ x) (with_spaces xs) (with_spaces ys))
 
--- a line of a word and four groups of words behind it
-pub line_is : (word : List ℕ) (a b c n : Words) (old t0 t1 t2 t3 t4 new : List ℕ) → t0 ≡ old ++ word → t1 ≡ t0 ++ with_spaces a → t2 ≡ t1 ++ with_spaces b → t3 ≡ t2 ++ with_spaces c → t4 ≡ t3 ++ with_spaces n → new ≡ t4 ++ 10 ∷ [] → new ≡ old ++ (spaced ((((word ∷ a) ++ b) ++ c) ++ n) ++ 10 ∷ [])
+-- a line of a word and four groups of words after it
+pub line_is : (word : List ℕ) (a b c n : Words) (old t0 t1 t2 t3 t4 new : List ℕ) → t0 ≡ old ++ word → t1 ≡ t0 ++ with_spaces a → t2 ≡ t1 ++ with_spaces b
+    → t3 ≡ t2 ++ with_spaces c → t4 ≡ t3 ++ with_spaces n → new ≡ t4 ++ 10 ∷ [] → new ≡ old ++ (spaced ((((word ∷ a) ++ b) ++ c) ++ n) ++ 10 ∷ [])
 line_is word a b c n old t0 t1 t2 t3 t4 new e0 e1 e2 e3 e4 e =
     let words : with_spaces (((a ++ b) ++ c) ++ n) ≡ ((with_spaces a ++ with_spaces b) ++ with_spaces c) ++ with_spaces n =
     spaces_two ((a ++ b) ++ c) n ∙ ap (λ xs. xs ++ with_spaces n) (spaces_two (a ++ b) c ∙ ap (λ xs. xs ++ with_spaces c) (spaces_two a b)) in
     let all : t4 ≡ old ++ (word ++ (((with_spaces a ++ with_spaces b) ++ with_spaces c) ++ with_spaces n)) =
-    e4 ∙ ap (λ xs. xs ++ with_spaces n) (e3 ∙ ap (λ xs. xs ++ with_spaces c) (e2 ∙ ap (λ xs. xs ++ with_spaces b) (e1 ∙ ap (λ xs. xs ++ with_spaces a) e0))) ∙ regroup old word (with_spaces a) (with_spaces b) (with_spaces c) (with_spaces n) in
+    e4 ∙ ap (λ xs. xs ++ with_spaces n) (e3 ∙ ap (λ xs. xs ++ with_spaces c) (e2 ∙ ap (λ xs. xs ++ with_spaces b) (e1 ∙ ap (λ xs. xs ++ with_spaces a) e0)))
+    ∙ regroup old word (with_spaces a) (with_spaces b) (with_spaces c) (with_spaces n) in
     e ∙ ap (λ xs. xs ++ 10 ∷ []) (all ∙ ap (λ xs. old ++ xs) (ap (λ xs. word ++ xs) (sym words) ∙ sym (spaced_is word (((a ++ b) ++ c) ++ n)))) ∙ append_assoc old _ (10 ∷ [])
   where
     regroup : (o w a b c n : List ℕ) → ((((o ++ w) ++ a) ++ b) ++ c) ++ n ≡ o ++ (w ++ (((a ++ b) ++ c) ++ n))
@@ -55,12 +57,16 @@ get_there (x ∷ xs) zero h = (x, refl, refl)
 get_there (x ∷ xs) (suc k) h = get_there xs k (omega arith)
 
 -- one more line
-pub line_more : {A : Type 0} (item : A → Item) (xs : List A) (k : ℕ) (x : A) (start text new : List ℕ) → k < length xs → get_or xs k x ≡ x → text ≡ start ++ flat_map ended (map item (take k xs)) → new ≡ text ++ ended (item x) → new ≡ start ++ flat_map ended (map item (take (k + 1) xs))
+pub line_more : {A : Type 0} (item : A → Item) (xs : List A) (k : ℕ) (x : A) (start text new : List ℕ) → k < length xs → get_or xs k x ≡ x
+    → text ≡ start ++ flat_map ended (map item (take k xs)) → new ≡ text ++ ended (item x) → new ≡ start ++ flat_map ended (map item (take (k + 1) xs))
 line_more item xs k x start text new h e t n =
     let more : map item (take (k + 1) xs) ≡ map item (take k xs) ++ item x ∷ [] = ap (map item) (take_more xs k x h ∙ ap (λ y. take k xs ++ y ∷ []) e) ∙ map_push item (take k xs) x in
     n ∙ ap (λ ys. ys ++ ended (item x)) t ∙ flat_map_more ended start (map item (take k xs)) (item x) ∙ ap (λ ys. start ++ flat_map ended ys) (sym more)
 
-pub constant_more : (xs : List Constant) (k : ℕ) (d : Constant) (start text new : List ℕ) → k < length xs → All IsConstant (constants_of xs) → text ≡ start ++ flat_map ended (map constant_item (take k (constants_of xs))) → (IsConstant (constant_of (get_or xs k d)) → new ≡ text ++ ended (constant_item (constant_of (get_or xs k d)))) → new ≡ start ++ flat_map ended (map constant_item (take (k + 1) (constants_of xs)))
+pub constant_more : (xs : List Constant) (k : ℕ) (d : Constant) (start text new : List ℕ)
+    → k < length xs → All IsConstant (constants_of xs) → text ≡ start ++ flat_map ended (map constant_item (take k (constants_of xs)))
+    → (IsConstant (constant_of (get_or xs k d)) → new ≡ text ++ ended (constant_item (constant_of (get_or xs k d))))
+    → new ≡ start ++ flat_map ended (map constant_item (take (k + 1) (constants_of xs)))
 constant_more xs k d start text new h all t n =
     let x = constant_of (get_or xs k d) in
     let long = length-map xs constant_of in

@@ -29,13 +29,15 @@ word_at file s at n h same e =
 pub all_bytes : (xs : List ℕ) → ((i : ℕ) → Fits w8 (get_or xs i 0)) → All (λ b. b < 256) xs
 all_bytes xs h k d l = let e = get_or_default xs k d 0 l in let f = h k in omega arith
 
-pub text_valid : (k : ConstantKind) (bytes : List ℕ) → k ≡ kind.Text → ((i : ℕ) → Fits w8 (get_or bytes i 0)) → (IsTrue (nat_le (length bytes) 255) → IsConstant (constant_by k bytes)) × (IsConstant (constant_by k bytes) → IsTrue (nat_le (length bytes) 255))
+pub text_valid : (k : ConstantKind) (bytes : List ℕ) → k ≡ kind.Text → ((i : ℕ) → Fits w8 (get_or bytes i 0))
+    → (IsTrue (nat_le (length bytes) 255) → IsConstant (constant_by k bytes)) × (IsConstant (constant_by k bytes) → IsTrue (nat_le (length bytes) 255))
 text_valid kind.Text bytes e h = (λ t. (search rules, all_bytes bytes h), λ v. let few = v.0 in search rules)
 text_valid kind.Name bytes e h = cc
 text_valid kind.Family bytes e h = cc
 
--- a constant that was read stands there, and the rest behind it
-pub constant_at : (file front rest bytes : List ℕ) (k : ConstantKind) (at len n : ℕ) → front ≡ take (length file - at) (drop at file) → 2 ≤ length front → rest ≡ take (length front - 2) (drop 2 front) → len ≡ get_or front 1 0 → n ≡ get_or front 1 0 → n ≤ length rest → bytes ≡ take (n - 0) (drop 0 rest)
+-- a constant that was read stands there, and the rest after it
+pub constant_at : (file front rest bytes : List ℕ) (k : ConstantKind) (at len n : ℕ) → front ≡ take (length file - at) (drop at file) → 2 ≤ length front
+    → rest ≡ take (length front - 2) (drop 2 front) → len ≡ get_or front 1 0 → n ≡ get_or front 1 0 → n ≤ length rest → bytes ≡ take (n - 0) (drop 0 rest)
     → ((xs : List ℕ) → constant_bytes (constant_by k xs) ≡ get_or front 0 0 ∷ length xs ∷ xs) → drop at file ≡ constant_bytes (constant_by k bytes) ++ drop (at + 2 + len) file
 constant_at file front rest bytes k at len n f long r l m fits b law =
     let cut : bytes ≡ take len rest = (let e : n - 0 ≡ len = omega arith in b ∙ ap (λ i. take i rest) e) in
@@ -71,14 +73,19 @@ eight (b0 ∷ b1 ∷ b2 ∷ b3 ∷ []) n l h e = absurd (omega arith)
 eight (b0 ∷ b1 ∷ b2 ∷ b3 ∷ b4 ∷ []) n l h e = absurd (omega arith)
 eight (b0 ∷ b1 ∷ b2 ∷ b3 ∷ b4 ∷ b5 ∷ []) n l h e = absurd (omega arith)
 eight (b0 ∷ b1 ∷ b2 ∷ b3 ∷ b4 ∷ b5 ∷ b6 ∷ []) n l h e = absurd (omega arith)
-eight (b0 ∷ b1 ∷ b2 ∷ b3 ∷ b4 ∷ b5 ∷ b6 ∷ b7 ∷ []) n l h e = ap (λ last. b0 ∷ b1 ∷ b2 ∷ b3 ∷ last) (sym (word_of_four b4 b5 b6 b7 n (let f = h 4 in omega arith) (let f = h 5 in omega arith) (let f = h 6 in omega arith) (let f = h 7 in omega arith) e))
+eight (b0 ∷ b1 ∷ b2 ∷ b3 ∷ b4 ∷ b5 ∷ b6 ∷ b7 ∷ []) n l h e = ap (λ last. b0 ∷ b1 ∷ b2 ∷ b3 ∷ last)
+    (sym (word_of_four b4 b5 b6 b7 n (let f = h 4 in omega arith) (let f = h 5 in omega arith) (let f = h 6 in omega arith) (let f = h 7 in omega arith) e))
 eight (b0 ∷ b1 ∷ b2 ∷ b3 ∷ b4 ∷ b5 ∷ b6 ∷ b7 ∷ b8 ∷ bytes) n l h e = absurd (omega arith)
 
 -- what 8 bytes spell
-pub decoded : (r : Option Instruction) (file field : List ℕ) (at : ℕ) → at + 8 ≤ length file → field ≡ slice file at 8 → IfSome r (λ i. field ≡ instruction_bytes (instruction_of i)) → IfSome r (λ i. (at + 8 ≤ length file) × (slice file at 8 ≡ instruction_bytes (instruction_of i)))
+pub decoded : (r : Option Instruction) (file field : List ℕ) (at : ℕ)
+    → at + 8 ≤ length file → field ≡ slice file at 8 → IfSome r (λ i. field ≡ instruction_bytes (instruction_of i))
+    → IfSome r (λ i. (at + 8 ≤ length file) × (slice file at 8 ≡ instruction_bytes (instruction_of i)))
 decoded None file field at h same found = found
 decoded (Some i) file field at h same found = (h, sym same ∙ found)
 
-pub not_decoded : (r : Option Instruction) (file field : List ℕ) (at : ℕ) → field ≡ slice file at 8 → IfNone r ((i : code.Instruction) → field ≢ instruction_bytes i) → IfNone r (at + 8 ≤ length file → (i : code.Instruction) → slice file at 8 ≢ instruction_bytes i)
+pub not_decoded : (r : Option Instruction) (file field : List ℕ) (at : ℕ)
+    → field ≡ slice file at 8 → IfNone r ((i : code.Instruction) → field ≢ instruction_bytes i)
+    → IfNone r (at + 8 ≤ length file → (i : code.Instruction) → slice file at 8 ≢ instruction_bytes i)
 not_decoded None file field at same none = λ h i e. none i (same ∙ e)
 not_decoded (Some i) file field at same none = none

@@ -38,7 +38,8 @@ line_goes_on : (c : ℕ) (line text : List ℕ) → lines_from (c ∷ line) text
 line_goes_on c line [] = ap (λ xs. (c ∷ xs) ∷ []) (sym (append-nil line))
 line_goes_on c line (b ∷ text) = line_step (b == 10) c line b text (line_length text) refl (line_goes_on c (line ++ b ∷ []) text)
 
-line_begins : (t : Bool) (b : ℕ) (text : List ℕ) → (b == 10) ≡ t → (if t then [] ∷ lines_from [] text else lines_from (b ∷ []) text) ≡ take (if t then 0 else suc (line_length text)) (b ∷ text) ∷ lines_from [] (drop (suc (if t then 0 else suc (line_length text))) (b ∷ text))
+line_begins : (t : Bool) (b : ℕ) (text : List ℕ) → (b == 10) ≡ t → (if t then [] ∷ lines_from [] text else lines_from (b ∷ []) text) ≡ take
+    (if t then 0 else suc (line_length text)) (b ∷ text) ∷ lines_from [] (drop (suc (if t then 0 else suc (line_length text))) (b ∷ text))
 line_begins true b text e = refl
 line_begins false b text e = line_goes_on b [] text
 
@@ -46,7 +47,7 @@ first_line : (text : List ℕ) → 0 < length text → lines_from [] text ≡ ta
 first_line [] some = absurd (omega arith)
 first_line (b ∷ text) some = line_begins (b == 10) b text refl
 
--- what is behind the line's end, if it has one
+-- what is after the line's end, if it has one
 behind_end : (text rest left : List ℕ) (n m : ℕ) → rest ≡ drop n text → m ≡ min (length rest) 1 → left ≡ take (length rest - m) (drop m rest) → left ≡ drop (suc n) text
 behind_end text rest left n m r e l = l ∙ rest_from rest m ∙ one_less rest m e ∙ ap (drop 1) r ∙ drop-drop 1 n text ∙ ap (λ k. drop k text) (let k : n + 1 ≡ suc n = omega arith in k)
   where
@@ -54,7 +55,8 @@ behind_end text rest left n m r e l = l ∙ rest_from rest m ∙ one_less rest m
     one_less [] m e = let z : m ≡ 0 = omega arith in ap (λ k. drop k []) z
     one_less (x ∷ xs) m e = let z : m ≡ 1 = omega arith in ap (λ k. drop k (x ∷ xs)) z
 
-pub one_line : (text line rest left : List ℕ) (n m : ℕ) → 0 < length text → n ≡ line_length text → line ≡ take n text → rest ≡ drop n text → m ≡ min (length rest) 1 → left ≡ take (length rest - m) (drop m rest) → lines_from [] text ≡ line ∷ lines_from [] left
+pub one_line : (text line rest left : List ℕ) (n m : ℕ) → 0 < length text → n ≡ line_length text → line ≡ take n text → rest ≡ drop n text
+    → m ≡ min (length rest) 1 → left ≡ take (length rest - m) (drop m rest) → lines_from [] text ≡ line ∷ lines_from [] left
 one_line text line rest left n m some e l r k b =
     let here = behind_end text rest left n m r k b in
     first_line text some ∙ ap (λ i. take i text ∷ lines_from [] (drop (suc i) text)) (sym e) ∙ cc

@@ -31,7 +31,8 @@ full bytes table n valid spells size used =
     let rest : length bytes - length flat ≡ 0 = omega arith in
     (all_of, spells ∙ ap (λ k. flat ++ replicate k 0) rest ∙ append-nil flat)
 
-pub are_types : (file bytes : List ℕ) (table : Table) (n : ℕ) → 20 + 16 * n ≤ length file → bytes ≡ slice file 20 (16 * n) → IsTable table → Spells bytes table → length bytes ≡ 16 * n → ((k : ℕ) → k < n → IsUsed bytes k) → AreTypes file table
+pub are_types : (file bytes : List ℕ) (table : Table) (n : ℕ) → 20 + 16 * n ≤ length file → bytes ≡ slice file 20 (16 * n) → IsTable table → Spells bytes table
+    → length bytes ≡ 16 * n → ((k : ℕ) → k < n → IsUsed bytes k) → AreTypes file table
 are_types file bytes table n whole same valid spells size used =
     let f = full bytes table n valid spells size used in
     let all = f.0 in

@@ -66,7 +66,9 @@ module _ (client : Client) (valid : IsClient client) where
 
   pub all_written : All IsWritten (items_of client)
   all_written =
-      All-append IsWritten (map type_item client.types ++ map constant_item client.constants) (map instruction_item (listing client.code)) (All-append IsWritten (map type_item client.types) (map constant_item client.constants) (types_written client.types valid.types) (All-map IsWritten constant_item client.constants valid.constants))
+      All-append IsWritten (map type_item client.types ++ map constant_item client.constants) (map instruction_item (listing client.code))
+      (All-append IsWritten (map type_item client.types) (map constant_item client.constants) (types_written client.types valid.types)
+      (All-map IsWritten constant_item client.constants valid.constants))
       (All-map IsWritten instruction_item (listing client.code) (All-from_recursion IsInSomeClient (listing client.code) (all_listed client.types client.constants IsInSomeClient in_client in_else in_end client.code valid.code)))
 
 -- ---- the sections
@@ -104,7 +106,7 @@ module _ (text : List ℕ) (client : Client) (spells : SpellsInText text client)
       let written = All-head IsWritten next.item next.rest (subst (All IsWritten) next.here (All-drop IsWritten n (items_of client) (all_written client spells.valid))) in
       none (get_or lines n []) (drop (suc n) lines) next.item here written next.spells
 
-  -- no line stands behind those that a header counts
+  -- no line stands after those that a header counts
   pub none_behind : (n : ℕ) (line : List ℕ) (rest : List (List ℕ)) → drop n (meant text) ≡ line ∷ rest → ((items : List Item) → EachSpells (meant text) items → IsOutline (map section_of items) → length items ≡ n) → ⊥
   none_behind n line rest here counted =
       let long = not_past (meant text) rest n line here in

@@ -51,7 +51,7 @@ split_at : (file : List ℕ) (at n : ℕ) → drop at file ≡ slice file at n +
 unfolding slice
 split_at file at n = sym (take-append-drop n (drop at file)) ∙ ap (λ xs. take n (drop at file) ++ xs) (drop-drop n at file)
 
--- a word that stands behind a front
+-- a word that stands after a front
 word_behind : (file front rest : List ℕ) (at n : ℕ) → file ≡ front ++ (word n ++ rest) → length front ≡ at → n < 256 ^ 4 → number 4 file at ≡ n
 word_behind file front rest at n e l small =
     let long = ap length e ∙ length-append front (word n ++ rest) in
@@ -111,7 +111,8 @@ two a b c = sym (append_assoc a b c)
 twenty : (a b c d e : List ℕ) → length a ≡ 4 → length b ≡ 4 → length c ≡ 4 → length d ≡ 4 → length e ≡ 4 → length ((((a ++ b) ++ c) ++ d) ++ e) ≡ 20
 twenty a b c d e k l m n o = simp length-append (omega arith)
 
-module _ (file a w v x y types constants code : List ℕ) (n : ℕ) (e : file ≡ a ++ (w ++ (v ++ (x ++ (y ++ (types ++ (constants ++ code))))))) (la : length a ≡ 4) (lw : length w ≡ 4) (lv : length v ≡ 4) (lx : length x ≡ 4) (ly : length y ≡ 4) (lt : length types ≡ n) where
+module _ (file a w v x y types constants code : List ℕ) (n : ℕ) (e : file ≡ a ++ (w ++ (v ++ (x ++ (y ++ (types ++ (constants ++ code))))))) (la : length a ≡ 4)
+    (lw : length w ≡ 4) (lv : length v ≡ 4) (lx : length x ≡ 4) (ly : length y ≡ 4) (lt : length types ≡ n) where
   second : file ≡ (a ++ w) ++ (v ++ (x ++ (y ++ (types ++ (constants ++ code)))))
   second = e ∙ two a w (v ++ (x ++ (y ++ (types ++ (constants ++ code)))))
 
@@ -177,9 +178,15 @@ spelled_parts file client spells =
         whole = omega arith;
         magic = ap (take 4) e;
         version = word_behind file S _ 4 1 e refl (omega arith);
-        of_types = word_behind file (S ++ word 1) _ 8 t (second file S (word 1) (word t) (word c) (word i) types constants code (16 * t) e refl (four 1) (four t) (four c) (four i) lt) (front_of_two file S (word 1) (word t) (word c) (word i) types constants code (16 * t) e refl (four 1) (four t) (four c) (four i) lt) few_types;
-        of_constants = word_behind file ((S ++ word 1) ++ word t) _ 12 c (third file S (word 1) (word t) (word c) (word i) types constants code (16 * t) e refl (four 1) (four t) (four c) (four i) lt) (front_of_three file S (word 1) (word t) (word c) (word i) types constants code (16 * t) e refl (four 1) (four t) (four c) (four i) lt) few_constants;
-        of_instructions = word_behind file (((S ++ word 1) ++ word t) ++ word c) _ 16 i (fourth file S (word 1) (word t) (word c) (word i) types constants code (16 * t) e refl (four 1) (four t) (four c) (four i) lt) (front_of_four file S (word 1) (word t) (word c) (word i) types constants code (16 * t) e refl (four 1) (four t) (four c) (four i) lt) few_instructions;
+        of_types = word_behind file
+            (S ++ word 1) _ 8 t (second file S (word 1) (word t) (word c) (word i) types constants code (16 * t) e refl (four 1) (four t) (four c) (four i) lt)
+            (front_of_two file S (word 1) (word t) (word c) (word i) types constants code (16 * t) e refl (four 1) (four t) (four c) (four i) lt) few_types;
+        of_constants = word_behind file ((S ++ word 1) ++ word t) _ 12 c
+            (third file S (word 1) (word t) (word c) (word i) types constants code (16 * t) e refl (four 1) (four t) (four c) (four i) lt) (front_of_three file
+            S (word 1) (word t) (word c) (word i) types constants code (16 * t) e refl (four 1) (four t) (four c) (four i) lt) few_constants;
+        of_instructions = word_behind file (((S ++ word 1) ++ word t) ++ word c) _ 16 i
+            (fourth file S (word 1) (word t) (word c) (word i) types constants code (16 * t) e refl (four 1) (four t) (four c) (four i) lt) (front_of_four file
+            S (word 1) (word t) (word c) (word i) types constants code (16 * t) e refl (four 1) (four t) (four c) (four i) lt) few_instructions;
       };
       types = record {
         valid = v.types;
@@ -187,7 +194,9 @@ spelled_parts file client spells =
         spelled = types_there file S (word 1) (word t) (word c) (word i) types constants code (16 * t) e refl (four 1) (four t) (four c) (four i) lt;
       };
       constants = record {
-        spelled = behind_types file S (word 1) (word t) (word c) (word i) types constants code (16 * t) e refl (four 1) (four t) (four c) (four i) lt ∙ ap (λ xs. constants ++ xs) (sym (behind_constants file S (word 1) (word t) (word c) (word i) types constants code (16 * t) e refl (four 1) (four t) (four c) (four i) lt (length constants) refl));
+        spelled = behind_types file S (word 1) (word t) (word c) (word i) types constants code (16 * t) e refl (four 1) (four t) (four c) (four i) lt
+            ∙ ap (λ xs. constants ++ xs) (sym (behind_constants file S (word 1) (word t) (word c) (word i) types constants code (16 * t) e refl (four 1)
+            (four t) (four c) (four i) lt (length constants) refl));
         place = refl;
         each = v.constants;
         different = v.different;
@@ -226,7 +235,9 @@ no_constants file t c i at header e wrong tree spells =
     let same = header_same file _ _ _ t c i p.header header in
     wrong tree.constants (code_place tree) same.1 (subst (λ n. AreConstants file n tree.constants (code_place tree)) (ap (λ n. 20 + 16 * n) same.0 ∙ sym e) p.constants)
 
-pub no_code : (file : List ℕ) (t c i at place : ℕ) (table : Table) (cs : List Constant) → IsHeader file t c i → at ≡ 20 + 16 * t → length table ≡ t → AreTypes file table → length cs ≡ c → AreConstants file at cs place → ((code : Statements) → length (listing code) ≡ i → IsCodeAt file place table cs code → ⊥) → (tree : Client) → Spells file tree → ⊥
+pub no_code : (file : List ℕ) (t c i at place : ℕ) (table : Table) (cs : List Constant)
+    → IsHeader file t c i → at ≡ 20 + 16 * t → length table ≡ t → AreTypes file table → length cs ≡ c → AreConstants file at cs place
+    → ((code : Statements) → length (listing code) ≡ i → IsCodeAt file place table cs code → ⊥) → (tree : Client) → Spells file tree → ⊥
 no_code file t c i at place table cs header e n types m constants wrong tree spells =
     let p = spelled_parts file tree spells in
     let same = header_same file _ _ _ t c i p.header header in
@@ -236,7 +247,9 @@ no_code file t c i at place table cs header e n types m constants wrong tree spe
     wrong tree.code same.2 (subst (λ k. IsCodeAt file k table cs tree.code) two.1 (subst (λ k. IsCodeAt file (code_place tree) k cs tree.code) one (subst (λ k. IsCodeAt file (code_place tree) tree.types k tree.code) two.0 p.code)))
 
 -- the parts that were read are a client
-pub found_client : (file : List ℕ) (t c i at place : ℕ) (table : Table) (cs : List Constant) (code : Statements) → ((k : ℕ) → get_or file k 0 < 256) → IsHeader file t c i → c ≤ 256 → i ≤ 4096 → at ≡ 20 + 16 * t → length table ≡ t → AreTypes file table → length cs ≡ c → AreConstants file at cs place → length (listing code) ≡ i → IsCodeAt file place table cs code
+pub found_client : (file : List ℕ) (t c i at place : ℕ) (table : Table) (cs : List Constant) (code : Statements) → ((k : ℕ) → get_or file k 0 < 256)
+    → IsHeader file t c i → c ≤ 256 → i ≤ 4096 → at ≡ 20 + 16 * t → length table ≡ t → AreTypes file table → length cs ≡ c → AreConstants file at cs place
+    → length (listing code) ≡ i → IsCodeAt file place table cs code
     → (tree : Client) × Spells file tree
 found_client file t c i at place table cs code small header few many e n types m constants k is_code =
     let tree : Client = record { types = table; constants = cs; code = code } in
@@ -257,12 +270,14 @@ types_again file tree spells table n m e types = types_same file table tree.type
 pub types_there_again : (file : List ℕ) (tree : Client) → Spells file tree → (n : ℕ) → n ≡ length tree.types → ((table : Table) → length table ≡ n → AreTypes file table → ⊥) → ⊥
 types_there_again file tree spells n m wrong = wrong tree.types (sym m) (spelled_parts file tree spells).types
 
-pub constants_again : (file : List ℕ) (tree : Client) → Spells file tree → (cs : List Constant) (at place t n : ℕ) → t ≡ length tree.types → n ≡ length tree.constants → at ≡ 20 + 16 * t → length cs ≡ n → AreConstants file at cs place → cs ≡ tree.constants
+pub constants_again : (file : List ℕ) (tree : Client) → Spells file tree → (cs : List Constant) (at place t n : ℕ) → t ≡ length tree.types
+    → n ≡ length tree.constants → at ≡ 20 + 16 * t → length cs ≡ n → AreConstants file at cs place → cs ≡ tree.constants
 constants_again file tree spells cs at place t n k m e l constants =
     let there = subst (λ x. AreConstants file x tree.constants (code_place tree)) (ap (λ x. 20 + 16 * x) (sym k) ∙ sym e) (spelled_parts file tree spells).constants in
     (constants_same file at place (code_place tree) cs tree.constants constants there (l ∙ m)).0
 
-pub constants_there_again : (file : List ℕ) (tree : Client) → Spells file tree → (at t n : ℕ) → t ≡ length tree.types → n ≡ length tree.constants → at ≡ 20 + 16 * t → ((cs : List Constant) (behind : ℕ) → length cs ≡ n → AreConstants file at cs behind → ⊥) → ⊥
+pub constants_there_again : (file : List ℕ) (tree : Client) → Spells file tree → (at t n : ℕ) → t ≡ length tree.types → n ≡ length tree.constants
+    → at ≡ 20 + 16 * t → ((cs : List Constant) (behind : ℕ) → length cs ≡ n → AreConstants file at cs behind → ⊥) → ⊥
 constants_there_again file tree spells at t n k m e wrong =
     wrong tree.constants (code_place tree) (sym m) (subst (λ x. AreConstants file x tree.constants (code_place tree)) (ap (λ x. 20 + 16 * x) (sym k) ∙ sym e) (spelled_parts file tree spells).constants)
 
@@ -285,7 +300,9 @@ some_word (x ∷ is) zero j all e = subst IsWord (Some_inj e) all.0
 some_word (x ∷ is) (suc i) j all e = some_word is i j all.1 e
 
 -- the instruction at an index
-pub instruction_there : (file : List ℕ) (tree : Client) → Spells file tree → (i : ℕ) → i < length (listing tree.code) → (j : Instruction) × (slice_get (listing tree.code) i ≡ Some j) × IsWord j × (code_place tree + 8 * i + 8 ≤ length file) × (slice file (code_place tree + 8 * i) 8 ≡ instruction_bytes j)
+pub instruction_there : (file : List ℕ) (tree : Client) → Spells file tree → (i : ℕ)
+    → i < length (listing tree.code) → (j : Instruction) × (slice_get (listing tree.code) i ≡ Some j) × IsWord j × (code_place tree + 8 * i + 8 ≤ length file)
+    × (slice file (code_place tree + 8 * i) 8 ≡ instruction_bytes j)
 unfolding slice
 instruction_there file tree spells i h =
     let code = (spelled_parts file tree spells).code in
@@ -307,7 +324,9 @@ pub end_there : (file : List ℕ) (tree : Client) → Spells file tree → (plac
 end_there file tree spells place n e m = let ends = (spelled_parts file tree spells).code.ends in omega arith
 
 -- what is found at the place of an instruction is that instruction
-pub same_instruction : (file : List ℕ) (tree : Client) → Spells file tree → (i place : ℕ) (r : Option program.Instruction) → i < length (listing tree.code) → place ≡ code_place tree + 8 * i → IfSome r (λ j. (place + 8 ≤ length file) × (slice file place 8 ≡ instruction_bytes (instruction_of j))) → IfSome r (λ j. FitsSigned w32 j.number)
+pub same_instruction : (file : List ℕ) (tree : Client) → Spells file tree → (i place : ℕ) (r : Option program.Instruction) → i < length (listing tree.code)
+    → place ≡ code_place tree + 8 * i → IfSome r (λ j. (place + 8 ≤ length file) × (slice file place 8 ≡ instruction_bytes (instruction_of j)))
+    → IfSome r (λ j. FitsSigned w32 j.number)
     → IfNone r (place + 8 ≤ length file → (j : Instruction) → slice file place 8 ≢ instruction_bytes j) → option_map instruction_of r ≡ slice_get (listing tree.code) i
 same_instruction file tree spells i place None h e found range none =
     let there = instruction_there file tree spells i h in
@@ -318,14 +337,18 @@ same_instruction file tree spells i place (Some r) h e found range none =
     ap Some (instruction_front (instruction_of r) there.0 [] [] range there.2 (ap (λ xs. xs ++ []) same)).0 ∙ sym there.1
 
 -- where the parts of a client that is read stand
-pub read_places : (file : List ℕ) (tree : Client) → Spells file tree → (t c i at place : ℕ) (cs : List Constant) → IsHeader file t c i → at ≡ 20 + 16 * t → length cs ≡ c → AreConstants file at cs place → (t ≡ length tree.types) × (c ≡ length tree.constants) × (i ≡ length (listing tree.code)) × (place ≡ code_place tree)
+pub read_places : (file : List ℕ) (tree : Client)
+    → Spells file tree → (t c i at place : ℕ) (cs : List Constant) → IsHeader file t c i → at ≡ 20 + 16 * t → length cs ≡ c → AreConstants file at cs place
+    → (t ≡ length tree.types) × (c ≡ length tree.constants) × (i ≡ length (listing tree.code)) × (place ≡ code_place tree)
 read_places file tree spells t c i at place cs header e m constants =
     let p = spelled_parts file tree spells in
     let same = header_same file t c i _ _ _ header p.header in
     let there = subst (λ k. AreConstants file k tree.constants (code_place tree)) (ap (λ k. 20 + 16 * k) (sym same.0) ∙ sym e) p.constants in
     (same.0, same.1, same.2, (constants_same file at place (code_place tree) cs tree.constants constants there (m ∙ same.1)).1)
 
-pub client_there : (file : List ℕ) (t c i at place : ℕ) (table : Table) (items slice : List constant.Constant) (code : Statements) → ((k : ℕ) → get_or file k 0 < 256) → IsHeader file t c i → c ≤ 256 → i ≤ 4096 → at ≡ 20 + 16 * t → length table ≡ t → AreTypes file table → length items ≡ c → AreConstants file at (constants_of items) place → slice ≡ items → length (listing code) ≡ i
+pub client_there : (file : List ℕ) (t c i at place : ℕ) (table : Table) (items slice : List constant.Constant) (code : Statements)
+    → ((k : ℕ) → get_or file k 0 < 256) → IsHeader file t c i → c ≤ 256 → i ≤ 4096 → at ≡ 20 + 16 * t → length table ≡ t → AreTypes file table
+    → length items ≡ c → AreConstants file at (constants_of items) place → slice ≡ items → length (listing code) ≡ i
     → IsCodeAt file place table (constants_of slice) code → (tree : Client) × Spells file tree
 client_there file t c i at place table items slice code small header few many e n types m constants same k is_code =
     let right = subst (λ xs. IsCodeAt file place table (constants_of xs) code) same is_code in

@@ -18,7 +18,7 @@ use Rattle.client_code.specs.Outlines.{section_of, outlined}
 use Rattle.client_spec.specs.Pieces.{IsReadable, meant, Pieces, items_in, file_of, Says}
 use Rattle.client_code.proofs.SpelledLines.{same_count, all_taken, one_more}
 
--- the items of the first lines stand behind the start of a file
+-- the items of the first lines stand after the start of a file
 pub record Written (lines : List (List ℕ)) (start file : List ℕ) (n : ℕ) : Type 0 where
   pub items : List Item
   pub spelled : EachSpells (take n lines) items
@@ -53,7 +53,8 @@ record First {A : Type 0} (f : A → Item) (n : ℕ) (behind : List Section) (it
   pub whole : items ≡ map f list ++ rest
   pub sections : map section_of rest ≡ behind
 
-first : {A : Type 0} (f : A → Item) (s : Section) → ((item : Item) → section_of item ≡ s → (x : A) × (item ≡ f x)) → (n : ℕ) (behind : List Section) (items : List Item) → map section_of items ≡ replicate n s ++ behind → First f n behind items
+first : {A : Type 0} (f : A → Item) (s : Section) → ((item : Item) → section_of item ≡ s → (x : A) × (item ≡ f x))
+    → (n : ℕ) (behind : List Section) (items : List Item) → map section_of items ≡ replicate n s ++ behind → First f n behind items
 first f s kind zero behind items e = record { list = []; rest = items; count = refl; whole = refl; sections = e }
 first f s kind (suc n) behind [] e = cc
 first f s kind (suc n) behind (item ∷ items) e =
@@ -133,12 +134,13 @@ file_is : (old start : List ℕ) (t c i : ℕ) (items : List Item) (all : InPiec
 file_is old start t c i items all e =
     let pieces = all.pieces in
     ap (λ xs. start ++ flat_map item_bytes xs) all.whole ∙ ap (λ xs. xs ++ flat_map item_bytes (items_in pieces)) (
-    e ∙ ap (λ n. old ++ header_bytes n c i) (sym all.types) ∙ ap (λ n. old ++ header_bytes (length pieces.types) n i) (sym all.constants) ∙ ap (λ n. old ++ header_bytes (length pieces.types) (length pieces.constants) n) (sym all.instructions)
+    e ∙ ap (λ n. old ++ header_bytes n c i) (sym all.types) ∙ ap (λ n. old ++ header_bytes (length pieces.types) n i) (sym all.constants)
+    ∙ ap (λ n. old ++ header_bytes (length pieces.types) (length pieces.constants) n) (sym all.instructions)
     )
     ∙ ap (λ xs. (old ++ header_in pieces) ++ xs) (bytes_in pieces)
     ∙ regroup old (header_in pieces) (flat_map form_bytes pieces.types) (flat_map constant_bytes pieces.constants) (flat_map instruction_bytes pieces.instructions)
 
--- behind the last line the file is that of the pieces
+-- after the last line the file is that of the pieces
 pub ends : (text old start file : List ℕ) (t c i n : ℕ) → Written (meant text) start file n → drop n (meant text) ≡ [] → n ≤ length (meant text) → start ≡ old ++ header_bytes t c i → t ≤ 32 → c ≤ 256 → i ≤ 4096
     → ((items : List Item) → EachSpells (meant text) items → map section_of (take n items) ≡ outlined t c i) → (pieces : Pieces) × Says text pieces × (file ≡ old ++ file_of pieces)
 ends text old start file t c i n written none within e few_types few_constants few_instructions counted =

@@ -1,9 +1,11 @@
 -- A client file, part by part.
 --     code_place client                              where the code of a client begins
 --     IsHeader file types constants instructions     the header says so
---     AreRight file place                            the header's fields in front of a position are right
---     AreTypes file table                            these types stand behind it
---     AreConstants file at constants behind          these constants stand there, and the rest behind them
+--     AreRight file place                            the header's fields in front
+--                                                    of a position are right
+--     AreTypes file table                            these types stand after it
+--     AreConstants file at constants behind          these constants stand there,
+--                                                    and the rest after them
 --     IsCodeAt file at table constants code          this code stands there, up to the end
 use Rattle.std.specs.Prelude.{◌≡◌, ℕ, ◌+◌, ◌*◌, ◌≤◌, List, ◌++◌, length, take, drop, flat_map, codes, All, AllPairs}
 use Rattle.seg_spec.specs.Bytes as bytes
@@ -12,7 +14,8 @@ use Rattle.client_spec.specs.Code.{Constant, Statements, Client}
 use Rattle.client_spec.specs.Grammar.{constant_bytes, instruction_bytes, listing, IsConstant, Differ, IsCode, depth}
 
 abbrev pub code_place : Client → ℕ
-code_place client = 20 + 16 * length client.types + length (flat_map constant_bytes client.constants)
+code_place client =
+    20 + 16 * length client.types + length (flat_map constant_bytes client.constants)
 
 pub record IsHeader (file : List ℕ) (types constants instructions : ℕ) : Type 0 where
   pub whole : 20 ≤ length file
@@ -29,20 +32,22 @@ pub record AreRight (file : List ℕ) (place : ℕ) : Type 0 where
   pub of_constants : 16 ≤ place → (16 ≤ length file) × (bytes.word file 12 ≤ 256)
   pub of_instructions : 20 ≤ place → (20 ≤ length file) × (bytes.word file 16 ≤ 4096)
 
-pub record AreConstants (file : List ℕ) (at : ℕ) (constants : List Constant) (behind : ℕ) : Type 0 where
+pub record AreConstants (file : List ℕ) (at : ℕ) (constants : List Constant)
+    (behind : ℕ) : Type 0 where
   pub spelled : drop at file ≡ flat_map constant_bytes constants ++ drop behind file
   pub place : behind ≡ at + length (flat_map constant_bytes constants)
   pub each : All IsConstant constants
   pub different : AllPairs Differ constants
 
--- the types that stand behind the header
+-- the types that stand after the header
 pub record AreTypes (file : List ℕ) (table : Table) : Type 0 where
   pub valid : IsTable table
   pub whole : 20 + 16 * length table ≤ length file
   pub spelled : bytes.slice file 20 (16 * length table) ≡ flat_map form_bytes table
 
 -- the code that stands there, up to the file's end
-pub record IsCodeAt (file : List ℕ) (at : ℕ) (table : Table) (constants : List Constant) (code : Statements) : Type 0 where
+pub record IsCodeAt (file : List ℕ) (at : ℕ) (table : Table) (constants : List Constant)
+    (code : Statements) : Type 0 where
   pub right : IsCode table constants code
   pub shallow : depth code ≤ 8
   pub spelled : drop at file ≡ flat_map instruction_bytes (listing code)

@@ -3,4 +3,5 @@ use Rattle.std.specs.Prelude.{ℕ, List, ◌++◌, codes}
 use Rattle.client_spec.specs.Grammar.{word}
 
 abbrev pub header_bytes : ℕ → ℕ → ℕ → List ℕ
-header_bytes types constants instructions = codes "SEGC" ++ word 1 ++ word types ++ word constants ++ word instructions
+header_bytes types constants instructions =
+    codes "SEGC" ++ word 1 ++ word types ++ word constants ++ word instructions

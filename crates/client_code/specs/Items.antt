@@ -1,6 +1,7 @@
 -- What a line of a text says.
 --     item_of item          an item of the program as the definitions know it
---     IsWritten item        an item that may stand in a client, as far as it is known without the others
+--     IsWritten item        an item that may stand in a client, as far as it is
+--                           known without the others
 --     item_bytes item       its bytes in a client file
 --     IsWords item          its line is words parted by spaces
 use Rattle.std.specs.Prelude.{⊤, ◌≤◌, ℕ, List, length, FitsSigned}

@@ -16,7 +16,8 @@ section_of (constant_item constant) = section.Constants
 section_of (instruction_item i) = section.Instructions
 
 abbrev pub outlined : ℕ → ℕ → ℕ → List Section
-outlined t c i = replicate t section.Types ++ (replicate c section.Constants ++ replicate i section.Instructions)
+outlined t c i =
+    replicate t section.Types ++ (replicate c section.Constants ++ replicate i section.Instructions)
 
 pub record IsOutline (sections : List Section) : Type 0 where
   pub types : ℕ

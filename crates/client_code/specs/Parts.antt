@@ -1,5 +1,6 @@
 -- The parts that are open at a place of code, the innermost first.
---     passed parts role         those that are open after an instruction of this role, if it may stand here
+--     passed parts role         those that are open after an instruction of this
+--                               role, if it may stand here
 --     passed_all parts roles    the same for several instructions
 use Rattle.std.specs.Prelude.{List, [], ◌∷◌, length, reverse, Option, Some, None, nat_lt, if◌then◌else◌}
 use Rattle.std.specs.Option.{option_and_then}

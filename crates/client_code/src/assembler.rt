@@ -1,5 +1,5 @@
 ghost use Rattle.std.specs.Prelude.{◌≡◌, ◌⊎◌, ℕ, IfOk, IfErr, IfSome, IfNone, IsTrue};
-ghost use Rattle.client_spec.specs.Code as code;
+ghost use Rattle.client_spec.specs.Code as syntax;
 ghost use Rattle.client_spec.specs.Grammar.{IsClient, Spells, spelling};
 ghost use Rattle.client_spec.specs.Text.{SpellsInText, text_of};
 
@@ -12,14 +12,14 @@ use seg_raw::Fault;
 use std::alloc::Allocator;
 
 /// The client file that a text spells, or `BadLine` with the first line, counted from 1, that is outside the grammar or against
-/// the rules of the file. Where an `END` is missing that is the line behind the last. `Memory` where memory was refused.
+/// the rules of the file. Where an `END` is missing that is the line after the last. `Memory` where memory was refused.
 pub fn assemble<A: Allocator>(alloc: A, text: &[u8]) -> Result<Vec<u8, A>, Fault>
-    ensures found { IfOk result (λ file. (tree : code.Client) × Spells file.items tree
+    ensures found { IfOk result (λ file. (tree : syntax.Client) × Spells file.items tree
         × SpellsInText text.now tree) }
-    ensures canonical { IfOk result (λ file. (tree : code.Client) → IsClient tree →
+    ensures canonical { IfOk result (λ file. (tree : syntax.Client) → IsClient tree →
         text.now ≡ text_of tree → file.items ≡ spelling tree) }
     ensures wrong { IfErr result (λ fault. (line : ℕ) → fault ≡ Fault.BadLine line →
-        (tree : code.Client) → SpellsInText text.now tree → ⊥) }
+        (tree : syntax.Client) → SpellsInText text.now tree → ⊥) }
     ensures fault { IfErr result (λ fault. (fault ≡ Fault.Memory)
         ⊎ ((line : ℕ) × (fault ≡ Fault.BadLine line))) }
 {
@@ -34,8 +34,9 @@ pub fn assemble<A: Allocator>(alloc: A, text: &[u8]) -> Result<Vec<u8, A>, Fault
 /// The position of the first field of a file that isn't a client's, or the file's end where lines lack. `None` where it is a
 /// client's file and has all lines.
 fn wrong_place(file: &[u8], is_whole: bool) -> Option<u32>
-    ensures right { IfNone result (IsTrue is_whole × (tree : code.Client) × Spells file.now tree) }
-    ensures wrong { IfSome result (λ _. IsTrue is_whole → (tree : code.Client) →
+    ensures right { IfNone result (IsTrue is_whole
+        × (tree : syntax.Client) × Spells file.now tree) }
+    ensures wrong { IfSome result (λ _. IsTrue is_whole → (tree : syntax.Client) →
         Spells file.now tree → ⊥) }
 {
     match parse(file) {
@@ -46,7 +47,7 @@ fn wrong_place(file: &[u8], is_whole: bool) -> Option<u32>
     }
 }
 
-/// The line whose item begins at a position of the file, or would; the line behind the last where there is none.
+/// The line whose item begins at a position of the file, or would; the line after the last where there is none.
 fn line_at(text: &[u8], at: u32) -> u32 {
     let mut place = TYPES_AT as usize;
     let mut number = 1u32;

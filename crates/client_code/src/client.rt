@@ -1,5 +1,5 @@
 ghost use Rattle.std.specs.Prelude.{◌≡◌, ◌≤◌, ◌<◌, ◌+◌, ◌*◌, ◌^◌, length};
-ghost use Rattle.client_spec.specs.Code as tree;
+ghost use Rattle.client_spec.specs.Code as syntax;
 ghost use Rattle.client_spec.specs.Grammar.{listing, Spells};
 ghost use Rattle.client_code.specs.Files.{code_place};
 
@@ -22,8 +22,9 @@ pub struct Client<'a> {
     // the position of the first instruction
     pub(crate) code: u32,
     ghost near: { code ≤ 2 ^ 20 },
-    ghost spelled: { ∥ ((tree : tree.Client) × Spells file.now tree) ∥₁ },
-    ghost placed: { (tree : tree.Client) → Spells file.now tree → (header.types ≡ length tree.types)
+    ghost spelled: { ∥ ((tree : syntax.Client) × Spells file.now tree) ∥₁ },
+    ghost placed: { (tree : syntax.Client) → Spells file.now tree →
+        (header.types ≡ length tree.types)
         × (header.constants ≡ length tree.constants)
         × (header.instructions ≡ length (listing tree.code)) × (code ≡ code_place tree) },
 }
@@ -96,7 +97,7 @@ impl<'a> Client<'a> {
         self.code + 8 * i
     }
 
-    /// The position behind the code, which is the file's length.
+    /// The position after the code, which is the file's length.
     pub fn end(&self) -> u32
         ensures { OfTree self.now (λ tree. result ≡ length (bytes_of self.now)) }
     {

@@ -1,5 +1,5 @@
 ghost use Rattle.std.specs.Prelude.{◌≡◌, ◌≢◌, ℕ, List, ◌+◌, ◌^◌, ◌≤◌, ◌↔◌, ◌++◌, ◌∷◌, [], length, drop, All, IsTrue, IfSome, IfNone, codes};
-ghost use Rattle.client_spec.specs.Code as code;
+ghost use Rattle.client_spec.specs.Code as syntax;
 ghost use Rattle.client_spec.specs.Grammar.{IsConstant, IsNameByte, Differ, constant_bytes};
 ghost use Rattle.client_code.specs.Views.{constant_of, constant_by};
 
@@ -37,7 +37,7 @@ impl ConstantKind {
     pub fn from_number(number: u8) -> Option<ConstantKind>
         ensures found { IfSome result (λ kind. (bytes : List ℕ) →
             constant_bytes (constant_by kind bytes) ≡ number ∷ length bytes ∷ bytes) }
-        ensures none { IfNone result ((c : code.Constant) (rest : List ℕ) →
+        ensures none { IfNone result ((c : syntax.Constant) (rest : List ℕ) →
             constant_bytes c ≢ number ∷ rest) }
     {
         match number {
@@ -81,7 +81,7 @@ fn may_be(kind: ConstantKind, bytes: &[u8]) -> bool
 }
 
 impl<'a> Constant<'a> {
-    /// The constant whose spelling, a kind, a length and bytes, begins at a position of a file, and the position behind it.
+    /// The constant whose spelling, a kind, a length and bytes, begins at a position of a file, and the position after it.
     pub fn read(file: &'a [u8], at: u32) -> Option<(Constant<'a>, u32)>
         requires { at ≤ 2 ^ 31 }
         ensures spelled { IfSome result (λ found. drop at file.now
@@ -90,7 +90,7 @@ impl<'a> Constant<'a> {
         ensures place { IfSome result (λ found. found.1
             ≡ at + length (constant_bytes (constant_of found.0))) }
         ensures near { IfSome result (λ found. found.1 ≤ at + 257) }
-        ensures none { IfNone result ((c : code.Constant) (rest : List ℕ) → IsConstant c →
+        ensures none { IfNone result ((c : syntax.Constant) (rest : List ℕ) → IsConstant c →
             drop at file.now ≢ constant_bytes c ++ rest) }
     {
         let [kind, len, rest @ ..] = file.get(at as usize..)? else {

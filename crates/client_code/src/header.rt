@@ -108,9 +108,9 @@ impl Header {
         self.types + self.constants + self.instructions
     }
 
-    /// The position of the first constant, behind the type entries.
+    /// The position of the first constant, after the type entries.
     pub fn constants_at(&self) -> u32
-        ensures { result ≡ 20 + 16 * self.now.types }
+        ensures { result ≡ TYPES_AT + ENTRY * self.now.types }
     {
         TYPES_AT + ENTRY * self.types
     }

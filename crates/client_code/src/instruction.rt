@@ -1,7 +1,7 @@
 ghost use Rattle.std.specs.Prelude.{◌≡◌, ◌≢◌, ◌%◌, ◌/◌, ◌↔◌, ℕ, pos, length, slice_get, IsTrue, IfSome, IfNone, FitsSigned};
 ghost use Rattle.std.specs.Int.{w32};
 ghost use Rattle.seg_spec.specs.Types.{Table};
-ghost use Rattle.client_spec.specs.Code as code;
+ghost use Rattle.client_spec.specs.Code as syntax;
 ghost use Rattle.client_spec.specs.declared.table.Number.TheVariants as number;
 ghost use Rattle.client_spec.specs.Operations.{row_of};
 ghost use Rattle.client_spec.specs.Grammar.{IsOperand, IsText, NamesBy, IsNumber, IsInstruction, instruction_bytes};
@@ -48,7 +48,7 @@ impl Instruction {
     /// The instruction that 8 bytes spell, if they are 8 and their operation is known.
     pub fn decode(bytes: &[u8]) -> Option<Instruction>
         ensures found { IfSome result (λ i. bytes.now ≡ instruction_bytes (instruction_of i)) }
-        ensures none { IfNone result ((i : code.Instruction) → bytes.now ≢ instruction_bytes i) }
+        ensures none { IfNone result ((i : syntax.Instruction) → bytes.now ≢ instruction_bytes i) }
     {
         let [operation, a, b, c, n0, n1, n2, n3] = bytes else {
             return None;
@@ -95,7 +95,7 @@ impl Instruction {
         }
     }
 
-    /// The constant that the number names, by itself or behind a type.
+    /// The constant that the number names, by itself or after a type.
     pub fn constant(self) -> u8
         ensures { (n : ℕ) → self.number ≡ pos n → result ≡ n % 256 }
     {

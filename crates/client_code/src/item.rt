@@ -3,7 +3,7 @@ ghost use Rattle.std.specs.Int.{w32};
 ghost use Rattle.std.specs.Fmt.{decimal};
 ghost use Rattle.seg_spec.specs.Types.{Form, IsForm, Table};
 ghost use Rattle.seg_layout.specs.Forms.{form_of};
-ghost use Rattle.client_spec.specs.Code as code;
+ghost use Rattle.client_spec.specs.Code as syntax;
 ghost use Rattle.client_spec.specs.Grammar.{IsOperand, IsNumber};
 ghost use Rattle.client_spec.specs.Text as text;
 ghost use Rattle.client_spec.specs.Text.{words_of, type_word, type_words, operand_words, number_words, instruction_words, SpellsItem};
@@ -178,10 +178,10 @@ fn read_instruction(operation: Operation, words: &mut Words) -> Option<Instructi
     ensures found { IfSome result (λ i. word_of operation ∷ words_of words.old.line.now
         ≡ instruction_words (instruction_of i) ++ words_of words.new.line.now) }
     ensures readable { IfSome result (λ i. IsToldInstruction (instruction_of i)) }
-    ensures whole { IfSome result (λ i. (j : code.Instruction) → j.operation ≡ operation →
+    ensures whole { IfSome result (λ i. (j : syntax.Instruction) → j.operation ≡ operation →
         word_of operation ∷ words_of words.old.line.now ≡ instruction_words j →
         words_of words.new.line.now ≡ []) }
-    ensures none { IfNone result ((i : code.Instruction) (rest : text.Words) →
+    ensures none { IfNone result ((i : syntax.Instruction) (rest : text.Words) →
         i.operation ≡ operation → IsInSomeClient i →
         word_of operation ∷ words_of words.old.line.now ≢ instruction_words i ++ rest) }
 {
@@ -213,8 +213,8 @@ fn read_operand(operand: Operand, words: &mut Words) -> Option<u8>
 }
 
 fn read_register(word: &[u8]) -> Option<u8>
-    ensures found { IfSome result (λ n. (n < 16) × (word.now ≡ 114 ∷ decimal n)) }
-    ensures none { IfNone result ((n : ℕ) → n < 16 → word.now ≢ 114 ∷ decimal n) }
+    ensures found { IfSome result (λ n. (n < REGISTERS) × (word.now ≡ 114 ∷ decimal n)) }
+    ensures none { IfNone result ((n : ℕ) → n < REGISTERS → word.now ≢ 114 ∷ decimal n) }
 {
     match index(b'r', word)? {
         register if register < REGISTERS => Some(register),
@@ -227,7 +227,7 @@ fn read_number(number: Number, words: &mut Words) -> Option<i32>
         ≡ number_words number n ++ words_of words.new.line.now) }
     ensures told { IfSome result (λ n. IsTold number n) }
     ensures range { IfSome result (λ n. FitsSigned w32 n) }
-    ensures none { IfNone result ((types : Table) (constants : List code.Constant) (b : ℕ) (n : ℤ)
+    ensures none { IfNone result ((types : Table) (constants : List syntax.Constant) (b : ℕ) (n : ℤ)
         (rest : text.Words) → length types ≤ 32 → length constants ≤ 256 → FitsSigned w32 n →
         IsNumber types constants b number n
         → words_of words.old.line.now ≢ number_words number n ++ rest) }

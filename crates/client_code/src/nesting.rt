@@ -7,10 +7,10 @@ use client_spec::table::Role;
 /// A part of code that is open.
 #[derive(Debug, Clone, Copy, PartialEq, Eq, Default)]
 pub enum Part {
-    /// The part behind an opener.
+    /// The part after an opener.
     #[default]
     Success,
-    /// The part behind `ELSE`.
+    /// The part after `ELSE`.
     Else,
     /// The body of a loop.
     Body,

@@ -45,7 +45,7 @@ impl Section {
     }
 }
 
-/// The header that counts the lines of a text, up to the first that stands behind a later section or is one too many.
+/// The header that counts the lines of a text, up to the first that stands after a later section or is one too many.
 pub fn header_of(text: &[u8]) -> Header
     ensures within { entries_of result ≤ length (meant text.now) }
     ensures counted { (items : List Item) → EachSpells (meant text.now) items →
@@ -67,7 +67,7 @@ pub fn header_of(text: &[u8]) -> Header
     header
 }
 
-/// Counts a line, if it may stand behind the others.
+/// Counts a line, if it may stand after the others.
 fn add(header: &mut Header, section: Section) -> bool
     ensures counted { IsTrue result → outline_of header.new
         ≡ outline_of header.old ++ section ∷ [] }

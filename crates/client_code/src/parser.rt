@@ -1,7 +1,7 @@
 ghost use Rattle.std.specs.Prelude.{◌≡◌, ◌≢◌, ◌≤◌, ◌<◌, ◌+◌, ◌*◌, ◌^◌, ◌++◌, ℕ, List, length, drop, All, ◌↔◌, IsTrue, IfOk, IfErr, IfSome, IfNone, IsSome, OnOk, FitsSigned};
 ghost use Rattle.std.specs.Int.{w32};
 ghost use Rattle.seg_spec.specs.Bytes.{slice};
-ghost use Rattle.client_spec.specs.Code as code;
+ghost use Rattle.client_spec.specs.Code as syntax;
 ghost use Rattle.client_spec.specs.Code.{Statements};
 ghost use Rattle.client_spec.specs.Grammar.{constant_bytes, instruction_bytes, listing, IsConstant, Differ, Spells};
 ghost use Rattle.client_code.specs.Views.{constant_of, constants_of, instruction_of};
@@ -25,7 +25,7 @@ fn differs_from(others: &[Constant], constant: Constant) -> bool
     others.iter().all(|other| other.differs(constant))
 }
 
-/// The constant that begins at a position, behind these, and the position behind it.
+/// The constant that begins at a position, after these, and the position after it.
 fn next_constant<'a>(file: &'a [u8], at: u32, before: &[Constant]) -> Option<(Constant<'a>, u32)>
     requires { at ≤ 2 ^ 31 }
     ensures spelled { IfSome result (λ found. drop at file.now
@@ -36,7 +36,7 @@ fn next_constant<'a>(file: &'a [u8], at: u32, before: &[Constant]) -> Option<(Co
     ensures near { IfSome result (λ found. found.1 ≤ at + 257) }
     ensures differs { IfSome result
         (λ found. All (λ other. Differ (constant_of other) (constant_of found.0)) before.now) }
-    ensures none { IfNone result ((c : code.Constant) (rest : List ℕ) → IsConstant c →
+    ensures none { IfNone result ((c : syntax.Constant) (rest : List ℕ) → IsConstant c →
         All (λ other. Differ (constant_of other) c) before.now →
         drop at file.now ≢ constant_bytes c ++ rest) }
 {
@@ -47,7 +47,7 @@ fn next_constant<'a>(file: &'a [u8], at: u32, before: &[Constant]) -> Option<(Co
     Some((constant, behind))
 }
 
-/// The constants that begin at a position, and the position behind them.
+/// The constants that begin at a position, and the position after them.
 pub fn read_constants(file: &[u8], at: u32, count: u32) -> Result<(Constants<'_>, u32), Fault>
     requires first { at ≤ 1000 }
     requires few { count ≤ MOST_CONSTANTS }
@@ -55,7 +55,7 @@ pub fn read_constants(file: &[u8], at: u32, count: u32) -> Result<(Constants<'_>
     ensures count { IfOk result (λ found. length found.0.items ≡ count) }
     ensures found { IfOk result (λ found. AreConstants file.now at
         (constants_of found.0.items) found.1) }
-    ensures wrong { IfErr result (λ fault. (cs : List code.Constant) (behind : ℕ) →
+    ensures wrong { IfErr result (λ fault. (cs : List syntax.Constant) (behind : ℕ) →
         length cs ≡ count → AreConstants file.now at cs behind → ⊥) }
     ensures fault { IfErr result (λ fault. (place : ℕ) × (fault ≡ Fault.BadCode place)) }
 {
@@ -78,7 +78,7 @@ pub fn instruction_at(file: &[u8], at: u32) -> Option<Instruction>
     ensures found { IfSome result (λ i. (at + 8 ≤ length file.now)
         × (slice file.now at 8 ≡ instruction_bytes (instruction_of i))) }
     ensures range { IfSome result (λ i. FitsSigned w32 i.number) }
-    ensures none { IfNone result (at + 8 ≤ length file.now → (i : code.Instruction) →
+    ensures none { IfNone result (at + 8 ≤ length file.now → (i : syntax.Instruction) →
         slice file.now at 8 ≢ instruction_bytes i) }
 {
     let place = at as usize;
@@ -124,8 +124,8 @@ fn check_code(
 /// too many, or with the file's length where an `END` is missing.
 pub fn parse(file: &[u8]) -> Result<Client<'_>, Fault>
     ensures file { IfOk result (λ client. bytes_of client ≡ file.now) }
-    ensures found { IfOk result (λ client. (tree : code.Client) × Spells file.now tree) }
-    ensures wrong { IfErr result (λ fault. (tree : code.Client) → Spells file.now tree → ⊥) }
+    ensures found { IfOk result (λ client. (tree : syntax.Client) × Spells file.now tree) }
+    ensures wrong { IfErr result (λ fault. (tree : syntax.Client) → Spells file.now tree → ⊥) }
     ensures fault { IfErr result (λ fault. (place : ℕ) × (fault ≡ Fault.BadCode place)) }
 {
     let header = Header::read(file)?;

@@ -1,7 +1,7 @@
 ghost use Rattle.std.specs.Prelude.{◌≡◌, ◌∷◌, [], ◌++◌, if◌then◌else◌, OnOk, IfOk, IfErr, All, Some, slice_get, flat_map, map};
 ghost use Rattle.seg_layout.specs.Forms.{form_of};
 ghost use Rattle.seg_spec.specs.Types.{Form, form_at};
-ghost use Rattle.client_spec.specs.Code as code;
+ghost use Rattle.client_spec.specs.Code as syntax;
 ghost use Rattle.client_spec.specs.Grammar.{Spells, listing, IsConstant, IsNameByte};
 ghost use Rattle.client_spec.specs.Text.{type_item, constant_item, instruction_item, operand_words, number_words, type_word, is_plain, escaped, text_spelling, spaced, text_of};
 ghost use Rattle.client_code.specs.Views.{constant_of, constants_of, instruction_of};
@@ -79,7 +79,7 @@ fn print_code<A: Allocator>(text: &mut String<A>, client: &Client) -> Result<(),
 }
 
 fn print_at<A: Allocator>(text: &mut String<A>, client: &Client, i: u32) -> Result<(), AllocError>
-    ensures { OnOk result ((tree : code.Client) (instruction : code.Instruction) →
+    ensures { OnOk result ((tree : syntax.Client) (instruction : syntax.Instruction) →
         Spells (bytes_of client.now) tree → slice_get (listing tree.code) i ≡ Some instruction →
         text.new.bytes.items ≡ text.old.bytes.items ++ ended (instruction_item instruction)) }
 {
@@ -160,7 +160,7 @@ fn print_plain<A: Allocator>(text: &mut String<A>, name: &[u8]) -> Result<(), Al
 
 fn print_text<A: Allocator>(text: &mut String<A>, bytes: &[u8]) -> Result<(), AllocError>
     ensures { OnOk result (text.new.bytes.items ≡ text.old.bytes.items
-        ++ ended (constant_item (code.Constant.Text bytes.now))) }
+        ++ ended (constant_item (syntax.Constant.Text bytes.now))) }
 {
     text.push_str("text ")?;
     print_escaped(text, bytes)?;

@@ -20,7 +20,7 @@ const I64_KIND: u8 = 1;
 /// An entry, if the file has all of it.
 fn entry(file: &[u8], i: u32) -> Option<&[u8]>
     requires { i ≤ MOST_TYPES }
-    ensures { IfSome result (λ bytes. length bytes.now ≡ 16) }
+    ensures { IfSome result (λ bytes. length bytes.now ≡ ENTRY) }
 {
     let at = (TYPES_AT + ENTRY * i) as usize;
     file.get(at..at + ENTRY as usize)
@@ -71,11 +71,12 @@ fn first_wrong(file: &[u8], count: u32) -> u32
 /// The entries, if the file has all of them and each is used.
 fn used_entries(file: &[u8], count: u32) -> Option<&[u8]>
     requires { count ≤ MOST_TYPES }
-    ensures found { IfSome result (λ bytes. (20 + 16 * count ≤ length file.now)
-        × (bytes.now ≡ slice file.now 20 (16 * count)) × (length bytes.now ≡ 16 * count)
+    ensures found { IfSome result (λ bytes. (TYPES_AT + ENTRY * count ≤ length file.now)
+        × (bytes.now ≡ slice file.now TYPES_AT (ENTRY * count))
+        × (length bytes.now ≡ ENTRY * count)
         × ((k : ℕ) → k < count → IsUsed bytes.now k)) }
-    ensures none { IfNone result (20 + 16 * count ≤ length file.now →
-        ((k : ℕ) → k < count → IsUsed (slice file.now 20 (16 * count)) k) → ⊥) }
+    ensures none { IfNone result (TYPES_AT + ENTRY * count ≤ length file.now →
+        ((k : ℕ) → k < count → IsUsed (slice file.now TYPES_AT (ENTRY * count)) k) → ⊥) }
 {
     let at = TYPES_AT as usize;
     let bytes = file.get(at..at + (ENTRY * count) as usize)?;

@@ -1,5 +1,5 @@
 ghost use Rattle.std.specs.Prelude.{◌≡◌, ◌++◌, ◌∷◌, ℕ, List, IfOk, IfSome, IfNone, IsTrue, IsFalse};
-ghost use Rattle.client_spec.specs.Code as code;
+ghost use Rattle.client_spec.specs.Code as syntax;
 ghost use Rattle.client_spec.specs.Text as text;
 ghost use Rattle.client_spec.specs.Text.{SpellsItem, SpellsInText};
 ghost use Rattle.client_spec.specs.Pieces.{IsReadable, meant, Pieces, Says, file_of};
@@ -27,7 +27,7 @@ fn next_item(lines: &mut Lines) -> Option<Item>
 pub fn write<A: Allocator>(file: &mut Vec<u8, A>, text: &[u8]) -> Result<bool, AllocError>
     ensures whole { IfOk result (λ whole. IsTrue whole → (pieces : Pieces) × Says text.now pieces
         × (file.new.items ≡ file.old.items ++ file_of pieces)) }
-    ensures cut { IfOk result (λ whole. IsFalse whole → (tree : code.Client) →
+    ensures cut { IfOk result (λ whole. IsFalse whole → (tree : syntax.Client) →
         SpellsInText text.now tree → ⊥) }
 {
     let header = header_of(text);

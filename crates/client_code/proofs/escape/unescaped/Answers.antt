@@ -17,11 +17,16 @@ returns-in_err-byte-clause-none c =
 pub returns-in_err-ok-clause-none : goal.returns-in_err-ok-clause-none
 returns-in_err-ok-clause-none c =
     on_none c.from_residual-in_err-ok.result _ (λ all few bounded spells.
-    too_long c.args.spelling.now c.loop-rest.bytes.items c.loop-rest.rest.now c.loop-rest.invariant (eqb-false _ 0 (sym c.is_empty.ensures ∙ c.loop-rest-test.true)) (let full = was_err c.try_push.result _ c.try_push.ensures.full (sym c.ok.ensures.value ∙ c.in_err-ok.was) in omega arith) all few bounded spells)
+    too_long c.args.spelling.now c.loop-rest.bytes.items c.loop-rest.rest.now c.loop-rest.invariant
+    (eqb-false _ 0 (sym c.is_empty.ensures ∙ c.loop-rest-test.true))
+    (let full = was_err c.try_push.result _ c.try_push.ensures.full (sym c.ok.ensures.value ∙ c.in_err-ok.was) in omega arith) all few bounded spells)
 
 pub loop-rest-preserved : goal.loop-rest-preserved
 loop-rest-preserved c =
-    subst (λ bytes. Reads c.args.spelling.now bytes c.in_ok-byte.behind.now) (sym (was_ok c.try_push.result _ _ c.try_push.ensures.ok (sym c.ok.ensures.value ∙ c.in_ok-ok.was))) (further c.args.spelling.now c.loop-rest.bytes.items c.loop-rest.rest.now c.in_ok-byte.byte c.in_ok-byte.behind.now c.in_ok-byte.ensures.small c.loop-rest.invariant c.in_ok-byte.ensures.found)
+    subst (λ bytes. Reads c.args.spelling.now bytes c.in_ok-byte.behind.now)
+    (sym (was_ok c.try_push.result _ _ c.try_push.ensures.ok (sym c.ok.ensures.value ∙ c.in_ok-ok.was)))
+    (further c.args.spelling.now c.loop-rest.bytes.items c.loop-rest.rest.now c.in_ok-byte.byte c.in_ok-byte.behind.now c.in_ok-byte.ensures.small
+    c.loop-rest.invariant c.in_ok-byte.ensures.found)
 
 pub returns-clause-found : goal.returns-clause-found
 returns-clause-found c =

@@ -13,7 +13,8 @@ invariant_of-result-clause-placed c tree spells =
     let file = c.args.file.now in
     let header = c.in_ok-header.header in
     let constants = c.in_ok-constants.constants.items in
-    read_places file tree spells header.types header.constants header.instructions c.constants_at.result c.in_ok-constants.code (constants_of constants) c.in_ok-header.ensures.found c.constants_at.ensures (length-map constants constant_of ∙ c.in_ok-constants.ensures.count) c.in_ok-constants.ensures.found
+    read_places file tree spells header.types header.constants header.instructions c.constants_at.result c.in_ok-constants.code (constants_of constants)
+    c.in_ok-header.ensures.found c.constants_at.ensures (length-map constants constant_of ∙ c.in_ok-constants.ensures.count) c.in_ok-constants.ensures.found
 
 pub invariant_of-result-clause-spelled : goal.invariant_of-result-clause-spelled
 invariant_of-result-clause-spelled c =
@@ -21,7 +22,9 @@ invariant_of-result-clause-spelled c =
     let header = c.in_ok-header.header in
     let code = c.in_ok-check_code.ensures.found in
     let tree =
-    client_there file header.types header.constants header.instructions c.constants_at.result c.in_ok-constants.code c.in_ok-types.types c.in_ok-constants.constants.items c.as_slice.result.now code.0 (λ k. (c.type_inv.file k).fits) c.in_ok-header.ensures.found header.limits.1 header.limits.2 c.constants_at.ensures c.in_ok-types.ensures.count
+    client_there file header.types header.constants
+    header.instructions c.constants_at.result c.in_ok-constants.code c.in_ok-types.types c.in_ok-constants.constants.items c.as_slice.result.now code.0
+    (λ k. (c.type_inv.file k).fits) c.in_ok-header.ensures.found header.limits.1 header.limits.2 c.constants_at.ensures c.in_ok-types.ensures.count
     c.in_ok-types.ensures.found c.in_ok-constants.ensures.count c.in_ok-constants.ensures.found c.as_slice.ensures.value code.1 code.2 in
     merely tree
 
@@ -31,7 +34,9 @@ returns-clause-found c =
     let header = c.in_ok-header.header in
     let code = c.in_ok-check_code.ensures.found in
     let tree =
-    client_there file header.types header.constants header.instructions c.constants_at.result c.in_ok-constants.code c.in_ok-types.types c.in_ok-constants.constants.items c.as_slice.result.now code.0 (λ k. (c.type_inv.file k).fits) c.in_ok-header.ensures.found header.limits.1 header.limits.2 c.constants_at.ensures c.in_ok-types.ensures.count
+    client_there file header.types header.constants
+    header.instructions c.constants_at.result c.in_ok-constants.code c.in_ok-types.types c.in_ok-constants.constants.items c.as_slice.result.now code.0
+    (λ k. (c.type_inv.file k).fits) c.in_ok-header.ensures.found header.limits.1 header.limits.2 c.constants_at.ensures c.in_ok-types.ensures.count
     c.in_ok-types.ensures.found c.in_ok-constants.ensures.count c.in_ok-constants.ensures.found c.as_slice.ensures.value code.1 code.2 in
     tree
 
@@ -48,7 +53,8 @@ returns-in_err-types-clause-wrong c =
 pub returns-in_err-constants-clause-wrong : goal.returns-in_err-constants-clause-wrong
 returns-in_err-constants-clause-wrong c =
     let header = c.in_ok-header.header in
-    no_matter c.from_residual-in_err-constants.result _ (no_constants c.args.file.now header.types header.constants header.instructions c.constants_at.result c.in_ok-header.ensures.found c.constants_at.ensures c.in_err-constants.ensures.wrong)
+    no_matter c.from_residual-in_err-constants.result _ (no_constants c.args.file.now header.types header.constants header.instructions c.constants_at.result
+    c.in_ok-header.ensures.found c.constants_at.ensures c.in_err-constants.ensures.wrong)
 
 pub returns-in_err-check_code-clause-wrong : goal.returns-in_err-check_code-clause-wrong
 returns-in_err-check_code-clause-wrong c =
@@ -56,5 +62,7 @@ returns-in_err-check_code-clause-wrong c =
     let header = c.in_ok-header.header in
     let constants = c.in_ok-constants.constants.items in
     no_matter c.from_residual-in_err-check_code.result _
-    (no_code file header.types header.constants header.instructions c.constants_at.result c.in_ok-constants.code c.in_ok-types.types (constants_of constants) c.in_ok-header.ensures.found c.constants_at.ensures c.in_ok-types.ensures.count c.in_ok-types.ensures.found (length-map constants constant_of ∙ c.in_ok-constants.ensures.count) c.in_ok-constants.ensures.found
+    (no_code file header.types header.constants header.instructions c.constants_at.result c.in_ok-constants.code c.in_ok-types.types
+    (constants_of constants) c.in_ok-header.ensures.found c.constants_at.ensures c.in_ok-types.ensures.count c.in_ok-types.ensures.found
+    (length-map constants constant_of ∙ c.in_ok-constants.ensures.count) c.in_ok-constants.ensures.found
     (λ code n right. c.in_err-check_code.ensures.wrong code n (subst (λ cs. IsCodeAt file c.in_ok-constants.code c.in_ok-types.types (constants_of cs) code) (sym c.as_slice.ensures.value) right)))

@@ -10,4 +10,5 @@ loop-i-preserved g c tree spells =
     let n = c.instruction_count-i-end.ensures.count tree spells in
     let t = c.loop-i-test.true in
     let instruction = get_there list c.loop-i.i (omega arith) in
-    line_more instruction_item list c.loop-i.i instruction.0 c.args.text.now.bytes.items c.loop-i.text.bytes.items c.print_at.new.text.bytes.items (omega arith) instruction.2 (c.loop-i.invariant tree spells) (c.in_ok-print_at.ensures tree instruction.0 spells instruction.1)
+    line_more instruction_item list c.loop-i.i instruction.0 c.args.text.now.bytes.items c.loop-i.text.bytes.items c.print_at.new.text.bytes.items
+    (omega arith) instruction.2 (c.loop-i.invariant tree spells) (c.in_ok-print_at.ensures tree instruction.0 spells instruction.1)

@@ -16,4 +16,5 @@ returns g c =
     on_ok c.push.result _ _ (λ last. line_is word _ _ _ _ old _ _ _ _ _ _ c.in_ok-push_str.ensures.bytes c.in_ok-print_operand.ensures c.in_ok-print_operand-2.ensures c.in_ok-print_operand-3.ensures c.in_ok-print_number.ensures last
     ∙ ap (λ n. old ++ (spaced (word ∷ operand_words row.a i.a ++ operand_words row.b i.b ++ operand_words row.c i.c ++ number_words row.number n) ++ 10 ∷ [])) (to_z-of_z w32 i.number fits)
     ∙ ap (λ w. old ++ (spaced (w ∷ operand_words row.a i.a ++ operand_words row.b i.b ++ operand_words row.c i.c ++ number_words row.number i.number) ++ 10 ∷ [])) c.word.ensures
-    ∙ ap (λ r. old ++ (spaced (word_of i.operation ∷ operand_words r.a i.a ++ operand_words r.b i.b ++ operand_words r.c i.c ++ number_words r.number i.number) ++ 10 ∷ [])) c.row-row.ensures.row) (pushed c.push.result _ (10 ∷ []) _ c.push.ensures.bytes)
+    ∙ ap (λ r. old ++ (spaced (word_of i.operation ∷ operand_words r.a i.a ++ operand_words r.b i.b ++ operand_words r.c i.c ++ number_words r.number i.number)
+    ++ 10 ∷ [])) c.row-row.ensures.row) (pushed c.push.result _ (10 ∷ []) _ c.push.ensures.bytes)

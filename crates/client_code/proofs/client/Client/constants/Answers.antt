@@ -9,7 +9,8 @@ returns-in-Ok c tree spells =
     let self = c.args.self.now in
     let placed = self.placed tree spells in
     let items = c.in-Ok.constants.items in
-    constants_again self.file.now tree spells (constants_of items) c.constants_at.result _ self.header.types self.header.constants placed.0 placed.1 c.constants_at.ensures (length-map items constant_of ∙ c.in-Ok.ensures.count) c.in-Ok.ensures.found
+    constants_again self.file.now tree spells (constants_of items) c.constants_at.result _ self.header.types self.header.constants placed.0 placed.1
+    c.constants_at.ensures (length-map items constant_of ∙ c.in-Ok.ensures.count) c.in-Ok.ensures.found
 
 pub returns-in-Err : goal.returns-in-Err
 returns-in-Err c tree spells =

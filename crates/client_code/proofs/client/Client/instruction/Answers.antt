@@ -12,4 +12,5 @@ pub returns : goal.returns
 returns c tree spells =
     let self = c.args.self.now in
     let placed = self.placed tree spells in
-    same_instruction self.file.now tree spells c.args.i c.place_of.result c.instruction_at.result (let n = placed.2 in let f = c.if-i-self.false in omega arith) (c.place_of.ensures ∙ ap (λ n. n + 8 * c.args.i) placed.3) c.instruction_at.ensures.found c.instruction_at.ensures.range c.instruction_at.ensures.none
+    same_instruction self.file.now tree spells c.args.i c.place_of.result c.instruction_at.result (let n = placed.2 in let f = c.if-i-self.false in omega arith)
+    (c.place_of.ensures ∙ ap (λ n. n + 8 * c.args.i) placed.3) c.instruction_at.ensures.found c.instruction_at.ensures.range c.instruction_at.ensures.none

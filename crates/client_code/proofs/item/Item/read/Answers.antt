@@ -4,4 +4,5 @@ use Rattle.client_code.proofs.item.Item.read.Goals as goal
 
 pub returns-in_err-unescaped-in-Some-clause-none : goal.returns-in_err-unescaped-in-Some-clause-none
 returns-in_err-unescaped-in-Some-clause-none c =
-    on_none c.from_residual.result _ (no_text c.args.line.now c.in-Some.spelling.now (prefixed c.args.line.now _ c.in-Some.spelling.now _ c.as_slice.ensures c.in-Some.ensures.cases.0 c.in-Some.ensures.cases.1) c.in_err-unescaped-in-Some.ensures.none)
+    on_none c.from_residual.result _ (no_text c.args.line.now c.in-Some.spelling.now (prefixed c.args.line.now _ c.in-Some.spelling.now _ c.as_slice.ensures
+    c.in-Some.ensures.cases.0 c.in-Some.ensures.cases.1) c.in_err-unescaped-in-Some.ensures.none)

@@ -9,4 +9,5 @@ returns-then-is_empty-clause-none c =
 
 pub returns-clause-found : goal.returns-clause-found
 returns-clause-found c =
-    one_word c.args.self.now.line.now _ _ _ c.before_space.result c.before_space-2.result c.before_space.ensures.count refl c.before_space-2.ensures.count (let some = eqb-false _ 0 (sym c.is_empty.ensures ∙ c.if-is_empty.false) in omega arith) c.split_at.ensures.front c.split_at.ensures.back
+    one_word c.args.self.now.line.now _ _ _ c.before_space.result c.before_space-2.result c.before_space.ensures.count refl c.before_space-2.ensures.count
+    (let some = eqb-false _ 0 (sym c.is_empty.ensures ∙ c.if-is_empty.false) in omega arith) c.split_at.ensures.front c.split_at.ensures.back
