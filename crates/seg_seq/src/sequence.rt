@@ -60,8 +60,8 @@ fn push_entry<F: Fit, A: Allocator>(
     let kept = heap.count(cell);
     let len = kept.saturating_add(1);
     heap.reserve(content, cell, len)?;
-    heap.set_count(cell, len);
     let start = heap.start(cell);
+    heap.set_count(cell, len);
     if let Some(item) = content.entry.value(start, kept) {
         heap.init_default(item);
     }

@@ -33,29 +33,20 @@ pub fn assign<F: Fit, A: Allocator>(
     write(heap, text, 0, bytes)
 }
 
-/// Adds a byte to a string. `OtherType` where the place is no string, `BadAlloc` where there is no room for it; then
-/// nothing changes.
+/// Adds a byte to a string, and returns how many it has then. `OtherType` where the place is no string, `BadAlloc` where
+/// there is no room for it; then nothing changes.
 pub fn push_byte<F: Fit, A: Allocator>(
     heap: &mut Heap<F, A>,
     text: Place,
     byte: u8,
-) -> Result<(), Code>
+) -> Result<u32, Code>
     ensures window { heap.new.window ≡ with_bytes heap.old.window heap.new.window.bytes }
     ensures types { heap.new.types ≡ heap.old.types }
 {
     let kept = heap.count(text.at);
-    let end = make_room(heap, text, kept, 1)?;
-    heap.window_mut().put8(end, byte);
-    Ok(())
-}
-
-/// What the cell of a string names. `OtherType` where the place is no string.
-fn text_content<F: Fit, A: Allocator>(heap: &Heap<F, A>, text: Place) -> Result<Content, Code> {
-    let content = heap.content(text.type_id).ok_or(Code::OtherType)?;
-    match content.entry.held {
-        Held::Bytes => Ok(content),
-        Held::Value(_) | Held::Pointer => Err(Code::OtherType),
-    }
+    let added = make_room(heap, text, kept, 1)?;
+    heap.window_mut().put8(added.at, byte);
+    Ok(added.len)
 }
 
 /// Replaces what stands in a string after its first `kept` bytes.
@@ -68,25 +59,45 @@ fn write<F: Fit, A: Allocator>(
     ensures window { heap.new.window ≡ with_bytes heap.old.window heap.new.window.bytes }
     ensures types { heap.new.types ≡ heap.old.types }
 {
-    let end = make_room(heap, text, kept, bytes.len())?;
-    heap.window_mut().copy_in(end, bytes);
+    let added = make_room(heap, text, kept, bytes.len())?;
+    heap.window_mut().copy_in(added.at, bytes);
     Ok(())
 }
 
-/// Makes a string one of its first `kept` bytes and `added` more, which the caller writes, and returns where these begin.
+/// Bytes that are added to a string: where they begin, and how many the string has with them.
+#[derive(Debug, Clone, Copy, PartialEq, Eq)]
+struct Added {
+    at: usize,
+    len: u32,
+}
+
+/// Whether a cell names the bytes of a string.
+fn is_text(content: &Content) -> bool {
+    match content.entry.held {
+        Held::Bytes => true,
+        Held::Value(_) | Held::Pointer => false,
+    }
+}
+
+/// Makes a string one of its first `kept` bytes and `added` more, which the caller writes.
+#[inline(always)]
 fn make_room<F: Fit, A: Allocator>(
     heap: &mut Heap<F, A>,
     text: Place,
     kept: u32,
     added: usize,
-) -> Result<usize, Code>
+) -> Result<Added, Code>
     ensures window { heap.new.window ≡ with_bytes heap.old.window heap.new.window.bytes }
     ensures types { heap.new.types ≡ heap.old.types }
 {
-    let content = text_content(heap, text)?;
+    let content = heap.content(text.type_id).ok_or(Code::OtherType)?;
+    if !is_text(&content) {
+        return Err(Code::OtherType);
+    }
     let added = u32::try_from(added).map_err(|_| Code::BadAlloc)?;
     let len = kept.saturating_add(added);
     heap.reserve(&content, text.at, len)?;
+    let at = heap.start(text.at) as usize + kept as usize;
     heap.set_count(text.at, len);
-    Ok(heap.start(text.at) as usize + kept as usize)
+    Ok(Added { at, len })
 }

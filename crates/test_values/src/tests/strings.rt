@@ -51,10 +51,11 @@ fn change_text<F: Fit>(
         }
         2 => {
             let answer = push_byte(heap, place_of(STRING, cell), b'!');
-            if answer.is_ok() {
+            if let Ok(len) = answer {
                 text.push(b'!')?;
+                assert_eq!(rt; len as usize, text.len());
             }
-            Ok(answer)
+            Ok(answer.map(|_| ()))
         }
         3 | 4 => {
             let answer = assign(heap, place_of(STRING, cell), added);
