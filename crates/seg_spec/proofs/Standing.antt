@@ -19,7 +19,7 @@ use Rattle.seg_spec.proofs.KeptLaws.{front_kept}
 use Rattle.seg_spec.proofs.HeapFrame.{IsHeap-kept, live-kept, IsOwnable-kept}
 use Rattle.seg_spec.proofs.WriteInside.{tiles_kept, low_kept, KeptBut, live_kept_but}
 use Rattle.seg_spec.proofs.CellSteps.{ChangesOnly-none}
-use Rattle.seg_spec.proofs.Owed.{KeepsLinked}
+use Rattle.seg_spec.specs.Owing.{KeepsLinked}
 use Rattle.seg_spec.proofs.NewBlock.{took, was_free, block_fits, new_heap, new_live, all_kept, is_block, new_length, new_front, new_back, new_link}
 use Rattle.seg_spec.proofs.Giving.{given_kept}
 use Rattle.seg_spec.proofs.Composing.{around_twice, around_kept}
