@@ -60,7 +60,7 @@ module _ (types : Table) (constants : List Constant) where
 
 -- ---- a client
 
--- behind the code, where the rules accept it
+-- after the code, where the rules accept it
 abbrev Ended : Checked RegisterTypes → ℕ → Checked Progress
 Ended known n = known >>= λ after. Ok (record { known = after; steps = n; parts = [] })
 
@@ -72,7 +72,7 @@ accepted : (known : Checked RegisterTypes) (n : ℕ) (p : Progress) → Ended kn
 accepted (Ok after) n p e = ((after, refl), sym (ap (λ q. q.steps) (Ok_inj e)))
 accepted (Err reason) n p e = cc
 
--- what is known behind the code, or the first reason to refuse it
+-- what is known after the code, or the first reason to refuse it
 abbrev known_behind : Client → Checked RegisterTypes
 known_behind tree = types_after tree.types tree.constants tree.code (replicate 16 RegisterType.Undefined)
 

@@ -50,11 +50,17 @@ some_same : {A : Type 0} (o : Option A) (b : Bool) (x : Rule) (rest : A → Rule
 some_same None b x rest e same = ap (λ v. required v Reason.WrongOperand >>= λ _. x) (sym e)
 some_same (Some y) b x rest e same = ap (λ v. required v Reason.WrongOperand >>= λ _. x) (sym e) ∙ same y refl
 
-form_same : {A : Type 0} (number : ℤ) (kinds : Kinds) (f : Form → Option A) (o : Option Form) (x : Rule) (rest : A → Rule) → AreForms number kinds f → ((y : A) → option_and_then f o ≡ Some y → x ≡ rest y) → (required (is_kind_at number kinds o) Reason.WrongOperand >>= λ _. x) ≡ (some_needed (option_and_then f o) >>= rest)
+form_same : {A : Type 0} (number : ℤ) (kinds : Kinds) (f : Form → Option A) (o : Option Form) (x : Rule) (rest : A → Rule)
+    → AreForms number kinds f → ((y : A) → option_and_then f o ≡ Some y → x ≡ rest y)
+    → (required (is_kind_at number kinds o) Reason.WrongOperand >>= λ _. x) ≡ (some_needed (option_and_then f o) >>= rest)
 form_same number kinds f None x rest are same = ap (λ v. required v Reason.WrongOperand >>= λ _. x) are.1
 form_same number kinds f (Some form) x rest are same = some_same (f form) (is_kind number kinds form) x rest (are.0 form) same
 
-pub reference_same : {A : Type 0} (types : Table) (number : ℤ) (kinds : Kinds) (f : Class → Form → Option A) (k : RegisterType) (behind : RegisterType → Rule) (rest : Class × ℕ → A → Rule) → ((x : Class) → AreForms number kinds (f x)) → ((x : Class) (t : ℕ) (y : A) → option_and_then (f x) (form_at types t) ≡ Some y → behind (RegisterType.Reference x t) ≡ rest (x, t) y) → (required (leads_to types number kinds k) Reason.WrongOperand >>= λ _. behind k) ≡ (reference_needed k >>= λ x. form_needed (f x.0) types x.1 >>= λ y. rest x y)
+pub reference_same : {A : Type 0} (types : Table) (number : ℤ) (kinds : Kinds)
+    (f : Class → Form → Option A) (k : RegisterType) (behind : RegisterType → Rule) (rest : Class × ℕ → A → Rule) → ((x : Class) → AreForms number kinds (f x))
+    → ((x : Class) (t : ℕ) (y : A) → option_and_then (f x) (form_at types t) ≡ Some y → behind (RegisterType.Reference x t) ≡ rest (x, t) y)
+    → (required (leads_to types number kinds k) Reason.WrongOperand >>= λ _. behind k)
+    ≡ (reference_needed k >>= λ x. form_needed (f x.0) types x.1 >>= λ y. rest x y)
 reference_same types number kinds f RegisterType.Undefined behind rest are same = refl
 reference_same types number kinds f RegisterType.Int behind rest are same = refl
 reference_same types number kinds f (RegisterType.Reference x t) behind rest are same = form_same number kinds (f x) (form_at types t) (behind (RegisterType.Reference x t)) (rest (x, t)) (are x) (same x t)
@@ -64,7 +70,9 @@ any_kind : (number : ℤ) (o : Option Form) → is_kind_at number kinds.Any o �
 any_kind number None = refl
 any_kind number (Some form) = refl
 
-pub any_reference_same : (types : Table) (number : ℤ) (k : RegisterType) (behind : RegisterType → Rule) (rest : Class × ℕ → Rule) → ((x : Class) (t : ℕ) → behind (RegisterType.Reference x t) ≡ rest (x, t)) → (required (leads_to types number kinds.Any k) Reason.WrongOperand >>= λ _. behind k) ≡ (reference_needed k >>= rest)
+pub any_reference_same : (types : Table) (number : ℤ) (k : RegisterType) (behind : RegisterType → Rule) (rest : Class × ℕ → Rule)
+    → ((x : Class) (t : ℕ) → behind (RegisterType.Reference x t) ≡ rest (x, t))
+    → (required (leads_to types number kinds.Any k) Reason.WrongOperand >>= λ _. behind k) ≡ (reference_needed k >>= rest)
 any_reference_same types number RegisterType.Undefined behind rest same = refl
 any_reference_same types number RegisterType.Int behind rest same = refl
 any_reference_same types number (RegisterType.Reference x t) behind rest same = ap (λ v. required v Reason.WrongOperand >>= λ _. behind (RegisterType.Reference x t)) (any_kind number (form_at types t)) ∙ same x t

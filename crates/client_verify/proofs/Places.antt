@@ -9,7 +9,8 @@ use Rattle.std.proofs.lemmas.List.Edits.{map_over_more}
 use Rattle.client_spec.specs.Typed.{Reason, Checked, ◌>>=◌, RegisterType, RegisterTypes, joined_one, joined, kept_one, kept}
 
 -- a map over a list of another's images, one place more
-pub map_more : {X Y : Type 0} (view : X → Y) (f : Y → Y) (xs : List X) (ys : List Y) (i : ℕ) (d y : X) → i < length xs → length ys ≡ length xs → map view xs ≡ map f (take i ys) ++ drop i ys → view y ≡ f (view (get_or xs i d)) → map view (set xs i y) ≡ map f (take (i + 1) ys) ++ drop (i + 1) ys
+pub map_more : {X Y : Type 0} (view : X → Y) (f : Y → Y) (xs : List X) (ys : List Y) (i : ℕ) (d y : X) → i < length xs → length ys ≡ length xs
+    → map view xs ≡ map f (take i ys) ++ drop i ys → view y ≡ f (view (get_or xs i d)) → map view (set xs i y) ≡ map f (take (i + 1) ys) ++ drop (i + 1) ys
 map_more view f xs ys i d y near long so_far new =
     let x = get_or xs i d in
     map-set view xs i y ∙ ap (set (map view xs) i) new
@@ -27,7 +28,7 @@ from_here view xs i d near =
 
 -- ---- what is known at both ends
 
--- what is known behind the places of a list, before the list of the others
+-- what is known after the places of a list, before the list of the others
 abbrev pub after : RegisterTypes → Checked RegisterTypes → Checked RegisterTypes
 after front r = r >>= λ ks. Ok (front ++ ks)
 
@@ -53,18 +54,22 @@ module _ {X : Type 0} (view : X → RegisterType) where
   pub joined_none : (xs ys both : List X) → JoinedTo xs ys both 0
   joined_none xs ys both = after_none (joined (map view xs) (map view ys))
 
-  at_place : (front : RegisterTypes) (xs ys : List X) (i : ℕ) (d : X) → i < length xs → i < length ys → after front (joined (drop i (map view xs)) (drop i (map view ys))) ≡ after front (joined (view (get_or xs i d) ∷ drop (i + 1) (map view xs)) (view (get_or ys i d) ∷ drop (i + 1) (map view ys)))
+  at_place : (front : RegisterTypes) (xs ys : List X) (i : ℕ) (d : X)
+      → i < length xs → i < length ys → after front (joined (drop i (map view xs)) (drop i (map view ys))) ≡ after front
+      (joined (view (get_or xs i d) ∷ drop (i + 1) (map view xs)) (view (get_or ys i d) ∷ drop (i + 1) (map view ys)))
   at_place front xs ys i d near_xs near_ys =
       ap (λ zs. after front (joined zs (drop i (map view ys)))) (from_here view xs i d near_xs)
       ∙ ap (λ zs. after front (joined (view (get_or xs i d) ∷ drop (i + 1) (map view xs)) zs)) (from_here view ys i d near_ys)
 
-  pub joined_more : (xs ys both : List X) (i : ℕ) (d k : X) → i < length xs → i < length ys → i < length both → JoinedTo xs ys both i → Ok (view k) ≡ joined_one (view (get_or xs i d)) (view (get_or ys i d)) → JoinedTo xs ys (set both i k) (i + 1)
+  pub joined_more : (xs ys both : List X) (i : ℕ) (d k : X) → i < length xs → i < length ys → i < length both → JoinedTo xs ys both i
+      → Ok (view k) ≡ joined_one (view (get_or xs i d)) (view (get_or ys i d)) → JoinedTo xs ys (set both i k) (i + 1)
   joined_more xs ys both i d k near_xs near_ys near so_far e =
       so_far ∙ at_place (map view (take i both)) xs ys i d near_xs near_ys
       ∙ joined_step (map view (take i both)) (drop (i + 1) (map view xs)) (drop (i + 1) (map view ys)) (view (get_or xs i d)) (view (get_or ys i d)) (view k) (sym e)
       ∙ ap (λ front. after front (joined (drop (i + 1) (map view xs)) (drop (i + 1) (map view ys)))) (sym (ap (map view) (take_more_set both i k near) ∙ map-append view (take i both) (k ∷ [])))
 
-  pub joined_not : (xs ys both : List X) (i : ℕ) (d : X) (reason : Reason) → i < length xs → i < length ys → JoinedTo xs ys both i → Err reason ≡ joined_one (view (get_or xs i d)) (view (get_or ys i d)) → joined (map view xs) (map view ys) ≡ Err reason
+  pub joined_not : (xs ys both : List X) (i : ℕ) (d : X) (reason : Reason) → i < length xs → i < length ys → JoinedTo xs ys both i
+      → Err reason ≡ joined_one (view (get_or xs i d)) (view (get_or ys i d)) → joined (map view xs) (map view ys) ≡ Err reason
   joined_not xs ys both i d reason near_xs near_ys so_far e =
       so_far ∙ at_place (map view (take i both)) xs ys i d near_xs near_ys ∙ joined_stop (map view (take i both)) (drop (i + 1) (map view xs)) (drop (i + 1) (map view ys)) (view (get_or xs i d)) (view (get_or ys i d)) reason (sym e)
 
@@ -84,7 +89,8 @@ module _ {X : Type 0} (view : X → RegisterType) where
   abbrev pub KeptTo : List X → List X → ℕ → Type 0
   KeptTo xs ys i = kept (map view xs) (map view ys) ≡ kept (drop i (map view xs)) (drop i (map view ys))
 
-  kept_at : (xs ys : List X) (i : ℕ) (d : X) → i < length xs → i < length ys → kept (drop i (map view xs)) (drop i (map view ys)) ≡ (kept_one (view (get_or xs i d)) (view (get_or ys i d)) >>= λ _. kept (drop (i + 1) (map view xs)) (drop (i + 1) (map view ys)))
+  kept_at : (xs ys : List X) (i : ℕ) (d : X) → i < length xs → i < length ys → kept (drop i (map view xs))
+      (drop i (map view ys)) ≡ (kept_one (view (get_or xs i d)) (view (get_or ys i d)) >>= λ _. kept (drop (i + 1) (map view xs)) (drop (i + 1) (map view ys)))
   kept_at xs ys i d near_xs near_ys =
       ap (λ zs. kept zs (drop i (map view ys))) (from_here view xs i d near_xs)
       ∙ ap (kept (view (get_or xs i d) ∷ drop (i + 1) (map view xs))) (from_here view ys i d near_ys)

@@ -89,7 +89,8 @@ module _ (types : Table) (constants : List Constant) (a b c t k : ℕ) (ks : Reg
   same op.Find (pos n) right named = name_same (slice_get constants (n % 256)) b (known ks b) _ _ right.number.1 (optional_same c ks _ _ (opens_named (pos n) named))
   same op.FindOrMake (pos n) right named = name_same (slice_get constants (n % 256)) b (known ks b) _ _ right.number.1 (opens_named (pos n) named)
   same op.Count (pos n) right named = name_same (slice_get constants (n % 256)) b (known ks b) _ _ right.number.1 opens_int
-  same op.Kill (pos n) right named = name_same (slice_get constants (n % 256)) b (known ks b) _ _ right.number.1 (gives_same a RegisterType.Int (ended (Class.Name k) ks) ks (sym (owner_kept (Class.Name k) ks a)) ∙ ap (λ l. gives a RegisterType.Int (ended (Class.Name l) ks)) named.1)
+  same op.Kill (pos n) right named = name_same (slice_get constants (n % 256)) b (known ks b) _ _ right.number.1 (gives_same a RegisterType.Int
+      (ended (Class.Name k) ks) ks (sym (owner_kept (Class.Name k) ks a)) ∙ ap (λ l. gives a RegisterType.Int (ended (Class.Name l) ks)) named.1)
   same op.MakeUnique number right named = opens_unique number named
   same op.FindUnique number right named = opens_unique number named
   same op.FindOrMakeUnique number right named = opens_unique number named
@@ -114,17 +115,24 @@ module _ (types : Table) (constants : List Constant) (a b c t k : ℕ) (ks : Reg
   same op.Len number right named = reference_same types number kinds.Sized _ (known ks b) (behind (step op.Len number)) _ (λ x. sized_forms number) (λ x u y e. gives_int)
   same op.At number right named = reference_same types number kinds.Indexed item_known (known ks b) (behind (step op.At number)) _ (item_forms number) (λ x u y e. integer_same (known ks c) _ _ (
       ap (λ z. gets ks z RegisterType.Int) (item_part number x u (form_at types u) y e) ∙ opens_same a y ks ks refl))
-  same op.PushBack number right named = reference_same types number kinds.Sequence _ (known ks b) (behind (step op.PushBack number)) _ (λ x. sequence_forms number) (λ x u y e. opens_part (others_ended x b ks) x u y _ (owner_kept_but x b ks a) (sequence_part number (form_at types u) y e))
-  same op.PushFront number right named = reference_same types number kinds.List _ (known ks b) (behind (step op.PushFront number)) _ (λ x. list_forms number) (λ x u y e. opens_part (others_ended x b ks) x u y _ (owner_kept_but x b ks a) (list_part number (form_at types u) y e))
-  same op.PopBack number right named = reference_same types number kinds.Indexed _ (known ks b) (behind (step op.PopBack number)) _ (λ x. pop_forms number) (λ x u y e. opens_same a RegisterType.Int (others_ended x b ks) ks (sym (owner_kept_but x b ks a)))
-  same op.PopFront number right named = reference_same types number kinds.List _ (known ks b) (behind (step op.PopFront number)) _ (λ x. list_forms number) (λ x u y e. opens_same a RegisterType.Int (others_ended x b ks) ks (sym (owner_kept_but x b ks a)))
+  same op.PushBack number right named = reference_same types number kinds.Sequence _ (known ks b) (behind (step op.PushBack number)) _
+      (λ x. sequence_forms number) (λ x u y e. opens_part (others_ended x b ks) x u y _ (owner_kept_but x b ks a) (sequence_part number (form_at types u) y e))
+  same op.PushFront number right named = reference_same types number kinds.List _ (known ks b) (behind (step op.PushFront number)) _ (λ x. list_forms number)
+      (λ x u y e. opens_part (others_ended x b ks) x u y _ (owner_kept_but x b ks a) (list_part number (form_at types u) y e))
+  same op.PopBack number right named = reference_same types number kinds.Indexed _ (known ks b) (behind (step op.PopBack number)) _ (λ x. pop_forms number)
+      (λ x u y e. opens_same a RegisterType.Int (others_ended x b ks) ks (sym (owner_kept_but x b ks a)))
+  same op.PopFront number right named = reference_same types number kinds.List _ (known ks b) (behind (step op.PopFront number)) _ (λ x. list_forms number)
+      (λ x u y e. opens_same a RegisterType.Int (others_ended x b ks) ks (sym (owner_kept_but x b ks a)))
   same op.SetStr (pos n) right named = reference_same types (pos n) kinds.Str _ (known ks b) (behind (step op.SetStr (pos n))) _ (λ x. str_forms (pos n)) (λ x u y e. text_same (slice_get constants n) _ _ right.number opens_int)
   same op.AddStr (pos n) right named = reference_same types (pos n) kinds.Str _ (known ks b) (behind (step op.AddStr (pos n))) _ (λ x. str_forms (pos n)) (λ x u y e. text_same (slice_get constants n) _ _ right.number opens_int)
   same op.AddByte number right named = reference_same types number kinds.Str _ (known ks b) (behind (step op.AddByte number)) _ (λ x. str_forms number) (λ x u y e. integer_same (known ks c) _ _ opens_int)
   same op.Shrink number right named = reference_same types number kinds.Buffered _ (known ks b) (behind (step op.Shrink number)) _ (λ x. buffered_forms number) (λ x u y e. refl)
-  same op.GetKey number right named = reference_same types number kinds.Map _ (known ks b) (behind (step op.GetKey number)) _ (λ x. value_forms number) (λ x u y e. integer_same (known ks c) _ _ (opens_part ks x u y _ refl (value_part number (form_at types u) y e)))
-  same op.PutKey number right named = reference_same types number kinds.Map _ (known ks b) (behind (step op.PutKey number)) _ (λ x. value_forms number) (λ x u y e. integer_same (known ks c) _ _ (opens_part (others_ended x b ks) x u y _ (owner_kept_but x b ks a) (value_part number (form_at types u) y e)))
-  same op.DeleteKey number right named = reference_same types number kinds.Map _ (known ks b) (behind (step op.DeleteKey number)) _ (λ x. map_forms number) (λ x u y e. integer_same (known ks c) _ _ (gives_same a RegisterType.Int (others_ended x b ks) ks (sym (owner_kept_but x b ks a))))
+  same op.GetKey number right named = reference_same types number kinds.Map _ (known ks b) (behind (step op.GetKey number)) _ (λ x. value_forms number)
+      (λ x u y e. integer_same (known ks c) _ _ (opens_part ks x u y _ refl (value_part number (form_at types u) y e)))
+  same op.PutKey number right named = reference_same types number kinds.Map _ (known ks b) (behind (step op.PutKey number)) _ (λ x. value_forms number)
+      (λ x u y e. integer_same (known ks c) _ _ (opens_part (others_ended x b ks) x u y _ (owner_kept_but x b ks a) (value_part number (form_at types u) y e)))
+  same op.DeleteKey number right named = reference_same types number kinds.Map _ (known ks b) (behind (step op.DeleteKey number)) _ (λ x. map_forms number)
+      (λ x u y e. integer_same (known ks c) _ _ (gives_same a RegisterType.Int (others_ended x b ks) ks (sym (owner_kept_but x b ks a))))
   same op.FirstKey number right named = reference_same types number kinds.Map _ (known ks b) (behind (step op.FirstKey number)) _ (λ x. map_forms number) (λ x u y e. opens_int)
   same op.NextKey number right named = reference_same types number kinds.Map _ (known ks b) (behind (step op.NextKey number)) _ (λ x. map_forms number) (λ x u y e. integer_same (known ks c) _ _ opens_int)
   same op.OutConst (negsuc n) right named = absurd right.number

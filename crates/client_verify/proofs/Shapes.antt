@@ -1,5 +1,5 @@
 -- The rule by the columns, check for check, and what both say of the register that changes.
---     behind s held, in_turn     what comes of an instruction behind the need of register b
+--     behind s held, in_turn     what comes of an instruction after the need of register b
 --     gives_same, opens_same     a register gets a value, and with it in the else part the code
 use Rattle.std.proofs.Common.{◌≡◌, ℕ, refl, ap, ◌∙◌, Bool, true, false, Ok, Err}
 use Rattle.std.specs.Prelude.{not, if◌then◌else◌, slice_set}

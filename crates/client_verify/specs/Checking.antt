@@ -1,7 +1,9 @@
 -- What the verifier makes of an instruction by the columns of the instruction table.
 --     Step     what it reads: the row, the operands, and what is known in front of the instruction
---     meets, given, ended_in     whether a register holds what is needed, what a register gets, what is known once references have ended
---     checked_first, known_behind, applied     the first reason to refuse the instruction, what is known behind it in both parts, or either
+--     meets, given, ended_in     whether a register holds what is needed, what a register gets,
+--                                what is known once references have ended
+--     checked_first, known_behind, applied     the first reason to refuse the instruction, what is
+--                                              known after it in both parts, or either
 use Rattle.std.specs.Prelude.{⊤, ℕ, ℤ, pos, negsuc, List, Bool, true, false, not, ◌==◌, if◌then◌else◌, Option, Some, None, Ok, slice_get, slice_set}
 use Rattle.std.specs.Option.{is_some, option_and_then}
 use Rattle.seg_spec.specs.Types.{Form, Table, form_at}
@@ -17,7 +19,8 @@ use Rattle.client_spec.specs.declared.table.Gives.TheVariants as gives
 use Rattle.client_spec.specs.declared.table.Ends.{Ends}
 use Rattle.client_spec.specs.declared.table.Ends.TheVariants as ends
 
--- an instruction, with the type and the constant that its number names, and what is known in front of it
+-- an instruction, with the type and the constant that its number names, and
+-- what is known in front of it
 pub record Step : Type 0 where
   pub types : Table
   pub before : RegisterTypes
@@ -56,7 +59,8 @@ part_of number (Form.struct fields) = field_at number fields
 abbrev pub part_in : Table → ℤ → RegisterType → Option ℕ
 part_in types number RegisterType.Undefined = None
 part_in types number RegisterType.Int = None
-part_in types number (RegisterType.Reference x t) = option_and_then (part_of number) (form_at types t)
+part_in types number (RegisterType.Reference x t) =
+    option_and_then (part_of number) (form_at types t)
 part_in types number (RegisterType.Owner t) = None
 
 -- ---- what a register has to hold

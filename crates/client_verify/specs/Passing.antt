@@ -1,9 +1,10 @@
 -- The verifier at a place of the code, and what it makes of each instruction.
 --     Progress                           what is known there
---     passes types constants p i         behind an instruction, or the reason to refuse it
---     passes_all types constants p is    behind several
+--     passes types constants p i         after an instruction, or the reason to refuse it
+--     passes_all types constants p is    after several
 --     start                              in front of the code
---     rule_at types constants i ks       what is known behind an instruction by itself, or in front of each of its parts
+--     rule_at types constants i ks       what is known after an instruction by itself, or in
+--                                        front of each of its parts
 --     at_most n                          n, or the most steps that the verifier counts
 use Rattle.std.specs.Prelude.{ℕ, ◌+◌, ◌*◌, ◌^◌, ◌-◌, min, max, nat_abs, List, [], ◌∷◌, length, replicate, nat_lt, if◌then◌else◌, Ok}
 use Rattle.seg_spec.specs.Types.{Table}
@@ -12,14 +13,16 @@ use Rattle.client_spec.specs.declared.table.Role.{Role}
 use Rattle.client_spec.specs.Operations.{row_of}
 use Rattle.client_spec.specs.Typed.{Checked, ◌>>=◌, RegisterType, RegisterTypes, Rule, known, known_after, integer_needed, rule_of, joined, kept}
 
--- a part of the code that is open, and what its end needs: what was known where its other part begins or ended, the
--- steps of that part, or what was known in front of a loop and its turns; and the steps of the code in front of it
+-- a part of the code that is open, and what its end needs: what was known where its other part
+-- begins or ended, the steps of that part, or what was known in front of a loop and its turns; and
+-- the steps of the code in front of it
 pub data Open : Type 0 where
   in_success : (otherwise : RegisterTypes) (before : ℕ) → Open
   in_else : (success : RegisterTypes) (steps before : ℕ) → Open
   in_body : (found : RegisterTypes) (turns before : ℕ) → Open
 
--- what is known of the registers, the steps of the innermost part so far, and the open parts, the innermost first
+-- what is known of the registers, the steps of the innermost part so far, and the open
+-- parts, the innermost first
 pub record Progress : Type 0 where
   pub known : RegisterTypes
   pub steps : ℕ
@@ -39,22 +42,26 @@ with_part part parts = if nat_lt (length parts) 8 then part ∷ parts else parts
 abbrev pub inside : RegisterTypes → Open → List Open → Progress
 inside ks part parts = record { known = ks; steps = 0; parts = with_part part parts }
 
--- behind an END, with the steps of what it ends
+-- after an END, with the steps of what it ends
 abbrev pub behind : RegisterTypes → (before steps : ℕ) → List Open → Progress
-behind ks before steps parts = record { known = ks; steps = at_most (before + steps); parts = parts }
+behind ks before steps parts =
+    record { known = ks; steps = at_most (before + steps); parts = parts }
 
 -- from the success part to the else part
 abbrev pub turned : Progress → List Open → Progress
-turned p (in_success otherwise before ∷ parts) = inside otherwise (in_else p.known p.steps before) parts
+turned p (in_success otherwise before ∷ parts) =
+    inside otherwise (in_else p.known p.steps before) parts
 turned p (in_else success steps before ∷ parts) = record p { parts = parts }
 turned p (in_body found turns before ∷ parts) = record p { parts = parts }
 turned p [] = p
 
--- behind the innermost part
+-- after the innermost part
 abbrev pub closed : Progress → List Open → Checked Progress
 closed p (in_success otherwise before ∷ parts) = Ok (behind p.known before p.steps parts)
-closed p (in_else success steps before ∷ parts) = joined success p.known >>= λ both. Ok (behind both before (max p.steps steps) parts)
-closed p (in_body found turns before ∷ parts) = kept found p.known >>= λ _. Ok (behind found before (at_most (turns * at_most (p.steps + 1))) parts)
+closed p (in_else success steps before ∷ parts) =
+    joined success p.known >>= λ both. Ok (behind both before (max p.steps steps) parts)
+closed p (in_body found turns before ∷ parts) = kept found p.known
+    >>= λ _. Ok (behind found before (at_most (turns * at_most (p.steps + 1))) parts)
 closed p [] = Ok p
 
 module _ (types : Table) (constants : List Constant) where
@@ -69,9 +76,13 @@ module _ (types : Table) (constants : List Constant) where
   rule_at i ks = rule_by (row_of i.operation).role i ks
 
   abbrev pub passes_by : Role → Progress → Instruction → Checked Progress
-  passes_by Role.Plain p i = rule_at i p.known >>= λ after. Ok (record p { known = after.0; steps = at_most (p.steps + 1) })
-  passes_by Role.Opener p i = rule_at i p.known >>= λ after. Ok (inside after.0 (in_success after.1 (at_most (p.steps + 1))) p.parts)
-  passes_by Role.Loop p i = rule_at i p.known >>= λ after. Ok (inside p.known (in_body p.known (nat_abs i.number) (at_most (p.steps + 1))) p.parts)
+  passes_by Role.Plain p i = rule_at i p.known
+      >>= λ after. Ok (record p { known = after.0; steps = at_most (p.steps + 1) })
+  passes_by Role.Opener p i = rule_at i p.known
+      >>= λ after. Ok (inside after.0 (in_success after.1 (at_most (p.steps + 1))) p.parts)
+  passes_by Role.Loop p i = rule_at i p.known
+      >>= λ after. Ok (inside p.known
+      (in_body p.known (nat_abs i.number) (at_most (p.steps + 1))) p.parts)
   passes_by Role.Else p i = Ok (turned p p.parts)
   passes_by Role.End p i = closed p p.parts
 

@@ -13,16 +13,23 @@ use Rattle.client_verify.specs.Passing.{Progress, start, passes_all}
 
 -- the rules refuse the code, for this reason first
 abbrev pub IsRejected : Client → Reason → Type 0
-IsRejected client reason = types_after client.types client.constants client.code (replicate 16 RegisterType.Undefined) ≡ Err reason
+IsRejected client reason =
+    types_after client.types client.constants client.code (replicate 16 RegisterType.Undefined)
+    ≡ Err reason
 
 -- they refuse the instruction at this place, and none in front of it
 abbrev pub IsRejectedAt : Client → ℕ → Reason → Type 0
 IsRejectedAt client i reason =
-    (p : Progress) × (passes_all client.types client.constants start (take i (listing client.code)) ≡ Ok p)
-    × (passes_all client.types client.constants start (take (i + 1) (listing client.code)) ≡ Err reason)
+    (p : Progress) ×
+    (passes_all client.types client.constants start (take i (listing client.code)) ≡ Ok p) ×
+    (passes_all client.types client.constants start (take (i + 1) (listing client.code))
+    ≡ Err reason)
 
 abbrev pub IsRefused : Table → Client → Fault → Type 0
 IsRefused table client (fault.TypeMismatch k) = IsFirstDifference table client.types k
-IsRefused table client (fault.Rejected instruction number) = Agree table client.types × (reason : Reason) × IsRejected client reason × (number ≡ reason_number reason) × IsRejectedAt client instruction reason
-IsRefused table client fault.TooLong = Agree table client.types × IsAccepted client × (10 ^ 9 < bound client.code)
+IsRefused table client (fault.Rejected instruction number) =
+    Agree table client.types × (reason : Reason) × IsRejected client reason ×
+    (number ≡ reason_number reason) × IsRejectedAt client instruction reason
+IsRefused table client fault.TooLong =
+    Agree table client.types × IsAccepted client × (10 ^ 9 < bound client.code)
 IsRefused table client fault = ⊥

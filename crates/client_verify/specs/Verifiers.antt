@@ -25,9 +25,17 @@ abbrev pub open_of : Open → passing.Open
 open_of part = part_of part.part part.steps
 
 abbrev pub progress_of : Verifier → passing.Progress
-progress_of verifier = record { known = registers_of verifier.registers; steps = verifier.steps; parts = reverse (map open_of verifier.parts.items) }
+progress_of verifier = record {
+  known = registers_of verifier.registers;
+  steps = verifier.steps;
+  parts = reverse (map open_of verifier.parts.items);
+}
 
 abbrev pub PassesBy : Role → Verifier → Instruction → Verifier → Result (⊤) Reason → Type 0
 PassesBy role old instruction new result =
-    (constants : List Constant) → IsInstruction old.types.now constants (row_of instruction.operation).role (instruction_of instruction)
-    → checked (λ _. progress_of new) result ≡ passing.passes_by old.types.now constants role (progress_of old) (instruction_of instruction)
+    (constants : List Constant) →
+    IsInstruction old.types.now constants (row_of instruction.operation).role
+    (instruction_of instruction) →
+    checked (λ _. progress_of new) result
+    ≡ passing.passes_by old.types.now constants role (progress_of old)
+    (instruction_of instruction)

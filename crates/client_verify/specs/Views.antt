@@ -1,8 +1,8 @@
 -- The verifier's values as the definitions know them.
 --     class_of, known_of, reason_of     a class, what is known of a register, a reason
 --     registers_of                      what is known of each register
---     both_of                           what is known behind an instruction, in both parts
---     checked                           an answer, or the reason
+--     both_of                           what is known after an instruction, in both parts
+--     checked                           a result, or the reason
 use Rattle.std.specs.Prelude.{map, Result, Ok, Err}
 use Rattle.client_spec.specs.Typed as typed
 use Rattle.client_verify.specs.declared.reason.Reason.{Reason}

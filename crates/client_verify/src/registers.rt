@@ -73,7 +73,7 @@ impl Registers {
         self.set(register, RegisterType::Undefined);
     }
 
-    /// What is known behind the `END` of an opener, from what is known at the ends of its two parts.
+    /// What is known after the `END` of an opener, from what is known at the ends of its two parts.
     pub fn joined(&self, other: &Registers) -> Result<Registers, Reason>
         ensures { checked registers_of result
             ≡ typed.joined (registers_of self.now) (registers_of other.now) }

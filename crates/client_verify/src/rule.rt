@@ -1,5 +1,5 @@
 ghost use Rattle.std.specs.Prelude.{◌≡◌, ◌≢◌, ◌≤◌, ◌/◌, ◌%◌, ℕ, List, pos, length};
-ghost use Rattle.client_spec.specs.Code as code;
+ghost use Rattle.client_spec.specs.Code as syntax;
 ghost use Rattle.client_spec.specs.declared.table.Number.TheVariants as number;
 ghost use Rattle.client_spec.specs.Operations.{row_of};
 ghost use Rattle.client_spec.specs.Grammar.{IsInstruction};
@@ -13,7 +13,7 @@ use crate::registers::Registers;
 use client_code::{Ends, Gives, Instruction, Kinds, Need, Role, Row};
 use seg_layout::{Fields, Type, TypeId, TypeTable};
 
-/// What is known behind an instruction: in its success part, and in its else part. Both are the same where it has no parts.
+/// What is known after an instruction: in its success part, and in its else part. Both are the same where it has no parts.
 #[derive(Debug, Clone, Copy)]
 pub struct After {
     pub success: Registers,
@@ -65,10 +65,11 @@ impl<'a> Rule<'a> {
         }
     }
 
-    /// What is known behind the instruction, or the first reason to reject it.
+    /// What is known after the instruction, or the first reason to reject it.
     pub fn apply(&self) -> Result<After, Reason>
-        ensures { (constants : List code.Constant) →
-            IsInstruction (types_of self.now) constants (row_of (instruction_in self.now).operation).role
+        ensures { (constants : List syntax.Constant) →
+            IsInstruction (types_of self.now) constants
+            (row_of (instruction_in self.now).operation).role
             (instruction_of (instruction_in self.now)) →
             checked both_of result ≡ rule_at (types_of self.now) constants
             (instruction_of (instruction_in self.now)) (registers_of (before_of self.now)) }
@@ -77,7 +78,7 @@ impl<'a> Rule<'a> {
         Ok(self.after())
     }
 
-    /// What is known behind the instruction where there is no reason to reject it.
+    /// What is known after the instruction where there is no reason to reject it.
     fn after(&self) -> After
         ensures { both_of result ≡ known_behind (step_of self.now) }
     {

@@ -1,5 +1,5 @@
 ghost use Rattle.std.specs.Prelude.{◌≡◌, ◌+◌, List, IfOk, IfErr, Ok, Err};
-ghost use Rattle.client_spec.specs.Code as code;
+ghost use Rattle.client_spec.specs.Code as syntax;
 ghost use Rattle.client_spec.specs.Grammar.{IsInstruction};
 ghost use Rattle.client_spec.specs.declared.table.Role.TheVariants as role;
 ghost use Rattle.client_spec.specs.Operations.{row_of};
@@ -78,12 +78,12 @@ impl<'a> Verifier<'a> {
     /// Goes past an instruction.
     pub fn pass(&mut self, instruction: Instruction) -> Result<(), Reason>
         ensures types { self.new.types.now ≡ self.old.types.now }
-        ensures passed { IfOk result (λ _. (constants : List code.Constant) →
+        ensures passed { IfOk result (λ _. (constants : List syntax.Constant) →
             IsInstruction self.old.types.now constants (row_of instruction.operation).role
             (instruction_of instruction)
             → passes self.old.types.now constants (progress_of self.old)
             (instruction_of instruction) ≡ Ok (progress_of self.new)) }
-        ensures refused { IfErr result (λ reason. (constants : List code.Constant) →
+        ensures refused { IfErr result (λ reason. (constants : List syntax.Constant) →
             IsInstruction self.old.types.now constants (row_of instruction.operation).role
             (instruction_of instruction)
             → passes self.old.types.now constants (progress_of self.old)
@@ -137,7 +137,7 @@ impl<'a> Verifier<'a> {
         Ok(())
     }
 
-    /// Opens a part behind an instruction. There is room, since a client's nesting has a limit.
+    /// Opens a part after an instruction. There is room, since a client's nesting has a limit.
     fn push(&mut self, part: Part)
         ensures types { self.new.types.now ≡ self.old.types.now }
         ensures inside { progress_of self.new

@@ -14,7 +14,8 @@ use Rattle.client_verify.proofs.Numbers.{are_named}
 use Rattle.client_verify.proofs.Rules.{rule_same}
 use Rattle.client_verify.proofs.rule.Rule.apply.Goals as goal
 
-columns_say : (r : Rule) (constants : List Constant) → IsInstruction r.types.now constants (row_of r.instruction.operation).role (instruction_of r.instruction) → applied (step_of r) ≡ rule_at r.types.now constants (instruction_of r.instruction) (registers_of r.before.now)
+columns_say : (r : Rule) (constants : List Constant) → IsInstruction r.types.now constants (row_of r.instruction.operation).role (instruction_of r.instruction)
+    → applied (step_of r) ≡ rule_at r.types.now constants (instruction_of r.instruction) (registers_of r.before.now)
 columns_say r constants right =
     let i = r.instruction in
     rule_same (step_of r) constants i.operation r.own right
