@@ -26,7 +26,7 @@ pub data AreParts (bytes : List ℕ) (table : Table) : List Place → List ℕ �
   no_parts : AreParts bytes table [] []
   more_parts : {place : Place} {places : List Place} {blocks rest : List ℕ} → IsPart bytes table place blocks → AreParts bytes table places rest → AreParts bytes table (place ∷ places) (blocks ++ rest)
 
--- as many entries as a block has room for, with a value after so many bytes
+-- as many entries as a block has room for, with a value behind so many bytes
 abbrev pub entries_of : List ℕ → Table → ℕ → ℕ → ℕ → List Place
 entries_of bytes table p before U =
     let each = before + size table U in
