@@ -22,7 +22,7 @@ module _ (old absorbed joined new : List ℕ) (at u room place units : ℕ) (h :
   abbrev ys : List Tile
   ys = behind old at u h held
 
-  -- the block took in what is behind it
+  -- the block took in what is after it
   record Grown : Type 0 where
     rest : List Tile
     tiling : IsTiling 1 absorbed (xs ++ tile at (u + room) true ∷ rest)

@@ -1,7 +1,7 @@
 ghost use Rattle.std.specs.Prelude.{◌≡◌, ◌+◌, ◌^◌, ◌≤◌, nat_le, true, List, ◌∷◌, ◌++◌, length};
 ghost use Rattle.std.specs.Option.{option_map};
 ghost use Rattle.seg_spec.specs.Heap.{Tile, AreApart, IsHeap, gaps, best_fit};
-ghost use Rattle.seg_spec.specs.Window.{with_bytes};
+ghost use Rattle.seg_spec.specs.Window.{KeepsHost};
 ghost use Rattle.seg_spec.specs.Search.{looks};
 ghost use Rattle.seg_block.specs.Blocks.{block_end};
 ghost use Rattle.seg_block.specs.Joining.{JoinsBefore};
@@ -115,7 +115,7 @@ impl Fit for BestFit {
 fn join_before<A: Allocator>(w: &mut Window<A>, block: Block) -> Block
     requires { block_end block ≤ MAX_LEN }
     ensures bounds { block_end result ≡ block_end block }
-    ensures host { w.new ≡ with_bytes w.old w.new.bytes }
+    ensures host { KeepsHost w.old w.new }
     ensures joins { (xs ys : List Tile)
         → IsTiling 1 w.old.bytes (xs ++ tile_of block true ∷ ys) → AreApart true xs
         → JoinsBefore 1 true w.old.bytes w.new.bytes xs result.at result.units ys }

@@ -3,7 +3,7 @@ ghost use Rattle.std.specs.Ordering.{nat_cmp, ordering_then};
 ghost use Rattle.std.proofs.Common.{inl, arith};
 ghost use Rattle.std.specs.Cmp.{on_total, then_total, nat_cmp_total};
 ghost use Rattle.seg_spec.specs.Heap.{Span, span, link_at, best_fit, IsFreeTree};
-ghost use Rattle.seg_spec.specs.Window.{with_bytes};
+ghost use Rattle.seg_spec.specs.Window.{KeepsHost};
 ghost use Rattle.seg_spec.proofs.BytesLaws.{number-slice};
 ghost use Rattle.seg_spec.proofs.OrderSteps.{then_steps_up};
 ghost use Rattle.seg_rbtree.specs.Parts.{part};
@@ -100,7 +100,7 @@ pub(crate) fn best_fit<A: Allocator>(w: &Window<A>, need: u32) -> Option<Block>
 /// Takes a free block out of the tree.
 pub(crate) fn take_out<A: Allocator>(w: &mut Window<A>, block: Block)
     requires { block_end block ≤ MAX_LEN }
-    ensures host { w.new ≡ with_bytes w.old w.new.bytes }
+    ensures host { KeepsHost w.old w.new }
     ensures leaves { length w.old.bytes ≤ MAX_LEN → (xs ys : List Span)
         → AreGaps w.old.bytes (xs ++ span block.at block.units ∷ ys)
         → IsFreeTree w.old.bytes (xs ++ span block.at block.units ∷ ys)
@@ -112,7 +112,7 @@ pub(crate) fn take_out<A: Allocator>(w: &mut Window<A>, block: Block)
 /// Puts a free block into the tree.
 pub(crate) fn put_in<A: Allocator>(w: &mut Window<A>, block: Block)
     requires { block_end block ≤ MAX_LEN }
-    ensures host { w.new ≡ with_bytes w.old w.new.bytes }
+    ensures host { KeepsHost w.old w.new }
     ensures joins { length w.old.bytes ≤ MAX_LEN → (xs ys : List Span)
         → AreGaps w.old.bytes (xs ++ span block.at block.units ∷ ys)
         → IsFreeTree w.old.bytes (xs ++ ys) → link_at w.old.bytes block.at ≡ None

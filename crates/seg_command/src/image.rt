@@ -52,7 +52,7 @@ impl Image {
         }
     }
 
-    /// Lets the segment have so many bytes more, and answers its new size.
+    /// Gives the segment so many bytes more, and returns its new size.
     pub fn grow(&mut self, extra: u32) -> Result<u32, Fault> {
         match self {
             Image::SeqFit(segment) => segment.grow(extra),
@@ -60,7 +60,7 @@ impl Image {
         }
     }
 
-    /// Cuts the gap at the segment's end, and answers its new size.
+    /// Cuts the gap at the segment's end, and returns its new size.
     pub fn shrink_to_fit(&mut self) -> u32 {
         match self {
             Image::SeqFit(segment) => segment.shrink_to_fit(),

@@ -16,7 +16,7 @@ pub const MAX_IMAGE: u64 = 1 << 30;
 /// The most bytes of a client, of a text and of the input.
 pub const MAX_FILE: u64 = 1 << 20;
 
-/// Does what the words say, the program's name first, and answers the status: 0 success, 1 a fault of the library, 2 a wrong
+/// Does what the words say, the program's name first, and returns the status: 0 success, 1 a fault of the library, 2 a wrong
 /// command line, 3 a file or an output that failed.
 pub fn command<S: AsStr, F: Files, O: Sink, E: Sink>(
     alloc: Global,
