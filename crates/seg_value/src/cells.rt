@@ -1,11 +1,11 @@
 //! The cells of a value. A struct's are those of its fields, which have lower type ids, so going over them recurses no
 //! deeper than the table is long.
 
-ghost use Rattle.std.specs.Prelude.{◌≡◌, ℕ, ◌+◌, ◌*◌, ◌≤◌, map};
+ghost use Rattle.std.specs.Prelude.{◌≡◌, ℕ, ◌+◌, ◌*◌, ◌≤◌, map, length};
 ghost use Rattle.seg_spec.specs.Bytes.{word, set_word};
 ghost use Rattle.seg_spec.specs.Cells.{further, IsWithin, ChangesCells, ChangesEach, IsDefaulted, IsFurther};
 ghost use Rattle.seg_spec.specs.Reads.{spaced};
-ghost use Rattle.seg_spec.specs.Types.{IsTable, size};
+ghost use Rattle.seg_spec.specs.Types.{IsTable, size, fields_of};
 ghost use Rattle.seg_spec.specs.Window.{with_bytes};
 
 use crate::entry::{Entry, Held};
@@ -21,7 +21,39 @@ const NULL: u32 = 1;
 const EMPTY: u64 = 1;
 
 /// Writes the default of a value: 0 for numbers, empty or null for all else.
+#[inline]
 pub(crate) fn set_default<A: Allocator>(w: &mut Window<A>, types: &TypeTable, place: Place)
+    ensures host { w.new ≡ with_bytes w.old w.new.bytes }
+    ensures cells { IsWithin w.old.bytes place.at (size types.now place.type_id) →
+        ChangesCells IsDefaulted w.old.bytes w.new.bytes types.now place.at place.type_id }
+    ensures table { IsTable types.now }
+{
+    // a value that is one cell, as most are, needs no recursion
+    if types.field_count(place.type_id) == 0 {
+        set_cell(w, types, place);
+        return;
+    }
+    set_fields(w, types, place);
+}
+
+/// Writes the default of a value without fields.
+#[inline]
+fn set_cell<A: Allocator>(w: &mut Window<A>, types: &TypeTable, cell: Place)
+    ensures host { w.new ≡ with_bytes w.old w.new.bytes }
+    ensures cells { length (fields_of types.now cell.type_id) ≡ 0 →
+        IsWithin w.old.bytes cell.at (size types.now cell.type_id) →
+        ChangesCells IsDefaulted w.old.bytes w.new.bytes types.now cell.at cell.type_id }
+{
+    let word = if types.has_pointers(cell.type_id) {
+        EMPTY
+    } else {
+        0
+    };
+    w.put64(cell.at as usize, word);
+}
+
+/// Writes the default of a value, field by field.
+fn set_fields<A: Allocator>(w: &mut Window<A>, types: &TypeTable, place: Place)
     ensures host { w.new ≡ with_bytes w.old w.new.bytes }
     ensures cells { IsWithin w.old.bytes place.at (size types.now place.type_id) →
         ChangesCells IsDefaulted w.old.bytes w.new.bytes types.now place.at place.type_id }
@@ -29,17 +61,12 @@ pub(crate) fn set_default<A: Allocator>(w: &mut Window<A>, types: &TypeTable, pl
 {
     let fields = types.field_count(place.type_id);
     if fields == 0 {
-        let cell = if types.has_pointers(place.type_id) {
-            EMPTY
-        } else {
-            0
-        };
-        w.put64(place.at as usize, cell);
+        set_cell(w, types, place);
         return;
     }
     for index in 0..fields {
         if let Some(field) = types.field(place.type_id, index) {
-            set_default(w, types, place.part(field));
+            set_fields(w, types, place.part(field));
         }
     }
 }

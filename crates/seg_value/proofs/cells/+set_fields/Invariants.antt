@@ -3,10 +3,10 @@ use Rattle.seg_spec.specs.Window.{with_bytes}
 use Rattle.seg_spec.specs.Types.{size, IsTable}
 use Rattle.seg_spec.specs.Cells.{IsWithin, IsDefaulted}
 use Rattle.seg_spec.proofs.CellSteps.{ChangesFields, defaulted_local, field_types}
-use Rattle.seg_value.proofs.cells.+set_default.Given as goal
+use Rattle.seg_value.proofs.cells.+set_fields.Given as goal
 
-abbrev pub decreases-set_default : goal.decreases-set_default
-decreases-set_default g l = l.place.type_id
+abbrev pub decreases-set_fields : goal.decreases-set_fields
+decreases-set_fields g l = l.place.type_id
 
 abbrev pub invariant-loop-index : goal.invariant-loop-index
 invariant-loop-index g l = record {

@@ -1,18 +1,14 @@
-use Rattle.std.proofs.Common.{◌≡◌, ℕ, ap, ◌∙◌, sym, refl, arith, subst}
-use Rattle.seg_spec.specs.Bytes.{set_long}
+use Rattle.std.proofs.Common.{◌≡◌, ap, ◌∙◌, sym, refl, arith}
 use Rattle.seg_spec.specs.Window.{Placement, with_bytes}
-use Rattle.seg_spec.specs.Cells.{ChangesCells, IsDefaulted}
+use Rattle.seg_spec.specs.Cells.{IsDefaulted}
 use Rattle.seg_spec.proofs.CellSteps.{defaulted_local, next_field, field_within, past_fields, whole_struct, no_fields}
 use Rattle.seg_layout.specs.Forms.{map_option, cell_of}
-use Rattle.seg_value.proofs.CellCases.{struct_of, cell_of_type, empty_cell, zero_cell}
-use Rattle.seg_value.proofs.cells.+set_default.Goals as goal
-use Rattle.seg_value.proofs.cells.+set_default.Goals.{in-Some, in_default, then-has_pointers, else-has_pointers}
+use Rattle.seg_value.proofs.CellCases.{struct_of}
+use Rattle.seg_value.proofs.cells.+set_fields.Goals as goal
+use Rattle.seg_value.proofs.cells.+set_fields.Goals.{in-Some, in_default}
 
 bytes_of : (p q : Placement) → p ≡ q → p.bytes ≡ q.bytes
 bytes_of p q e = ap (λ (r : Placement). r.bytes) e
-
-written : (p q : Placement) (at u v : ℕ) → q ≡ with_bytes p (set_long p.bytes at u) → u ≡ v → q.bytes ≡ set_long p.bytes at v
-written p q at u v e f = bytes_of q (with_bytes p (set_long p.bytes at u)) e ∙ ap (set_long p.bytes at) f
 
 pub loop-index-init : goal.loop-index-init
 loop-index-init g t c = record {
@@ -23,19 +19,19 @@ loop-index-init g t c = record {
 pub loop-index-preserved : goal.loop-index-preserved
 loop-index-preserved g t c = elim c.match-field.branch [
   | in-Some w ↦ record {
-    host = w.w-is ∙ w.set_default.ensures.host ∙ ap (λ p. with_bytes p w.set_default.new.w.bytes) c.loop-index.invariant.host
-        ∙ ap (λ b. with_bytes c.args.w.now b) (sym (bytes_of c.match-field.w w.set_default.new.w w.w-is));
+    host = w.w-is ∙ w.set_fields.ensures.host ∙ ap (λ p. with_bytes p w.set_fields.new.w.bytes) c.loop-index.invariant.host
+        ∙ ap (λ b. with_bytes c.args.w.now b) (sym (bytes_of c.match-field.w w.set_fields.new.w w.w-is));
     cells = λ valid within.
         let s = struct_of c.args.types.now c.field_count-fields.ensures.table c.args.place.type_id (omega (arith, c.field_count-fields.ensures.count)) in
         let e = c.field.ensures.field ∙ ap (map_option cell_of) w.in-Some.is in
         let before = c.loop-index.invariant.cells valid within in
         let room = field_within IsDefaulted defaulted_local c.args.types.now valid c.args.place.type_id s.parts s.form_is c.args.w.now.bytes
         c.args.place.at c.loop-index.index w.in-Some.field.from w.in-Some.field.type_id e within c.loop-index.w.bytes before in
-        let step = w.set_default.ensures.cells (rw (w.part.ensures.at, w.part.ensures.type_id) room) in
+        let step = w.set_fields.ensures.cells (rw (w.part.ensures.at, w.part.ensures.type_id) room) in
         let step' = rw (w.part.ensures.at, w.part.ensures.type_id) at step in
         let r = next_field IsDefaulted defaulted_local c.args.types.now valid c.args.place.type_id s.parts s.form_is c.args.w.now.bytes
-        c.args.place.at c.loop-index.index w.in-Some.field.from w.in-Some.field.type_id e within c.loop-index.w.bytes w.set_default.new.w.bytes before step' in
-        rw (bytes_of c.match-field.w w.set_default.new.w w.w-is) r;
+        c.args.place.at c.loop-index.index w.in-Some.field.from w.in-Some.field.type_id e within c.loop-index.w.bytes w.set_fields.new.w.bytes before step' in
+        rw (bytes_of c.match-field.w w.set_fields.new.w w.w-is) r;
   }
   | in_default w ↦ record {
     host = w.w-is ∙ c.loop-index.invariant.host ∙ ap (λ b. with_bytes c.args.w.now b) (sym (bytes_of c.match-field.w c.loop-index.w w.w-is));
@@ -57,18 +53,4 @@ returns-clause-cells g t c = λ within.
     c.loop-index.index c.loop-index.w.bytes (omega (arith, c.field_count-fields.ensures.count)) (c.loop-index.invariant.cells valid within)
 
 pub returns-then-fields-eq0-clause-cells : goal.returns-then-fields-eq0-clause-cells
-returns-then-fields-eq0-clause-cells g t c = λ within.
-    let table = c.args.types.now in
-    let valid = c.field_count-fields.ensures.table in
-    let old = c.args.w.now.bytes in
-    let T = c.args.place.type_id in
-    elim c.if-has_pointers.branch [
-      | then-has_pointers w ↦
-          let one = cell_of_type table valid T (c.has_pointers.ensures.cells ∙ w.if-has_pointers.true) (sym c.field_count-fields.ensures.count ∙ c.if-fields-eq0.true) in
-          subst (λ b. ChangesCells IsDefaulted old b table c.args.place.at T) (sym (written c.args.w.now c.put64.new.self c.args.place.at c.if-has_pointers.cell 1 c.put64.ensures w.cell-is))
-          (empty_cell table valid T old c.args.place.at within one)
-      | else-has_pointers w ↦
-          let none = c.has_pointers.ensures.cells ∙ w.if-has_pointers.false in
-          subst (λ b. ChangesCells IsDefaulted old b table c.args.place.at T) (sym (written c.args.w.now c.put64.new.self c.args.place.at c.if-has_pointers.cell 0 c.put64.ensures w.cell-is))
-          (zero_cell table valid T old c.args.place.at within none)
-    ]
+returns-then-fields-eq0-clause-cells g t c = c.set_cell.ensures.cells (sym c.field_count-fields.ensures.count ∙ c.if-fields-eq0.true)
