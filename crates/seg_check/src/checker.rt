@@ -4,6 +4,7 @@ ghost use Rattle.seg_spec.specs.Sound.{HasHeader};
 ghost use Rattle.seg_spec.specs.Faulty.{HasFront};
 ghost use Rattle.seg_check.specs.Faults.{FitsFront};
 
+use crate::bytes::Bytes;
 use crate::claims::Claims;
 use crate::header::check_header;
 use crate::image::Image;
@@ -36,9 +37,15 @@ fn check_heap<A: Allocator, B: Allocator + Copy>(
     ensures fault { HasFront w.now.bytes types.now → IfErr result (FitsFront w.now.bytes) }
 {
     let mut claims = Claims::new(alloc, w)?;
-    let image = Image { w, types };
-    image.check_tiles(&mut claims).map_err(Fault::BadBlock)?;
-    image.check_free(&claims).map_err(Fault::BadFree)?;
+    let image = Image {
+        w,
+        bytes: Bytes::of(w),
+        types,
+    };
+    let free_list = image.check_tiles(&mut claims).map_err(Fault::BadBlock)?;
+    image
+        .check_free(&claims, free_list)
+        .map_err(Fault::BadFree)?;
     image.check_index(&mut claims)?;
     image.check_uniques(&mut claims)?;
     image.check_values(&mut claims)?;

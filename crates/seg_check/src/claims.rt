@@ -1,8 +1,9 @@
-ghost use Rattle.std.specs.Prelude.{◌≡◌, ◌+◌, ◌^◌, ◌<◌, IfSome};
+ghost use Rattle.std.specs.Prelude.{◌≡◌, ◌+◌, ◌^◌, ◌<◌, IfSome, vec_len};
 
+use crate::bytes::Bytes;
 use crate::fault::ContentFault;
 use crate::marks::{Mark, Turn};
-use seg_block::{HEAP_START, Tag, UNIT, payload, tag_word};
+use seg_block::{HEAP_START, Tag, UNIT, block_of};
 use seg_ptr::Window;
 use std::alloc::{AllocError, Allocator};
 
@@ -51,17 +52,28 @@ impl<A: Allocator> Claims<A> {
     fn set_mark(&mut self, block: u32, new: Mark)
         ensures taken { self.new.taken ≡ self.old.taken }
     {
-        if let Some(unit) = unit_at(block) {
-            if unit < self.marks.len() {
-                self.marks[unit] = new;
-            }
+        if let Some(unit) = self.unit_at(block) {
+            self.marks[unit] = new;
         }
     }
 
     fn mark(&self, block: u32) -> Mark {
-        match unit_at(block) {
-            Some(unit) if unit < self.marks.len() => self.marks[unit],
-            _ => Mark::Inside,
+        match self.unit_at(block) {
+            Some(unit) => self.marks[unit],
+            None => Mark::Inside,
+        }
+    }
+
+    /// The unit of the heap that begins at a position, if one does.
+    fn unit_at(&self, position: u32) -> Option<usize>
+        ensures { IfSome result (λ unit. unit < vec_len self.now.marks) }
+    {
+        let from_start = position.checked_sub(HEAP_START)?;
+        let unit = (from_start / UNIT) as usize;
+        if from_start % UNIT == 0 && unit < self.marks.len() {
+            Some(unit)
+        } else {
+            None
         }
     }
 
@@ -78,9 +90,9 @@ impl<A: Allocator> Claims<A> {
     /// of this tag with `size` bytes of payload, then `DoubleOwner` where it was claimed before.
     // Inlined, since most of what a check does is claims.
     #[inline(always)]
-    pub(crate) fn claim<B: Allocator>(
+    pub(crate) fn claim(
         &mut self,
-        w: &Window<B>,
+        bytes: Bytes,
         pointer: u32,
         tag: Tag,
         size: u64,
@@ -88,19 +100,21 @@ impl<A: Allocator> Claims<A> {
         ensures taken { self.new.taken ≡ self.old.taken }
     {
         let bad = ContentFault::BadPointer(pointer);
-        let start = w.target(pointer as usize).ok_or(bad)?;
-        let block = start.checked_sub(UNIT).ok_or(bad)?;
-        let mark = self.mark(block);
-        let is_live = mark == Mark::Live || mark == Mark::Claimed;
-        if !is_live || tag_word(w, block) != tag.word() || payload(w, block) < size {
+        let start = bytes.target(pointer).ok_or(bad)?;
+        let block = block_of(start);
+        let unit = self.unit_at(block).ok_or(bad)?;
+        if !bytes.has_payload(block, tag.word(), size) {
             return Err(bad);
         }
-        if mark == Mark::Claimed {
-            return Err(ContentFault::DoubleOwner(block));
+        match self.marks[unit] {
+            Mark::Live => {
+                self.marks[unit] = Mark::Claimed;
+                self.unclaimed = self.unclaimed.saturating_sub(1);
+                Ok(start)
+            }
+            Mark::Claimed => Err(ContentFault::DoubleOwner(block)),
+            Mark::Inside | Mark::Free => Err(bad),
         }
-        self.set_mark(block, Mark::Claimed);
-        self.unclaimed = self.unclaimed.saturating_sub(1);
-        Ok(start)
     }
 
     /// Lets a claimed block wait for its turn.
@@ -132,16 +146,6 @@ impl<A: Allocator> Claims<A> {
             }
             block = block.saturating_add(UNIT);
         }
-        None
-    }
-}
-
-/// The unit of the heap that begins at a position, if one does.
-fn unit_at(position: u32) -> Option<usize> {
-    let from_start = position.checked_sub(HEAP_START)?;
-    if from_start % UNIT == 0 {
-        Some((from_start / UNIT) as usize)
-    } else {
         None
     }
 }

@@ -1,31 +1,44 @@
-use crate::image::Image;
-use seg_block::{HEAP_START, LINK, UNIT, block_at, is_live};
-use seg_ptr::{Window, header};
-use std::alloc::Allocator;
+use crate::bytes::Bytes;
+use seg_block::{LINK, UNIT};
+use seg_ptr::header;
 
-impl<A: Allocator> Image<'_, A> {
-    /// The list of sequential fit: each of its pointers names the next free block, and the last one none. `Err` has the
-    /// position of the first that doesn't.
-    pub(crate) fn check_free_list(&self) -> Result<(), u32> {
-        let w = self.w;
-        let mut word = header::FREE as u32;
-        let mut at = HEAP_START;
-        while let Some(block) = block_at(w, at) {
-            if !is_live(w, at) {
-                check_word(w, word, Some(at + UNIT))?;
-                word = at + LINK as u32;
-            }
-            at += UNIT * block.units;
-        }
-        check_word(w, word, None)
-    }
+/// The list of sequential fit, while the blocks are gone over: each of its pointers names the next free block, and the last
+/// one none. What is wrong is kept and told at the end, as the order of faults wants it.
+#[derive(Clone, Copy)]
+pub(crate) struct FreeList {
+    /// The position of the pointer that names the next free block.
+    word: u32,
+    /// The position of the first pointer that doesn't.
+    wrong: Option<u32>,
 }
 
-/// The pointer at a position names this, else `Err` with the position.
-fn check_word<A: Allocator>(w: &Window<A>, word: u32, named: Option<u32>) -> Result<(), u32> {
-    if w.target(word as usize) == named {
-        Ok(())
-    } else {
-        Err(word)
+impl FreeList {
+    /// No free block has come yet.
+    pub(crate) fn new() -> FreeList {
+        FreeList {
+            word: header::FREE as u32,
+            wrong: None,
+        }
+    }
+
+    /// The next free block stands at this position.
+    pub(crate) fn add(&mut self, bytes: Bytes, block: u32) {
+        self.expect(bytes, Some(block.wrapping_add(UNIT)));
+        self.word = block.wrapping_add(LINK as u32);
+    }
+
+    /// All free blocks have come. `Err` has the position of the first pointer that is wrong.
+    pub(crate) fn end(mut self, bytes: Bytes) -> Result<(), u32> {
+        self.expect(bytes, None);
+        match self.wrong {
+            Some(word) => Err(word),
+            None => Ok(()),
+        }
+    }
+
+    fn expect(&mut self, bytes: Bytes, named: Option<u32>) {
+        if self.wrong.is_none() && bytes.target(self.word) != named {
+            self.wrong = Some(self.word);
+        }
     }
 }

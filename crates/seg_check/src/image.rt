@@ -1,7 +1,9 @@
 ghost use Rattle.std.specs.Prelude.{◌≡◌};
 
+use crate::bytes::Bytes;
 use crate::claims::Claims;
 use crate::fault::ContentFault;
+use crate::free_list::FreeList;
 use crate::marks::Turn;
 use seg_layout::TypeTable;
 use seg_ptr::{Window, header};
@@ -12,14 +14,19 @@ use std::alloc::Allocator;
 #[derive(Drop)]
 pub(crate) struct Image<'a, A: Allocator> {
     pub(crate) w: &'a Window<A>,
+    pub(crate) bytes: Bytes<'a>,
     pub(crate) types: &'a TypeTable,
 }
 
 impl<A: Allocator> Image<'_, A> {
     /// The free structure of the image's allocator. `Err` has the position of the pointer that is wrong.
-    pub(crate) fn check_free<B: Allocator>(&self, claims: &Claims<B>) -> Result<(), u32> {
+    pub(crate) fn check_free<B: Allocator>(
+        &self,
+        claims: &Claims<B>,
+        free_list: FreeList,
+    ) -> Result<(), u32> {
         match self.w.get32(header::ALLOCATOR) {
-            0 => self.check_free_list(),
+            0 => free_list.end(self.bytes),
             _ => self.check_free_tree(claims),
         }
     }
@@ -37,7 +44,7 @@ impl<A: Allocator> Image<'_, A> {
         ensures taken { claims.new.taken ≡ claims.old.taken }
     {
         let size = u64::from(count) * u64::from(content.entry.size);
-        let start = claims.claim(self.w, pointer, content.tag, size)?;
+        let start = claims.claim(self.bytes, pointer, content.tag, size)?;
         self.await_turn(claims, content.entry, Turn { start, count })?;
         Ok(start)
     }

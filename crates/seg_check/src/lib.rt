@@ -1,6 +1,7 @@
 //! The checker: whether an image is one that the library could have made, and if not, the first fault.
 #![tactic(auto)]
 
+mod bytes;
 mod checker;
 mod claims;
 mod fault;

@@ -30,8 +30,7 @@ impl<A: Allocator> Image<'_, A> {
             is_linked = is_linked && self.is_previous(last, next);
             last = next;
         }
-        let is_closed = self.w.target(last as usize) == Some(first)
-            && self.is_previous(last, first);
+        let is_closed = self.bytes.target(last) == Some(first) && self.is_previous(last, first);
         if is_linked && is_closed {
             Ok(())
         } else {
@@ -41,6 +40,6 @@ impl<A: Allocator> Image<'_, A> {
 
     /// Whether a node is the one before another, as that one says.
     fn is_previous(&self, node: u32, next: u32) -> bool {
-        self.w.target(next.wrapping_add(PREVIOUS) as usize) == Some(node)
+        self.bytes.target(next.wrapping_add(PREVIOUS)) == Some(node)
     }
 }
