@@ -284,9 +284,9 @@ module _ (allocator : ℕ) (before taken marked : List ℕ) (table : Table) (cel
       let kept_is : kept ≡ count_at tagged cell = rw marked_is at kept_by in
       let bytes_are : kept * content.entry.size ≡ count_at tagged cell * item_size table of.form = ap (λ k. k * content.entry.size) kept_is ∙ ap (λ k. count_at tagged cell * k) of.size_is in
       let from_in : IsWithin marked p (kept * content.entry.size) =
-          rw (marked_is, bytes_are) (from_within allocator before taken table (object_at cell T) v blocks of.form s of.form_is of.has_it u g t two small p e) in
+      rw (marked_is, bytes_are) (from_within allocator before taken table (object_at cell T) v blocks of.form s of.form_is of.has_it u g t two small p e) in
       let to_in : IsWithin marked payload (kept * content.entry.size) =
-          rw (marked_is, payload_is, bytes_are) (to_within allocator before taken table (object_at cell T) v blocks of.form s of.form_is of.has_it u g t two small all_fit) in
+      rw (marked_is, payload_is, bytes_are) (to_within allocator before taken table (object_at cell T) v blocks of.form s of.form_is of.has_it u g t two small all_fit) in
       let moved_entries = of.moves_entries tagged moved p (g + 16) (count_at tagged cell) (λ h. rw (marked_is, payload_is, kept_is) at (text h from_in to_in)) (λ U b i. rw (marked_is, payload_is, kept_is) at (shifted U b i from_in to_in)) in
       let m : MovesFrom (target tagged cell) tagged moved table of.form (g + 16) (count_at tagged cell) = rw e moved_entries in
       let stands = pointed_stands allocator before taken table (object_at cell T) v blocks of.form s of.form_is of.has_it u g t two small moved all_fit m in

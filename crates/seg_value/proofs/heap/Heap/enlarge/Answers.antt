@@ -19,9 +19,9 @@ returns-in-None-clause-enlarges g c = λ T v blocks names s small much.
     let of = of_form table T content names in
     let here = bytes_of c.self.inside.window c.args.self.now.window (ap (λ (x : Stored). x.window) c.self.view_is) in
     let wanted = wanted_is code old table c.args.cell T v blocks content of s c.args.limit small much c.count-kept.result c.preferred.result c.need-wanted.result
-        c.count-kept.ensures c.preferred.ensures.doubled c.need-wanted.ensures.exact in
+    c.count-kept.ensures c.preferred.ensures.doubled c.need-wanted.ensures.exact in
     let r = enlarged code old table c.args.cell T v blocks content of s c.args.limit small much c.request.new.w.bytes c.request.result c.buffer_of-block.result c.need-wanted.result c.need.result
-        c.buffer_of-block.ensures wanted (c.need.ensures.exact small) (rw here at c.request.ensures.same) (rw here at c.request.ensures.new) in
+    c.buffer_of-block.ensures wanted (c.need.ensures.exact small) (rw here at c.request.ensures.same) (rw here at c.request.ensures.new) in
     let asks = asks_once code old table c.args.cell T v blocks content of s c.args.limit much in
     subst (λ xs. Refuses code old c.request.new.w.bytes xs) (sym asks)
     (subst (Enlarged code old table c.args.cell T v blocks content of s c.args.limit small much c.request.new.w.bytes) c.in-None.is r)
@@ -35,9 +35,9 @@ returns-in-Some-Same-clause-enlarges g c = λ T v blocks names s small much.
     let of = of_form table T content names in
     let here = bytes_of c.self.inside.window c.args.self.now.window (ap (λ (x : Stored). x.window) c.self.view_is) in
     let wanted = wanted_is code old table c.args.cell T v blocks content of s c.args.limit small much c.count-kept.result c.preferred.result c.need-wanted.result
-        c.count-kept.ensures c.preferred.ensures.doubled c.need-wanted.ensures.exact in
+    c.count-kept.ensures c.preferred.ensures.doubled c.need-wanted.ensures.exact in
     let r = enlarged code old table c.args.cell T v blocks content of s c.args.limit small much c.request.new.w.bytes c.request.result c.buffer_of-block.result c.need-wanted.result c.need.result
-        c.buffer_of-block.ensures wanted (c.need.ensures.exact small) (rw here at c.request.ensures.same) (rw here at c.request.ensures.new) in
+    c.buffer_of-block.ensures wanted (c.need.ensures.exact small) (rw here at c.request.ensures.same) (rw here at c.request.ensures.new) in
     let asks = asks_once code old table c.args.cell T v blocks content of s c.args.limit much in
     let is = c.in-Some-Same.is ∙ ap (λ x. Some x) c.in-Some-Same.field-0-is in
     subst (λ xs. Reserves code old c.request.new.w.bytes table (object_at c.args.cell T) v blocks xs (c.args.limit * content.entry.size)) (sym asks)
@@ -52,9 +52,9 @@ returns-in-Some-New-clause-enlarges g c = λ T v blocks names s small much.
     let of = of_form table T content names in
     let here = bytes_of c.self.inside.window c.args.self.now.window (ap (λ (x : Stored). x.window) c.self.view_is) in
     let wanted = wanted_is code old table c.args.cell T v blocks content of s c.args.limit small much c.count-kept.result c.preferred.result c.need-wanted.result
-        c.count-kept.ensures c.preferred.ensures.doubled c.need-wanted.ensures.exact in
+    c.count-kept.ensures c.preferred.ensures.doubled c.need-wanted.ensures.exact in
     let r = enlarged code old table c.args.cell T v blocks content of s c.args.limit small much c.request.new.w.bytes c.request.result c.buffer_of-block.result c.need-wanted.result c.need.result
-        c.buffer_of-block.ensures wanted (c.need.ensures.exact small) (rw here at c.request.ensures.same) (rw here at c.request.ensures.new) in
+    c.buffer_of-block.ensures wanted (c.need.ensures.exact small) (rw here at c.request.ensures.same) (rw here at c.request.ensures.new) in
     let asks = asks_once code old table c.args.cell T v blocks content of s c.args.limit much in
     let is = c.in-Some-New.is ∙ ap (λ x. Some x) c.in-Some-New.field-0-is in
     let given = subst (Enlarged code old table c.args.cell T v blocks content of s c.args.limit small much c.request.new.w.bytes) is r in
