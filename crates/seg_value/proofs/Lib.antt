@@ -2,3 +2,4 @@ pub mod CellCases
 pub mod Shifts
 pub mod Owns
 pub mod NewBlocks
+pub mod Buffers

@@ -1,13 +1,21 @@
-ghost use Rattle.std.specs.Prelude.{◌≡◌, ℕ, ◌+◌, ◌-◌, ◌*◌, ◌/◌, ◌%◌, ◌^◌, ◌<◌, ◌≤◌, [], ◌∷◌, length, IsOkUnless, MatchResult};
+ghost use Rattle.std.specs.Prelude.{◌≡◌, ℕ, ◌+◌, ◌-◌, ◌*◌, ◌/◌, ◌%◌, ◌^◌, ◌<◌, ◌≤◌, [], ◌∷◌, length, List, Some, option_map, IsOkUnless, MatchResult};
 ghost use Rattle.seg_spec.specs.Bytes.{set_word};
 ghost use Rattle.seg_spec.specs.Calls.{Refuses};
 ghost use Rattle.seg_spec.specs.Demand.{block_for};
-ghost use Rattle.seg_spec.specs.Heap.{Span, IsHeap};
+ghost use Rattle.seg_spec.specs.Growing.{Reserves, MovesBuffer};
+ghost use Rattle.seg_spec.specs.Heap.{Span, IsHeap, Takes};
+ghost use Rattle.seg_spec.specs.Owning.{Stands};
+ghost use Rattle.seg_spec.specs.Pointer.{target};
+ghost use Rattle.seg_spec.specs.Reads.{count_at};
+ghost use Rattle.seg_spec.specs.Spending.{units_named, buffer_asks};
 ghost use Rattle.seg_spec.specs.Types.{IsTable, size};
+ghost use Rattle.seg_spec.specs.Value.{Value};
 ghost use Rattle.seg_spec.specs.Window.{with_bytes};
 ghost use Rattle.seg_block.specs.Blocks.{IsSized};
 ghost use Rattle.seg_block.specs.Tags.{word_of};
+ghost use Rattle.seg_value.specs.Buffers.{NamesBuffer, HasSizedBuffer};
 ghost use Rattle.seg_value.specs.Contents.{IsContent, GivesBlock};
+ghost use Rattle.seg_value.specs.Places.{object_at as place_at};
 
 use crate::content::{Content, Shape};
 use crate::entry::Entry;
@@ -79,56 +87,100 @@ impl<F: Fit, A: Allocator> Heap<F, A> {
         ensures window { self.new.window ≡ with_bytes self.old.window self.new.window.bytes }
         ensures types { self.new.types ≡ self.old.types }
         ensures code { IsOkUnless result Code.BadAlloc }
+        ensures reserves { (T : ℕ) (v : Value) (blocks : List ℕ) →
+            NamesBuffer self.old.types T content.now →
+            Stands F.code self.old.window.bytes self.old.types (place_at cell T) v blocks →
+            limit * content.now.entry.size < 2 ^ 32 →
+            MatchResult result
+            (λ done. Reserves F.code self.old.window.bytes self.new.window.bytes self.old.types
+            (place_at cell T) v blocks
+            (buffer_asks self.old.window.bytes cell content.now.entry.size limit)
+            (limit * content.now.entry.size))
+            (λ code. Refuses F.code self.old.window.bytes self.new.window.bytes
+            (buffer_asks self.old.window.bytes cell content.now.entry.size limit)) }
     {
-        if self.has_room(content.entry, cell, limit) {
+        if u64::from(limit) * u64::from(content.entry.size) <= u64::from(self.room(cell)) {
             return Ok(());
         }
         self.enlarge(content, cell, limit)
     }
 
-    /// Whether the buffer of a cell has room for `limit` entries. A cell without one has room for none.
-    fn has_room(&self, entry: Entry, cell: u32, limit: u32) -> bool {
+    /// The bytes of the buffer of a cell: 0 where it names none.
+    fn room(&self, cell: u32) -> u32
+        ensures { HasSizedBuffer self.now.window.bytes cell →
+            result ≡ 16 * units_named self.now.window.bytes cell - 16 }
+    {
         let Some(start) = self.window.target(cell as usize) else {
-            return limit == 0;
+            return 0;
         };
-        let Some(block) = block_at(&self.window, block_of(start)) else {
-            return limit == 0;
-        };
-        u64::from(limit) * u64::from(entry.size) <= u64::from(UNIT * (block.units - 1))
+        match block_at(&self.window, block_of(start)) {
+            Some(block) => UNIT * (block.units - 1),
+            None => 0,
+        }
     }
 
-    /// Finds a larger buffer for a cell: where it stands, or elsewhere.
+    /// The block of the buffer of a cell, if it names one.
+    fn buffer_of(&self, cell: u32) -> Option<u32>
+        ensures { result ≡ option_map (λ p. p - UNIT) (target self.now.window.bytes cell) }
+    {
+        let start = self.window.target(cell as usize)?;
+        Some(block_of(start))
+    }
+
+    /// Finds a larger buffer for a cell, which has no room for `limit` entries: where it stands, or elsewhere.
     #[inline(never)]
     fn enlarge(&mut self, content: &Content, cell: u32, limit: u32) -> Result<(), Code>
         ensures window { self.new.window ≡ with_bytes self.old.window self.new.window.bytes }
         ensures types { self.new.types ≡ self.old.types }
         ensures code { IsOkUnless result Code.BadAlloc }
+        ensures enlarges { (T : ℕ) (v : Value) (blocks : List ℕ) →
+            NamesBuffer self.old.types T content.now →
+            Stands F.code self.old.window.bytes self.old.types (place_at cell T) v blocks →
+            limit * content.now.entry.size < 2 ^ 32 →
+            16 * units_named self.old.window.bytes cell - 16 < limit * content.now.entry.size →
+            MatchResult result
+            (λ done. Reserves F.code self.old.window.bytes self.new.window.bytes self.old.types
+            (place_at cell T) v blocks
+            (buffer_asks self.old.window.bytes cell content.now.entry.size limit)
+            (limit * content.now.entry.size))
+            (λ code. Refuses F.code self.old.window.bytes self.new.window.bytes
+            (buffer_asks self.old.window.bytes cell content.now.entry.size limit)) }
     {
         let entry = content.entry;
         let kept = self.count(cell);
-        let old = self.window.target(cell as usize);
-        let block = old.map(|start| block_of(start));
+        let block = self.buffer_of(cell);
         let wanted = entry.need(preferred(kept, limit));
         match request::<F, A>(&mut self.window, block, wanted, entry.need(limit)) {
-            None => return Err(Code::BadAlloc),
-            Some(Grant::Same(_)) => {}
-            Some(Grant::New(block)) => self.move_buffer(content, cell, block),
+            None => Err(Code::BadAlloc),
+            Some(Grant::Same(_)) => Ok(()),
+            Some(Grant::New(block)) => {
+                self.move_buffer(content, cell, block);
+                Ok(())
+            }
         }
-        Ok(())
     }
 
     /// Moves the entries of a cell to a new block, and frees their old one.
     fn move_buffer(&mut self, content: &Content, cell: u32, block: u32)
         ensures window { self.new.window ≡ with_bytes self.old.window self.new.window.bytes }
         ensures types { self.new.types ≡ self.old.types }
+        ensures moves { (T u : ℕ) (before : List ℕ) (v : Value) (blocks : List ℕ) →
+            NamesBuffer self.old.types T content.now →
+            Stands F.code before self.old.types (place_at cell T) v blocks →
+            Takes F.code before self.old.window.bytes u (Some block) → 2 ≤ u →
+            count_at before cell * content.now.entry.size + 16 ≤ 16 * u →
+            MovesBuffer F.code before self.old.window.bytes self.new.window.bytes self.old.types
+            (place_at cell T) v blocks u }
     {
         let new = self.tagged(content, block);
-        if let Some(old) = self.window.target(cell as usize) {
-            let kept = self.count(cell);
-            self.shift_entries(content.entry, old, new, kept);
-            self.free_block(old);
-        }
+        let Some(old) = self.window.target(cell as usize) else {
+            self.window.point(cell as usize, Some(new));
+            return;
+        };
+        let kept = self.count(cell);
+        self.shift_entries(content.entry, old, new, kept);
         self.window.point(cell as usize, Some(new));
+        F::free(&mut self.window, block_of(old));
     }
 
     /// Cuts the buffer of a string, a vector or a flat map to what it uses. An empty one gives it up.

@@ -1,0 +1,455 @@
+-- Buffers that grow, from what the steps of the calls leave.
+use Rattle.std.proofs.Common.{◌≡◌, ◌≢◌, ℕ, zero, suc, ◌+◌, ◌-◌, ◌*◌, ◌%◌, ◌^◌, ◌<◌, ◌≤◌, ◌⊎◌, inl, inr, true, false, max, leb, cond, List, [], ◌∷◌, ◌++◌, length, Option, Some, None, MatchOption, option_map, option_to_list, refl, sym, ap, ◌∙◌, subst, arith, zero-add, append-nil}
+use Rattle.std.specs.Prelude.{Contains, ⊤}
+use Rattle.std.proofs.Math.Nat.{mul-le-mul_left, mul-le-mul_right}
+use Rattle.std.proofs.lemmas.Option.{slice_get_past}
+use Rattle.std.proofs.lemmas.Bool.{cases_lt}
+use Rattle.std.proofs.lemmas.Bool.Decides.{nat_tests}
+use Rattle.seg_spec.specs.Bytes.{slice, put, set_word}
+use Rattle.seg_spec.specs.Pointer.{target, set_pointer}
+use Rattle.seg_spec.specs.Types.{Form, Table, IsTable, form_at, size}
+use Rattle.seg_spec.specs.Value.{Value}
+use Rattle.seg_spec.specs.Heap.{Span, span, units_at, link_at, live, IsHeap, IsLive, Keeps, Takes, Gives, Granted, same, fresh, heap_start, resized, after_request, after_request_at}
+use Rattle.seg_spec.specs.Block as block
+use Rattle.seg_spec.specs.Block.{tag_of, block_of, has_buffer, IsBlock, payload_size}
+use Rattle.seg_spec.specs.Reads.{Place, count_at, named, NamesRoom}
+use Rattle.seg_spec.specs.Sound.{times, positions}
+use Rattle.seg_spec.specs.Demand.{Ask, need, growth, after_ask, after_asks, after_gives, NoRoom}
+use Rattle.seg_spec.specs.Cells.{IsWithin, Shifts}
+use Rattle.seg_spec.specs.Calls.{Refuses}
+use Rattle.seg_spec.specs.Owning.{Stands}
+use Rattle.seg_spec.specs.Spending.{item_size, units_named, buffer_asks, spent}
+use Rattle.seg_spec.specs.Growing.{Succeeds, HasRoomFor, Reserves, MovesBuffer}
+use Rattle.seg_spec.proofs.LiveLaws.{times-same, there, LiesIn, live-lie, positions-resized}
+use Rattle.seg_spec.proofs.KeptLaws.{each_contained, StatesSpan, live_stated}
+use Rattle.seg_spec.proofs.Giving.{found}
+use Rattle.seg_spec.proofs.Frame.{cell-target}
+use Rattle.seg_spec.proofs.SliceLaws.{IsSame-part}
+use Rattle.seg_spec.proofs.TypesLaws.{size_large}
+use Rattle.seg_spec.proofs.CellSteps.{ChangesOnly-none}
+use Rattle.seg_spec.proofs.PlaceSteps.{owned_live, changes_place}
+use Rattle.seg_spec.proofs.Standing.{changes_of}
+use Rattle.seg_spec.proofs.Buffered.{Buffered, buffered, MovesEntries}
+use Rattle.seg_spec.proofs.BufferMoves.{MovesFrom, less_room, old_target, old_count, block_small, from_within, to_within, pointed_stands, old_live, moves}
+use Rattle.seg_spec.proofs.BufferGrows.{one_size, grown_stands, grown_frames, grown_place, grown_units}
+use Rattle.seg_spec.proofs.Requested.{GrewTo, TookFor, GrantedAs, GrantedNew, granted_at, granted_new, spent_same, spent_fresh, units_found}
+use Rattle.seg_block.specs.Blocks.{IsSized, IsLiveBlock}
+use Rattle.seg_block.specs.Tags.{word_of}
+use Rattle.seg_block.specs.Request.{IsGranted, Grants, GrantsNew}
+use Rattle.seg_block.specs.declared.grant.Grant.{Grant}
+use Rattle.seg_block.specs.declared.grant.Grant.TheVariants.{Same, New}
+use Rattle.seg_value.specs.declared.content.Content.{Content}
+use Rattle.seg_value.specs.declared.content.Shape.TheVariants as shape
+use Rattle.seg_value.specs.declared.entry.Held.TheVariants as held
+use Rattle.seg_value.specs.Contents.{IsEntryOf, IsContent, IsText, ContentOf}
+use Rattle.seg_value.specs.Places.{object_at}
+use Rattle.seg_value.specs.Buffers.{NamesBuffer, HasSizedBuffer}
+
+-- ---- the entries of a buffer, by the form of its type
+
+pub record OfForm (table : Table) (T : ℕ) (content : Content) : Type 0 where
+  pub form : Form
+  pub form_is : form_at table T ≡ Some form
+  pub has_it : has_buffer (Some form) ≡ true
+  pub tag_is : word_of content.tag ≡ tag_of block.Kind.buffer T
+  pub size_is : content.entry.size ≡ item_size table form
+  pub moves_entries : (old new : List ℕ) (from to n : ℕ) → (content.entry.held ≡ held.Bytes → new ≡ put old to (slice old from (n * content.entry.size)))
+      → ((U before : ℕ) → IsEntryOf table before U content.entry → Shifts old new table before U content.entry.size from to n) → MovesEntries old new table form from to n
+
+of_list : (table : Table) (T tag before U : ℕ) (content : Content) → IsContent table shape.Ring tag before U content → content.shape ≡ shape.Buffer → OfForm table T content
+of_list table T tag before U content c e = let f : shape.Ring ≡ shape.Buffer = sym c.shape_is ∙ e in absurd (cc)
+
+of_map : (table : Table) (T tag before U : ℕ) (content : Content) → IsContent table shape.Tree tag before U content → content.shape ≡ shape.Buffer → OfForm table T content
+of_map table T tag before U content c e = let f : shape.Tree ≡ shape.Buffer = sym c.shape_is ∙ e in absurd (cc)
+
+of_own : (table : Table) (T tag before U : ℕ) (content : Content) → IsContent table shape.Object tag before U content → content.shape ≡ shape.Buffer → OfForm table T content
+of_own table T tag before U content c e = let f : shape.Object ≡ shape.Buffer = sym c.shape_is ∙ e in absurd (cc)
+
+of_by : (table : Table) (T : ℕ) (content : Content) (o : Option Form) → form_at table T ≡ o → ContentOf table T o (Some content) → content.shape ≡ shape.Buffer → OfForm table T content
+of_by table T content None f c e = absurd c
+of_by table T content (Some Form.i64) f c e = absurd c
+of_by table T content (Some (Form.struct Us)) f c e = absurd c
+of_by table T content (Some (Form.list U)) f c e = of_list table T (tag_of block.Kind.node T) 8 U content c e
+of_by table T content (Some (Form.map U)) f c e = of_map table T (tag_of block.Kind.node T) 24 U content c e
+of_by table T content (Some (Form.own U)) f c e = of_own table T (tag_of block.Kind.object U) 0 U content c e
+of_by table T content (Some Form.str) f c e = record {
+  form = Form.str;
+  form_is = f;
+  has_it = refl;
+  tag_is = c.tag_is;
+  size_is = c.size_is;
+  moves_entries = λ old new from to n text shifted. rw c.size_is at (text c.held_is);
+}
+of_by table T content (Some (Form.vec U)) f c e = record {
+  form = Form.vec U;
+  form_is = f;
+  has_it = refl;
+  tag_is = c.tag_is;
+  size_is = c.entry_is.size_is ∙ zero-add (size table U);
+  moves_entries = λ old new from to n text shifted. subst (λ k. Shifts old new table 0 U k from to n) (c.entry_is.size_is ∙ zero-add (size table U)) (shifted U 0 c.entry_is);
+}
+of_by table T content (Some (Form.flat_map U)) f c e = record {
+  form = Form.flat_map U;
+  form_is = f;
+  has_it = refl;
+  tag_is = c.tag_is;
+  size_is = c.entry_is.size_is;
+  moves_entries = λ old new from to n text shifted. subst (λ k. Shifts old new table 8 U k from to n) c.entry_is.size_is (shifted U 8 c.entry_is);
+}
+
+pub of_form : (table : Table) (T : ℕ) (content : Content) → NamesBuffer table T content → OfForm table T content
+of_form table T content n = of_by table T content (form_at table T) refl n.0 n.1
+
+known : (table : Table) (T : ℕ) (form : Form) → form_at table T ≡ Some form → T < length table
+known table T form e = go (cases_lt T (length table))
+  where
+    go : (T < length table) ⊎ (length table ≤ T) → T < length table
+    go (inl l) = l
+    go (inr l) = let none : form_at table T ≡ None = slice_get_past table T l in let f : None ≡ Some form = sym none ∙ e in absurd (cc)
+
+-- ---- the buffer that a place has
+
+module _ (allocator : ℕ) (old : List ℕ) (table : Table) (cell T : ℕ) (v : Value) (blocks : List ℕ) (content : Content) (of : OfForm table T content) (s : Stands allocator old table (object_at cell T) v blocks) where
+  its : Buffered old table (object_at cell T) of.form v blocks
+  its = buffered old table (object_at cell T) of.form v blocks of.form_is of.has_it s.holds_it
+
+  pub tag_small : tag_of block.Kind.buffer T < 2 ^ 32
+  tag_small = let few = s.is_table.few in let k = known table T of.form of.form_is in omega arith
+
+  -- the block of the buffer is live
+  pub record Named (p : ℕ) : Type 0 where
+    pub units : ℕ
+    pub among : Contains (live old) (span (block_of p) units)
+    pub units_is : units_at old (block_of p) ≡ units
+    pub sized : IsSized old (span (block_of p) (units_at old (block_of p)))
+    pub room : IsBlock old p (tag_of block.Kind.buffer T) (count_at old cell * item_size table of.form)
+    pub owned : 1 ≤ times (block_of p) blocks
+
+  pub named_block : (p : ℕ) → target old cell ≡ Some p → Named p
+  named_block p e =
+      let room : IsBlock old p (tag_of block.Kind.buffer T) (count_at old cell * item_size table of.form) = rw e at its.room in
+      let mine : 1 ≤ times (block_of p) blocks = rw (its.blocks_are, e) (omega (arith, times-same (block_of p) its.owned)) in
+      let is_live = owned_live allocator old table (object_at cell T) v blocks s (block_of p) mine in
+      let f = found (block_of p) (live old) is_live in
+      let l = there (LiesIn old heap_start (length old)) (block_of p) (positions (live old)) (live-lie old allocator s.heap) is_live in
+      let stated = each_contained (StatesSpan old (length old)) (live old) f.block (live_stated old allocator s.heap) f.among in
+      record {
+        units = f.block.units;
+        among = subst (λ x. Contains (live old) (span x f.block.units)) f.at_is f.among;
+        units_is = ap (units_at old) (sym f.at_is) ∙ stated.units_is;
+        sized = record { aligned = l.aligned; large = l.size; inside = l.high; size_is = refl };
+        room = room;
+        owned = mine;
+      }
+
+  pub has_sized : HasSizedBuffer old cell
+  has_sized = go (target old cell) refl
+    where
+      go : (o : Option ℕ) → target old cell ≡ o → MatchOption o ⊤ (λ p. IsSized old (span (block_of p) (units_at old (block_of p))))
+      go None e = tt
+      go (Some p) e = (named_block p e).sized
+
+  each_large : 1 ≤ item_size table of.form
+  each_large = go of.form
+    where
+      go : (form : Form) → 1 ≤ item_size table form
+      go Form.i64 = omega arith
+      go Form.str = omega arith
+      go (Form.vec U) = let l = size_large table s.is_table U in omega arith
+      go (Form.flat_map U) = omega arith
+      go (Form.list U) = omega arith
+      go (Form.map U) = omega arith
+      go (Form.own U) = omega arith
+      go (Form.struct Us) = omega arith
+
+  each_small : item_size table of.form ≤ 4104
+  each_small = go of.form
+    where
+      go : (form : Form) → item_size table form ≤ 4104
+      go Form.i64 = omega arith
+      go Form.str = omega arith
+      go (Form.vec U) = let l = s.is_table.sizes U in omega arith
+      go (Form.flat_map U) = let l = s.is_table.sizes U in omega arith
+      go (Form.list U) = omega arith
+      go (Form.map U) = omega arith
+      go (Form.own U) = omega arith
+      go (Form.struct Us) = omega arith
+
+  -- the entries are no more bytes than the segment has
+  count_bytes : count_at old cell * item_size table of.form ≤ 2 ^ 30
+  count_bytes = go (target old cell) refl
+    where
+      go : (o : Option ℕ) → target old cell ≡ o → count_at old cell * item_size table of.form ≤ 2 ^ 30
+      go None e = let none : count_at old cell ≡ 0 = rw e at its.room in rw none (omega arith)
+      go (Some p) e = let b = named_block p e in omega (arith, b.room.room, b.sized.inside, b.sized.large, s.heap.small)
+
+  pub count_small : count_at old cell ≤ 2 ^ 30
+  count_small = let m = mul-le-mul_left (count_at old cell) each_large in let b = count_bytes in omega arith
+
+  largest : (a b c k m : ℕ) → a * k < m → b * k < m → c * k < m → max a (max b c) * k < m
+  largest a b c k m x y z = go (cases_lt b c) (cases_lt a (max b c))
+    where
+      go : (b < c) ⊎ (c ≤ b) → (a < max b c) ⊎ (max b c ≤ a) → max a (max b c) * k < m
+      go g (inr l) = let e : max a (max b c) ≡ a = omega arith in rw e x
+      go (inl g) (inl l) = let e : max a (max b c) ≡ c = omega arith in rw e z
+      go (inr g) (inl l) = let e : max a (max b c) ≡ b = omega arith in rw e y
+
+  pub preferred_small : (limit : ℕ) → limit * item_size table of.form < 2 ^ 32 → max 4 (max (2 * count_at old cell) limit) * item_size table of.form < 2 ^ 32
+  preferred_small limit small =
+      let twice : 2 * count_at old cell * item_size table of.form ≡ 2 * (count_at old cell * item_size table of.form) = grind arith in
+      largest 4 (2 * count_at old cell) limit (item_size table of.form) (2 ^ 32) (omega (arith, each_small)) (omega (arith, count_bytes)) small
+
+  preferred_more : (limit : ℕ) → need (limit * item_size table of.form) ≤ need (max 4 (max (2 * count_at old cell) limit) * item_size table of.form)
+  preferred_more limit =
+      let more : limit ≤ max 4 (max (2 * count_at old cell) limit) = omega arith in
+      let m = mul-le-mul_right (item_size table of.form) more in
+      omega arith
+
+  -- ---- what is asked for
+
+  abbrev pub the_ask : ℕ → Ask
+  the_ask limit = growth (option_map block_of (target old cell)) content.entry.size (count_at old cell) limit
+
+  pub asks_nothing : (limit room : ℕ) → room ≡ 16 * units_named old cell - 16 → limit * content.entry.size ≤ room → buffer_asks old cell content.entry.size limit ≡ []
+  asks_nothing limit room e l =
+      let fits : leb (limit * content.entry.size) (16 * units_named old cell - 16) ≡ true = grind (arith, nat_tests) in
+      ap (λ b. cond b [] (the_ask limit ∷ [])) fits
+
+  pub asks_once : (limit : ℕ) → 16 * units_named old cell - 16 < limit * content.entry.size → buffer_asks old cell content.entry.size limit ≡ the_ask limit ∷ []
+  asks_once limit l =
+      let more : leb (limit * content.entry.size) (16 * units_named old cell - 16) ≡ false = grind (arith, nat_tests) in
+      ap (λ b. cond b [] (the_ask limit ∷ [])) more
+
+  -- there is room already
+  pub has_room : (limit room : ℕ) → room ≡ 16 * units_named old cell - 16 → limit * content.entry.size ≤ room
+      → Reserves allocator old old table (object_at cell T) v blocks (buffer_asks old cell content.entry.size limit) (limit * content.entry.size)
+  has_room limit room e l = record {
+    others = blocks;
+    succeeds = record {
+      left = live old;
+      left_is = ap (λ asks. spent allocator (live old) (length old) asks []) (asks_nothing limit room e l);
+      changes = changes_place allocator old table (object_at cell T) v blocks s old (ChangesOnly-none old cell (size table T)) v blocks blocks s.holds_it;
+    };
+    room = go (target old cell) refl;
+  }
+    where
+      go : (o : Option ℕ) → target old cell ≡ o → MatchOption o (limit * content.entry.size ≡ 0) (λ p. limit * content.entry.size ≤ payload_size old (block_of p))
+      go None f = let u : units_named old cell ≡ 0 = rw f refl in omega arith
+      go (Some p) f = let u : units_named old cell ≡ units_at old (block_of p) = rw f refl in omega arith
+
+-- ---- the buffer moves
+
+module _ (allocator : ℕ) (before taken marked : List ℕ) (table : Table) (cell T : ℕ) (v : Value) (blocks : List ℕ) (content : Content) (names : NamesBuffer table T content) (s : Stands allocator before table (object_at cell T) v blocks)
+    (u g payload : ℕ) (t : Takes allocator before taken u (Some g)) (two : 2 ≤ u) (fits : count_at before cell * content.entry.size + 16 ≤ 16 * u)
+    (marked_by : marked ≡ set_word taken (g + 8) (word_of content.tag)) (payload_by : payload ≡ (g + 16) % 2 ^ 32) where
+  of : OfForm table T content
+  of = of_form table T content names
+
+  small : tag_of block.Kind.buffer T < 2 ^ 32
+  small = tag_small allocator before table cell T v blocks content of s
+
+  abbrev tagged : List ℕ
+  tagged = set_word taken (g + 8) (tag_of block.Kind.buffer T)
+
+  marked_is : marked ≡ tagged
+  marked_is = marked_by ∙ ap (λ w. set_word taken (g + 8) w) of.tag_is
+
+  payload_is : payload ≡ g + 16
+  payload_is = let l = block_small allocator before taken table (object_at cell T) v blocks of.form s of.form_is of.has_it u g t two small in omega arith
+
+  count_is : count_at tagged cell ≡ count_at before cell
+  count_is = old_count allocator before taken table (object_at cell T) v blocks of.form s of.form_is of.has_it u g t two small
+
+  all_fit : count_at tagged cell * item_size table of.form + 16 ≤ 16 * u
+  all_fit =
+      let e : count_at tagged cell * item_size table of.form ≡ count_at before cell * content.entry.size = ap (λ k. k * item_size table of.form) count_is ∙ ap (λ k. count_at before cell * k) (sym of.size_is) in
+      omega arith
+
+  -- a cell that named nothing
+  pub first_buffer : (after : List ℕ) → target marked cell ≡ None → after ≡ set_pointer marked cell (Some payload) → MovesBuffer allocator before taken after table (object_at cell T) v blocks u
+  first_buffer after none pointed_is =
+      let e : target tagged cell ≡ None = rw marked_is at none in
+      let p : after ≡ set_pointer tagged cell (Some (g + 16)) = rw (marked_is, payload_is) at pointed_is in
+      let m : MovesFrom (target tagged cell) tagged tagged table of.form (g + 16) (count_at tagged cell) = rw e refl in
+      moves allocator before taken table (object_at cell T) v blocks of.form s of.form_is of.has_it u g t two small tagged all_fit m after (rw e p)
+
+  -- a buffer whose entries were moved
+  pub next_buffer : (p kept : ℕ) (moved pointed after : List ℕ) → target marked cell ≡ Some p → kept ≡ count_at marked cell
+      → (content.entry.held ≡ held.Bytes → IsWithin marked p (kept * content.entry.size) → IsWithin marked payload (kept * content.entry.size) → moved ≡ put marked payload (slice marked p (kept * content.entry.size)))
+      → ((U b : ℕ) → IsEntryOf table b U content.entry → IsWithin marked p (kept * content.entry.size) → IsWithin marked payload (kept * content.entry.size) → Shifts marked moved table b U content.entry.size p payload kept)
+      → pointed ≡ set_pointer moved cell (Some payload) → (IsHeap allocator pointed → IsLive pointed (p - 16) → Gives allocator pointed after (p - 16))
+      → MovesBuffer allocator before taken after table (object_at cell T) v blocks u
+  next_buffer p kept moved pointed after some kept_by text shifted pointed_by gives =
+      let e : target tagged cell ≡ Some p = rw marked_is at some in
+      let kept_is : kept ≡ count_at tagged cell = rw marked_is at kept_by in
+      let bytes_are : kept * content.entry.size ≡ count_at tagged cell * item_size table of.form = ap (λ k. k * content.entry.size) kept_is ∙ ap (λ k. count_at tagged cell * k) of.size_is in
+      let from_in : IsWithin marked p (kept * content.entry.size) =
+      rw (marked_is, bytes_are) (from_within allocator before taken table (object_at cell T) v blocks of.form s of.form_is of.has_it u g t two small p e) in
+      let to_in : IsWithin marked payload (kept * content.entry.size) =
+      rw (marked_is, payload_is, bytes_are) (to_within allocator before taken table (object_at cell T) v blocks of.form s of.form_is of.has_it u g t two small all_fit) in
+      let moved_entries = of.moves_entries tagged moved p (g + 16) (count_at tagged cell) (λ h. rw (marked_is, payload_is, kept_is) at (text h from_in to_in)) (λ U b i. rw (marked_is, payload_is, kept_is) at (shifted U b i from_in to_in)) in
+      let m : MovesFrom (target tagged cell) tagged moved table of.form (g + 16) (count_at tagged cell) = rw e moved_entries in
+      let stands = pointed_stands allocator before taken table (object_at cell T) v blocks of.form s of.form_is of.has_it u g t two small moved all_fit m in
+      let is_live = old_live allocator before taken table (object_at cell T) v blocks of.form s of.form_is of.has_it u g t two small moved all_fit m p e in
+      let pointed_is : pointed ≡ set_pointer moved cell (Some (g + 16)) = rw payload_is at pointed_by in
+      let given = gives (rw pointed_is stands.heap) (rw pointed_is is_live) in
+      moves allocator before taken table (object_at cell T) v blocks of.form s of.form_is of.has_it u g t two small moved all_fit m after (rw e (rw pointed_is at given))
+
+-- ---- the buffer gets more room
+
+need_room : (n : ℕ) → n + 16 ≤ 16 * need n
+need_room n = omega arith
+
+two_units : (n : ℕ) → 2 ≤ need n
+two_units n = omega arith
+
+module _ (allocator : ℕ) (old : List ℕ) (table : Table) (cell T : ℕ) (v : Value) (blocks : List ℕ) (content : Content) (of : OfForm table T content) (s : Stands allocator old table (object_at cell T) v blocks)
+    (limit : ℕ) (small : limit * content.entry.size < 2 ^ 32) (much : 16 * units_named old cell - 16 < limit * content.entry.size) where
+  abbrev ask : Ask
+  ask = growth (option_map block_of (target old cell)) content.entry.size (count_at old cell) limit
+
+  -- the units that the code asks for first
+  pub wanted_is : (kept entries wanted : ℕ) → kept ≡ count_at old cell → (kept < 2 ^ 31 → entries ≡ max 4 (max (2 * kept) limit)) → (entries * content.entry.size < 2 ^ 32 → wanted ≡ need (entries * content.entry.size))
+      → wanted ≡ need (max 4 (max (2 * count_at old cell) limit) * content.entry.size)
+  wanted_is kept entries wanted kept_is entries_by wanted_by =
+      let few = count_small allocator old table cell T v blocks content of s in
+      let entries_are : entries ≡ max 4 (max (2 * count_at old cell) limit) = entries_by (omega arith) ∙ ap (λ k. max 4 (max (2 * k) limit)) kept_is in
+      let limit_small : limit * item_size table of.form < 2 ^ 32 = rw of.size_is at small in
+      let fits : max 4 (max (2 * count_at old cell) limit) * content.entry.size < 2 ^ 32 = rw of.size_is (preferred_small allocator old table cell T v blocks content of s limit limit_small) in
+      let fits_too : entries * content.entry.size < 2 ^ 32 = rw entries_are fits in
+      wanted_by fits_too ∙ ap (λ k. need (k * content.entry.size)) entries_are
+
+  -- a new block of no fewer units than the least
+  pub record NewFor (mid : List ℕ) (g : ℕ) : Type 0 where
+    pub units : ℕ
+    pub enough : need (limit * content.entry.size) ≤ units
+    pub takes : Takes allocator old mid units (Some g)
+    pub granted : after_ask allocator (live old) (length old) (growth (option_map block_of (target old cell)) content.entry.size (count_at old cell) limit) ≡ Some (fresh g (live mid))
+
+  -- by what the request returned
+  abbrev pub Enlarged : List ℕ → Option Grant → Type 0
+  Enlarged mid None = Refuses allocator old mid (growth (option_map block_of (target old cell)) content.entry.size (count_at old cell) limit ∷ [])
+  Enlarged mid (Some (Same at)) = Reserves allocator old mid table (object_at cell T) v blocks (growth (option_map block_of (target old cell)) content.entry.size (count_at old cell) limit ∷ []) (limit * content.entry.size)
+  Enlarged mid (Some (New g)) = NewFor mid g
+
+  least_first : need (limit * content.entry.size) ≤ need (max 4 (max (2 * count_at old cell) limit) * content.entry.size)
+  least_first =
+      let more : limit ≤ max 4 (max (2 * count_at old cell) limit) = omega arith in
+      let m = mul-le-mul_right content.entry.size more in
+      omega arith
+
+  refused : (mid : List ℕ) → after_ask allocator (live old) (length old) ask ≡ None → mid ≡ old → Refuses allocator old mid (ask ∷ [])
+  refused mid e same_bytes = record { no_room = rw e refl; same = same_bytes }
+
+  took_new : (mid : List ℕ) (g : ℕ) (after : List Span) → IsHeap allocator mid → Keeps old mid → TookFor allocator (live old) (length old) g after (need (limit * content.entry.size)) → live mid ≡ after → link_at mid g ≡ None
+      → after_ask allocator (live old) (length old) ask ≡ Some (fresh g after) → NewFor mid g
+  took_new mid g after heap kept took live_is link e = record {
+    units = took.units;
+    enough = took.enough;
+    takes = record { heap = heap; kept = kept; taken = rw took.taken (refl, live_is, link) };
+    granted = e ∙ ap (λ bs. Some (fresh g bs)) (sym live_is);
+  }
+
+  grew : (mid : List ℕ) (p : ℕ) (after : List Span) → target old cell ≡ Some p → IsHeap allocator mid → Keeps old mid → (x : ℕ) → Contains (live old) (span (block_of p) x)
+      → GrewTo (live old) after (block_of p) x (need (limit * content.entry.size)) → live mid ≡ after → after_ask allocator (live old) (length old) ask ≡ Some (same after)
+      → Reserves allocator old mid table (object_at cell T) v blocks (ask ∷ []) (limit * content.entry.size)
+  grew mid p after e heap kept x it g live_is granted =
+      let is : live mid ≡ resized (block_of p) g.units (live old) = live_is ∙ g.after_is in
+      let stands = grown_stands allocator old table (object_at cell T) v blocks s mid heap kept (block_of p) x g.units it g.no_fewer is in
+      let frames = grown_frames allocator old table (object_at cell T) v blocks s mid heap kept (block_of p) x g.units it g.no_fewer is (size table T) blocks in
+      let place_same = grown_place allocator old table (object_at cell T) v blocks s mid heap kept (block_of p) x g.units it g.no_fewer is in
+      let units = grown_units allocator old table (object_at cell T) v blocks s mid heap kept (block_of p) x g.units it g.no_fewer is in
+      let large = size_large table s.is_table T in
+      let names : target mid cell ≡ Some p = cell-target old mid cell (IsSame-part old mid cell (size table T) cell 8 (omega arith) (omega arith) place_same) ∙ e in
+      let room = need_room (limit * content.entry.size) in
+      let enough = g.enough in
+      record {
+        others = blocks;
+        succeeds = record {
+          left = after;
+          left_is = spent_same allocator (live old) after (length old) ask granted;
+          changes = changes_of allocator old mid table (object_at cell T) v blocks blocks after s.allocator_is stands frames live_is
+              (λ h. ap (λ ps. times h ps + times h blocks) (ap positions g.after_is ∙ positions-resized (block_of p) g.units (live old)));
+        };
+        room = rw names (omega arith);
+      }
+
+  module _ (mid : List ℕ) (r : Option Grant) (old_block : Option ℕ) (wanted least : ℕ) (block_is : old_block ≡ option_map block_of (target old cell))
+      (wanted_by : wanted ≡ need (max 4 (max (2 * count_at old cell) limit) * content.entry.size)) (least_by : least ≡ need (limit * content.entry.size))
+      (at_block : (at x : ℕ) → old_block ≡ Some at → IsHeap allocator old → IsLiveBlock old at x → Grants allocator old mid at x wanted least r)
+      (no_block : old_block ≡ None → IsHeap allocator old → GrantsNew allocator old mid wanted least r) where
+    without_block : target old cell ≡ None → Enlarged mid r
+    without_block e =
+        let g = no_block (block_is ∙ ap (option_map block_of) e) s.heap in
+        let asked : after_ask allocator (live old) (length old) ask ≡ after_request allocator (live old) (length old) wanted least = rw (e, wanted_by, least_by) refl in
+        go (after_request allocator (live old) (length old) wanted least) refl asked g.heap g.kept g.grants
+      where
+        go : (q : Option Granted) → after_request allocator (live old) (length old) wanted least ≡ q → after_ask allocator (live old) (length old) ask ≡ after_request allocator (live old) (length old) wanted least
+            → IsHeap allocator mid → Keeps old mid → MatchOption q ((r ≡ None) × (mid ≡ old)) (IsGranted mid 0 r) → Enlarged mid r
+        go None f asked heap kept k = subst (Enlarged mid) (sym k.0) (refused mid (asked ∙ f) k.1)
+        go (Some (same after)) f asked heap kept k = absurd (granted_new allocator (live old) (length old) least wanted (same after) (rw (wanted_by, least_by) least_first) f)
+        go (Some (fresh g after)) f asked heap kept k =
+            let took = granted_new allocator (live old) (length old) least wanted (fresh g after) (rw (wanted_by, least_by) least_first) f in
+            subst (Enlarged mid) (sym k.0) (took_new mid g after heap kept (rw least_by at took) k.1 k.2 (asked ∙ f))
+
+    with_block : (p : ℕ) → target old cell ≡ Some p → Enlarged mid r
+    with_block p e =
+        let b = named_block allocator old table cell T v blocks content of s p e in
+        let g = at_block (block_of p) b.units (block_is ∙ ap (option_map block_of) e) s.heap b.among in
+        let one = units_found (live old) (block_of p) b.units b.among (λ d among at_is. sym (stated d among).units_is ∙ ap (units_at old) at_is ∙ b.units_is) in
+        let asked : after_ask allocator (live old) (length old) ask ≡ after_request_at allocator (live old) (length old) (block_of p) b.units wanted least = rw (e, one, wanted_by, least_by) refl in
+        go b.units b.among (after_request_at allocator (live old) (length old) (block_of p) b.units wanted least) refl asked g.heap g.kept g.grants
+      where
+        stated : (d : Span) → Contains (live old) d → StatesSpan old (length old) d
+        stated d among = each_contained (StatesSpan old (length old)) (live old) d (live_stated old allocator s.heap) among
+
+        go : (x : ℕ) → Contains (live old) (span (block_of p) x) → (q : Option Granted) → after_request_at allocator (live old) (length old) (block_of p) x wanted least ≡ q
+            → after_ask allocator (live old) (length old) ask ≡ after_request_at allocator (live old) (length old) (block_of p) x wanted least
+            → IsHeap allocator mid → Keeps old mid → MatchOption q ((r ≡ None) × (mid ≡ old)) (IsGranted mid (block_of p) r) → Enlarged mid r
+        go x it None f asked heap kept k = subst (Enlarged mid) (sym k.0) (refused mid (asked ∙ f) k.1)
+        go x it (Some (same after)) f asked heap kept k =
+            let g = granted_at allocator (live old) (length old) least (block_of p) x wanted (same after) (rw (wanted_by, least_by) least_first) f in
+            subst (Enlarged mid) (sym k.0) (grew mid p after e heap kept x it (rw least_by at g) k.1 (asked ∙ f))
+        go x it (Some (fresh n after)) f asked heap kept k =
+            let took = granted_at allocator (live old) (length old) least (block_of p) x wanted (fresh n after) (rw (wanted_by, least_by) least_first) f in
+            subst (Enlarged mid) (sym k.0) (took_new mid n after heap kept (rw least_by at took) k.1 k.2 (asked ∙ f))
+
+    pub enlarged : Enlarged mid r
+    enlarged = go (target old cell) refl
+      where
+        go : (o : Option ℕ) → target old cell ≡ o → Enlarged mid r
+        go None e = without_block e
+        go (Some p) e = with_block p e
+
+  -- the entries that are there are fewer
+  fewer : count_at old cell * content.entry.size < limit * content.entry.size
+  fewer = go (target old cell) refl
+    where
+      go : (o : Option ℕ) → target old cell ≡ o → count_at old cell * content.entry.size < limit * content.entry.size
+      go None e =
+          let none : count_at old cell ≡ 0 = rw e at (its allocator old table cell T v blocks content of s).room in
+          rw none (omega arith)
+      go (Some p) e =
+          let b = named_block allocator old table cell T v blocks content of s p e in
+          let u : units_named old cell ≡ units_at old (block_of p) = rw e refl in
+          let same_bytes : count_at old cell * content.entry.size ≡ count_at old cell * item_size table of.form = ap (λ k. count_at old cell * k) of.size_is in
+          omega (arith, b.room.room)
+
+  pub moved_to_new : (mid new : List ℕ) (g : ℕ) → NewFor mid g
+      → ((u : ℕ) → Takes allocator old mid u (Some g) → 2 ≤ u → count_at old cell * content.entry.size + 16 ≤ 16 * u → MovesBuffer allocator old mid new table (object_at cell T) v blocks u)
+      → Reserves allocator old new table (object_at cell T) v blocks (growth (option_map block_of (target old cell)) content.entry.size (count_at old cell) limit ∷ []) (limit * content.entry.size)
+  moved_to_new mid new g n moves_it =
+      let room = need_room (limit * content.entry.size) in
+      let two = two_units (limit * content.entry.size) in
+      let enough = n.enough in
+      let f = fewer in
+      let m = moves_it n.units n.takes (omega arith) (omega arith) in
+      record {
+        others = m.others;
+        succeeds = record {
+          left = after_gives (live mid) (named old cell);
+          left_is = spent_fresh allocator (live old) (live mid) (length old) g (growth (option_map block_of (target old cell)) content.entry.size (count_at old cell) limit) n.granted;
+          changes = m.changes;
+        };
+        room = less_room new cell (16 * n.units - 16) (limit * content.entry.size) (omega arith) m.room;
+      }

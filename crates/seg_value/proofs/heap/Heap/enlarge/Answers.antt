@@ -1,0 +1,65 @@
+use Rattle.std.proofs.Common.{◌≡◌, ◌*◌, ap, ◌∙◌, sym, subst, Some}
+use Rattle.seg_spec.specs.Calls.{Refuses}
+use Rattle.seg_spec.specs.Growing.{Reserves}
+use Rattle.seg_spec.specs.Window.{Placement}
+use Rattle.seg_value.specs.Places.{object_at}
+use Rattle.seg_value.specs.Stored.{Stored}
+use Rattle.seg_value.proofs.Buffers.{of_form, asks_once, wanted_is, Enlarged, enlarged, moved_to_new}
+use Rattle.seg_value.proofs.heap.Heap.enlarge.Goals as goal
+
+bytes_of : (p q : Placement) → p ≡ q → p.bytes ≡ q.bytes
+bytes_of p q e = ap (λ (r : Placement). r.bytes) e
+
+pub returns-in-None-clause-enlarges : goal.returns-in-None-clause-enlarges
+returns-in-None-clause-enlarges g c = λ T v blocks names s small much.
+    let code = g.F.Fit.code in
+    let old = c.args.self.now.window.bytes in
+    let table = c.args.self.now.types in
+    let content = c.args.content.now in
+    let of = of_form table T content names in
+    let here = bytes_of c.self.inside.window c.args.self.now.window (ap (λ (x : Stored). x.window) c.self.view_is) in
+    let wanted = wanted_is code old table c.args.cell T v blocks content of s c.args.limit small much c.count-kept.result c.preferred.result c.need-wanted.result
+    c.count-kept.ensures c.preferred.ensures.doubled c.need-wanted.ensures.exact in
+    let r = enlarged code old table c.args.cell T v blocks content of s c.args.limit small much c.request.new.w.bytes c.request.result c.buffer_of-block.result c.need-wanted.result c.need.result
+    c.buffer_of-block.ensures wanted (c.need.ensures.exact small) (rw here at c.request.ensures.same) (rw here at c.request.ensures.new) in
+    let asks = asks_once code old table c.args.cell T v blocks content of s c.args.limit much in
+    subst (λ xs. Refuses code old c.request.new.w.bytes xs) (sym asks)
+    (subst (Enlarged code old table c.args.cell T v blocks content of s c.args.limit small much c.request.new.w.bytes) c.in-None.is r)
+
+pub returns-in-Some-Same-clause-enlarges : goal.returns-in-Some-Same-clause-enlarges
+returns-in-Some-Same-clause-enlarges g c = λ T v blocks names s small much.
+    let code = g.F.Fit.code in
+    let old = c.args.self.now.window.bytes in
+    let table = c.args.self.now.types in
+    let content = c.args.content.now in
+    let of = of_form table T content names in
+    let here = bytes_of c.self.inside.window c.args.self.now.window (ap (λ (x : Stored). x.window) c.self.view_is) in
+    let wanted = wanted_is code old table c.args.cell T v blocks content of s c.args.limit small much c.count-kept.result c.preferred.result c.need-wanted.result
+    c.count-kept.ensures c.preferred.ensures.doubled c.need-wanted.ensures.exact in
+    let r = enlarged code old table c.args.cell T v blocks content of s c.args.limit small much c.request.new.w.bytes c.request.result c.buffer_of-block.result c.need-wanted.result c.need.result
+    c.buffer_of-block.ensures wanted (c.need.ensures.exact small) (rw here at c.request.ensures.same) (rw here at c.request.ensures.new) in
+    let asks = asks_once code old table c.args.cell T v blocks content of s c.args.limit much in
+    let is = c.in-Some-Same.is ∙ ap (λ x. Some x) c.in-Some-Same.field-0-is in
+    subst (λ xs. Reserves code old c.request.new.w.bytes table (object_at c.args.cell T) v blocks xs (c.args.limit * content.entry.size)) (sym asks)
+    (subst (Enlarged code old table c.args.cell T v blocks content of s c.args.limit small much c.request.new.w.bytes) is r)
+
+pub returns-in-Some-New-clause-enlarges : goal.returns-in-Some-New-clause-enlarges
+returns-in-Some-New-clause-enlarges g c = λ T v blocks names s small much.
+    let code = g.F.Fit.code in
+    let old = c.args.self.now.window.bytes in
+    let table = c.args.self.now.types in
+    let content = c.args.content.now in
+    let of = of_form table T content names in
+    let here = bytes_of c.self.inside.window c.args.self.now.window (ap (λ (x : Stored). x.window) c.self.view_is) in
+    let wanted = wanted_is code old table c.args.cell T v blocks content of s c.args.limit small much c.count-kept.result c.preferred.result c.need-wanted.result
+    c.count-kept.ensures c.preferred.ensures.doubled c.need-wanted.ensures.exact in
+    let r = enlarged code old table c.args.cell T v blocks content of s c.args.limit small much c.request.new.w.bytes c.request.result c.buffer_of-block.result c.need-wanted.result c.need.result
+    c.buffer_of-block.ensures wanted (c.need.ensures.exact small) (rw here at c.request.ensures.same) (rw here at c.request.ensures.new) in
+    let asks = asks_once code old table c.args.cell T v blocks content of s c.args.limit much in
+    let is = c.in-Some-New.is ∙ ap (λ x. Some x) c.in-Some-New.field-0-is in
+    let given = subst (Enlarged code old table c.args.cell T v blocks content of s c.args.limit small much c.request.new.w.bytes) is r in
+    let types_here = ap (λ (x : Stored). x.types) c.self.view_is in
+    let moves = rw types_here at c.move_buffer.ensures.moves in
+    subst (λ xs. Reserves code old c.move_buffer.new.self.window.bytes table (object_at c.args.cell T) v blocks xs (c.args.limit * content.entry.size)) (sym asks)
+    (moved_to_new code old table c.args.cell T v blocks content of s c.args.limit small much c.request.new.w.bytes c.move_buffer.new.self.window.bytes c.in-Some-New.block given
+    (λ u takes two fits. moves T u old v blocks names s takes two fits))
