@@ -2,3 +2,8 @@ pub mod CellCases
 pub mod Shifts
 pub mod Owns
 pub mod NewBlocks
+pub mod Nulls
+pub mod Links
+pub mod Resting
+pub mod Uncoupling
+pub mod Joining

@@ -2,3 +2,4 @@ pub mod Stored
 pub mod Contents
 pub mod Places
 pub mod Search
+pub mod Waiting

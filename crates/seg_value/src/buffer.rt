@@ -2,7 +2,8 @@ ghost use Rattle.std.specs.Prelude.{◌≡◌, ℕ, ◌+◌, ◌-◌, ◌*◌, �
 ghost use Rattle.seg_spec.specs.Bytes.{set_word};
 ghost use Rattle.seg_spec.specs.Calls.{Refuses};
 ghost use Rattle.seg_spec.specs.Demand.{block_for};
-ghost use Rattle.seg_spec.specs.Heap.{Span, IsHeap};
+ghost use Rattle.seg_spec.specs.Block.{block_of};
+ghost use Rattle.seg_spec.specs.Heap.{Span, IsHeap, IsLive, Gives};
 ghost use Rattle.seg_spec.specs.Types.{IsTable, size};
 ghost use Rattle.seg_spec.specs.Window.{with_bytes};
 ghost use Rattle.seg_block.specs.Blocks.{IsSized};
@@ -69,6 +70,9 @@ impl<F: Fit, A: Allocator> Heap<F, A> {
     pub fn free_block(&mut self, start: u32)
         ensures window { self.new.window ≡ with_bytes self.old.window self.new.window.bytes }
         ensures types { self.new.types ≡ self.old.types }
+        ensures gives { IsHeap F.code self.old.window.bytes →
+            IsLive self.old.window.bytes (block_of start) →
+            Gives F.code self.old.window.bytes self.new.window.bytes (block_of start) }
     {
         F::free(&mut self.window, block_of(start));
     }
