@@ -7,3 +7,5 @@ pub mod Links
 pub mod Resting
 pub mod Uncoupling
 pub mod Joining
+pub mod Opening
+pub mod Turns
