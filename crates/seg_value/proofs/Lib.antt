@@ -9,3 +9,4 @@ pub mod Uncoupling
 pub mod Joining
 pub mod Opening
 pub mod Turns
+pub mod Clearing

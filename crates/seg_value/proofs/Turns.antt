@@ -6,12 +6,13 @@ use Rattle.seg_spec.specs.Heap.{IsHeap, live, IsLive, Gives}
 use Rattle.seg_spec.specs.Block.{Kind, block_of}
 use Rattle.seg_spec.specs.Reads.{Place}
 use Rattle.seg_spec.specs.Calls.{IsLoose}
+use Rattle.seg_spec.specs.Demand.{after_gives}
 use Rattle.seg_spec.specs.Sound.{times, SameBlocks, positions}
 use Rattle.seg_spec.specs.Owing.{no_parts, more_parts, owes, no_links, none_waits}
-use Rattle.seg_spec.specs.Destroying.{AreLive, GoesWith, Pends, Pops, Adds}
+use Rattle.seg_spec.specs.Destroying.{AreLive, GoesWith, Pends, Pops, Adds, Frees}
 use Rattle.seg_spec.proofs.LiveLaws.{times-append, times-same}
 use Rattle.seg_spec.proofs.Giving.{found}
-use Rattle.seg_spec.proofs.Destruction.{HasFreed, pop_live, freed_more}
+use Rattle.seg_spec.proofs.Destruction.{HasFreed, pop_live, freed_more, linked_twice, pends_same}
 
 -- a block in a list of live ones
 pub is_live : (bytes : List ℕ) (at : ℕ) → 1 ≤ times at (positions (live bytes)) → IsLive bytes at
@@ -48,3 +49,29 @@ loose_goes bytes table object U v inside l = record {
 
 pub none_pending : (allocator : ℕ) (bytes : List ℕ) (table : Table) (first : Option ℕ) → first ≡ None → IsHeap allocator bytes → Pends allocator bytes table first []
 none_pending allocator bytes table first none heap = subst (λ f. Pends allocator bytes table f []) (sym none) (record { heap = heap; owed = []; waiting = none_waits; owed_are = λ h. refl })
+
+-- what joined those that wait is given back
+pub added_frees : (allocator : ℕ) (old mid new : List ℕ) (table : Table) (first : Option ℕ) (xs ys : List ℕ) → Adds allocator old mid table first xs ys → Frees allocator mid new xs → Frees allocator old new xs
+added_frees allocator old mid new table first xs ys a f = record {
+  length_kept = f.length_kept ∙ a.keeps.length_kept;
+  front_kept = f.front_kept ∙ a.keeps.front_kept 0 24 (omega arith);
+  back_kept = f.back_kept ∙ a.keeps.front_kept 28 676 (omega arith);
+  heap = f.heap;
+  live_is = f.live_is ∙ ap (λ bs. after_gives bs xs) a.keeps.live_kept;
+  live_are = λ h. f.live_are h ∙ ap (λ bs. times h (positions bs)) a.keeps.live_kept;
+  kept = λ h some none. linked_twice old mid new h (a.keeps.others h some none) (f.kept h (subst (λ bs. 1 ≤ times h (positions bs)) (sym a.keeps.live_kept) some) none);
+}
+
+pub destroyed : (allocator : ℕ) (old mid new : List ℕ) (table here : Table) → here ≡ table → IsTable table → (none first : Option ℕ) → none ≡ None → (object U : ℕ) (v : Value) (inside : List ℕ) → IsHeap allocator old →
+    IsLoose old table (record { at = object; type = U }) v inside →
+    ((xs : List ℕ) → GoesWith old table object xs → (allocator : ℕ) (ys : List ℕ) → IsTable table → Pends allocator old table none ys → AreLive old (xs ++ ys) → Adds allocator old mid table first xs ys) →
+    ((blocks : List ℕ) → IsTable here → Pends allocator mid here first blocks → AreLive mid blocks → Frees allocator mid new blocks) → Frees allocator old new (block_of object ∷ inside)
+destroyed allocator old mid new table here same valid none first is_none object U v inside heap loose push destroy =
+    let xs = block_of object ∷ inside in
+    let fits : AreLive old ((block_of object ∷ inside) ++ []) = λ h. let o = loose.owned h in let n = times-append h (block_of object ∷ inside) [] in omega arith in
+    let a = push (block_of object ∷ inside) (loose_goes old table object U v inside loose) allocator [] valid (none_pending allocator old table none is_none heap) fits in
+    let destroy' : (blocks : List ℕ) → IsTable table → Pends allocator mid table first blocks → AreLive mid blocks → Frees allocator mid new blocks =
+        subst (λ t. (blocks : List ℕ) → IsTable t → Pends allocator mid t first blocks → AreLive mid blocks → Frees allocator mid new blocks) same destroy in
+    let waiting = pends_same allocator mid table first ((block_of object ∷ inside) ++ []) (block_of object ∷ inside) (λ h. let n = times-append h (block_of object ∷ inside) [] in omega arith) a.pends in
+    let live_there : AreLive mid (block_of object ∷ inside) = λ h. let o = loose.owned h in let l : times h (positions (live mid)) ≡ times h (positions (live old)) = ap (λ bs. times h (positions bs)) a.keeps.live_kept in omega arith in
+    added_frees allocator old mid new table first (block_of object ∷ inside) [] a (destroy' (block_of object ∷ inside) valid waiting live_there)
