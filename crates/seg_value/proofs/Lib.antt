@@ -10,3 +10,4 @@ pub mod Joining
 pub mod Opening
 pub mod Turns
 pub mod Clearing
+pub mod Setting
