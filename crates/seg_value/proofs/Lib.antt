@@ -3,3 +3,12 @@ pub mod Shifts
 pub mod Owns
 pub mod NewBlocks
 pub mod Buffers
+pub mod Nulls
+pub mod Links
+pub mod Resting
+pub mod Uncoupling
+pub mod Joining
+pub mod Opening
+pub mod Turns
+pub mod Clearing
+pub mod Setting

@@ -1,9 +1,10 @@
 -- Entries and contents of the program as the definitions know them.
 --     IsEntryOf table before U entry      an entry with a value of the type after so many bytes
 --     ContentOf table T form content      what the cell of a type names, by the form of the type
+--     OfBlock table kind T content        what a block of a tag is a part of
 --     AreContents table contents          that of each type
 --     GivesBlock ..                       a new block, with the default of a value
-use Rattle.std.specs.Prelude.{◌≡◌, ℕ, ◌+◌, ◌≤◌, ⊤, List, [], ◌∷◌, length, Option, Some, None, get_or}
+use Rattle.std.specs.Prelude.{◌≡◌, ℕ, ◌+◌, ◌≤◌, ⊤, List, [], ◌∷◌, length, Option, Some, None, IsSomeAnd, get_or}
 use Rattle.seg_spec.specs.Bytes.{IsSame}
 use Rattle.seg_spec.specs.Value.{default_of}
 use Rattle.seg_spec.specs.Heap.{IsHeap, live, link_at}
@@ -14,6 +15,8 @@ use Rattle.seg_spec.specs.Types.{Form, Table, form_at, size}
 use Rattle.seg_spec.specs.Block as block
 use Rattle.seg_spec.specs.Block.{tag_of}
 use Rattle.seg_block.specs.Tags.{word_of}
+use Rattle.seg_block.specs.declared.tag.Kind.{Kind}
+use Rattle.seg_block.specs.declared.tag.Kind.TheVariants as kind
 use Rattle.seg_value.specs.declared.entry.Entry.{Entry}
 use Rattle.seg_value.specs.declared.entry.Held.TheVariants as held
 use Rattle.seg_value.specs.declared.content.Content.{Content}
@@ -65,6 +68,16 @@ ContentOf table T (Some (Form.map U)) (Some content) =
 ContentOf table T (Some (Form.own U)) (Some content) =
     IsContent table shape.Object (tag_of block.Kind.object U) 0 U content
 ContentOf _ _ _ _ = ⊥
+
+-- what a block of a kind and a type is a part of, where no name leads to it
+abbrev pub OfBlock : Table → Kind → ℕ → Option Content → Type 0
+OfBlock table kind.Object T content =
+    IsSomeAnd content (IsContent table shape.Object (tag_of block.Kind.object T) 0 T)
+OfBlock table kind.Buffer T content = ContentOf table T (form_at table T) content
+OfBlock table kind.Node T content = ContentOf table T (form_at table T) content
+OfBlock table kind.Named T content = content ≡ None
+OfBlock table kind.IndexBuffer T content = content ≡ None
+OfBlock table kind.IndexNode T content = content ≡ None
 
 -- what the cell of each type names, one after the other
 abbrev pub AreContents : Table → List (Option Content) → Type 0

@@ -2,8 +2,9 @@ ghost use Rattle.std.specs.Prelude.{◌≡◌, ℕ, ◌+◌, ◌-◌, ◌*◌, �
 ghost use Rattle.seg_spec.specs.Bytes.{set_word};
 ghost use Rattle.seg_spec.specs.Calls.{Refuses};
 ghost use Rattle.seg_spec.specs.Demand.{block_for};
+ghost use Rattle.seg_spec.specs.Block.{block_of};
 ghost use Rattle.seg_spec.specs.Growing.{Reserves, MovesBuffer};
-ghost use Rattle.seg_spec.specs.Heap.{Span, IsHeap, Takes};
+ghost use Rattle.seg_spec.specs.Heap.{Span, IsHeap, IsLive, Takes, Gives};
 ghost use Rattle.seg_spec.specs.Owning.{Stands};
 ghost use Rattle.seg_spec.specs.Pointer.{target};
 ghost use Rattle.seg_spec.specs.Reads.{count_at};
@@ -77,6 +78,9 @@ impl<F: Fit, A: Allocator> Heap<F, A> {
     pub fn free_block(&mut self, start: u32)
         ensures window { self.new.window ≡ with_bytes self.old.window self.new.window.bytes }
         ensures types { self.new.types ≡ self.old.types }
+        ensures gives { IsHeap F.code self.old.window.bytes →
+            IsLive self.old.window.bytes (block_of start) →
+            Gives F.code self.old.window.bytes self.new.window.bytes (block_of start) }
     {
         F::free(&mut self.window, block_of(start));
     }

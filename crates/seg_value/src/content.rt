@@ -33,7 +33,7 @@ pub struct Content {
 }
 
 impl Content {
-    ghost use Rattle.seg_value.specs.Contents.{IsContent, ContentOf, kind_of_shape};
+    ghost use Rattle.seg_value.specs.Contents.{IsContent, ContentOf, OfBlock, kind_of_shape};
 
     /// What the cell of a type names. None for types whose values name nothing themselves, numbers and structs, and for
     /// those that the table lacks.
@@ -77,7 +77,9 @@ impl Content {
     }
 
     /// What a block with this tag is a part of, where no name leads to it: named objects and the index have no content.
-    pub fn of_block(types: &TypeTable, tag: Tag) -> Option<Content> {
+    pub fn of_block(types: &TypeTable, tag: Tag) -> Option<Content>
+        ensures { OfBlock types.now tag.kind tag.type_id result }
+    {
         match tag.kind {
             Kind::Object => Some(Content::object(types, tag.type_id)),
             Kind::Buffer | Kind::Node => Content::of(types, tag.type_id),

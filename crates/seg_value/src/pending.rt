@@ -1,5 +1,19 @@
-ghost use Rattle.std.specs.Prelude.{◌≡◌};
+ghost use Rattle.std.specs.Prelude.{◌≡◌, ◌≢◌, ℕ, ◌+◌, ◌*◌, ◌/◌, ◌-◌, ◌≤◌, List, [], ◌∷◌, ◌++◌, length, Option, Some, None, IfSome, false};
+ghost use Rattle.seg_spec.specs.Pointer.{target, set_pointer};
+ghost use Rattle.seg_spec.specs.Types.{form_at, IsTable, fields_of, size};
+ghost use Rattle.seg_spec.specs.Value.{Value};
+ghost use Rattle.seg_spec.specs.Heap.{IsHeap, Span, live};
+ghost use Rattle.seg_spec.specs.Block.{IsInside, block_of, payload_size};
+ghost use Rattle.seg_spec.specs.Reads.{Holds};
+ghost use Rattle.seg_spec.specs.Sound.{times, positions};
+ghost use Rattle.seg_spec.specs.Owing.{IsPart, AreParts, OwesLinks, entries_at};
+ghost use Rattle.seg_spec.specs.Destroying.{AreLive, GoesWith, Pends, Pops, Adds, Uncouples, DefaultsRest, Frees};
 ghost use Rattle.seg_spec.specs.Window.{with_bytes};
+ghost use Rattle.seg_block.specs.Blocks.{IsSized};
+ghost use Rattle.seg_layout.specs.Forms.{has_cells};
+ghost use Rattle.seg_value.specs.Contents.{IsEntryOf, ContentOf};
+ghost use Rattle.seg_value.specs.Places.{place_of, object_at};
+ghost use Rattle.seg_value.specs.Waiting.{AddsWaiting, Opens, links_of};
 
 use crate::content::{Content, Shape};
 use crate::entry::{Entry, Held};
@@ -7,6 +21,9 @@ use crate::heap::Heap;
 use crate::place::Place;
 use seg_block::{Fit, LINK, Tag, UNIT, block_of, link, tag_word};
 use std::alloc::Allocator;
+
+/// Where a map's node points to its right child, in bytes from its start.
+const RIGHT: u32 = 4;
 
 /// Blocks that are to be destroyed, in a list through their links. A block that waits here shows by itself what goes
 /// with it: each entry that a buffer has room for is a value, and a node's next node or children aren't in the list yet.
@@ -17,7 +34,9 @@ pub(crate) struct Pending {
 }
 
 impl Pending {
-    pub(crate) fn new() -> Pending {
+    pub(crate) fn new() -> Pending
+        ensures { result.first ≡ None }
+    {
         Pending { first: None }
     }
 
@@ -25,15 +44,24 @@ impl Pending {
     pub(crate) fn push<F: Fit, A: Allocator>(&mut self, heap: &mut Heap<F, A>, payload: u32)
         ensures window { heap.new.window ≡ with_bytes heap.old.window heap.new.window.bytes }
         ensures types { heap.new.types ≡ heap.old.types }
+        ensures added { (xs : List ℕ) → GoesWith heap.old.window.bytes heap.old.types payload xs →
+            AddsWaiting heap.old heap.new self.old.first self.new.first [] xs }
     {
-        let link = block_of(payload) as usize + LINK;
-        heap.window.point(link, self.first);
+        heap.set_link(payload, self.first);
         self.first = Some(payload);
     }
 
-    fn pop<F: Fit, A: Allocator>(&mut self, heap: &Heap<F, A>) -> Option<u32> {
+    /// Takes the first block out, and returns where its payload begins.
+    fn pop<F: Fit, A: Allocator>(&mut self, heap: &Heap<F, A>) -> Option<u32>
+        ensures none { result ≡ None → self.old.first ≡ None }
+        ensures first { (p : ℕ) → result ≡ Some p → self.old.first ≡ Some p }
+        ensures popped { (allocator : ℕ) (blocks : List ℕ) →
+            Pends allocator heap.now.window.bytes heap.now.types self.old.first blocks →
+            IfSome result (λ p. Pops allocator heap.now.window.bytes heap.now.types
+            p self.new.first blocks) }
+    {
         let payload = self.first?;
-        self.first = link(&heap.window, block_of(payload));
+        self.first = link(heap.window(), block_of(payload));
         Some(payload)
     }
 
@@ -41,17 +69,21 @@ impl Pending {
     pub(crate) fn add_value<F: Fit, A: Allocator>(&mut self, heap: &mut Heap<F, A>, place: Place)
         ensures window { heap.new.window ≡ with_bytes heap.old.window heap.new.window.bytes }
         ensures types { heap.new.types ≡ heap.old.types }
+        ensures added { (home : ℕ) (xs : List ℕ) →
+            IsInside heap.old.window.bytes home place.at (size heap.old.types place.type_id) →
+            IsPart heap.old.window.bytes heap.old.types (place_of place) xs →
+            AddsWaiting heap.old heap.new self.old.first self.new.first (home ∷ []) xs }
     {
-        if !heap.types.has_pointers(place.type_id) {
+        if !heap.types().has_pointers(place.type_id) {
             return;
         }
-        let fields = heap.types.field_count(place.type_id);
+        let fields = heap.types().field_count(place.type_id);
         if fields == 0 {
             self.add_cell(heap, place);
             return;
         }
         for index in 0..fields {
-            if let Some(field) = heap.types.field(place.type_id, index) {
+            if let Some(field) = heap.types().field(place.type_id, index) {
                 self.add_value(heap, place.part(field));
             }
         }
@@ -61,21 +93,17 @@ impl Pending {
     fn add_cell<F: Fit, A: Allocator>(&mut self, heap: &mut Heap<F, A>, cell: Place)
         ensures window { heap.new.window ≡ with_bytes heap.old.window heap.new.window.bytes }
         ensures types { heap.new.types ≡ heap.old.types }
+        ensures added { (xs : List ℕ) → length (fields_of heap.old.types cell.type_id) ≡ 0 →
+            IsPart heap.old.window.bytes heap.old.types (place_of cell) xs →
+            AddsWaiting heap.old heap.new self.old.first self.new.first [] xs }
     {
         let Some(content) = heap.content(cell.type_id) else {
             return;
         };
-        let Some(payload) = heap.window.target(cell.at as usize) else {
+        let Some(payload) = heap.window().target(cell.at as usize) else {
             return;
         };
-        match content.shape {
-            Shape::Buffer => {
-                let used = heap.count(cell.at);
-                heap.default_rest(content.entry, payload, used);
-            }
-            Shape::Ring => heap.open_ring(payload),
-            Shape::Tree | Shape::Object => {}
-        }
+        heap.uncouple(&content, cell.at, payload);
         self.push(heap, payload);
     }
 
@@ -83,28 +111,41 @@ impl Pending {
     fn open<F: Fit, A: Allocator>(&mut self, heap: &mut Heap<F, A>, payload: u32)
         ensures window { heap.new.window ≡ with_bytes heap.old.window heap.new.window.bytes }
         ensures types { heap.new.types ≡ heap.old.types }
+        ensures opened { (xs : List ℕ) → GoesWith heap.old.window.bytes heap.old.types payload xs →
+            Opens heap.old heap.new self.old.first self.new.first payload xs }
     {
-        let Some(tag) = Tag::read(tag_word(&heap.window, block_of(payload))) else {
+        let Some(tag) = Tag::read(tag_word(heap.window(), block_of(payload))) else {
             return;
         };
-        let Some(content) = Content::of_block(&heap.types, tag) else {
+        let Some(content) = Content::of_block(heap.types(), tag) else {
             return;
         };
-        match content.shape {
-            Shape::Buffer => {
-                let entries = heap.capacity(content.entry, payload);
-                self.add_entries(heap, content.entry, payload, entries);
-            }
-            Shape::Ring => {
-                self.add_node(heap, payload);
-                self.add_entries(heap, content.entry, payload, 1);
-            }
+        self.add_links(heap, content.shape, payload);
+        let entries = heap.entry_count(&content, payload);
+        self.add_entries(heap, content.entry, payload, entries);
+    }
+
+    /// Adds the nodes that the pointers of a node name. Other blocks have none.
+    fn add_links<F: Fit, A: Allocator>(
+        &mut self,
+        heap: &mut Heap<F, A>,
+        shape: Shape,
+        payload: u32,
+    )
+        ensures window { heap.new.window ≡ with_bytes heap.old.window heap.new.window.bytes }
+        ensures types { heap.new.types ≡ heap.old.types }
+        ensures added { (home : ℕ) (xs : List ℕ) →
+            IsInside heap.old.window.bytes home payload 8 →
+            OwesLinks heap.old.window.bytes heap.old.types (links_of shape payload) xs →
+            AddsWaiting heap.old heap.new self.old.first self.new.first (home ∷ []) xs }
+    {
+        match shape {
+            Shape::Ring => self.add_node(heap, payload),
             Shape::Tree => {
                 self.add_node(heap, payload);
-                self.add_node(heap, payload.wrapping_add(4));
-                self.add_entries(heap, content.entry, payload, 1);
+                self.add_node(heap, payload.wrapping_add(RIGHT));
             }
-            Shape::Object => self.add_entries(heap, content.entry, payload, 1),
+            Shape::Buffer | Shape::Object => {}
         }
     }
 
@@ -112,8 +153,11 @@ impl Pending {
     fn add_node<F: Fit, A: Allocator>(&mut self, heap: &mut Heap<F, A>, pointer: u32)
         ensures window { heap.new.window ≡ with_bytes heap.old.window heap.new.window.bytes }
         ensures types { heap.new.types ≡ heap.old.types }
+        ensures added { (xs : List ℕ) →
+            OwesLinks heap.old.window.bytes heap.old.types (pointer ∷ []) xs →
+            AddsWaiting heap.old heap.new self.old.first self.new.first [] xs }
     {
-        if let Some(node) = heap.window.target(pointer as usize) {
+        if let Some(node) = heap.window().target(pointer as usize) {
             self.push(heap, node);
         }
     }
@@ -128,6 +172,14 @@ impl Pending {
     )
         ensures window { heap.new.window ≡ with_bytes heap.old.window heap.new.window.bytes }
         ensures types { heap.new.types ≡ heap.old.types }
+        ensures bytes { entry.held ≡ Held.Bytes →
+            (heap.new.window ≡ heap.old.window) × (self.new.first ≡ self.old.first) }
+        ensures added { (home before U : ℕ) (xs : List ℕ) →
+            IsEntryOf heap.old.types before U entry →
+            IsInside heap.old.window.bytes home start (n * (before + size heap.old.types U)) →
+            AreParts heap.old.window.bytes heap.old.types
+            (entries_at heap.old.types start before U n) xs →
+            AddsWaiting heap.old heap.new self.old.first self.new.first (home ∷ []) xs }
     {
         if !heap.owns_more(entry) {
             return;
@@ -143,9 +195,13 @@ impl Pending {
     pub(crate) fn destroy<F: Fit, A: Allocator>(mut self, heap: &mut Heap<F, A>)
         ensures window { heap.new.window ≡ with_bytes heap.old.window heap.new.window.bytes }
         ensures types { heap.new.types ≡ heap.old.types }
+        ensures freed { (blocks : List ℕ) → IsTable heap.old.types →
+            Pends F.code heap.old.window.bytes heap.old.types self.first blocks →
+            AreLive heap.old.window.bytes blocks →
+            Frees F.code heap.old.window.bytes heap.new.window.bytes blocks }
     {
         // there are fewer blocks than units
-        for _ in 0..heap.window.len() / UNIT {
+        for _turn in 0..heap.window().len() / UNIT {
             let Some(payload) = self.pop(heap) else {
                 break;
             };
@@ -156,11 +212,60 @@ impl Pending {
 }
 
 impl<F: Fit, A: Allocator> Heap<F, A> {
+    /// Makes the link of a block name a payload.
+    fn set_link(&mut self, payload: u32, to: Option<u32>)
+        ensures window { self.new.window ≡ with_bytes self.old.window
+            (set_pointer self.old.window.bytes (block_of payload + LINK) to) }
+        ensures types { self.new.types ≡ self.old.types }
+    {
+        self.window.point(block_of(payload) as usize + LINK, to);
+    }
+
+    /// How many entries stand in a block: as many as a buffer has room for, and one in any other block.
+    fn entry_count(&self, content: &Content, start: u32) -> u32
+        ensures buffer { (g : Span) → content.now.shape ≡ Shape.Buffer → start ≡ g.at + UNIT →
+            IsSized self.now.window.bytes g →
+            result ≡ (UNIT * g.units - UNIT) / content.now.entry.size }
+        ensures one { content.now.shape ≢ Shape.Buffer → result ≡ 1 }
+    {
+        match content.shape {
+            Shape::Buffer => self.capacity(content.entry, start),
+            Shape::Ring | Shape::Tree | Shape::Object => 1,
+        }
+    }
+
     /// Whether the values of entries may own blocks.
-    fn owns_more(&self, entry: Entry) -> bool {
+    fn owns_more(&self, entry: Entry) -> bool
+        ensures value { (U : ℕ) → entry.held ≡ Held.Value U →
+            result ≡ has_cells (form_at self.now.types U) }
+        ensures bytes { entry.held ≡ Held.Bytes → result ≡ false }
+    {
         match entry.held {
-            Held::Value(t) => self.types.has_pointers(t),
+            Held::Value(t) => self.types().has_pointers(t),
             Held::Bytes | Held::Pointer => false,
+        }
+    }
+
+    /// Makes the block that a cell names show by itself what goes with it: the entries of a buffer after the used ones hold
+    /// defaults, and the last node of a ring names no next one.
+    fn uncouple(&mut self, content: &Content, cell: u32, payload: u32)
+        ensures window { self.new.window ≡ with_bytes self.old.window self.new.window.bytes }
+        ensures types { self.new.types ≡ self.old.types }
+        ensures uncouples { (allocator T : ℕ) (v : Value) (xs : List ℕ) →
+            IsTable self.old.types → IsHeap allocator self.old.window.bytes →
+            ContentOf self.old.types T (form_at self.old.types T) (Some content.now) →
+            target self.old.window.bytes cell ≡ Some payload →
+            Holds self.old.window.bytes self.old.types (object_at cell T) v xs →
+            AreLive self.old.window.bytes xs →
+            Uncouples allocator self.old.window.bytes self.new.window.bytes self.old.types payload xs }
+    {
+        match content.shape {
+            Shape::Buffer => {
+                let used = self.count(cell);
+                self.default_rest(content.entry, payload, used);
+            }
+            Shape::Ring => self.open_ring(payload),
+            Shape::Tree | Shape::Object => {}
         }
     }
 
@@ -168,12 +273,22 @@ impl<F: Fit, A: Allocator> Heap<F, A> {
     fn default_rest(&mut self, entry: Entry, start: u32, used: u32)
         ensures window { self.new.window ≡ with_bytes self.old.window self.new.window.bytes }
         ensures types { self.new.types ≡ self.old.types }
+        ensures bytes { entry.held ≡ Held.Bytes → self.new.window ≡ self.old.window }
+        ensures rest { (allocator before U : ℕ) → IsTable self.old.types →
+            IsEntryOf self.old.types before U entry → IsHeap allocator self.old.window.bytes →
+            16 ≤ start → 1 ≤ times (block_of start) (positions (live self.old.window.bytes)) →
+            used * (before + size self.old.types U)
+            ≤ payload_size self.old.window.bytes (block_of start) →
+            DefaultsRest self.old.window.bytes self.new.window.bytes self.old.types
+            start before U used }
     {
         if !self.owns_more(entry) {
             return;
         }
-        for index in used..self.capacity(entry, start) {
-            if let Some(value) = entry.value(start, index) {
+        let from = entry.at(start, used);
+        let rest = self.capacity(entry, start).saturating_sub(used);
+        for index in 0..rest {
+            if let Some(value) = entry.value(from, index) {
                 self.init_default(value);
             }
         }
@@ -183,6 +298,8 @@ impl<F: Fit, A: Allocator> Heap<F, A> {
     fn open_ring(&mut self, first: u32)
         ensures window { self.new.window ≡ with_bytes self.old.window self.new.window.bytes }
         ensures types { self.new.types ≡ self.old.types }
+        ensures opened { (last : ℕ) → target self.old.window.bytes (first + 4) ≡ Some last →
+            self.new.window.bytes ≡ set_pointer self.old.window.bytes last None }
     {
         if let Some(last) = self.window.target(first as usize + 4) {
             self.window.point(last as usize, None);

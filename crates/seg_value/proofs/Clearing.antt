@@ -1,0 +1,170 @@
+-- A value that is destroyed where it stands, and becomes the default of its type.
+use Rattle.std.proofs.Common.{◌≡◌, ℕ, ◌+◌, ◌-◌, ◌*◌, ◌^◌, ◌%◌, ◌<◌, ◌≤◌, inl, List, [], ◌∷◌, ◌++◌, length, Option, Some, None, refl, sym, ap, ◌∙◌, subst, arith}
+use Rattle.std.specs.Prelude.{nat_le}
+use Rattle.std.specs.List.{AllByRecursion}
+use Rattle.seg_spec.specs.Bytes.{IsSame, ChangesOnly}
+use Rattle.seg_spec.specs.Types.{Table, IsTable, size}
+use Rattle.seg_spec.specs.Value.{Value, default_of}
+use Rattle.seg_spec.specs.Heap.{units_at, IsHeap, live, heap_start, tag_at, link_at}
+use Rattle.seg_spec.specs.Block.{IsInside, IsOwnable}
+use Rattle.seg_spec.specs.Reads.{Place, Holds, holds}
+use Rattle.seg_spec.specs.Apart.{KeepsBlockAround}
+use Rattle.seg_spec.specs.Cells.{IsWithin}
+use Rattle.seg_spec.specs.Sound.{times, positions}
+use Rattle.seg_spec.specs.Roots.{ChangesPlace}
+use Rattle.seg_spec.specs.Owning.{Stands}
+use Rattle.seg_spec.specs.Demand.{after_gives}
+use Rattle.seg_spec.specs.Owing.{IsPart, KeepsLinked}
+use Rattle.seg_spec.specs.Destroying.{AreLive, Pends, KeepsOthers, Adds, Frees}
+use Rattle.seg_spec.proofs.MoreTypes.{below_length}
+use Rattle.seg_spec.proofs.Frame.{word-same, target-same, each_map, each_of_map, Holds-kept}
+use Rattle.seg_spec.proofs.Composing.{around_twice, around_kept}
+use Rattle.seg_spec.proofs.LiveLaws.{times-append, times-same, there, each_there, LiesIn, live-lie, live-once}
+use Rattle.seg_spec.proofs.WriteInside.{KeptBut, live_kept_but}
+use Rattle.seg_spec.proofs.Destruction.{inside_same, inside_then, heap_written, payload_written, pends_then, pends_same}
+use Rattle.seg_value.proofs.Turns.{none_pending}
+
+-- a place that holds something has a type of the table
+typed : (bytes : List ℕ) (table : Table) (place : Place) (v : Value) (blocks : List ℕ) → Holds bytes table place v blocks → place.type < length table
+typed bytes table place v blocks (holds form opened inside owned f o hs v_is is) = below_length table place.type form f
+
+module _ (allocator : ℕ) (old mid after new : List ℕ) (table : Table) (place : Place) (v : Value) (blocks : List ℕ) (s : Stands allocator old table place v blocks) (first : Option ℕ) (a : Adds allocator old mid table first blocks []) where
+  home_live : 1 ≤ times s.home (positions (live old))
+  home_live = let o = s.owned s.home in let t = times-same s.home blocks in omega arith
+
+  home_apart : times s.home blocks ≡ 0
+  home_apart = let o = s.owned s.home in let t = times-same s.home blocks in let once = live-once old allocator s.heap s.home in omega arith
+
+  live_mid : (h : ℕ) → times h (positions (live mid)) ≡ times h (positions (live old))
+  live_mid h = ap (λ bs. times h (positions bs)) a.keeps.live_kept
+
+  home_mid : 1 ≤ times s.home (positions (live mid))
+  home_mid = let l = live_mid s.home in let h = home_live in omega arith
+
+  lies : (h : ℕ) → 1 ≤ times h (positions (live old)) → LiesIn old heap_start (length old) h
+  lies h some = there (LiesIn old heap_start (length old)) h (positions (live old)) (live-lie old allocator s.heap) some
+
+  inside_mid : IsInside mid s.home place.at (size table place.type)
+  inside_mid = inside_then old mid s.home place.at (size table place.type) (lies s.home home_live).size s.inside (a.keeps.others s.home home_live home_apart)
+
+  pub within_mid : IsWithin mid place.at (size table place.type)
+  within_mid =
+      let l = lies s.home home_live in
+      let high = l.high in
+      let end = s.inside.high in
+      let same = a.keeps.length_kept in
+      record { fits = omega arith; small = omega (arith, s.heap.small) }
+
+  module _ (changes : ChangesOnly mid after place.at (size table place.type)) (filled : Holds after table place (default_of table place.type) []) where
+    written : KeepsOthers mid after (s.home ∷ [])
+    written = payload_written allocator mid after place.at (size table place.type) s.home a.pends.heap inside_mid home_mid changes
+
+    but : (h : ℕ) → 1 ≤ times h (positions (live mid)) → KeptBut mid after place.at (size table place.type) changes allocator a.pends.heap s.home inside_mid home_mid h
+    but h some = there (KeptBut mid after place.at (size table place.type) changes allocator a.pends.heap s.home inside_mid home_mid) h (positions (live mid))
+        (live_kept_but mid after place.at (size table place.type) changes allocator a.pends.heap s.home inside_mid home_mid) some
+
+    live_after : (h : ℕ) → times h (positions (live after)) ≡ times h (positions (live old))
+    live_after h = ap (λ bs. times h (positions bs)) (written.live_kept ∙ a.keeps.live_kept)
+
+    pub pends_after : Pends allocator after table first blocks
+    pends_after =
+        let fits : AreLive mid (s.home ∷ (blocks ++ [])) = λ h. let o = s.owned h in let l = live_mid h in let n = times-append h blocks [] in omega arith in
+        let heap = heap_written allocator mid after place.at (size table place.type) s.home a.pends.heap inside_mid home_mid changes in
+        pends_same allocator after table first (blocks ++ []) blocks (λ h. let n = times-append h blocks [] in omega arith)
+        (pends_then allocator mid after table s.is_table (s.home ∷ []) (blocks ++ []) fits heap written first a.pends)
+
+    pub live_there : AreLive after blocks
+    live_there h = let o = s.owned h in let l = live_after h in omega arith
+
+    module _ (f : Frees allocator after new blocks) where
+      -- every block that isn't given back
+      module _ (h : ℕ) (some : 1 ≤ times h (positions (live old))) (none : times h blocks ≡ 0) where
+        some_mid : 1 ≤ times h (positions (live mid))
+        some_mid = let l = live_mid h in omega arith
+
+        some_after : 1 ≤ times h (positions (live after))
+        some_after = let l = live_after h in omega arith
+
+        one : KeepsLinked old mid h
+        one = a.keeps.others h some none
+
+        three : KeepsLinked after new h
+        three = f.kept h some_after none
+
+        tag_kept : tag_at new h ≡ tag_at old h
+        tag_kept = three.whole.kept.has_tag ∙ word-same mid after (h + 8) ((but h some_mid).outside (h + 8) 4 (omega arith) (omega arith)) ∙ one.whole.kept.has_tag
+
+        link_kept : link_at new h ≡ link_at old h
+        link_kept = three.link_kept ∙ target-same mid after (h + 12) ((but h some_mid).outside (h + 12) 4 (omega arith) (omega arith)) ∙ one.link_kept
+
+        two : KeepsBlockAround mid after place.at (size table place.type) h
+        two =
+            let k = but h some_mid in
+            let first_word = word-same mid after h (k.outside h 4 (omega arith) (omega arith)) in
+            record {
+              solid = omega (arith, k.solid);
+              header = record {
+                live = ap (λ w. nat_le (2 ^ 31) w) first_word;
+                has_tag = word-same mid after (h + 8) (k.outside (h + 8) 4 (omega arith) (omega arith));
+                room = rw k.units_kept (omega arith);
+              };
+              payload = λ g m low high apart. changes.others g m apart;
+            }
+
+        around : KeepsBlockAround old new place.at (size table place.type) h
+        around =
+            let k = but h some_mid in
+            let l = lies h some in
+            around_twice old mid new place.at (size table place.type) h (around_kept old mid place.at (size table place.type) h (omega (arith, l.size)) one.whole.kept)
+            (around_twice mid after new place.at (size table place.type) h two (around_kept after new place.at (size table place.type) h (omega (arith, k.solid, k.units_kept)) three.whole.kept))
+
+        ownable_there : IsOwnable new table h
+        ownable_there =
+            let o = there (IsOwnable old table) h (positions (live old)) (each_map (IsOwnable old table) (λ b. b.at) (live old) s.ownable) some in
+            record { kind = o.kind; type = o.type; allowed = o.allowed; tag_is = tag_kept ∙ o.tag_is; link_is = link_kept ∙ o.link_is }
+
+      ownable_new : AllByRecursion (λ b. IsOwnable new table b.at) (live new)
+      ownable_new = each_of_map (IsOwnable new table) (λ b. b.at) (live new) (each_there (IsOwnable new table) (positions (live new)) (λ h some.
+          let l = f.live_are h in
+          let k = live_after h in
+          let once = live-once old allocator s.heap h in
+          ownable_there h (omega arith) (omega arith)))
+
+      home_new : KeepsLinked after new s.home
+      home_new = f.kept s.home (let l = live_after s.home in let h = home_live in omega arith) home_apart
+
+      inside_after : IsInside after s.home place.at (size table place.type)
+      inside_after = let k = but s.home home_mid in let i = inside_mid in record { low = i.low; high = omega (arith, i.high, k.units_kept) }
+
+      pub place_cleared : ChangesPlace old new table place (default_of table place.type) [] (after_gives (live old) blocks) blocks []
+      place_cleared = record {
+        length_kept = f.length_kept ∙ written.length_kept ∙ a.keeps.length_kept;
+        front_kept = f.front_kept ∙ written.front_kept 0 24 (omega arith) ∙ a.keeps.front_kept 0 24 (omega arith);
+        back_kept = f.back_kept ∙ written.front_kept 28 676 (omega arith) ∙ a.keeps.front_kept 28 676 (omega arith);
+        heap = subst (λ n. IsHeap n new) (sym s.allocator_is) f.heap;
+        ownable = ownable_new;
+        holds_it = Holds-kept after new table s.is_table filled (inside_same after new s.home place.at (size table place.type) inside_after home_new) tt;
+        live_is = f.live_is ∙ ap (λ bs. after_gives bs blocks) (written.live_kept ∙ a.keeps.live_kept);
+        live_are = λ h. let l = f.live_are h in let k = live_after h in omega arith;
+        kept = λ h some none. around h some none;
+      }
+
+pub cleared : (allocator : ℕ) (old mid after new : List ℕ) (table here there_too : Table) → here ≡ table → there_too ≡ table → (place : Place) (v : Value) (blocks : List ℕ) (s : Stands allocator old table place v blocks) (none first : Option ℕ) → none ≡ None →
+    ((home : ℕ) (xs : List ℕ) → IsInside old home place.at (size table place.type) → IsPart old table place xs → (allocator : ℕ) (ys : List ℕ) → IsTable table → Pends allocator old table none ys → AreLive old (home ∷ (xs ++ ys)) → Adds allocator old mid table first xs ys) →
+    (IsWithin mid place.at (size here place.type) → ChangesOnly mid after place.at (size here place.type)) →
+    (IsWithin mid place.at (size here place.type) → place.type < length here → Holds after here place (default_of here place.type) []) →
+    ((blocks : List ℕ) → IsTable there_too → Pends allocator after there_too first blocks → AreLive after blocks → Frees allocator after new blocks) →
+    ChangesPlace old new table place (default_of table place.type) [] (after_gives (live old) blocks) blocks []
+cleared allocator old mid after new table here there_too same same_too place v blocks s none first is_none added changes filled freed =
+    let fits : AreLive old (s.home ∷ (blocks ++ [])) = λ h. let o = s.owned h in let n = times-append h blocks [] in omega arith in
+    let a = added s.home blocks s.inside (inl (v, s.holds_it)) allocator [] s.is_table (none_pending allocator old table none is_none s.heap) fits in
+    let within = within_mid allocator old mid after new table place v blocks s first a in
+    let changes' : IsWithin mid place.at (size table place.type) → ChangesOnly mid after place.at (size table place.type) = subst (λ t. IsWithin mid place.at (size t place.type) → ChangesOnly mid after place.at (size t place.type)) same changes in
+    let filled' : IsWithin mid place.at (size table place.type) → place.type < length table → Holds after table place (default_of table place.type) [] =
+        subst (λ t. IsWithin mid place.at (size t place.type) → place.type < length t → Holds after t place (default_of t place.type) []) same filled in
+    let freed' : (blocks : List ℕ) → IsTable table → Pends allocator after table first blocks → AreLive after blocks → Frees allocator after new blocks =
+        subst (λ t. (blocks : List ℕ) → IsTable t → Pends allocator after t first blocks → AreLive after blocks → Frees allocator after new blocks) same_too freed in
+    let c = changes' within in
+    let h = filled' within (typed old table place v blocks s.holds_it) in
+    place_cleared allocator old mid after new table place v blocks s first a c h
+    (freed' blocks s.is_table (pends_after allocator old mid after new table place v blocks s first a c h) (live_there allocator old mid after new table place v blocks s first a c h))

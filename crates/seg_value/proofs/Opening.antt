@@ -1,0 +1,380 @@
+-- A block that no longer waits: what goes with it joins what waits.
+use Rattle.std.proofs.Common.{◌≡◌, ℕ, ◌+◌, ◌-◌, ◌*◌, ◌/◌, ◌%◌, ◌<◌, ◌≤◌, ◌⊎◌, inl, inr, ⊎_elim, List, [], ◌∷◌, ◌++◌, length, Option, Some, None, refl, sym, ap, ◌∙◌, subst, arith}
+use Rattle.std.proofs.lemmas.Bool.{cases_lt}
+use Rattle.std.proofs.Math.Nat.{div-mul-le_self}
+use Rattle.seg_spec.specs.Types.{Form, Table, form_at, IsTable, size}
+use Rattle.seg_spec.specs.Heap.{Span, units_at, tag_at, IsHeap, live, heap_start}
+use Rattle.seg_spec.specs.Block as block
+use Rattle.seg_spec.specs.Block.{tag_of, IsBlock, IsInside, block_of, payload_size}
+use Rattle.seg_spec.specs.Reads.{Place, Holds, holds}
+use Rattle.seg_spec.specs.Sound.{times, SameBlocks, positions}
+use Rattle.seg_spec.specs.Owing.{IsPart, AreParts, no_parts, more_parts, entries_at, OpensBlock, Owes, owes, OwesLinks, no_links}
+use Rattle.seg_spec.specs.Destroying.{AreLive, GoesWith, Pends, Adds}
+use Rattle.seg_spec.proofs.MoreTypes.{below_length}
+use Rattle.seg_spec.proofs.LiveLaws.{times-append, times-same, times-other, live-once, LiesIn, live-lie, there}
+use Rattle.seg_spec.proofs.Destruction.{inside_then, parts_then, adds_twice}
+use Rattle.seg_spec.proofs.PartsOwed.{entries_inside}
+use Rattle.seg_block.specs.Blocks.{IsSized}
+use Rattle.seg_block.specs.Tags.{kind_of, word_of}
+use Rattle.seg_block.specs.declared.tag.Tag.{Tag}
+use Rattle.seg_block.specs.declared.tag.Kind.{Kind}
+use Rattle.seg_block.specs.declared.tag.Kind.TheVariants as kind
+use Rattle.seg_value.specs.Contents.{IsEntryOf, OfBlock}
+use Rattle.seg_value.specs.Waiting.{links_of}
+use Rattle.seg_value.specs.declared.content.Content.{Content}
+use Rattle.seg_value.specs.declared.content.Shape.TheVariants as shape
+use Rattle.seg_value.specs.declared.entry.Held.TheVariants as held
+
+-- ---- one word spells one tag
+
+same_object : (k : Kind) (t T : ℕ) → tag_of (kind_of k) t ≡ tag_of block.Kind.object T → (k ≡ kind.Object) × (t ≡ T)
+same_object kind.Object t T e = (refl, omega arith)
+same_object kind.Named t T e = absurd (omega arith)
+same_object kind.Buffer t T e = absurd (omega arith)
+same_object kind.Node t T e = absurd (omega arith)
+same_object kind.IndexBuffer t T e = absurd (omega arith)
+same_object kind.IndexNode t T e = absurd (omega arith)
+
+same_buffer : (k : Kind) (t T : ℕ) → tag_of (kind_of k) t ≡ tag_of block.Kind.buffer T → (k ≡ kind.Buffer) × (t ≡ T)
+same_buffer kind.Buffer t T e = (refl, omega arith)
+same_buffer kind.Named t T e = absurd (omega arith)
+same_buffer kind.Object t T e = absurd (omega arith)
+same_buffer kind.Node t T e = absurd (omega arith)
+same_buffer kind.IndexBuffer t T e = absurd (omega arith)
+same_buffer kind.IndexNode t T e = absurd (omega arith)
+
+same_node : (k : Kind) (t T : ℕ) → tag_of (kind_of k) t ≡ tag_of block.Kind.node T → (k ≡ kind.Node) × (t ≡ T)
+same_node kind.Node t T e = (refl, omega arith)
+same_node kind.Named t T e = absurd (omega arith)
+same_node kind.Object t T e = absurd (omega arith)
+same_node kind.Buffer t T e = absurd (omega arith)
+same_node kind.IndexBuffer t T e = absurd (omega arith)
+same_node kind.IndexNode t T e = absurd (omega arith)
+
+-- ---- what a block shows, by its content
+
+module _ (bytes : List ℕ) (table : Table) (valid : IsTable table) (p : ℕ) where
+  pub record HasEntries (content : Content) (us : List ℕ) : Type 0 where
+    pub before : ℕ
+    pub U : ℕ
+    pub n : ℕ
+    pub entry_is : IsEntryOf table before U content.entry
+    pub parts : AreParts bytes table (entries_at table p before U n) us
+    pub fits : n * (before + size table U) ≤ payload_size bytes (block_of p)
+    pub count : ((content.shape ≡ shape.Buffer) × (n ≡ payload_size bytes (block_of p) / (before + size table U))) ⊎ ((content.shape ≡ shape.Buffer → ⊥) × (n ≡ 1))
+
+  pub record Shows (content : Content) (us bs : List ℕ) : Type 0 where
+    pub low : 16 ≤ p
+    pub links : OwesLinks bytes table (links_of content.shape p) bs
+    pub entries : ((content.entry.held ≡ held.Bytes) × (us ≡ [])) ⊎ HasEntries content us
+
+  module _ (content : Content) (k : Kind) (t : ℕ) (values : List Place) (links us bs : List ℕ) (parts : AreParts bytes table values us) (more : OwesLinks bytes table links bs) where
+    one_times : (n : ℕ) → 1 * n ≡ n
+    one_times n = omega arith
+
+    object_shows : (T : ℕ) → OpensBlock bytes table p block.Kind.object T (form_at table T) values links → tag_at bytes (block_of p) ≡ tag_of (kind_of k) t → OfBlock table k t (Some content) → Shows content us bs
+    object_shows T o tag of =
+        let is = same_object k t T (sym tag ∙ o.0.has_tag) in
+        let of' = subst (λ u. OfBlock table kind.Object u (Some content)) is.1 (subst (λ j. OfBlock table j t (Some content)) is.0 of) in
+        let room = o.0.room in
+        let zero_off : p + 0 ≡ p = omega arith in
+        record {
+          low = o.0.behind_header;
+          links = rw of'.shape_is (subst (λ ls. OwesLinks bytes table ls bs) o.2 more);
+          entries = inr (record {
+            before = 0;
+            U = T;
+            n = 1;
+            entry_is = of'.entry_is;
+            parts = rw zero_off (subst (λ ps. AreParts bytes table ps us) o.1 parts);
+            fits = omega arith;
+            count = inr ((λ e. let f = of'.shape_is in cc), refl);
+          });
+        }
+
+    buffer_shows : (T : ℕ) (form : Option Form) → form_at table T ≡ form → OpensBlock bytes table p block.Kind.buffer T form values links → tag_at bytes (block_of p) ≡ tag_of (kind_of k) t → OfBlock table k t (Some content) → Shows content us bs
+    buffer_shows T None f o tag of = absurd o
+    buffer_shows T (Some Form.i64) f o tag of = absurd o
+    buffer_shows T (Some (Form.list U)) f o tag of = absurd o
+    buffer_shows T (Some (Form.map U)) f o tag of = absurd o
+    buffer_shows T (Some (Form.own U)) f o tag of = absurd o
+    buffer_shows T (Some (Form.struct Us)) f o tag of = absurd o
+    buffer_shows T (Some Form.str) f o tag of =
+        let is = same_buffer k t T (sym tag ∙ o.0.has_tag) in
+        let of' = rw f at (subst (λ u. OfBlock table kind.Buffer u (Some content)) is.1 (subst (λ j. OfBlock table j t (Some content)) is.0 of)) in
+        record {
+          low = o.0.behind_header;
+          links = rw of'.shape_is (subst (λ ls. OwesLinks bytes table ls bs) o.2 more);
+          entries = inl (of'.held_is, no_values us (subst (λ ps. AreParts bytes table ps us) o.1 parts));
+        }
+      where
+        no_values : (xs : List ℕ) → AreParts bytes table [] xs → xs ≡ []
+        no_values xs no_parts = refl
+    buffer_shows T (Some (Form.vec U)) f o tag of =
+        let is = same_buffer k t T (sym tag ∙ o.0.has_tag) in
+        let of' = rw f at (subst (λ u. OfBlock table kind.Buffer u (Some content)) is.1 (subst (λ j. OfBlock table j t (Some content)) is.0 of)) in
+        record {
+          low = o.0.behind_header;
+          links = rw of'.shape_is (subst (λ ls. OwesLinks bytes table ls bs) o.2 more);
+          entries = inr (record {
+            before = 0;
+            U = U;
+            n = payload_size bytes (block_of p) / (0 + size table U);
+            entry_is = of'.entry_is;
+            parts = subst (λ ps. AreParts bytes table ps us) o.1 parts;
+            fits = div-mul-le_self (payload_size bytes (block_of p)) (0 + size table U);
+            count = inl (of'.shape_is, refl);
+          });
+        }
+    buffer_shows T (Some (Form.flat_map U)) f o tag of =
+        let is = same_buffer k t T (sym tag ∙ o.0.has_tag) in
+        let of' = rw f at (subst (λ u. OfBlock table kind.Buffer u (Some content)) is.1 (subst (λ j. OfBlock table j t (Some content)) is.0 of)) in
+        record {
+          low = o.0.behind_header;
+          links = rw of'.shape_is (subst (λ ls. OwesLinks bytes table ls bs) o.2 more);
+          entries = inr (record {
+            before = 8;
+            U = U;
+            n = payload_size bytes (block_of p) / (8 + size table U);
+            entry_is = of'.entry_is;
+            parts = subst (λ ps. AreParts bytes table ps us) o.1 parts;
+            fits = div-mul-le_self (payload_size bytes (block_of p)) (8 + size table U);
+            count = inl (of'.shape_is, refl);
+          });
+        }
+
+    node_shows : (T : ℕ) (form : Option Form) → form_at table T ≡ form → OpensBlock bytes table p block.Kind.node T form values links → tag_at bytes (block_of p) ≡ tag_of (kind_of k) t → OfBlock table k t (Some content) → Shows content us bs
+    node_shows T None f o tag of = absurd o
+    node_shows T (Some Form.i64) f o tag of = absurd o
+    node_shows T (Some Form.str) f o tag of = absurd o
+    node_shows T (Some (Form.vec U)) f o tag of = absurd o
+    node_shows T (Some (Form.flat_map U)) f o tag of = absurd o
+    node_shows T (Some (Form.own U)) f o tag of = absurd o
+    node_shows T (Some (Form.struct Us)) f o tag of = absurd o
+    node_shows T (Some (Form.list U)) f o tag of =
+        let is = same_node k t T (sym tag ∙ o.0.has_tag) in
+        let of' = rw f at (subst (λ u. OfBlock table kind.Node u (Some content)) is.1 (subst (λ j. OfBlock table j t (Some content)) is.0 of)) in
+        let room = o.0.room in
+        record {
+          low = o.0.behind_header;
+          links = rw of'.shape_is (subst (λ ls. OwesLinks bytes table ls bs) o.2 more);
+          entries = inr (record {
+            before = 8;
+            U = U;
+            n = 1;
+            entry_is = of'.entry_is;
+            parts = subst (λ ps. AreParts bytes table ps us) o.1 parts;
+            fits = omega arith;
+            count = inr ((λ e. let g = of'.shape_is in cc), refl);
+          });
+        }
+    node_shows T (Some (Form.map U)) f o tag of =
+        let is = same_node k t T (sym tag ∙ o.0.has_tag) in
+        let of' = rw f at (subst (λ u. OfBlock table kind.Node u (Some content)) is.1 (subst (λ j. OfBlock table j t (Some content)) is.0 of)) in
+        let room = o.0.room in
+        record {
+          low = o.0.behind_header;
+          links = rw of'.shape_is (subst (λ ls. OwesLinks bytes table ls bs) o.2 more);
+          entries = inr (record {
+            before = 24;
+            U = U;
+            n = 1;
+            entry_is = of'.entry_is;
+            parts = subst (λ ps. AreParts bytes table ps us) o.1 parts;
+            fits = omega arith;
+            count = inr ((λ e. let g = of'.shape_is in cc), refl);
+          });
+        }
+
+    shows_by : (kind_is : block.Kind) (T : ℕ) → OpensBlock bytes table p kind_is T (form_at table T) values links → tag_at bytes (block_of p) ≡ tag_of (kind_of k) t → OfBlock table k t (Some content) → Shows content us bs
+    shows_by block.Kind.object T o tag of = object_shows T o tag of
+    shows_by block.Kind.buffer T o tag of = buffer_shows T (form_at table T) refl o tag of
+    shows_by block.Kind.node T o tag of = node_shows T (form_at table T) refl o tag of
+    shows_by block.Kind.named T o tag of = absurd o
+    shows_by block.Kind.index_buffer T o tag of = absurd o
+    shows_by block.Kind.index_node T o tag of = absurd o
+
+  -- what goes with a block, by its content
+  pub record Parted (content : Content) (xs : List ℕ) : Type 0 where
+    pub us : List ℕ
+    pub bs : List ℕ
+    pub xs_are : SameBlocks xs (block_of p ∷ (us ++ bs))
+    pub shows : Shows content us bs
+
+  pub parted : (content : Content) (k : Kind) (t : ℕ) (xs : List ℕ) → tag_at bytes (block_of p) ≡ tag_of (kind_of k) t → OfBlock table k t (Some content) → GoesWith bytes table p xs → Parted content xs
+  parted content k t xs tag of goes = go goes.owed goes.owes_it goes.owed_are
+    where
+      go : (owed : List ℕ) → Owes bytes table p owed → SameBlocks owed xs → Parted content xs
+      go owed (owes kind_is T values links us bs o parts more is) same = record {
+        us = us;
+        bs = bs;
+        xs_are = λ h. sym (same h) ∙ ap (times h) is;
+        shows = shows_by content k t values links us bs parts more kind_is T o tag of;
+      }
+
+  -- a block that has no content doesn't wait
+  no_content_by : (k : Kind) (t : ℕ) (values : List Place) (links : List ℕ) (kind_is : block.Kind) (T : ℕ) (form : Option Form) → form_at table T ≡ form → OpensBlock bytes table p kind_is T form values links →
+      tag_at bytes (block_of p) ≡ tag_of (kind_of k) t → OfBlock table k t None → ⊥
+  no_content_by k t values links block.Kind.object T form f o tag of =
+      let is = same_object k t T (sym tag ∙ o.0.has_tag) in
+      subst (λ u. OfBlock table kind.Object u None) is.1 (subst (λ j. OfBlock table j t None) is.0 of)
+  no_content_by k t values links block.Kind.buffer T None f o tag of = o
+  no_content_by k t values links block.Kind.buffer T (Some Form.i64) f o tag of = o
+  no_content_by k t values links block.Kind.buffer T (Some (Form.list U)) f o tag of = o
+  no_content_by k t values links block.Kind.buffer T (Some (Form.map U)) f o tag of = o
+  no_content_by k t values links block.Kind.buffer T (Some (Form.own U)) f o tag of = o
+  no_content_by k t values links block.Kind.buffer T (Some (Form.struct Us)) f o tag of = o
+  no_content_by k t values links block.Kind.buffer T (Some Form.str) f o tag of =
+      let is = same_buffer k t T (sym tag ∙ o.0.has_tag) in
+      rw f at (subst (λ u. OfBlock table kind.Buffer u None) is.1 (subst (λ j. OfBlock table j t None) is.0 of))
+  no_content_by k t values links block.Kind.buffer T (Some (Form.vec U)) f o tag of =
+      let is = same_buffer k t T (sym tag ∙ o.0.has_tag) in
+      rw f at (subst (λ u. OfBlock table kind.Buffer u None) is.1 (subst (λ j. OfBlock table j t None) is.0 of))
+  no_content_by k t values links block.Kind.buffer T (Some (Form.flat_map U)) f o tag of =
+      let is = same_buffer k t T (sym tag ∙ o.0.has_tag) in
+      rw f at (subst (λ u. OfBlock table kind.Buffer u None) is.1 (subst (λ j. OfBlock table j t None) is.0 of))
+  no_content_by k t values links block.Kind.node T None f o tag of = o
+  no_content_by k t values links block.Kind.node T (Some Form.i64) f o tag of = o
+  no_content_by k t values links block.Kind.node T (Some Form.str) f o tag of = o
+  no_content_by k t values links block.Kind.node T (Some (Form.vec U)) f o tag of = o
+  no_content_by k t values links block.Kind.node T (Some (Form.flat_map U)) f o tag of = o
+  no_content_by k t values links block.Kind.node T (Some (Form.own U)) f o tag of = o
+  no_content_by k t values links block.Kind.node T (Some (Form.struct Us)) f o tag of = o
+  no_content_by k t values links block.Kind.node T (Some (Form.list U)) f o tag of =
+      let is = same_node k t T (sym tag ∙ o.0.has_tag) in
+      rw f at (subst (λ u. OfBlock table kind.Node u None) is.1 (subst (λ j. OfBlock table j t None) is.0 of))
+  no_content_by k t values links block.Kind.node T (Some (Form.map U)) f o tag of =
+      let is = same_node k t T (sym tag ∙ o.0.has_tag) in
+      rw f at (subst (λ u. OfBlock table kind.Node u None) is.1 (subst (λ j. OfBlock table j t None) is.0 of))
+  no_content_by k t values links block.Kind.named T form f o tag of = o
+  no_content_by k t values links block.Kind.index_buffer T form f o tag of = o
+  no_content_by k t values links block.Kind.index_node T form f o tag of = o
+
+  pub some_content : (k : Kind) (t : ℕ) (xs : List ℕ) → tag_at bytes (block_of p) ≡ tag_of (kind_of k) t → OfBlock table k t None → GoesWith bytes table p xs → ⊥
+  some_content k t xs tag of goes = go goes.owed goes.owes_it
+    where
+      go : (owed : List ℕ) → Owes bytes table p owed → ⊥
+      go owed (owes kind_is T values links us bs o parts more is) = no_content_by k t values links kind_is T (form_at table T) refl o tag of
+
+  -- a tag that no word of the program spells is that of an object whose type the table lacks, and which owns nothing
+  unread_by : (values : List Place) (links us bs : List ℕ) (kind_is : block.Kind) (T : ℕ) (form : Option Form) → form_at table T ≡ form → OpensBlock bytes table p kind_is T form values links → AreParts bytes table values us →
+      OwesLinks bytes table links bs → ((t : Tag) → t.type_id < 256 → tag_at bytes (block_of p) ≡ word_of t → ⊥) → (us ≡ []) × (bs ≡ [])
+  unread_by values links us bs block.Kind.object T form f o parts more none =
+      ⊎_elim (λ l. absurd (none (record { kind = kind.Object; type_id = T }) l o.0.has_tag))
+      (λ large. (lone us (subst (λ ps. AreParts bytes table ps us) o.1 parts) large, no_more bs (subst (λ ls. OwesLinks bytes table ls bs) o.2 more))) (cases_lt T 256)
+    where
+      no_more : (zs : List ℕ) → OwesLinks bytes table [] zs → zs ≡ []
+      no_more zs no_links = refl
+
+      nothing : (zs : List ℕ) → IsPart bytes table (record { at = p; type = T }) zs → 256 ≤ T → zs ≡ []
+      nothing zs (inr n) large = n.1
+      nothing zs (inl (v, holds form opened inside owned g q hs v_is is)) large = let l = below_length table T form g in let few = valid.few in absurd (omega arith)
+
+      lone : (zs : List ℕ) → AreParts bytes table (record { at = p; type = T } ∷ []) zs → 256 ≤ T → zs ≡ []
+      lone zs (more_parts {blocks = mine} first no_parts) large = ap (λ bs. bs ++ []) (nothing mine first large)
+  unread_by values links us bs block.Kind.buffer T None f o parts more none = absurd o
+  unread_by values links us bs block.Kind.buffer T (Some form) f o parts more none = absurd (none (record { kind = kind.Buffer; type_id = T }) (small T form f) (tag_is form o))
+    where
+      small : (T : ℕ) (form : Form) → form_at table T ≡ Some form → T < 256
+      small T form f = let l = below_length table T form f in let few = valid.few in omega arith
+
+      tag_is : (form : Form) → OpensBlock bytes table p block.Kind.buffer T (Some form) values links → tag_at bytes (block_of p) ≡ tag_of block.Kind.buffer T
+      tag_is Form.str o = o.0.has_tag
+      tag_is (Form.vec U) o = o.0.has_tag
+      tag_is (Form.flat_map U) o = o.0.has_tag
+      tag_is Form.i64 o = absurd o
+      tag_is (Form.list U) o = absurd o
+      tag_is (Form.map U) o = absurd o
+      tag_is (Form.own U) o = absurd o
+      tag_is (Form.struct Us) o = absurd o
+  unread_by values links us bs block.Kind.node T None f o parts more none = absurd o
+  unread_by values links us bs block.Kind.node T (Some form) f o parts more none = absurd (none (record { kind = kind.Node; type_id = T }) (small T form f) (tag_is form o))
+    where
+      small : (T : ℕ) (form : Form) → form_at table T ≡ Some form → T < 256
+      small T form f = let l = below_length table T form f in let few = valid.few in omega arith
+
+      tag_is : (form : Form) → OpensBlock bytes table p block.Kind.node T (Some form) values links → tag_at bytes (block_of p) ≡ tag_of block.Kind.node T
+      tag_is (Form.list U) o = o.0.has_tag
+      tag_is (Form.map U) o = o.0.has_tag
+      tag_is Form.i64 o = absurd o
+      tag_is Form.str o = absurd o
+      tag_is (Form.vec U) o = absurd o
+      tag_is (Form.flat_map U) o = absurd o
+      tag_is (Form.own U) o = absurd o
+      tag_is (Form.struct Us) o = absurd o
+  unread_by values links us bs block.Kind.named T form f o parts more none = absurd o
+  unread_by values links us bs block.Kind.index_buffer T form f o parts more none = absurd o
+  unread_by values links us bs block.Kind.index_node T form f o parts more none = absurd o
+
+  pub unread : (xs : List ℕ) → ((t : Tag) → t.type_id < 256 → tag_at bytes (block_of p) ≡ word_of t → ⊥) → GoesWith bytes table p xs → SameBlocks xs (block_of p ∷ [])
+  unread xs none goes = go goes.owed goes.owes_it goes.owed_are
+    where
+      go : (owed : List ℕ) → Owes bytes table p owed → SameBlocks owed xs → SameBlocks xs (block_of p ∷ [])
+      go owed (owes kind_is T values links us bs o parts more is) same =
+          let e = unread_by values links us bs kind_is T (form_at table T) refl o parts more none in
+          let both : us ++ bs ≡ [] = ap (λ zs. zs ++ bs) e.0 ∙ e.1 in
+          λ h. sym (same h) ∙ ap (times h) (is ∙ ap (λ zs. block_of p ∷ zs) both)
+
+-- ---- its links, and then its entries
+
+module _ (allocator : ℕ) (old mid new : List ℕ) (table here : Table) (same : here ≡ table) (valid : IsTable table) (p n : ℕ) (content : Content) (f g k : Option ℕ) (us bs xs ys : List ℕ) (xs_are : SameBlocks xs (block_of p ∷ (us ++ bs)))
+    (s : Shows old table valid p content us bs) (w : Pends allocator old table f ys) (fits : AreLive old (xs ++ ys)) where
+  home : ℕ
+  home = block_of p
+
+  counts : (h : ℕ) → times h (block_of p ∷ []) + times h us + times h bs + times h ys ≤ times h (positions (live old))
+  counts h = let a = fits h in let b = times-append h xs ys in let c = xs_are h in let d = times-append h us bs in omega arith
+
+  home_live : 1 ≤ times (block_of p) (positions (live old))
+  home_live = let c = counts (block_of p) in let o = times-same (block_of p) [] in omega arith
+
+  lies : LiesIn old heap_start (length old) (block_of p)
+  lies = there (LiesIn old heap_start (length old)) (block_of p) (positions (live old)) (live-lie old allocator w.heap) home_live
+
+  pub links_fit : AreLive old (block_of p ∷ (bs ++ ys))
+  links_fit h = let c = counts h in let a = times-append h bs ys in omega arith
+
+  pub inside_links : IsInside old (block_of p) p 8
+  inside_links = let l = lies.size in let low = s.low in record { low = omega arith; high = omega arith }
+
+  module _ (first : Adds allocator old mid table g bs ys) (buffer : (b : Span) → content.shape ≡ shape.Buffer → p ≡ b.at + 16 → IsSized mid b → n ≡ (16 * b.units - 16) / content.entry.size) (one : (content.shape ≡ shape.Buffer → ⊥) → n ≡ 1)
+      (text : content.entry.held ≡ held.Bytes → (new ≡ mid) × (k ≡ g))
+      (entries : (home before U : ℕ) (zs : List ℕ) → IsEntryOf here before U content.entry → IsInside mid home p (n * (before + size here U)) → AreParts mid here (entries_at here p before U n) zs → (allocator : ℕ) (ys : List ℕ) → IsTable here →
+      Pends allocator mid here g ys → AreLive mid (home ∷ (zs ++ ys)) → Adds allocator mid new here k zs ys) where
+    apart : times (block_of p) bs ≡ 0
+    apart = let c = counts (block_of p) in let o = times-same (block_of p) [] in let once = live-once old allocator w.heap (block_of p) in omega arith
+
+    kept : Rattle.seg_spec.specs.Owing.KeepsLinked old mid (block_of p)
+    kept = first.keeps.others (block_of p) home_live apart
+
+    live_same : (h : ℕ) → times h (positions (live mid)) ≡ times h (positions (live old))
+    live_same h = ap (λ bs. times h (positions bs)) first.keeps.live_kept
+
+    lies_mid : LiesIn mid heap_start (length mid) (block_of p)
+    lies_mid = let l = live_same (block_of p) in let h = home_live in there (LiesIn mid heap_start (length mid)) (block_of p) (positions (live mid)) (live-lie mid allocator first.pends.heap) (omega arith)
+
+    entries_added : HasEntries old table valid p content us → Adds allocator old new table k (us ++ bs) ys
+    entries_added e =
+        let entries' : (home before U : ℕ) (zs : List ℕ) → IsEntryOf table before U content.entry → IsInside mid home p (n * (before + size table U)) → AreParts mid table (entries_at table p before U n) zs → (allocator : ℕ) (ys : List ℕ) → IsTable table →
+            Pends allocator mid table g ys → AreLive mid (home ∷ (zs ++ ys)) → Adds allocator mid new table k zs ys =
+            subst (λ t. (home before U : ℕ) (zs : List ℕ) → IsEntryOf t before U content.entry → IsInside mid home p (n * (before + size t U)) → AreParts mid t (entries_at t p before U n) zs → (allocator : ℕ) (ys : List ℕ) → IsTable t →
+            Pends allocator mid t g ys → AreLive mid (home ∷ (zs ++ ys)) → Adds allocator mid new t k zs ys) same entries in
+        let n_is : n ≡ e.n = ⊎_elim
+            (λ b. buffer (record { at = block_of p; units = units_at mid (block_of p) }) b.0 (let low = s.low in omega arith) (let l = lies_mid in record { aligned = l.aligned; large = l.size; inside = l.high; size_is = refl })
+            ∙ ap (λ m. payload_size mid (block_of p) / m) e.entry_is.size_is ∙ ap (λ m. m / (e.before + size table e.U)) kept.whole.size_kept ∙ sym b.1)
+            (λ o. one o.0 ∙ sym o.1) e.count in
+        let inside_old : IsInside old (block_of p) p (e.n * (e.before + size table e.U)) = let low = s.low in let room = e.fits in let l = lies.size in record { low = omega arith; high = omega arith } in
+        let inside_mid = inside_then old mid (block_of p) p (e.n * (e.before + size table e.U)) lies.size inside_old kept in
+        let disjoint : AreLive old (bs ++ us) = λ h. let c = counts h in let a = times-append h bs us in omega arith in
+        let parts_mid = parts_then allocator old mid table valid w.heap (block_of p) bs first.keeps home_live apart (entries_at table p e.before e.U e.n) us (entries_inside old table (block_of p) p e.before e.U e.n inside_old) disjoint e.parts in
+        let fits_mid : AreLive mid (block_of p ∷ (us ++ (bs ++ ys))) = λ h. let c = counts h in let l = live_same h in let a = times-append h us (bs ++ ys) in let b = times-append h bs ys in omega arith in
+        let second = entries' (block_of p) e.before e.U us e.entry_is (rw n_is inside_mid) (rw n_is parts_mid) allocator (bs ++ ys) valid first.pends fits_mid in
+        adds_twice allocator old mid new table g k bs us ys (us ++ bs) first second (λ h. refl)
+
+    pub all_added : Adds allocator old new table k (us ++ bs) ys
+    all_added = ⊎_elim text_added entries_added s.entries
+      where
+        text_added : (content.entry.held ≡ held.Bytes) × (us ≡ []) → Adds allocator old new table k (us ++ bs) ys
+        text_added t =
+            let e = text t.0 in
+            subst (λ zs. Adds allocator old new table k (zs ++ bs) ys) (sym t.1) (subst (λ b. Adds allocator old b table k bs ys) (sym e.0) (subst (λ o. Adds allocator old mid table o bs ys) (sym e.1) first))
