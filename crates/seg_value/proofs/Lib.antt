@@ -3,3 +3,4 @@ pub mod Shifts
 pub mod Owns
 pub mod NewBlocks
 pub mod Buffers
+pub mod Cutting
