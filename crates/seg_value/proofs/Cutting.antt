@@ -1,22 +1,22 @@
 -- Buffers that are cut or given up, from what the steps of the calls leave.
-use Rattle.std.proofs.Common.{◌≡◌, ◌≢◌, ℕ, zero, suc, ◌+◌, ◌-◌, ◌*◌, ◌/◌, ◌%◌, ◌^◌, ◌<◌, ◌≤◌, ◌⊎◌, inl, inr, true, false, List, [], ◌∷◌, ◌++◌, map, length, eqb, leb, ltb, min, Option, Some, None, MatchOption, option_map, option_to_list, refl, sym, ap, ◌∙◌, subst, arith, append-nil}
+use Rattle.std.proofs.Common.{◌≡◌, ◌≢◌, ℕ, zero, suc, ◌+◌, ◌-◌, ◌*◌, ◌^◌, ◌<◌, ◌≤◌, ◌⊎◌, inl, inr, true, false, List, [], ◌∷◌, ◌++◌, length, eqb, min, Some, None, option_map, option_to_list, refl, sym, ap, ◌∙◌, subst, arith, zero-add}
 use Rattle.std.specs.Prelude.{Contains, slice_index_or, slice_get}
 use Rattle.std.specs.List.{AllByRecursion}
 use Rattle.std.specs.Option.{option_map_or}
-use Rattle.std.proofs.Math.Nat.{mul-one, zero-mul}
+use Rattle.std.proofs.Math.Nat.{mul-one, zero-mul, mul-le-mul_right}
 use Rattle.std.proofs.lemmas.Bool.{cases_eq}
 use Rattle.std.proofs.lemmas.Bool.Decides.{nat_tests}
 use Rattle.seg_spec.specs.Bytes.{Agrees, IsSame, ChangesOnly}
 use Rattle.seg_spec.specs.Pointer.{target, set_pointer, distance}
 use Rattle.seg_spec.specs.Types.{Form, Table, IsTable, form_at, size}
 use Rattle.seg_spec.specs.Value.{Value}
-use Rattle.seg_spec.specs.Heap.{Span, span, units_at, is_live_at, live, room_at, gaps_of, IsHeap, IsLive, Keeps, Gives, Shrinks, resized, without, after_shrink, shrunk, heap_start}
+use Rattle.seg_spec.specs.Heap.{Span, span, units_at, live, room_at, gaps_of, IsHeap, IsLive, Gives, Shrinks, resized, without, after_shrink, shrunk, heap_start}
 use Rattle.seg_spec.specs.Block as block
 use Rattle.seg_spec.specs.Block.{tag_of, block_of, has_buffer, IsBlock, IsOwnable, KeepsBlock, payload_size}
-use Rattle.seg_spec.specs.Reads.{Place, Opened, count_at, start, named, spaced, keys_at, NamesRoom, Opens, Holds, holds, HoldsEach, Leads, here, into}
+use Rattle.seg_spec.specs.Reads.{Place, Opened, count_at, start, named, spaced, keys_at, NamesRoom, Opens, Holds, holds, here, into}
 use Rattle.seg_spec.specs.Sound.{times, positions}
 use Rattle.seg_spec.specs.Roots.{ChangesPlace}
-use Rattle.seg_spec.specs.Demand.{need, after_gives}
+use Rattle.seg_spec.specs.Demand.{need}
 use Rattle.seg_spec.specs.Owning.{Stands}
 use Rattle.seg_spec.specs.Spending.{item_size, units_named, cut_to}
 use Rattle.seg_spec.specs.Shrinking.{KeepsPathsInside, ShrinksPlace}
@@ -24,7 +24,7 @@ use Rattle.seg_spec.proofs.BytesLaws.{slice-agrees, number-agrees, number-set_ot
 use Rattle.seg_spec.proofs.SliceLaws.{IsSame-part, IsSame-none}
 use Rattle.seg_spec.proofs.PointerLaws.{target-set_same}
 use Rattle.seg_spec.proofs.TypesLaws.{size_large}
-use Rattle.seg_spec.proofs.Frame.{SamePlace, cell-target, cell-count, keys_at-same, spaced-same, inner-same, places-same, shorter, each_right, HoldsEach-kept}
+use Rattle.seg_spec.proofs.Frame.{SamePlace, cell-target, cell-count, keys_at-same, spaced-same, inner-same, places-same, shorter, HoldsEach-kept}
 use Rattle.seg_spec.proofs.LiveLaws.{times-same, times-other, times-append, times-more, times-without, there, each_there, LiesIn, live-lie, live-once, positions-resized}
 use Rattle.seg_spec.proofs.KeptLaws.{each_contained, StatesSpan, live_stated, block_kept, block_ownable, front_kept}
 use Rattle.seg_spec.proofs.Giving.{found}
@@ -34,7 +34,9 @@ use Rattle.seg_spec.proofs.Composing.{around_kept}
 use Rattle.seg_spec.proofs.PlaceSteps.{home_live, owned_live, owned_other, place_within, live_then, whole_then, changes_place}
 use Rattle.seg_spec.proofs.Paths.{opened_as}
 use Rattle.seg_spec.proofs.Leading.{Leads-each}
-use Rattle.seg_spec.proofs.Standing.{Frames, frames_twice, each_live_at, live_at, same_place, written_stands, written_frames, written_home, left_stands, left_frames, left_place, changes_of}
+use Rattle.seg_spec.proofs.Standing.{Frames, frames_twice, each_live_at, live_at, same_place, written_stands, written_frames, written_home, left_stands, left_frames, changes_of}
+use Rattle.seg_value.specs.declared.content.Content.{Content}
+use Rattle.seg_value.specs.Contents.{ContentOf}
 use Rattle.seg_spec.proofs.Buffered.{HoldsEntries, Buffered, buffered, holds_buffered, entries_kept, entries_none}
 
 -- ---- entries that stay where they are
@@ -127,6 +129,23 @@ resized_other at n (d ∷ bs) b c ne = go (cases_eq d.at at) c.0 c.1 c.2 (λ k. 
 shrunk_between : (x room u : ℕ) → u ≤ x → (u ≤ shrunk x room u) × (shrunk x room u ≤ x)
 shrunk_between x room u l = (grind (arith, nat_tests), grind (arith, nat_tests))
 
+mul-le-mul_one : (a b : ℕ) → 1 ≤ a → 1 ≤ b → 1 ≤ a * b
+mul-le-mul_one a b l m = let k = mul-le-mul_right b l in omega arith
+
+-- the bytes of an entry, by the form of the type
+pub entry_bytes : (table : Table) (T : ℕ) (form : Form) (content : Content) → form_at table T ≡ Some form → has_buffer (Some form) ≡ true → ContentOf table T (form_at table T) (Some content) → content.entry.size ≡ item_size table form
+entry_bytes table T form content f b c = go form b (subst (λ o. ContentOf table T o (Some content)) f c)
+  where
+    go : (form : Form) → has_buffer (Some form) ≡ true → ContentOf table T (Some form) (Some content) → content.entry.size ≡ item_size table form
+    go Form.i64 b c = absurd c
+    go (Form.struct Us) b c = absurd c
+    go (Form.list U) b c = absurd (cc)
+    go (Form.map U) b c = absurd (cc)
+    go (Form.own U) b c = absurd (cc)
+    go Form.str b c = c.size_is
+    go (Form.vec U) b c = c.entry_is.size_is ∙ zero-add (size table U)
+    go (Form.flat_map U) b c = c.entry_is.size_is
+
 -- ---- the place afterwards
 
 module _ (allocator : ℕ) (old : List ℕ) (table : Table) (place : Place) (form : Form) (v : Value) (blocks : List ℕ) (f : form_at table place.type ≡ Some form) (b : has_buffer (Some form) ≡ true)
@@ -143,10 +162,13 @@ module _ (allocator : ℕ) (old : List ℕ) (table : Table) (place : Place) (for
 
   -- it has no buffer
   pub left_alone : target old place.at ≡ None → Left old
-  left_alone e = (blocks, record {
-    changes = subst (λ bs. ChangesPlace old old table place v blocks bs blocks blocks) (sym nothing) (changes_place allocator old table place v blocks s old (ChangesOnly-none old place.at (size table place.type)) v blocks blocks s.holds_it);
-    paths = λ path inner l. l;
-  })
+  left_alone e = (
+    blocks,
+    record {
+      changes = subst (λ bs. ChangesPlace old old table place v blocks bs blocks blocks) (sym nothing) (changes_place allocator old table place v blocks s old (ChangesOnly-none old place.at (size table place.type)) v blocks blocks s.holds_it);
+      paths = λ path inner l. l;
+    },
+  )
     where
       nothing : cut_to (live old) (length old) (target old place.at) (units_named old place.at) (count_at old place.at * item_size table form) ≡ live old
       nothing = rw e refl
@@ -297,23 +319,45 @@ module _ (allocator : ℕ) (old : List ℕ) (table : Table) (place : Place) (for
           positive (suc m) l = refl
 
       pub cut_down : Left new
-      cut_down = (blocks, record {
-        changes = record {
-          length_kept = cut.kept.front_kept.length_kept;
-          front_kept = front.0;
-          back_kept = front.1;
-          heap = subst (λ a. IsHeap a new) (sym s.allocator_is) cut.heap;
-          ownable = each_live_at (IsOwnable new table) (live new) ownable_now;
-          holds_it = holds_now;
-          live_is = spans_are;
-          live_are = λ h. ap (λ ps. times h ps + times h blocks) (ap positions live_is ∙ positions-resized (block_of p) units (live old));
-          kept = λ h there_is away. around_kept old new place.at (size table place.type) h (let t = solid h there_is in omega arith) (other_kept h there_is (not_it h away));
-        };
-        paths = paths_now;
-      })
+      cut_down = (
+        blocks,
+        record {
+          changes = record {
+            length_kept = cut.kept.front_kept.length_kept;
+            front_kept = front.0;
+            back_kept = front.1;
+            heap = subst (λ a. IsHeap a new) (sym s.allocator_is) cut.heap;
+            ownable = each_live_at (IsOwnable new table) (live new) ownable_now;
+            holds_it = holds_now;
+            live_is = spans_are;
+            live_are = λ h. ap (λ ps. times h ps + times h blocks) (ap positions live_is ∙ positions-resized (block_of p) units (live old));
+            kept = λ h there_is away. around_kept old new place.at (size table place.type) h (let t = solid h there_is in omega arith) (other_kept h there_is (not_it h away));
+          };
+          paths = paths_now;
+        },
+      )
         where
           not_it : (h : ℕ) → times h blocks ≡ 0 → h ≢ block_of p
           not_it h away e = let none : times (block_of p) blocks ≡ 0 = subst (λ y. times y blocks ≡ 0) e away in omega (arith, mine)
+
+    -- as the code asks for it
+    pub cut_at : (kept each units at : ℕ) (new : List ℕ) → kept ≡ count_at old place.at → each ≡ item_size table form → 1 ≤ kept → 1 ≤ each → (kept * each < 2 ^ 32 → units ≡ need (kept * each)) → at ≡ p - 16
+        → ((x : ℕ) → IsHeap allocator old → Contains (live old) (span at x) → units ≤ x → Shrinks allocator old new at x units) → Left new
+    cut_at kept each units at new kept_is each_is some large units_by at_is shrinks =
+        let n_is : kept * each ≡ count_at old place.at * item_size table form = ap (λ k. k * each) kept_is ∙ ap (λ k. count_at old place.at * k) each_is in
+        let more : 1 ≤ kept * each = mul-le-mul_one kept each some large in
+        let k = found (block_of p) (live old) buffer_live in
+        let stated = each_contained (StatesSpan old (length old)) (live old) k.block (live_stated old allocator s.heap) k.among in
+        let it : Contains (live old) (span (block_of p) k.block.units) = subst (λ y. Contains (live old) (span y k.block.units)) k.at_is k.among in
+        let states : units_at old (block_of p) ≡ k.block.units = ap (units_at old) (sym k.at_is) ∙ stated.units_is in
+        let room = block_is.room in
+        let high = stated.high in
+        let two = stated.size in
+        let tiny = s.heap.small in
+        let units_is : units ≡ need (kept * each) = units_by (omega arith) in
+        let fits : need (kept * each) ≤ k.block.units = omega arith in
+        let cut = shrinks k.block.units s.heap (rw at_is it) (rw units_is fits) in
+        cut_down (kept * each) n_is more k.block.units it new (rw (at_is, units_is) at cut) fits
 
     -- ---- a buffer without entries, that is given back
 
@@ -390,16 +434,19 @@ module _ (allocator : ℕ) (old : List ℕ) (table : Table) (place : Place) (for
           (k.block.units, subst (λ y. Contains (live unnamed) (record { at = y; units = k.block.units })) k.at_is k.among)
 
       pub given_up : (new : List ℕ) → Gives allocator unnamed new (block_of p) → Left new
-      given_up new given = (its.owned, record {
-        changes = changes_of allocator old new table place v its.owned blocks
-            (cut_to (live old) (length old) (target old place.at) (units_named old place.at) (count_at old place.at * item_size table form)) s.allocator_is
-            (left_stands allocator unnamed table place v its.owned stands_unnamed new (block_of p) given still_live unowned)
-            (frames_twice old unnamed new place.at (size table place.type) blocks (block_of p ∷ []) (more_gone (written_frames allocator old table place v blocks s unnamed cell_changes v its.owned unnamed_holds fewer_owned))
-            (left_frames allocator unnamed table place v its.owned stands_unnamed new (block_of p) given still_live unowned (size table place.type)) (λ h there_is none. omega (arith, blocks_count h)))
-            (given.given ∙ ap (without (block_of p)) unnamed_live ∙ sym spans_are)
-            (λ h. rw spans_are (omega (arith, blocks_count h, times-without h (block_of p) (live old) buffer_live)));
-        paths = paths_now;
-      })
+      given_up new given = (
+        its.owned,
+        record {
+          changes = changes_of allocator old new table place v its.owned blocks
+              (cut_to (live old) (length old) (target old place.at) (units_named old place.at) (count_at old place.at * item_size table form)) s.allocator_is
+              (left_stands allocator unnamed table place v its.owned stands_unnamed new (block_of p) given still_live unowned)
+              (frames_twice old unnamed new place.at (size table place.type) blocks (block_of p ∷ []) (more_gone (written_frames allocator old table place v blocks s unnamed cell_changes v its.owned unnamed_holds fewer_owned))
+              (left_frames allocator unnamed table place v its.owned stands_unnamed new (block_of p) given still_live unowned (size table place.type)) (λ h there_is none. omega (arith, blocks_count h)))
+              (given.given ∙ ap (without (block_of p)) unnamed_live ∙ sym spans_are)
+              (λ h. rw spans_are (omega (arith, blocks_count h, times-without h (block_of p) (live old) buffer_live)));
+          paths = paths_now;
+        },
+      )
         where
           spans_are : cut_to (live old) (length old) (target old place.at) (units_named old place.at) (count_at old place.at * item_size table form) ≡ without (block_of p) (live old)
           spans_are =
