@@ -4,3 +4,4 @@ pub mod Owns
 pub mod NewBlocks
 pub mod Buffers
 pub mod Cutting
+pub mod Pointers

@@ -3,3 +3,4 @@ pub mod Contents
 pub mod Places
 pub mod Search
 pub mod Buffers
+pub mod Pointers
