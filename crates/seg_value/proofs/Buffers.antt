@@ -1,5 +1,5 @@
 -- Buffers that grow, from what the steps of the calls leave.
-use Rattle.std.proofs.Common.{◌≡◌, ◌≢◌, ℕ, zero, suc, ◌+◌, ◌-◌, ◌*◌, ◌%◌, ◌^◌, ◌<◌, ◌≤◌, ◌⊎◌, inl, inr, true, false, max, leb, cond, List, [], ◌∷◌, ◌++◌, length, Option, Some, None, MatchOption, option_map, option_to_list, refl, sym, ap, ◌∙◌, subst, arith, zero-add, append-nil}
+use Rattle.std.proofs.Common.{◌≡◌, ℕ, ◌+◌, ◌-◌, ◌*◌, ◌%◌, ◌^◌, ◌<◌, ◌≤◌, ◌⊎◌, inl, inr, true, false, max, leb, cond, List, [], ◌∷◌, length, Option, Some, None, MatchOption, option_map, refl, sym, ap, ◌∙◌, subst, arith, zero-add}
 use Rattle.std.specs.Prelude.{Contains, ⊤}
 use Rattle.std.proofs.Math.Nat.{mul-le-mul_left, mul-le-mul_right}
 use Rattle.std.proofs.lemmas.Option.{slice_get_past}
@@ -7,19 +7,19 @@ use Rattle.std.proofs.lemmas.Bool.{cases_lt}
 use Rattle.std.proofs.lemmas.Bool.Decides.{nat_tests}
 use Rattle.seg_spec.specs.Bytes.{slice, put, set_word}
 use Rattle.seg_spec.specs.Pointer.{target, set_pointer}
-use Rattle.seg_spec.specs.Types.{Form, Table, IsTable, form_at, size}
+use Rattle.seg_spec.specs.Types.{Form, Table, form_at, size}
 use Rattle.seg_spec.specs.Value.{Value}
 use Rattle.seg_spec.specs.Heap.{Span, span, units_at, link_at, live, IsHeap, IsLive, Keeps, Takes, Gives, Granted, same, fresh, heap_start, resized, after_request, after_request_at}
 use Rattle.seg_spec.specs.Block as block
 use Rattle.seg_spec.specs.Block.{tag_of, block_of, has_buffer, IsBlock, payload_size}
-use Rattle.seg_spec.specs.Reads.{Place, count_at, named, NamesRoom}
+use Rattle.seg_spec.specs.Reads.{count_at, named}
 use Rattle.seg_spec.specs.Sound.{times, positions}
-use Rattle.seg_spec.specs.Demand.{Ask, need, growth, after_ask, after_asks, after_gives, NoRoom}
+use Rattle.seg_spec.specs.Demand.{Ask, need, growth, after_ask, after_gives}
 use Rattle.seg_spec.specs.Cells.{IsWithin, Shifts}
 use Rattle.seg_spec.specs.Calls.{Refuses}
 use Rattle.seg_spec.specs.Owning.{Stands}
 use Rattle.seg_spec.specs.Spending.{item_size, units_named, buffer_asks, spent}
-use Rattle.seg_spec.specs.Growing.{Succeeds, HasRoomFor, Reserves, MovesBuffer}
+use Rattle.seg_spec.specs.Growing.{Reserves, MovesBuffer}
 use Rattle.seg_spec.proofs.LiveLaws.{times-same, there, LiesIn, live-lie, positions-resized}
 use Rattle.seg_spec.proofs.KeptLaws.{each_contained, StatesSpan, live_stated}
 use Rattle.seg_spec.proofs.Giving.{found}
@@ -30,9 +30,9 @@ use Rattle.seg_spec.proofs.CellSteps.{ChangesOnly-none}
 use Rattle.seg_spec.proofs.PlaceSteps.{owned_live, changes_place}
 use Rattle.seg_spec.proofs.Standing.{changes_of}
 use Rattle.seg_spec.proofs.Buffered.{Buffered, buffered, MovesEntries}
-use Rattle.seg_spec.proofs.BufferMoves.{MovesFrom, less_room, old_target, old_count, block_small, from_within, to_within, pointed_stands, old_live, moves}
-use Rattle.seg_spec.proofs.BufferGrows.{one_size, grown_stands, grown_frames, grown_place, grown_units}
-use Rattle.seg_spec.proofs.Requested.{GrewTo, TookFor, GrantedAs, GrantedNew, granted_at, granted_new, spent_same, spent_fresh, units_found}
+use Rattle.seg_spec.proofs.BufferMoves.{MovesFrom, less_room, old_count, block_small, from_within, to_within, pointed_stands, old_live, moves}
+use Rattle.seg_spec.proofs.BufferGrows.{grown_stands, grown_frames, grown_place, grown_units}
+use Rattle.seg_spec.proofs.Requested.{GrewTo, TookFor, granted_at, granted_new, spent_same, spent_fresh, units_found}
 use Rattle.seg_block.specs.Blocks.{IsSized, IsLiveBlock}
 use Rattle.seg_block.specs.Tags.{word_of}
 use Rattle.seg_block.specs.Request.{IsGranted, Grants, GrantsNew}
@@ -41,7 +41,7 @@ use Rattle.seg_block.specs.declared.grant.Grant.TheVariants.{Same, New}
 use Rattle.seg_value.specs.declared.content.Content.{Content}
 use Rattle.seg_value.specs.declared.content.Shape.TheVariants as shape
 use Rattle.seg_value.specs.declared.entry.Held.TheVariants as held
-use Rattle.seg_value.specs.Contents.{IsEntryOf, IsContent, IsText, ContentOf}
+use Rattle.seg_value.specs.Contents.{IsEntryOf, IsContent, ContentOf}
 use Rattle.seg_value.specs.Places.{object_at}
 use Rattle.seg_value.specs.Buffers.{NamesBuffer, HasSizedBuffer}
 

@@ -12,3 +12,5 @@ pub mod Opening
 pub mod Turns
 pub mod Clearing
 pub mod Setting
+pub mod Cutting
+pub mod Pointers

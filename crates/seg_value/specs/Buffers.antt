@@ -1,7 +1,7 @@
 -- Buffers of the program as the definitions know them.
 --     NamesBuffer table T content     the cell of a type names a buffer, with these entries
 --     HasSizedBuffer bytes cell       the buffer that a cell names, if it names one, is a block of the segment
-use Rattle.std.specs.Prelude.{◌≡◌, ℕ, ◌≤◌, ⊤, List, Some, MatchOption}
+use Rattle.std.specs.Prelude.{◌≡◌, ℕ, ⊤, List, Some, MatchOption}
 use Rattle.seg_spec.specs.Pointer.{target}
 use Rattle.seg_spec.specs.Types.{Table, form_at}
 use Rattle.seg_spec.specs.Heap.{span, units_at}

@@ -4,3 +4,4 @@ pub mod Places
 pub mod Search
 pub mod Buffers
 pub mod Waiting
+pub mod Pointers

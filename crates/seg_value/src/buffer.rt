@@ -1,5 +1,6 @@
-ghost use Rattle.std.specs.Prelude.{◌≡◌, ℕ, ◌+◌, ◌-◌, ◌*◌, ◌/◌, ◌%◌, ◌^◌, ◌<◌, ◌≤◌, [], ◌∷◌, length, List, Some, option_map, IsOkUnless, MatchResult};
+ghost use Rattle.std.specs.Prelude.{◌≡◌, ℕ, ◌+◌, ◌-◌, ◌*◌, ◌/◌, ◌%◌, ◌^◌, ◌<◌, ◌≤◌, [], ◌∷◌, length, List, Some, true, option_map, IsOkUnless, MatchResult};
 ghost use Rattle.seg_spec.specs.Bytes.{set_word};
+ghost use Rattle.seg_spec.specs.Block.{has_buffer};
 ghost use Rattle.seg_spec.specs.Calls.{Refuses};
 ghost use Rattle.seg_spec.specs.Demand.{block_for};
 ghost use Rattle.seg_spec.specs.Block.{block_of};
@@ -8,15 +9,16 @@ ghost use Rattle.seg_spec.specs.Heap.{Span, IsHeap, IsLive, Takes, Gives};
 ghost use Rattle.seg_spec.specs.Owning.{Stands};
 ghost use Rattle.seg_spec.specs.Pointer.{target};
 ghost use Rattle.seg_spec.specs.Reads.{count_at};
+ghost use Rattle.seg_spec.specs.Shrinking.{ShrinksPlace};
 ghost use Rattle.seg_spec.specs.Spending.{units_named, buffer_asks};
-ghost use Rattle.seg_spec.specs.Types.{IsTable, size};
+ghost use Rattle.seg_spec.specs.Types.{Form, IsTable, form_at, size};
 ghost use Rattle.seg_spec.specs.Value.{Value};
 ghost use Rattle.seg_spec.specs.Window.{with_bytes};
 ghost use Rattle.seg_block.specs.Blocks.{IsSized};
 ghost use Rattle.seg_block.specs.Tags.{word_of};
 ghost use Rattle.seg_value.specs.Buffers.{NamesBuffer, HasSizedBuffer};
 ghost use Rattle.seg_value.specs.Contents.{IsContent, GivesBlock};
-ghost use Rattle.seg_value.specs.Places.{object_at as place_at};
+ghost use Rattle.seg_value.specs.Places.{place_of, object_at as place_at};
 
 use crate::content::{Content, Shape};
 use crate::entry::Entry;
@@ -191,6 +193,11 @@ impl<F: Fit, A: Allocator> Heap<F, A> {
     pub fn shrink_to_fit(&mut self, place: Place)
         ensures window { self.new.window ≡ with_bytes self.old.window self.new.window.bytes }
         ensures types { self.new.types ≡ self.old.types }
+        ensures shrinks { (form : Form) (v : Value) (blocks : List ℕ) →
+            form_at self.old.types place.type_id ≡ Some form → has_buffer (Some form) ≡ true →
+            Stands F.code self.old.window.bytes self.old.types (place_of place) v blocks →
+            (others : List ℕ) × ShrinksPlace self.old.window.bytes self.new.window.bytes
+            self.old.types (place_of place) form v blocks others }
     {
         let Some(content) = self.content(place.type_id) else {
             return;
@@ -201,21 +208,29 @@ impl<F: Fit, A: Allocator> Heap<F, A> {
         if content.shape != Shape::Buffer {
             return;
         }
-        match self.count(place.at) {
-            0 => self.free_buffer(place.at),
-            kept => F::shrink(&mut self.window, block_of(start), content.entry.need(kept)),
+        let kept = self.count(place.at);
+        if kept == 0 {
+            self.free_buffer(place.at);
+            return;
         }
+        F::shrink(&mut self.window, block_of(start), content.entry.need(kept));
     }
 
     /// Gives up the buffer of a cell, whose entries own nothing any more. The cell names nothing then.
     pub fn free_buffer(&mut self, cell: u32)
         ensures window { self.new.window ≡ with_bytes self.old.window self.new.window.bytes }
         ensures types { self.new.types ≡ self.old.types }
+        ensures frees { (T : ℕ) (form : Form) (v : Value) (blocks : List ℕ) →
+            form_at self.old.types T ≡ Some form → has_buffer (Some form) ≡ true →
+            Stands F.code self.old.window.bytes self.old.types (place_at cell T) v blocks →
+            count_at self.old.window.bytes cell ≡ 0 →
+            (others : List ℕ) × ShrinksPlace self.old.window.bytes self.new.window.bytes
+            self.old.types (place_at cell T) form v blocks others }
     {
         let Some(start) = self.window.target(cell as usize) else {
             return;
         };
         self.window.point(cell as usize, None);
-        self.free_block(start);
+        F::free(&mut self.window, block_of(start));
     }
 }

@@ -7,6 +7,7 @@ ghost use Rattle.seg_spec.specs.Cells.{further, IsWithin, ChangesCells, ChangesE
 ghost use Rattle.seg_spec.specs.Reads.{spaced};
 ghost use Rattle.seg_spec.specs.Types.{IsTable, size, fields_of};
 ghost use Rattle.seg_spec.specs.Window.{with_bytes};
+ghost use Rattle.seg_value.specs.Pointers.{PointsAgain};
 
 use crate::entry::{Entry, Held};
 use crate::place::Place;
@@ -114,6 +115,9 @@ pub(crate) fn point_each_again<A: Allocator>(
         IsWithin w.old.bytes start (n * entry.size) →
         ChangesEach (λ old new at form. IsFurther old new distance at form) w.old.bytes w.new.bytes types.now
         t start (n * entry.size) (map (λ p. p + entry.before) (spaced start entry.size n)) }
+    ensures pointers { entry.held ≡ Held.Pointer → entry.before + 4 ≤ entry.size →
+        IsWithin w.old.bytes start (n * entry.size) →
+        PointsAgain distance w.old.bytes w.new.bytes start entry.size entry.before n }
 {
     match entry.held {
         Held::Bytes => {}
@@ -131,6 +135,9 @@ fn point_pointers_again<A: Allocator>(
     distance: u32,
 )
     ensures host { w.new ≡ with_bytes w.old w.new.bytes }
+    ensures pointed { entry.before + 4 ≤ entry.size →
+        IsWithin w.old.bytes start (n * entry.size) →
+        PointsAgain distance w.old.bytes w.new.bytes start entry.size entry.before n }
 {
     for index in 0..n {
         point_cell_again(w, entry.value_at(start, index) as usize, distance);

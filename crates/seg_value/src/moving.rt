@@ -1,4 +1,4 @@
-ghost use Rattle.std.specs.Prelude.{◌≡◌, ℕ, ◌+◌, ◌*◌, ◌%◌, ◌^◌, List};
+ghost use Rattle.std.specs.Prelude.{◌≡◌, ℕ, ◌+◌, ◌*◌, ◌%◌, ◌^◌, ◌≤◌, List};
 ghost use Rattle.seg_spec.specs.Bytes.{slice, put, ChangesOnly};
 ghost use Rattle.seg_spec.specs.Cells.{IsWithin, Shifts};
 ghost use Rattle.seg_spec.specs.Heap.{IsHeap};
@@ -8,6 +8,7 @@ ghost use Rattle.seg_spec.specs.Types.{size};
 ghost use Rattle.seg_spec.specs.Value.{Values};
 ghost use Rattle.seg_spec.specs.Window.{with_bytes};
 ghost use Rattle.seg_value.specs.Contents.{IsEntryOf};
+ghost use Rattle.seg_value.specs.Pointers.{MovesPointers};
 
 use crate::cells::point_each_again;
 use crate::content::Content;
@@ -54,6 +55,11 @@ impl<F: Fit, A: Allocator> Heap<F, A> {
             IsWithin self.old.window.bytes to (n * entry.size) →
             Shifts self.old.window.bytes self.new.window.bytes self.old.types
             before U entry.size from to n }
+        ensures pointers { entry.held ≡ Held.Pointer → entry.before + 4 ≤ entry.size →
+            IsWithin self.old.window.bytes from (n * entry.size) →
+            IsWithin self.old.window.bytes to (n * entry.size) →
+            MovesPointers self.old.window.bytes self.new.window.bytes
+            entry.size entry.before from to n }
     {
         let bytes = (n as usize).saturating_mul(entry.size as usize);
         if !self.window.holds(from as usize, bytes) || !self.window.holds(to as usize, bytes) {
