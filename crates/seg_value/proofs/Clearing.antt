@@ -1,11 +1,11 @@
 -- A value that is destroyed where it stands, and becomes the default of its type.
-use Rattle.std.proofs.Common.{◌≡◌, ℕ, ◌+◌, ◌-◌, ◌*◌, ◌^◌, ◌%◌, ◌<◌, ◌≤◌, inl, List, [], ◌∷◌, ◌++◌, length, Option, Some, None, refl, sym, ap, ◌∙◌, subst, arith}
+use Rattle.std.proofs.Common.{◌≡◌, ℕ, ◌+◌, ◌^◌, ◌<◌, ◌≤◌, inl, List, [], ◌∷◌, ◌++◌, length, Option, None, sym, ap, ◌∙◌, subst, arith}
 use Rattle.std.specs.Prelude.{nat_le}
 use Rattle.std.specs.List.{AllByRecursion}
-use Rattle.seg_spec.specs.Bytes.{IsSame, ChangesOnly}
+use Rattle.seg_spec.specs.Bytes.{ChangesOnly}
 use Rattle.seg_spec.specs.Types.{Table, IsTable, size}
 use Rattle.seg_spec.specs.Value.{Value, default_of}
-use Rattle.seg_spec.specs.Heap.{units_at, IsHeap, live, heap_start, tag_at, link_at}
+use Rattle.seg_spec.specs.Heap.{IsHeap, live, heap_start, tag_at, link_at}
 use Rattle.seg_spec.specs.Block.{IsInside, IsOwnable}
 use Rattle.seg_spec.specs.Reads.{Place, Holds, holds}
 use Rattle.seg_spec.specs.Apart.{KeepsBlockAround}
@@ -161,9 +161,9 @@ cleared allocator old mid after new table here there_too same same_too place v b
     let within = within_mid allocator old mid after new table place v blocks s first a in
     let changes' : IsWithin mid place.at (size table place.type) → ChangesOnly mid after place.at (size table place.type) = subst (λ t. IsWithin mid place.at (size t place.type) → ChangesOnly mid after place.at (size t place.type)) same changes in
     let filled' : IsWithin mid place.at (size table place.type) → place.type < length table → Holds after table place (default_of table place.type) [] =
-        subst (λ t. IsWithin mid place.at (size t place.type) → place.type < length t → Holds after t place (default_of t place.type) []) same filled in
+    subst (λ t. IsWithin mid place.at (size t place.type) → place.type < length t → Holds after t place (default_of t place.type) []) same filled in
     let freed' : (blocks : List ℕ) → IsTable table → Pends allocator after table first blocks → AreLive after blocks → Frees allocator after new blocks =
-        subst (λ t. (blocks : List ℕ) → IsTable t → Pends allocator after t first blocks → AreLive after blocks → Frees allocator after new blocks) same_too freed in
+    subst (λ t. (blocks : List ℕ) → IsTable t → Pends allocator after t first blocks → AreLive after blocks → Frees allocator after new blocks) same_too freed in
     let c = changes' within in
     let h = filled' within (typed old table place v blocks s.holds_it) in
     place_cleared allocator old mid after new table place v blocks s first a c h

@@ -1,6 +1,5 @@
 -- Cells that name nothing own nothing, and what a cell's form says of what it names.
-use Rattle.std.proofs.Common.{◌≡◌, ℕ, ◌+◌, ◌*◌, ◌≤◌, inl, inr, true, false, List, [], ◌∷◌, ◌++◌, length, map, Option, Some, None, option_to_list, option_map, unwrap_or, refl, sym, ap, ◌∙◌, subst, arith}
-use Rattle.std.specs.List.{AllByRecursion}
+use Rattle.std.proofs.Common.{◌≡◌, ℕ, ◌+◌, ◌*◌, ◌≤◌, inl, inr, false, List, [], ◌∷◌, ◌++◌, length, map, Option, Some, None, option_to_list, option_map, refl, sym, ap, ◌∙◌, subst, arith}
 use Rattle.seg_spec.specs.Pointer.{target}
 use Rattle.seg_spec.specs.Types.{Form, Table, form_at, IsTable, size, fields_of, fields_by}
 use Rattle.seg_spec.specs.Value.{Value, Values}
@@ -12,7 +11,7 @@ use Rattle.seg_spec.specs.Sound.{times}
 use Rattle.seg_spec.specs.Owing.{NamesNothing, IsPart, AreParts, no_parts, more_parts}
 use Rattle.seg_spec.proofs.LiveLaws.{times-same}
 use Rattle.seg_spec.proofs.CellLaws.{IsOne}
-use Rattle.seg_spec.proofs.CellSteps.{each_none, each_i64, one_cell, length_fields}
+use Rattle.seg_spec.proofs.CellSteps.{one_cell, length_fields}
 use Rattle.seg_spec.proofs.CellOwed.{same_form}
 use Rattle.seg_layout.specs.Forms.{has_cells}
 use Rattle.seg_value.specs.Contents.{ContentOf}

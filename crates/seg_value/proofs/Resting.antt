@@ -1,11 +1,10 @@
 -- The entries of a buffer after the used ones hold defaults.
-use Rattle.std.proofs.Common.{◌≡◌, ℕ, ◌+◌, ◌-◌, ◌*◌, ◌/◌, ◌%◌, ◌^◌, ◌<◌, ◌≤◌, false, List, [], ◌∷◌, length, map, Option, Some, None, refl, sym, ap, ◌∙◌, subst, arith}
+use Rattle.std.proofs.Common.{◌≡◌, ℕ, ◌+◌, ◌-◌, ◌*◌, ◌/◌, ◌%◌, ◌^◌, ◌<◌, ◌≤◌, false, List, [], ◌∷◌, length, map, Option, Some, None, refl, ap, ◌∙◌, subst, arith}
 use Rattle.std.specs.List.{AllByRecursion}
-use Rattle.std.proofs.Math.Nat.{div-mul-le_self, mul-le-mul_right}
+use Rattle.std.proofs.Math.Nat.{div-mul-le_self}
 use Rattle.std.proofs.lemmas.Nat.{le-div}
-use Rattle.seg_spec.specs.Bytes.{ChangesOnly}
 use Rattle.seg_spec.specs.Types.{Form, Table, form_at, IsTable, size}
-use Rattle.seg_spec.specs.Heap.{Span, units_at, IsHeap, live, heap_start}
+use Rattle.seg_spec.specs.Heap.{units_at, IsHeap, live, heap_start}
 use Rattle.seg_spec.specs.Block.{block_of, payload_size}
 use Rattle.seg_spec.specs.Reads.{spaced}
 use Rattle.seg_spec.specs.Cells.{IsWithin, EachCell, ChangesEach, ChangesCells, IsDefaulted}
@@ -15,7 +14,7 @@ use Rattle.seg_spec.specs.Destroying.{DefaultsRest}
 use Rattle.seg_spec.proofs.TypesLaws.{size_large}
 use Rattle.seg_spec.proofs.Frame.{each_weaker}
 use Rattle.seg_spec.proofs.LiveLaws.{there, LiesIn, live-lie}
-use Rattle.seg_spec.proofs.CellSteps.{each_none, each_i64, each_cell_weaker, ChangesOnly-none, ChangesOnly-wider, defaulted_local, no_entries, next_entry, entry_position, entry_within}
+use Rattle.seg_spec.proofs.CellSteps.{each_none, each_i64, each_cell_weaker, ChangesOnly-none, ChangesOnly-wider, defaulted_local, next_entry, entry_position, entry_within}
 use Rattle.seg_block.specs.Blocks.{IsSized}
 use Rattle.seg_layout.specs.Forms.{has_cells}
 

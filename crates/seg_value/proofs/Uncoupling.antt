@@ -1,5 +1,5 @@
 -- What a cell names shows by itself what goes with it, by the form of its type.
-use Rattle.std.proofs.Common.{◌≡◌, ℕ, ◌+◌, ◌*◌, ◌≤◌, ◌⊎◌, inl, inr, List, [], ◌∷◌, length, Option, Some, None, refl, sym, ap, ◌∙◌, subst, arith}
+use Rattle.std.proofs.Common.{◌≡◌, ℕ, ◌+◌, ◌*◌, ◌≤◌, ◌⊎◌, inl, inr, List, Option, Some, None, refl, sym, subst, arith}
 use Rattle.seg_spec.specs.Pointer.{target, set_pointer}
 use Rattle.seg_spec.specs.Types.{Form, Table, form_at, IsTable, size}
 use Rattle.seg_spec.specs.Value.{Value}
@@ -10,13 +10,12 @@ use Rattle.seg_spec.specs.Sound.{times, positions}
 use Rattle.seg_spec.specs.Destroying.{AreLive, GoesWith, DefaultsRest, Uncouples}
 use Rattle.seg_spec.proofs.Destruction.{others_none}
 use Rattle.seg_spec.proofs.CellOwed.{own_goes, tree_goes, text_goes, vector_goes, flat_map_goes}
-use Rattle.seg_spec.proofs.RingOwed.{ListGoes, list_goes}
+use Rattle.seg_spec.proofs.RingOwed.{list_goes}
 use Rattle.seg_value.specs.Contents.{IsEntryOf, ContentOf}
 use Rattle.seg_value.specs.declared.content.Content.{Content}
-use Rattle.seg_value.specs.declared.content.Shape.{Shape}
 use Rattle.seg_value.specs.declared.content.Shape.TheVariants as shape
 use Rattle.seg_value.specs.declared.entry.Held.TheVariants as held
-use Rattle.seg_value.proofs.Nulls.{NamedBuffer, vector_named, flat_map_named}
+use Rattle.seg_value.proofs.Nulls.{vector_named, flat_map_named}
 
 module _ (allocator : ℕ) (old : List ℕ) (table : Table) (valid : IsTable table) (heap : IsHeap allocator old) (place : Place) (p : ℕ) (e : target old place.at ≡ Some p) (v : Value) (xs : List ℕ) (fits : AreLive old xs)
     (h : Holds old table place v xs) (content : Content) where
