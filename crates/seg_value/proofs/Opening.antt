@@ -92,7 +92,8 @@ module _ (bytes : List ℕ) (table : Table) (valid : IsTable table) (p : ℕ) wh
           });
         }
 
-    buffer_shows : (T : ℕ) (form : Option Form) → form_at table T ≡ form → OpensBlock bytes table p block.Kind.buffer T form values links → tag_at bytes (block_of p) ≡ tag_of (kind_of k) t → OfBlock table k t (Some content) → Shows content us bs
+    buffer_shows : (T : ℕ) (form : Option Form) → form_at table T ≡ form → OpensBlock bytes table p block.Kind.buffer T form values links → tag_at bytes (block_of p) ≡ tag_of (kind_of k) t →
+        OfBlock table k t (Some content) → Shows content us bs
     buffer_shows T None f o tag of = absurd o
     buffer_shows T (Some Form.i64) f o tag of = absurd o
     buffer_shows T (Some (Form.list U)) f o tag of = absurd o
@@ -143,7 +144,8 @@ module _ (bytes : List ℕ) (table : Table) (valid : IsTable table) (p : ℕ) wh
           });
         }
 
-    node_shows : (T : ℕ) (form : Option Form) → form_at table T ≡ form → OpensBlock bytes table p block.Kind.node T form values links → tag_at bytes (block_of p) ≡ tag_of (kind_of k) t → OfBlock table k t (Some content) → Shows content us bs
+    node_shows : (T : ℕ) (form : Option Form) → form_at table T ≡ form → OpensBlock bytes table p block.Kind.node T form values links → tag_at bytes (block_of p) ≡ tag_of (kind_of k) t → OfBlock table k t (Some content) →
+        Shows content us bs
     node_shows T None f o tag of = absurd o
     node_shows T (Some Form.i64) f o tag of = absurd o
     node_shows T (Some Form.str) f o tag of = absurd o
@@ -339,7 +341,8 @@ module _ (allocator : ℕ) (old mid new : List ℕ) (table here : Table) (same :
 
   module _ (first : Adds allocator old mid table g bs ys) (buffer : (b : Span) → content.shape ≡ shape.Buffer → p ≡ b.at + 16 → IsSized mid b → n ≡ (16 * b.units - 16) / content.entry.size) (one : (content.shape ≡ shape.Buffer → ⊥) → n ≡ 1)
       (text : content.entry.held ≡ held.Bytes → (new ≡ mid) × (k ≡ g))
-      (entries : (home before U : ℕ) (zs : List ℕ) → IsEntryOf here before U content.entry → IsInside mid home p (n * (before + size here U)) → AreParts mid here (entries_at here p before U n) zs → (allocator : ℕ) (ys : List ℕ) → IsTable here →
+      (entries : (home before U : ℕ) (zs : List ℕ) → IsEntryOf here before U content.entry → IsInside mid home p (n * (before + size here U)) → AreParts mid here (entries_at here p before U n) zs →
+      (allocator : ℕ) (ys : List ℕ) → IsTable here →
       Pends allocator mid here g ys → AreLive mid (home ∷ (zs ++ ys)) → Adds allocator mid new here k zs ys) where
     apart : times (block_of p) bs ≡ 0
     apart = let c = counts (block_of p) in let o = times-same (block_of p) [] in let once = live-once old allocator w.heap (block_of p) in omega arith
@@ -355,7 +358,8 @@ module _ (allocator : ℕ) (old mid new : List ℕ) (table here : Table) (same :
 
     entries_added : HasEntries old table valid p content us → Adds allocator old new table k (us ++ bs) ys
     entries_added e =
-        let entries' : (home before U : ℕ) (zs : List ℕ) → IsEntryOf table before U content.entry → IsInside mid home p (n * (before + size table U)) → AreParts mid table (entries_at table p before U n) zs → (allocator : ℕ) (ys : List ℕ) → IsTable table →
+        let entries' : (home before U : ℕ) (zs : List ℕ) → IsEntryOf table before U content.entry → IsInside mid home p (n * (before + size table U)) → AreParts mid table (entries_at table p before U n) zs →
+        (allocator : ℕ) (ys : List ℕ) → IsTable table →
         Pends allocator mid table g ys → AreLive mid (home ∷ (zs ++ ys)) → Adds allocator mid new table k zs ys =
         subst (λ t. (home before U : ℕ) (zs : List ℕ) → IsEntryOf t before U content.entry → IsInside mid home p (n * (before + size t U)) → AreParts mid t (entries_at t p before U n) zs → (allocator : ℕ) (ys : List ℕ) → IsTable t →
         Pends allocator mid t g ys → AreLive mid (home ∷ (zs ++ ys)) → Adds allocator mid new t k zs ys) same entries in
@@ -366,7 +370,8 @@ module _ (allocator : ℕ) (old mid new : List ℕ) (table here : Table) (same :
         let inside_old : IsInside old (block_of p) p (e.n * (e.before + size table e.U)) = let low = s.low in let room = e.fits in let l = lies.size in record { low = omega arith; high = omega arith } in
         let inside_mid = inside_then old mid (block_of p) p (e.n * (e.before + size table e.U)) lies.size inside_old kept in
         let disjoint : AreLive old (bs ++ us) = λ h. let c = counts h in let a = times-append h bs us in omega arith in
-        let parts_mid = parts_then allocator old mid table valid w.heap (block_of p) bs first.keeps home_live apart (entries_at table p e.before e.U e.n) us (entries_inside old table (block_of p) p e.before e.U e.n inside_old) disjoint e.parts in
+        let parts_mid = parts_then allocator old mid table valid w.heap (block_of p) bs first.keeps home_live apart (entries_at table p e.before e.U e.n) us (entries_inside old table
+        (block_of p) p e.before e.U e.n inside_old) disjoint e.parts in
         let fits_mid : AreLive mid (block_of p ∷ (us ++ (bs ++ ys))) = λ h. let c = counts h in let l = live_same h in let a = times-append h us (bs ++ ys) in let b = times-append h bs ys in omega arith in
         let second = entries' (block_of p) e.before e.U us e.entry_is (rw n_is inside_mid) (rw n_is parts_mid) allocator (bs ++ ys) valid first.pends fits_mid in
         adds_twice allocator old mid new table g k bs us ys (us ++ bs) first second (λ h. refl)

@@ -19,14 +19,17 @@ is_live bytes at some =
     let f = found at (live bytes) some in
     subst (λ a. IsLive bytes a) f.at_is (f.block.units, f.among)
 
-pub turned : (allocator : ℕ) (old now opened new : List ℕ) (table here : Table) → here ≡ table → (valid : IsTable table) (first next after : Option ℕ) (p : ℕ) (blocks : List ℕ) (turns : ℕ) → (owned : AreLive old blocks) → HasFreed allocator old now table first blocks turns →
+pub turned : (allocator : ℕ) (old now opened new : List ℕ) (table here : Table) → here ≡ table → (valid : IsTable table) (first next after : Option ℕ) (p : ℕ) (blocks : List ℕ) (turns : ℕ) → (owned : AreLive old blocks) →
+    HasFreed allocator old now table first blocks turns →
     ((left : List ℕ) → Pends allocator now here first left → Pops allocator now here p next left) →
     ((xs : List ℕ) → GoesWith now here p xs → (ys : List ℕ) → IsTable here → Pends allocator now here next ys → AreLive now (xs ++ ys) → (rest : List ℕ) × SameBlocks xs (block_of p ∷ rest) × Adds allocator now opened here after rest ys) →
     (IsHeap allocator opened → IsLive opened (block_of p) → Gives allocator opened new (block_of p)) → HasFreed allocator old new table after blocks (turns + 1)
 turned allocator old now opened new table here same valid first next after p blocks turns owned f pops opens gives =
     let pops' : (left : List ℕ) → Pends allocator now table first left → Pops allocator now table p next left = subst (λ t. (left : List ℕ) → Pends allocator now t first left → Pops allocator now t p next left) same pops in
-    let opens' : (xs : List ℕ) → GoesWith now table p xs → (ys : List ℕ) → IsTable table → Pends allocator now table next ys → AreLive now (xs ++ ys) → (rest : List ℕ) × SameBlocks xs (block_of p ∷ rest) × Adds allocator now opened table after rest ys =
-    subst (λ t. (xs : List ℕ) → GoesWith now t p xs → (ys : List ℕ) → IsTable t → Pends allocator now t next ys → AreLive now (xs ++ ys) → (rest : List ℕ) × SameBlocks xs (block_of p ∷ rest) × Adds allocator now opened t after rest ys) same opens in
+    let opens' : (xs : List ℕ) → GoesWith now table p xs → (ys : List ℕ) → IsTable table → Pends allocator now table next ys → AreLive now (xs ++ ys) →
+    (rest : List ℕ) × SameBlocks xs (block_of p ∷ rest) × Adds allocator now opened table after rest ys =
+    subst (λ t. (xs : List ℕ) → GoesWith now t p xs → (ys : List ℕ) → IsTable t → Pends allocator now t next ys → AreLive now (xs ++ ys) →
+    (rest : List ℕ) × SameBlocks xs (block_of p ∷ rest) × Adds allocator now opened t after rest ys) same opens in
     let pop = pops' f.left f.pends in
     let fits = pop_live allocator old now table valid first blocks turns owned f p next pop in
     let o = opens' pop.its pop.goes pop.others valid pop.pends fits in

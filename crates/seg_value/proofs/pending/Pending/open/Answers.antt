@@ -40,9 +40,11 @@ returns-clause-opened g c = λ xs goes allocator ys valid w fits.
     let of : OfBlock heap.types tag.kind tag.type_id (Some content) = subst (λ t. OfBlock t tag.kind tag.type_id (Some content)) c.types.ensures c.in-Some-of_block.ensures in
     let parts = parted heap.window.bytes heap.types valid c.args.payload content tag.kind tag.type_id xs (sym word_is ∙ c.in-Some.ensures.spelled) of goes in
     let first = c.add_links.ensures.added (block_of c.args.payload) parts.bs
-    (inside_links allocator heap.window.bytes heap.window.bytes heap.window.bytes heap.types heap.types refl valid c.args.payload 0 content c.args.self.now.first c.args.self.now.first c.args.self.now.first parts.us parts.bs xs ys parts.xs_are parts.shows w fits)
+    (inside_links allocator heap.window.bytes heap.window.bytes heap.window.bytes heap.types heap.types refl valid c.args.payload 0 content c.args.self.now.first c.args.self.now.first c.args.self.now.first parts.us parts.bs
+    xs ys parts.xs_are parts.shows w fits)
     parts.shows.links allocator ys valid w
-    (links_fit allocator heap.window.bytes heap.window.bytes heap.window.bytes heap.types heap.types refl valid c.args.payload 0 content c.args.self.now.first c.args.self.now.first c.args.self.now.first parts.us parts.bs xs ys parts.xs_are parts.shows w fits) in
+    (links_fit allocator heap.window.bytes heap.window.bytes heap.window.bytes heap.types heap.types refl valid c.args.payload 0 content c.args.self.now.first c.args.self.now.first c.args.self.now.first parts.us parts.bs xs
+    ys parts.xs_are parts.shows w fits) in
     record {
       rest = parts.us ++ parts.bs;
       xs_are = parts.xs_are;
