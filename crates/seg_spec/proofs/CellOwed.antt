@@ -58,7 +58,8 @@ module _ (bytes : List ℕ) (table : Table) (place : Place) (p : ℕ) (e : targe
       let parts : opened.parts ≡ items table (start bytes place.at) U (count_at bytes place.at) = ap (λ (r : Opened). r.parts) o.opened_is in
       let one : count_at bytes place.at ≡ 1 = o.counted ∙ ap length named_is in
       let begins : start bytes place.at ≡ p = ap (λ o. unwrap_or o 0) e in
-      let hs' : HoldsEach bytes table (items table p U 1) inside owned = subst (λ n. HoldsEach bytes table (items table p U n) inside owned) one (subst (λ s. HoldsEach bytes table (items table s U (count_at bytes place.at)) inside owned) begins (subst (λ ps. HoldsEach bytes table ps inside owned) parts hs)) in
+      let hs' : HoldsEach bytes table (items table p U 1) inside owned = subst (λ n. HoldsEach bytes table (items table p U n) inside owned) one (subst
+      (λ s. HoldsEach bytes table (items table s U (count_at bytes place.at)) inside owned) begins (subst (λ ps. HoldsEach bytes table ps inside owned) parts hs)) in
       let room : IsBlock bytes p (tag_of Kind.object U) (count_at bytes place.at * size table U) = rw e at o.named_room in
       let one_size : count_at bytes place.at * size table U ≡ size table U = rw one (omega arith) in
       let blocks : opened.blocks ≡ block_of p ∷ [] = ap (λ (r : Opened). r.blocks) o.opened_is ∙ named_is in
@@ -97,7 +98,8 @@ module _ (bytes : List ℕ) (table : Table) (place : Place) (p : ℕ) (e : targe
 
   -- ---- a string
 
-  text_by : (f : form_at table place.type ≡ Some Form.str) (opened is : Opened) (inside : Values) (owned xs : List ℕ) → OpensBuffer bytes place.at (tag_of Kind.buffer place.type) 1 [] opened is → is.blocks ≡ named bytes place.at → is.parts ≡ [] →
+  text_by : (f : form_at table place.type ≡ Some Form.str) (opened is : Opened) (inside : Values) (owned xs : List ℕ) → OpensBuffer bytes place.at (tag_of Kind.buffer place.type) 1 [] opened is →
+      is.blocks ≡ named bytes place.at → is.parts ≡ [] →
       HoldsEach bytes table opened.parts inside owned → xs ≡ opened.blocks ++ owned → GoesWith bytes table p xs
   text_by f opened is inside owned xs o blocks_is parts_is hs xs_is =
       let room : IsBlock bytes p (tag_of Kind.buffer place.type) (count_at bytes place.at * 1) = rw e at o.named_room in
@@ -133,7 +135,8 @@ places_append : (U : ℕ) (xs ys : List ℕ) → places_of U (xs ++ ys) ≡ plac
 places_append U [] ys = refl
 places_append U (x ∷ xs) ys = ap (λ ps. record { at = x; type = U } ∷ ps) (places_append U xs ys)
 
-pub entries_append : (table : Table) (start before U n k : ℕ) → entries_at table start before U (n + k) ≡ entries_at table start before U n ++ places_of U (map (λ q. q + before) (spaced (start + n * (before + size table U)) (before + size table U) k))
+pub entries_append : (table : Table) (start before U n k : ℕ) →
+    entries_at table start before U (n + k) ≡ entries_at table start before U n ++ places_of U (map (λ q. q + before) (spaced (start + n * (before + size table U)) (before + size table U) k))
 entries_append table start before U n k =
     ap (λ ps. places_of U (map (λ q. q + before) ps)) (spaced_append start (before + size table U) n k)
     ∙ ap (places_of U) (map-append (λ q. q + before) (spaced start (before + size table U) n) (spaced (start + n * (before + size table U)) (before + size table U) k))
@@ -186,14 +189,16 @@ module _ (allocator : ℕ) (old new : List ℕ) (table : Table) (valid : IsTable
   pub buffer_goes : (vs : Values) (xs : List ℕ) → SameBlocks (block_of p ∷ owned) xs → HoldsEach old table (entries_at table p before U n) vs owned →
       (IsBlock new p (tag_of Kind.buffer T) 0 → OpensBlock new table p Kind.buffer T (form_at table T) (entries_of new table p before U) []) → Uncouples allocator old new table p xs
   buffer_goes vs xs same hs shows =
-      let block_new = block_there allocator old new (p + n * (before + size table U)) (payload_size old (block_of p) - n * (before + size table U)) (block_of p) heap inside here d.changes p (tag_of Kind.buffer T) (n * (before + size table U)) here block in
+      let block_new = block_there allocator old new (p + n * (before + size table U)) (payload_size old (block_of p) - n * (before + size table U)) (block_of p) heap inside here d.changes p (tag_of Kind.buffer T) (n *
+      (before + size table U)) here block in
       let units = units_then allocator old new (p + n * (before + size table U)) (payload_size old (block_of p) - n * (before + size table U)) (block_of p) heap inside here d.changes (block_of p) here in
       let cap : payload_size new (block_of p) / (before + size table U) ≡ n + (payload_size old (block_of p) / (before + size table U) - n) = ap (λ u. (16 * u - 16) / (before + size table U)) units ∙ enough in
       let used = parts_kept old new table valid (first_same n p (omega arith))
       (each_there (KeepsBlock old new) owned (λ h some. let c = no_common allocator old heap (block_of p ∷ []) owned fits h some in (others.others h c.0 c.1).whole.kept)) (each_parts old table hs) in
       let rest = nothing_parts new table U (map (λ q. q + before) (spaced (p + n * (before + size table U)) (before + size table U) (payload_size old (block_of p) / (before + size table U) - n))) d.nothing in
       let all = parts_append new table used rest in
-      let entries : entries_of new table p before U ≡ entries_at table p before U n ++ places_of U (map (λ q. q + before) (spaced (p + n * (before + size table U)) (before + size table U) (payload_size old (block_of p) / (before + size table U) - n))) =
+      let entries : entries_of new table p before U ≡ entries_at table p before U n ++ places_of U (map
+      (λ q. q + before) (spaced (p + n * (before + size table U)) (before + size table U) (payload_size old (block_of p) / (before + size table U) - n))) =
       ap (entries_at table p before U) cap ∙ entries_append table p before U n (payload_size old (block_of p) / (before + size table U) - n) in
       record {
         heap = heap_written allocator old new (p + n * (before + size table U)) (payload_size old (block_of p) - n * (before + size table U)) (block_of p) heap inside here d.changes;
@@ -211,7 +216,8 @@ module _ (allocator : ℕ) (old new : List ℕ) (table : Table) (valid : IsTable
       enough = let le = fits_in n (before + size table U) (payload_size old (block_of p)) (each_large table valid before U) block.room in omega arith
 
 module _ (allocator : ℕ) (old new : List ℕ) (table : Table) (valid : IsTable table) (heap : IsHeap allocator old) (place : Place) (p : ℕ) (e : target old place.at ≡ Some p) (v : Value) (xs : List ℕ) (fits : AreLive old xs) where
-  entries_by : (before U : ℕ) (keys : List Rattle.std.proofs.Common.ℤ) (opened is : Opened) (inside : Values) (owned : List ℕ) → OpensBuffer old place.at (tag_of Kind.buffer place.type) (before + size table U) keys opened is → is.blocks ≡ named old place.at →
+  entries_by : (before U : ℕ) (keys : List Rattle.std.proofs.Common.ℤ) (opened is : Opened) (inside : Values) (owned : List ℕ) →
+      OpensBuffer old place.at (tag_of Kind.buffer place.type) (before + size table U) keys opened is → is.blocks ≡ named old place.at →
       is.parts ≡ entries_at table (start old place.at) before U (count_at old place.at) → HoldsEach old table opened.parts inside owned → xs ≡ opened.blocks ++ owned → DefaultsRest old new table p before U (count_at old place.at) →
       (IsBlock new p (tag_of Kind.buffer place.type) 0 → OpensBlock new table p Kind.buffer place.type (form_at table place.type) (entries_of new table p before U) []) → Uncouples allocator old new table p xs
   entries_by before U keys opened is inside owned o blocks_is parts_is hs xs_is d shows =

@@ -140,7 +140,8 @@ same_adds allocator a table first xs ys none p = record {
 pub pends_same : (allocator : ℕ) (a : List ℕ) (table : Table) (first : Option ℕ) (xs ys : List ℕ) → SameBlocks xs ys → Pends allocator a table first xs → Pends allocator a table first ys
 pends_same allocator a table first xs ys same p = record { heap = p.heap; owed = p.owed; waiting = p.waiting; owed_are = λ h. p.owed_are h ∙ same h }
 
-pub adds_twice : (allocator : ℕ) (a b c : List ℕ) (table : Table) (f g : Option ℕ) (xs ys zs all : List ℕ) → Adds allocator a b table f xs zs → Adds allocator b c table g ys (xs ++ zs) → SameBlocks all (ys ++ xs) → Adds allocator a c table g all zs
+pub adds_twice : (allocator : ℕ) (a b c : List ℕ) (table : Table) (f g : Option ℕ) (xs ys zs all : List ℕ) → Adds allocator a b table f xs zs → Adds allocator b c table g ys (xs ++ zs) → SameBlocks all (ys ++ xs) →
+    Adds allocator a c table g all zs
 adds_twice allocator a b c table f g xs ys zs all k l same = record {
   keeps = others_twice a b c xs ys all (λ h none. let s = same h in let n = times-append h ys xs in (omega arith, omega arith)) k.keeps l.keeps;
   pends = pends_same allocator c table g (ys ++ (xs ++ zs)) (all ++ zs) (λ h. omega (arith, same h, times-append h ys xs, times-append h ys (xs ++ zs), times-append h xs zs, times-append h all zs)) l.pends;
@@ -243,7 +244,8 @@ one_less at (b ∷ bs) some = go (cases_eq b.at at) (one_less at bs)
 
 times_few : (h : ℕ) (bs : List Span) → times h (positions bs) ≤ length bs
 times_few h [] = omega arith
-times_few h (b ∷ bs) = let rest = times_few h bs in ⊎_elim (λ e. let s : times h (b.at ∷ positions bs) ≡ 1 + times h (positions bs) = subst (λ x. times h (x ∷ positions bs) ≡ 1 + times h (positions bs)) (sym e) (times-same h (positions bs)) in omega arith) (λ ne. omega (arith, times-other h b.at (positions bs) ne)) (cases_eq b.at h)
+times_few h (b ∷ bs) = let rest = times_few h bs in ⊎_elim (λ e. let s : times h (b.at ∷ positions bs) ≡ 1 + times h (positions bs) = subst
+    (λ x. times h (x ∷ positions bs) ≡ 1 + times h (positions bs)) (sym e) (times-same h (positions bs)) in omega arith) (λ ne. omega (arith, times-other h b.at (positions bs) ne)) (cases_eq b.at h)
 
 -- each live block has 2 units at least
 few_in : (ts : List Tile) (from to : ℕ) → Fill from ts to → from + 32 * length (live_of ts) ≤ to
@@ -305,7 +307,8 @@ module _ (allocator : ℕ) (old now : List ℕ) (table : Table) (valid : IsTable
               let l = pop_live h in
               let once = live-once now allocator f.pends.heap h in
               let alive : 1 ≤ times h (positions (live now)) = omega arith in
-              let other : h ≢ block_of p = λ e. let one = times-same (block_of p) rest in let s : times h (block_of p ∷ rest) ≡ 1 + times h rest = subst (λ x. times x (block_of p ∷ rest) ≡ 1 + times x rest) (sym e) one in absurd (omega arith) in
+              let other : h ≢ block_of p = λ e. let one = times-same (block_of p) rest in
+              let s : times h (block_of p ∷ rest) ≡ 1 + times h rest = subst (λ x. times x (block_of p ∷ rest) ≡ 1 + times x rest) (sym e) one in absurd (omega arith) in
               given_kept allocator opened new (block_of p) adds.pends.heap g h (subst (λ bs. 1 ≤ times h (positions bs)) (sym adds.keeps.live_kept) alive) other
 
       pub freed_more : HasFreed allocator old new table after blocks (turns + 1)

@@ -114,7 +114,8 @@ entry_next table start before U i n less =
     let moved : start + (i + 1) * (before + size table U) ≡ start + i * (before + size table U) + (before + size table U) = grind arith in
     rw (left, moved) refl
 
-pub entries_inside : (bytes : List ℕ) (table : Table) (home start before U n : ℕ) → IsInside bytes home start (n * (before + size table U)) → AllByRecursion (λ q. IsInside bytes home q.at (size table q.type)) (entries_at table start before U n)
+pub entries_inside : (bytes : List ℕ) (table : Table) (home start before U n : ℕ) → IsInside bytes home start (n * (before + size table U)) →
+    AllByRecursion (λ q. IsInside bytes home q.at (size table q.type)) (entries_at table start before U n)
 entries_inside bytes table home start before U zero i = tt
 entries_inside bytes table home start before U (suc n) i =
     let each = before + size table U in
@@ -158,7 +159,8 @@ module _ (allocator : ℕ) (old : List ℕ) (table : Table) (valid : IsTable tab
   module _ (now new : List ℕ) (first next : Option ℕ) (place : Place) (more : List Place) where
     -- one more part
     pub joined_more : Joined allocator old now table first home (place ∷ more) xs ys →
-        ((its others : List ℕ) → IsPart now table place its → IsInside now home place.at (size table place.type) → Pends allocator now table first others → AreLive now (home ∷ (its ++ others)) → Adds allocator now new table next its others) →
+        ((its others : List ℕ) → IsPart now table place its → IsInside now home place.at (size table place.type) → Pends allocator now table first others → AreLive now (home ∷ (its ++ others)) →
+        Adds allocator now new table next its others) →
         Joined allocator old new table next home more xs ys
     joined_more j f = go j.rest j.parts j.all_are
       where

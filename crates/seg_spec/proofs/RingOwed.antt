@@ -42,7 +42,8 @@ times_mapped h (x ∷ xs) =
     let rest = times_mapped h xs in
     ⊎_elim
     (λ e. let a : times h (x ∷ xs) ≡ 1 + times h xs = subst (λ z. times h (z ∷ xs) ≡ 1 + times h xs) (sym e) (times-same h xs) in
-    let b : times (block_of h) (block_of x ∷ map block_of xs) ≡ 1 + times (block_of h) (map block_of xs) = subst (λ z. times (block_of h) (block_of z ∷ map block_of xs) ≡ 1 + times (block_of h) (map block_of xs)) (sym e) (times-same (block_of h) (map block_of xs)) in
+    let b : times (block_of h) (block_of x ∷ map block_of xs) ≡ 1 + times (block_of h) (map block_of xs) = subst
+    (λ z. times (block_of h) (block_of z ∷ map block_of xs) ≡ 1 + times (block_of h) (map block_of xs)) (sym e) (times-same (block_of h) (map block_of xs)) in
     omega arith)
     (λ ne. let a = times-other h x xs ne in let b = times-more (block_of h) (block_of x) (map block_of xs) in omega arith) (cases_eq x h)
 
@@ -138,7 +139,8 @@ module _ (allocator : ℕ) (old : List ℕ) (table : Table) (valid : IsTable tab
       let chain = ring_opened old x last (omega (arith, l.high, l.size, b.behind_header)) (omega (arith, l.high, l.size, b.behind_header, heap.small)) x ys refl nodes_aligned nodes_once linked in
       let nodes : AreNodes new (tag_of Kind.node T) (8 + size table U) (x ∷ ys) = each_there (λ p. IsBlock new p (tag_of Kind.node T) (8 + size table U)) (x ∷ ys)
       (λ q some. block_there allocator old new last 4 (block_of last) heap last_inside (node_live last last_some) changes q (tag_of Kind.node T) (8 + size table U) (node_live q some) (node_block q some)) in
-      let values = HoldsEach-kept old new table valid hs (each_map (SamePlace old new table) (λ p. record { at = p; type = U }) (map (λ p. p + 8) (x ∷ ys)) (each_map (λ p. IsSame old new p (size table U)) (λ p. p + 8) (x ∷ ys) values_same)) owned_kept in
+      let values = HoldsEach-kept old new table valid hs (each_map (SamePlace old new table) (λ p. record { at = p; type = U }) (map (λ p. p + 8) (x ∷ ys)) (each_map (λ p. IsSame old new p (size table U))
+      (λ p. p + 8) (x ∷ ys) values_same)) owned_kept in
       let r = chain_owes new table T U f x ys vs owned chain nodes values in
       let m = times_mapped last (x ∷ ys) in
       let some = last_some in
@@ -170,7 +172,12 @@ module _ (allocator : ℕ) (old : List ℕ) (table : Table) (valid : IsTable tab
       let same : x ≡ p = ring.0 in
       let linked : IsLinked old x x ys = subst (λ q. IsLinked old q x ys) (sym same) ring.1 in
       let r = ring_goes allocator old table valid heap place.type U x ys f inside owned are (subst (λ bs. AreLive old bs) is fits) hs xs is linked in
-      record { last = last_of x ys; names = subst (λ q. target old (q + 4) ≡ Some (last_of x ys)) same (last_named old x x ys linked); uncouples = subst (λ q. Uncouples allocator old (set_pointer old (last_of x ys) None) table q xs) same r }
+      record {
+        last = last_of x ys;
+        names = subst (λ q. target old (q + 4) ≡ Some (last_of x ys)) same (last_named old x x ys linked);
+        uncouples = subst
+            (λ q. Uncouples allocator old (set_pointer old (last_of x ys) None) table q xs) same r;
+      }
 
   pub list_goes : (U : ℕ) → form_at table place.type ≡ Some (Form.list U) → Holds old table place v xs → ListGoes
   list_goes U f (holds form opened inside owned g o hs v_is is) =
@@ -178,7 +185,8 @@ module _ (allocator : ℕ) (old : List ℕ) (table : Table) (valid : IsTable tab
       let o' : Opens old table place (Form.list U) opened = subst (λ h. Opens old table place h opened) same o in
       list_from U f opened inside owned o' hs is
     where
-      list_from : (U : ℕ) (f : form_at table place.type ≡ Some (Form.list U)) (opened : Opened) (inside : Values) (owned : List ℕ) → OpensRing old table place.at (tag_of Kind.node place.type) U opened → HoldsEach old table opened.parts inside owned → xs ≡ opened.blocks ++ owned → ListGoes
+      list_from : (U : ℕ) (f : form_at table place.type ≡ Some (Form.list U)) (opened : Opened) (inside : Values) (owned : List ℕ) → OpensRing old table place.at (tag_of Kind.node place.type) U opened →
+          HoldsEach old table opened.parts inside owned → xs ≡ opened.blocks ++ owned → ListGoes
       list_from U f opened inside owned o hs is =
           let parts : opened.parts ≡ places_of U (map (λ p. p + 8) o.nodes) = ap (λ (r : Opened). r.parts) o.opened_is in
           let blocks : opened.blocks ≡ map block_of o.nodes = ap (λ (r : Opened). r.blocks) o.opened_is in

@@ -1,7 +1,12 @@
 -- Blocks that wait to be destroyed, and what goes with each.
---     OpensBlock bytes table p values links    what a waiting block shows by itself: the values in it, and the words that may name further nodes
---     Owes bytes table p blocks                the block with payload p goes with these: itself, what its values own, and the nodes after it
---     Waits bytes table first blocks           blocks that are linked from a first one on, with all that goes with them
+--     OpensBlock bytes table p kind T form values links
+--                                         what a waiting block shows by itself: the values in it, and the
+--                                         words that may name further nodes
+--     Owes bytes table p blocks           the block with payload p goes with these: itself, what its values
+--                                         own, and the nodes after it
+--     Waits bytes table first blocks      blocks that are linked from a first one on, with all that goes with
+--                                         them
+--     KeepsLinked old new h               a block is there again, with its payload, its size and its link
 use Rattle.std.specs.Prelude.{◌≡◌, ℕ, ◌+◌, ◌/◌, ◌⊎◌, ⊤, List, [], ◌∷◌, ◌++◌, map, Option, Some, None}
 use Rattle.seg_spec.specs.Pointer.{target}
 use Rattle.seg_spec.specs.Types.{Form, Table, form_at, size}
@@ -16,15 +21,19 @@ abbrev pub NamesNothing : List ℕ → ℕ → Option Form → Type 0
 NamesNothing bytes at (Some Form.i64) = ⊤
 NamesNothing bytes at _ = target bytes at ≡ None
 
--- a value that waits holds something and owns these blocks, or its cells name nothing, as after the items of a buffer
+-- a value that waits holds something and owns these blocks, or its cells name nothing, as after the
+-- items of a buffer
 abbrev pub IsPart : List ℕ → Table → Place → List ℕ → Type 0
 IsPart bytes table place blocks =
-    ((v : Value) × Holds bytes table place v blocks) ⊎ (EachCell table place.type (λ d form. NamesNothing bytes (place.at + d) form) × (blocks ≡ []))
+    ((v : Value) × Holds bytes table place v blocks) ⊎
+    (EachCell table place.type (λ d form. NamesNothing bytes (place.at + d) form) × (blocks ≡ []))
 
 -- the parts of a block in turn, with the blocks that go with each
 pub data AreParts (bytes : List ℕ) (table : Table) : List Place → List ℕ → Type 0 where
   no_parts : AreParts bytes table [] []
-  more_parts : {place : Place} {places : List Place} {blocks rest : List ℕ} → IsPart bytes table place blocks → AreParts bytes table places rest → AreParts bytes table (place ∷ places) (blocks ++ rest)
+  more_parts : {place : Place} {places : List Place} {blocks rest : List ℕ} →
+      IsPart bytes table place blocks → AreParts bytes table places rest →
+      AreParts bytes table (place ∷ places) (blocks ++ rest)
 
 -- the values of n entries from a position on, each after so many bytes
 abbrev pub entries_at : Table → ℕ → ℕ → ℕ → ℕ → List Place
@@ -37,35 +46,51 @@ entries_of bytes table p before U =
     entries_at table p before U (payload_size bytes (block_of p) / (before + size table U))
 
 -- what a block of a kind and a type shows: its values, and the words that name further nodes
-abbrev pub OpensBlock : List ℕ → Table → ℕ → Kind → ℕ → Option Form → List Place → List ℕ → Type 0
+abbrev pub OpensBlock :
+    List ℕ → Table → ℕ → Kind → ℕ → Option Form → List Place → List ℕ → Type 0
 OpensBlock bytes table p Kind.object T form values links =
-    IsBlock bytes p (tag_of Kind.object T) (size table T) × (values ≡ record { at = p; type = T } ∷ []) × (links ≡ [])
-OpensBlock bytes table p Kind.buffer T (Some Form.str) values links = IsBlock bytes p (tag_of Kind.buffer T) 0 × (values ≡ []) × (links ≡ [])
-OpensBlock bytes table p Kind.buffer T (Some (Form.vec U)) values links = IsBlock bytes p (tag_of Kind.buffer T) 0 × (values ≡ entries_of bytes table p 0 U) × (links ≡ [])
-OpensBlock bytes table p Kind.buffer T (Some (Form.flat_map U)) values links = IsBlock bytes p (tag_of Kind.buffer T) 0 × (values ≡ entries_of bytes table p 8 U) × (links ≡ [])
+    IsBlock bytes p (tag_of Kind.object T) (size table T) ×
+    (values ≡ record { at = p; type = T } ∷ []) × (links ≡ [])
+OpensBlock bytes table p Kind.buffer T (Some Form.str) values links =
+    IsBlock bytes p (tag_of Kind.buffer T) 0 × (values ≡ []) × (links ≡ [])
+OpensBlock bytes table p Kind.buffer T (Some (Form.vec U)) values links =
+    IsBlock bytes p (tag_of Kind.buffer T) 0 ×
+    (values ≡ entries_of bytes table p 0 U) × (links ≡ [])
+OpensBlock bytes table p Kind.buffer T (Some (Form.flat_map U)) values links =
+    IsBlock bytes p (tag_of Kind.buffer T) 0 ×
+    (values ≡ entries_of bytes table p 8 U) × (links ≡ [])
 OpensBlock bytes table p Kind.node T (Some (Form.list U)) values links =
-    IsBlock bytes p (tag_of Kind.node T) (8 + size table U) × (values ≡ record { at = p + 8; type = U } ∷ []) × (links ≡ p ∷ [])
+    IsBlock bytes p (tag_of Kind.node T) (8 + size table U) ×
+    (values ≡ record { at = p + 8; type = U } ∷ []) × (links ≡ p ∷ [])
 OpensBlock bytes table p Kind.node T (Some (Form.map U)) values links =
-    IsBlock bytes p (tag_of Kind.node T) (24 + size table U) × (values ≡ record { at = p + 24; type = U } ∷ []) × (links ≡ p ∷ (p + 4) ∷ [])
+    IsBlock bytes p (tag_of Kind.node T) (24 + size table U) ×
+    (values ≡ record { at = p + 24; type = U } ∷ []) × (links ≡ p ∷ (p + 4) ∷ [])
 OpensBlock bytes table p _ T _ values links = ⊥
 
 mutual
   -- the block, what its values own, and what goes with the nodes that its links name
   pub data Owes (bytes : List ℕ) (table : Table) : ℕ → List ℕ → Type 0 where
-    owes : {p : ℕ} {blocks : List ℕ} (kind : Kind) (T : ℕ) (values : List Place) (links : List ℕ) (xs ys : List ℕ) →
-        OpensBlock bytes table p kind T (form_at table T) values links → AreParts bytes table values xs → OwesLinks bytes table links ys →
+    owes : {p : ℕ} {blocks : List ℕ} (kind : Kind) (T : ℕ) (values : List Place)
+        (links : List ℕ) (xs ys : List ℕ) →
+        OpensBlock bytes table p kind T (form_at table T) values links →
+        AreParts bytes table values xs → OwesLinks bytes table links ys →
         blocks ≡ block_of p ∷ (xs ++ ys) → Owes bytes table p blocks
 
   -- each of these words names nothing, or a node with what goes with it
   pub data OwesLinks (bytes : List ℕ) (table : Table) : List ℕ → List ℕ → Type 0 where
     no_links : OwesLinks bytes table [] []
-    null_link : {at : ℕ} {ats ys : List ℕ} → target bytes at ≡ None → OwesLinks bytes table ats ys → OwesLinks bytes table (at ∷ ats) ys
-    node_link : {at : ℕ} {ats xs ys : List ℕ} (p : ℕ) → target bytes at ≡ Some p → Owes bytes table p xs → OwesLinks bytes table ats ys → OwesLinks bytes table (at ∷ ats) (xs ++ ys)
+    null_link : {at : ℕ} {ats ys : List ℕ} → target bytes at ≡ None →
+        OwesLinks bytes table ats ys → OwesLinks bytes table (at ∷ ats) ys
+    node_link : {at : ℕ} {ats xs ys : List ℕ} (p : ℕ) → target bytes at ≡ Some p →
+        Owes bytes table p xs → OwesLinks bytes table ats ys →
+        OwesLinks bytes table (at ∷ ats) (xs ++ ys)
 
 -- blocks that are linked from a first one on
 pub data Waits (bytes : List ℕ) (table : Table) : Option ℕ → List ℕ → Type 0 where
   none_waits : Waits bytes table None []
-  waits : {p : ℕ} {xs ys : List ℕ} (next : Option ℕ) → Owes bytes table p xs → link_at bytes (block_of p) ≡ next → Waits bytes table next ys → Waits bytes table (Some p) (xs ++ ys)
+  waits : {p : ℕ} {xs ys : List ℕ} (next : Option ℕ) → Owes bytes table p xs →
+      link_at bytes (block_of p) ≡ next → Waits bytes table next ys →
+      Waits bytes table (Some p) (xs ++ ys)
 
 -- ---- blocks that are kept with their size
 

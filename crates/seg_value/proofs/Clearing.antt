@@ -1,11 +1,11 @@
 -- A value that is destroyed where it stands, and becomes the default of its type.
-use Rattle.std.proofs.Common.{◌≡◌, ℕ, ◌+◌, ◌-◌, ◌*◌, ◌^◌, ◌%◌, ◌<◌, ◌≤◌, inl, List, [], ◌∷◌, ◌++◌, length, Option, Some, None, refl, sym, ap, ◌∙◌, subst, arith}
+use Rattle.std.proofs.Common.{◌≡◌, ℕ, ◌+◌, ◌^◌, ◌<◌, ◌≤◌, inl, List, [], ◌∷◌, ◌++◌, length, Option, None, sym, ap, ◌∙◌, subst, arith}
 use Rattle.std.specs.Prelude.{nat_le}
 use Rattle.std.specs.List.{AllByRecursion}
-use Rattle.seg_spec.specs.Bytes.{IsSame, ChangesOnly}
+use Rattle.seg_spec.specs.Bytes.{ChangesOnly}
 use Rattle.seg_spec.specs.Types.{Table, IsTable, size}
 use Rattle.seg_spec.specs.Value.{Value, default_of}
-use Rattle.seg_spec.specs.Heap.{units_at, IsHeap, live, heap_start, tag_at, link_at}
+use Rattle.seg_spec.specs.Heap.{IsHeap, live, heap_start, tag_at, link_at}
 use Rattle.seg_spec.specs.Block.{IsInside, IsOwnable}
 use Rattle.seg_spec.specs.Reads.{Place, Holds, holds}
 use Rattle.seg_spec.specs.Apart.{KeepsBlockAround}
@@ -149,8 +149,10 @@ module _ (allocator : ℕ) (old mid after new : List ℕ) (table : Table) (place
         kept = λ h some none. around h some none;
       }
 
-pub cleared : (allocator : ℕ) (old mid after new : List ℕ) (table here there_too : Table) → here ≡ table → there_too ≡ table → (place : Place) (v : Value) (blocks : List ℕ) (s : Stands allocator old table place v blocks) (none first : Option ℕ) → none ≡ None →
-    ((home : ℕ) (xs : List ℕ) → IsInside old home place.at (size table place.type) → IsPart old table place xs → (allocator : ℕ) (ys : List ℕ) → IsTable table → Pends allocator old table none ys → AreLive old (home ∷ (xs ++ ys)) → Adds allocator old mid table first xs ys) →
+pub cleared : (allocator : ℕ) (old mid after new : List ℕ) (table here there_too : Table) → here ≡ table → there_too ≡ table →
+    (place : Place) (v : Value) (blocks : List ℕ) (s : Stands allocator old table place v blocks) (none first : Option ℕ) → none ≡ None →
+    ((home : ℕ) (xs : List ℕ) → IsInside old home place.at (size table place.type) → IsPart old table place xs → (allocator : ℕ) (ys : List ℕ) → IsTable table → Pends allocator old table none ys →
+    AreLive old (home ∷ (xs ++ ys)) → Adds allocator old mid table first xs ys) →
     (IsWithin mid place.at (size here place.type) → ChangesOnly mid after place.at (size here place.type)) →
     (IsWithin mid place.at (size here place.type) → place.type < length here → Holds after here place (default_of here place.type) []) →
     ((blocks : List ℕ) → IsTable there_too → Pends allocator after there_too first blocks → AreLive after blocks → Frees allocator after new blocks) →
@@ -159,11 +161,12 @@ cleared allocator old mid after new table here there_too same same_too place v b
     let fits : AreLive old (s.home ∷ (blocks ++ [])) = λ h. let o = s.owned h in let n = times-append h blocks [] in omega arith in
     let a = added s.home blocks s.inside (inl (v, s.holds_it)) allocator [] s.is_table (none_pending allocator old table none is_none s.heap) fits in
     let within = within_mid allocator old mid after new table place v blocks s first a in
-    let changes' : IsWithin mid place.at (size table place.type) → ChangesOnly mid after place.at (size table place.type) = subst (λ t. IsWithin mid place.at (size t place.type) → ChangesOnly mid after place.at (size t place.type)) same changes in
+    let changes' : IsWithin mid place.at (size table place.type) → ChangesOnly mid after place.at (size table place.type) = subst (λ t. IsWithin mid place.at (size t place.type) →
+    ChangesOnly mid after place.at (size t place.type)) same changes in
     let filled' : IsWithin mid place.at (size table place.type) → place.type < length table → Holds after table place (default_of table place.type) [] =
-        subst (λ t. IsWithin mid place.at (size t place.type) → place.type < length t → Holds after t place (default_of t place.type) []) same filled in
+    subst (λ t. IsWithin mid place.at (size t place.type) → place.type < length t → Holds after t place (default_of t place.type) []) same filled in
     let freed' : (blocks : List ℕ) → IsTable table → Pends allocator after table first blocks → AreLive after blocks → Frees allocator after new blocks =
-        subst (λ t. (blocks : List ℕ) → IsTable t → Pends allocator after t first blocks → AreLive after blocks → Frees allocator after new blocks) same_too freed in
+    subst (λ t. (blocks : List ℕ) → IsTable t → Pends allocator after t first blocks → AreLive after blocks → Frees allocator after new blocks) same_too freed in
     let c = changes' within in
     let h = filled' within (typed old table place v blocks s.holds_it) in
     place_cleared allocator old mid after new table place v blocks s first a c h

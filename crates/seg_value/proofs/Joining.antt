@@ -15,12 +15,14 @@ use Rattle.seg_spec.proofs.Destruction.{others_twice, pends_then}
 use Rattle.seg_spec.proofs.PartsOwed.{Joined, joined_more, all_joined, field_next, field_past, fields_end, entry_next}
 
 -- a block shows by itself what goes with it, and is put in front of those that wait
-pub uncoupled_adds : (allocator : ℕ) (old mid new : List ℕ) (table mid_table : Table) (valid : IsTable table) (first next : Option ℕ) (p : ℕ) (xs ys : List ℕ) → mid_table ≡ table → Pends allocator old table first ys → AreLive old (xs ++ ys) →
+pub uncoupled_adds : (allocator : ℕ) (old mid new : List ℕ) (table mid_table : Table) (valid : IsTable table) (first next : Option ℕ) (p : ℕ) (xs ys : List ℕ) → mid_table ≡ table → Pends allocator old table first ys →
+    AreLive old (xs ++ ys) →
     (AreLive old xs → Uncouples allocator old mid table p xs) →
-    ((zs : List ℕ) → GoesWith mid mid_table p zs → (allocator : ℕ) (ys : List ℕ) → IsTable mid_table → Pends allocator mid mid_table first ys → AreLive mid (zs ++ ys) → Adds allocator mid new mid_table next zs ys) → Adds allocator old new table next xs ys
+    ((zs : List ℕ) → GoesWith mid mid_table p zs → (allocator : ℕ) (ys : List ℕ) → IsTable mid_table → Pends allocator mid mid_table first ys → AreLive mid (zs ++ ys) → Adds allocator mid new mid_table next zs ys) →
+    Adds allocator old new table next xs ys
 uncoupled_adds allocator old mid new table mid_table valid first next p xs ys same w fits uncouples push =
     let push' : (zs : List ℕ) → GoesWith mid table p zs → (allocator : ℕ) (ys : List ℕ) → IsTable table → Pends allocator mid table first ys → AreLive mid (zs ++ ys) → Adds allocator mid new table next zs ys =
-        subst (λ t. (zs : List ℕ) → GoesWith mid t p zs → (allocator : ℕ) (ys : List ℕ) → IsTable t → Pends allocator mid t first ys → AreLive mid (zs ++ ys) → Adds allocator mid new t next zs ys) same push in
+    subst (λ t. (zs : List ℕ) → GoesWith mid t p zs → (allocator : ℕ) (ys : List ℕ) → IsTable t → Pends allocator mid t first ys → AreLive mid (zs ++ ys) → Adds allocator mid new t next zs ys) same push in
     let u = uncouples (λ h. let f = fits h in let n = times-append h xs ys in omega arith) in
     let live_same = λ (h : ℕ). let e : times h (positions (live mid)) ≡ times h (positions (live old)) = ap (λ bs. times h (positions bs)) u.keeps.live_kept in e in
     let a = push' xs u.goes allocator ys valid (pends_then allocator old mid table valid xs ys fits u.heap u.keeps first w) (λ h. let f = fits h in let l = live_same h in omega arith) in
@@ -46,7 +48,8 @@ module _ (allocator : ℕ) (old now : List ℕ) (table : Table) (valid : IsTable
   next_field_joined new here next from U place_at V e same at_is type_is step =
       let e' : slice_get (fields_from table 0 Us) i ≡ Some (record { from = from; type = U }) = subst (λ cs. slice_get cs i ≡ Some (record { from = from; type = U })) fields_are e in
       let head = field_next table at 0 i Us from U e' in
-      let head' : drop i (fields table at Us) ≡ record { at = at + from; type = U } ∷ drop (i + 1) (fields table at Us) = subst (λ a. drop i (fields table a Us) ≡ record { at = at + from; type = U } ∷ drop (i + 1) (fields table a Us)) zero_off head in
+      let head' : drop i (fields table at Us) ≡ record { at = at + from; type = U } ∷ drop (i + 1) (fields table at Us) = subst
+      (λ a. drop i (fields table a Us) ≡ record { at = at + from; type = U } ∷ drop (i + 1) (fields table a Us)) zero_off head in
       let j' : Joined allocator old now table first home (record { at = at + from; type = U } ∷ drop (i + 1) (fields table at Us)) xs ys = subst (λ ps. Joined allocator old now table first home ps xs ys) head' j in
       let inside = j'.inside.0 in
       let own = owned home in
@@ -54,13 +57,16 @@ module _ (allocator : ℕ) (old now : List ℕ) (table : Table) (valid : IsTable
       let here_live : 1 ≤ times home (positions (live now)) = omega (arith, times-same home (xs ++ ys)) in
       let lies = there (LiesIn now heap_start (length now)) home (positions (live now)) (live-lie now allocator j'.adds.pends.heap) here_live in
       let position : place_at ≡ at + from = let low = inside.low in let high = inside.high in let end = lies.high in let small = j'.adds.pends.heap.small in let big = size_large table valid U in omega arith in
-      let at_type : ℕ → ℕ → Type 0 = λ a W. (home : ℕ) (its : List ℕ) → IsInside now home a (size table W) → IsPart now table (record { at = a; type = W }) its → (allocator : ℕ) (others : List ℕ) → IsTable table → Pends allocator now table first others →
-          AreLive now (home ∷ (its ++ others)) → Adds allocator now new table next its others in
-      let step_1 : at_type place_at V = subst (λ t. (home : ℕ) (its : List ℕ) → IsInside now home place_at (size t V) → IsPart now t (record { at = place_at; type = V }) its → (allocator : ℕ) (others : List ℕ) → IsTable t → Pends allocator now t first others →
-          AreLive now (home ∷ (its ++ others)) → Adds allocator now new t next its others) same step in
+      let at_type : ℕ → ℕ → Type 0 = λ a W. (home : ℕ) (its : List ℕ) → IsInside now home a (size table W) → IsPart now table (record { at = a; type = W }) its → (allocator : ℕ) (others : List ℕ) → IsTable table →
+      Pends allocator now table first others →
+      AreLive now (home ∷ (its ++ others)) → Adds allocator now new table next its others in
+      let step_1 : at_type place_at V = subst (λ t. (home : ℕ) (its : List ℕ) → IsInside now home place_at (size t V) → IsPart now t (record { at = place_at; type = V }) its → (allocator : ℕ) (others : List ℕ) → IsTable t →
+      Pends allocator now t first others →
+      AreLive now (home ∷ (its ++ others)) → Adds allocator now new t next its others) same step in
       let step_2 : at_type place_at U = subst (λ W. at_type place_at W) type_is step_1 in
       let step_3 : at_type (at + from) U = subst (λ a. at_type a U) position step_2 in
-      joined_more allocator old table valid home xs ys owned now new first next (record { at = at + from; type = U }) (drop (i + 1) (fields table at Us)) j' (λ its others part lies_in w fits. step_3 home its lies_in part allocator others valid w fits)
+      joined_more allocator old table valid home xs ys owned now new first next (record { at = at + from; type = U }) (drop (i + 1) (fields table at Us)) j'
+      (λ its others part lies_in w fits. step_3 home its lies_in part allocator others valid w fits)
 
   pub past_fields_joined : slice_get (fields_of table T) i ≡ None → Joined allocator old now table first home (drop (i + 1) (fields table at Us)) xs ys
   past_fields_joined e =
@@ -93,21 +99,25 @@ module _ (allocator : ℕ) (old now : List ℕ) (table : Table) (valid : IsTable
       let at = start + i * (before + size table U) + before in
       let rest = entries_at table (start + (i + 1) * (before + size table U)) before U (n - (i + 1)) in
       let j' : Joined allocator old now table first home (record { at = start + i * (before + size table U) + before; type = U } ∷ entries_at table (start + (i + 1) * (before + size table U)) before U (n - (i + 1))) xs ys =
-          subst (λ ps. Joined allocator old now table first home ps xs ys) (entry_next table start before U i n less) j in
+      subst (λ ps. Joined allocator old now table first home ps xs ys) (entry_next table start before U i n less) j in
       let inside = j'.inside.0 in
       let own = owned home in
       let live_same : times home (positions (live now)) ≡ times home (positions (live old)) = ap (λ bs. times home (positions bs)) j'.adds.keeps.live_kept in
       let here_live : 1 ≤ times home (positions (live now)) = omega (arith, times-same home (xs ++ ys)) in
       let lies = there (LiesIn now heap_start (length now)) home (positions (live now)) (live-lie now allocator j'.adds.pends.heap) here_live in
       let there_is : place_at ≡ (start + i * (before + size table U) + before) % 2 ^ 32 = at_is ∙ ap (λ m. (start + i * m + b) % 2 ^ 32) size_is ∙ ap (λ m. (start + i * (before + size table U) + m) % 2 ^ 32) before_is in
-      let position : place_at ≡ start + i * (before + size table U) + before = let low = inside.low in let high = inside.high in let end = lies.high in let small = j'.adds.pends.heap.small in let big = size_large table valid U in omega arith in
-      let at_type : ℕ → ℕ → Type 0 = λ a W. (home : ℕ) (its : List ℕ) → IsInside now home a (size table W) → IsPart now table (record { at = a; type = W }) its → (allocator : ℕ) (others : List ℕ) → IsTable table → Pends allocator now table first others →
-          AreLive now (home ∷ (its ++ others)) → Adds allocator now new table next its others in
-      let step_1 : at_type place_at V = subst (λ t. (home : ℕ) (its : List ℕ) → IsInside now home place_at (size t V) → IsPart now t (record { at = place_at; type = V }) its → (allocator : ℕ) (others : List ℕ) → IsTable t → Pends allocator now t first others →
-          AreLive now (home ∷ (its ++ others)) → Adds allocator now new t next its others) same step in
+      let position : place_at ≡ start + i * (before + size table U) + before = let low = inside.low in let high = inside.high in let end = lies.high in let small = j'.adds.pends.heap.small in
+      let big = size_large table valid U in omega arith in
+      let at_type : ℕ → ℕ → Type 0 = λ a W. (home : ℕ) (its : List ℕ) → IsInside now home a (size table W) → IsPart now table (record { at = a; type = W }) its → (allocator : ℕ) (others : List ℕ) → IsTable table →
+      Pends allocator now table first others →
+      AreLive now (home ∷ (its ++ others)) → Adds allocator now new table next its others in
+      let step_1 : at_type place_at V = subst (λ t. (home : ℕ) (its : List ℕ) → IsInside now home place_at (size t V) → IsPart now t (record { at = place_at; type = V }) its → (allocator : ℕ) (others : List ℕ) → IsTable t →
+      Pends allocator now t first others →
+      AreLive now (home ∷ (its ++ others)) → Adds allocator now new t next its others) same step in
       let step_2 : at_type place_at U = subst (λ W. at_type place_at W) type_is step_1 in
       let step_3 : at_type (start + i * (before + size table U) + before) U = subst (λ a. at_type a U) position step_2 in
-      joined_more allocator old table valid home xs ys owned now new first next (record { at = start + i * (before + size table U) + before; type = U }) (entries_at table (start + (i + 1) * (before + size table U)) before U (n - (i + 1))) j'
+      joined_more allocator old table valid home xs ys owned now new first next (record { at = start + i * (before + size table U) + before; type = U }) (entries_at table (start + (i + 1) * (before + size table U)) before U
+      (n - (i + 1))) j'
       (λ its others part lies_in w fits. step_3 home its lies_in part allocator others valid w fits)
 
   pub all_entries_joined : n ≤ i → Adds allocator old now table first xs ys

@@ -1,14 +1,13 @@
 -- The nodes that the words of a node name, added one after the other.
-use Rattle.std.proofs.Common.{◌≡◌, ℕ, ◌+◌, ◌*◌, ◌%◌, ◌^◌, ◌≤◌, List, [], ◌∷◌, ◌++◌, length, Option, Some, None, refl, sym, ap, ◌∙◌, subst, arith}
-use Rattle.std.specs.List.{AllByRecursion}
+use Rattle.std.proofs.Common.{◌≡◌, ℕ, ◌+◌, ◌%◌, ◌^◌, ◌≤◌, List, [], ◌∷◌, ◌++◌, length, Option, Some, None, refl, sym, ap, ◌∙◌, subst, arith}
 use Rattle.seg_spec.specs.Bytes.{IsSame}
 use Rattle.seg_spec.specs.Pointer.{target}
 use Rattle.seg_spec.specs.Types.{Table, IsTable}
-use Rattle.seg_spec.specs.Heap.{IsHeap, live, heap_start}
+use Rattle.seg_spec.specs.Heap.{live, heap_start}
 use Rattle.seg_spec.specs.Block.{IsInside}
 use Rattle.seg_spec.specs.Sound.{times, SameBlocks, positions}
 use Rattle.seg_spec.specs.Owing.{KeepsWhole, OwesLinks, no_links, null_link, node_link}
-use Rattle.seg_spec.specs.Destroying.{AreLive, GoesWith, Pends, KeepsOthers, Adds}
+use Rattle.seg_spec.specs.Destroying.{AreLive, GoesWith, Pends, Adds}
 use Rattle.seg_spec.proofs.SliceLaws.{IsSame-part}
 use Rattle.seg_spec.proofs.LiveLaws.{times-append, times-same, times-more, there, each_there, LiesIn, live-lie, live-once}
 use Rattle.seg_spec.proofs.Owed.{OwesLinks-kept}
@@ -50,7 +49,7 @@ pub two_links : (old mid new : List ℕ) (table mid_table : Table) (f g k : Opti
 two_links old mid new table mid_table f g k p q home xs same_table q_is inside owes one two allocator zs valid w fits =
     let s = split old table p ((p + 4) ∷ []) xs owes in
     let two' : (ys : List ℕ) → OwesLinks mid table (q ∷ []) ys → (allocator : ℕ) (zs : List ℕ) → IsTable table → Pends allocator mid table g zs → AreLive mid (ys ++ zs) → Adds allocator mid new table k ys zs =
-        subst (λ t. (ys : List ℕ) → OwesLinks mid t (q ∷ []) ys → (allocator : ℕ) (zs : List ℕ) → IsTable t → Pends allocator mid t g zs → AreLive mid (ys ++ zs) → Adds allocator mid new t k ys zs) same_table two in
+    subst (λ t. (ys : List ℕ) → OwesLinks mid t (q ∷ []) ys → (allocator : ℕ) (zs : List ℕ) → IsTable t → Pends allocator mid t g zs → AreLive mid (ys ++ zs) → Adds allocator mid new t k ys zs) same_table two in
     let own = fits home in
     let here : 1 ≤ times home (positions (live old)) = omega (arith, times-same home (xs ++ zs)) in
     let lies = there (LiesIn old heap_start (length old)) home (positions (live old)) (live-lie old allocator w.heap) here in
@@ -65,8 +64,8 @@ two_links old mid new table mid_table f g k p q home xs same_table q_is inside o
     let word_same : IsSame old mid (p + 4) 4 = IsSame-part old mid p 8 (p + 4) 4 (omega arith) (omega arith) (inside_same old mid home p 8 inside kept) in
     let disjoint : AreLive old (s.mine ++ s.rest) = λ h. let a = fits h in let m = times-more h home (xs ++ zs) in let c = counts h in let n = times-append h xs zs in let o = times-append h s.mine s.rest in omega arith in
     let more : OwesLinks mid table ((p + 4) ∷ []) s.rest = OwesLinks-kept old mid table valid (word_same, tt)
-        (each_there (KeepsWhole old mid) s.rest (λ h some. let n = no_common allocator old w.heap s.mine s.rest disjoint h some in (first.keeps.others h n.0 n.1).whole)) s.more in
+    (each_there (KeepsWhole old mid) s.rest (λ h some. let n = no_common allocator old w.heap s.mine s.rest disjoint h some in (first.keeps.others h n.0 n.1).whole)) s.more in
     let fits_two : AreLive mid (s.rest ++ (s.mine ++ zs)) = λ h.
-        let a = fits h in let m = times-more h home (xs ++ zs) in let c = counts h in let n = times-append h xs zs in let o = times-append h s.mine zs in let r = times-append h s.rest (s.mine ++ zs) in let l = live_same h in omega arith in
+    let a = fits h in let m = times-more h home (xs ++ zs) in let c = counts h in let n = times-append h xs zs in let o = times-append h s.mine zs in let r = times-append h s.rest (s.mine ++ zs) in let l = live_same h in omega arith in
     let then_two = two' s.rest (subst (λ r. OwesLinks mid table (r ∷ []) s.rest) (sym second) more) allocator (s.mine ++ zs) valid first.pends fits_two in
     adds_twice allocator old mid new table g k s.mine s.rest zs xs first then_two (λ h. let c = counts h in let n = times-append h s.rest s.mine in omega arith)

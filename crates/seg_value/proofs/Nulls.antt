@@ -1,6 +1,5 @@
 -- Cells that name nothing own nothing, and what a cell's form says of what it names.
-use Rattle.std.proofs.Common.{◌≡◌, ℕ, ◌+◌, ◌*◌, ◌≤◌, inl, inr, true, false, List, [], ◌∷◌, ◌++◌, length, map, Option, Some, None, option_to_list, option_map, unwrap_or, refl, sym, ap, ◌∙◌, subst, arith}
-use Rattle.std.specs.List.{AllByRecursion}
+use Rattle.std.proofs.Common.{◌≡◌, ℕ, ◌+◌, ◌*◌, ◌≤◌, inl, inr, false, List, [], ◌∷◌, ◌++◌, length, map, Option, Some, None, option_to_list, option_map, refl, sym, ap, ◌∙◌, subst, arith}
 use Rattle.seg_spec.specs.Pointer.{target}
 use Rattle.seg_spec.specs.Types.{Form, Table, form_at, IsTable, size, fields_of, fields_by}
 use Rattle.seg_spec.specs.Value.{Value, Values}
@@ -12,7 +11,7 @@ use Rattle.seg_spec.specs.Sound.{times}
 use Rattle.seg_spec.specs.Owing.{NamesNothing, IsPart, AreParts, no_parts, more_parts}
 use Rattle.seg_spec.proofs.LiveLaws.{times-same}
 use Rattle.seg_spec.proofs.CellLaws.{IsOne}
-use Rattle.seg_spec.proofs.CellSteps.{each_none, each_i64, one_cell, length_fields}
+use Rattle.seg_spec.proofs.CellSteps.{one_cell, length_fields}
 use Rattle.seg_spec.proofs.CellOwed.{same_form}
 use Rattle.seg_layout.specs.Forms.{has_cells}
 use Rattle.seg_value.specs.Contents.{ContentOf}
@@ -22,7 +21,8 @@ module _ (bytes : List ℕ) (table : Table) where
   nothing_each : (vs : Values) (owned : List ℕ) → HoldsEach bytes table [] vs owned → owned ≡ []
   nothing_each vs owned holds_none = refl
 
-  opened_nothing : (opened : Opened) (places : List Place) (inside : Values) (owned xs : List ℕ) → opened.blocks ≡ [] → opened.parts ≡ places → places ≡ [] → HoldsEach bytes table opened.parts inside owned → xs ≡ opened.blocks ++ owned → xs ≡ []
+  opened_nothing : (opened : Opened) (places : List Place) (inside : Values) (owned xs : List ℕ) → opened.blocks ≡ [] → opened.parts ≡ places → places ≡ [] → HoldsEach bytes table opened.parts inside owned →
+      xs ≡ opened.blocks ++ owned → xs ≡ []
   opened_nothing opened places inside owned xs b p none hs is =
       is ∙ ap (λ bs. bs ++ owned) b ∙ nothing_each inside owned (subst (λ ps. HoldsEach bytes table ps inside owned) (p ∙ none) hs)
 
@@ -115,7 +115,8 @@ module _ (bytes : List ℕ) (table : Table) where
   no_content_by place (Some (Form.map U)) xs valid few f h part = absurd h
   no_content_by place (Some (Form.own U)) xs valid few f h part = absurd h
 
-  pub no_content_owns : (place : Place) (xs : List ℕ) (content : Option Content) → IsTable table → length (fields_of table place.type) ≡ 0 → content ≡ None → ContentOf table place.type (form_at table place.type) content → IsPart bytes table place xs → xs ≡ []
+  pub no_content_owns : (place : Place) (xs : List ℕ) (content : Option Content) → IsTable table → length (fields_of table place.type) ≡ 0 → content ≡ None → ContentOf table place.type (form_at table place.type) content →
+      IsPart bytes table place xs → xs ≡ []
   no_content_owns place xs content valid few none h part = no_content_by place (form_at table place.type) xs valid few refl (subst (λ k. ContentOf table place.type (form_at table place.type) k) none h) part
 
   -- a cell of a type with content that names something holds a value
@@ -147,7 +148,8 @@ module _ (bytes : List ℕ) (table : Table) where
   held_by place (Some (Form.map U)) content p valid f h e n = let z = at_first place (Form.map U) valid f tt n in cc
   held_by place (Some (Form.own U)) content p valid f h e n = let z = at_first place (Form.own U) valid f tt n in cc
 
-  pub held_there : (place : Place) (content : Content) (p : ℕ) (xs : List ℕ) → IsTable table → ContentOf table place.type (form_at table place.type) (Some content) → target bytes place.at ≡ Some p → IsPart bytes table place xs → (v : Value) × Holds bytes table place v xs
+  pub held_there : (place : Place) (content : Content) (p : ℕ) (xs : List ℕ) → IsTable table → ContentOf table place.type (form_at table place.type) (Some content) → target bytes place.at ≡ Some p →
+      IsPart bytes table place xs → (v : Value) × Holds bytes table place v xs
   held_there place content p xs valid h e (inl held) = held
   held_there place content p xs valid h e (inr n) = absurd (held_by place (form_at table place.type) content p valid refl h e n.0)
 
@@ -163,13 +165,15 @@ module _ (bytes : List ℕ) (table : Table) where
       let all : xs ≡ block_of p ∷ owned = is ∙ ap (λ bs. bs ++ owned) (b ∙ ap (λ o. option_to_list (option_map block_of o)) e) in
       subst (λ ys. 1 ≤ times (block_of p) ys) (sym all) (omega (arith, times-same (block_of p) owned))
 
-  pub vector_named : (place : Place) (p U : ℕ) (v : Value) (xs : List ℕ) → form_at table place.type ≡ Some (Form.vec U) → target bytes place.at ≡ Some p → Holds bytes table place v xs → NamedBuffer place.type p (count_at bytes place.at * size table U) xs
+  pub vector_named : (place : Place) (p U : ℕ) (v : Value) (xs : List ℕ) → form_at table place.type ≡ Some (Form.vec U) → target bytes place.at ≡ Some p → Holds bytes table place v xs →
+      NamedBuffer place.type p (count_at bytes place.at * size table U) xs
   vector_named place p U v xs f e (holds form opened inside owned g o hs v_is is) =
       let same = same_form form (Form.vec U) (sym g ∙ f) in
       let o' : Opens bytes table place (Form.vec U) opened = subst (λ h. Opens bytes table place h opened) same o in
       record { block = rw e at o'.named_room; mine = named_mine place.at p opened owned xs e (blocks_of o'.opened_is) is }
 
-  pub flat_map_named : (place : Place) (p U : ℕ) (v : Value) (xs : List ℕ) → form_at table place.type ≡ Some (Form.flat_map U) → target bytes place.at ≡ Some p → Holds bytes table place v xs → NamedBuffer place.type p (count_at bytes place.at * (8 + size table U)) xs
+  pub flat_map_named : (place : Place) (p U : ℕ) (v : Value) (xs : List ℕ) → form_at table place.type ≡ Some (Form.flat_map U) → target bytes place.at ≡ Some p → Holds bytes table place v xs →
+      NamedBuffer place.type p (count_at bytes place.at * (8 + size table U)) xs
   flat_map_named place p U v xs f e (holds form opened inside owned g o hs v_is is) =
       let same = same_form form (Form.flat_map U) (sym g ∙ f) in
       let o' : Opens bytes table place (Form.flat_map U) opened = subst (λ h. Opens bytes table place h opened) same o in

@@ -1,17 +1,17 @@
 -- A block that no longer waits: what goes with it joins what waits.
-use Rattle.std.proofs.Common.{◌≡◌, ℕ, ◌+◌, ◌-◌, ◌*◌, ◌/◌, ◌%◌, ◌<◌, ◌≤◌, ◌⊎◌, inl, inr, ⊎_elim, List, [], ◌∷◌, ◌++◌, length, Option, Some, None, refl, sym, ap, ◌∙◌, subst, arith}
+use Rattle.std.proofs.Common.{◌≡◌, ℕ, ◌+◌, ◌-◌, ◌*◌, ◌/◌, ◌<◌, ◌≤◌, ◌⊎◌, inl, inr, ⊎_elim, List, [], ◌∷◌, ◌++◌, length, Option, Some, None, refl, sym, ap, ◌∙◌, subst, arith}
 use Rattle.std.proofs.lemmas.Bool.{cases_lt}
 use Rattle.std.proofs.Math.Nat.{div-mul-le_self}
 use Rattle.seg_spec.specs.Types.{Form, Table, form_at, IsTable, size}
-use Rattle.seg_spec.specs.Heap.{Span, units_at, tag_at, IsHeap, live, heap_start}
+use Rattle.seg_spec.specs.Heap.{Span, units_at, tag_at, live, heap_start}
 use Rattle.seg_spec.specs.Block as block
 use Rattle.seg_spec.specs.Block.{tag_of, IsBlock, IsInside, block_of, payload_size}
-use Rattle.seg_spec.specs.Reads.{Place, Holds, holds}
+use Rattle.seg_spec.specs.Reads.{Place, holds}
 use Rattle.seg_spec.specs.Sound.{times, SameBlocks, positions}
 use Rattle.seg_spec.specs.Owing.{IsPart, AreParts, no_parts, more_parts, entries_at, OpensBlock, Owes, owes, OwesLinks, no_links}
 use Rattle.seg_spec.specs.Destroying.{AreLive, GoesWith, Pends, Adds}
 use Rattle.seg_spec.proofs.MoreTypes.{below_length}
-use Rattle.seg_spec.proofs.LiveLaws.{times-append, times-same, times-other, live-once, LiesIn, live-lie, there}
+use Rattle.seg_spec.proofs.LiveLaws.{times-append, times-same, live-once, LiesIn, live-lie, there}
 use Rattle.seg_spec.proofs.Destruction.{inside_then, parts_then, adds_twice}
 use Rattle.seg_spec.proofs.PartsOwed.{entries_inside}
 use Rattle.seg_block.specs.Blocks.{IsSized}
@@ -92,7 +92,8 @@ module _ (bytes : List ℕ) (table : Table) (valid : IsTable table) (p : ℕ) wh
           });
         }
 
-    buffer_shows : (T : ℕ) (form : Option Form) → form_at table T ≡ form → OpensBlock bytes table p block.Kind.buffer T form values links → tag_at bytes (block_of p) ≡ tag_of (kind_of k) t → OfBlock table k t (Some content) → Shows content us bs
+    buffer_shows : (T : ℕ) (form : Option Form) → form_at table T ≡ form → OpensBlock bytes table p block.Kind.buffer T form values links → tag_at bytes (block_of p) ≡ tag_of (kind_of k) t →
+        OfBlock table k t (Some content) → Shows content us bs
     buffer_shows T None f o tag of = absurd o
     buffer_shows T (Some Form.i64) f o tag of = absurd o
     buffer_shows T (Some (Form.list U)) f o tag of = absurd o
@@ -143,7 +144,8 @@ module _ (bytes : List ℕ) (table : Table) (valid : IsTable table) (p : ℕ) wh
           });
         }
 
-    node_shows : (T : ℕ) (form : Option Form) → form_at table T ≡ form → OpensBlock bytes table p block.Kind.node T form values links → tag_at bytes (block_of p) ≡ tag_of (kind_of k) t → OfBlock table k t (Some content) → Shows content us bs
+    node_shows : (T : ℕ) (form : Option Form) → form_at table T ≡ form → OpensBlock bytes table p block.Kind.node T form values links → tag_at bytes (block_of p) ≡ tag_of (kind_of k) t → OfBlock table k t (Some content) →
+        Shows content us bs
     node_shows T None f o tag of = absurd o
     node_shows T (Some Form.i64) f o tag of = absurd o
     node_shows T (Some Form.str) f o tag of = absurd o
@@ -339,7 +341,8 @@ module _ (allocator : ℕ) (old mid new : List ℕ) (table here : Table) (same :
 
   module _ (first : Adds allocator old mid table g bs ys) (buffer : (b : Span) → content.shape ≡ shape.Buffer → p ≡ b.at + 16 → IsSized mid b → n ≡ (16 * b.units - 16) / content.entry.size) (one : (content.shape ≡ shape.Buffer → ⊥) → n ≡ 1)
       (text : content.entry.held ≡ held.Bytes → (new ≡ mid) × (k ≡ g))
-      (entries : (home before U : ℕ) (zs : List ℕ) → IsEntryOf here before U content.entry → IsInside mid home p (n * (before + size here U)) → AreParts mid here (entries_at here p before U n) zs → (allocator : ℕ) (ys : List ℕ) → IsTable here →
+      (entries : (home before U : ℕ) (zs : List ℕ) → IsEntryOf here before U content.entry → IsInside mid home p (n * (before + size here U)) → AreParts mid here (entries_at here p before U n) zs →
+      (allocator : ℕ) (ys : List ℕ) → IsTable here →
       Pends allocator mid here g ys → AreLive mid (home ∷ (zs ++ ys)) → Adds allocator mid new here k zs ys) where
     apart : times (block_of p) bs ≡ 0
     apart = let c = counts (block_of p) in let o = times-same (block_of p) [] in let once = live-once old allocator w.heap (block_of p) in omega arith
@@ -355,18 +358,20 @@ module _ (allocator : ℕ) (old mid new : List ℕ) (table here : Table) (same :
 
     entries_added : HasEntries old table valid p content us → Adds allocator old new table k (us ++ bs) ys
     entries_added e =
-        let entries' : (home before U : ℕ) (zs : List ℕ) → IsEntryOf table before U content.entry → IsInside mid home p (n * (before + size table U)) → AreParts mid table (entries_at table p before U n) zs → (allocator : ℕ) (ys : List ℕ) → IsTable table →
-            Pends allocator mid table g ys → AreLive mid (home ∷ (zs ++ ys)) → Adds allocator mid new table k zs ys =
-            subst (λ t. (home before U : ℕ) (zs : List ℕ) → IsEntryOf t before U content.entry → IsInside mid home p (n * (before + size t U)) → AreParts mid t (entries_at t p before U n) zs → (allocator : ℕ) (ys : List ℕ) → IsTable t →
-            Pends allocator mid t g ys → AreLive mid (home ∷ (zs ++ ys)) → Adds allocator mid new t k zs ys) same entries in
+        let entries' : (home before U : ℕ) (zs : List ℕ) → IsEntryOf table before U content.entry → IsInside mid home p (n * (before + size table U)) → AreParts mid table (entries_at table p before U n) zs →
+        (allocator : ℕ) (ys : List ℕ) → IsTable table →
+        Pends allocator mid table g ys → AreLive mid (home ∷ (zs ++ ys)) → Adds allocator mid new table k zs ys =
+        subst (λ t. (home before U : ℕ) (zs : List ℕ) → IsEntryOf t before U content.entry → IsInside mid home p (n * (before + size t U)) → AreParts mid t (entries_at t p before U n) zs → (allocator : ℕ) (ys : List ℕ) → IsTable t →
+        Pends allocator mid t g ys → AreLive mid (home ∷ (zs ++ ys)) → Adds allocator mid new t k zs ys) same entries in
         let n_is : n ≡ e.n = ⊎_elim
-            (λ b. buffer (record { at = block_of p; units = units_at mid (block_of p) }) b.0 (let low = s.low in omega arith) (let l = lies_mid in record { aligned = l.aligned; large = l.size; inside = l.high; size_is = refl })
-            ∙ ap (λ m. payload_size mid (block_of p) / m) e.entry_is.size_is ∙ ap (λ m. m / (e.before + size table e.U)) kept.whole.size_kept ∙ sym b.1)
-            (λ o. one o.0 ∙ sym o.1) e.count in
+        (λ b. buffer (record { at = block_of p; units = units_at mid (block_of p) }) b.0 (let low = s.low in omega arith) (let l = lies_mid in record { aligned = l.aligned; large = l.size; inside = l.high; size_is = refl })
+        ∙ ap (λ m. payload_size mid (block_of p) / m) e.entry_is.size_is ∙ ap (λ m. m / (e.before + size table e.U)) kept.whole.size_kept ∙ sym b.1)
+        (λ o. one o.0 ∙ sym o.1) e.count in
         let inside_old : IsInside old (block_of p) p (e.n * (e.before + size table e.U)) = let low = s.low in let room = e.fits in let l = lies.size in record { low = omega arith; high = omega arith } in
         let inside_mid = inside_then old mid (block_of p) p (e.n * (e.before + size table e.U)) lies.size inside_old kept in
         let disjoint : AreLive old (bs ++ us) = λ h. let c = counts h in let a = times-append h bs us in omega arith in
-        let parts_mid = parts_then allocator old mid table valid w.heap (block_of p) bs first.keeps home_live apart (entries_at table p e.before e.U e.n) us (entries_inside old table (block_of p) p e.before e.U e.n inside_old) disjoint e.parts in
+        let parts_mid = parts_then allocator old mid table valid w.heap (block_of p) bs first.keeps home_live apart (entries_at table p e.before e.U e.n) us (entries_inside old table
+        (block_of p) p e.before e.U e.n inside_old) disjoint e.parts in
         let fits_mid : AreLive mid (block_of p ∷ (us ++ (bs ++ ys))) = λ h. let c = counts h in let l = live_same h in let a = times-append h us (bs ++ ys) in let b = times-append h bs ys in omega arith in
         let second = entries' (block_of p) e.before e.U us e.entry_is (rw n_is inside_mid) (rw n_is parts_mid) allocator (bs ++ ys) valid first.pends fits_mid in
         adds_twice allocator old mid new table g k bs us ys (us ++ bs) first second (λ h. refl)

@@ -1,11 +1,10 @@
 -- The entries of a buffer after the used ones hold defaults.
-use Rattle.std.proofs.Common.{◌≡◌, ℕ, ◌+◌, ◌-◌, ◌*◌, ◌/◌, ◌%◌, ◌^◌, ◌<◌, ◌≤◌, false, List, [], ◌∷◌, length, map, Option, Some, None, refl, sym, ap, ◌∙◌, subst, arith}
+use Rattle.std.proofs.Common.{◌≡◌, ℕ, ◌+◌, ◌-◌, ◌*◌, ◌/◌, ◌%◌, ◌^◌, ◌<◌, ◌≤◌, false, List, [], ◌∷◌, length, map, Option, Some, None, refl, ap, ◌∙◌, subst, arith}
 use Rattle.std.specs.List.{AllByRecursion}
-use Rattle.std.proofs.Math.Nat.{div-mul-le_self, mul-le-mul_right}
+use Rattle.std.proofs.Math.Nat.{div-mul-le_self}
 use Rattle.std.proofs.lemmas.Nat.{le-div}
-use Rattle.seg_spec.specs.Bytes.{ChangesOnly}
 use Rattle.seg_spec.specs.Types.{Form, Table, form_at, IsTable, size}
-use Rattle.seg_spec.specs.Heap.{Span, units_at, IsHeap, live, heap_start}
+use Rattle.seg_spec.specs.Heap.{units_at, IsHeap, live, heap_start}
 use Rattle.seg_spec.specs.Block.{block_of, payload_size}
 use Rattle.seg_spec.specs.Reads.{spaced}
 use Rattle.seg_spec.specs.Cells.{IsWithin, EachCell, ChangesEach, ChangesCells, IsDefaulted}
@@ -15,7 +14,7 @@ use Rattle.seg_spec.specs.Destroying.{DefaultsRest}
 use Rattle.seg_spec.proofs.TypesLaws.{size_large}
 use Rattle.seg_spec.proofs.Frame.{each_weaker}
 use Rattle.seg_spec.proofs.LiveLaws.{there, LiesIn, live-lie}
-use Rattle.seg_spec.proofs.CellSteps.{each_none, each_i64, each_cell_weaker, ChangesOnly-none, ChangesOnly-wider, defaulted_local, no_entries, next_entry, entry_position, entry_within}
+use Rattle.seg_spec.proofs.CellSteps.{each_none, each_i64, each_cell_weaker, ChangesOnly-none, ChangesOnly-wider, defaulted_local, next_entry, entry_position, entry_within}
 use Rattle.seg_block.specs.Blocks.{IsSized}
 use Rattle.seg_layout.specs.Forms.{has_cells}
 
@@ -71,7 +70,8 @@ module _ (table : Table) (valid : IsTable table) (U : ℕ) where
         let all = div-mul-le_self (payload_size old (block_of p)) (before + size table U) in
         let some = le-div used (payload_size old (block_of p)) (before + size table U) (omega arith) fits in
         let back : payload_size old (block_of p) / (before + size table U) - used + used ≡ payload_size old (block_of p) / (before + size table U) = omega arith in
-        let sum : (payload_size old (block_of p) / (before + size table U) - used) * (before + size table U) + used * (before + size table U) ≡ (payload_size old (block_of p) / (before + size table U) - used + used) * (before + size table U) = grind arith in
+        let sum : (payload_size old (block_of p) / (before + size table U) - used) * (before + size table U) + used * (before + size table U) ≡ (payload_size old (block_of p) / (before + size table U) - used + used) *
+        (before + size table U) = grind arith in
         rw (sum, back) all
 
     pub rest_within : IsWithin old (p + used * (before + size table U)) ((payload_size old (block_of p) / (before + size table U) - used) * (before + size table U))
@@ -90,7 +90,8 @@ module _ (table : Table) (valid : IsTable table) (U : ℕ) where
         (λ q a. each_cell_weaker table valid (λ d form. IsDefaulted old new (q + d) form) (λ d form. NamesNothing new (q + d) form) U (λ d form room even h. defaulted_nothing old new (q + d) form h) a)
         (map (λ q. q + before) (spaced (p + used * (before + size table U)) (before + size table U) n)) k.cells in
         record {
-          changes = ChangesOnly-wider old new (p + used * (before + size table U)) (n * (before + size table U)) (p + used * (before + size table U)) (payload_size old (block_of p) - used * (before + size table U)) (omega arith) (omega arith) k.changes;
+          changes = ChangesOnly-wider old new (p + used * (before + size table U)) (n * (before + size table U)) (p + used * (before + size table U)) (payload_size old (block_of p) - used * (before + size table U))
+              (omega arith) (omega arith) k.changes;
           nothing = rw n_is at cells;
         }
 
@@ -104,7 +105,8 @@ module _ (table : Table) (valid : IsTable table) (U : ℕ) where
       let position = entry_position IsDefaulted defaulted_local table valid U before (before + size table U) le old from n i less within in
       let room = entry_within IsDefaulted defaulted_local table valid U before (before + size table U) le old now from n i (i * (before + size table U)) (map (λ q. q + before) (spaced from (before + size table U) i)) less within k in
       let there_is : at ≡ (from + i * (before + size table U) + before) % 2 ^ 32 = at_is ∙ ap (λ m. (from + i * m + b) % 2 ^ 32) size_is ∙ ap (λ m. (from + i * (before + size table U) + m) % 2 ^ 32) before_is in
-      let step' : IsWithin now at (size table U) → ChangesCells IsDefaulted now new table at U = subst (λ V. IsWithin now at (size table V) → ChangesCells IsDefaulted now new table at V) type_is (subst (λ t. IsWithin now at (size t T) → ChangesCells IsDefaulted now new t at T) here_is step) in
+      let step' : IsWithin now at (size table U) → ChangesCells IsDefaulted now new table at U = subst (λ V. IsWithin now at (size table V) →
+      ChangesCells IsDefaulted now new table at V) type_is (subst (λ t. IsWithin now at (size t T) → ChangesCells IsDefaulted now new t at T) here_is step) in
       let changed = step' (rw there_is room) in
       let changed' = rw (there_is ∙ position) at changed in
       next_entry IsDefaulted defaulted_local table valid U before (before + size table U) le old now new from i k changed'

@@ -5,16 +5,15 @@ use Rattle.seg_spec.specs.Bytes.{word, set_word, ChangesOnly}
 use Rattle.seg_spec.specs.Pointer.{target, distance, set_pointer}
 use Rattle.seg_spec.specs.Types.{Form, Table, form_at, IsTable, size}
 use Rattle.seg_spec.specs.Value.{Label, Value, Values, nil, cons, Empty, Full, node}
-use Rattle.seg_spec.specs.Heap.{Span, units_at, IsHeap, live, heap_start}
+use Rattle.seg_spec.specs.Heap.{units_at, IsHeap, live, heap_start}
 use Rattle.seg_spec.specs.Block.{Kind, tag_of, IsBlock, KeepsBlock, IsInside, IsOwnable, block_of, payload_size}
 use Rattle.seg_spec.specs.Reads.{Place, Opened, count_at, named, start, items, OpensOwn, Opens, Holds, holds, HoldsEach, holds_none, holds_more}
-use Rattle.seg_spec.specs.Apart.{Separate, KeepsBlockAround}
+use Rattle.seg_spec.specs.Apart.{Separate}
 use Rattle.seg_spec.specs.Calls.{IsLoose}
 use Rattle.seg_spec.specs.Sound.{times, positions}
 use Rattle.seg_spec.specs.Roots.{ChangesPlace}
 use Rattle.seg_spec.specs.Owning.{Stands}
 use Rattle.seg_spec.specs.Demand.{after_gives}
-use Rattle.seg_spec.specs.Owing.{KeepsLinked}
 use Rattle.seg_spec.specs.Destroying.{AreLive, Frees}
 use Rattle.seg_spec.proofs.TypesLaws.{size-form}
 use Rattle.seg_spec.proofs.SliceLaws.{IsSame-part}
@@ -155,7 +154,7 @@ module _ (allocator : ℕ) (old : List ℕ) (table : Table) (own : Place) (U : �
       ((U : ℕ) (v : Value) (inside : List ℕ) → IsTable here → IsHeap allocator mid → IsLoose mid here (record { at = held; type = U }) v inside → Frees allocator mid after (block_of held ∷ inside)) → IsEmptied after
   taken_emptied mid after here same u result held result_is t frees =
       let frees' : (U : ℕ) (v : Value) (inside : List ℕ) → IsTable table → IsHeap allocator mid → IsLoose mid table (record { at = held; type = U }) v inside → Frees allocator mid after (block_of held ∷ inside) =
-          subst (λ k. (U : ℕ) (v : Value) (inside : List ℕ) → IsTable k → IsHeap allocator mid → IsLoose mid k (record { at = held; type = U }) v inside → Frees allocator mid after (block_of held ∷ inside)) same frees in
+      subst (λ k. (U : ℕ) (v : Value) (inside : List ℕ) → IsTable k → IsHeap allocator mid → IsLoose mid k (record { at = held; type = U }) v inside → Frees allocator mid after (block_of held ∷ inside)) same frees in
       let both : Some t.object ≡ Some held = sym t.result_is ∙ result_is in
       let is : t.object ≡ held = cc in
       let loose : IsLoose mid table (record { at = held; type = U }) u t.inside = subst (λ p. IsLoose mid table (record { at = p; type = U }) u t.inside) is t.loose in

@@ -1,10 +1,9 @@
 -- One turn of destruction, and what it needs of an object that nothing holds.
-use Rattle.std.proofs.Common.{◌≡◌, ℕ, ◌+◌, ◌*◌, ◌≤◌, inl, List, [], ◌∷◌, ◌++◌, length, Option, Some, None, refl, sym, ap, ◌∙◌, subst, arith}
+use Rattle.std.proofs.Common.{◌≡◌, ℕ, ◌+◌, ◌≤◌, inl, List, [], ◌∷◌, ◌++◌, Option, None, refl, sym, ap, ◌∙◌, subst, arith}
 use Rattle.seg_spec.specs.Types.{Table, IsTable}
 use Rattle.seg_spec.specs.Value.{Value}
 use Rattle.seg_spec.specs.Heap.{IsHeap, live, IsLive, Gives}
 use Rattle.seg_spec.specs.Block.{Kind, block_of}
-use Rattle.seg_spec.specs.Reads.{Place}
 use Rattle.seg_spec.specs.Calls.{IsLoose}
 use Rattle.seg_spec.specs.Demand.{after_gives}
 use Rattle.seg_spec.specs.Sound.{times, SameBlocks, positions}
@@ -20,14 +19,17 @@ is_live bytes at some =
     let f = found at (live bytes) some in
     subst (λ a. IsLive bytes a) f.at_is (f.block.units, f.among)
 
-pub turned : (allocator : ℕ) (old now opened new : List ℕ) (table here : Table) → here ≡ table → (valid : IsTable table) (first next after : Option ℕ) (p : ℕ) (blocks : List ℕ) (turns : ℕ) → (owned : AreLive old blocks) → HasFreed allocator old now table first blocks turns →
+pub turned : (allocator : ℕ) (old now opened new : List ℕ) (table here : Table) → here ≡ table → (valid : IsTable table) (first next after : Option ℕ) (p : ℕ) (blocks : List ℕ) (turns : ℕ) → (owned : AreLive old blocks) →
+    HasFreed allocator old now table first blocks turns →
     ((left : List ℕ) → Pends allocator now here first left → Pops allocator now here p next left) →
     ((xs : List ℕ) → GoesWith now here p xs → (ys : List ℕ) → IsTable here → Pends allocator now here next ys → AreLive now (xs ++ ys) → (rest : List ℕ) × SameBlocks xs (block_of p ∷ rest) × Adds allocator now opened here after rest ys) →
     (IsHeap allocator opened → IsLive opened (block_of p) → Gives allocator opened new (block_of p)) → HasFreed allocator old new table after blocks (turns + 1)
 turned allocator old now opened new table here same valid first next after p blocks turns owned f pops opens gives =
     let pops' : (left : List ℕ) → Pends allocator now table first left → Pops allocator now table p next left = subst (λ t. (left : List ℕ) → Pends allocator now t first left → Pops allocator now t p next left) same pops in
-    let opens' : (xs : List ℕ) → GoesWith now table p xs → (ys : List ℕ) → IsTable table → Pends allocator now table next ys → AreLive now (xs ++ ys) → (rest : List ℕ) × SameBlocks xs (block_of p ∷ rest) × Adds allocator now opened table after rest ys =
-        subst (λ t. (xs : List ℕ) → GoesWith now t p xs → (ys : List ℕ) → IsTable t → Pends allocator now t next ys → AreLive now (xs ++ ys) → (rest : List ℕ) × SameBlocks xs (block_of p ∷ rest) × Adds allocator now opened t after rest ys) same opens in
+    let opens' : (xs : List ℕ) → GoesWith now table p xs → (ys : List ℕ) → IsTable table → Pends allocator now table next ys → AreLive now (xs ++ ys) →
+    (rest : List ℕ) × SameBlocks xs (block_of p ∷ rest) × Adds allocator now opened table after rest ys =
+    subst (λ t. (xs : List ℕ) → GoesWith now t p xs → (ys : List ℕ) → IsTable t → Pends allocator now t next ys → AreLive now (xs ++ ys) →
+    (rest : List ℕ) × SameBlocks xs (block_of p ∷ rest) × Adds allocator now opened t after rest ys) same opens in
     let pop = pops' f.left f.pends in
     let fits = pop_live allocator old now table valid first blocks turns owned f p next pop in
     let o = opens' pop.its pop.goes pop.others valid pop.pends fits in
@@ -71,7 +73,7 @@ destroyed allocator old mid new table here same valid none first is_none object 
     let fits : AreLive old ((block_of object ∷ inside) ++ []) = λ h. let o = loose.owned h in let n = times-append h (block_of object ∷ inside) [] in omega arith in
     let a = push (block_of object ∷ inside) (loose_goes old table object U v inside loose) allocator [] valid (none_pending allocator old table none is_none heap) fits in
     let destroy' : (blocks : List ℕ) → IsTable table → Pends allocator mid table first blocks → AreLive mid blocks → Frees allocator mid new blocks =
-        subst (λ t. (blocks : List ℕ) → IsTable t → Pends allocator mid t first blocks → AreLive mid blocks → Frees allocator mid new blocks) same destroy in
+    subst (λ t. (blocks : List ℕ) → IsTable t → Pends allocator mid t first blocks → AreLive mid blocks → Frees allocator mid new blocks) same destroy in
     let waiting = pends_same allocator mid table first ((block_of object ∷ inside) ++ []) (block_of object ∷ inside) (λ h. let n = times-append h (block_of object ∷ inside) [] in omega arith) a.pends in
     let live_there : AreLive mid (block_of object ∷ inside) = λ h. let o = loose.owned h in let l : times h (positions (live mid)) ≡ times h (positions (live old)) = ap (λ bs. times h (positions bs)) a.keeps.live_kept in omega arith in
     added_frees allocator old mid new table first (block_of object ∷ inside) [] a (destroy' (block_of object ∷ inside) valid waiting live_there)

@@ -1,5 +1,5 @@
 -- What a cell names shows by itself what goes with it, by the form of its type.
-use Rattle.std.proofs.Common.{◌≡◌, ℕ, ◌+◌, ◌*◌, ◌≤◌, ◌⊎◌, inl, inr, List, [], ◌∷◌, length, Option, Some, None, refl, sym, ap, ◌∙◌, subst, arith}
+use Rattle.std.proofs.Common.{◌≡◌, ℕ, ◌+◌, ◌*◌, ◌≤◌, ◌⊎◌, inl, inr, List, Option, Some, None, refl, sym, subst, arith}
 use Rattle.seg_spec.specs.Pointer.{target, set_pointer}
 use Rattle.seg_spec.specs.Types.{Form, Table, form_at, IsTable, size}
 use Rattle.seg_spec.specs.Value.{Value}
@@ -10,13 +10,12 @@ use Rattle.seg_spec.specs.Sound.{times, positions}
 use Rattle.seg_spec.specs.Destroying.{AreLive, GoesWith, DefaultsRest, Uncouples}
 use Rattle.seg_spec.proofs.Destruction.{others_none}
 use Rattle.seg_spec.proofs.CellOwed.{own_goes, tree_goes, text_goes, vector_goes, flat_map_goes}
-use Rattle.seg_spec.proofs.RingOwed.{ListGoes, list_goes}
+use Rattle.seg_spec.proofs.RingOwed.{list_goes}
 use Rattle.seg_value.specs.Contents.{IsEntryOf, ContentOf}
 use Rattle.seg_value.specs.declared.content.Content.{Content}
-use Rattle.seg_value.specs.declared.content.Shape.{Shape}
 use Rattle.seg_value.specs.declared.content.Shape.TheVariants as shape
 use Rattle.seg_value.specs.declared.entry.Held.TheVariants as held
-use Rattle.seg_value.proofs.Nulls.{NamedBuffer, vector_named, flat_map_named}
+use Rattle.seg_value.proofs.Nulls.{vector_named, flat_map_named}
 
 module _ (allocator : ℕ) (old : List ℕ) (table : Table) (valid : IsTable table) (heap : IsHeap allocator old) (place : Place) (p : ℕ) (e : target old place.at ≡ Some p) (v : Value) (xs : List ℕ) (fits : AreLive old xs)
     (h : Holds old table place v xs) (content : Content) where
@@ -62,7 +61,8 @@ module _ (allocator : ℕ) (old : List ℕ) (table : Table) (valid : IsTable tab
   ring new k s opened = ring_by new (form_at table place.type) refl k s opened
 
   -- a buffer, the rest of which holds defaults
-  buffer_by : (new : List ℕ) (used : ℕ) (o : Option Form) → form_at table place.type ≡ o → ContentOf table place.type o (Some content) → content.shape ≡ shape.Buffer → used ≡ count_at old place.at → (content.entry.held ≡ held.Bytes → new ≡ old) →
+  buffer_by : (new : List ℕ) (used : ℕ) (o : Option Form) → form_at table place.type ≡ o → ContentOf table place.type o (Some content) → content.shape ≡ shape.Buffer → used ≡ count_at old place.at →
+      (content.entry.held ≡ held.Bytes → new ≡ old) →
       ((before U : ℕ) → IsEntryOf table before U content.entry → 16 ≤ p → 1 ≤ times (block_of p) (positions (live old)) → used * (before + size table U) ≤ payload_size old (block_of p) → DefaultsRest old new table p before U used) →
       Uncouples allocator old new table p xs
   buffer_by new used None f k s count text rest = absurd k

@@ -126,12 +126,7 @@ impl Pending {
     }
 
     /// Adds the nodes that the pointers of a node name. Other blocks have none.
-    fn add_links<F: Fit, A: Allocator>(
-        &mut self,
-        heap: &mut Heap<F, A>,
-        shape: Shape,
-        payload: u32,
-    )
+    fn add_links<F: Fit, A: Allocator>(&mut self, heap: &mut Heap<F, A>, shape: Shape, payload: u32)
         ensures window { heap.new.window ≡ with_bytes heap.old.window heap.new.window.bytes }
         ensures types { heap.new.types ≡ heap.old.types }
         ensures added { (home : ℕ) (xs : List ℕ) →
@@ -257,7 +252,8 @@ impl<F: Fit, A: Allocator> Heap<F, A> {
             target self.old.window.bytes cell ≡ Some payload →
             Holds self.old.window.bytes self.old.types (object_at cell T) v xs →
             AreLive self.old.window.bytes xs →
-            Uncouples allocator self.old.window.bytes self.new.window.bytes self.old.types payload xs }
+            Uncouples allocator self.old.window.bytes self.new.window.bytes self.old.types
+            payload xs }
     {
         match content.shape {
             Shape::Buffer => {

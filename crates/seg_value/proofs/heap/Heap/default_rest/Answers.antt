@@ -1,9 +1,9 @@
-use Rattle.std.proofs.Common.{◌≡◌, ◌+◌, ◌-◌, ◌*◌, ◌/◌, ◌%◌, ◌^◌, Some, None, true, false, refl, sym, ap, ◌∙◌, subst, arith}
+use Rattle.std.proofs.Common.{◌≡◌, ◌+◌, ◌-◌, ◌*◌, ◌/◌, ◌%◌, ◌^◌, Some, refl, sym, ap, ◌∙◌, arith}
 use Rattle.seg_spec.specs.Types.{size}
 use Rattle.seg_spec.specs.Heap.{units_at}
 use Rattle.seg_spec.specs.Block.{block_of, payload_size}
 use Rattle.seg_spec.specs.Cells.{IsWithin, IsDefaulted}
-use Rattle.seg_spec.specs.Window.{Placement, with_bytes}
+use Rattle.seg_spec.specs.Window.{with_bytes}
 use Rattle.seg_spec.proofs.CellSteps.{defaulted_local, no_entries}
 use Rattle.seg_value.specs.declared.place.Place.{Place}
 use Rattle.seg_value.specs.Stored.{Stored}
@@ -65,8 +65,8 @@ returns-clause-rest g c = λ allocator before U valid is heap low here fits.
     let p = c.args.start in
     let size_is = is.size_is in
     let room : c.capacity.result ≡ payload_size old (block_of p) / (before + size table U) =
-        c.capacity.ensures (record { at = block_of p; units = units_at old (block_of p) }) (omega arith) (sized table valid U allocator old p before c.args.used heap low here fits)
-        ∙ ap (λ m. payload_size old (block_of p) / m) size_is in
+    c.capacity.ensures (record { at = block_of p; units = units_at old (block_of p) }) (omega arith) (sized table valid U allocator old p before c.args.used heap low here fits)
+    ∙ ap (λ m. payload_size old (block_of p) / m) size_is in
     let n_is : c.saturating_sub-rest.result ≡ payload_size old (block_of p) / (before + size table U) - c.args.used = c.saturating_sub-rest.ensures ∙ ap (λ m. m - c.args.used) room in
     let from_is : c.at-from.result ≡ p + c.args.used * (before + size table U) = c.at-from.ensures ∙ ap (λ m. (p + c.args.used * m) % 2 ^ 32) size_is ∙ rest_from table valid U allocator old p before c.args.used heap low here fits in
     let within : IsWithin old c.at-from.result (c.saturating_sub-rest.result * (before + size table U)) = rw (from_is, n_is) (rest_within table valid U allocator old p before c.args.used heap low here fits) in

@@ -1,4 +1,4 @@
-use Rattle.std.proofs.Common.{◌≡◌, ap, ◌∙◌, subst}
+use Rattle.std.proofs.Common.{◌≡◌, ap}
 use Rattle.seg_spec.specs.Window.{Placement}
 use Rattle.seg_value.specs.Places.{object_at}
 use Rattle.seg_value.proofs.Uncoupling.{single, ring, buffer}

@@ -1,10 +1,10 @@
-use Rattle.std.proofs.Common.{◌≡◌, ℕ, ◌++◌, ◌∷◌, [], List, drop, Some, None, refl, sym, ap, ◌∙◌, subst, arith, length}
+use Rattle.std.proofs.Common.{◌≡◌, ◌++◌, Some, None, refl, sym, ap, ◌∙◌, subst, arith, length}
 use Rattle.std.specs.Prelude.{slice_get, false}
 use Rattle.seg_spec.specs.Types.{form_at, fields_of}
 use Rattle.seg_spec.specs.Window.{with_bytes}
 use Rattle.seg_spec.specs.Reads.{fields}
 use Rattle.seg_spec.proofs.Destruction.{same_adds}
-use Rattle.seg_spec.proofs.PartsOwed.{Joined, struct_parts, fields_inside, none_joined, all_joined}
+use Rattle.seg_spec.proofs.PartsOwed.{struct_parts, fields_inside, none_joined}
 use Rattle.seg_layout.specs.Forms.{map_option, cell_of, has_cells}
 use Rattle.seg_value.specs.Places.{place_of}
 use Rattle.seg_value.specs.Stored.{Stored}
@@ -40,7 +40,7 @@ loop-index-preserved g t c = elim c.match-field.branch [
         let field = w.in-Some.field in
         let same : c.types-in-loop-index.result.now ≡ heap.types = c.types-in-loop-index.ensures ∙ c.loop-index.invariant.types in
         let e : slice_get (fields_of heap.types T) c.loop-index.index ≡ Some (record { from = field.from; type = field.type_id }) =
-            subst (λ t. slice_get (fields_of t T) c.loop-index.index ≡ Some (record { from = field.from; type = field.type_id })) same (c.field.ensures.field ∙ ap (map_option cell_of) w.in-Some.is) in
+        subst (λ t. slice_get (fields_of t T) c.loop-index.index ≡ Some (record { from = field.from; type = field.type_id })) same (c.field.ensures.field ∙ ap (map_option cell_of) w.in-Some.is) in
         let j = c.loop-index.invariant.added home xs Us inside part f allocator ys valid p fits in
         let r = next_field_joined allocator heap.window.bytes c.loop-index.heap.window.bytes heap.types valid home c.args.place.at c.loop-index.index T xs ys Us f fits c.loop-index.self.first j
         w.add_value.new.heap.window.bytes c.loop-index.heap.types w.add_value.new.self.first field.from field.type_id w.part.result.at w.part.result.type_id e c.loop-index.invariant.types w.part.ensures.at w.part.ensures.type_id
@@ -55,7 +55,7 @@ loop-index-preserved g t c = elim c.match-field.branch [
         let T = c.args.place.type_id in
         let same : c.types-in-loop-index.result.now ≡ heap.types = c.types-in-loop-index.ensures ∙ c.loop-index.invariant.types in
         let e : slice_get (fields_of heap.types T) c.loop-index.index ≡ None =
-            subst (λ t. slice_get (fields_of t T) c.loop-index.index ≡ None) same (c.field.ensures.field ∙ ap (map_option cell_of) w.in_default.is) in
+        subst (λ t. slice_get (fields_of t T) c.loop-index.index ≡ None) same (c.field.ensures.field ∙ ap (map_option cell_of) w.in_default.is) in
         let j = c.loop-index.invariant.added home xs Us inside part f allocator ys valid p fits in
         let r = past_fields_joined allocator heap.window.bytes c.loop-index.heap.window.bytes heap.types valid home c.args.place.at c.loop-index.index T xs ys Us f fits c.loop-index.self.first j e in
         rw (bytes_in c.match-field.heap c.loop-index.heap w.heap-is, w.self-is) r;
@@ -66,14 +66,14 @@ pub returns-then-not-has_pointers-clause-added : goal.returns-then-not-has_point
 returns-then-not-has_pointers-clause-added g t c = λ home xs inside part allocator ys valid w fits.
     let heap = c.args.heap.now in
     let none : has_cells (form_at heap.types c.args.place.type_id) ≡ false =
-        subst (λ t. has_cells (form_at t c.args.place.type_id) ≡ false) c.types.ensures (c.has_pointers.ensures.cells ∙ c.if-not-has_pointers.true) in
+    subst (λ t. has_cells (form_at t c.args.place.type_id) ≡ false) c.types.ensures (c.has_pointers.ensures.cells ∙ c.if-not-has_pointers.true) in
     same_adds allocator heap.window.bytes heap.types c.args.self.now.first xs ys (no_cells_own heap.window.bytes heap.types (place_of c.args.place) xs none part) w
 
 pub returns-then-fields-eq0-clause-added : goal.returns-then-fields-eq0-clause-added
 returns-then-fields-eq0-clause-added g t c = λ home xs inside part allocator ys valid w fits.
     let heap = c.args.heap.now in
     let few : length (fields_of heap.types c.args.place.type_id) ≡ 0 =
-        subst (λ t. length (fields_of t c.args.place.type_id) ≡ 0) c.types-2.ensures (sym c.field_count-fields.ensures.count ∙ c.if-fields-eq0.true) in
+    subst (λ t. length (fields_of t c.args.place.type_id) ≡ 0) c.types-2.ensures (sym c.field_count-fields.ensures.count ∙ c.if-fields-eq0.true) in
     c.add_cell.ensures.added xs few part allocator ys valid w (without_home heap.window.bytes home (xs ++ ys) fits)
 
 pub returns-clause-added : goal.returns-clause-added

@@ -1,10 +1,10 @@
-use Rattle.std.proofs.Common.{◌≡◌, ℕ, ◌+◌, ◌-◌, ◌*◌, ◌%◌, ◌^◌, ◌++◌, ◌∷◌, Some, None, map, refl, sym, ap, ◌∙◌, subst, arith}
+use Rattle.std.proofs.Common.{◌≡◌, ◌+◌, ◌*◌, ◌%◌, ◌^◌, Some, map, refl, sym, ap, ◌∙◌}
 use Rattle.seg_spec.specs.Types.{size}
 use Rattle.seg_spec.specs.Reads.{spaced}
-use Rattle.seg_spec.specs.Owing.{AreParts, entries_at}
+use Rattle.seg_spec.specs.Owing.{entries_at}
 use Rattle.seg_spec.specs.Window.{with_bytes}
 use Rattle.seg_spec.proofs.Destruction.{same_adds}
-use Rattle.seg_spec.proofs.PartsOwed.{Joined, entries_inside, none_joined}
+use Rattle.seg_spec.proofs.PartsOwed.{entries_inside, none_joined}
 use Rattle.seg_value.specs.declared.place.Place.{Place}
 use Rattle.seg_value.specs.Stored.{Stored}
 use Rattle.seg_value.proofs.Nulls.{no_cells_parts}

@@ -1,4 +1,4 @@
-use Rattle.std.proofs.Common.{◌≡◌, ℕ, ◌+◌, ◌-◌, ◌*◌, List, [], ◌∷◌, ◌++◌}
+use Rattle.std.proofs.Common.{◌≡◌, ℕ, ◌+◌, ◌-◌, ◌*◌, List, ◌∷◌, ◌++◌}
 use Rattle.seg_spec.specs.Window.{with_bytes}
 use Rattle.seg_spec.specs.Types.{IsTable, size}
 use Rattle.seg_spec.specs.Block.{IsInside}

@@ -1,4 +1,4 @@
-use Rattle.std.proofs.Common.{◌++◌, ◌∷◌, [], refl}
+use Rattle.std.proofs.Common.{◌++◌, refl}
 use Rattle.seg_value.proofs.Links.{without_home, two_links}
 use Rattle.seg_value.proofs.pending.Pending.add_links.Goals as goal
 

@@ -1,4 +1,4 @@
-use Rattle.std.proofs.Common.{◌≡◌, ◌+◌, ◌*◌, ◌<◌, refl, sym, ap, ◌∙◌, arith, length}
+use Rattle.std.proofs.Common.{◌≡◌, refl, ap, ◌∙◌, arith, length}
 use Rattle.seg_spec.specs.Window.{Placement, with_bytes}
 use Rattle.seg_spec.proofs.Destruction.{none_freed, all_freed, enough_turns}
 use Rattle.seg_value.proofs.Turns.{turned}

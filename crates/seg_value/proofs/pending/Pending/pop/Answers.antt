@@ -1,4 +1,4 @@
-use Rattle.std.proofs.Common.{◌≡◌, Some, ap, ◌∙◌, subst}
+use Rattle.std.proofs.Common.{◌≡◌, ap, ◌∙◌, subst}
 use Rattle.seg_spec.specs.Heap.{link_at}
 use Rattle.seg_spec.specs.Block.{block_of}
 use Rattle.seg_spec.specs.Destroying.{Pends}
@@ -11,5 +11,5 @@ returns-clause-popped g c = λ allocator blocks w.
     let heap = c.args.heap.now in
     let p = c.in_ok-payload.payload in
     let next : c.link-self.result ≡ link_at heap.window.bytes (block_of p) =
-        c.link-self.ensures ∙ ap (link_at c.window.result.now.bytes) c.block_of.ensures ∙ ap (λ (r : Placement). link_at r.bytes (block_of p)) c.window.ensures in
+    c.link-self.ensures ∙ ap (link_at c.window.result.now.bytes) c.block_of.ensures ∙ ap (λ (r : Placement). link_at r.bytes (block_of p)) c.window.ensures in
     rw next (pops allocator heap.window.bytes heap.types p blocks (subst (λ f. Pends allocator heap.window.bytes heap.types f blocks) c.in_ok-payload.was w))
