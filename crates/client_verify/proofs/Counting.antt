@@ -8,14 +8,11 @@ use Rattle.client_verify.specs.Passing.{at_most}
 capped_sum : (most x y : ℕ) → min (min x most + y) most ≡ min (x + y) most
 capped_sum most x y = omega arith
 
+capped_parts : (most n a b : ℕ) → min (min (n + 1) most + max (min (0 + b) most) (min (0 + a) most)) most ≡ min (n + (1 + max a b)) most
+capped_parts most n a b = omega arith
+
 capped_body : (most n b : ℕ) → min (min (n + 1) most + min b most) most ≡ min (n + (1 + b)) most
 capped_body most n b = omega arith
-
-capped_larger : (most a b : ℕ) → max (min (0 + b) most) (min (0 + a) most) ≡ min (max a b) most
-capped_larger most a b = omega arith
-
-capped_parts : (most n a b : ℕ) → min (min (n + 1) most + max (min (0 + b) most) (min (0 + a) most)) most ≡ min (n + (1 + max a b)) most
-capped_parts most n a b = ap (λ m. min (min (n + 1) most + m) most) (capped_larger most a b) ∙ capped_body most n (max a b)
 
 capped_turn : (most b : ℕ) → min (min (0 + b) most + 1) most ≡ min (1 + b) most
 capped_turn most b = omega arith
