@@ -56,6 +56,11 @@ gate() {
   printf '\nThe gate ended with status %s after %s minutes on %s processors.\n' "$status" "$(((SECONDS - start) / 60))" "$(nproc)"
 }
 
+# Whether a crate of the clone stands on this one.
+is_below_another() {
+  grep -q "^[^#]*:.* $1\( \|\$\)" "$room/clone/crates.txt"
+}
+
 # Checks one crate on one processor, in a copy with links to the libraries made so far, since checks that stand on one
 # library wait for each other. Its lines go to a log, each after the time when it came.
 check_crate() {
@@ -69,15 +74,12 @@ check_crate() {
   local flags=(--progress --jobs 1)
   case $crate in test_*) flags+=(--test) ;; esac
   rt check "${flags[@]}" 2>&1 | while IFS= read -r line; do echo "$EPOCHREALTIME $line"; done > "$room/logs/$crate"
-  case $crate in
-    test_* | segtool) ;;
-    *)
-      rt lib --jobs 1 > /dev/null
-      mkdir out/built
-      mv out/rlib out/built
-      mv out/built "$room/built/$crate"
-      ;;
-  esac
+  if is_below_another "$crate"; then
+    rt lib --jobs 1 > /dev/null
+    mkdir out/built
+    mv out/rlib out/built
+    mv out/built "$room/built/$crate"
+  fi
   rm -rf "$copy"
 }
 

@@ -1,6 +1,6 @@
 -- Instructions whose parts open and close in order are the listing of code, and the other way round.
 use Rattle.std.proofs.Common.{◌≡◌, ℕ, ◌+◌, ◌<◌, ◌≤◌, Bool, true, false, List, [], ◌∷◌, ◌++◌, length, map, refl, sym, ap, ◌∙◌, subst, arith, Option, Some, None, append_assoc, append-nil}
-use Rattle.std.specs.Prelude.{nat_lt, if◌then◌else◌}
+use Rattle.std.specs.Prelude.{⊤, nat_lt, if◌then◌else◌}
 use Rattle.std.specs.List.{AllByRecursion}
 use Rattle.std.specs.Option.{option_and_then}
 use Rattle.std.proofs.lemmas.List.{map-append}
@@ -24,13 +24,27 @@ roles is = map role_of is
 
 -- ---- marks
 
+abbrev IsElse : Role → Type 0
+IsElse Role.Else = ⊤
+IsElse Role.Plain = ⊥
+IsElse Role.Opener = ⊥
+IsElse Role.Loop = ⊥
+IsElse Role.End = ⊥
+
+abbrev IsEnd : Role → Type 0
+IsEnd Role.End = ⊤
+IsEnd Role.Plain = ⊥
+IsEnd Role.Opener = ⊥
+IsEnd Role.Loop = ⊥
+IsEnd Role.Else = ⊥
+
 else_only : (o : Operation) → (row_of o).role ≡ Role.Else → o ≡ Operation.Else
 else_only Operation.Else e = refl
-else_only o e = cc
+else_only o e = absurd (subst IsElse (sym e) tt)
 
 end_only : (o : Operation) → (row_of o).role ≡ Role.End → o ≡ Operation.End
 end_only Operation.End e = refl
-end_only o e = cc
+end_only o e = absurd (subst IsEnd (sym e) tt)
 
 -- ---- opening
 
