@@ -53,8 +53,8 @@ IsFaultOfOpening allocator bytes f =
 abbrev pub IsFrontRight : List ℕ → Type 0
 IsFrontRight bytes = (table : Table) × HasFront bytes table
 
--- What is wrong with the front where the bytes get this fault. Memory is asked for, and the heap looked at, only where the front
--- is right.
+-- What is wrong with the front where the bytes get this fault. Memory is asked for, and the heap
+-- looked at, only where the front is right.
 abbrev pub FitsFront : List ℕ → Fault → Type 0
 FitsFront bytes fault.BadHeader = LacksHeader bytes
 FitsFront bytes (fault.BadType k) = LacksType bytes k
