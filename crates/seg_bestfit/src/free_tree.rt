@@ -53,7 +53,7 @@ impl NodeOrder<u32> for BySize {
         then_steps_up nat_cmp_total (node_units bytes x) (node_units bytes y) key
         (nat_cmp x y) less };
 
-    ghost apart = { λ _ _ _ x low. (inl (omega (arith, low)), tt) };
+    ghost apart = { λ _ _ _ x low _. (inl (omega (arith, low)), tt) };
 
     ghost steady = { λ _ _ old new x y same_x same_y i.
         ordering_then

@@ -1,1 +1,2 @@
 pub mod NameOrder
+pub mod NamedTags

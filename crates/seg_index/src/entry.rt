@@ -1,5 +1,7 @@
-ghost use Rattle.std.specs.Prelude.{◌≡◌, ◌<◌, ◌^◌};
+ghost use Rattle.std.specs.Prelude.{◌≡◌, ◌+◌, ◌*◌, ◌<◌, ◌^◌};
+ghost use Rattle.seg_spec.specs.Pointer.{target};
 ghost use Rattle.seg_spec.specs.Window.{with_bytes};
+ghost use Rattle.seg_index.specs.Names.{named_type, type_of, name_of, values_at, len_at};
 
 use seg_block::{Kind, Tag, UNIT, tag_word};
 use seg_layout::{TypeId, TypeTable};
@@ -17,6 +19,17 @@ pub fn named_tag(type_id: TypeId) -> Tag
     Tag {
         kind: Kind::Named,
         type_id,
+    }
+}
+
+/// The type of the object of a named object's block, by the word of its tag.
+fn named_type(word: u32) -> Option<TypeId>
+    ensures { result ≡ named_type word }
+{
+    let Tag { kind, type_id } = Tag::read(word)?;
+    match kind {
+        Kind::Named => Some(type_id),
+        Kind::Object | Kind::Buffer | Kind::Node | Kind::IndexBuffer | Kind::IndexNode => None,
     }
 }
 
@@ -45,13 +58,17 @@ impl NameEntry {
     }
 
     /// The entry at a position.
-    pub fn read<A: Allocator>(w: &Window<A>, at: usize) -> NameEntry {
-        let [low, high, name_len, zero] = w.get32(at.saturating_add(4)).to_le_bytes();
+    pub fn read<A: Allocator>(w: &Window<A>, at: usize) -> NameEntry
+        ensures object { result.object ≡ target w.now.bytes at }
+        ensures count { at + 4 < 2 ^ 64 → result.count ≡ values_at w.now.bytes at }
+        ensures name_len { at + 4 < 2 ^ 64 → result.name_len ≡ len_at w.now.bytes at }
+    {
+        let rest = w.get32(at.saturating_add(4));
         NameEntry {
             object: w.target(at),
-            count: u16::from_le_bytes([low, high]),
-            name_len,
-            zero,
+            count: (rest % (1 << 16)) as u16,
+            name_len: (rest / (1 << 16) % (1 << 8)) as u8,
+            zero: (rest / (1 << 24)) as u8,
         }
     }
 
@@ -66,26 +83,26 @@ impl NameEntry {
     }
 
     /// The type of the object, where its block is that of a named object.
-    pub fn type_id<A: Allocator>(&self, w: &Window<A>) -> Option<TypeId> {
+    pub fn type_id<A: Allocator>(&self, w: &Window<A>) -> Option<TypeId>
+        ensures { result ≡ type_of w.now.bytes self.now.object }
+    {
         let block = self.object?.checked_sub(UNIT)?;
-        match Tag::read(tag_word(w, block))? {
-            Tag {
-                kind: Kind::Named,
-                type_id,
-            } => Some(type_id),
-            _ => None,
-        }
+        named_type(tag_word(w, block))
     }
 
     /// The bytes of the object's values, where each has `size` bytes. The name stands after them.
     pub fn values_len(&self, size: u32) -> usize
-        ensures { result < 2 ^ 48 }
+        ensures len { result ≡ self.now.count * size }
+        ensures small { result < 2 ^ 48 }
     {
         self.count as usize * size as usize
     }
 
     /// The name: empty where the entry names no object.
-    pub fn name<'a, A: Allocator>(&self, w: &'a Window<A>, types: &TypeTable) -> &'a [u8] {
+    pub fn name<'a, A: Allocator>(&self, w: &'a Window<A>, types: &TypeTable) -> &'a [u8]
+        ensures { result.now ≡ name_of types.now w.now.bytes self.now.object
+            self.now.count self.now.name_len }
+    {
         let Some(object) = self.object else {
             return &[];
         };

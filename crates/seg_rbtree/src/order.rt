@@ -1,4 +1,4 @@
-ghost use Rattle.std.specs.Prelude.{◌≡◌, ℕ, ◌≤◌, List};
+ghost use Rattle.std.specs.Prelude.{◌≡◌, ℕ, ◌≤◌, List, ⊤};
 ghost use Rattle.std.specs.List.{AllByRecursion};
 ghost use Rattle.std.specs.Cmp.{IsTotalOrder};
 ghost use Rattle.std.specs.declared.cmp.Ordering.{Ordering};
@@ -28,6 +28,9 @@ pub trait NodeOrder<K: Copy> {
     // The bytes that the order reads of a node.
     ghost read: { Self → List ℕ → ℕ → List Part };
 
+    // Whether they lie where they are meant to. An order that goes on to where a node's bytes name can't tell.
+    ghost placed: { Self → List ℕ → ℕ → Type 0 } = { λ _ _ _. ⊤ };
+
     /// Compares two nodes.
     fn nodes<A: Allocator>(&self, w: &Window<A>, node: u32, other: u32) -> Ordering
         ensures { exact → result ≡ compare self.now w.now.bytes node other };
@@ -46,7 +49,7 @@ pub trait NodeOrder<K: Copy> {
 
     // It reads no tree word of the node, where a header may lie before it.
     ghost apart: { exact → (order : Self) (bytes : List ℕ) (x : ℕ) → 16 ≤ x
-        → AllByRecursion (λ p. Separate p.at p.len x 16) (read order bytes x) };
+        → placed order bytes x → AllByRecursion (λ p. Separate p.at p.len x 16) (read order bytes x) };
 
     // Nodes of which it reads the same compare as before.
     ghost steady: { exact → (order : Self) (old new : List ℕ) (x y : ℕ)

@@ -1,0 +1,50 @@
+-- A name is read from its parts alone.
+use Rattle.std.proofs.Common.{◌≡◌, ℕ, ◌+◌, ◌-◌, ◌/◌, ◌%◌, ◌^◌, List, Option, Some, None, refl, ap, ◌∙◌}
+use Rattle.std.specs.Prelude.{◌==◌, nat_le, if◌then◌else◌}
+use Rattle.std.specs.List.{AllByRecursion}
+use Rattle.seg_spec.specs.Bytes.{IsSame}
+use Rattle.seg_spec.specs.Pointer.{target}
+use Rattle.seg_spec.specs.Types.{Table}
+use Rattle.seg_spec.proofs.BytesLaws.{number-slice}
+use Rattle.seg_rbtree.specs.Parts.{Part}
+use Rattle.seg_index.specs.Names.{named_type, type_at, values_at, len_at}
+use Rattle.seg_index.specs.Names.{name_after, name_of, name_at, parts_after, parts_of, parts_at}
+
+-- what a pointer names
+target_same : (old new : List ℕ) (at : ℕ) → IsSame old new at 4 → target new at ≡ target old at
+unfolding target
+target_same old new at e =
+    ap (λ w. if w == 1 then None else Some ((at + w) % 2 ^ 32)) (number-slice 4 old new at at e)
+
+-- the type of an object
+type_same : (old new : List ℕ) (object : ℕ) → IsSame old new (object - 16 + 8) 4
+    → type_at new object ≡ type_at old object
+unfolding type_at
+type_same old new object e =
+    let tag = object - 16 + 8 in
+    ap (λ w. if nat_le 16 object then named_type w else None) (number-slice 4 old new tag tag e)
+
+module _ (types : Table) (old new : List ℕ) where
+  abbrev Same : List Part → Type 0
+  Same parts = AllByRecursion (λ p. IsSame old new p.at p.len) parts
+
+  after_same : (object count len : ℕ) (t : Option ℕ) → Same (parts_after types object count len t)
+      → name_after types new object count len t ≡ name_after types old object count len t
+  after_same object count len None h = refl
+  after_same object count len (Some T) h = h.0
+
+  of_same : (object : Option ℕ) (count len : ℕ) → Same (parts_of types old object count len)
+      → name_of types new object count len ≡ name_of types old object count len
+  of_same None count len h = refl
+  of_same (Some object) count len h =
+      ap (name_after types new object count len) (type_same old new object h.0)
+      ∙ after_same object count len (type_at old object) h.1
+
+  -- the name of an entry
+  pub name_same : (entry : ℕ) → Same (parts_at types old entry)
+      → name_at types new entry ≡ name_at types old entry
+  name_same entry h =
+      let rest = number-slice 4 old new (entry + 4) (entry + 4) h.1.0 in
+      let pointer = target_same old new entry h.0 in
+      (λ i. name_of types new (pointer i) (rest i % 2 ^ 16) (rest i / 2 ^ 16 % 2 ^ 8))
+      ∙ of_same (target old entry) (values_at old entry) (len_at old entry) h.1.1
