@@ -287,7 +287,8 @@ module _ (allocator : ℕ) (before taken marked : List ℕ) (table : Table) (cel
       rw (marked_is, bytes_are) (from_within allocator before taken table (object_at cell T) v blocks of.form s of.form_is of.has_it u g t two small p e) in
       let to_in : IsWithin marked payload (kept * content.entry.size) =
       rw (marked_is, payload_is, bytes_are) (to_within allocator before taken table (object_at cell T) v blocks of.form s of.form_is of.has_it u g t two small all_fit) in
-      let moved_entries = of.moves_entries tagged moved p (g + 16) (count_at tagged cell) (λ h. rw (marked_is, payload_is, kept_is) at (text h from_in to_in)) (λ U b i. rw (marked_is, payload_is, kept_is) at (shifted U b i from_in to_in)) in
+      let moved_entries = of.moves_entries tagged moved p (g + 16) (count_at tagged cell) (λ h. rw (marked_is, payload_is, kept_is) at (text h from_in to_in))
+      (λ U b i. rw (marked_is, payload_is, kept_is) at (shifted U b i from_in to_in)) in
       let m : MovesFrom (target tagged cell) tagged moved table of.form (g + 16) (count_at tagged cell) = rw e moved_entries in
       let stands = pointed_stands allocator before taken table (object_at cell T) v blocks of.form s of.form_is of.has_it u g t two small moved all_fit m in
       let is_live = old_live allocator before taken table (object_at cell T) v blocks of.form s of.form_is of.has_it u g t two small moved all_fit m p e in

@@ -165,7 +165,8 @@ module _ (allocator : ℕ) (old : List ℕ) (table : Table) (place : Place) (for
   left_alone e = (
     blocks,
     record {
-      changes = subst (λ bs. ChangesPlace old old table place v blocks bs blocks blocks) (sym nothing) (changes_place allocator old table place v blocks s old (ChangesOnly-none old place.at (size table place.type)) v blocks blocks s.holds_it);
+      changes = subst (λ bs. ChangesPlace old old table place v blocks bs blocks blocks) (sym nothing)
+          (changes_place allocator old table place v blocks s old (ChangesOnly-none old place.at (size table place.type)) v blocks blocks s.holds_it);
       paths = λ path inner l. l;
     },
   )
@@ -191,7 +192,8 @@ module _ (allocator : ℕ) (old : List ℕ) (table : Table) (place : Place) (for
 
     -- ---- a buffer that is cut where it stands
 
-    module _ (n : ℕ) (n_is : n ≡ count_at old place.at * item_size table form) (some : 1 ≤ n) (x : ℕ) (it : Contains (live old) (span (block_of p) x)) (new : List ℕ) (cut : Shrinks allocator old new (block_of p) x (need n)) (fits : need n ≤ x) where
+    module _ (n : ℕ) (n_is : n ≡ count_at old place.at * item_size table form) (some : 1 ≤ n) (x : ℕ) (it : Contains (live old) (span (block_of p) x)) (new : List ℕ)
+        (cut : Shrinks allocator old new (block_of p) x (need n)) (fits : need n ≤ x) where
       units : ℕ
       units = shrunk x (room_at (gaps_of (live old) (length old)) (block_of p + 16 * x)) (need n)
 

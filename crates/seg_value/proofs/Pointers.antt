@@ -57,13 +57,15 @@ next_pointer distance a b start each before i n fits less w k =
         let same_index : i ≡ j = omega arith in
         let within = inside start each before i n fits less in
         let long = k.changes.length_kept in
-        let was : word b (pointer_at start each before i) ≡ word a (pointer_at start each before i) = word-same a b (pointer_at start each before i) (k.beside (pointer_at start each before i) 4 (λ h r. inr (earlier start each before h i fits r))) in
+        let was : word b (pointer_at start each before i) ≡ word a (pointer_at start each before i) =
+        word-same a b (pointer_at start each before i) (k.beside (pointer_at start each before i) 4 (λ h r. inr (earlier start each before h i fits r))) in
         let written = number-set_same 4 b (pointer_at start each before i) (further distance (word b (pointer_at start each before i))) (omega (arith, w.fits)) (further_small distance (word b (pointer_at start each before i))) in
         subst (λ h. word (set_word b (pointer_at start each before i) (further distance (word b (pointer_at start each before i)))) (pointer_at start each before h) ≡ further distance (word a (pointer_at start each before h))) same_index
         (written ∙ ap (further distance) was)
 
 -- entries that were copied, and then pointed again
-pub pointers_moved : (old raw new : List ℕ) (each before from to n m distance : ℕ) → before + 4 ≤ each → m ≡ n * each → raw ≡ put old to (slice old from m) → (to + distance) % 2 ^ 32 ≡ from → IsWithin old from (n * each) → IsWithin old to (n * each)
+pub pointers_moved : (old raw new : List ℕ) (each before from to n m distance : ℕ) → before + 4 ≤ each → m ≡ n * each → raw ≡ put old to (slice old from m) → (to + distance) % 2 ^ 32 ≡ from
+    → IsWithin old from (n * each) → IsWithin old to (n * each)
     → PointsAgain distance raw new to each before n → MovesPointers old new each before from to n
 pointers_moved old raw new each before from to n m distance fits m_is raw_by back from_in to_in k = record {
   changes = ChangesOnly-trans old raw new to (n * each) (rw raw_is (subst (λ l. ChangesOnly old (put old to (slice old from (n * each))) to l) long (put-changes old to (slice old from (n * each))))) k.changes;
