@@ -84,7 +84,8 @@ impl<F: Fit, A: Allocator> Heap<F, A> {
             IsLive self.old.window.bytes (block_of start) →
             Gives F.code self.old.window.bytes self.new.window.bytes (block_of start) }
     {
-        F::free(&mut self.window, block_of(start));
+        let block = block_of(start);
+        F::free(&mut self.window, block);
     }
 
     /// Makes room in the buffer of a cell for `limit` entries, those that it has and more. `BadAlloc` where no gap gives
