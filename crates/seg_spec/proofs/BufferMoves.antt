@@ -263,7 +263,8 @@ module _ (allocator : ℕ) (old taken : List ℕ) (table : Table) (place : Place
     pointed_frames : Frames old pointed place.at (size table place.type) blocks
     pointed_frames =
         frames_twice old tagged pointed place.at (size table place.type) blocks (g ∷ []) (marked_frames allocator old table place v blocks s u g place.type taken t two small allowed (size table place.type) blocks)
-        (frames_twice tagged moved pointed place.at (size table place.type) (g ∷ []) [] (beside_frames allocator tagged table place v blocks tagged_stands moved g (g + 16) (n * each) done.changes inside g_live g_beside (size table place.type))
+        (frames_twice tagged moved pointed place.at (size table place.type) (g ∷ []) []
+        (beside_frames allocator tagged table place v blocks tagged_stands moved g (g + 16) (n * each) done.changes inside g_live g_beside (size table place.type))
         (written_frames allocator moved table place v blocks moved_stands pointed cell_changes v (g ∷ its.owned) pointed_holds pointed_owned) (λ h some none. refl))
         (λ h some none. times-other h g [] (g_new h some))
 
@@ -273,7 +274,9 @@ module _ (allocator : ℕ) (old taken : List ℕ) (table : Table) (place : Place
     old_named = ap (λ o. option_to_list (option_map block_of o)) old_target
 
     after_counts : (h : ℕ) → times h (positions (live taken)) + times h blocks ≡ times h (named tagged place.at) + (times h (positions (live old)) + times h (g ∷ its.owned))
-    after_counts h = let e = ap (λ bs. times h (positions bs)) (marked_live allocator old table place v blocks s u g place.type taken t two small allowed) in omega (arith, marked_counts allocator old table place v blocks s u g place.type taken t two small allowed h, blocks_count h)
+    after_counts h =
+        let e = ap (λ bs. times h (positions bs)) (marked_live allocator old table place v blocks s u g place.type taken t two small allowed) in
+        omega (arith, marked_counts allocator old table place v blocks s u g place.type taken t two small allowed h, blocks_count h)
 
     pointed_room : HasRoomFor pointed place.at (16 * u - 16)
     pointed_room = rw pointed_target pointed_block.room
