@@ -1,6 +1,6 @@
 ghost use Rattle.std.specs.Prelude.{◌≡◌, ◌+◌, ◌*◌, ◌<◌, ◌^◌};
 ghost use Rattle.seg_spec.specs.Pointer.{target};
-ghost use Rattle.seg_spec.specs.Window.{with_bytes};
+ghost use Rattle.seg_spec.specs.Window.{KeepsHost};
 ghost use Rattle.seg_index.specs.Names.{named_type, type_of, name_of, values_at, len_at};
 
 use seg_block::{Kind, Tag, UNIT, tag_word};
@@ -74,7 +74,7 @@ impl NameEntry {
 
     /// Writes the entry at a position.
     pub fn write<A: Allocator>(self, w: &mut Window<A>, at: usize)
-        ensures { w.new ≡ with_bytes w.old w.new.bytes }
+        ensures { KeepsHost w.old w.new }
     {
         let [low, high] = self.count.to_le_bytes();
         let rest = u32::from_le_bytes([low, high, self.name_len, self.zero]);

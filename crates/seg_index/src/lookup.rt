@@ -1,5 +1,5 @@
 ghost use Rattle.std.specs.Prelude.{◌≡◌};
-ghost use Rattle.seg_spec.specs.Window.{with_bytes};
+ghost use Rattle.seg_spec.specs.Window.{KeepsHost};
 
 use crate::entry::NameEntry;
 use crate::kind::IndexKind;
@@ -40,7 +40,7 @@ impl Occupied {
 
     /// Takes the entry out of the index. The object stays.
     pub fn remove<F: Fit, A: Allocator>(mut self, heap: &mut Heap<F, A>)
-        ensures window { heap.new.window ≡ with_bytes heap.old.window heap.new.window.bytes }
+        ensures window { KeepsHost heap.old.window heap.new.window }
         ensures types { heap.new.types ≡ heap.old.types }
     {
         match &mut self.spot {
@@ -60,7 +60,7 @@ impl Vacant {
         count: u16,
         name_len: u8,
     ) -> Result<(), Code>
-        ensures window { heap.new.window ≡ with_bytes heap.old.window heap.new.window.bytes }
+        ensures window { KeepsHost heap.old.window heap.new.window }
         ensures types { heap.new.types ≡ heap.old.types }
     {
         let entry = NameEntry::new(object, count, name_len);

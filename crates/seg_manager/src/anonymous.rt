@@ -1,5 +1,5 @@
 ghost use Rattle.std.specs.Prelude.{◌≡◌};
-ghost use Rattle.seg_spec.specs.Window.{with_bytes};
+ghost use Rattle.seg_spec.specs.Window.{KeepsHost};
 
 use crate::segment::Segment;
 use seg_block::Fit;
@@ -13,7 +13,7 @@ impl<F: Fit, A: Allocator> Segment<F, A> {
     /// Makes an object with the default value of a type, and returns the value's position. `BadAlloc` where there is no
     /// room; then nothing changes.
     pub fn new_anonymous(&mut self, t: TypeId) -> Result<u32, Code>
-        ensures window { self.new.window ≡ with_bytes self.old.window self.new.window.bytes }
+        ensures window { KeepsHost self.old.window self.new.window }
         ensures types { self.new.types ≡ self.old.types }
     {
         let content = Content::object(self.types(), t);
@@ -22,7 +22,7 @@ impl<F: Fit, A: Allocator> Segment<F, A> {
 
     /// Destroys an object that no pointer names, given by the position of its value, with all that it owns.
     pub fn destroy_anonymous(&mut self, object: u32)
-        ensures window { self.new.window ≡ with_bytes self.old.window self.new.window.bytes }
+        ensures window { KeepsHost self.old.window self.new.window }
         ensures types { self.new.types ≡ self.old.types }
     {
         self.heap_mut().destroy(object);

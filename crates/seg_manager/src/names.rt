@@ -1,5 +1,5 @@
 ghost use Rattle.std.specs.Prelude.{◌≡◌};
-ghost use Rattle.seg_spec.specs.Window.{with_bytes};
+ghost use Rattle.seg_spec.specs.Window.{KeepsHost};
 
 use crate::segment::Segment;
 use seg_block::{Fit, Kind, Tag, UNIT, need};
@@ -51,7 +51,7 @@ impl<F: Fit, A: Allocator> Segment<F, A> {
     /// none or the count isn't from 1 to 65535, `AlreadyExists` where an object has the name, `BadAlloc` where there is no
     /// room for the object or its entry in the index; then nothing changes.
     pub fn construct(&mut self, name: &[u8], t: TypeId, count: u32) -> Result<u32, Code>
-        ensures window { self.new.window ≡ with_bytes self.old.window self.new.window.bytes }
+        ensures window { KeepsHost self.old.window self.new.window }
         ensures types { self.new.types ≡ self.old.types }
     {
         let count = u16::try_from(count).map_err(|_| Code::OutOfRange)?;
@@ -73,7 +73,7 @@ impl<F: Fit, A: Allocator> Segment<F, A> {
         t: TypeId,
         count: u16,
     ) -> Result<u32, Code>
-        ensures window { self.new.window ≡ with_bytes self.old.window self.new.window.bytes }
+        ensures window { KeepsHost self.old.window self.new.window }
         ensures types { self.new.types ≡ self.old.types }
     {
         let object = self.new_named(name, t, count)?;
@@ -86,7 +86,7 @@ impl<F: Fit, A: Allocator> Segment<F, A> {
 
     /// A block for the object of a name, with default values and the name after them.
     fn new_named(&mut self, name: Name, t: TypeId, count: u16) -> Result<u32, Code>
-        ensures window { self.new.window ≡ with_bytes self.old.window self.new.window.bytes }
+        ensures window { KeepsHost self.old.window self.new.window }
         ensures types { self.new.types ≡ self.old.types }
     {
         let size = self.types().size(t);
@@ -129,7 +129,7 @@ impl<F: Fit, A: Allocator> Segment<F, A> {
     /// The position of the first value of a name's object. An object of one default value is made where there is none.
     /// `OutOfRange` where the name is none, `OtherType` where its object has another type, `BadAlloc` where there is no room.
     pub fn find_or_construct(&mut self, name: &[u8], t: TypeId) -> Result<u32, Code>
-        ensures window { self.new.window ≡ with_bytes self.old.window self.new.window.bytes }
+        ensures window { KeepsHost self.old.window self.new.window }
         ensures types { self.new.types ≡ self.old.types }
     {
         match look_up(self.heap(), name) {
@@ -143,7 +143,7 @@ impl<F: Fit, A: Allocator> Segment<F, A> {
 
     /// Destroys the object of a name, with all that its values own. False where there is none of this type.
     pub fn destroy(&mut self, name: &[u8], t: TypeId) -> bool
-        ensures window { self.new.window ≡ with_bytes self.old.window self.new.window.bytes }
+        ensures window { KeepsHost self.old.window self.new.window }
         ensures types { self.new.types ≡ self.old.types }
     {
         let Ok(occupied) = look_up(self.heap(), name) else {
@@ -159,7 +159,7 @@ impl<F: Fit, A: Allocator> Segment<F, A> {
 
     /// Destroys a named object whose entry is out of the index.
     fn destroy_named(&mut self, found: Found, t: TypeId)
-        ensures window { self.new.window ≡ with_bytes self.old.window self.new.window.bytes }
+        ensures window { KeepsHost self.old.window self.new.window }
         ensures types { self.new.types ≡ self.old.types }
     {
         let size = self.types().size(t);

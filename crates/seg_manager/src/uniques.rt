@@ -1,5 +1,5 @@
 ghost use Rattle.std.specs.Prelude.{◌≡◌};
-ghost use Rattle.seg_spec.specs.Window.{with_bytes};
+ghost use Rattle.seg_spec.specs.Window.{KeepsHost};
 
 use crate::segment::Segment;
 use seg_block::Fit;
@@ -13,7 +13,7 @@ impl<F: Fit, A: Allocator> Segment<F, A> {
     /// Makes the unique object of a type, with its default value, and returns the value's position. `AlreadyExists` where
     /// it is there, `BadAlloc` where there is no room; then nothing changes.
     pub fn construct_unique(&mut self, t: TypeId) -> Result<u32, Code>
-        ensures window { self.new.window ≡ with_bytes self.old.window self.new.window.bytes }
+        ensures window { KeepsHost self.old.window self.new.window }
         ensures types { self.new.types ≡ self.old.types }
     {
         if unique(self.window(), t).is_some() {
@@ -31,7 +31,7 @@ impl<F: Fit, A: Allocator> Segment<F, A> {
 
     /// The position of the unique object of a type, which is made where there is none. `BadAlloc` where there is no room.
     pub fn find_or_construct_unique(&mut self, t: TypeId) -> Result<u32, Code>
-        ensures window { self.new.window ≡ with_bytes self.old.window self.new.window.bytes }
+        ensures window { KeepsHost self.old.window self.new.window }
         ensures types { self.new.types ≡ self.old.types }
     {
         match unique(self.window(), t) {
@@ -42,7 +42,7 @@ impl<F: Fit, A: Allocator> Segment<F, A> {
 
     /// Destroys the unique object of a type, with all that it owns. False where there is none.
     pub fn destroy_unique(&mut self, t: TypeId) -> bool
-        ensures window { self.new.window ≡ with_bytes self.old.window self.new.window.bytes }
+        ensures window { KeepsHost self.old.window self.new.window }
         ensures types { self.new.types ≡ self.old.types }
     {
         let Some(object) = unique(self.window(), t) else {

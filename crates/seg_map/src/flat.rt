@@ -1,7 +1,7 @@
 //! A flat map: a buffer of entries {key, value} in order of their keys.
 
 ghost use Rattle.std.specs.Prelude.{◌≡◌};
-ghost use Rattle.seg_spec.specs.Window.{with_bytes};
+ghost use Rattle.seg_spec.specs.Window.{KeepsHost};
 
 use seg_block::Fit;
 use seg_raw::Code;
@@ -39,7 +39,7 @@ pub(crate) fn put<F: Fit, A: Allocator>(
     cell: u32,
     key: i64,
 ) -> Result<u32, Code>
-    ensures window { heap.new.window ≡ with_bytes heap.old.window heap.new.window.bytes }
+    ensures window { KeepsHost heap.old.window heap.new.window }
     ensures types { heap.new.types ≡ heap.old.types }
 {
     match search(heap, content.entry, cell, key) {
@@ -56,7 +56,7 @@ fn insert<F: Fit, A: Allocator>(
     index: u32,
     key: i64,
 ) -> Result<u32, Code>
-    ensures window { heap.new.window ≡ with_bytes heap.old.window heap.new.window.bytes }
+    ensures window { KeepsHost heap.old.window heap.new.window }
     ensures types { heap.new.types ≡ heap.old.types }
 {
     let at = heap.open_entry(content, cell, index)?;
@@ -74,7 +74,7 @@ pub(crate) fn remove<F: Fit, A: Allocator>(
     cell: u32,
     key: i64,
 ) -> bool
-    ensures window { heap.new.window ≡ with_bytes heap.old.window heap.new.window.bytes }
+    ensures window { KeepsHost heap.old.window heap.new.window }
     ensures types { heap.new.types ≡ heap.old.types }
 {
     let Ok(index) = search(heap, content.entry, cell, key) else {

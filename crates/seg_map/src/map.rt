@@ -1,5 +1,5 @@
 ghost use Rattle.std.specs.Prelude.{◌≡◌};
-ghost use Rattle.seg_spec.specs.Window.{with_bytes};
+ghost use Rattle.seg_spec.specs.Window.{KeepsHost};
 
 use crate::{flat, tree};
 use seg_block::Fit;
@@ -37,7 +37,7 @@ pub fn get<F: Fit, A: Allocator>(heap: &Heap<F, A>, map: Place, key: i64) -> Res
 /// The position of a key's value. A map that doesn't have the key gets it, with a default value. `OtherType` where the
 /// place is no map, `BadAlloc` where there is no room for the key; then nothing changes.
 pub fn put<F: Fit, A: Allocator>(heap: &mut Heap<F, A>, map: Place, key: i64) -> Result<u32, Code>
-    ensures window { heap.new.window ≡ with_bytes heap.old.window heap.new.window.bytes }
+    ensures window { KeepsHost heap.old.window heap.new.window }
     ensures types { heap.new.types ≡ heap.old.types }
 {
     match Kind::of(heap, map)? {
@@ -48,7 +48,7 @@ pub fn put<F: Fit, A: Allocator>(heap: &mut Heap<F, A>, map: Place, key: i64) ->
 
 /// Removes a key, and destroys its value. False where the map doesn't have the key, or the place is no map.
 pub fn remove<F: Fit, A: Allocator>(heap: &mut Heap<F, A>, map: Place, key: i64) -> bool
-    ensures window { heap.new.window ≡ with_bytes heap.old.window heap.new.window.bytes }
+    ensures window { KeepsHost heap.old.window heap.new.window }
     ensures types { heap.new.types ≡ heap.old.types }
 {
     let Ok(kind) = Kind::of(heap, map) else {

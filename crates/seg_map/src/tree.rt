@@ -6,7 +6,7 @@ ghost use Rattle.std.specs.Cmp.{on_total, int_cmp_total};
 ghost use Rattle.std.proofs.Common.{arith, inl, inr, ⊎_elim};
 ghost use Rattle.std.proofs.lemmas.Bool.{cases_lt};
 ghost use Rattle.seg_spec.specs.Bytes.{signed, signed_long};
-ghost use Rattle.seg_spec.specs.Window.{with_bytes};
+ghost use Rattle.seg_spec.specs.Window.{KeepsHost};
 ghost use Rattle.seg_spec.proofs.BytesLaws.{number-slice};
 ghost use Rattle.seg_spec.proofs.OrderSteps.{steps_up};
 ghost use Rattle.seg_rbtree.specs.Parts.{part};
@@ -90,7 +90,7 @@ pub(crate) fn put<F: Fit, A: Allocator>(
     cell: u32,
     key: i64,
 ) -> Result<u32, Code>
-    ensures window { heap.new.window ≡ with_bytes heap.old.window heap.new.window.bytes }
+    ensures window { KeepsHost heap.old.window heap.new.window }
     ensures types { heap.new.types ≡ heap.old.types }
 {
     let mut path = tree_of(cell).path_to_key(heap.window(), &ByKey, key);
@@ -112,7 +112,7 @@ pub(crate) fn remove<F: Fit, A: Allocator>(
     cell: u32,
     key: i64,
 ) -> bool
-    ensures window { heap.new.window ≡ with_bytes heap.old.window heap.new.window.bytes }
+    ensures window { KeepsHost heap.old.window heap.new.window }
     ensures types { heap.new.types ≡ heap.old.types }
 {
     let mut path = tree_of(cell).path_to_key(heap.window(), &ByKey, key);

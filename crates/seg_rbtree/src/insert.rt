@@ -1,6 +1,6 @@
 ghost use Rattle.std.specs.Prelude.{◌≡◌, ℕ, ◌+◌, ◌<◌, ◌^◌, List, ◌∷◌, length};
 ghost use Rattle.seg_spec.specs.Shapes.{nodes_of};
-ghost use Rattle.seg_spec.specs.Window.{with_bytes};
+ghost use Rattle.seg_spec.specs.Window.{with_bytes, KeepsHost};
 ghost use Rattle.seg_rbtree.specs.Changes.{StandApart, IsNew, with_node, Leaves};
 ghost use Rattle.seg_rbtree.specs.Nodes.{with_colour, raised, straightened};
 ghost use Rattle.seg_rbtree.specs.Rising.{IsRising, Settles};
@@ -22,7 +22,7 @@ impl Tree {
         order: &O,
         node: u32,
     )
-        ensures host { w.new ≡ with_bytes w.old w.new.bytes }
+        ensures host { KeepsHost w.old w.new }
         ensures added { O.exact → WhereOrdered (O.compare order.now) w.old (root_word self)
             (λ shape. IsNew (O.compare order.now w.old.bytes) node (nodes_of shape)
             → StandApart (length w.old.bytes) (root_word self) (node ∷ nodes_of shape)
@@ -40,7 +40,7 @@ impl Path {
     /// Adds a node at the empty place at the path's end. It may be written between the walk and this. Only tree words and the
     /// root word change. The path leads nowhere then.
     pub fn insert<A: Allocator>(&mut self, w: &mut Window<A>, node: u32)
-        ensures host { w.new ≡ with_bytes w.old w.new.bytes }
+        ensures host { KeepsHost w.old w.new }
         ensures added { AddsAt w.old.bytes w.new.bytes self.old node }
     {
         init(w, node);
@@ -57,7 +57,7 @@ impl Path {
 
 /// Settles a red node whose parent may be red: here, or by a red node further up, which it returns.
 fn settle<A: Allocator>(w: &mut Window<A>, path: &mut Path, node: u32) -> Option<u32>
-    ensures host { w.new ≡ with_bytes w.old w.new.bytes }
+    ensures host { KeepsHost w.old w.new }
     ensures root { path.new.root ≡ path.old.root }
     ensures settled { (nodes : List ℕ)
         → IsRising w.old.bytes path.old.root path.old.steps.items nodes node

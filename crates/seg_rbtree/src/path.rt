@@ -1,6 +1,6 @@
 ghost use Rattle.std.specs.Prelude.{slice_set, slice_index_or, ◌≡◌, ◌<◌, ◌≤◌, IsTrue, List, [], ◌∷◌, ◌++◌, length, Option, Some, MatchOption};
 ghost use Rattle.seg_spec.specs.Pointer.{target, set_pointer};
-ghost use Rattle.seg_spec.specs.Window.{with_bytes};
+ghost use Rattle.seg_spec.specs.Window.{with_bytes, KeepsHost};
 ghost use Rattle.seg_rbtree.specs.Nodes.{side_word, opposite, rotated};
 ghost use Rattle.seg_rbtree.specs.Paths.{end_word, word_after, node_at};
 ghost use Rattle.seg_rbtree.specs.declared.path.TheConstants.{DEPTH};
@@ -119,7 +119,7 @@ impl Path {
 
     /// Puts another node at the place after that many steps.
     pub(crate) fn set_at<A: Allocator>(&self, w: &mut Window<A>, steps: usize, node: u32)
-        ensures host { w.new ≡ with_bytes w.old w.new.bytes }
+        ensures host { KeepsHost w.old w.new }
         ensures set { steps ≤ length self.now.steps.items
             → w.new ≡ with_bytes w.old
             (set_pointer w.old.bytes (word_after steps self.now) (Some node)) }

@@ -2,7 +2,7 @@ ghost use Rattle.std.specs.Prelude.{◌≡◌, ◌≢◌, ◌<◌, ◌^◌, ◌�
 ghost use Rattle.std.specs.List.{AllByRecursion};
 ghost use Rattle.seg_spec.specs.Pointer.{target, set_pointer};
 ghost use Rattle.seg_spec.specs.Shapes.{fork, black, nodes_of, IsBlack, IsRedBlack};
-ghost use Rattle.seg_spec.specs.Window.{with_bytes};
+ghost use Rattle.seg_spec.specs.Window.{with_bytes, KeepsHost};
 ghost use Rattle.seg_rbtree.specs.Nodes.{side_word, opposite, colour_at};
 ghost use Rattle.seg_rbtree.specs.Changes.{StandApart, without_node, Leaves};
 ghost use Rattle.seg_rbtree.specs.Ways.{branch, plug, place};
@@ -25,7 +25,7 @@ impl Tree {
         order: &O,
         node: u32,
     )
-        ensures host { w.new ≡ with_bytes w.old w.new.bytes }
+        ensures host { KeepsHost w.old w.new }
         ensures removed { O.exact → WhereOrdered (O.compare order.now) w.old (root_word self)
             (λ shape. StandApart (length w.old.bytes) (root_word self) (nodes_of shape)
             → Leaves w.old.bytes w.new.bytes (root_word self) (nodes_of shape)
@@ -46,7 +46,7 @@ impl Path {
     /// Takes out the node at the path's end, and no other. Only tree words and the root word change. The path leads nowhere
     /// then.
     pub fn remove<A: Allocator>(&mut self, w: &mut Window<A>)
-        ensures host { w.new ≡ with_bytes w.old w.new.bytes }
+        ensures host { KeepsHost w.old w.new }
         ensures removed { TakesOutAt w.old.bytes w.new.bytes self.old }
         ensures stays { node_at w.old.bytes self.old ≡ None → w.new ≡ w.old }
     {
@@ -63,7 +63,7 @@ impl Path {
 /// Takes a node out of the place that a path leads to, which then leads to where a node is missing. Returns the colour that
 /// is missing there.
 fn unlink<A: Allocator>(w: &mut Window<A>, path: &mut Path, node: u32) -> Colour
-    ensures host { w.new ≡ with_bytes w.old w.new.bytes }
+    ensures host { KeepsHost w.old w.new }
     ensures root { path.new.root ≡ path.old.root }
     ensures unlinked { (layers : _) (tree : _)
         → WhereRedBlack w.old.bytes path.old layers tree
@@ -93,7 +93,7 @@ fn unlink_lone<A: Allocator>(w: &mut Window<A>, path: &Path, node: u32, empty: S
 
 /// Takes out a node with two children: the next node in order comes to its place, in its colour.
 fn unlink_by_next<A: Allocator>(w: &mut Window<A>, path: &mut Path, node: u32) -> Colour
-    ensures host { w.new ≡ with_bytes w.old w.new.bytes }
+    ensures host { KeepsHost w.old w.new }
     ensures root { path.new.root ≡ path.old.root }
     ensures unlinked { (layers : _) (left right : _) (colour : _)
         → WhereRedBlack w.old.bytes path.old layers (fork left node colour right)
@@ -162,7 +162,7 @@ fn take_place<A: Allocator>(w: &mut Window<A>, from: u32, to: u32)
 
 /// Makes good that the part at the end of a path has one black node too few on every way.
 fn restore<A: Allocator>(w: &mut Window<A>, path: &mut Path)
-    ensures host { w.new ≡ with_bytes w.old w.new.bytes }
+    ensures host { KeepsHost w.old w.new }
     ensures restored { (layers : _) (tree : _) → StandsAt w.old.bytes path.old layers tree
         → IsShort layers tree
         → Restores w.old.bytes w.new.bytes path.old.root (plug tree layers) }
@@ -176,7 +176,7 @@ fn restore<A: Allocator>(w: &mut Window<A>, path: &mut Path)
 
 /// One turn of that: it is made good, or a part further up is short then. Returns whether there is more to do.
 fn lengthen<A: Allocator>(w: &mut Window<A>, path: &mut Path) -> bool
-    ensures host { w.new ≡ with_bytes w.old w.new.bytes }
+    ensures host { KeepsHost w.old w.new }
     ensures root { path.new.root ≡ path.old.root }
     ensures lengthened { (layers : _) (tree : _) → StandsAt w.old.bytes path.old layers tree
         → IsShort layers tree
@@ -197,7 +197,7 @@ fn lengthen<A: Allocator>(w: &mut Window<A>, path: &mut Path) -> bool
 
 /// A turn for a part whose root is black, below a node that a path leads to: the node beside it helps.
 fn lengthen_beside<A: Allocator>(w: &mut Window<A>, path: &mut Path, short: Step) -> bool
-    ensures host { w.new ≡ with_bytes w.old w.new.bytes }
+    ensures host { KeepsHost w.old w.new }
     ensures root { path.new.root ≡ path.old.root }
     ensures lengthened { (layers : _) (tree other : _) (colour : _)
         → StandsAt w.old.bytes path.old layers (branch short.side short.node colour tree other)
@@ -218,7 +218,7 @@ fn lengthen_beside<A: Allocator>(w: &mut Window<A>, path: &mut Path, short: Step
 
 /// Moves a red sibling up, so that the short part has a black one.
 fn lower<A: Allocator>(w: &mut Window<A>, path: &mut Path, short: Step, sibling: u32)
-    ensures host { w.new ≡ with_bytes w.old w.new.bytes }
+    ensures host { KeepsHost w.old w.new }
     ensures root { path.new.root ≡ path.old.root }
     ensures lowered { (layers : _) (tree inner outer : _) (colour other : _)
         → StandsAt w.old.bytes path.old layers
@@ -237,7 +237,7 @@ fn lower<A: Allocator>(w: &mut Window<A>, path: &mut Path, short: Step, sibling:
 /// Takes a black node for the short part from a red child of its black sibling. Where it has none, the sibling's part is
 /// shortened too, and the part above both is short.
 fn borrow<A: Allocator>(w: &mut Window<A>, path: &mut Path, short: Step, sibling: u32) -> bool
-    ensures host { w.new ≡ with_bytes w.old w.new.bytes }
+    ensures host { KeepsHost w.old w.new }
     ensures root { path.new.root ≡ path.old.root }
     ensures lengthened { (layers : _) (tree inner outer : _) (colour : _)
         → StandsAt w.old.bytes path.old layers
@@ -278,7 +278,7 @@ fn red_child<A: Allocator>(w: &Window<A>, node: u32, side: Side) -> Option<u32>
 
 /// Moves the node beside a short part up, in its parent's colour, and the parent down, black.
 fn come_up<A: Allocator>(w: &mut Window<A>, path: &Path, short: Step)
-    ensures host { w.new ≡ with_bytes w.old w.new.bytes }
+    ensures host { KeepsHost w.old w.new }
     ensures came_up { (layers : _) (tree inner outer : _) (up : _) (colour other : _)
         → StandsAt w.old.bytes path.now layers
         (branch short.side short.node colour tree (branch short.side up other inner outer))

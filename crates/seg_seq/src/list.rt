@@ -1,5 +1,5 @@
 ghost use Rattle.std.specs.Prelude.{◌≡◌};
-ghost use Rattle.seg_spec.specs.Window.{with_bytes};
+ghost use Rattle.seg_spec.specs.Window.{KeepsHost};
 
 use crate::ring::{Way, insert, neighbour, remove};
 use seg_block::Fit;
@@ -39,7 +39,7 @@ fn list_content<F: Fit, A: Allocator>(heap: &Heap<F, A>, list: Place) -> Result<
 /// Adds a default item before the others of a list, and returns its position. `OtherType` where the place is no list,
 /// `BadAlloc` where there is no room for the item; then nothing changes.
 pub fn push_front<F: Fit, A: Allocator>(heap: &mut Heap<F, A>, list: Place) -> Result<u32, Code>
-    ensures window { heap.new.window ≡ with_bytes heap.old.window heap.new.window.bytes }
+    ensures window { KeepsHost heap.old.window heap.new.window }
     ensures types { heap.new.types ≡ heap.old.types }
 {
     let content = list_content(heap, list)?;
@@ -55,7 +55,7 @@ pub(crate) fn push_node<F: Fit, A: Allocator>(
     content: &Content,
     cell: u32,
 ) -> Result<u32, Code>
-    ensures window { heap.new.window ≡ with_bytes heap.old.window heap.new.window.bytes }
+    ensures window { KeepsHost heap.old.window heap.new.window }
     ensures types { heap.new.types ≡ heap.old.types }
 {
     let node = heap.new_block(content)?;
@@ -65,7 +65,7 @@ pub(crate) fn push_node<F: Fit, A: Allocator>(
 
 /// Destroys the first item of a list. `OtherType` where the place is no list, `Null` where the list is empty.
 pub fn pop_front<F: Fit, A: Allocator>(heap: &mut Heap<F, A>, list: Place) -> Result<(), Code>
-    ensures window { heap.new.window ≡ with_bytes heap.old.window heap.new.window.bytes }
+    ensures window { KeepsHost heap.old.window heap.new.window }
     ensures types { heap.new.types ≡ heap.old.types }
 {
     let content = list_content(heap, list)?;
@@ -81,7 +81,7 @@ pub(crate) fn remove_node<F: Fit, A: Allocator>(
     cell: u32,
     node: u32,
 )
-    ensures window { heap.new.window ≡ with_bytes heap.old.window heap.new.window.bytes }
+    ensures window { KeepsHost heap.old.window heap.new.window }
     ensures types { heap.new.types ≡ heap.old.types }
 {
     remove(heap, cell, node);

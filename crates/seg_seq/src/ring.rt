@@ -1,7 +1,7 @@
 //! The nodes of a list: a ring, in which each one names the next and the previous one. The list's cell names the first.
 
 ghost use Rattle.std.specs.Prelude.{◌≡◌};
-ghost use Rattle.seg_spec.specs.Window.{with_bytes};
+ghost use Rattle.seg_spec.specs.Window.{KeepsHost};
 
 use seg_block::Fit;
 use seg_ptr::Window;
@@ -45,7 +45,7 @@ pub(crate) fn node_at<F: Fit, A: Allocator>(heap: &Heap<F, A>, cell: u32, index:
 
 /// Makes one node the next of another.
 fn join<A: Allocator>(w: &mut Window<A>, node: u32, next: u32)
-    ensures { w.new ≡ with_bytes w.old w.new.bytes }
+    ensures { KeepsHost w.old w.new }
 {
     w.point(node as usize, Some(next));
     w.point(next as usize + 4, Some(node));
@@ -53,7 +53,7 @@ fn join<A: Allocator>(w: &mut Window<A>, node: u32, next: u32)
 
 /// Puts a new node between the last and the first one. It is the last one, unless the cell's pointer is set to it.
 pub(crate) fn insert<F: Fit, A: Allocator>(heap: &mut Heap<F, A>, cell: u32, node: u32)
-    ensures window { heap.new.window ≡ with_bytes heap.old.window heap.new.window.bytes }
+    ensures window { KeepsHost heap.old.window heap.new.window }
     ensures types { heap.new.types ≡ heap.old.types }
 {
     match heap.window().target(cell as usize) {
@@ -73,7 +73,7 @@ pub(crate) fn insert<F: Fit, A: Allocator>(heap: &mut Heap<F, A>, cell: u32, nod
 
 /// Takes a node out of the ring.
 pub(crate) fn remove<F: Fit, A: Allocator>(heap: &mut Heap<F, A>, cell: u32, node: u32)
-    ensures window { heap.new.window ≡ with_bytes heap.old.window heap.new.window.bytes }
+    ensures window { KeepsHost heap.old.window heap.new.window }
     ensures types { heap.new.types ≡ heap.old.types }
 {
     let nodes = heap.count(cell).saturating_sub(1);

@@ -1,5 +1,5 @@
 ghost use Rattle.std.specs.Prelude.{◌≡◌};
-ghost use Rattle.seg_spec.specs.Window.{with_bytes};
+ghost use Rattle.seg_spec.specs.Window.{KeepsHost};
 
 use crate::list::{item_of, push_node, remove_node};
 use crate::ring::{Way, neighbour, node_at};
@@ -37,7 +37,7 @@ fn is_vector(content: &Content) -> bool {
 /// Adds a default item after the others of a vector or a list, and returns its position. `OtherType` where the place is
 /// neither, `BadAlloc` where there is no room for the item; then nothing changes.
 pub fn push_back<F: Fit, A: Allocator>(heap: &mut Heap<F, A>, sequence: Place) -> Result<u32, Code>
-    ensures window { heap.new.window ≡ with_bytes heap.old.window heap.new.window.bytes }
+    ensures window { KeepsHost heap.old.window heap.new.window }
     ensures types { heap.new.types ≡ heap.old.types }
 {
     let content = heap.content(sequence.type_id).ok_or(Code::OtherType)?;
@@ -54,7 +54,7 @@ fn push_entry<F: Fit, A: Allocator>(
     content: &Content,
     cell: u32,
 ) -> Result<u32, Code>
-    ensures window { heap.new.window ≡ with_bytes heap.old.window heap.new.window.bytes }
+    ensures window { KeepsHost heap.old.window heap.new.window }
     ensures types { heap.new.types ≡ heap.old.types }
 {
     let kept = heap.count(cell);
@@ -71,7 +71,7 @@ fn push_entry<F: Fit, A: Allocator>(
 /// Destroys the last item of a vector or a list, or drops the last byte of a string. `OtherType` where the place has no
 /// items, `Null` where there is no item.
 pub fn pop_back<F: Fit, A: Allocator>(heap: &mut Heap<F, A>, sequence: Place) -> Result<(), Code>
-    ensures window { heap.new.window ≡ with_bytes heap.old.window heap.new.window.bytes }
+    ensures window { KeepsHost heap.old.window heap.new.window }
     ensures types { heap.new.types ≡ heap.old.types }
 {
     let content = heap.content(sequence.type_id).ok_or(Code::OtherType)?;
@@ -89,7 +89,7 @@ pub fn pop_back<F: Fit, A: Allocator>(heap: &mut Heap<F, A>, sequence: Place) ->
 
 /// Destroys the last entry of a buffer.
 fn pop_entry<F: Fit, A: Allocator>(heap: &mut Heap<F, A>, content: &Content, cell: u32, last: u32)
-    ensures window { heap.new.window ≡ with_bytes heap.old.window heap.new.window.bytes }
+    ensures window { KeepsHost heap.old.window heap.new.window }
     ensures types { heap.new.types ≡ heap.old.types }
 {
     if let Some(item) = content.entry.value(heap.start(cell), last) {

@@ -1,5 +1,5 @@
 ghost use Rattle.std.specs.Prelude.{◌≡◌};
-ghost use Rattle.seg_spec.specs.Window.{with_bytes};
+ghost use Rattle.seg_spec.specs.Window.{KeepsHost};
 
 use seg_block::Fit;
 use seg_raw::Code;
@@ -13,7 +13,7 @@ pub fn append<F: Fit, A: Allocator>(
     text: Place,
     bytes: &[u8],
 ) -> Result<(), Code>
-    ensures window { heap.new.window ≡ with_bytes heap.old.window heap.new.window.bytes }
+    ensures window { KeepsHost heap.old.window heap.new.window }
     ensures types { heap.new.types ≡ heap.old.types }
 {
     let kept = heap.count(text.at);
@@ -27,7 +27,7 @@ pub fn assign<F: Fit, A: Allocator>(
     text: Place,
     bytes: &[u8],
 ) -> Result<(), Code>
-    ensures window { heap.new.window ≡ with_bytes heap.old.window heap.new.window.bytes }
+    ensures window { KeepsHost heap.old.window heap.new.window }
     ensures types { heap.new.types ≡ heap.old.types }
 {
     write(heap, text, 0, bytes)
@@ -40,7 +40,7 @@ pub fn push_byte<F: Fit, A: Allocator>(
     text: Place,
     byte: u8,
 ) -> Result<u32, Code>
-    ensures window { heap.new.window ≡ with_bytes heap.old.window heap.new.window.bytes }
+    ensures window { KeepsHost heap.old.window heap.new.window }
     ensures types { heap.new.types ≡ heap.old.types }
 {
     let kept = heap.count(text.at);
@@ -56,7 +56,7 @@ fn write<F: Fit, A: Allocator>(
     kept: u32,
     bytes: &[u8],
 ) -> Result<(), Code>
-    ensures window { heap.new.window ≡ with_bytes heap.old.window heap.new.window.bytes }
+    ensures window { KeepsHost heap.old.window heap.new.window }
     ensures types { heap.new.types ≡ heap.old.types }
 {
     let added = make_room(heap, text, kept, bytes.len())?;
@@ -87,7 +87,7 @@ fn make_room<F: Fit, A: Allocator>(
     kept: u32,
     added: usize,
 ) -> Result<Added, Code>
-    ensures window { heap.new.window ≡ with_bytes heap.old.window heap.new.window.bytes }
+    ensures window { KeepsHost heap.old.window heap.new.window }
     ensures types { heap.new.types ≡ heap.old.types }
 {
     let content = heap.content(text.type_id).ok_or(Code::OtherType)?;

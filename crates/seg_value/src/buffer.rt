@@ -13,7 +13,7 @@ ghost use Rattle.seg_spec.specs.Shrinking.{ShrinksPlace};
 ghost use Rattle.seg_spec.specs.Spending.{units_named, buffer_asks};
 ghost use Rattle.seg_spec.specs.Types.{Form, IsTable, form_at, size};
 ghost use Rattle.seg_spec.specs.Value.{Value};
-ghost use Rattle.seg_spec.specs.Window.{with_bytes};
+ghost use Rattle.seg_spec.specs.Window.{with_bytes, KeepsHost};
 ghost use Rattle.seg_block.specs.Blocks.{IsSized};
 ghost use Rattle.seg_block.specs.Tags.{word_of};
 ghost use Rattle.seg_value.specs.Buffers.{NamesBuffer, HasSizedBuffer};
@@ -41,7 +41,7 @@ impl<F: Fit, A: Allocator> Heap<F, A> {
     /// A block for one entry, with the default of its value. Returns where its payload begins. `BadAlloc` where no gap has
     /// room for it, and then nothing changes.
     pub fn new_block(&mut self, content: &Content) -> Result<u32, Code>
-        ensures window { self.new.window ≡ with_bytes self.old.window self.new.window.bytes }
+        ensures window { KeepsHost self.old.window self.new.window }
         ensures types { self.new.types ≡ self.old.types }
         ensures code { IsOkUnless result Code.BadAlloc }
         ensures given { (before U tag : ℕ) (shape : Shape) →
@@ -78,7 +78,7 @@ impl<F: Fit, A: Allocator> Heap<F, A> {
 
     /// Frees the block whose payload begins at `start`. Its entries own nothing any more.
     pub fn free_block(&mut self, start: u32)
-        ensures window { self.new.window ≡ with_bytes self.old.window self.new.window.bytes }
+        ensures window { KeepsHost self.old.window self.new.window }
         ensures types { self.new.types ≡ self.old.types }
         ensures gives { IsHeap F.code self.old.window.bytes →
             IsLive self.old.window.bytes (block_of start) →
@@ -91,7 +91,7 @@ impl<F: Fit, A: Allocator> Heap<F, A> {
     /// Makes room in the buffer of a cell for `limit` entries, those that it has and more. `BadAlloc` where no gap gives
     /// that room, and then nothing changes.
     pub fn reserve(&mut self, content: &Content, cell: u32, limit: u32) -> Result<(), Code>
-        ensures window { self.new.window ≡ with_bytes self.old.window self.new.window.bytes }
+        ensures window { KeepsHost self.old.window self.new.window }
         ensures types { self.new.types ≡ self.old.types }
         ensures code { IsOkUnless result Code.BadAlloc }
         ensures reserves { (T : ℕ) (v : Value) (blocks : List ℕ) →
@@ -137,7 +137,7 @@ impl<F: Fit, A: Allocator> Heap<F, A> {
     /// Finds a larger buffer for a cell, which has no room for `limit` entries: where it stands, or elsewhere.
     #[inline(never)]
     fn enlarge(&mut self, content: &Content, cell: u32, limit: u32) -> Result<(), Code>
-        ensures window { self.new.window ≡ with_bytes self.old.window self.new.window.bytes }
+        ensures window { KeepsHost self.old.window self.new.window }
         ensures types { self.new.types ≡ self.old.types }
         ensures code { IsOkUnless result Code.BadAlloc }
         ensures enlarges { (T : ℕ) (v : Value) (blocks : List ℕ) →
@@ -169,7 +169,7 @@ impl<F: Fit, A: Allocator> Heap<F, A> {
 
     /// Moves the entries of a cell to a new block, and frees their old one.
     fn move_buffer(&mut self, content: &Content, cell: u32, block: u32)
-        ensures window { self.new.window ≡ with_bytes self.old.window self.new.window.bytes }
+        ensures window { KeepsHost self.old.window self.new.window }
         ensures types { self.new.types ≡ self.old.types }
         ensures moves { (T u : ℕ) (before : List ℕ) (v : Value) (blocks : List ℕ) →
             NamesBuffer self.old.types T content.now →
@@ -192,7 +192,7 @@ impl<F: Fit, A: Allocator> Heap<F, A> {
 
     /// Cuts the buffer of a string, a vector or a flat map to what it uses. An empty one gives it up.
     pub fn shrink_to_fit(&mut self, place: Place)
-        ensures window { self.new.window ≡ with_bytes self.old.window self.new.window.bytes }
+        ensures window { KeepsHost self.old.window self.new.window }
         ensures types { self.new.types ≡ self.old.types }
         ensures shrinks { (form : Form) (v : Value) (blocks : List ℕ) →
             form_at self.old.types place.type_id ≡ Some form → has_buffer (Some form) ≡ true →
@@ -219,7 +219,7 @@ impl<F: Fit, A: Allocator> Heap<F, A> {
 
     /// Gives up the buffer of a cell, whose entries own nothing any more. The cell names nothing then.
     pub fn free_buffer(&mut self, cell: u32)
-        ensures window { self.new.window ≡ with_bytes self.old.window self.new.window.bytes }
+        ensures window { KeepsHost self.old.window self.new.window }
         ensures types { self.new.types ≡ self.old.types }
         ensures frees { (T : ℕ) (form : Form) (v : Value) (blocks : List ℕ) →
             form_at self.old.types T ≡ Some form → has_buffer (Some form) ≡ true →

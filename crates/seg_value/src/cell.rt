@@ -1,7 +1,7 @@
 ghost use Rattle.std.specs.Prelude.{◌≡◌, ◌+◌, ◌≤◌, length};
 ghost use Rattle.seg_spec.specs.Bytes.{set_word, signed_long, ChangesOnly};
 ghost use Rattle.seg_spec.specs.Reads.{count_at, start};
-ghost use Rattle.seg_spec.specs.Window.{with_bytes};
+ghost use Rattle.seg_spec.specs.Window.{with_bytes, KeepsHost};
 
 use crate::heap::Heap;
 use seg_block::Fit;
@@ -63,7 +63,7 @@ impl<F: Fit, A: Allocator> Heap<F, A> {
 
     /// Writes a number.
     pub fn store(&mut self, at: u32, value: i64)
-        ensures window { self.new.window ≡ with_bytes self.old.window self.new.window.bytes }
+        ensures window { KeepsHost self.old.window self.new.window }
         ensures types { self.new.types ≡ self.old.types }
         ensures stored { at + 8 ≤ length self.old.window.bytes →
             signed_long self.new.window.bytes at ≡ value }

@@ -6,7 +6,7 @@ ghost use Rattle.seg_spec.specs.Bytes.{word, set_word};
 ghost use Rattle.seg_spec.specs.Cells.{further, IsWithin, ChangesCells, ChangesEach, IsDefaulted, IsFurther};
 ghost use Rattle.seg_spec.specs.Reads.{spaced};
 ghost use Rattle.seg_spec.specs.Types.{IsTable, size, fields_of};
-ghost use Rattle.seg_spec.specs.Window.{with_bytes};
+ghost use Rattle.seg_spec.specs.Window.{with_bytes, KeepsHost};
 ghost use Rattle.seg_value.specs.Pointers.{PointsAgain};
 
 use crate::entry::{Entry, Held};
@@ -24,7 +24,7 @@ const EMPTY: u64 = 1;
 /// Writes the default of a value: 0 for numbers, empty or null for all else.
 #[inline]
 pub(crate) fn set_default<A: Allocator>(w: &mut Window<A>, types: &TypeTable, place: Place)
-    ensures host { w.new ≡ with_bytes w.old w.new.bytes }
+    ensures host { KeepsHost w.old w.new }
     ensures cells { IsWithin w.old.bytes place.at (size types.now place.type_id) →
         ChangesCells IsDefaulted w.old.bytes w.new.bytes types.now place.at place.type_id }
     ensures table { IsTable types.now }
@@ -40,7 +40,7 @@ pub(crate) fn set_default<A: Allocator>(w: &mut Window<A>, types: &TypeTable, pl
 /// Writes the default of a value without fields.
 #[inline]
 fn set_cell<A: Allocator>(w: &mut Window<A>, types: &TypeTable, cell: Place)
-    ensures host { w.new ≡ with_bytes w.old w.new.bytes }
+    ensures host { KeepsHost w.old w.new }
     ensures cells { length (fields_of types.now cell.type_id) ≡ 0 →
         IsWithin w.old.bytes cell.at (size types.now cell.type_id) →
         ChangesCells IsDefaulted w.old.bytes w.new.bytes types.now cell.at cell.type_id }
@@ -55,7 +55,7 @@ fn set_cell<A: Allocator>(w: &mut Window<A>, types: &TypeTable, cell: Place)
 
 /// Writes the default of a value, field by field.
 fn set_fields<A: Allocator>(w: &mut Window<A>, types: &TypeTable, place: Place)
-    ensures host { w.new ≡ with_bytes w.old w.new.bytes }
+    ensures host { KeepsHost w.old w.new }
     ensures cells { IsWithin w.old.bytes place.at (size types.now place.type_id) →
         ChangesCells IsDefaulted w.old.bytes w.new.bytes types.now place.at place.type_id }
     ensures table { IsTable types.now }
@@ -79,7 +79,7 @@ pub(crate) fn point_again<A: Allocator>(
     place: Place,
     distance: u32,
 )
-    ensures host { w.new ≡ with_bytes w.old w.new.bytes }
+    ensures host { KeepsHost w.old w.new }
     ensures pointed { IsWithin w.old.bytes place.at (size types.now place.type_id) →
         ChangesCells (λ old new at form. IsFurther old new distance at form)
         w.old.bytes w.new.bytes types.now place.at place.type_id }
@@ -108,7 +108,7 @@ pub(crate) fn point_each_again<A: Allocator>(
     n: u32,
     distance: u32,
 )
-    ensures host { w.new ≡ with_bytes w.old w.new.bytes }
+    ensures host { KeepsHost w.old w.new }
     ensures bytes { entry.held ≡ Held.Bytes → w.new ≡ w.old }
     ensures values { (t : ℕ) → entry.held ≡ Held.Value t →
         entry.before + size types.now t ≤ entry.size →
@@ -134,7 +134,7 @@ fn point_pointers_again<A: Allocator>(
     n: u32,
     distance: u32,
 )
-    ensures host { w.new ≡ with_bytes w.old w.new.bytes }
+    ensures host { KeepsHost w.old w.new }
     ensures pointed { entry.before + 4 ≤ entry.size →
         IsWithin w.old.bytes start (n * entry.size) →
         PointsAgain distance w.old.bytes w.new.bytes start entry.size entry.before n }
@@ -154,7 +154,7 @@ fn point_values_again<A: Allocator>(
     n: u32,
     distance: u32,
 )
-    ensures host { w.new ≡ with_bytes w.old w.new.bytes }
+    ensures host { KeepsHost w.old w.new }
     ensures pointed { entry.before + size types.now t ≤ entry.size →
         IsWithin w.old.bytes start (n * entry.size) →
         ChangesEach (λ old new at form. IsFurther old new distance at form) w.old.bytes w.new.bytes types.now

@@ -1,5 +1,5 @@
 ghost use Rattle.std.specs.Prelude.{◌≡◌};
-ghost use Rattle.seg_spec.specs.Window.{with_bytes};
+ghost use Rattle.seg_spec.specs.Window.{KeepsHost};
 
 use crate::content::Content;
 use crate::heap::Heap;
@@ -13,7 +13,7 @@ impl<F: Fit, A: Allocator> Heap<F, A> {
     /// more. Returns the position of the new entry, whose bytes the caller writes. `BadAlloc` where no gap gives that room,
     /// and then nothing changes.
     pub fn open_entry(&mut self, content: &Content, cell: u32, index: u32) -> Result<u32, Code>
-        ensures window { self.new.window ≡ with_bytes self.old.window self.new.window.bytes }
+        ensures window { KeepsHost self.old.window self.new.window }
         ensures types { self.new.types ≡ self.old.types }
     {
         let entry = content.entry;
@@ -31,7 +31,7 @@ impl<F: Fit, A: Allocator> Heap<F, A> {
     /// Takes out the entry at an index of a cell's buffer, which owns nothing any more: those after it move one back, and
     /// the cell counts one less.
     pub fn close_entry(&mut self, content: &Content, cell: u32, index: u32)
-        ensures window { self.new.window ≡ with_bytes self.old.window self.new.window.bytes }
+        ensures window { KeepsHost self.old.window self.new.window }
         ensures types { self.new.types ≡ self.old.types }
     {
         let entry = content.entry;

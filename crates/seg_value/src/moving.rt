@@ -6,7 +6,7 @@ ghost use Rattle.seg_spec.specs.Owning.{StandsBeside};
 ghost use Rattle.seg_spec.specs.Reads.{items, HoldsEach};
 ghost use Rattle.seg_spec.specs.Types.{size};
 ghost use Rattle.seg_spec.specs.Value.{Values};
-ghost use Rattle.seg_spec.specs.Window.{with_bytes};
+ghost use Rattle.seg_spec.specs.Window.{KeepsHost};
 ghost use Rattle.seg_value.specs.Contents.{IsEntryOf};
 ghost use Rattle.seg_value.specs.Pointers.{MovesPointers};
 
@@ -23,7 +23,7 @@ impl<F: Fit, A: Allocator> Heap<F, A> {
     /// Moves `n` values of a type, one after the other, to a place that may overlap theirs. Nothing changes where either
     /// place doesn't lie in the segment.
     pub fn shift(&mut self, t: TypeId, from: u32, to: u32, n: u32)
-        ensures window { self.new.window ≡ with_bytes self.old.window self.new.window.bytes }
+        ensures window { KeepsHost self.old.window self.new.window }
         ensures types { self.new.types ≡ self.old.types }
         ensures changes { IsWithin self.old.window.bytes from (n * size self.old.types t) →
             IsWithin self.old.window.bytes to (n * size self.old.types t) →
@@ -43,7 +43,7 @@ impl<F: Fit, A: Allocator> Heap<F, A> {
 
     /// Moves `n` entries, one after the other, as [`shift`](Heap::shift) moves values.
     pub fn shift_entries(&mut self, entry: Entry, from: u32, to: u32, n: u32)
-        ensures window { self.new.window ≡ with_bytes self.old.window self.new.window.bytes }
+        ensures window { KeepsHost self.old.window self.new.window }
         ensures types { self.new.types ≡ self.old.types }
         ensures text { entry.held ≡ Held.Bytes →
             IsWithin self.old.window.bytes from (n * entry.size) →

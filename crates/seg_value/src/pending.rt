@@ -8,7 +8,7 @@ ghost use Rattle.seg_spec.specs.Reads.{Holds};
 ghost use Rattle.seg_spec.specs.Sound.{times, positions};
 ghost use Rattle.seg_spec.specs.Owing.{IsPart, AreParts, OwesLinks, entries_at};
 ghost use Rattle.seg_spec.specs.Destroying.{AreLive, GoesWith, Pends, Pops, Adds, Uncouples, DefaultsRest, Frees};
-ghost use Rattle.seg_spec.specs.Window.{with_bytes};
+ghost use Rattle.seg_spec.specs.Window.{with_bytes, KeepsHost};
 ghost use Rattle.seg_block.specs.Blocks.{IsSized};
 ghost use Rattle.seg_layout.specs.Forms.{has_cells};
 ghost use Rattle.seg_value.specs.Contents.{IsEntryOf, ContentOf};
@@ -42,7 +42,7 @@ impl Pending {
 
     /// Adds the block whose payload begins at a position.
     pub(crate) fn push<F: Fit, A: Allocator>(&mut self, heap: &mut Heap<F, A>, payload: u32)
-        ensures window { heap.new.window ≡ with_bytes heap.old.window heap.new.window.bytes }
+        ensures window { KeepsHost heap.old.window heap.new.window }
         ensures types { heap.new.types ≡ heap.old.types }
         ensures added { (xs : List ℕ) → GoesWith heap.old.window.bytes heap.old.types payload xs →
             AddsWaiting heap.old heap.new self.old.first self.new.first [] xs }
@@ -67,7 +67,7 @@ impl Pending {
 
     /// Adds the blocks that the cells of a value name. The value must not be read any more.
     pub(crate) fn add_value<F: Fit, A: Allocator>(&mut self, heap: &mut Heap<F, A>, place: Place)
-        ensures window { heap.new.window ≡ with_bytes heap.old.window heap.new.window.bytes }
+        ensures window { KeepsHost heap.old.window heap.new.window }
         ensures types { heap.new.types ≡ heap.old.types }
         ensures added { (home : ℕ) (xs : List ℕ) →
             IsInside heap.old.window.bytes home place.at (size heap.old.types place.type_id) →
@@ -91,7 +91,7 @@ impl Pending {
 
     /// Adds the block that a cell names: of a list or a map one node, which names further ones.
     fn add_cell<F: Fit, A: Allocator>(&mut self, heap: &mut Heap<F, A>, cell: Place)
-        ensures window { heap.new.window ≡ with_bytes heap.old.window heap.new.window.bytes }
+        ensures window { KeepsHost heap.old.window heap.new.window }
         ensures types { heap.new.types ≡ heap.old.types }
         ensures added { (xs : List ℕ) → length (fields_of heap.old.types cell.type_id) ≡ 0 →
             IsPart heap.old.window.bytes heap.old.types (place_of cell) xs →
@@ -109,7 +109,7 @@ impl Pending {
 
     /// Adds the blocks that a block of the list names.
     fn open<F: Fit, A: Allocator>(&mut self, heap: &mut Heap<F, A>, payload: u32)
-        ensures window { heap.new.window ≡ with_bytes heap.old.window heap.new.window.bytes }
+        ensures window { KeepsHost heap.old.window heap.new.window }
         ensures types { heap.new.types ≡ heap.old.types }
         ensures opened { (xs : List ℕ) → GoesWith heap.old.window.bytes heap.old.types payload xs →
             Opens heap.old heap.new self.old.first self.new.first payload xs }
@@ -127,7 +127,7 @@ impl Pending {
 
     /// Adds the nodes that the pointers of a node name. Other blocks have none.
     fn add_links<F: Fit, A: Allocator>(&mut self, heap: &mut Heap<F, A>, shape: Shape, payload: u32)
-        ensures window { heap.new.window ≡ with_bytes heap.old.window heap.new.window.bytes }
+        ensures window { KeepsHost heap.old.window heap.new.window }
         ensures types { heap.new.types ≡ heap.old.types }
         ensures added { (home : ℕ) (xs : List ℕ) →
             IsInside heap.old.window.bytes home payload 8 →
@@ -146,7 +146,7 @@ impl Pending {
 
     /// Adds the node that a pointer of another one names.
     fn add_node<F: Fit, A: Allocator>(&mut self, heap: &mut Heap<F, A>, pointer: u32)
-        ensures window { heap.new.window ≡ with_bytes heap.old.window heap.new.window.bytes }
+        ensures window { KeepsHost heap.old.window heap.new.window }
         ensures types { heap.new.types ≡ heap.old.types }
         ensures added { (xs : List ℕ) →
             OwesLinks heap.old.window.bytes heap.old.types (pointer ∷ []) xs →
@@ -165,7 +165,7 @@ impl Pending {
         start: u32,
         n: u32,
     )
-        ensures window { heap.new.window ≡ with_bytes heap.old.window heap.new.window.bytes }
+        ensures window { KeepsHost heap.old.window heap.new.window }
         ensures types { heap.new.types ≡ heap.old.types }
         ensures bytes { entry.held ≡ Held.Bytes →
             (heap.new.window ≡ heap.old.window) × (self.new.first ≡ self.old.first) }
@@ -188,7 +188,7 @@ impl Pending {
 
     /// Frees the blocks, and all that they lead to.
     pub(crate) fn destroy<F: Fit, A: Allocator>(mut self, heap: &mut Heap<F, A>)
-        ensures window { heap.new.window ≡ with_bytes heap.old.window heap.new.window.bytes }
+        ensures window { KeepsHost heap.old.window heap.new.window }
         ensures types { heap.new.types ≡ heap.old.types }
         ensures freed { (blocks : List ℕ) → IsTable heap.old.types →
             Pends F.code heap.old.window.bytes heap.old.types self.first blocks →
@@ -244,7 +244,7 @@ impl<F: Fit, A: Allocator> Heap<F, A> {
     /// Makes the block that a cell names show by itself what goes with it: the entries of a buffer after the used ones hold
     /// defaults, and the last node of a ring names no next one.
     fn uncouple(&mut self, content: &Content, cell: u32, payload: u32)
-        ensures window { self.new.window ≡ with_bytes self.old.window self.new.window.bytes }
+        ensures window { KeepsHost self.old.window self.new.window }
         ensures types { self.new.types ≡ self.old.types }
         ensures uncouples { (allocator T : ℕ) (v : Value) (xs : List ℕ) →
             IsTable self.old.types → IsHeap allocator self.old.window.bytes →
@@ -267,7 +267,7 @@ impl<F: Fit, A: Allocator> Heap<F, A> {
 
     /// Makes the entries of a buffer after the used ones defaults, where values of theirs may own blocks.
     fn default_rest(&mut self, entry: Entry, start: u32, used: u32)
-        ensures window { self.new.window ≡ with_bytes self.old.window self.new.window.bytes }
+        ensures window { KeepsHost self.old.window self.new.window }
         ensures types { self.new.types ≡ self.old.types }
         ensures bytes { entry.held ≡ Held.Bytes → self.new.window ≡ self.old.window }
         ensures rest { (allocator before U : ℕ) → IsTable self.old.types →
@@ -292,7 +292,7 @@ impl<F: Fit, A: Allocator> Heap<F, A> {
 
     /// Makes the last node of a ring name no next one.
     fn open_ring(&mut self, first: u32)
-        ensures window { self.new.window ≡ with_bytes self.old.window self.new.window.bytes }
+        ensures window { KeepsHost self.old.window self.new.window }
         ensures types { self.new.types ≡ self.old.types }
         ensures opened { (last : ℕ) → target self.old.window.bytes (first + 4) ≡ Some last →
             self.new.window.bytes ≡ set_pointer self.old.window.bytes last None }
