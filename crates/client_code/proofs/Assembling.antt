@@ -1,7 +1,7 @@
 -- A text, and the file that is made of what its lines say.
 use Rattle.std.proofs.Common.{◌≡◌, ℕ, Bool, true, false, List, refl, sym, ap, ◌∙◌, subst}
 use Rattle.std.specs.Prelude.{IsTrue, IsFalse}
-use Rattle.client_spec.specs.Code.{Client}
+use Rattle.client_spec.specs.Syntax.{Client}
 use Rattle.client_spec.specs.Grammar.{IsClient, Spells, spelling}
 use Rattle.client_spec.specs.Text.{EachSpells, SpellsInText, text_of}
 use Rattle.client_spec.specs.Pieces.{Pieces, pieces_of, file_of, items_in, meant, Says}

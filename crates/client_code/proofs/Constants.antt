@@ -5,7 +5,7 @@ use Rattle.std.specs.List.{AllByRecursion}
 use Rattle.std.proofs.lemmas.Bool.{cases_lt}
 use Rattle.std.proofs.lemmas.List.{length-append, flat_map_more, get_or_append_left, get_or_push, get_or_at, length_push, length-map, get_or-map}
 use Rattle.std.proofs.lemmas.List.Elements.{All-push, All-map}
-use Rattle.client_spec.specs.Code.{Constant}
+use Rattle.client_spec.specs.Syntax.{Constant}
 use Rattle.client_spec.specs.Grammar.{constant_bytes, IsConstant, Differ}
 use Rattle.client_spec.proofs.OneClient.{constant_front}
 use Rattle.client_code.specs.Files.{AreConstants}

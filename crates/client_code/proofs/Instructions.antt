@@ -7,7 +7,7 @@ use Rattle.std.proofs.lemmas.List.{length-append, length-drop, flat_map_more, ma
 use Rattle.seg_spec.specs.Bytes.{slice}
 use Rattle.seg_spec.specs.Types.{Table}
 use Rattle.client_spec.specs.declared.table.Operation.{Operation}
-use Rattle.client_spec.specs.Code.{Constant, Instruction, Statements}
+use Rattle.client_spec.specs.Syntax.{Constant, Instruction, Statements}
 use Rattle.client_spec.specs.Grammar.{mark, listing, instruction_bytes, IsInstruction}
 use Rattle.client_spec.proofs.Listed.{all_listed, all_two}
 use Rattle.client_spec.proofs.OneClient.{IsWord, instruction_front, mark_word}

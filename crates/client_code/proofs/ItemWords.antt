@@ -5,9 +5,9 @@ use Rattle.std.proofs.lemmas.List.{take-append-drop}
 use Rattle.std.proofs.lemmas.Slice.Eq.{slice_eq-Decides}
 use Rattle.std.proofs.lemmas.Bool.Decides.{Decides-eqb, not_from_Decides}
 use Rattle.seg_spec.specs.Types.{Form}
-use Rattle.client_spec.specs.Code as code
+use Rattle.client_spec.specs.Syntax as code
 use Rattle.client_spec.specs.declared.table.Operation.{Operation}
-use Rattle.client_spec.specs.Code.{Constant}
+use Rattle.client_spec.specs.Syntax.{Constant}
 use Rattle.client_spec.specs.Operations.{word_of}
 use Rattle.client_spec.specs.Text.{Item, type_item, constant_item, instruction_item, type_word, type_words, instruction_words, Words, words_of, SpellsItem, SpellsText}
 use Rattle.client_spec.proofs.TextWords.{tail_of, front, not_type, not_name, not_family, not_text}

@@ -6,7 +6,7 @@ use Rattle.seg_spec.specs.Bytes.{spelled, number, slice}
 use Rattle.seg_spec.proofs.BytesLaws.{number_in, length-slice}
 use Rattle.client_code.specs.declared.constant.ConstantKind.{ConstantKind}
 use Rattle.client_code.specs.declared.constant.ConstantKind.TheVariants as kind
-use Rattle.client_spec.specs.Code as code
+use Rattle.client_spec.specs.Syntax as code
 use Rattle.client_spec.specs.Grammar.{IsConstant, word, constant_bytes, instruction_bytes}
 use Rattle.client_code.specs.declared.instruction.Instruction.{Instruction}
 use Rattle.client_code.specs.Views.{constant_by, instruction_of}

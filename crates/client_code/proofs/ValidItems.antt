@@ -6,7 +6,7 @@ use Rattle.std.proofs.lemmas.Option.{slice_get-get_or}
 use Rattle.std.proofs.Math.Seq.{drop-cons}
 use Rattle.seg_spec.specs.Types.{Table, IsTable}
 use Rattle.client_spec.specs.declared.table.Operation.{Operation}
-use Rattle.client_spec.specs.Code.{Instruction, Client}
+use Rattle.client_spec.specs.Syntax.{Instruction, Client}
 use Rattle.client_spec.specs.declared.table.Role.{Role}
 use Rattle.client_spec.specs.Grammar.{mark, listing, IsClient, IsInstruction}
 use Rattle.client_spec.specs.Text.{Item, type_item, constant_item, instruction_item, items_of, SpellsItem, EachSpells, SpellsInText}

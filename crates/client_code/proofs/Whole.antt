@@ -7,9 +7,9 @@ use Rattle.seg_spec.specs.Bytes.{slice, spelled, spelling, number}
 use Rattle.seg_spec.specs.Types.{Table, form_bytes}
 use Rattle.seg_spec.proofs.BytesLaws.{number_in, length-slice, length-spelling, spelled-spelling}
 use Rattle.seg_spec.proofs.EntryLaws.{length-table, one_table}
-use Rattle.client_spec.specs.Code.{Constant, Statements, Client}
+use Rattle.client_spec.specs.Syntax.{Constant, Statements, Client}
 use Rattle.client_spec.specs.Grammar.{word, constant_bytes, instruction_bytes, listing, Spells}
-use Rattle.client_spec.specs.Code.{Instruction}
+use Rattle.client_spec.specs.Syntax.{Instruction}
 use Rattle.client_spec.specs.Pieces.{pieces_of}
 use Rattle.client_spec.proofs.OneClient.{constant_front, instruction_front, IsWord, words, all_long, spelling_is, behind}
 use Rattle.std.specs.Int.{w32}

@@ -6,7 +6,7 @@ use Rattle.std.proofs.lemmas.List.Concat.{flat_map-append}
 use Rattle.std.proofs.lemmas.List.Folds.{flat_map-map}
 use Rattle.std.proofs.lemmas.List.Elements.{All-nil, All-push}
 use Rattle.seg_spec.specs.Types.{Form, form_bytes}
-use Rattle.client_spec.specs.Code.{Constant, Instruction}
+use Rattle.client_spec.specs.Syntax.{Constant, Instruction}
 use Rattle.client_spec.specs.Grammar.{constant_bytes, instruction_bytes}
 use Rattle.client_spec.specs.Text.{Item, type_item, constant_item, instruction_item, SpellsItem, EachSpells}
 use Rattle.client_spec.proofs.TextWords.{tail_of}

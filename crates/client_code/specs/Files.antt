@@ -10,7 +10,7 @@
 use Rattle.std.specs.Prelude.{◌≡◌, ℕ, ◌+◌, ◌*◌, ◌≤◌, List, ◌++◌, length, take, drop, flat_map, codes, All, AllPairs}
 use Rattle.seg_spec.specs.Bytes as bytes
 use Rattle.seg_spec.specs.Types.{Table, IsTable, form_bytes}
-use Rattle.client_spec.specs.Code.{Constant, Statements, Client}
+use Rattle.client_spec.specs.Syntax.{Constant, Statements, Client}
 use Rattle.client_spec.specs.Grammar.{constant_bytes, instruction_bytes, listing, IsConstant, Differ, IsCode, depth}
 
 abbrev pub code_place : Client → ℕ

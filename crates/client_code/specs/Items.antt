@@ -8,7 +8,7 @@ use Rattle.std.specs.Prelude.{⊤, ◌≤◌, ℕ, List, length, FitsSigned}
 use Rattle.std.specs.Int.{w32}
 use Rattle.seg_spec.specs.Types.{Table, IsForm, form_bytes}
 use Rattle.seg_layout.specs.Forms.{form_of}
-use Rattle.client_spec.specs.Code as code
+use Rattle.client_spec.specs.Syntax as code
 use Rattle.client_spec.specs.Operations.{row_of}
 use Rattle.client_spec.specs.Grammar.{IsConstant, IsOperand, IsNumber, constant_bytes, instruction_bytes}
 use Rattle.client_spec.specs.Text as text

@@ -1,5 +1,5 @@
 ghost use Rattle.std.specs.Prelude.{◌≡◌, ◌⊎◌, ℕ, IfOk, IfErr, IfSome, IfNone, IsTrue};
-ghost use Rattle.client_spec.specs.Code as syntax;
+ghost use Rattle.client_spec.specs.Syntax as syntax;
 ghost use Rattle.client_spec.specs.Grammar.{IsClient, Spells, spelling};
 ghost use Rattle.client_spec.specs.Text.{SpellsInText, text_of};
 

@@ -3,7 +3,7 @@ ghost use Rattle.std.specs.Int.{w32};
 ghost use Rattle.std.specs.Fmt.{decimal};
 ghost use Rattle.seg_spec.specs.Types.{Form, IsForm, Table};
 ghost use Rattle.seg_layout.specs.Forms.{form_of};
-ghost use Rattle.client_spec.specs.Code as syntax;
+ghost use Rattle.client_spec.specs.Syntax as syntax;
 ghost use Rattle.client_spec.specs.Grammar.{IsOperand, IsNumber};
 ghost use Rattle.client_spec.specs.Text as text;
 ghost use Rattle.client_spec.specs.Text.{words_of, type_word, type_words, operand_words, number_words, instruction_words, SpellsItem};

@@ -1,8 +1,8 @@
 ghost use Rattle.std.specs.Prelude.{◌≡◌, ◌≢◌, ◌≤◌, ◌<◌, ◌+◌, ◌*◌, ◌^◌, ◌++◌, ℕ, List, length, drop, All, ◌↔◌, IsTrue, IfOk, IfErr, IfSome, IfNone, IsSome, OnOk, FitsSigned};
 ghost use Rattle.std.specs.Int.{w32};
 ghost use Rattle.seg_spec.specs.Bytes.{slice};
-ghost use Rattle.client_spec.specs.Code as syntax;
-ghost use Rattle.client_spec.specs.Code.{Statements};
+ghost use Rattle.client_spec.specs.Syntax as syntax;
+ghost use Rattle.client_spec.specs.Syntax.{Statements};
 ghost use Rattle.client_spec.specs.Grammar.{constant_bytes, instruction_bytes, listing, IsConstant, Differ, Spells};
 ghost use Rattle.client_code.specs.Views.{constant_of, constants_of, instruction_of};
 ghost use Rattle.client_code.specs.Files.{AreConstants, IsCodeAt};

@@ -1,5 +1,5 @@
 ghost use Rattle.std.specs.Prelude.{◌≡◌, ◌++◌, ◌∷◌, ℕ, List, IfOk, IfSome, IfNone, IsTrue, IsFalse};
-ghost use Rattle.client_spec.specs.Code as syntax;
+ghost use Rattle.client_spec.specs.Syntax as syntax;
 ghost use Rattle.client_spec.specs.Text as text;
 ghost use Rattle.client_spec.specs.Text.{SpellsItem, SpellsInText};
 ghost use Rattle.client_spec.specs.Pieces.{IsReadable, meant, Pieces, Says, file_of};

@@ -7,7 +7,7 @@ use Rattle.std.specs.Prelude.{◌≡◌, ⊤, ℕ, ◌^◌, ◌≤◌, List, [],
 use Rattle.seg_spec.specs.Window.{IsPlace}
 use Rattle.seg_spec.specs.Sound.{IsSound}
 use Rattle.seg_spec.specs.Faulty.{IsImageLength}
-use Rattle.client_spec.specs.Code.{Client}
+use Rattle.client_spec.specs.Syntax.{Client}
 use Rattle.client_spec.specs.Grammar.{Spells}
 use Rattle.client_spec.specs.OnImages.{Move, Given, Left}
 use Rattle.client_spec.specs.Clients.{IsVerified, AreAccepted, RunClients, table_behind, AreMoves, IsFirstBadMove}

@@ -6,7 +6,7 @@ use Rattle.std.proofs.lemmas.List.{take-append-drop, take_all}
 use Rattle.std.proofs.lemmas.Option.{slice_get_cases}
 use Rattle.seg_spec.specs.Types.{Table}
 use Rattle.client_spec.specs.declared.table.Operation.{Operation}
-use Rattle.client_spec.specs.Code.{Constant, Instruction, Client}
+use Rattle.client_spec.specs.Syntax.{Constant, Instruction, Client}
 use Rattle.client_spec.specs.Operations.{row_of}
 use Rattle.client_spec.specs.Grammar.{mark, listing, IsInstruction, IsClient}
 use Rattle.client_spec.specs.Run.{bound}

@@ -6,7 +6,7 @@ use Rattle.std.proofs.Common.{◌≡◌, ℕ, refl, sym, ap, ◌∙◌, arith, B
 use Rattle.std.specs.Prelude.{ℤ, ◌==◌, if◌then◌else◌}
 use Rattle.std.specs.Option.{is_some, option_and_then}
 use Rattle.seg_spec.specs.Types.{Form, Table, form_at}
-use Rattle.client_spec.specs.Code.{Constant}
+use Rattle.client_spec.specs.Syntax.{Constant}
 use Rattle.client_spec.specs.Grammar.{NamesBy, IsText}
 use Rattle.client_spec.specs.Typed.{Class, RegisterType, RegisterTypes, Reason, ◌>>=◌, Rule, known, is_owner, integer_needed, reference_needed, owner_needed, copy_needed, some_needed, name_needed, text_needed, integer_or_none, form_needed, required}
 use Rattle.client_spec.specs.declared.table.Kinds.{Kinds}

@@ -2,7 +2,7 @@
 use Rattle.std.proofs.Common.{◌≡◌, ◌≢◌, ◌≤◌, ◌/◌, ◌%◌, ℕ, List, length, refl, arith}
 use Rattle.std.specs.Prelude.{⊤, ℤ, pos, negsuc, nat_abs}
 use Rattle.seg_spec.specs.Types.{Table}
-use Rattle.client_spec.specs.Code.{Constant}
+use Rattle.client_spec.specs.Syntax.{Constant}
 use Rattle.client_spec.specs.declared.table.Number.{Number}
 use Rattle.client_spec.specs.Grammar.{IsNumber}
 use Rattle.client_spec.specs.Answer.{type_operand, constant_operand}

@@ -4,7 +4,7 @@ use Rattle.std.proofs.Common.{◌≡◌, ◌%◌, ℕ, refl, sym, ap, ◌∙◌,
 use Rattle.std.specs.Prelude.{ℤ, pos, negsuc, nat_abs, not, slice_get, slice_set}
 use Rattle.seg_spec.specs.Types.{Table, form_at}
 use Rattle.client_spec.specs.Answer.{type_operand, constant_operand}
-use Rattle.client_spec.specs.Code.{Constant, Instruction}
+use Rattle.client_spec.specs.Syntax.{Constant, Instruction}
 use Rattle.client_spec.specs.declared.table.Number.{Number}
 use Rattle.client_spec.specs.Grammar.{IsInstruction}
 use Rattle.client_spec.specs.Typed.{Class, RegisterType, RegisterTypes, Reason, ◌>>=◌, Rule, known, same_class, is_owner, required, ended, others_ended, combines, item_known, rule, known_after, gives, opens}

@@ -8,7 +8,7 @@
 --     at_most n                          n, or the most steps that the verifier counts
 use Rattle.std.specs.Prelude.{ℕ, ◌+◌, ◌*◌, ◌^◌, ◌-◌, min, max, nat_abs, List, [], ◌∷◌, length, replicate, nat_lt, if◌then◌else◌, Ok}
 use Rattle.seg_spec.specs.Types.{Table}
-use Rattle.client_spec.specs.Code.{Constant, Instruction}
+use Rattle.client_spec.specs.Syntax.{Constant, Instruction}
 use Rattle.client_spec.specs.declared.table.Role.{Role}
 use Rattle.client_spec.specs.Operations.{row_of}
 use Rattle.client_spec.specs.Typed.{Checked, ◌>>=◌, RegisterType, RegisterTypes, Rule, known, known_after, integer_needed, rule_of, joined, kept}

@@ -2,7 +2,7 @@
 --     progress_of verifier                        where it stands
 --     PassesBy role old instruction new result   what an instruction of this role makes of it
 use Rattle.std.specs.Prelude.{◌≡◌, ⊤, ℕ, List, map, reverse, Result}
-use Rattle.client_spec.specs.Code.{Constant}
+use Rattle.client_spec.specs.Syntax.{Constant}
 use Rattle.client_spec.specs.declared.table.Role.{Role}
 use Rattle.client_spec.specs.Operations.{row_of}
 use Rattle.client_spec.specs.Grammar.{IsInstruction}

@@ -1,5 +1,5 @@
 ghost use Rattle.std.specs.Prelude.{◌≡◌, ◌+◌, List, IfOk, IfErr, Ok, Err};
-ghost use Rattle.client_spec.specs.Code as syntax;
+ghost use Rattle.client_spec.specs.Syntax as syntax;
 ghost use Rattle.client_spec.specs.Grammar.{IsInstruction};
 ghost use Rattle.client_spec.specs.declared.table.Role.TheVariants as role;
 ghost use Rattle.client_spec.specs.Operations.{row_of};

@@ -7,7 +7,7 @@ use Rattle.seg_spec.specs.Sound.{IsSound}
 use Rattle.seg_raw.specs.declared.fault.Fault.{Fault}
 use Rattle.seg_raw.specs.declared.fault.Fault.TheVariants as fault
 use Rattle.seg_check.specs.Faults.{IsFaultOf}
-use Rattle.client_spec.specs.Code.{Client}
+use Rattle.client_spec.specs.Syntax.{Client}
 use Rattle.client_spec.specs.Grammar.{Spells}
 use Rattle.client_spec.specs.OnImages.{Move, Left}
 use Rattle.client_spec.specs.Clients.{outputs, image_behind, ending_behind, table_behind, StayWithin}

@@ -3,7 +3,7 @@ ghost use Rattle.seg_spec.specs.Window.{IsPlace};
 
 use crate::interpreter::run;
 use crate::moves::{first_bad_move, is_place};
-use crate::report::{Ended, Move, Outcome, Place, Refused, Report};
+use crate::report::{Ended, Move, Outcome, Refused, Report, Schedule};
 use crate::sink::Sink;
 use client_code::parse;
 use client_verify::{Verified, verify};
@@ -22,7 +22,7 @@ const MAX_ROOM: u32 = 1 << 31;
 
 /// Checks an image, verifies the clients, runs one after the other on it, and gives the saved image.
 ///
-/// Refused for the image's length, the place, a move, the image's first fault, or a client's, in this order; then nothing
+/// Refused for the image's length, its base, a move, the image's first fault, or a client's, in this order; then nothing
 /// was written. All memory is taken before the first step. Each client makes the moves anew and reads the input that the
 /// ones before it left. After an output that failed no further client runs.
 pub fn run_bytes<A: Allocator + Copy, W: Sink>(
@@ -30,16 +30,16 @@ pub fn run_bytes<A: Allocator + Copy, W: Sink>(
     image: &[u8],
     clients: &[&[u8]],
     input: &[u8],
-    place: &Place,
+    schedule: &Schedule,
     out: &mut W,
 ) -> Result<Outcome<A>, Refused>
     requires works { W.has_failed out.old ≡ false }
     ensures refused { OnErr result (W.has_failed out.new ≡ false) }
     ensures ended { IfOk result (λ o. (o.ended ≡ Ended.OutputFailed) ↔ (W.has_failed out.new ≡ true)) }
 {
-    let len = fitting(image, place)?;
-    let region = Region::with_bytes(alloc, place.room, place.base, image)?;
-    run_in(alloc, region, len, clients, input, place, out)
+    let len = fitting(image, schedule)?;
+    let region = Region::with_bytes(alloc, schedule.room, schedule.base, image)?;
+    run_in(alloc, region, len, clients, input, schedule, out)
 }
 
 /// As [`run_bytes`], on bytes of the caller's, which aren't copied where the segment is the whole region.
@@ -48,20 +48,20 @@ pub fn run_image<A: Allocator + Copy, W: Sink>(
     image: Vec<u8, A>,
     clients: &[&[u8]],
     input: &[u8],
-    place: &Place,
+    schedule: &Schedule,
     out: &mut W,
 ) -> Result<Outcome<A>, Refused>
     requires works { W.has_failed out.old ≡ false }
     ensures refused { OnErr result (W.has_failed out.new ≡ false) }
     ensures ended { IfOk result (λ o. (o.ended ≡ Ended.OutputFailed) ↔ (W.has_failed out.new ≡ true)) }
 {
-    let len = fitting(image.as_slice(), place)?;
-    let region = if len == place.room {
+    let len = fitting(image.as_slice(), schedule)?;
+    let region = if len == schedule.room {
         Region::from_vec(image)
     } else {
-        Region::with_bytes(alloc, place.room, place.base, image.as_slice())?
+        Region::with_bytes(alloc, schedule.room, schedule.base, image.as_slice())?
     };
-    run_in(alloc, region, len, clients, input, place, out)
+    run_in(alloc, region, len, clients, input, schedule, out)
 }
 
 /// Runs clients on the image of `len` bytes at its place in a region, with the allocator that it names.
@@ -71,18 +71,18 @@ fn run_in<A: Allocator + Copy, W: Sink>(
     len: u32,
     clients: &[&[u8]],
     input: &[u8],
-    place: &Place,
+    schedule: &Schedule,
     out: &mut W,
 ) -> Result<Outcome<A>, Refused>
     requires works { W.has_failed out.old ≡ false }
     ensures refused { OnErr result (W.has_failed out.new ≡ false) }
     ensures ended { IfOk result (λ o. (o.ended ≡ Ended.OutputFailed) ↔ (W.has_failed out.new ≡ true)) }
 {
-    let window = Window::place(region, place.base, len).map_err(|refused| refused.0)?;
+    let window = Window::place(region, schedule.base, len).map_err(|refused| refused.0)?;
     if window.get32(header::ALLOCATOR) == BestFit::word() {
-        run_on::<BestFit, A, W>(alloc, window, clients, input, place.moves, out)
+        run_on::<BestFit, A, W>(alloc, window, clients, input, schedule.moves, out)
     } else {
-        run_on::<SeqFit, A, W>(alloc, window, clients, input, place.moves, out)
+        run_on::<SeqFit, A, W>(alloc, window, clients, input, schedule.moves, out)
     }
 }
 
@@ -123,15 +123,15 @@ fn run_on<F: Fit, A: Allocator + Copy, W: Sink>(
 }
 
 /// The length of an image that may lie at a place and make the moves.
-fn fitting(image: &[u8], place: &Place) -> Result<u32, Fault>
+fn fitting(image: &[u8], schedule: &Schedule) -> Result<u32, Fault>
     ensures len { IfOk result (λ n. n ≡ length image.now) }
-    ensures fits { IfOk result (λ n. IsPlace place.now.room place.now.base n × (place.now.room ≤ 2 ^ 31)) }
+    ensures fits { IfOk result (λ n. IsPlace schedule.now.room schedule.now.base n × (schedule.now.room ≤ 2 ^ 31)) }
 {
     let len = image_len(image)?;
-    if place.room > MAX_ROOM || !is_place(place.room, place.base, len) {
+    if schedule.room > MAX_ROOM || !is_place(schedule.room, schedule.base, len) {
         return Err(Fault::Misplaced);
     }
-    if let Some(i) = first_bad_move(len, place.room, place.moves) {
+    if let Some(i) = first_bad_move(len, schedule.room, schedule.moves) {
         return Err(Fault::BadMove(u32::try_from(i).unwrap_or(u32::MAX)));
     }
     Ok(len)

@@ -38,7 +38,7 @@ pub fn locate<A: Allocator>(w: &Window<A>, need: u32) -> (Option<u32>, u32)
 }
 
 impl Fit for BestFit {
-    ghost code = { 1 };
+    ghost allocator = { 1 };
 
     fn word() -> u32 {
         1

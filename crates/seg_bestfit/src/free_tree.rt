@@ -122,7 +122,7 @@ pub(crate) fn put_in<A: Allocator>(w: &mut Window<A>, block: Block)
 }
 
 impl FreeStructure for BestFit {
-    ghost code = { 1 };
+    ghost allocator = { 1 };
 
     /// The tree finds a block by its size and its position.
     type Predecessor = ();

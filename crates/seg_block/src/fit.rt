@@ -19,34 +19,34 @@ use std::alloc::Allocator;
 /// An allocator gives the calls up to `cut_end`, of which `resize` and `enlarge` are what the others stand on. The calls
 /// after it have one body for all allocators.
 pub trait Fit {
-    ghost code: { ℕ };
+    ghost allocator: { ℕ };
 
     /// What the word [`ALLOCATOR`](seg_ptr::header::ALLOCATOR) of an image holds for this allocator.
     fn word() -> u32
-        ensures { result ≡ code };
+        ensures { result ≡ allocator };
 
     /// How many bytes at the start of a free block's payload the allocator uses.
     fn free_words() -> u32
-        ensures words { result ≡ UNIT * code }
+        ensures words { result ≡ UNIT * allocator }
         ensures small { result ≤ UNIT };
 
     /// Makes the heap of a segment, which has room for two units, one gap.
     fn init<A: Allocator>(w: &mut Window<A>)
         ensures host { KeepsHost w.old w.new }
         ensures begins { smallest ≤ length w.old.bytes → length w.old.bytes % UNIT ≡ 0
-            → Begins code w.old.bytes w.new.bytes };
+            → Begins allocator w.old.bytes w.new.bytes };
 
     /// Takes a block of `need` units, or of one more where a single unit would be left. None where no gap has them.
     fn allocate<A: Allocator>(w: &mut Window<A>, need: u32) -> Option<u32>
         requires { 2 ≤ need }
         ensures host { KeepsHost w.old w.new }
-        ensures takes { IsHeap code w.old.bytes → Takes code w.old.bytes w.new.bytes need result };
+        ensures takes { IsHeap allocator w.old.bytes → Takes allocator w.old.bytes w.new.bytes need result };
 
     /// Gives a live block back. It joins the gaps beside it.
     fn free<A: Allocator>(w: &mut Window<A>, block: u32)
         ensures host { KeepsHost w.old w.new }
-        ensures gives { IsHeap code w.old.bytes → IsLive w.old.bytes block
-            → Gives code w.old.bytes w.new.bytes block };
+        ensures gives { IsHeap allocator w.old.bytes → IsLive w.old.bytes block
+            → Gives allocator w.old.bytes w.new.bytes block };
 
     /// Gives a live block other units, at the cost or in favour of the gap of `room` units right after it (0 where there is
     /// none). `expand` and `shrink` have found out how many.
@@ -56,9 +56,9 @@ pub trait Fit {
         requires rest { (units ≡ block.units) ⊎ IsCut (block.units + room) units }
         ensures host { KeepsHost w.old w.new }
         ensures same { units ≡ block.units → w.new ≡ w.old }
-        ensures resized { IsHeap code w.old.bytes → IsLiveBlock w.old.bytes block.at block.units
+        ensures resized { IsHeap allocator w.old.bytes → IsLiveBlock w.old.bytes block.at block.units
             → room ≡ room_after w.old.bytes block.at block.units
-            → IsResized code w.old.bytes w.new.bytes block.at units };
+            → IsResized allocator w.old.bytes w.new.bytes block.at units };
 
     /// Gives the last block of a heap more units, up to the end of the segment.
     fn enlarge<A: Allocator>(w: &mut Window<A>, last: Block, units: u32)
@@ -68,25 +68,25 @@ pub trait Fit {
         ensures enlarges { (xs : List Tile) (l : Bool)
             → Fill HEAP_START (ending xs last l) (block_end last)
             → AreHeaders w.old.bytes 0 (ending xs last l)
-            → HoldsGaps code w.old.bytes (free_of (ending xs last l))
+            → HoldsGaps allocator w.old.bytes (free_of (ending xs last l))
             → last.at + UNIT * units ≡ length w.old.bytes
-            → Enlarges code w.old.bytes w.new.bytes xs last.at last.units units l };
+            → Enlarges allocator w.old.bytes w.new.bytes xs last.at last.units units l };
 
     /// Cuts the gap at the heap's end, but for two units of a heap that is one gap. Sets the image's size, and returns by
     /// how many units the window can be cut. Of a heap of more than two units that can't be cut the size alone is written.
     fn cut_end<A: Allocator>(w: &mut Window<A>) -> u32
         ensures host { KeepsHost w.old w.new }
-        ensures cuts { smallest ≤ length w.old.bytes → IsHeap code w.old.bytes
-            → Cuts code w.old.bytes w.new.bytes result }
-        ensures unchanged { smallest < length w.old.bytes → IsHeap code w.old.bytes → result ≡ 0
+        ensures cuts { smallest ≤ length w.old.bytes → IsHeap allocator w.old.bytes
+            → Cuts allocator w.old.bytes w.new.bytes result }
+        ensures unchanged { smallest < length w.old.bytes → IsHeap allocator w.old.bytes → result ≡ 0
             → w.new ≡ with_bytes w.old (set_word w.old.bytes SIZE (length w.old.bytes / UNIT)) };
 
     /// Gives a live block `need` units where it stands, or one more. False where the gap right after it is too small.
     final fn expand<A: Allocator>(w: &mut Window<A>, block: u32, need: u32) -> bool
         requires { 2 ≤ need }
         ensures host { KeepsHost w.old w.new }
-        ensures expands { (x : ℕ) → IsHeap code w.old.bytes → IsLiveBlock w.old.bytes block x
-            → Expands code w.old.bytes w.new.bytes block x need result }
+        ensures expands { (x : ℕ) → IsHeap allocator w.old.bytes → IsLiveBlock w.old.bytes block x
+            → Expands allocator w.old.bytes w.new.bytes block x need result }
     {
         let Some(block) = block_at(w, block) else {
             return false;
@@ -104,9 +104,9 @@ pub trait Fit {
     final fn shrink<A: Allocator>(w: &mut Window<A>, block: u32, need: u32)
         requires { 2 ≤ need }
         ensures host { KeepsHost w.old w.new }
-        ensures shrinks { (x : ℕ) → IsHeap code w.old.bytes → IsLiveBlock w.old.bytes block x
-            → need ≤ x → Shrinks code w.old.bytes w.new.bytes block x need }
-        ensures unchanged { (x : ℕ) → IsHeap code w.old.bytes → IsLiveBlock w.old.bytes block x
+        ensures shrinks { (x : ℕ) → IsHeap allocator w.old.bytes → IsLiveBlock w.old.bytes block x
+            → need ≤ x → Shrinks allocator w.old.bytes w.new.bytes block x need }
+        ensures unchanged { (x : ℕ) → IsHeap allocator w.old.bytes → IsLiveBlock w.old.bytes block x
             → need ≤ x → shrunk x (room_after w.old.bytes block x) need ≡ x → w.new ≡ w.old }
     {
         let Some(block) = block_at(w, block) else {
@@ -124,8 +124,8 @@ pub trait Fit {
         requires { UNIT * units ≤ length w.old.bytes }
         ensures host { KeepsHost w.old w.new }
         ensures extends { smallest + UNIT * units ≤ length w.old.bytes
-            → IsHeap code (without_last w.old.bytes units)
-            → Extends code w.old.bytes w.new.bytes units }
+            → IsHeap allocator (without_last w.old.bytes units)
+            → Extends allocator w.old.bytes w.new.bytes units }
     {
         let len = w.len();
         let end = len - UNIT * units;

@@ -14,7 +14,7 @@ use std::alloc::Allocator;
 
 /// How an allocator holds the free blocks of a heap. Between these calls free blocks may be neighbours.
 pub trait FreeStructure {
-    ghost code: { ℕ };
+    ghost allocator: { ℕ };
 
     /// What leads to a block in the structure, where its own position isn't enough.
     type Predecessor: Copy;
@@ -24,15 +24,15 @@ pub trait FreeStructure {
     /// What leads to a block in the structure, or would if it were free.
     fn predecessor<A: Allocator>(w: &Window<A>, block: Block) -> Self::Predecessor
         ensures { (xs ys : List Tile) (l : Bool)
-            → IsTiling code w.now.bytes (xs ++ tile_of block l ∷ ys) → leads result xs };
+            → IsTiling allocator w.now.bytes (xs ++ tile_of block l ∷ ys) → leads result xs };
 
     /// Makes a free block live.
     fn take<A: Allocator>(w: &mut Window<A>, predecessor: Self::Predecessor, block: Block)
         requires { block_end block ≤ MAX_LEN }
         ensures host { KeepsHost w.old w.new }
         ensures tiles { (xs ys : List Tile) → leads predecessor xs
-            → IsTiling code w.old.bytes (xs ++ tile_of block false ∷ ys)
-            → Retiles code w.old.bytes w.new.bytes xs (tile_of block true ∷ []) ys
+            → IsTiling allocator w.old.bytes (xs ++ tile_of block false ∷ ys)
+            → Retiles allocator w.old.bytes w.new.bytes xs (tile_of block true ∷ []) ys
             × (link_at w.new.bytes block.at ≡ None) };
 
     /// Makes a live block free. It joins no gap.
@@ -40,8 +40,8 @@ pub trait FreeStructure {
         requires { block_end block ≤ MAX_LEN }
         ensures host { KeepsHost w.old w.new }
         ensures tiles { (xs ys : List Tile) → leads predecessor xs
-            → IsTiling code w.old.bytes (xs ++ tile_of block true ∷ ys)
-            → Retiles code w.old.bytes w.new.bytes xs (tile_of block false ∷ []) ys };
+            → IsTiling allocator w.old.bytes (xs ++ tile_of block true ∷ ys)
+            → Retiles allocator w.old.bytes w.new.bytes xs (tile_of block false ∷ []) ys };
 
     ghost leads_past: { (p : Self.Predecessor) (xs : List Tile) (at units : ℕ)
         → leads p xs → leads p (xs ++ tile at units true ∷ []) };
@@ -60,9 +60,9 @@ pub fn resize<S: FreeStructure, A: Allocator>(
     requires rest { (units ≡ block.units) ⊎ IsCut (block.units + room) units }
     ensures host { KeepsHost w.old w.new }
     ensures same { units ≡ block.units → w.new ≡ w.old }
-    ensures resized { IsHeap S.code w.old.bytes → IsLiveBlock w.old.bytes block.at block.units
+    ensures resized { IsHeap S.allocator w.old.bytes → IsLiveBlock w.old.bytes block.at block.units
         → room ≡ room_after w.old.bytes block.at block.units
-        → IsResized S.code w.old.bytes w.new.bytes block.at units }
+        → IsResized S.allocator w.old.bytes w.new.bytes block.at units }
 {
     if units == block.units {
         return;
@@ -87,9 +87,9 @@ pub fn absorb<S: FreeStructure, A: Allocator>(
     ensures host { KeepsHost w.old w.new }
     ensures none { more ≡ 0 → w.new ≡ w.old }
     ensures tiles { (xs ys : List Tile) → S.leads predecessor xs
-        → IsTiling S.code w.old.bytes
+        → IsTiling S.allocator w.old.bytes
         (xs ++ (tile_of block true ∷ tile_behind block more false ∷ ys))
-        → Retiles S.code w.old.bytes w.new.bytes xs (grown block more true ∷ []) ys
+        → Retiles S.allocator w.old.bytes w.new.bytes xs (grown block more true ∷ []) ys
         × Agrees w.old.bytes w.new.bytes (block.at + TAG) (block_end block) }
 {
     if more == 0 {
@@ -116,8 +116,8 @@ pub fn cut<S: FreeStructure, A: Allocator>(
     ensures host { KeepsHost w.old w.new }
     ensures whole { units ≡ block.units → w.new ≡ w.old }
     ensures tiles { units + 2 ≤ block.units → (xs ys : List Tile) → S.leads predecessor xs
-        → IsTiling S.code w.old.bytes (xs ++ tile_of block true ∷ ys)
-        → Retiles S.code w.old.bytes w.new.bytes xs (halves block units true false) ys
+        → IsTiling S.allocator w.old.bytes (xs ++ tile_of block true ∷ ys)
+        → Retiles S.allocator w.old.bytes w.new.bytes xs (halves block units true false) ys
         × Agrees w.old.bytes w.new.bytes (block.at + TAG) (block.at + UNIT * units) }
 {
     if units < block.units {

@@ -24,8 +24,8 @@ pub fn request_new<F: Fit, A: Allocator>(
     requires preferred { 2 ≤ preferred }
     requires limit { 2 ≤ limit }
     ensures host { KeepsHost w.old w.new }
-    ensures grants { IsHeap F.code w.old.bytes
-        → GrantsNew F.code w.old.bytes w.new.bytes preferred limit result }
+    ensures grants { IsHeap F.allocator w.old.bytes
+        → GrantsNew F.allocator w.old.bytes w.new.bytes preferred limit result }
 {
     if let Some(block) = F::allocate(w, preferred) {
         return Some(Grant::New(block));
@@ -43,8 +43,8 @@ pub fn request_at<F: Fit, A: Allocator>(
     requires preferred { 2 ≤ preferred }
     requires limit { 2 ≤ limit }
     ensures host { KeepsHost w.old w.new }
-    ensures grants { (x : ℕ) → IsHeap F.code w.old.bytes → IsLiveBlock w.old.bytes block x
-        → Grants F.code w.old.bytes w.new.bytes block x preferred limit result }
+    ensures grants { (x : ℕ) → IsHeap F.allocator w.old.bytes → IsLiveBlock w.old.bytes block x
+        → Grants F.allocator w.old.bytes w.new.bytes block x preferred limit result }
 {
     if F::expand(w, block, preferred) {
         return Some(Grant::Same(block));
@@ -71,11 +71,11 @@ pub fn request<F: Fit, A: Allocator>(
     requires preferred { 2 ≤ preferred }
     requires limit { 2 ≤ limit }
     ensures host { KeepsHost w.old w.new }
-    ensures same { (at x : ℕ) → old ≡ Some at → IsHeap F.code w.old.bytes
+    ensures same { (at x : ℕ) → old ≡ Some at → IsHeap F.allocator w.old.bytes
         → IsLiveBlock w.old.bytes at x
-        → Grants F.code w.old.bytes w.new.bytes at x preferred limit result }
-    ensures new { old ≡ None → IsHeap F.code w.old.bytes
-        → GrantsNew F.code w.old.bytes w.new.bytes preferred limit result }
+        → Grants F.allocator w.old.bytes w.new.bytes at x preferred limit result }
+    ensures new { old ≡ None → IsHeap F.allocator w.old.bytes
+        → GrantsNew F.allocator w.old.bytes w.new.bytes preferred limit result }
 {
     match old {
         Some(block) => request_at::<F, A>(w, block, preferred, limit),

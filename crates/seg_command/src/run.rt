@@ -3,7 +3,7 @@ ghost use Rattle.std.specs.Prelude.{◌≡◌, false};
 use crate::failure::{Failure, STANDARD_OUTPUT};
 use crate::files::Files;
 use crate::program::{MAX_FILE, MAX_IMAGE, read, write};
-use client_vm::{Ended, Place, Sink, run_image};
+use client_vm::{Ended, Schedule, Sink, run_image};
 use seg_words::Run;
 use std::alloc::Global;
 
@@ -27,13 +27,13 @@ pub fn run_files<'a, F: Files, O: Sink>(
         .iter()
         .map(|client| client.as_slice())
         .collect(alloc)?;
-    let place = place_of(run, image.len());
+    let schedule = schedule_of(run, image.len());
     let outcome = run_image(
         alloc,
         image,
         clients.as_slice(),
         input.as_slice(),
-        &place,
+        &schedule,
         out,
     )?;
     let saved = write(files, run.out, outcome.image.as_slice());
@@ -58,9 +58,9 @@ fn read_all<'a, F: Files>(
 }
 
 /// Where a segment of so many bytes lies: in a region that it ends, where the words say nothing else.
-fn place_of(run: &Run, len: usize) -> Place<'static> {
+fn schedule_of(run: &Run, len: usize) -> Schedule<'static> {
     let len = u32::try_from(len).unwrap_or(u32::MAX);
-    Place {
+    Schedule {
         room: run.room.unwrap_or(run.base.saturating_add(len)),
         base: run.base,
         moves: &[],

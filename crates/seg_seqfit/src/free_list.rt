@@ -16,7 +16,7 @@ use seg_ptr::{MAX_LEN, Window};
 use std::alloc::Allocator;
 
 impl FreeStructure for SeqFit {
-    ghost code = { 0 };
+    ghost allocator = { 0 };
 
     /// The pointer word that names the first free block at the block's position or above.
     type Predecessor = usize;

@@ -14,7 +14,7 @@ use std::alloc::Allocator;
 pub struct SeqFit;
 
 impl Fit for SeqFit {
-    ghost code = { 0 };
+    ghost allocator = { 0 };
 
     fn word() -> u32 {
         0

@@ -47,11 +47,11 @@ impl<F: Fit, A: Allocator> Heap<F, A> {
         ensures given { (before U tag : ℕ) (shape : Shape) →
             IsContent self.old.types shape tag before U content.now → before ≤ 24 → tag < 2 ^ 32 →
             IsTable self.old.types → U < length self.old.types →
-            IsHeap F.code self.old.window.bytes →
+            IsHeap F.allocator self.old.window.bytes →
             MatchResult result
-            (GivesBlock F.code self.old.window.bytes self.new.window.bytes self.old.types
+            (GivesBlock F.allocator self.old.window.bytes self.new.window.bytes self.old.types
             tag before U)
-            (λ code. Refuses F.code self.old.window.bytes self.new.window.bytes
+            (λ code. Refuses F.allocator self.old.window.bytes self.new.window.bytes
             (block_for (before + size self.old.types U) ∷ [])) }
     {
         let need = content.entry.need(1);
@@ -80,9 +80,9 @@ impl<F: Fit, A: Allocator> Heap<F, A> {
     pub fn free_block(&mut self, start: u32)
         ensures window { KeepsHost self.old.window self.new.window }
         ensures types { self.new.types ≡ self.old.types }
-        ensures gives { IsHeap F.code self.old.window.bytes →
+        ensures gives { IsHeap F.allocator self.old.window.bytes →
             IsLive self.old.window.bytes (block_of start) →
-            Gives F.code self.old.window.bytes self.new.window.bytes (block_of start) }
+            Gives F.allocator self.old.window.bytes self.new.window.bytes (block_of start) }
     {
         let block = block_of(start);
         F::free(&mut self.window, block);
@@ -96,14 +96,14 @@ impl<F: Fit, A: Allocator> Heap<F, A> {
         ensures code { IsOkUnless result Code.BadAlloc }
         ensures reserves { (T : ℕ) (v : Value) (blocks : List ℕ) →
             NamesBuffer self.old.types T content.now →
-            Stands F.code self.old.window.bytes self.old.types (place_at cell T) v blocks →
+            Stands F.allocator self.old.window.bytes self.old.types (place_at cell T) v blocks →
             limit * content.now.entry.size < 2 ^ 32 →
             MatchResult result
-            (λ done. Reserves F.code self.old.window.bytes self.new.window.bytes self.old.types
+            (λ done. Reserves F.allocator self.old.window.bytes self.new.window.bytes self.old.types
             (place_at cell T) v blocks
             (buffer_asks self.old.window.bytes cell content.now.entry.size limit)
             (limit * content.now.entry.size))
-            (λ code. Refuses F.code self.old.window.bytes self.new.window.bytes
+            (λ code. Refuses F.allocator self.old.window.bytes self.new.window.bytes
             (buffer_asks self.old.window.bytes cell content.now.entry.size limit)) }
     {
         if u64::from(limit) * u64::from(content.entry.size) <= u64::from(self.room(cell)) {
@@ -142,15 +142,15 @@ impl<F: Fit, A: Allocator> Heap<F, A> {
         ensures code { IsOkUnless result Code.BadAlloc }
         ensures enlarges { (T : ℕ) (v : Value) (blocks : List ℕ) →
             NamesBuffer self.old.types T content.now →
-            Stands F.code self.old.window.bytes self.old.types (place_at cell T) v blocks →
+            Stands F.allocator self.old.window.bytes self.old.types (place_at cell T) v blocks →
             limit * content.now.entry.size < 2 ^ 32 →
             16 * units_named self.old.window.bytes cell - 16 < limit * content.now.entry.size →
             MatchResult result
-            (λ done. Reserves F.code self.old.window.bytes self.new.window.bytes self.old.types
+            (λ done. Reserves F.allocator self.old.window.bytes self.new.window.bytes self.old.types
             (place_at cell T) v blocks
             (buffer_asks self.old.window.bytes cell content.now.entry.size limit)
             (limit * content.now.entry.size))
-            (λ code. Refuses F.code self.old.window.bytes self.new.window.bytes
+            (λ code. Refuses F.allocator self.old.window.bytes self.new.window.bytes
             (buffer_asks self.old.window.bytes cell content.now.entry.size limit)) }
     {
         let entry = content.entry;
@@ -173,10 +173,10 @@ impl<F: Fit, A: Allocator> Heap<F, A> {
         ensures types { self.new.types ≡ self.old.types }
         ensures moves { (T u : ℕ) (before : List ℕ) (v : Value) (blocks : List ℕ) →
             NamesBuffer self.old.types T content.now →
-            Stands F.code before self.old.types (place_at cell T) v blocks →
-            Takes F.code before self.old.window.bytes u (Some block) → 2 ≤ u →
+            Stands F.allocator before self.old.types (place_at cell T) v blocks →
+            Takes F.allocator before self.old.window.bytes u (Some block) → 2 ≤ u →
             count_at before cell * content.now.entry.size + 16 ≤ 16 * u →
-            MovesBuffer F.code before self.old.window.bytes self.new.window.bytes self.old.types
+            MovesBuffer F.allocator before self.old.window.bytes self.new.window.bytes self.old.types
             (place_at cell T) v blocks u }
     {
         let new = self.tagged(content, block);
@@ -196,7 +196,7 @@ impl<F: Fit, A: Allocator> Heap<F, A> {
         ensures types { self.new.types ≡ self.old.types }
         ensures shrinks { (form : Form) (v : Value) (blocks : List ℕ) →
             form_at self.old.types place.type_id ≡ Some form → has_buffer (Some form) ≡ true →
-            Stands F.code self.old.window.bytes self.old.types (place_of place) v blocks →
+            Stands F.allocator self.old.window.bytes self.old.types (place_of place) v blocks →
             (others : List ℕ) × ShrinksPlace self.old.window.bytes self.new.window.bytes
             self.old.types (place_of place) form v blocks others }
     {
@@ -223,7 +223,7 @@ impl<F: Fit, A: Allocator> Heap<F, A> {
         ensures types { self.new.types ≡ self.old.types }
         ensures frees { (T : ℕ) (form : Form) (v : Value) (blocks : List ℕ) →
             form_at self.old.types T ≡ Some form → has_buffer (Some form) ≡ true →
-            Stands F.code self.old.window.bytes self.old.types (place_at cell T) v blocks →
+            Stands F.allocator self.old.window.bytes self.old.types (place_at cell T) v blocks →
             count_at self.old.window.bytes cell ≡ 0 →
             (others : List ℕ) × ShrinksPlace self.old.window.bytes self.new.window.bytes
             self.old.types (place_at cell T) form v blocks others }

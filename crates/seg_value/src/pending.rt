@@ -191,9 +191,9 @@ impl Pending {
         ensures window { KeepsHost heap.old.window heap.new.window }
         ensures types { heap.new.types ≡ heap.old.types }
         ensures freed { (blocks : List ℕ) → IsTable heap.old.types →
-            Pends F.code heap.old.window.bytes heap.old.types self.first blocks →
+            Pends F.allocator heap.old.window.bytes heap.old.types self.first blocks →
             AreLive heap.old.window.bytes blocks →
-            Frees F.code heap.old.window.bytes heap.new.window.bytes blocks }
+            Frees F.allocator heap.old.window.bytes heap.new.window.bytes blocks }
     {
         // there are fewer blocks than units
         for _turn in 0..heap.window().len() / UNIT {

@@ -17,7 +17,7 @@ use Rattle.test_definitions.proofs.Evaluating.{live_evaluated}
 use Rattle.test_definitions.proofs.SoundImages.{counter_tiles, counter_fill, counter_headers, counter_held}
 use Rattle.seg_spec.proofs.Writing.{stored}
 use Rattle.client_spec.specs.declared.table.Operation.{Operation}
-use Rattle.client_spec.specs.Code.{Instruction}
+use Rattle.client_spec.specs.Syntax.{Instruction}
 use Rattle.client_spec.specs.Grammar.{spelling}
 use Rattle.client_spec.specs.Machine.{Register, State, with_name}
 use Rattle.client_spec.specs.Answer.{success}

@@ -6,7 +6,7 @@ use Rattle.std.proofs.lemmas.List.{append_assoc, append-nil}
 use Rattle.seg_spec.specs.Value.{Value, Values, nil, cons, count, Selector}
 use Rattle.seg_spec.specs.Items.{key_place}
 use Rattle.client_spec.specs.declared.table.Operation.{Operation}
-use Rattle.client_spec.specs.Code.{Constant}
+use Rattle.client_spec.specs.Syntax.{Constant}
 use Rattle.client_spec.specs.Machine.{◌>>=◌, Origin, Path, extend, Register, Object, State, register, set_register, owned_by, at_origin, value_at, type_at, put_origin, put_at}
 use Rattle.client_spec.specs.Answer.{Answer, success, out_of_range, Outcome, answer, copied, integer_at, path_of, give, fail, refer, give_count, index_below, object_count, byte_of, type_operand, constant_operand, integer_or, spelled, constant_text, number_in, bytes_in, items_in, entries_in, content_in, fields_in, length_in, vec_or_list_item, list_item, map_value, owned_type, form_of, provided, with_room, write_out}
 use Rattle.client_spec.proofs.Values.{Some_inj}

@@ -3,7 +3,7 @@ use Rattle.std.proofs.Common.{◌≡◌, ◌≢◌, ℕ, ◌≤◌, List, [], �
 use Rattle.seg_spec.specs.Types.{Table, Agree, longer}
 use Rattle.seg_spec.specs.Sound.{Picture, IsHeld}
 use Rattle.test_definitions.proofs.OnePicture.{Held-one}
-use Rattle.client_spec.specs.Code.{Client}
+use Rattle.client_spec.specs.Syntax.{Client}
 use Rattle.client_spec.specs.Grammar.{Spells}
 use Rattle.client_spec.specs.Run.{Ending, finished, stopped, stuck, bound}
 use Rattle.client_spec.specs.OnImages.{Given, Left, RunsClient}

@@ -3,7 +3,7 @@ use Rattle.std.proofs.Common.{◌≡◌, ◌≢◌, ℕ, zero, suc, List, ap, in
 use Rattle.std.specs.Prelude.{◌≤◌, nat_abs}
 use Rattle.seg_spec.specs.Index.{Root}
 use Rattle.seg_spec.specs.Types.{Agree}
-use Rattle.client_spec.specs.Code.{Constant, Instruction, Statement, plain, opener, loop, Statements, no_more, next, Client}
+use Rattle.client_spec.specs.Syntax.{Constant, Instruction, Statement, plain, opener, loop, Statements, no_more, next, Client}
 use Rattle.client_spec.specs.Machine.{State}
 use Rattle.client_spec.specs.Answer.{Answer, success, is_zero, already_exists, bad_alloc, absent, other_type, out_of_range, null_or_none}
 use Rattle.client_spec.specs.Grammar.{IsClient}

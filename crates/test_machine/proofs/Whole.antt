@@ -4,7 +4,7 @@ use Rattle.std.specs.Prelude.{slice_get}
 use Rattle.seg_spec.specs.Types.{Table, longer}
 use Rattle.seg_spec.specs.Sound.{IsSound}
 use Rattle.test_definitions.proofs.OnePicture.{Held-one}
-use Rattle.client_spec.specs.Code.{Client}
+use Rattle.client_spec.specs.Syntax.{Client}
 use Rattle.client_spec.specs.Grammar.{Spells}
 use Rattle.client_spec.specs.OnImages.{Move, Left}
 use Rattle.client_spec.specs.Clients.{IsVerified, AreAccepted, AreMoves, table_behind, image_behind, StayWithin}

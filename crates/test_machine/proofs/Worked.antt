@@ -10,7 +10,7 @@ use Rattle.seg_spec.specs.Fixtures.{counter, counter_picture}
 use Rattle.seg_spec.specs.Index.{same_name}
 use Rattle.test_definitions.proofs.SoundImages.{counter_held}
 use Rattle.client_spec.specs.declared.table.Operation.{Operation}
-use Rattle.client_spec.specs.Code.{Constant}
+use Rattle.client_spec.specs.Syntax.{Constant}
 use Rattle.client_spec.specs.declared.table.Role.{Role}
 use Rattle.client_spec.specs.Operations.{row_of}
 use Rattle.client_spec.specs.Grammar.{IsNameByte, IsConstant, IsOperand, IsNumber, IsInstruction, IsCode, IsClient, Spells, listing, depth, spelling}

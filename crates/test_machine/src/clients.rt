@@ -1,7 +1,7 @@
 //! Small clients, worked out.
 
 ghost use Rattle.std.specs.Prelude.{◌≡◌, ℕ, ◌^◌, ◌<◌, ◌++◌, pos, [], ◌∷◌, codes, replicate, Ok, Err};
-ghost use Rattle.client_spec.specs.Code.{Constant, Statements};
+ghost use Rattle.client_spec.specs.Syntax.{Constant, Statements};
 ghost use Rattle.client_spec.specs.Grammar.{spelling, Spells};
 ghost use Rattle.client_spec.specs.Text.{text_of};
 ghost use Rattle.client_spec.specs.Run.{finished, stopped, stuck, bound};

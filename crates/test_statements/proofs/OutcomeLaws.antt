@@ -10,7 +10,7 @@ use Rattle.test_definitions.proofs.SoundImages.{counter_held, counter_sound, gre
 use Rattle.test_definitions.proofs.UnsoundImages.{lost_gap-unsound}
 use Rattle.seg_raw.specs.declared.fault.Fault.{Fault}
 use Rattle.seg_raw.specs.declared.fault.Fault.TheVariants as fault
-use Rattle.client_spec.specs.Code.{Client}
+use Rattle.client_spec.specs.Syntax.{Client}
 use Rattle.client_spec.specs.Grammar.{Spells, spelling}
 use Rattle.client_spec.specs.Run.{finished, stopped}
 use Rattle.client_spec.specs.OnImages.{Move, Given, Left}

@@ -1,6 +1,6 @@
 use crate::tests::clients::client;
 use crate::tests::files::{Printed, Stored, run};
-use client_vm::{Move, Place, Through, run_bytes};
+use client_vm::{Move, Schedule, Through, run_bytes};
 use seg_raw::Fault;
 use std::alloc::Global;
 use std::process::Abort;
@@ -176,13 +176,13 @@ fn refuses_moves(rt: HostRuntime) -> Result<(), Fail> {
         ([(1, 8), (2, 0)], 0),
     ] {
         let moves = moves.map(|(step, base)| Move { step, base });
-        let place = Place {
+        let schedule = Schedule {
             room: 800,
             base: 0,
             moves: moves.as_slice(),
         };
         let mut out = Through::new(Vec::new(alloc));
-        match run_bytes(alloc, image.as_slice(), &[], b"", &place, &mut out) {
+        match run_bytes(alloc, image.as_slice(), &[], b"", &schedule, &mut out) {
             Ok(_) => return Err(Fail::from("ran")),
             Err(refused) => {
                 assert!(rt; refused.fault == Fault::BadMove(bad));

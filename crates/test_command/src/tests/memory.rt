@@ -1,6 +1,6 @@
 use crate::tests::clients::client;
 use client_code::{assemble, parse, print};
-use client_vm::{Place, Refused, Through, run_bytes};
+use client_vm::{Refused, Schedule, Through, run_bytes};
 use linked_list_allocator::LocalHeap;
 use seg_check::{check, open, save};
 use seg_ptr::Window;
@@ -18,7 +18,7 @@ fn runs_within(rt: &(impl Abort + AllocGlobal), size: usize) -> Result<bool, Fai
     let image = counter(rt.alloc())?;
     let file = client(rt.alloc(), INCREMENT)?;
     let clients = [file.as_slice()];
-    let place = Place {
+    let schedule = Schedule {
         room: 784,
         base: 0,
         moves: &[],
@@ -29,7 +29,7 @@ fn runs_within(rt: &(impl Abort + AllocGlobal), size: usize) -> Result<bool, Fai
         image.as_slice(),
         clients.as_slice(),
         b"",
-        &place,
+        &schedule,
         &mut out,
     );
     let written = out.into_inner();

@@ -1,6 +1,6 @@
 use crate::tests::clients::client;
 use crate::tests::files::{Printed, Stored, run};
-use client_vm::{Ended, Move, Place, Through, run_bytes};
+use client_vm::{Ended, Move, Schedule, Through, run_bytes};
 use std::alloc::Global;
 use std::process::Abort;
 use std::test::Fail;
@@ -78,7 +78,7 @@ fn runs(
 ) -> Result<Vec<u8>, Fail> {
     let alloc = rt.alloc();
     let file = client(alloc, text)?;
-    let place = Place {
+    let schedule = Schedule {
         room: 784,
         base: 0,
         moves: &[],
@@ -91,7 +91,7 @@ fn runs(
         image.as_slice(),
         clients.as_slice(),
         b"",
-        &place,
+        &schedule,
         &mut out,
     );
     match outcome {
@@ -206,13 +206,13 @@ fn changes_nothing_without_instructions(rt: HostRuntime) -> Result<(), Fail> {
     assert_eq!(rt; saved.as_slice(), counter(rt.alloc())?.as_slice());
     let alloc = rt.alloc();
     let image = counter(alloc)?;
-    let place = Place {
+    let schedule = Schedule {
         room: 784,
         base: 0,
         moves: &[],
     };
     let mut out = Through::new(Vec::new(alloc));
-    match run_bytes(alloc, image.as_slice(), &[], b"", &place, &mut out) {
+    match run_bytes(alloc, image.as_slice(), &[], b"", &schedule, &mut out) {
         Ok(outcome) => {
             assert_eq!(rt; outcome.image.as_slice(), image.as_slice());
             assert!(rt; outcome.reports.is_empty());
@@ -230,7 +230,7 @@ fn runs_alike_where_it_moves(rt: HostRuntime) -> Result<(), Fail> {
         step,
         base: if step % 2 == 1 { 4096 } else { 0 },
     });
-    let place = Place {
+    let schedule = Schedule {
         room: 8192,
         base: 0,
         moves: moves.as_slice(),
@@ -244,7 +244,7 @@ fn runs_alike_where_it_moves(rt: HostRuntime) -> Result<(), Fail> {
         image.as_slice(),
         clients.as_slice(),
         b"",
-        &place,
+        &schedule,
         &mut out,
     ) {
         Ok(outcome) => {

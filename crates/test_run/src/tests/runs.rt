@@ -1,5 +1,5 @@
 use client_code::assemble;
-use client_vm::{Ended, Move, Place, Report, Through, run_bytes};
+use client_vm::{Ended, Move, Report, Schedule, Through, run_bytes};
 use seg_bestfit::BestFit;
 use seg_block::Fit;
 use seg_check::{check, save};
@@ -110,13 +110,13 @@ pub(crate) fn run_files(
     clients: &[&[u8]],
     setting: Setting,
 ) -> Result<Ran, Fail> {
-    let place = Place {
+    let schedule = Schedule {
         room: setting.room,
         base: setting.base,
         moves: setting.moves,
     };
     let mut out = Through::new(Limited::new(alloc, setting.at_a_time, setting.limit));
-    match run_bytes(alloc, image, clients, setting.input, &place, &mut out) {
+    match run_bytes(alloc, image, clients, setting.input, &schedule, &mut out) {
         Ok(outcome) => {
             let _ = statistics_of(alloc, outcome.image.as_slice())?;
             Ok(Ran {

@@ -9,7 +9,7 @@ pub returns-then-units-block-clause-resized : goal.returns-then-units-block-clau
 returns-then-units-block-clause-resized g c = λ h held room_is.
     let old = c.args.w.now.bytes in
     let block = c.args.block in
-    subst (λ n. IsResized g.S.FreeStructure.code old old block.at n) (sym c.if-units-block.true) (resized_not old block.at block.units h held)
+    subst (λ n. IsResized g.S.FreeStructure.allocator old old block.at n) (sym c.if-units-block.true) (resized_not old block.at block.units h held)
 
 pub returns-clause-resized : goal.returns-clause-resized
 returns-clause-resized g c = λ h held room_is.

@@ -2,7 +2,7 @@ use Rattle.std.proofs.Common.{List, [], ◌∷◌, length, replicate, refl, lit�
 use Rattle.seg_spec.specs.Fixtures.{counter}
 use Rattle.seg_spec.specs.Faulty.{IsImageLength}
 use Rattle.test_definitions.proofs.SoundImages.{counter_sound}
-use Rattle.client_spec.specs.Code.{Client}
+use Rattle.client_spec.specs.Syntax.{Client}
 use Rattle.client_spec.specs.Grammar.{Spells, spelling}
 use Rattle.seg_spec.specs.Types.{Table}
 use Rattle.client_spec.specs.OnImages.{Given, Left}

@@ -1,6 +1,6 @@
 use Rattle.std.proofs.Common.{◌≡◌, List, Ok, Err, ap, ◌∙◌}
 use Rattle.std.proofs.lemmas.Result.{err_from_is_err_and}
-use Rattle.client_spec.specs.Code.{Constant}
+use Rattle.client_spec.specs.Syntax.{Constant}
 use Rattle.client_spec.specs.Grammar.{IsInstruction}
 use Rattle.client_spec.specs.Typed.{◌>>=◌}
 use Rattle.client_code.specs.Views.{instruction_of}

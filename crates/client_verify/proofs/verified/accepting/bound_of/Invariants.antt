@@ -1,5 +1,5 @@
 use Rattle.std.proofs.Common.{◌≡◌, Ok}
-use Rattle.client_spec.specs.Code.{Client}
+use Rattle.client_spec.specs.Syntax.{Client}
 use Rattle.client_spec.specs.Grammar.{Spells}
 use Rattle.client_code.specs.Clients.{bytes_of}
 use Rattle.client_verify.specs.Verifiers.{progress_of}

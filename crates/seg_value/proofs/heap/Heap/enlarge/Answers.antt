@@ -12,7 +12,7 @@ bytes_of p q e = ap (λ (r : Placement). r.bytes) e
 
 pub returns-in-None-clause-enlarges : goal.returns-in-None-clause-enlarges
 returns-in-None-clause-enlarges g c = λ T v blocks names s small much.
-    let code = g.F.Fit.code in
+    let code = g.F.Fit.allocator in
     let old = c.args.self.now.window.bytes in
     let table = c.args.self.now.types in
     let content = c.args.content.now in
@@ -28,7 +28,7 @@ returns-in-None-clause-enlarges g c = λ T v blocks names s small much.
 
 pub returns-in-Some-Same-clause-enlarges : goal.returns-in-Some-Same-clause-enlarges
 returns-in-Some-Same-clause-enlarges g c = λ T v blocks names s small much.
-    let code = g.F.Fit.code in
+    let code = g.F.Fit.allocator in
     let old = c.args.self.now.window.bytes in
     let table = c.args.self.now.types in
     let content = c.args.content.now in
@@ -45,7 +45,7 @@ returns-in-Some-Same-clause-enlarges g c = λ T v blocks names s small much.
 
 pub returns-in-Some-New-clause-enlarges : goal.returns-in-Some-New-clause-enlarges
 returns-in-Some-New-clause-enlarges g c = λ T v blocks names s small much.
-    let code = g.F.Fit.code in
+    let code = g.F.Fit.allocator in
     let old = c.args.self.now.window.bytes in
     let table = c.args.self.now.types in
     let content = c.args.content.now in

@@ -14,7 +14,7 @@ returns-in_default-clause-frees g c = λ T form v blocks f b s empty.
     let old = c.args.self.now.window in
     let here = bytes_of c.self.inside.window old (ap (λ (x : Stored). x.window) c.self.view_is) in
     let none : target old.bytes c.args.cell ≡ None = sym (ap (λ y. target y c.args.cell) here) ∙ sym c.target.ensures ∙ c.in_default.is in
-    left_alone g.F.Fit.code old.bytes c.args.self.now.types (object_at c.args.cell T) form v blocks f b s none
+    left_alone g.F.Fit.allocator old.bytes c.args.self.now.types (object_at c.args.cell T) form v blocks f b s none
 
 pub returns-clause-frees : goal.returns-clause-frees
 returns-clause-frees g c = λ T form v blocks f b s empty.
@@ -23,7 +23,7 @@ returns-clause-frees g c = λ T form v blocks f b s empty.
     let some : target old.bytes c.args.cell ≡ Some c.in-Some.start = sym (ap (λ y. target y c.args.cell) here) ∙ sym c.target.ensures ∙ c.in-Some.is in
     let unnamed : c.point.new.self.bytes ≡ set_pointer old.bytes c.args.cell None =
     bytes_of c.point.new.self (with_bytes c.self.inside.window (set_pointer c.self.inside.window.bytes c.args.cell None)) c.point.ensures ∙ ap (λ y. set_pointer y c.args.cell None) here in
-    let heap = unnamed_heap g.F.Fit.code old.bytes c.args.self.now.types (object_at c.args.cell T) form v blocks f b s c.in-Some.start some empty in
-    let is_live = unnamed_is_live g.F.Fit.code old.bytes c.args.self.now.types (object_at c.args.cell T) form v blocks f b s c.in-Some.start some empty in
+    let heap = unnamed_heap g.F.Fit.allocator old.bytes c.args.self.now.types (object_at c.args.cell T) form v blocks f b s c.in-Some.start some empty in
+    let is_live = unnamed_is_live g.F.Fit.allocator old.bytes c.args.self.now.types (object_at c.args.cell T) form v blocks f b s c.in-Some.start some empty in
     let gives = rw (unnamed, c.block_of.ensures) at c.free.ensures.gives in
-    given_up g.F.Fit.code old.bytes c.args.self.now.types (object_at c.args.cell T) form v blocks f b s c.in-Some.start some empty c.free.new.w.bytes (gives heap is_live)
+    given_up g.F.Fit.allocator old.bytes c.args.self.now.types (object_at c.args.cell T) form v blocks f b s c.in-Some.start some empty c.free.new.w.bytes (gives heap is_live)

@@ -19,8 +19,8 @@ same_place p q e = cc
 
 pub returns-in-Some-value-clause-given : goal.returns-in-Some-value-clause-given
 returns-in-Some-value-clause-given g c = subst (λ (s : Stored). (before U tag : ℕ) (shape : Shape) → IsContent s.types shape tag before U c.args.content.now →
-    before ≤ 24 → tag < 2 ^ 32 → IsTable s.types → U < length s.types → IsHeap g.F.Fit.code s.window.bytes →
-    GivesBlock g.F.Fit.code s.window.bytes c.init_default.new.self.window.bytes s.types tag before U c.tagged-payload.result)
+    before ≤ 24 → tag < 2 ^ 32 → IsTable s.types → U < length s.types → IsHeap g.F.Fit.allocator s.window.bytes →
+    GivesBlock g.F.Fit.allocator s.window.bytes c.init_default.new.self.window.bytes s.types tag before U c.tagged-payload.result)
     c.self.view_is (λ before U tag shape content low small valid below heap.
     let entry = c.args.content.now.entry in
     let found : Place = record { at = (c.tagged-payload.result + 0 * entry.size + entry.before) % 2 ^ 32; type_id = U } in
@@ -28,7 +28,7 @@ returns-in-Some-value-clause-given g c = subst (λ (s : Stored). (before U tag :
     let taken = c.allocate.new.w in
     let tagged_by = bytes_of c.tagged-payload.new.self.window (with_bytes taken (set_word taken.bytes (c.in-Some.block + 8) (word_of c.args.content.now.tag)))
     c.tagged-payload.ensures.window ∙ ap (λ n. set_word taken.bytes (c.in-Some.block + 8) n) content.tag_is in
-    gives_block_for g.F.Fit.code c.in-Some.block tag before U c.in-Some-value.value.type_id entry.before c.need-need.result entry.size
+    gives_block_for g.F.Fit.allocator c.in-Some.block tag before U c.in-Some-value.value.type_id entry.before c.need-need.result entry.size
     c.tagged-payload.result c.in-Some-value.value.at
     c.self.inside.window.bytes taken.bytes c.tagged-payload.new.self.window.bytes c.init_default.new.self.window.bytes
     c.self.inside.types c.tagged-payload.new.self.types c.tagged-payload.ensures.types (ap (λ (p : Place). p.type_id) value_is) content.entry_is.before_is

@@ -7,15 +7,15 @@ pub returns-then-from-clause-reserves : goal.returns-then-from-clause-reserves
 returns-then-from-clause-reserves g c = λ T v blocks names s small.
     let old = c.args.self.now.window.bytes in
     let of = of_form c.args.self.now.types T c.args.content.now names in
-    let room = c.room.ensures (has_sized g.F.Fit.code old c.args.self.now.types c.args.cell T v blocks c.args.content.now of s) in
+    let room = c.room.ensures (has_sized g.F.Fit.allocator old c.args.self.now.types c.args.cell T v blocks c.args.content.now of s) in
     let fits : c.args.limit * c.args.content.now.entry.size ≤ c.room.result = rw (c.from.ensures, c.from-2.ensures, c.from-3.ensures) at c.if-from.true in
-    has_room g.F.Fit.code old c.args.self.now.types c.args.cell T v blocks c.args.content.now of s c.args.limit c.room.result room fits
+    has_room g.F.Fit.allocator old c.args.self.now.types c.args.cell T v blocks c.args.content.now of s c.args.limit c.room.result room fits
 
 pub returns-clause-reserves : goal.returns-clause-reserves
 returns-clause-reserves g c = λ T v blocks names s small.
     let old = c.args.self.now.window.bytes in
     let of = of_form c.args.self.now.types T c.args.content.now names in
-    let room = c.room.ensures (has_sized g.F.Fit.code old c.args.self.now.types c.args.cell T v blocks c.args.content.now of s) in
+    let room = c.room.ensures (has_sized g.F.Fit.allocator old c.args.self.now.types c.args.cell T v blocks c.args.content.now of s) in
     let more : c.room.result < c.args.limit * c.args.content.now.entry.size = rw (c.from.ensures, c.from-2.ensures, c.from-3.ensures) at c.if-from.false in
     let much : 16 * units_named old c.args.cell - 16 < c.args.limit * c.args.content.now.entry.size = omega arith in
     c.enlarge.ensures.enlarges T v blocks names s small much

@@ -18,7 +18,7 @@ bytes_in s t e = ap (λ (r : Stored). r.window.bytes) e
 
 pub returns-clause-set : goal.returns-clause-set
 returns-clause-set g c = λ U v w blocks inside f s loose fits.
-    let code = g.F.Fit.code in
+    let code = g.F.Fit.allocator in
     let old = c.args.self.now.window.bytes in
     let table = c.args.self.now.types in
     let own = place_of c.args.own in

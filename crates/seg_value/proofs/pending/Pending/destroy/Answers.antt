@@ -8,7 +8,7 @@ pub loop-turn-init : goal.loop-turn-init
 loop-turn-init g c = record {
   window = refl;
   types = refl;
-  freed = λ blocks valid w fits. none_freed g.F.Fit.code c.args.heap.now.window.bytes c.args.heap.now.types c.args.self.first blocks w;
+  freed = λ blocks valid w fits. none_freed g.F.Fit.allocator c.args.heap.now.window.bytes c.args.heap.now.types c.args.self.first blocks w;
 }
 
 pub loop-turn-preserved : goal.loop-turn-preserved
@@ -16,21 +16,21 @@ loop-turn-preserved g c = record {
   window = c.free_block.ensures.window ∙ ap (λ p. with_bytes p c.free_block.new.self.window.bytes) c.open.ensures.window ∙ ap (λ p. with_bytes p c.free_block.new.self.window.bytes) c.loop-turn.invariant.window;
   types = c.free_block.ensures.types ∙ c.open.ensures.types ∙ c.loop-turn.invariant.types;
   freed = λ blocks valid w fits.
-      turned g.F.Fit.code c.args.heap.now.window.bytes c.loop-turn.heap.window.bytes c.open.new.heap.window.bytes c.free_block.new.self.window.bytes c.args.heap.now.types c.loop-turn.heap.types
+      turned g.F.Fit.allocator c.args.heap.now.window.bytes c.loop-turn.heap.window.bytes c.open.new.heap.window.bytes c.free_block.new.self.window.bytes c.args.heap.now.types c.loop-turn.heap.types
       c.loop-turn.invariant.types valid c.loop-turn.self.first c.pop.new.self.first c.open.new.self.first c.in-Some.payload blocks c.loop-turn._turn fits (c.loop-turn.invariant.freed blocks valid w fits)
-      (λ left p. c.in-Some.ensures.popped g.F.Fit.code left p)
-      (λ xs goes ys valid_here p live_there. let o = c.open.ensures.opened xs goes g.F.Fit.code ys valid_here p live_there in (o.rest, o.xs_are, o.adds))
+      (λ left p. c.in-Some.ensures.popped g.F.Fit.allocator left p)
+      (λ xs goes ys valid_here p live_there. let o = c.open.ensures.opened xs goes g.F.Fit.allocator ys valid_here p live_there in (o.rest, o.xs_are, o.adds))
       c.free_block.ensures.gives;
 }
 
 pub returns-in_default-clause-freed : goal.returns-in_default-clause-freed
 returns-in_default-clause-freed g c = λ blocks valid w fits.
-    all_freed g.F.Fit.code c.args.heap.now.window.bytes c.loop-turn.heap.window.bytes c.args.heap.now.types valid c.loop-turn.self.first blocks c.loop-turn._turn fits
+    all_freed g.F.Fit.allocator c.args.heap.now.window.bytes c.loop-turn.heap.window.bytes c.args.heap.now.types valid c.loop-turn.self.first blocks c.loop-turn._turn fits
     (c.loop-turn.invariant.freed blocks valid w fits) (c.pop.ensures.none c.in_default.is)
 
 pub returns-after-loop-turn-clause-freed : goal.returns-after-loop-turn-clause-freed
 returns-after-loop-turn-clause-freed g c = λ blocks valid w fits.
     let long : c.len-turn-end.result ≡ length c.args.heap.now.window.bytes = c.len-turn-end.ensures.len ∙ ap (λ (r : Placement). length r.bytes) c.window.ensures in
     let past = c.loop-turn-test.false in
-    enough_turns g.F.Fit.code c.args.heap.now.window.bytes c.loop-turn.heap.window.bytes c.args.heap.now.types valid c.loop-turn.self.first blocks c.loop-turn._turn fits
+    enough_turns g.F.Fit.allocator c.args.heap.now.window.bytes c.loop-turn.heap.window.bytes c.args.heap.now.types valid c.loop-turn.self.first blocks c.loop-turn._turn fits
     (c.loop-turn.invariant.freed blocks valid w fits) w.heap (omega arith)

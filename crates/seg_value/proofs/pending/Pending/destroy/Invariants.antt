@@ -9,6 +9,6 @@ abbrev pub invariant-loop-turn : goal.invariant-loop-turn
 invariant-loop-turn g l = record {
   window : l.heap.window ≡ with_bytes l.initial.heap.window l.heap.window.bytes;
   types : l.heap.types ≡ l.initial.heap.types;
-  freed : (blocks : List ℕ) → IsTable l.initial.heap.types → Pends g.F.Fit.code l.initial.heap.window.bytes l.initial.heap.types l.initial.self.first blocks → AreLive l.initial.heap.window.bytes blocks →
-      HasFreed g.F.Fit.code l.initial.heap.window.bytes l.heap.window.bytes l.initial.heap.types l.self.first blocks l._turn;
+  freed : (blocks : List ℕ) → IsTable l.initial.heap.types → Pends g.F.Fit.allocator l.initial.heap.window.bytes l.initial.heap.types l.initial.self.first blocks → AreLive l.initial.heap.window.bytes blocks →
+      HasFreed g.F.Fit.allocator l.initial.heap.window.bytes l.heap.window.bytes l.initial.heap.types l.self.first blocks l._turn;
 }
