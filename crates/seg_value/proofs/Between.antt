@@ -1,34 +1,36 @@
 -- Entries of a flat map between others: as they move, and as one comes or goes.
-use Rattle.std.proofs.Common.{◌≡◌, ◌≢◌, ℕ, zero, suc, ◌+◌, ◌-◌, ◌*◌, ◌%◌, ◌^◌, ◌<◌, ◌≤◌, ◌⊎◌, inl, inr, ⊎_elim, ℤ, List, [], ◌∷◌, ◌++◌, length, map, Option, Some, None, unwrap_or, min, option_to_list, option_map, MatchOption, refl, sym, ap, ◌∙◌, subst, arith}
+use Rattle.std.proofs.Common.{◌≡◌, ◌≢◌, ℕ, zero, suc, ◌+◌, ◌-◌, ◌*◌, ◌%◌, ◌^◌, ◌<◌, ◌≤◌, inl, inr, ℤ, List, [], ◌∷◌, ◌++◌, length, map, Option, Some, None, unwrap_or, min, MatchOption, refl, sym, ap, ◌∙◌, subst, arith}
 use Rattle.std.specs.Prelude.{insert, remove}
 use Rattle.std.proofs.Math.Nat.{mul-le-mul_left}
 use Rattle.std.specs.List.{AllByRecursion}
-use Rattle.seg_spec.specs.Bytes.{word, set_word, signed_long, IsSame, ChangesOnly}
+use Rattle.seg_spec.specs.Bytes.{set_word, signed_long, IsSame, ChangesOnly}
 use Rattle.seg_spec.specs.Pointer.{target}
 use Rattle.seg_spec.specs.Types.{Form, Table, form_at, size}
 use Rattle.seg_spec.specs.Value.{Value, Values, nil, cons, count, append, Map, IsAscending}
-use Rattle.seg_spec.specs.Heap.{Span, units_at, IsHeap, live, heap_start}
+use Rattle.seg_spec.specs.Heap.{IsHeap, live, heap_start}
 use Rattle.seg_spec.specs.Block.{Kind, tag_of, block_of, IsBlock, IsInside, IsOwnable, KeepsBlock, payload_size}
 use Rattle.seg_spec.specs.Reads.{Place, named, start, count_at, spaced, keys_at, NamesRoom, Holds, HoldsEach, places_of}
+use Rattle.seg_spec.specs.Apart.{Separate}
 use Rattle.seg_spec.specs.Cells.{IsWithin, Shifts}
 use Rattle.seg_spec.specs.Sound.{times, positions}
 use Rattle.seg_spec.specs.Roots.{ChangesPlace}
 use Rattle.seg_spec.specs.Owning.{Stands, StandsBeside}
+use Rattle.seg_spec.specs.Growing.{Reserves}
 use Rattle.seg_spec.specs.Items.{insert_nth, remove_nth, without_entry}
 use Rattle.seg_spec.specs.Spending.{PlaceBlocks}
-use Rattle.seg_value.specs.Entries.{flat_value, flat_entry, flat_asks, OpensEntry}
+use Rattle.seg_value.specs.Entries.{flat_value, flat_asks, OpensEntry}
 use Rattle.seg_spec.proofs.BytesLaws.{number-set_same}
 use Rattle.seg_spec.proofs.SliceLaws.{IsSame-part}
 use Rattle.seg_spec.proofs.OneReading.{Holds-one}
 use Rattle.seg_spec.proofs.Frame.{cell-target, cell-count, target-same, IsBlock-kept}
 use Rattle.seg_spec.proofs.TypesLaws.{size_large}
-use Rattle.seg_spec.proofs.CellSteps.{size_aligned, ChangesOnly-wider}
+use Rattle.seg_spec.proofs.CellSteps.{size_aligned}
 use Rattle.seg_spec.proofs.Writing.{set_number-changes}
-use Rattle.seg_spec.proofs.LiveLaws.{times-same, times-other, times-more, times-append, there, each_there, LiesIn, live-lie, live-once}
+use Rattle.seg_spec.proofs.LiveLaws.{times-same, times-other, times-more, times-append, there, each_there, LiesIn, live-lie, live-apart, OneOrApart, live-once}
 use Rattle.seg_spec.proofs.PlaceSteps.{home_live, owned_live, owned_other, place_within}
-use Rattle.seg_spec.proofs.Standing.{Frames, frames_twice}
+use Rattle.seg_spec.proofs.Standing.{Frames, frames_twice, stands_after}
 use Rattle.seg_spec.proofs.Buffered.{HoldsEntries, Buffered, buffered, holds_buffered}
-use Rattle.seg_value.proofs.Inside.{wrote_heap, wrote_live, wrote_ownable, wrote_other, wrote_block, frames_beside, frames_around}
+use Rattle.seg_value.proofs.Inside.{changes_twice, wrote_heap, wrote_live, wrote_ownable, wrote_other, wrote_block, frames_beside, frames_around}
 use Rattle.seg_value.proofs.Runs.{Run, run_kept, run_moved, parts, joined, alone, keys_long, the_one, insert_between, remove_between, insert_key, remove_key, ascending_after, ascending_without}
 use Rattle.seg_value.proofs.Shifts.{moved_changes}
 
@@ -434,6 +436,17 @@ module _ (allocator : ℕ) (old : List ℕ) (table : Table) (place : Place) (U :
     pub home_there_new : 1 ≤ times s.home (positions (live new))
     home_there_new = subst (λ bs. 1 ≤ times s.home (positions bs)) (sym then.live_is) (home_live allocator old table place (Map keys vs) blocks s)
 
+    -- the new entry lies in the buffer, apart from the place
+    pub new_apart : Separate (p + index * (8 + size table U)) (8 + size table U) place.at (size table place.type)
+    new_apart =
+        let mine = there (λ t. AllByRecursion (OneOrApart new t) (positions (live new))) s.home (positions (live new)) (live-apart new allocator then.heap) home_there_new in
+        go (there (OneOrApart new s.home) (block_of p) (positions (live new)) mine g_there)
+      where
+        go : OneOrApart new s.home (block_of p) → Separate (p + index * (8 + size table U)) (8 + size table U) place.at (size table place.type)
+        go (inl e) = absurd (g_other e)
+        go (inr (inl l)) = inr (omega (arith, home_new.high, new_inside.low))
+        go (inr (inr l)) = inl (omega (arith, home_new.low, new_inside.high))
+
     module _ (written : List ℕ) (w : Value) (writes : ChangesOnly new written (p + index * (8 + size table U)) (8 + size table U)) (ascending : IsAscending (insert keys index (signed_long written (p + index * (8 + size table U)))))
         (holding : Holds written table (record { at = p + index * (8 + size table U) + 8; type = U }) w []) where
       other_written : (h : ℕ) → 1 ≤ times h (positions (live old)) → h ≢ block_of p → KeepsBlock new written h
@@ -520,3 +533,78 @@ module _ (allocator : ℕ) (old : List ℕ) (table : Table) (place : Place) (U :
           let shifted = rw (at_is, next_is, each_is) at (shifts next_in at_in) in
           let last_by : last ≡ index + k = omega arith in
           closed allocator old table place U keys vs blocks s f p e index k counted moved new shifted (rw last_by at new_is) (rw start_is at nothing)
+
+  pub opened_by : (mid : List ℕ) (index each at next kept len k step begin : ℕ) (moved new : List ℕ) → Reserves allocator old mid table place (Map keys vs) blocks (flat_asks old table place.at U) ((count_at old place.at + 1) * (8 + size table U))
+      → index ≤ count_at old place.at → each ≡ 8 + size table U → kept ≡ count_at old place.at → len ≡ kept + 1 → begin ≡ start mid place.at → k ≡ kept - index → step ≡ min (index + 1) 4294967295
+      → at ≡ (begin + index * each) % 2 ^ 32 → next ≡ (begin + step * each) % 2 ^ 32 → (IsWithin mid at (k * each) → IsWithin mid next (k * each) → Shifts mid moved table 8 U each at next k) → new ≡ set_word moved (place.at + 4) len
+      → OpensEntry allocator old new table place U keys vs blocks index at
+  opened_by mid index each at next kept len k step begin moved new r below each_is kept_is len_is begin_is k_is step_is at_by next_by shifts new_is = go (target mid place.at) refl
+    where
+      there_then : Stands allocator mid table place (Map keys vs) r.others
+      there_then = stands_after allocator old mid table place (Map keys vs) (Map keys vs) blocks r.others r.succeeds.left s r.succeeds.changes
+
+      same_count : count_at mid place.at ≡ count_at old place.at
+      same_count = few_keys mid table place U keys vs r.others f there_then.holds_it ∙ sym (few_keys old table place U keys vs blocks f s.holds_it)
+
+      has_room : (o : Option ℕ) → target mid place.at ≡ o → MatchOption o ((count_at old place.at + 1) * (8 + size table U) ≡ 0) (λ p. (count_at old place.at + 1) * (8 + size table U) ≤ payload_size mid (block_of p))
+      has_room o e = subst (λ t. MatchOption t ((count_at old place.at + 1) * (8 + size table U) ≡ 0) (λ p. (count_at old place.at + 1) * (8 + size table U) ≤ payload_size mid (block_of p))) e r.room
+
+      go : (o : Option ℕ) → target mid place.at ≡ o → OpensEntry allocator old new table place U keys vs blocks index at
+      go None e = let none : (count_at old place.at + 1) * (8 + size table U) ≡ 0 = has_room None e in absurd (omega arith)
+      go (Some p) e =
+          let start_is : start mid place.at ≡ p = ap (λ o. unwrap_or o 0) e in
+          let begins : begin ≡ p = begin_is ∙ start_is in
+          let counts : count_at old place.at + 1 ≡ index + (1 + k) = omega arith in
+          let counted : count_at mid place.at ≡ index + k = omega (arith, same_count) in
+          let room : (index + (1 + k)) * (8 + size table U) ≤ payload_size mid (block_of p) = rw counts at (has_room (Some p) e) in
+          let fits = each_room allocator mid table place U keys vs r.others there_then f p e (index + (1 + k)) room in
+          let low = there_then.heap.small in
+          let small = small_count allocator mid table place U keys vs r.others there_then f p e (index + (1 + k)) (omega arith) in
+          let sizes : (index + (1 + k)) * (8 + size table U) ≡ index * (8 + size table U) + (8 + size table U) + k * (8 + size table U) = grind arith in
+          let step_by : step ≡ index + 1 = omega arith in
+          let more : (index + 1) * (8 + size table U) ≡ index * (8 + size table U) + (8 + size table U) = grind arith in
+          let at_is : at ≡ p + index * (8 + size table U) = rw (begins, each_is) at at_by ∙ omega arith in
+          let next_is : next ≡ p + index * (8 + size table U) + (8 + size table U) = rw (begins, each_is, step_by) at next_by ∙ omega arith in
+          let next_in : IsWithin mid next (k * each) = rw (next_is, each_is) (record { fits = omega arith; small = low }) in
+          let at_in : IsWithin mid at (k * each) = rw (at_is, each_is) (record { fits = omega arith; small = low }) in
+          let shifted = rw (at_is, next_is, each_is) at (shifts at_in next_in) in
+          let len_by : len ≡ index + (1 + k) = omega arith in
+          let set : new ≡ set_word moved (place.at + 4) (index + (1 + k)) = rw len_by at new_is in
+          let starts = new_start allocator mid table place U keys vs r.others there_then f p e index k counted room moved new shifted set in
+          record {
+            at_is = at_is ∙ rw starts refl;
+            aligned = rw at_is (even_entry allocator mid table place U keys vs r.others there_then f p e index);
+            within = rw at_is (new_within allocator mid table place U keys vs r.others there_then f p e index k counted room moved new shifted set);
+            apart = rw at_is (new_apart allocator mid table place U keys vs r.others there_then f p e index k counted room moved new shifted set);
+            others = r.others;
+            becomes = λ written w writes ascending holding. record {
+              left = r.succeeds.left;
+              left_is = r.succeeds.left_is;
+              changes = subst (λ bs. ChangesPlace old written table place (Map (insert keys index (signed_long written at)) (insert_nth vs index w)) r.others bs blocks r.others) r.succeeds.changes.live_is
+                  (changes_twice allocator old mid written table place (Map keys vs) (Map (insert keys index (signed_long written at)) (insert_nth vs index w)) r.others r.others blocks r.succeeds.left (live mid)
+                  (there_then.allocator_is ∙ sym s.allocator_is) there_then.heap r.succeeds.changes
+                  (rw at_is (opened allocator mid table place U keys vs r.others there_then f p e index k counted room moved new shifted set written w (rw at_is at writes) (rw at_is at ascending) (rw starts at holding))));
+            };
+          }
+
+  count_fits : count_at old place.at * (8 + size table U) ≤ 2 ^ 30
+  count_fits = go (target old place.at) refl
+    where
+      go : (o : Option ℕ) → target old place.at ≡ o → count_at old place.at * (8 + size table U) ≤ 2 ^ 30
+      go None e =
+          let none : count_at old place.at ≡ 0 = rw e at (buffered old table place (Form.flat_map U) (Map keys vs) blocks f refl s.holds_it).room in
+          rw none (omega arith)
+      go (Some p) e =
+          let room = (the_block allocator old table place U keys vs blocks s f p e).room in
+          omega (arith, each_room allocator old table place U keys vs blocks s f p e (count_at old place.at) room, s.heap.small)
+
+  -- one entry more is no more than a request can say
+  pub one_more : (each kept len : ℕ) → each ≡ 8 + size table U → kept ≡ count_at old place.at → len ≡ min (kept + 1) 4294967295 → (len ≡ kept + 1) × (len * each < 2 ^ 32)
+  one_more each kept len each_is kept_is len_is =
+      let few = count_fits in
+      let small = s.is_table.sizes U in
+      let least : 1 ≤ 8 + size table U = omega arith in
+      let m = mul-le-mul_left (count_at old place.at) least in
+      let len_by : len ≡ count_at old place.at + 1 = omega arith in
+      let all : (count_at old place.at + 1) * (8 + size table U) ≡ count_at old place.at * (8 + size table U) + (8 + size table U) = grind arith in
+      (omega arith, rw (len_by, each_is) (omega arith))
