@@ -15,7 +15,7 @@ use Rattle.client_code.specs.declared.outline.Section.TheVariants as section
 use Rattle.client_code.specs.Headers.{header_bytes}
 use Rattle.client_code.specs.Items.{item_bytes}
 use Rattle.client_code.specs.Outlines.{section_of, outlined}
-use Rattle.client_spec.specs.Pieces.{IsReadable, meant, Pieces, items_in, file_of, Says}
+use Rattle.client_spec.specs.Pieces.{IsReadable, meant, Pieces, all_items, file_of, Says}
 use Rattle.client_code.proofs.SpelledLines.{same_count, all_taken, one_more}
 
 -- the items of the first lines stand after the start of a file
@@ -93,7 +93,7 @@ record InPieces (t c i : ℕ) (items : List Item) : Type 0 where
   pub types : length pieces.types ≡ t
   pub constants : length pieces.constants ≡ c
   pub instructions : length pieces.instructions ≡ i
-  pub whole : items ≡ items_in pieces
+  pub whole : items ≡ all_items pieces
 
 in_pieces : (t c i : ℕ) (items : List Item) → map section_of items ≡ outlined t c i → InPieces t c i items
 in_pieces t c i items e =
@@ -116,7 +116,7 @@ in_pieces t c i items e =
 abbrev header_in : Pieces → List ℕ
 header_in pieces = header_bytes (length pieces.types) (length pieces.constants) (length pieces.instructions)
 
-bytes_in : (pieces : Pieces) → flat_map item_bytes (items_in pieces) ≡ (flat_map form_bytes pieces.types ++ flat_map constant_bytes pieces.constants) ++ flat_map instruction_bytes pieces.instructions
+bytes_in : (pieces : Pieces) → flat_map item_bytes (all_items pieces) ≡ (flat_map form_bytes pieces.types ++ flat_map constant_bytes pieces.constants) ++ flat_map instruction_bytes pieces.instructions
 bytes_in pieces =
     let types = map type_item pieces.types in
     let constants = map constant_item pieces.constants in
@@ -133,7 +133,7 @@ regroup old header types constants code = simp append_assoc
 file_is : (old start : List ℕ) (t c i : ℕ) (items : List Item) (all : InPieces t c i items) → start ≡ old ++ header_bytes t c i → start ++ flat_map item_bytes items ≡ old ++ file_of all.pieces
 file_is old start t c i items all e =
     let pieces = all.pieces in
-    ap (λ xs. start ++ flat_map item_bytes xs) all.whole ∙ ap (λ xs. xs ++ flat_map item_bytes (items_in pieces)) (
+    ap (λ xs. start ++ flat_map item_bytes xs) all.whole ∙ ap (λ xs. xs ++ flat_map item_bytes (all_items pieces)) (
     e ∙ ap (λ n. old ++ header_bytes n c i) (sym all.types) ∙ ap (λ n. old ++ header_bytes (length pieces.types) n i) (sym all.constants)
     ∙ ap (λ n. old ++ header_bytes (length pieces.types) (length pieces.constants) n) (sym all.instructions)
     )

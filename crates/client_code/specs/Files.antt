@@ -1,6 +1,6 @@
 -- A client file, part by part.
 --     code_place client                              where the code of a client begins
---     IsHeader file types constants instructions     the header says so
+--     IsFileHeader file types constants instructions   the header says so
 --     AreRight file place                            the header's fields in front
 --                                                    of a position are right
 --     AreTypes file table                            these types stand after it
@@ -17,7 +17,7 @@ abbrev pub code_place : Client → ℕ
 code_place client =
     20 + 16 * length client.types + length (flat_map constant_bytes client.constants)
 
-pub record IsHeader (file : List ℕ) (types constants instructions : ℕ) : Type 0 where
+pub record IsFileHeader (file : List ℕ) (types constants instructions : ℕ) : Type 0 where
   pub whole : 20 ≤ length file
   pub magic : take 4 file ≡ codes "SEGC"
   pub version : bytes.word file 4 ≡ 1

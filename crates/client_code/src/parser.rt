@@ -3,7 +3,7 @@ ghost use Rattle.std.specs.Int.{w32};
 ghost use Rattle.seg_spec.specs.Bytes.{slice};
 ghost use Rattle.client_spec.specs.Syntax as syntax;
 ghost use Rattle.client_spec.specs.Syntax.{Statements};
-ghost use Rattle.client_spec.specs.Grammar.{constant_bytes, instruction_bytes, listing, IsConstant, Differ, Spells};
+ghost use Rattle.client_spec.specs.Grammar.{constant_bytes, instruction_bytes, listing, IsConstant, Differ, SpellsClient};
 ghost use Rattle.client_code.specs.Views.{constant_of, constants_of, instruction_of};
 ghost use Rattle.client_code.specs.Files.{AreConstants, IsCodeAt};
 ghost use Rattle.client_code.specs.Clients.{bytes_of};
@@ -124,8 +124,8 @@ fn check_code(
 /// too many, or with the file's length where an `END` is missing.
 pub fn parse(file: &[u8]) -> Result<Client<'_>, Fault>
     ensures file { IfOk result (λ client. bytes_of client ≡ file.now) }
-    ensures found { IfOk result (λ client. (tree : syntax.Client) × Spells file.now tree) }
-    ensures wrong { IfErr result (λ fault. (tree : syntax.Client) → Spells file.now tree → ⊥) }
+    ensures found { IfOk result (λ client. (tree : syntax.Client) × SpellsClient file.now tree) }
+    ensures wrong { IfErr result (λ fault. (tree : syntax.Client) → SpellsClient file.now tree → ⊥) }
     ensures fault { IfErr result (λ fault. (place : ℕ) × (fault ≡ Fault.BadCode place)) }
 {
     let header = Header::read(file)?;

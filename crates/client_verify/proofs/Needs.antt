@@ -7,7 +7,7 @@ use Rattle.std.specs.Prelude.{ℤ, ◌==◌, if◌then◌else◌}
 use Rattle.std.specs.Option.{is_some, option_and_then}
 use Rattle.seg_spec.specs.Types.{Form, Table, form_at}
 use Rattle.client_spec.specs.Syntax.{Constant}
-use Rattle.client_spec.specs.Grammar.{NamesBy, IsText}
+use Rattle.client_spec.specs.Grammar.{NamesBy, IsTextConstant}
 use Rattle.client_spec.specs.Typed.{Class, RegisterType, RegisterTypes, Reason, ◌>>=◌, Rule, known, is_owner, integer_needed, reference_needed, owner_needed, copy_needed, some_needed, name_needed, text_needed, integer_or_none, form_needed, required}
 use Rattle.client_spec.specs.declared.table.Kinds.{Kinds}
 use Rattle.client_spec.specs.declared.table.Kinds.TheVariants as kinds
@@ -38,7 +38,7 @@ name_same (Some (Constant.Family prefix)) b k x y h e =
     let other : (b == 16) ≡ false = grind arith in
     ap (λ none. required (if none then true else is_integer k) Reason.WrongOperand >>= λ _. x) other ∙ integer_same k x y e
 
-pub text_same : (o : Option Constant) (x y : Rule) → IsText o → x ≡ y → x ≡ (text_needed o >>= λ _. y)
+pub text_same : (o : Option Constant) (x y : Rule) → IsTextConstant o → x ≡ y → x ≡ (text_needed o >>= λ _. y)
 text_same None x y h e = absurd h
 text_same (Some (Constant.Text bytes)) x y h e = e
 text_same (Some (Constant.Name name)) x y h e = absurd h

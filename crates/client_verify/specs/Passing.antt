@@ -2,7 +2,7 @@
 --     Progress                           what is known there
 --     passes types constants p i         after an instruction, or the reason to refuse it
 --     passes_all types constants p is    after several
---     start                              in front of the code
+--     initial_progress                   in front of the code
 --     rule_at types constants i ks       what is known after an instruction by itself, or in
 --                                        front of each of its parts
 --     at_most n                          n, or the most steps that the verifier counts
@@ -28,8 +28,8 @@ pub record Progress : Type 0 where
   pub steps : ℕ
   pub parts : List Open
 
-abbrev pub start : Progress
-start = record { known = replicate 16 RegisterType.Undefined; steps = 0; parts = [] }
+abbrev pub initial_progress : Progress
+initial_progress = record { known = replicate 16 RegisterType.Undefined; steps = 0; parts = [] }
 
 abbrev pub at_most : ℕ → ℕ
 at_most n = min n (2 ^ 64 - 1)

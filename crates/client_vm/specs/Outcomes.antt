@@ -8,7 +8,7 @@ use Rattle.seg_raw.specs.declared.fault.Fault.{Fault}
 use Rattle.seg_raw.specs.declared.fault.Fault.TheVariants as fault
 use Rattle.seg_check.specs.Faults.{IsFaultOf}
 use Rattle.client_spec.specs.Syntax.{Client}
-use Rattle.client_spec.specs.Grammar.{Spells}
+use Rattle.client_spec.specs.Grammar.{SpellsClient}
 use Rattle.client_spec.specs.OnImages.{Move, Left}
 use Rattle.client_spec.specs.Clients.{outputs, image_behind, ending_behind, table_behind, StayWithin}
 use Rattle.client_spec.specs.Outcome.{IsOutcome, Refusal, IsTurnOf, IsRefusalOf}
@@ -63,7 +63,7 @@ pub record IsBadClient (image : List ℕ) (texts : List (List ℕ)) (room base :
   pub text : List ℕ
   pub turn : IsTurnOf image texts k text
   pub client : Client
-  pub spells : Spells text client
+  pub spells : SpellsClient text client
   pub fault : IsRefused (table_behind turn.sound.picture.table turn.clients) client f
 
 module _ (image : List ℕ) (texts : List (List ℕ)) (room base : ℕ) (moves : List Move) where

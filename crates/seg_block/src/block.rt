@@ -4,7 +4,7 @@ ghost use Rattle.std.specs.Option.{SomeIff};
 ghost use Rattle.seg_spec.specs.Heap.{Span, span, span_of, Tile, Fill, AreHeaders, IsHeap, units_at, is_live_at};
 ghost use Rattle.seg_block.specs.Sizes.{set_size, set_split};
 ghost use Rattle.seg_block.specs.Tiling.{tile_of, tile_behind, grown, halves, IsTiled, Replaces, ForNext, WhereLast, ForPrevious, WhereFirst};
-ghost use Rattle.seg_block.specs.Blocks.{block_end, Covers, LiesIn, EndsAt, HasRoom, payload_at, IsSized, IsReadFree, HasEnd, IsLiveBlock, room_after};
+ghost use Rattle.seg_block.specs.Blocks.{block_end, Covers, LiesIn, IsJustBefore, HasRoom, payload_at, IsSized, IsReadFree, HasEnd, IsLiveBlock, room_after};
 
 use crate::header::{
     HEAP_START, LIVE, TAG, UNIT, UNITS_BEFORE, block_of, is_live, units, units_before,
@@ -101,7 +101,7 @@ pub fn next<A: Allocator>(w: &Window<A>, block: Block) -> Option<Block>
 
 /// The block right before a block, where it isn't the first.
 pub fn previous<A: Allocator>(w: &Window<A>, block: Block) -> Option<Block>
-    ensures bounds { IfSome result (EndsAt block.at) }
+    ensures bounds { IfSome result (IsJustBefore block.at) }
     ensures read { ForPrevious w.now.bytes block
         (λ t. IsSomeAnd result (λ f. Covers f (span_of t))) }
     ensures none { WhereFirst w.now.bytes block (result ≡ None) }
@@ -132,7 +132,7 @@ pub fn free_after<A: Allocator>(w: &Window<A>, block: Block) -> Option<Block>
 
 /// The free block right before a block, where there is one.
 pub fn free_before<A: Allocator>(w: &Window<A>, block: Block) -> Option<Block>
-    ensures bounds { IfSome result (EndsAt block.at) }
+    ensures bounds { IfSome result (IsJustBefore block.at) }
     ensures read { ForPrevious w.now.bytes block (λ t. IsReadFree t result) }
     ensures none { WhereFirst w.now.bytes block (result ≡ None) }
 {

@@ -9,7 +9,7 @@ use Rattle.std.specs.Ordering.{is_eq, ordering_reverse}
 use Rattle.std.specs.declared.cmp.Ordering.{Ordering}
 use Rattle.std.specs.declared.cmp.Ordering.TheVariants.{Less, Equal, Greater}
 use Rattle.seg_spec.specs.Shapes.{Tree, leaf, fork, nodes_of, IsTree}
-use Rattle.seg_spec.specs.Search.{step_of, Ascend, first_where, IsSearchTree}
+use Rattle.seg_spec.specs.Search.{rank_of, Ascend, first_where, IsSearchTree}
 use Rattle.seg_spec.proofs.Frame.{each_left, each_right, each_weaker}
 use Rattle.seg_rbtree.specs.declared.node.Side.{Side}
 use Rattle.seg_rbtree.specs.declared.node.Side.TheVariants.{Left, Right}
@@ -33,7 +33,7 @@ unequal Less n = refl
 unequal Equal n = absurd (n refl)
 unequal Greater n = refl
 
-module _ (compare : ℕ → Ordering) (order : ℕ → ℕ → Ordering) (keyed : (x y : ℕ) → order x y ≡ Less → step_of (compare x) ≤ step_of (compare y)) where
+module _ (compare : ℕ → Ordering) (order : ℕ → ℕ → Ordering) (keyed : (x y : ℕ) → order x y ≡ Less → rank_of (compare x) ≤ rank_of (compare y)) where
   abbrev Differ : List ℕ → Type 0
   Differ ns = AllByRecursion (λ x. compare x ≢ Equal) ns
 
@@ -43,12 +43,12 @@ module _ (compare : ℕ → Ordering) (order : ℕ → ℕ → Ordering) (keyed 
   -- what is before a node that is below the key doesn't equal it, and what is after one above it
   differs_before : (at x : ℕ) → compare at ≡ Less → order x at ≡ Less → compare x ≢ Equal
   differs_before at x e l f =
-      let k : 1 ≤ 0 = subst (λ r. step_of r ≤ 0) f (subst (λ r. step_of (compare x) ≤ step_of r) e (keyed x at l)) in
+      let k : 1 ≤ 0 = subst (λ r. rank_of r ≤ 0) f (subst (λ r. rank_of (compare x) ≤ rank_of r) e (keyed x at l)) in
       omega (arith, k)
 
   differs_after : (at y : ℕ) → compare at ≡ Greater → order at y ≡ Less → compare y ≢ Equal
   differs_after at y e l f =
-      let k : 2 ≤ 1 = subst (λ r. 2 ≤ step_of r) f (subst (λ r. step_of r ≤ step_of (compare y)) e (keyed at y l)) in
+      let k : 2 ≤ 1 = subst (λ r. 2 ≤ rank_of r) f (subst (λ r. rank_of r ≤ rank_of (compare y)) e (keyed at y l)) in
       omega (arith, k)
 
   other : (at : ℕ) (r : Ordering) → compare at ≡ r → (r ≡ Equal → ⊥) → compare at ≢ Equal

@@ -7,7 +7,7 @@ use Rattle.std.specs.declared.cmp.Ordering.{Ordering}
 use Rattle.std.specs.declared.cmp.Ordering.TheVariants.{Less}
 use Rattle.seg_spec.specs.Pointer.{target}
 use Rattle.seg_spec.specs.Shapes.{Tree, leaf, fork, nodes_of, IsTree}
-use Rattle.seg_spec.specs.Search.{step_of, reaches, Ascend, first_where, IsUpward, looks}
+use Rattle.seg_spec.specs.Search.{rank_of, reaches, Ascend, first_where, IsUpward, looks}
 use Rattle.seg_spec.proofs.Frame.{each_weaker}
 
 -- what hangs at `place` is still to be searched; a later found was found, if `found` is one; so many nodes were looked at
@@ -76,8 +76,8 @@ reaches_by : (l x y : ℕ) → x ≤ y → leb l x ≡ true → leb l y ≡ true
 reaches_by l x y h e = grind (arith, nat_tests)
 
 -- what is no further down from a key reaches what the other reaches
-pub reaches_up : (least r s : Ordering) → step_of r ≤ step_of s → reaches least r ≡ true → reaches least s ≡ true
-reaches_up least r s h e = reaches_by (step_of least) (step_of r) (step_of s) h e
+pub reaches_up : (least r s : Ordering) → rank_of r ≤ rank_of s → reaches least r ≡ true → reaches least s ≡ true
+reaches_up least r s h e = reaches_by (rank_of least) (rank_of r) (rank_of s) h e
 
 -- ---- the walk
 

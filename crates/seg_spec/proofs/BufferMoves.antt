@@ -1,18 +1,15 @@
 -- A buffer that moves to a new block, step by step: the block gets its tag, the entries move there, the cell names it, and the
 -- old block is given back.
-use Rattle.std.proofs.Common.{◌≡◌, ◌≢◌, ℕ, ◌+◌, ◌-◌, ◌*◌, ◌%◌, ◌^◌, ◌<◌, ◌≤◌, inl, inr, ⊎_elim, true, List, [], ◌∷◌, ◌++◌, length, Option, Some, None, unwrap_or, option_to_list, option_map, MatchOption, refl, sym, ap, ◌∙◌, subst, arith}
-use Rattle.std.proofs.lemmas.Bool.{cases_eq}
+use Rattle.std.proofs.Common.{◌≡◌, ◌≢◌, ℕ, ◌+◌, ◌-◌, ◌*◌, ◌%◌, ◌^◌, ◌<◌, ◌≤◌, inr, true, List, [], ◌∷◌, ◌++◌, length, Option, Some, None, option_to_list, option_map, MatchOption, refl, sym, ap, ◌∙◌, subst, arith}
 use Rattle.std.specs.Prelude.{Contains}
-use Rattle.std.specs.List.{AllByRecursion}
-use Rattle.seg_spec.specs.Bytes.{word, set_word, IsSame, ChangesOnly}
+use Rattle.seg_spec.specs.Bytes.{set_word, IsSame, ChangesOnly}
 use Rattle.seg_spec.specs.Pointer.{target, set_pointer, distance}
 use Rattle.seg_spec.specs.Types.{Form, Table, form_at, size}
 use Rattle.seg_spec.specs.Value.{Value}
-use Rattle.seg_spec.specs.Heap.{Span, units_at, IsHeap, live, heap_start, without, IsLive, Takes, Gives}
+use Rattle.seg_spec.specs.Heap.{units_at, live, heap_start, without, IsLive, Takes, Gives}
 use Rattle.seg_spec.specs.Block.{Kind, tag_of, IsBlock, IsInside, KeepsBlock, block_of, payload_size, has_buffer}
 use Rattle.seg_spec.specs.Reads.{Place, Holds, count_at, named, start, NamesRoom}
 use Rattle.seg_spec.specs.Sound.{times, positions}
-use Rattle.seg_spec.specs.Roots.{ChangesPlace}
 use Rattle.seg_spec.specs.Demand.{after_gives}
 use Rattle.seg_spec.specs.Cells.{IsWithin}
 use Rattle.seg_spec.specs.Owning.{Stands, StandsBeside}
@@ -25,11 +22,11 @@ use Rattle.seg_spec.proofs.Frame.{IsBlock-kept, cell-target, cell-count}
 use Rattle.seg_spec.proofs.TypesLaws.{size_large}
 use Rattle.seg_spec.proofs.Writing.{set_number-changes}
 use Rattle.seg_spec.proofs.LiveLaws.{times-same, times-other, times-append, times-more, times-without, there, each_there, LiesIn, live-lie, live-once}
-use Rattle.seg_spec.proofs.NewBlock.{block_fits, was_free}
+use Rattle.seg_spec.proofs.NewBlock.{was_free}
 use Rattle.seg_spec.proofs.Giving.{found}
 use Rattle.seg_spec.proofs.CellSteps.{ChangesOnly-none, ChangesOnly-wider}
 use Rattle.seg_spec.proofs.PlaceSteps.{home_live, owned_live, owned_other, place_within, live_then, whole_then}
-use Rattle.seg_spec.proofs.Standing.{Frames, same_place, marked_home, beside_home, written_home, marked_kept, frames_twice, marked_heap, marked_live, marked_counts, marked_block, marked_stands, marked_frames, unowned, beside_live, beside_stands, beside_place, beside_frames, beside_block, written_stands, written_frames, left_stands, left_place, left_frames, left_kept, changes_of}
+use Rattle.seg_spec.proofs.Standing.{Frames, same_place, marked_home, beside_home, written_home, marked_kept, frames_twice, marked_live, marked_counts, marked_block, marked_stands, marked_frames, unowned, beside_live, beside_stands, beside_place, beside_frames, beside_block, written_stands, written_frames, left_stands, left_place, left_frames, left_kept, changes_of}
 use Rattle.seg_spec.proofs.Buffered.{HoldsEntries, Buffered, buffered, holds_buffered, MovesEntries, entries_moved, entries_changes, entries_kept, entries_none}
 
 smaller_block : (bytes : List ℕ) (p tag n m : ℕ) → m ≤ n → IsBlock bytes p tag n → IsBlock bytes p tag m

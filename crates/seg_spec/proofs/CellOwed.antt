@@ -11,7 +11,7 @@ use Rattle.seg_spec.specs.Value.{Label, Value, Values}
 use Rattle.seg_spec.specs.Heap.{units_at, IsHeap, live, heap_start}
 use Rattle.seg_spec.specs.Block.{Kind, tag_of, IsBlock, KeepsBlock, IsInside, block_of, payload_size}
 use Rattle.seg_spec.specs.Shapes.{nodes_of}
-use Rattle.seg_spec.specs.Reads.{Place, Opened, count_at, named, start, spaced, places_of, items, OpensOwn, OpensBuffer, OpensTree, Opens, Holds, holds, HoldsEach, holds_none}
+use Rattle.seg_spec.specs.Reads.{Place, Opened, count_at, named, start, spaced, places_of, items, OpensOwn, OpensBuffer, OpensTree, Opens, Holds, holds, HoldsEach, holds_none, map_words}
 use Rattle.seg_spec.specs.Cells.{EachCell}
 use Rattle.seg_spec.specs.Sound.{times, SameBlocks, positions}
 use Rattle.seg_spec.specs.Owing.{NamesNothing, AreParts, no_parts, more_parts, entries_at, entries_of, OpensBlock, Owes, owes, no_links}
@@ -80,7 +80,7 @@ module _ (bytes : List ℕ) (table : Table) (place : Place) (p : ℕ) (e : targe
   tree_by : (U : ℕ) (f : form_at table place.type ≡ Some (Form.map U)) (opened : Opened) (inside : Values) (owned xs : List ℕ) → OpensTree bytes table place.at (tag_of Kind.node place.type) U opened →
       HoldsEach bytes table opened.parts inside owned → xs ≡ opened.blocks ++ owned → GoesWith bytes table p xs
   tree_by U f opened inside owned xs o hs is =
-      let parts : opened.parts ≡ places_of U (map (λ p. p + 24) (nodes_of o.tree)) = ap (λ (r : Opened). r.parts) o.opened_is in
+      let parts : opened.parts ≡ places_of U (map (λ p. p + map_words) (nodes_of o.tree)) = ap (λ (r : Opened). r.parts) o.opened_is in
       let blocks : opened.blocks ≡ map block_of (nodes_of o.tree) = ap (λ (r : Opened). r.blocks) o.opened_is in
       let r = tree_owes bytes table place.type U f (target bytes place.at) o.tree inside owned o.is_tree o.are_nodes (subst (λ ps. HoldsEach bytes table ps inside owned) parts hs) in
       record {

@@ -11,7 +11,7 @@ use Rattle.seg_spec.specs.Value.{Value, Values}
 use Rattle.seg_spec.specs.Heap.{IsHeap, live, heap_start}
 use Rattle.seg_spec.specs.Block.{IsBlock, KeepsBlock, block_of}
 use Rattle.seg_spec.specs.Shapes.{IsRing, Tree, leaf, fork, nodes_of, IsTree}
-use Rattle.seg_spec.specs.Reads.{Place, Opened, count_at, spaced, places_of, fields, AreNodes, Opens, Holds, holds, HoldsEach, holds_none, holds_more}
+use Rattle.seg_spec.specs.Reads.{Place, Opened, count_at, spaced, places_of, fields, AreNodes, Opens, Holds, holds, HoldsEach, holds_none, holds_more, map_words}
 use Rattle.seg_spec.specs.Sound.{times, positions}
 use Rattle.seg_spec.specs.Cells.{IsWithin, EachCell, ChangesCells, ChangesEach, IsMoved, IsFurther}
 use Rattle.seg_spec.specs.Owning.{StandsBeside}
@@ -93,7 +93,7 @@ module _ (bytes : List ℕ) (table : Table) (valid : IsTable table) where
   opens_named place (Form.flat_map U) opened one o = λ t e. rw (ap (λ (r : Opened). r.blocks) o.opened_is) (room_named (target bytes place.at) _ _ (8 + size table U) t e o.named_room)
   opens_named place (Form.own U) opened one o = λ t e. rw (ap (λ (r : Opened). r.blocks) o.opened_is) (room_named (target bytes place.at) _ _ (size table U) t e o.named_room)
   opens_named place (Form.list U) opened one o = λ t e. rw (ap (λ (r : Opened). r.blocks) o.opened_is) (ring_named (target bytes place.at) _ (8 + size table U) t o.nodes e o.ring o.are_nodes)
-  opens_named place (Form.map U) opened one o = λ t e. rw (ap (λ (r : Opened). r.blocks) o.opened_is) (tree_named (target bytes place.at) _ (24 + size table U) t o.tree e o.is_tree o.are_nodes)
+  opens_named place (Form.map U) opened one o = λ t e. rw (ap (λ (r : Opened). r.blocks) o.opened_is) (tree_named (target bytes place.at) _ (map_words + size table U) t o.tree e o.is_tree o.are_nodes)
 
   one_owned : (place : Place) (form : Form) (opened : Opened) (blocks owned : List ℕ) → form_at table place.type ≡ Some form → IsOne table valid form → Opens bytes table place form opened →
       blocks ≡ opened.blocks ++ owned → EachCell table place.type (λ d f. NamesOwned blocks (place.at + d) f)

@@ -4,7 +4,7 @@ use Rattle.seg_spec.specs.Types.{Table, Agree, longer}
 use Rattle.seg_spec.specs.Sound.{Picture, IsHeld}
 use Rattle.test_definitions.proofs.OnePicture.{Held-one}
 use Rattle.client_spec.specs.Syntax.{Client}
-use Rattle.client_spec.specs.Grammar.{Spells}
+use Rattle.client_spec.specs.Grammar.{SpellsClient}
 use Rattle.client_spec.specs.Run.{Ending, finished, stopped, stuck, bound}
 use Rattle.client_spec.specs.OnImages.{Given, Left, RunsClient}
 use Rattle.client_spec.specs.Clients.{IsVerified, AreAccepted, given_next, GoesOn, RunClients, image_behind, StayWithin}
@@ -19,7 +19,7 @@ table_left client given left table picture held is runs =
     let run = run_of_states client.constants given.others given.moves client.code runs.first runs.last left.steps left.ending runs.run in
     runs.is_left.types ∙ (run_writes client.constants client.code runs.first.state runs.last.state left.steps left.ending run).types ∙ runs.is_first.types ∙ ap (λ t. longer t client.types) same
 
-one_within : (client : Client) (given : Given) (left : Left) (text : List ℕ) (table : Table) (picture : Picture) → IsHeld given.image picture → picture.table ≡ table → Spells text client
+one_within : (client : Client) (given : Given) (left : Left) (text : List ℕ) (table : Table) (picture : Picture) → IsHeld given.image picture → picture.table ≡ table → SpellsClient text client
     → IsVerified table client → RunsClient client given left
     → (left.steps ≤ bound client.code) × (left.ending ≢ stuck)
 one_within client given left text table picture held is spells verified runs =
