@@ -5,7 +5,7 @@
 --     types_start, types_size        where the table of types begins, and its bytes
 --     uniques_start, uniques_size    where the words of the unique objects begin, and their bytes
 --     heap_start                     where the heap begins
---     back_start, back_size          what stands between the word of the free structure and the heap
+--     back_start, back_size          what stands between the free structure's word and the heap
 --     KeepsFront, KeepsBack          all before that word is kept; all after it, to the heap
 use Rattle.std.specs.Prelude.{ℕ, ◌+◌, ◌-◌, ◌*◌, ◌^◌, List}
 use Rattle.seg_spec.specs.Bytes.{IsSame}

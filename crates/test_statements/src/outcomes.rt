@@ -31,7 +31,8 @@ pub fn no_clients()
     ensures wrote { HasOutcome counter [] [] 2048 0 [] (Some (codes "=")) (Some (codes "=4"))
         counter [] Ended.Done → ⊥ }
     ensures another { HasOutcome counter [] [] 2048 0 [] None None empty [] Ended.Done → ⊥ }
-    ensures stopped { HasOutcome counter [] [] 2048 0 [] None None counter [] Ended.OutputFailed → ⊥ }
+    ensures stopped { HasOutcome counter [] [] 2048 0 [] None None
+        counter [] Ended.OutputFailed → ⊥ }
     ensures a_report { (report : Report) →
         HasOutcome counter [] [] 2048 0 [] None None counter (report ∷ []) Ended.Done → ⊥ }
     ensures no_place { HasOutcome counter [] [] 2048 8 [] None None counter [] Ended.Done → ⊥ }
