@@ -11,7 +11,7 @@ use Rattle.client_spec.specs.Syntax.{Constant, Statements, Client}
 use Rattle.client_spec.specs.Grammar.{word_bytes, constant_bytes, instruction_bytes, listing, SpellsClient}
 use Rattle.client_spec.specs.Syntax.{Instruction}
 use Rattle.client_spec.specs.Pieces.{pieces_of}
-use Rattle.client_spec.proofs.OneClient.{constant_front, instruction_front, IsWord, words, all_long, spelling_is, behind}
+use Rattle.client_spec.proofs.OneClient.{constant_front, instruction_front, IsWord, words, all_long, spelling_is, following}
 use Rattle.std.specs.Int.{w32}
 use Rattle.std.specs.Option.{option_map}
 use Rattle.client_spec.proofs.Values.{Some_inj}
@@ -52,8 +52,8 @@ unfolding slice
 split_at file at n = sym (take-append-drop n (drop at file)) ∙ ap (λ xs. take n (drop at file) ++ xs) (drop-drop n at file)
 
 -- a word that stands after a front
-word_behind : (file front rest : List ℕ) (at n : ℕ) → file ≡ front ++ (word_bytes n ++ rest) → length front ≡ at → n < 256 ^ 4 → number 4 file at ≡ n
-word_behind file front rest at n e l small =
+word_after : (file front rest : List ℕ) (at n : ℕ) → file ≡ front ++ (word_bytes n ++ rest) → length front ≡ at → n < 256 ^ 4 → number 4 file at ≡ n
+word_after file front rest at n e l small =
     let long = ap length e ∙ length-append front (word_bytes n ++ rest) in
     let more = length-append (word_bytes n) rest in
     let four = length-spelling 4 n in
@@ -76,7 +76,7 @@ module _ (file : List ℕ) (client : Client) (place : ℕ) (parts : AreParts fil
   word_is : (at n : ℕ) → at + 4 ≤ length file → number 4 file at ≡ n → slice file at 4 ≡ word_bytes n
   word_is at n h e = word_back file at h small ∙ ap word_bytes e
 
-  file_is : file ≡ codes "SEGC" ++ (word_bytes 1 ++ behind (pieces_of client))
+  file_is : file ≡ codes "SEGC" ++ (word_bytes 1 ++ following (pieces_of client))
   file_is =
       let h = parts.header in
       let whole = h.whole in
@@ -125,18 +125,18 @@ module _ (file a w v x y types constants code : List ℕ) (n : ℕ) (e : file �
   fifth : file ≡ ((((a ++ w) ++ v) ++ x) ++ y) ++ (types ++ (constants ++ code))
   fifth = fourth ∙ two (((a ++ w) ++ v) ++ x) y (types ++ (constants ++ code))
 
-  behind_header : drop 20 file ≡ types ++ (constants ++ code)
-  behind_header = ap (drop 20) fifth ∙ drop_at ((((a ++ w) ++ v) ++ x) ++ y) (types ++ (constants ++ code)) 20 (twenty a w v x y la lw lv lx ly)
+  after_header : drop 20 file ≡ types ++ (constants ++ code)
+  after_header = ap (drop 20) fifth ∙ drop_at ((((a ++ w) ++ v) ++ x) ++ y) (types ++ (constants ++ code)) 20 (twenty a w v x y la lw lv lx ly)
 
   types_there : slice file 20 n ≡ types
   unfolding slice
-  types_there = ap (take n) behind_header ∙ take_at types (constants ++ code) n lt
+  types_there = ap (take n) after_header ∙ take_at types (constants ++ code) n lt
 
-  behind_types : drop (20 + n) file ≡ constants ++ code
-  behind_types = sym (drop-drop n 20 file) ∙ ap (drop n) behind_header ∙ drop_at types (constants ++ code) n lt
+  after_types : drop (20 + n) file ≡ constants ++ code
+  after_types = sym (drop-drop n 20 file) ∙ ap (drop n) after_header ∙ drop_at types (constants ++ code) n lt
 
-  behind_constants : (m : ℕ) → length constants ≡ m → drop (20 + n + m) file ≡ code
-  behind_constants m l = sym (drop-drop m (20 + n) file) ∙ ap (drop m) behind_types ∙ drop_at constants code m l
+  after_constants : (m : ℕ) → length constants ≡ m → drop (20 + n + m) file ≡ code
+  after_constants m l = sym (drop-drop m (20 + n) file) ∙ ap (drop m) after_types ∙ drop_at constants code m l
 
   all_long_file : length file ≡ 20 + n + length constants + length code
   all_long_file =
@@ -177,14 +177,14 @@ spelled_parts file client spells =
       header = record {
         whole = omega arith;
         magic = ap (take 4) e;
-        version = word_behind file S _ 4 1 e refl (omega arith);
-        of_types = word_behind file
+        version = word_after file S _ 4 1 e refl (omega arith);
+        of_types = word_after file
             (S ++ word_bytes 1) _ 8 t (second file S (word_bytes 1) (word_bytes t) (word_bytes c) (word_bytes i) types constants code (16 * t) e refl (four 1) (four t) (four c) (four i) lt)
             (front_of_two file S (word_bytes 1) (word_bytes t) (word_bytes c) (word_bytes i) types constants code (16 * t) e refl (four 1) (four t) (four c) (four i) lt) few_types;
-        of_constants = word_behind file ((S ++ word_bytes 1) ++ word_bytes t) _ 12 c
+        of_constants = word_after file ((S ++ word_bytes 1) ++ word_bytes t) _ 12 c
             (third file S (word_bytes 1) (word_bytes t) (word_bytes c) (word_bytes i) types constants code (16 * t) e refl (four 1) (four t) (four c) (four i) lt) (front_of_three file
             S (word_bytes 1) (word_bytes t) (word_bytes c) (word_bytes i) types constants code (16 * t) e refl (four 1) (four t) (four c) (four i) lt) few_constants;
-        of_instructions = word_behind file (((S ++ word_bytes 1) ++ word_bytes t) ++ word_bytes c) _ 16 i
+        of_instructions = word_after file (((S ++ word_bytes 1) ++ word_bytes t) ++ word_bytes c) _ 16 i
             (fourth file S (word_bytes 1) (word_bytes t) (word_bytes c) (word_bytes i) types constants code (16 * t) e refl (four 1) (four t) (four c) (four i) lt) (front_of_four file
             S (word_bytes 1) (word_bytes t) (word_bytes c) (word_bytes i) types constants code (16 * t) e refl (four 1) (four t) (four c) (four i) lt) few_instructions;
       };
@@ -194,8 +194,8 @@ spelled_parts file client spells =
         spelled = types_there file S (word_bytes 1) (word_bytes t) (word_bytes c) (word_bytes i) types constants code (16 * t) e refl (four 1) (four t) (four c) (four i) lt;
       };
       constants = record {
-        spelled = behind_types file S (word_bytes 1) (word_bytes t) (word_bytes c) (word_bytes i) types constants code (16 * t) e refl (four 1) (four t) (four c) (four i) lt
-            ∙ ap (λ xs. constants ++ xs) (sym (behind_constants file S (word_bytes 1) (word_bytes t) (word_bytes c) (word_bytes i) types constants code (16 * t) e refl (four 1)
+        spelled = after_types file S (word_bytes 1) (word_bytes t) (word_bytes c) (word_bytes i) types constants code (16 * t) e refl (four 1) (four t) (four c) (four i) lt
+            ∙ ap (λ xs. constants ++ xs) (sym (after_constants file S (word_bytes 1) (word_bytes t) (word_bytes c) (word_bytes i) types constants code (16 * t) e refl (four 1)
             (four t) (four c) (four i) lt (length constants) refl));
         place = refl;
         each = v.constants;
@@ -204,7 +204,7 @@ spelled_parts file client spells =
       code = record {
         right = v.code;
         shallow = v.shallow;
-        spelled = behind_constants file S (word_bytes 1) (word_bytes t) (word_bytes c) (word_bytes i) types constants code (16 * t) e refl (four 1) (four t) (four c) (four i) lt (length constants) refl;
+        spelled = after_constants file S (word_bytes 1) (word_bytes t) (word_bytes c) (word_bytes i) types constants code (16 * t) e refl (four 1) (four t) (four c) (four i) lt (length constants) refl;
         ends = omega arith;
       };
     }
@@ -277,7 +277,7 @@ constants_again file tree spells cs at place t n k m e l constants =
     (constants_same file at place (code_place tree) cs tree.constants constants there (l ∙ m)).0
 
 pub constants_there_again : (file : List ℕ) (tree : Client) → SpellsClient file tree → (at t n : ℕ) → t ≡ length tree.types → n ≡ length tree.constants
-    → at ≡ 20 + 16 * t → ((cs : List Constant) (behind : ℕ) → length cs ≡ n → AreConstants file at cs behind → ⊥) → ⊥
+    → at ≡ 20 + 16 * t → ((cs : List Constant) (following : ℕ) → length cs ≡ n → AreConstants file at cs following → ⊥) → ⊥
 constants_there_again file tree spells at t n k m e wrong =
     wrong tree.constants (code_place tree) (sym m) (subst (λ x. AreConstants file x tree.constants (code_place tree)) (ap (λ x. 20 + 16 * x) (sym k) ∙ sym e) (spelled_parts file tree spells).constants)
 

@@ -46,21 +46,21 @@ further lines left start file n line item now written e spells readable bytes = 
 -- ---- items in order are pieces
 
 -- the first items belong to a section, and are all of one kind
-record First {A : Type 0} (f : A → Item) (n : ℕ) (behind : List Section) (items : List Item) : Type 0 where
+record First {A : Type 0} (f : A → Item) (n : ℕ) (following : List Section) (items : List Item) : Type 0 where
   pub list : List A
   pub rest : List Item
   pub count : length list ≡ n
   pub whole : items ≡ map f list ++ rest
-  pub sections : map section_of rest ≡ behind
+  pub sections : map section_of rest ≡ following
 
 first : {A : Type 0} (f : A → Item) (s : Section) → ((item : Item) → section_of item ≡ s → (x : A) × (item ≡ f x))
-    → (n : ℕ) (behind : List Section) (items : List Item) → map section_of items ≡ replicate n s ++ behind → First f n behind items
-first f s kind zero behind items e = record { list = []; rest = items; count = refl; whole = refl; sections = e }
-first f s kind (suc n) behind [] e = cc
-first f s kind (suc n) behind (item ∷ items) e =
-    let cut = tail_of (section_of item) s (map section_of items) (replicate n s ++ behind) e in
+    → (n : ℕ) (following : List Section) (items : List Item) → map section_of items ≡ replicate n s ++ following → First f n following items
+first f s kind zero following items e = record { list = []; rest = items; count = refl; whole = refl; sections = e }
+first f s kind (suc n) following [] e = cc
+first f s kind (suc n) following (item ∷ items) e =
+    let cut = tail_of (section_of item) s (map section_of items) (replicate n s ++ following) e in
     let here = kind item cut.0 in
-    let more = first f s kind n behind items cut.1 in
+    let more = first f s kind n following items cut.1 in
     record {
       list = here.0 ∷ more.list;
       rest = more.rest;

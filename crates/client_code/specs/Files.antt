@@ -4,7 +4,7 @@
 --     AreRight file place                            the header's fields in front
 --                                                    of a position are right
 --     AreTypes file table                            these types stand after it
---     AreConstants file at constants behind          these constants stand there,
+--     AreConstants file at constants after          these constants stand there,
 --                                                    and the rest after them
 --     IsCodeAt file at table constants code          this code stands there, up to the end
 use Rattle.std.specs.Prelude.{◌≡◌, ℕ, ◌+◌, ◌*◌, ◌≤◌, List, ◌++◌, length, take, drop, flat_map, codes, All, AllPairs}
@@ -33,9 +33,9 @@ pub record AreRight (file : List ℕ) (place : ℕ) : Type 0 where
   pub of_instructions : 20 ≤ place → (20 ≤ length file) × (bytes.word file 16 ≤ 4096)
 
 pub record AreConstants (file : List ℕ) (at : ℕ) (constants : List Constant)
-    (behind : ℕ) : Type 0 where
-  pub spelled : drop at file ≡ flat_map constant_bytes constants ++ drop behind file
-  pub place : behind ≡ at + length (flat_map constant_bytes constants)
+    (following : ℕ) : Type 0 where
+  pub spelled : drop at file ≡ flat_map constant_bytes constants ++ drop following file
+  pub place : following ≡ at + length (flat_map constant_bytes constants)
   pub each : All IsConstant constants
   pub different : AllPairs Differ constants
 

@@ -72,8 +72,8 @@ fn add(header: &mut Header, section: Section) -> bool
     ensures counted { IsTrue result → outline_of header.new
         ≡ outline_of header.old ++ section ∷ [] }
     ensures one { IsTrue result → entry_total header.new ≡ entry_total header.old + 1 }
-    ensures refused { IsFalse result → (behind : List Section) →
-        IsOutline (outline_of header.old ++ section ∷ behind) → ⊥ }
+    ensures refused { IsFalse result → (following : List Section) →
+        IsOutline (outline_of header.old ++ section ∷ following) → ⊥ }
     ensures kept { IsFalse result → header.new ≡ header.old }
 {
     let is_code = header.instructions > 0;

@@ -40,11 +40,11 @@ fn next_constant<'a>(file: &'a [u8], at: u32, before: &[Constant]) -> Option<(Co
         All (λ other. Differ (constant_of other) c) before.now →
         drop at file.now ≢ constant_bytes c ++ rest) }
 {
-    let (constant, behind) = Constant::read(file, at)?;
+    let (constant, following) = Constant::read(file, at)?;
     if !differs_from(before, constant) {
         return None;
     }
-    Some((constant, behind))
+    Some((constant, following))
 }
 
 /// The constants that begin at a position, and the position after them.
@@ -55,19 +55,19 @@ pub fn read_constants(file: &[u8], at: u32, count: u32) -> Result<(Constants<'_>
     ensures count { IfOk result (λ found. length found.0.items ≡ count) }
     ensures found { IfOk result (λ found. AreConstants file.now at
         (constants_of found.0.items) found.1) }
-    ensures wrong { IfErr result (λ fault. (cs : List syntax.Constant) (behind : ℕ) →
-        length cs ≡ count → AreConstants file.now at cs behind → ⊥) }
+    ensures wrong { IfErr result (λ fault. (cs : List syntax.Constant) (following : ℕ) →
+        length cs ≡ count → AreConstants file.now at cs following → ⊥) }
     ensures fault { IfErr result (λ fault. (place : ℕ) × (fault ≡ Fault.BadCode place)) }
 {
     let mut constants = ArrayVec::new();
     let mut next = at;
     for _ in 0..count {
         let place = next;
-        let Some((constant, behind)) = next_constant(file, place, constants.as_slice()) else {
+        let Some((constant, following)) = next_constant(file, place, constants.as_slice()) else {
             return Err(Fault::BadCode(place));
         };
         constants.push(constant);
-        next = behind;
+        next = following;
     }
     Ok((constants, next))
 }

@@ -10,7 +10,7 @@ use Rattle.seg_spec.specs.Faulty.{IsImageLength}
 use Rattle.client_spec.specs.Syntax.{Client}
 use Rattle.client_spec.specs.Grammar.{SpellsClient}
 use Rattle.client_spec.specs.OnImages.{Move, Given, Left}
-use Rattle.client_spec.specs.Clients.{IsVerified, AreAccepted, RunClients, table_behind, AreMoves, IsFirstBadMove}
+use Rattle.client_spec.specs.Clients.{IsVerified, AreAccepted, RunClients, table_after, AreMoves, IsFirstBadMove}
 
 -- the image has a place in the room
 pub record CanLie (image : List ℕ) (room base : ℕ) : Type 0 where
@@ -71,4 +71,4 @@ IsRefusalOf image texts room base moves (Refusal.bad_text k) =
 IsRefusalOf image texts room base moves (Refusal.bad_client k) =
     CanMove image room base moves × (text : List ℕ) × (turn : IsTurnOf image texts k text) ×
     (client : Client) × SpellsClient text client ×
-    (IsVerified (table_behind turn.sound.picture.table turn.clients) client → ⊥)
+    (IsVerified (table_after turn.sound.picture.table turn.clients) client → ⊥)

@@ -2,7 +2,7 @@
 --     Step     what it reads: the row, the operands, and what is known in front of the instruction
 --     meets, given, ended_in     whether a register holds what is needed, what a register gets,
 --                                what is known once references have ended
---     checked_first, known_behind, applied     the first reason to refuse the instruction, what is
+--     checked_first, known_in_parts, applied     the first reason to refuse the instruction, what is
 --                                              known after it in both parts, or either
 use Rattle.std.specs.Prelude.{⊤, ℕ, ℤ, pos, negsuc, List, Bool, true, false, not, ◌==◌, if◌then◌else◌, Option, Some, None, Ok, slice_get, slice_set}
 use Rattle.std.specs.Option.{is_some, option_and_then}
@@ -220,8 +220,8 @@ module _ (s : Step) where
     required (not (is_lost given s.before)) Reason.OwnerLost
 
   -- in the success part, and in the else part
-  abbrev pub known_behind : RegisterTypes × RegisterTypes
-  known_behind = (changed given ended_in, changed_by s.row.role given ended_in)
+  abbrev pub known_in_parts : RegisterTypes × RegisterTypes
+  known_in_parts = (changed given ended_in, changed_by s.row.role given ended_in)
 
   abbrev pub applied : Rule
-  applied = checked_first >>= λ _. Ok known_behind
+  applied = checked_first >>= λ _. Ok known_in_parts

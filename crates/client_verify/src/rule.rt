@@ -44,7 +44,7 @@ impl<'a> Rule<'a> {
     ghost use Rattle.seg_spec.specs.Types.{form_at};
     ghost use Rattle.seg_layout.specs.Forms.{form_of};
     ghost use Rattle.client_verify.specs.Views.{class_of, known_of};
-    ghost use Rattle.client_verify.specs.Checking.{referred, field_at, part_of, is_kind, is_kind_at, is_inside, is_lost, part_known, borrowed_from, otherwise_by, others, held, part_held as part_in, meets as meets_in, given as given_in, ended_in, checked_first, known_behind};
+    ghost use Rattle.client_verify.specs.Checking.{referred, field_at, part_of, is_kind, is_kind_at, is_inside, is_lost, part_known, borrowed_from, otherwise_by, others, held, part_held as part_in, meets as meets_in, given as given_in, ended_in, checked_first, known_in_parts};
     ghost use Rattle.client_verify.specs.Steps.{types_of, before_of, instruction_in, step_by};
 
     /// The rule of an instruction, in front of which this is known.
@@ -80,7 +80,7 @@ impl<'a> Rule<'a> {
 
     /// What is known after the instruction where there is no reason to reject it.
     fn after(&self) -> After
-        ensures { both_of result ≡ known_behind (step_by self.now) }
+        ensures { both_of result ≡ known_in_parts (step_by self.now) }
     {
         let ended = self.ended();
         let mut after = After {

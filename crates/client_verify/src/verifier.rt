@@ -172,7 +172,7 @@ impl<'a> Verifier<'a> {
         }
     }
 
-    /// Behind an `END`.
+    /// After an `END`.
     fn close(&mut self) -> Result<(), Reason>
         ensures types { self.new.types.now ≡ self.old.types.now }
         ensures closed { checked (λ _. progress_of self.new) result

@@ -20,7 +20,7 @@ use Rattle.seg_rbtree.specs.Changes.{IsNew}
 use Rattle.seg_rbtree.proofs.Apartness.{each_join}
 use Rattle.seg_rbtree.proofs.Orders.{ascend-parts, ascend-down}
 use Rattle.seg_rbtree.proofs.Searching.{first_here, first_later}
-use Rattle.seg_rbtree.proofs.Unlinking.{before, behind, nodes_plug}
+use Rattle.seg_rbtree.proofs.Unlinking.{before, following, nodes_plug}
 use Rattle.seg_rbtree.proofs.Removed.{rest_hangs}
 
 reversed : (r s : Ordering) → ordering_reverse r ≡ s → r ≡ ordering_reverse s
@@ -61,16 +61,16 @@ module _ (compare : ℕ → Ordering) (order : ℕ → ℕ → Ordering) (keyed 
       go : (side : Side) → compare layer.at ≡ ordering_reverse (turn_of side) → Ascend order (nodes_of (branch side layer.at layer.colour rest layer.other)) → Differ (nodes_of (branch side layer.at layer.colour rest layer.other))
       go Left e h =
           let p = ascend-parts order (nodes_of rest) layer.at (nodes_of layer.other) h in
-          each_join _ (nodes_of rest) (layer.at ∷ nodes_of layer.other) d (other layer.at Greater e (λ q. cc), each_weaker _ _ (λ y f. differs_after layer.at y e f) (nodes_of layer.other) p.behind)
+          each_join _ (nodes_of rest) (layer.at ∷ nodes_of layer.other) d (other layer.at Greater e (λ q. cc), each_weaker _ _ (λ y f. differs_after layer.at y e f) (nodes_of layer.other) p.following)
       go Right e h =
           let p = ascend-parts order (nodes_of layer.other) layer.at (nodes_of rest) h in
           each_join _ (nodes_of layer.other) (layer.at ∷ nodes_of rest) (each_weaker _ _ (λ x f. differs_before layer.at x e f) (nodes_of layer.other) p.before) (other layer.at Less e (λ q. cc), d)
 
-  among : (layers : List Layer) (left right : Tree) (at : ℕ) (nodes : List ℕ) → nodes ≡ before layers ++ ((nodes_of left ++ at ∷ nodes_of right) ++ behind layers) → compare at ≡ Equal → IsEqualAmong compare nodes at
+  among : (layers : List Layer) (left right : Tree) (at : ℕ) (nodes : List ℕ) → nodes ≡ before layers ++ ((nodes_of left ++ at ∷ nodes_of right) ++ following layers) → compare at ≡ Equal → IsEqualAmong compare nodes at
   among layers left right at nodes e f = record {
     front = before layers ++ nodes_of left;
-    back = nodes_of right ++ behind layers;
-    nodes_are = e ∙ ap (λ ns. before layers ++ ns) (append_assoc (nodes_of left) (at ∷ nodes_of right) (behind layers)) ∙ sym (append_assoc (before layers) (nodes_of left) (at ∷ nodes_of right ++ behind layers));
+    back = nodes_of right ++ following layers;
+    nodes_are = e ∙ ap (λ ns. before layers ++ ns) (append_assoc (nodes_of left) (at ∷ nodes_of right) (following layers)) ∙ sym (append_assoc (before layers) (nodes_of left) (at ∷ nodes_of right ++ following layers));
     equals = f;
   }
 

@@ -30,7 +30,7 @@ use Rattle.seg_spec.proofs.Standing.{Frames, same_place, marked_home, beside_hom
 use Rattle.seg_spec.proofs.Buffered.{HoldsEntries, Buffered, buffered, holds_buffered, MovesEntries, entries_moved, entries_changes, entries_kept, entries_none}
 
 smaller_block : (bytes : List ℕ) (p tag n m : ℕ) → m ≤ n → IsBlock bytes p tag n → IsBlock bytes p tag m
-smaller_block bytes p tag n m l b = record { behind_header = b.behind_header; live = b.live; has_tag = b.has_tag; room = omega (arith, b.room) }
+smaller_block bytes p tag n m l b = record { after_header = b.after_header; live = b.live; has_tag = b.has_tag; room = omega (arith, b.room) }
 
 pub less_room : (bytes : List ℕ) (at n m : ℕ) → m ≤ n → HasRoomFor bytes at n → HasRoomFor bytes at m
 less_room bytes at n m l h = go (target bytes at) h
@@ -115,7 +115,7 @@ module _ (allocator : ℕ) (old taken : List ℕ) (table : Table) (place : Place
       let room : IsBlock tagged p (tag_of Kind.buffer place.type) (n * each) = rw e at its.room in
       let mine : 1 ≤ times (block_of p) blocks = rw (its.blocks_are, e) (omega (arith, times-same (block_of p) its.owned)) in
       let l = there (LiesIn tagged heap_start (length tagged)) (block_of p) (positions (live tagged)) (live-lie tagged allocator tagged_stands.heap) (owned_live allocator tagged table place v blocks tagged_stands (block_of p) mine) in
-      record { fits = omega (arith, room.room, room.behind_header, l.high, l.size); small = tagged_stands.heap.small }
+      record { fits = omega (arith, room.room, room.after_header, l.high, l.size); small = tagged_stands.heap.small }
 
   pub to_within : n * each + 16 ≤ 16 * u → IsWithin tagged (g + 16) (n * each)
   to_within fits = record { fits = omega (arith, g_lies.high, units); small = tagged_stands.heap.small }

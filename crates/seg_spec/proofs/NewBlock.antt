@@ -212,7 +212,7 @@ module _ (allocator u h tag : ℕ) (old taken new : List ℕ) (heap : IsHeap all
         let more = got.enough in
         let kept_units = b.units_kept in
         record {
-          behind_header = omega arith;
+          after_header = omega arith;
           live = rw own (ap (λ w. nat_le (2 ^ 31) w) (first ∙ own_first) ∙ l.live_is);
           has_tag = rw own (word-same tagged new (h + 8) (b.outside (h + 8) 4 (omega arith) (omega arith)) ∙ written);
           room = rw own (omega arith);

@@ -46,7 +46,7 @@ module _ (old new : List ℕ) (table : Table) (valid : IsTable table) where
       (IsSame-part old new p n (p + before) (size table U) (omega arith) (omega arith) s, entries_same (p + each) before U (n - each) k (IsSame-part old new p n (p + each) (n - each) (omega arith) (omega arith) s) (omega arith))
 
   whole_payload : (p tag n : ℕ) → KeepsWhole old new (block_of p) → IsBlock old p tag n → IsSame old new p (payload_size old (block_of p))
-  whole_payload p tag n k b = let e : p - 16 + 16 ≡ p = omega (arith, b.behind_header) in rw e at k.kept.payload
+  whole_payload p tag n k b = let e : p - 16 + 16 ≡ p = omega (arith, b.after_header) in rw e at k.kept.payload
 
   -- what a block shows, where it is kept
   pub record Shown (p : ℕ) (kind : Kind) (T : ℕ) (form : Option Form) (values : List Place) (links : List ℕ) : Type 0 where

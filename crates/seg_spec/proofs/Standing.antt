@@ -235,7 +235,7 @@ module _ (allocator : ℕ) (old : List ℕ) (table : Table) (place : Place) (v :
         let room = rw own at b.room in
         let units = k.units_kept in
         record {
-          behind_header = b.behind_header;
+          after_header = b.after_header;
           live = rw (own, first) was;
           has_tag = rw own (word-same old new (g + 8) (k.outside (g + 8) 4 (omega arith) (omega arith)) ∙ tagged);
           room = rw own (omega arith);

@@ -5,7 +5,7 @@ ghost use Rattle.client_spec.specs.Syntax.{Constant, Statements};
 ghost use Rattle.client_spec.specs.Grammar.{client_bytes, SpellsClient};
 ghost use Rattle.client_spec.specs.Text.{text_of};
 ghost use Rattle.client_spec.specs.Run.{finished, stopped, stuck, bound};
-ghost use Rattle.client_spec.specs.Clients.{outputs, image_behind, ending_behind, table_behind, StayWithin, AreMoves, IsFirstBadMove, IsLeftInPlace};
+ghost use Rattle.client_spec.specs.Clients.{outputs, image_after, ending_after, table_after, StayWithin, AreMoves, IsFirstBadMove, IsLeftInPlace};
 ghost use Rattle.client_spec.specs.Safe.{IsFront, Writes};
 ghost use Rattle.client_spec.specs.Typed.{Reason, RegisterType, reason_number, types_after};
 ghost use Rattle.client_spec.specs.Fixtures.{increment, chain, cycle, dangling, lost, retyped, three_turns, counting_down, idle, echo, kill_twice, as_a_text, nested, types, constants, beginning, counted, no_names, RunsTo, left_with, two_runs, given_at_0, move_to};
@@ -86,12 +86,12 @@ pub fn runs()
 #[tactic(auto, unfolding(client_spec::specs::Grammar::listing))]
 pub fn several_runs()
     ensures outputs { outputs two_runs ≡ codes "424" }
-    ensures image { image_behind (codes "0") two_runs ≡ codes "b" }
-    ensures first_image { image_behind (codes "0") [] ≡ codes "0" }
-    ensures ending { ending_behind two_runs ≡ stopped }
-    ensures no_ending { ending_behind [] ≡ finished }
-    ensures table { table_behind [] (increment ∷ chain ∷ []) ≡ chain.types }
-    ensures shorter { table_behind chain.types (increment ∷ []) ≡ chain.types }
+    ensures image { image_after (codes "0") two_runs ≡ codes "b" }
+    ensures first_image { image_after (codes "0") [] ≡ codes "0" }
+    ensures ending { ending_after two_runs ≡ stopped }
+    ensures no_ending { ending_after [] ≡ finished }
+    ensures table { table_after [] (increment ∷ chain ∷ []) ≡ chain.types }
+    ensures shorter { table_after chain.types (increment ∷ []) ≡ chain.types }
     ensures within { StayWithin (increment ∷ increment ∷ []) two_runs }
     ensures too_long { StayWithin (increment ∷ []) (left_with 7 finished [] [] ∷ []) → ⊥ }
     ensures stuck { StayWithin (increment ∷ []) (left_with 6 stuck [] [] ∷ []) → ⊥ }

@@ -14,7 +14,7 @@ use Rattle.client_spec.specs.Syntax.{Client}
 use Rattle.client_spec.specs.Grammar.{SpellsClient, client_bytes}
 use Rattle.client_spec.specs.Run.{finished, stopped}
 use Rattle.client_spec.specs.OnImages.{Move, Given, Left}
-use Rattle.client_spec.specs.Clients.{IsVerified, AreAccepted, RunClients, table_behind, outputs, image_behind, ending_behind}
+use Rattle.client_spec.specs.Clients.{IsVerified, AreAccepted, RunClients, table_after, outputs, image_after, ending_after}
 use Rattle.client_spec.specs.Outcome.{CanLie, CanMove, IsOutcome, Refusal, IsTurnOf, IsRefusalOf}
 use Rattle.client_spec.specs.Fixtures.{increment, move_to}
 use Rattle.client_verify.specs.Refusals.{IsRefused}
@@ -135,13 +135,13 @@ module _ {input : List ℕ} {base : ℕ} {taken taken_then : Option (List ℕ)} 
   nothing_left = no_lefts o.outcome.sound.picture.table o.outcome.clients _ o.lefts o.outcome.accepted o.outcome.runs
 
   pub saved_same : saved ≡ counter
-  saved_same = o.saved_is ∙ ap (image_behind counter) nothing_left
+  saved_same = o.saved_is ∙ ap (image_after counter) nothing_left
 
   pub no_reports : AreReports reports []
   no_reports = subst (AreReports reports) nothing_left o.reports_are
 
-  pub came_to_end : ending_behind o.lefts ≡ finished
-  came_to_end = ap ending_behind nothing_left
+  pub came_to_end : ending_after o.lefts ≡ finished
+  came_to_end = ap ending_after nothing_left
 
   pub wrote_nothing : outputs o.lefts ≡ []
   wrote_nothing = ap outputs nothing_left
@@ -226,7 +226,7 @@ its_types r = go r.turn.clients r.turn.accepted r.text r.turn.text_is r.client r
     table = (Held-one counter r.turn.sound.picture counter_picture r.turn.sound.held counter_held).table
 
     go : (clients : List Client) → AreAccepted r.turn.sound.picture.table [] clients → (text : List ℕ) → Some (client_bytes increment) ≡ Some text → (client : Client) → SpellsClient text client
-        → IsRefused (table_behind r.turn.sound.picture.table clients) client (fault.TypeMismatch 0) → ⊥
+        → IsRefused (table_after r.turn.sound.picture.table clients) client (fault.TypeMismatch 0) → ⊥
     go [] a text e client s f =
         let same : text ≡ client_bytes increment = cc in
         let it : client ≡ increment = one_client client increment s.valid increment_spelled.valid (sym s.spelled ∙ same) in

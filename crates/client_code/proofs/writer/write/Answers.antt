@@ -5,7 +5,7 @@ use Rattle.std.proofs.lemmas.Bool.{true≢false, false≢true}
 use Rattle.client_code.specs.Outlines.{section_of, entry_total}
 use Rattle.client_spec.specs.Pieces.{meant}
 use Rattle.client_code.proofs.SpelledLines.{past}
-use Rattle.client_code.proofs.ValidItems.{line_says, none_behind}
+use Rattle.client_code.proofs.ValidItems.{line_says, none_after}
 use Rattle.client_code.proofs.WrittenFiles.{further, ends}
 use Rattle.client_code.proofs.writer.write.Goals as goal
 
@@ -53,4 +53,4 @@ returns-clause-cut g c cut tree spells =
     let counted = c.header_of-header.ensures in
     let all : c.loop.counter ≡ entry_total c.header_of-header.result = reached c.loop.counter c.entries-end.result (entry_total c.header_of-header.result) c.loop.auto.counter-end c.loop-test.false c.entries-end.ensures in
     let (line, found) = when_some c.next_meant.result c.is_none.result _ c.is_none.ensures cut c.next_meant.ensures.found in
-    none_behind c.args.text.now tree spells c.loop.counter line.now _ (sym c.loop.invariant.rest ∙ found) (λ items each outline. counted.all items each outline ∙ sym all)
+    none_after c.args.text.now tree spells c.loop.counter line.now _ (sym c.loop.invariant.rest ∙ found) (λ items each outline. counted.all items each outline ∙ sym all)
