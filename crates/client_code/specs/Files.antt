@@ -1,12 +1,12 @@
 -- A client file, part by part.
---     code_place client                              where the code of a client begins
+--     code_place client                                where the code of a client begins
 --     IsFileHeader file types constants instructions   the header says so
---     AreRight file place                            the header's fields in front
---                                                    of a position are right
---     AreTypes file table                            these types stand after it
---     AreConstants file at constants after          these constants stand there,
---                                                    and the rest after them
---     IsCodeAt file at table constants code          this code stands there, up to the end
+--     AreRight file place                              the header's fields in front
+--                                                      of a position are right
+--     AreTypes file table                              these types stand after it
+--     AreConstants file at constants following         these constants stand there,
+--                                                      and the rest after them
+--     IsCodeAt file at table constants code            this code stands there, up to the end
 use Rattle.std.specs.Prelude.{◌≡◌, ℕ, ◌+◌, ◌*◌, ◌≤◌, List, ◌++◌, length, take, drop, flat_map, codes, All, AllPairs}
 use Rattle.seg_spec.specs.Bytes as bytes
 use Rattle.seg_spec.specs.Types.{Table, IsTable, form_bytes}
