@@ -1,6 +1,6 @@
 -- Where the fixed parts of a segment stand, and how long a segment may be.
 --     min_length, max_length         the bytes of the shortest and of the longest segment
---     version_word, size_word, allocator_word, index_kind_word, free_word, index_cell,
+--     version_word, units_word, allocator_word, index_kind_word, free_word, index_cell,
 --     reserved, reserved_size        where the header's words stand, after the magic bytes
 --     types_start, types_size        where the table of types begins, and its bytes
 --     uniques_start, uniques_size    where the words of the unique objects begin, and their bytes
@@ -20,8 +20,8 @@ abbrev pub version_word : ℕ
 version_word = 8
 
 -- the segment's units
-abbrev pub size_word : ℕ
-size_word = 12
+abbrev pub units_word : ℕ
+units_word = 12
 
 -- the number of the allocator
 abbrev pub allocator_word : ℕ
