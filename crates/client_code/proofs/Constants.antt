@@ -44,16 +44,16 @@ pairs_push cs c pairs differs i j d l h =
     ]
 
 -- one constant on
-pub one_more : (file : List ℕ) (at next behind : ℕ) (cs : List Constant) (c : Constant) → AreConstants file at cs next
-    → drop next file ≡ constant_bytes c ++ drop behind file → IsConstant c → behind ≡ next + length (constant_bytes c) → All (λ other. Differ other c) cs
-    → AreConstants file at (cs ++ c ∷ []) behind
-one_more file at next behind cs c so_far spelled right place differs =
+pub one_more : (file : List ℕ) (at next following : ℕ) (cs : List Constant) (c : Constant) → AreConstants file at cs next
+    → drop next file ≡ constant_bytes c ++ drop following file → IsConstant c → following ≡ next + length (constant_bytes c) → All (λ other. Differ other c) cs
+    → AreConstants file at (cs ++ c ∷ []) following
+one_more file at next following cs c so_far spelled right place differs =
     let flat : flat_map constant_bytes cs ++ constant_bytes c ≡ flat_map constant_bytes (cs ++ c ∷ []) = flat_map_more constant_bytes [] cs c in
     let long = length-append (flat_map constant_bytes cs) (constant_bytes c) in
     let same = ap length flat in
     let start = so_far.place in
     record {
-      spelled = so_far.spelled ∙ ap (λ xs. flat_map constant_bytes cs ++ xs) spelled ∙ sym (append_assoc (flat_map constant_bytes cs) (constant_bytes c) (drop behind file)) ∙ ap (λ xs. xs ++ drop behind file) flat;
+      spelled = so_far.spelled ∙ ap (λ xs. flat_map constant_bytes cs ++ xs) spelled ∙ sym (append_assoc (flat_map constant_bytes cs) (constant_bytes c) (drop following file)) ∙ ap (λ xs. xs ++ drop following file) flat;
       place = omega arith;
       each = All-push IsConstant cs c so_far.each right;
       different = pairs_push cs c so_far.different differs;
@@ -72,19 +72,19 @@ last_differs cs more c pairs k d h =
     subst (λ x. Differ x c) (get_or_append_left cs (c ∷ more) d k h) (subst (λ y. Differ (get_or (cs ++ c ∷ more) k d) y) (get_or_at cs c more d (length cs) refl) p)
 
 -- no constants go on where none stands that may be there
-pub none_more : (file : List ℕ) (at next behind : ℕ) (cs ds : List Constant) → AreConstants file at cs next
+pub none_more : (file : List ℕ) (at next following : ℕ) (cs ds : List Constant) → AreConstants file at cs next
     → ((c : Constant) (rest : List ℕ) → IsConstant c → All (λ other. Differ other c) cs → drop next file ≢ constant_bytes c ++ rest) → length cs < length ds
-    → AreConstants file at ds behind → ⊥
-none_more file at next behind cs ds so_far none few all =
-    let f = fronts constant_bytes (λ c. ⊤) (λ c d us vs p q e. constant_front c d us vs e) cs ds (drop next file) (drop behind file) (any cs) (any ds) (omega arith) (sym so_far.spelled ∙ all.spelled) in
+    → AreConstants file at ds following → ⊥
+none_more file at next following cs ds so_far none few all =
+    let f = fronts constant_bytes (λ c. ⊤) (λ c d us vs p q e. constant_front c d us vs e) cs ds (drop next file) (drop following file) (any cs) (any ds) (omega arith) (sym so_far.spelled ∙ all.spelled) in
     found f.0 (ap length f.1) f.1 f.2
   where
-    found : (more : List Constant) → length ds ≡ length (cs ++ more) → ds ≡ cs ++ more → drop next file ≡ flat_map constant_bytes more ++ drop behind file → ⊥
+    found : (more : List Constant) → length ds ≡ length (cs ++ more) → ds ≡ cs ++ more → drop next file ≡ flat_map constant_bytes more ++ drop following file → ⊥
     found [] n e s = absurd (omega (arith, length-append {A = Constant}))
     found (c ∷ more) n e s =
         let each = subst (All IsConstant) e all.each in
         let different = subst (AllPairs Differ) e all.different in
-        none c (flat_map constant_bytes more ++ drop behind file) (last_right cs more c each) (last_differs cs more c different) (s ∙ append_assoc (constant_bytes c) (flat_map constant_bytes more) (drop behind file))
+        none c (flat_map constant_bytes more ++ drop following file) (last_right cs more c each) (last_differs cs more c different) (s ∙ append_assoc (constant_bytes c) (flat_map constant_bytes more) (drop following file))
 
 pub all_map : {A B : Type 0} (P : B → Type 0) (f : A → B) (xs : List A) → All (λ x. P (f x)) xs → All P (map f xs)
 all_map P f xs all = All-map P f xs all

@@ -4,7 +4,7 @@ use Rattle.std.specs.Prelude.{codes}
 use Rattle.std.proofs.lemmas.Slice.Eq.{slice_eq-Decides}
 use Rattle.std.proofs.lemmas.Bool.Decides.{Decides-eqb}
 use Rattle.client_spec.specs.declared.table.Operation.{Operation}
-use Rattle.client_spec.specs.Operations.{word_of}
+use Rattle.client_spec.specs.Operations.{mnemonic}
 use Rattle.client_spec.specs.Text.{Item, type_item, constant_item, instruction_item, Words, words_of, SpellsItem}
 use Rattle.client_spec.proofs.OneText.{first_word, first_in, first_is}
 use Rattle.client_code.specs.declared.outline.Section.TheVariants as section
@@ -14,7 +14,7 @@ begins : (line word : List ℕ) (rest : Words) (item : Item) → words_of line �
 begins line word rest item e spells = ap first_in (sym e) ∙ first_is line item spells
 
 -- the word of an operation begins with an upper case letter
-upper : (o : Operation) → get_or (word_of o) 0 0 ≤ 90
+upper : (o : Operation) → get_or (mnemonic o) 0 0 ≤ 90
 upper Operation.Const = omega arith
 upper o = omega arith
 

@@ -8,7 +8,7 @@ use Rattle.seg_spec.specs.Types.{Form}
 use Rattle.client_spec.specs.Syntax as code
 use Rattle.client_spec.specs.declared.table.Operation.{Operation}
 use Rattle.client_spec.specs.Syntax.{Constant}
-use Rattle.client_spec.specs.Operations.{word_of}
+use Rattle.client_spec.specs.Operations.{mnemonic}
 use Rattle.client_spec.specs.Text.{Item, type_item, constant_item, instruction_item, type_word, type_words, instruction_words, Words, words_of, SpellsItem, SpellsText}
 use Rattle.client_spec.proofs.TextWords.{tail_of, front, not_type, not_name, not_family, not_text}
 use Rattle.client_spec.proofs.TableRows.{same_by_word}
@@ -39,7 +39,7 @@ no_type line word left e t none (constant_item (Constant.Name name)) w spells =
 no_type line word left e t none (constant_item (Constant.Family prefix)) w spells =
     let z = (tail_of 102 116 _ _ (sym (tail_of word (codes "family") left (prefix ∷ []) (sym e ∙ spells)).0 ∙ t)).0 in absurd (omega arith)
 no_type line word left e t none (instruction_item i) w spells =
-    not_type i.operation (sym (tail_of word (word_of i.operation) left _ (sym e ∙ spells)).0 ∙ t)
+    not_type i.operation (sym (tail_of word (mnemonic i.operation) left _ (sym e ∙ spells)).0 ∙ t)
 
 -- a line that begins with `name` and goes on with no name
 pub no_name : (line word : List ℕ) (left : Words) → words_of line ≡ word ∷ left → word ≡ codes "name" → ((name : List ℕ) → length name ≤ 255 → left ≢ name ∷ [])
@@ -52,7 +52,7 @@ no_name line word left e n none (constant_item (Constant.Name name)) w valid spe
 no_name line word left e n none (constant_item (Constant.Family prefix)) w valid spells =
     let z = (tail_of 102 110 _ _ (sym (tail_of word (codes "family") left (prefix ∷ []) (sym e ∙ spells)).0 ∙ n)).0 in absurd (omega arith)
 no_name line word left e n none (instruction_item i) w valid spells =
-    not_name i.operation (sym (tail_of word (word_of i.operation) left _ (sym e ∙ spells)).0 ∙ n)
+    not_name i.operation (sym (tail_of word (mnemonic i.operation) left _ (sym e ∙ spells)).0 ∙ n)
 
 -- a line that begins with `family` and goes on with no name
 pub no_family : (line word : List ℕ) (left : Words) → words_of line ≡ word ∷ left → word ≡ codes "family" → ((name : List ℕ) → length name ≤ 255 → left ≢ name ∷ [])
@@ -65,18 +65,18 @@ no_family line word left e f none (constant_item (Constant.Name name)) w valid s
 no_family line word left e f none (constant_item (Constant.Family prefix)) w valid spells =
     none prefix (let l = valid.1 in omega arith) (tail_of word (codes "family") left (prefix ∷ []) (sym e ∙ spells)).1
 no_family line word left e f none (instruction_item i) w valid spells =
-    not_family i.operation (sym (tail_of word (word_of i.operation) left _ (sym e ∙ spells)).0 ∙ f)
+    not_family i.operation (sym (tail_of word (mnemonic i.operation) left _ (sym e ∙ spells)).0 ∙ f)
 
 -- a line that begins with an operation's word and goes on as none of its instructions
-pub no_instruction : (line word : List ℕ) (left : Words) (o : Operation) → words_of line ≡ word ∷ left → word ≢ codes "type" → word ≢ codes "name" → word ≢ codes "family" → word_of o ≡ word
-    → ((i : code.Instruction) → i.operation ≡ o → IsInSomeClient i → word_of o ∷ left ≢ instruction_words i)
+pub no_instruction : (line word : List ℕ) (left : Words) (o : Operation) → words_of line ≡ word ∷ left → word ≢ codes "type" → word ≢ codes "name" → word ≢ codes "family" → mnemonic o ≡ word
+    → ((i : code.Instruction) → i.operation ≡ o → IsInSomeClient i → mnemonic o ∷ left ≢ instruction_words i)
     → (item : Item) → IsWords item → IsWritten item → SpellsItem line item → ⊥
 no_instruction line word left o e t n f same none (type_item form) w valid spells = t (tail_of word (codes "type") left (type_words form) (sym e ∙ spells)).0
 no_instruction line word left o e t n f same none (constant_item (Constant.Text bytes)) w valid spells = w
 no_instruction line word left o e t n f same none (constant_item (Constant.Name name)) w valid spells = n (tail_of word (codes "name") left (name ∷ []) (sym e ∙ spells)).0
 no_instruction line word left o e t n f same none (constant_item (Constant.Family prefix)) w valid spells = f (tail_of word (codes "family") left (prefix ∷ []) (sym e ∙ spells)).0
 no_instruction line word left o e t n f same none (instruction_item i) w valid spells =
-    let first = (tail_of word (word_of i.operation) left _ (sym e ∙ spells)).0 in
+    let first = (tail_of word (mnemonic i.operation) left _ (sym e ∙ spells)).0 in
     none i (same_by_word i.operation o (sym first ∙ sym same)) valid (ap (λ x. x ∷ left) same ∙ sym e ∙ spells)
 
 -- a line that begins with `text ` and goes on with no text
@@ -96,7 +96,7 @@ no_text line spelling e none (constant_item (Constant.Name name)) valid spells =
     let z = (tail_of 116 110 _ _ (begins line spelling (codes "name") (name ∷ []) e spells)).0 in absurd (omega arith)
 no_text line spelling e none (constant_item (Constant.Family prefix)) valid spells =
     let z = (tail_of 116 102 _ _ (begins line spelling (codes "family") (prefix ∷ []) e spells)).0 in absurd (omega arith)
-no_text line spelling e none (instruction_item i) valid spells = not_text i.operation (sym (begins line spelling (word_of i.operation) _ e spells))
+no_text line spelling e none (instruction_item i) valid spells = not_text i.operation (sym (begins line spelling (mnemonic i.operation) _ e spells))
 
 -- what is left after a prefix
 pub prefixed : (line prefix rest text : List ℕ) → prefix ≡ text → lib.Pointwise.pointwise nat_eq (take (length prefix) line) prefix ≡ true → rest ≡ drop (length prefix) line → line ≡ text ++ rest

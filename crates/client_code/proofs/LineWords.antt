@@ -30,8 +30,8 @@ goes_on s line i within so_far test =
     omega arith
 
 pub ends : (s : Bool) (line : List ℕ) (i : ℕ) → length line ≤ i → before_space s line ≡ i + before_space s (drop i line) → i ≡ before_space s line
-ends s line i behind so_far =
-    let here = ap (before_space s) (drop_of_length-le line behind) in
+ends s line i following so_far =
+    let here = ap (before_space s) (drop_of_length-le line following) in
     omega arith
 
 -- ---- words
@@ -68,15 +68,15 @@ word_here b line e =
     ap (λ t. if t then words_from [] line else words_from (b ∷ []) line) e ∙ word_goes_on b [] line
     ∙ ap (λ t. take (if (if t then true else false) then 0 else suc n) (b ∷ line) ∷ words_of (drop (if (if t then true else false) then 0 else suc n) (b ∷ line))) (sym e)
 
-word_behind : (t : Bool) (b : ℕ) (line : List ℕ) → (b == 32) ≡ t → (0 < length (drop (before_space false line) line) → BeginsWithWord (drop (before_space false line) line))
+word_after : (t : Bool) (b : ℕ) (line : List ℕ) → (b == 32) ≡ t → (0 < length (drop (before_space false line) line) → BeginsWithWord (drop (before_space false line) line))
     → 0 < length (drop (if (if t then false else true) then 0 else suc (before_space false line)) (b ∷ line)) → BeginsWithWord (drop (if (if t then false else true) then 0 else suc (before_space false line)) (b ∷ line))
-word_behind true b line e rest some = rest some
-word_behind false b line e rest some = word_here b line e
+word_after true b line e rest some = rest some
+word_after false b line e rest some = word_here b line e
 
 -- after the spaces there is a word, if there is anything
 pub word_next : (line : List ℕ) → 0 < length (drop (before_space false line) line) → BeginsWithWord (drop (before_space false line) line)
 word_next [] some = absurd (omega arith)
-word_next (b ∷ line) some = word_behind (b == 32) b line refl (word_next line) some
+word_next (b ∷ line) some = word_after (b == 32) b line refl (word_next line) some
 
 -- what is left of a line from a position on
 pub rest_from : (line : List ℕ) (n : ℕ) → take (length line - n) (drop n line) ≡ drop n line

@@ -206,12 +206,12 @@ module _ (types : Table) (constants : List Constant) where
 -- what is open after more instructions
 pub passed_more : (parts : List Part) (xs ys : List Role) → passed_all parts (xs ++ ys) ≡ option_and_then (λ now. passed_all now ys) (passed_all parts xs)
 passed_more parts [] ys = refl
-passed_more parts (x ∷ xs) ys = behind (passed parts x) (λ q. passed_more q xs ys)
+passed_more parts (x ∷ xs) ys = following (passed parts x) (λ q. passed_more q xs ys)
   where
-    behind : (now : Option (List Part)) → ((q : List Part) → passed_all q (xs ++ ys) ≡ option_and_then (λ q'. passed_all q' ys) (passed_all q xs))
+    following : (now : Option (List Part)) → ((q : List Part) → passed_all q (xs ++ ys) ≡ option_and_then (λ q'. passed_all q' ys) (passed_all q xs))
         → option_and_then (λ q. passed_all q (xs ++ ys)) now ≡ option_and_then (λ q. passed_all q ys) (option_and_then (λ q. passed_all q xs) now)
-    behind None same = refl
-    behind (Some q) same = same q
+    following None same = refl
+    following (Some q) same = same q
 
 -- code closes all parts that it opens
 pub code_closes : (types : Table) (constants : List Constant) (cs : Statements) → IsCode types constants cs → depth cs ≤ 8 → passed_all [] (roles (listing cs)) ≡ Some []

@@ -21,5 +21,5 @@ within (pos n) fits = omega arith
 within (negsuc n) fits = omega arith
 
 -- the digits after a letter
-pub behind_letter : (letter : ℕ) (word digits : List ℕ) → word ≡ letter ∷ digits → take (length word - 1) (drop 1 word) ≡ digits
-behind_letter letter word digits same = subst (λ w. take (length w - 1) (drop 1 w) ≡ digits) (sym same) (take_all (length (letter ∷ digits) - 1) digits (omega arith))
+pub after_letter : (letter : ℕ) (word digits : List ℕ) → word ≡ letter ∷ digits → take (length word - 1) (drop 1 word) ≡ digits
+after_letter letter word digits same = subst (λ w. take (length w - 1) (drop 1 w) ≡ digits) (sym same) (take_all (length (letter ∷ digits) - 1) digits (omega arith))

@@ -11,12 +11,12 @@ same_count [] (item ∷ items) spells = absurd spells
 same_count (line ∷ lines) [] spells = absurd spells
 same_count (line ∷ lines) (item ∷ items) (here, spells) = let e = same_count lines items spells in omega arith
 
-behind : (n : ℕ) (lines : List (List ℕ)) (items : List Item) → EachSpells lines items → EachSpells (drop n lines) (drop n items)
-behind zero lines items spells = spells
-behind (suc n) [] [] spells = spells
-behind (suc n) [] (item ∷ items) spells = absurd spells
-behind (suc n) (line ∷ lines) [] spells = absurd spells
-behind (suc n) (line ∷ lines) (item ∷ items) (here, spells) = behind n lines items spells
+following : (n : ℕ) (lines : List (List ℕ)) (items : List Item) → EachSpells lines items → EachSpells (drop n lines) (drop n items)
+following zero lines items spells = spells
+following (suc n) [] [] spells = spells
+following (suc n) [] (item ∷ items) spells = absurd spells
+following (suc n) (line ∷ lines) [] spells = absurd spells
+following (suc n) (line ∷ lines) (item ∷ items) (here, spells) = following n lines items spells
 
 -- ---- from one element to the next
 
@@ -43,7 +43,7 @@ pub record NextItem (items : List Item) (n : ℕ) (line : List ℕ) : Type 0 whe
   pub spells : SpellsItem line item
 
 pub next_item : (lines left : List (List ℕ)) (items : List Item) (n : ℕ) (line : List ℕ) → EachSpells lines items → drop n lines ≡ line ∷ left → NextItem items n line
-next_item lines left items n line spells e = found (drop n items) refl (subst (λ ls. EachSpells ls (drop n items)) e (behind n lines items spells))
+next_item lines left items n line spells e = found (drop n items) refl (subst (λ ls. EachSpells ls (drop n items)) e (following n lines items spells))
   where
     found : (more : List Item) → drop n items ≡ more → EachSpells (line ∷ left) more → NextItem items n line
     found [] same nothing = absurd nothing
@@ -61,7 +61,7 @@ module _ (lines left : List (List ℕ)) (items : List Item) (n : ℕ) (line : Li
       ap (map section_of) (one_more items next.rest n next.item next.here) ∙ map-append section_of (take n items) (next.item ∷ [])
       ∙ ap (λ ss. ss ++ section_of next.item ∷ []) so_far ∙ ap (λ t. before ++ t ∷ []) (sym (is next.item next.spells))
 
-  pub not_counted : ((behind : List Section) → IsOutline (before ++ s ∷ behind) → ⊥) → IsOutline (map section_of items) → ⊥
+  pub not_counted : ((following : List Section) → IsOutline (before ++ s ∷ following) → ⊥) → IsOutline (map section_of items) → ⊥
   not_counted refused outline =
       refused (map section_of next.rest) (subst IsOutline (
       ap (map section_of) (parts items next.rest n next.item next.here) ∙ map-append section_of (take n items) (next.item ∷ next.rest)

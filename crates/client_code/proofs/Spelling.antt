@@ -7,7 +7,7 @@ use Rattle.seg_spec.proofs.BytesLaws.{number_in, length-slice}
 use Rattle.client_code.specs.declared.constant.ConstantKind.{ConstantKind}
 use Rattle.client_code.specs.declared.constant.ConstantKind.TheVariants as kind
 use Rattle.client_spec.specs.Syntax as code
-use Rattle.client_spec.specs.Grammar.{IsConstant, word, constant_bytes, instruction_bytes}
+use Rattle.client_spec.specs.Grammar.{IsConstant, word_bytes, constant_bytes, instruction_bytes}
 use Rattle.client_code.specs.declared.instruction.Instruction.{Instruction}
 use Rattle.client_code.specs.Views.{constant_by, instruction_of}
 
@@ -55,7 +55,7 @@ constant_at file front rest bytes k at len n f long r l m fits b law =
     two_of (a ∷ b ∷ xs) rest h e = ap (λ ys. a ∷ b ∷ ys) (sym (e ∙ take_rest (a ∷ b ∷ xs) 2))
 
 -- the last four of 8 bytes are the word of the number that they spell
-word_of_four : (a b c d n : ℕ) → a < 256 → b < 256 → c < 256 → d < 256 → n ≡ a + 256 * b + 65536 * c + 16777216 * d → word n ≡ a ∷ b ∷ c ∷ d ∷ []
+word_of_four : (a b c d n : ℕ) → a < 256 → b < 256 → c < 256 → d < 256 → n ≡ a + 256 * b + 65536 * c + 16777216 * d → word_bytes n ≡ a ∷ b ∷ c ∷ d ∷ []
 word_of_four a b c d n f g h k e =
     let first : n % 256 ≡ a = omega arith in
     let second : n / 256 % 256 ≡ b = omega arith in
@@ -64,7 +64,7 @@ word_of_four a b c d n f g h k e =
     λ i. first i ∷ second i ∷ third i ∷ fourth i ∷ []
 
 pub eight : (bytes : List ℕ) (n : ℕ) → length bytes ≡ 8 → ((i : ℕ) → Fits w8 (get_or bytes i 0)) → n ≡ get_or bytes 4 0 + 256 * get_or bytes 5 0 + 65536 * get_or bytes 6 0 + 16777216 * get_or bytes 7 0
-    → bytes ≡ get_or bytes 0 0 ∷ get_or bytes 1 0 ∷ get_or bytes 2 0 ∷ get_or bytes 3 0 ∷ word n
+    → bytes ≡ get_or bytes 0 0 ∷ get_or bytes 1 0 ∷ get_or bytes 2 0 ∷ get_or bytes 3 0 ∷ word_bytes n
 eight [] n l h e = absurd (omega arith)
 eight (b0 ∷ []) n l h e = absurd (omega arith)
 eight (b0 ∷ b1 ∷ []) n l h e = absurd (omega arith)

@@ -22,8 +22,8 @@ goes_on text i within so_far test =
     omega arith
 
 pub ends : (text : List ℕ) (i : ℕ) → length text ≤ i → line_length text ≡ i + line_length (drop i text) → i ≡ line_length text
-ends text i behind so_far =
-    let here = ap line_length (drop_of_length-le text behind) in
+ends text i following so_far =
+    let here = ap line_length (drop_of_length-le text following) in
     omega arith
 
 -- ---- the first line
@@ -48,8 +48,8 @@ first_line [] some = absurd (omega arith)
 first_line (b ∷ text) some = line_begins (b == 10) b text refl
 
 -- what is after the line's end, if it has one
-behind_end : (text rest left : List ℕ) (n m : ℕ) → rest ≡ drop n text → m ≡ min (length rest) 1 → left ≡ take (length rest - m) (drop m rest) → left ≡ drop (suc n) text
-behind_end text rest left n m r e l = l ∙ rest_from rest m ∙ one_less rest m e ∙ ap (drop 1) r ∙ drop-drop 1 n text ∙ ap (λ k. drop k text) (let k : n + 1 ≡ suc n = omega arith in k)
+after_end : (text rest left : List ℕ) (n m : ℕ) → rest ≡ drop n text → m ≡ min (length rest) 1 → left ≡ take (length rest - m) (drop m rest) → left ≡ drop (suc n) text
+after_end text rest left n m r e l = l ∙ rest_from rest m ∙ one_less rest m e ∙ ap (drop 1) r ∙ drop-drop 1 n text ∙ ap (λ k. drop k text) (let k : n + 1 ≡ suc n = omega arith in k)
   where
     one_less : (xs : List ℕ) (m : ℕ) → m ≡ min (length xs) 1 → drop m xs ≡ drop 1 xs
     one_less [] m e = let z : m ≡ 0 = omega arith in ap (λ k. drop k []) z
@@ -58,5 +58,5 @@ behind_end text rest left n m r e l = l ∙ rest_from rest m ∙ one_less rest m
 pub one_line : (text line rest left : List ℕ) (n m : ℕ) → 0 < length text → n ≡ line_length text → line ≡ take n text → rest ≡ drop n text
     → m ≡ min (length rest) 1 → left ≡ take (length rest - m) (drop m rest) → lines_from [] text ≡ line ∷ lines_from [] left
 one_line text line rest left n m some e l r k b =
-    let here = behind_end text rest left n m r k b in
+    let here = after_end text rest left n m r k b in
     first_line text some ∙ ap (λ i. take i text ∷ lines_from [] (drop (suc i) text)) (sym e) ∙ cc

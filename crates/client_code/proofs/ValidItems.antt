@@ -107,8 +107,8 @@ module _ (text : List ℕ) (client : Client) (spells : SpellsInText text client)
       none (get_or lines n []) (drop (suc n) lines) next.item here written next.spells
 
   -- no line stands after those that a header counts
-  pub none_behind : (n : ℕ) (line : List ℕ) (rest : List (List ℕ)) → drop n (meant text) ≡ line ∷ rest → ((items : List Item) → EachSpells (meant text) items → IsOutline (map section_of items) → length items ≡ n) → ⊥
-  none_behind n line rest here counted =
+  pub none_after : (n : ℕ) (line : List ℕ) (rest : List (List ℕ)) → drop n (meant text) ≡ line ∷ rest → ((items : List Item) → EachSpells (meant text) items → IsOutline (map section_of items) → length items ≡ n) → ⊥
+  none_after n line rest here counted =
       let long = not_past (meant text) rest n line here in
       let count = same_count (meant text) (items_of client) spells.lines in
       let all = counted (items_of client) spells.lines (in_order client spells.valid) in

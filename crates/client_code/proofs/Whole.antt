@@ -8,10 +8,10 @@ use Rattle.seg_spec.specs.Types.{Table, form_bytes}
 use Rattle.seg_spec.proofs.BytesLaws.{number_in, length-slice, length-spelling, spelled-spelling}
 use Rattle.seg_spec.proofs.EntryLaws.{length-table, one_table}
 use Rattle.client_spec.specs.Syntax.{Constant, Statements, Client}
-use Rattle.client_spec.specs.Grammar.{word, constant_bytes, instruction_bytes, listing, Spells}
+use Rattle.client_spec.specs.Grammar.{word_bytes, constant_bytes, instruction_bytes, listing, SpellsClient}
 use Rattle.client_spec.specs.Syntax.{Instruction}
 use Rattle.client_spec.specs.Pieces.{pieces_of}
-use Rattle.client_spec.proofs.OneClient.{constant_front, instruction_front, IsWord, words, all_long, spelling_is, behind}
+use Rattle.client_spec.proofs.OneClient.{constant_front, instruction_front, IsWord, words, all_long, spelling_is, following}
 use Rattle.std.specs.Int.{w32}
 use Rattle.std.specs.Option.{option_map}
 use Rattle.client_spec.proofs.Values.{Some_inj}
@@ -19,7 +19,7 @@ use Rattle.client_code.specs.declared.instruction.Instruction as program
 use Rattle.client_code.specs.declared.constant.Constant as constant
 use Rattle.client_code.specs.Views.{instruction_of, constant_of, constants_of}
 use Rattle.client_code.proofs.Constants.{fronts, any}
-use Rattle.client_code.specs.Files.{code_place, IsHeader, AreTypes, AreConstants, IsCodeAt}
+use Rattle.client_code.specs.Files.{code_place, IsFileHeader, AreTypes, AreConstants, IsCodeAt}
 
 -- ---- words
 
@@ -41,7 +41,7 @@ bytes_in file at n i h = small_in (drop at file) n i (λ k. let e = get_or-drop 
     small_in (x ∷ xs) (suc n) zero h = h 0
     small_in (x ∷ xs) (suc n) (suc i) h = small_in xs n i (λ k. h (suc k))
 
-word_back : (file : List ℕ) (at : ℕ) → at + 4 ≤ length file → ((k : ℕ) → get_or file k 0 < 256) → slice file at 4 ≡ word (number 4 file at)
+word_back : (file : List ℕ) (at : ℕ) → at + 4 ≤ length file → ((k : ℕ) → get_or file k 0 < 256) → slice file at 4 ≡ word_bytes (number 4 file at)
 unfolding slice
 word_back file at h small =
     let four = length-slice file at 4 h in
@@ -52,13 +52,13 @@ unfolding slice
 split_at file at n = sym (take-append-drop n (drop at file)) ∙ ap (λ xs. take n (drop at file) ++ xs) (drop-drop n at file)
 
 -- a word that stands after a front
-word_behind : (file front rest : List ℕ) (at n : ℕ) → file ≡ front ++ (word n ++ rest) → length front ≡ at → n < 256 ^ 4 → number 4 file at ≡ n
-word_behind file front rest at n e l small =
-    let long = ap length e ∙ length-append front (word n ++ rest) in
-    let more = length-append (word n) rest in
+word_after : (file front rest : List ℕ) (at n : ℕ) → file ≡ front ++ (word_bytes n ++ rest) → length front ≡ at → n < 256 ^ 4 → number 4 file at ≡ n
+word_after file front rest at n e l small =
+    let long = ap length e ∙ length-append front (word_bytes n ++ rest) in
+    let more = length-append (word_bytes n) rest in
     let four = length-spelling 4 n in
-    number_in 4 file at (omega arith) ∙ ap (λ xs. spelled (take 4 (drop at xs))) e ∙ ap (λ xs. spelled (take 4 xs)) (drop_at front (word n ++ rest) at l)
-    ∙ ap spelled (take_at (word n) rest 4 four) ∙ spelled-spelling 4 n small
+    number_in 4 file at (omega arith) ∙ ap (λ xs. spelled (take 4 (drop at xs))) e ∙ ap (λ xs. spelled (take 4 xs)) (drop_at front (word_bytes n ++ rest) at l)
+    ∙ ap spelled (take_at (word_bytes n) rest 4 four) ∙ spelled-spelling 4 n small
 
 length_instructions : (is : List Instruction) → length (flat_map instruction_bytes is) ≡ 8 * length is
 length_instructions [] = refl
@@ -67,29 +67,29 @@ length_instructions (i ∷ is) = length-append (instruction_bytes i) (flat_map i
 -- ---- from the parts to the file
 
 pub record AreParts (file : List ℕ) (client : Client) (place : ℕ) : Type 0 where
-  pub header : IsHeader file (length client.types) (length client.constants) (length (listing client.code))
+  pub header : IsFileHeader file (length client.types) (length client.constants) (length (listing client.code))
   pub types : AreTypes file client.types
   pub constants : AreConstants file (20 + 16 * length client.types) client.constants place
   pub code : IsCodeAt file place client.types client.constants client.code
 
 module _ (file : List ℕ) (client : Client) (place : ℕ) (parts : AreParts file client place) (small : (k : ℕ) → get_or file k 0 < 256) where
-  word_is : (at n : ℕ) → at + 4 ≤ length file → number 4 file at ≡ n → slice file at 4 ≡ word n
-  word_is at n h e = word_back file at h small ∙ ap word e
+  word_is : (at n : ℕ) → at + 4 ≤ length file → number 4 file at ≡ n → slice file at 4 ≡ word_bytes n
+  word_is at n h e = word_back file at h small ∙ ap word_bytes e
 
-  file_is : file ≡ codes "SEGC" ++ (word 1 ++ behind (pieces_of client))
+  file_is : file ≡ codes "SEGC" ++ (word_bytes 1 ++ following (pieces_of client))
   file_is =
       let h = parts.header in
       let whole = h.whole in
       let flat = flat_map form_bytes client.types in
       sym (take-append-drop 4 file) ∙ ap (λ xs. xs ++ drop 4 file) h.magic
       ∙ ap (λ xs. codes "SEGC" ++ xs) (split_at file 4 4 ∙ ap (λ xs. xs ++ drop 8 file) (word_is 4 1 (omega arith) h.version)
-      ∙ ap (λ xs. word 1 ++ xs) (split_at file 8 4 ∙ ap (λ xs. xs ++ drop 12 file) (word_is 8 (length client.types) (omega arith) h.of_types)
-      ∙ ap (λ xs. word (length client.types) ++ xs) (split_at file 12 4 ∙ ap (λ xs. xs ++ drop 16 file) (word_is 12 (length client.constants) (omega arith) h.of_constants)
-      ∙ ap (λ xs. word (length client.constants) ++ xs) (split_at file 16 4 ∙ ap (λ xs. xs ++ drop 20 file) (word_is 16 (length (listing client.code)) (omega arith) h.of_instructions)
-      ∙ ap (λ xs. word (length (listing client.code)) ++ xs) (split_at file 20 (16 * length client.types) ∙ ap (λ xs. xs ++ drop (20 + 16 * length client.types) file) parts.types.spelled
+      ∙ ap (λ xs. word_bytes 1 ++ xs) (split_at file 8 4 ∙ ap (λ xs. xs ++ drop 12 file) (word_is 8 (length client.types) (omega arith) h.of_types)
+      ∙ ap (λ xs. word_bytes (length client.types) ++ xs) (split_at file 12 4 ∙ ap (λ xs. xs ++ drop 16 file) (word_is 12 (length client.constants) (omega arith) h.of_constants)
+      ∙ ap (λ xs. word_bytes (length client.constants) ++ xs) (split_at file 16 4 ∙ ap (λ xs. xs ++ drop 20 file) (word_is 16 (length (listing client.code)) (omega arith) h.of_instructions)
+      ∙ ap (λ xs. word_bytes (length (listing client.code)) ++ xs) (split_at file 20 (16 * length client.types) ∙ ap (λ xs. xs ++ drop (20 + 16 * length client.types) file) parts.types.spelled
       ∙ ap (λ xs. flat ++ xs) (parts.constants.spelled ∙ ap (λ xs. flat_map constant_bytes client.constants ++ xs) parts.code.spelled))))))
 
-  pub parts_spell : length client.constants ≤ 256 → length (listing client.code) ≤ 4096 → Spells file client
+  pub parts_spell : length client.constants ≤ 256 → length (listing client.code) ≤ 4096 → SpellsClient file client
   parts_spell few_constants few_instructions = record {
     valid = record {
       types = parts.types.valid;
@@ -125,18 +125,18 @@ module _ (file a w v x y types constants code : List ℕ) (n : ℕ) (e : file �
   fifth : file ≡ ((((a ++ w) ++ v) ++ x) ++ y) ++ (types ++ (constants ++ code))
   fifth = fourth ∙ two (((a ++ w) ++ v) ++ x) y (types ++ (constants ++ code))
 
-  behind_header : drop 20 file ≡ types ++ (constants ++ code)
-  behind_header = ap (drop 20) fifth ∙ drop_at ((((a ++ w) ++ v) ++ x) ++ y) (types ++ (constants ++ code)) 20 (twenty a w v x y la lw lv lx ly)
+  after_header : drop 20 file ≡ types ++ (constants ++ code)
+  after_header = ap (drop 20) fifth ∙ drop_at ((((a ++ w) ++ v) ++ x) ++ y) (types ++ (constants ++ code)) 20 (twenty a w v x y la lw lv lx ly)
 
   types_there : slice file 20 n ≡ types
   unfolding slice
-  types_there = ap (take n) behind_header ∙ take_at types (constants ++ code) n lt
+  types_there = ap (take n) after_header ∙ take_at types (constants ++ code) n lt
 
-  behind_types : drop (20 + n) file ≡ constants ++ code
-  behind_types = sym (drop-drop n 20 file) ∙ ap (drop n) behind_header ∙ drop_at types (constants ++ code) n lt
+  after_types : drop (20 + n) file ≡ constants ++ code
+  after_types = sym (drop-drop n 20 file) ∙ ap (drop n) after_header ∙ drop_at types (constants ++ code) n lt
 
-  behind_constants : (m : ℕ) → length constants ≡ m → drop (20 + n + m) file ≡ code
-  behind_constants m l = sym (drop-drop m (20 + n) file) ∙ ap (drop m) behind_types ∙ drop_at constants code m l
+  after_constants : (m : ℕ) → length constants ≡ m → drop (20 + n + m) file ≡ code
+  after_constants m l = sym (drop-drop m (20 + n) file) ∙ ap (drop m) after_types ∙ drop_at constants code m l
 
   all_long_file : length file ≡ 20 + n + length constants + length code
   all_long_file =
@@ -155,7 +155,7 @@ module _ (file a w v x y types constants code : List ℕ) (n : ℕ) (e : file �
   front_of_four : length (((a ++ w) ++ v) ++ x) ≡ 16
   front_of_four = let l = length-append ((a ++ w) ++ v) x in let m = front_of_three in omega arith
 
-pub spelled_parts : (file : List ℕ) (client : Client) → Spells file client → AreParts file client (code_place client)
+pub spelled_parts : (file : List ℕ) (client : Client) → SpellsClient file client → AreParts file client (code_place client)
 spelled_parts file client spells =
     let v = spells.valid in
     let t = length client.types in
@@ -171,31 +171,31 @@ spelled_parts file client spells =
     let e = spells.spelled ∙ spelling_is client in
     let four = λ (n : ℕ). length-spelling 4 n in
     let lt : length types ≡ 16 * t = length-table client.types (all_long client.types v.types) in
-    let long = all_long_file file S (word 1) (word t) (word c) (word i) types constants code (16 * t) e refl (four 1) (four t) (four c) (four i) lt in
+    let long = all_long_file file S (word_bytes 1) (word_bytes t) (word_bytes c) (word_bytes i) types constants code (16 * t) e refl (four 1) (four t) (four c) (four i) lt in
     let size = length_instructions (listing client.code) in
     record {
       header = record {
         whole = omega arith;
         magic = ap (take 4) e;
-        version = word_behind file S _ 4 1 e refl (omega arith);
-        of_types = word_behind file
-            (S ++ word 1) _ 8 t (second file S (word 1) (word t) (word c) (word i) types constants code (16 * t) e refl (four 1) (four t) (four c) (four i) lt)
-            (front_of_two file S (word 1) (word t) (word c) (word i) types constants code (16 * t) e refl (four 1) (four t) (four c) (four i) lt) few_types;
-        of_constants = word_behind file ((S ++ word 1) ++ word t) _ 12 c
-            (third file S (word 1) (word t) (word c) (word i) types constants code (16 * t) e refl (four 1) (four t) (four c) (four i) lt) (front_of_three file
-            S (word 1) (word t) (word c) (word i) types constants code (16 * t) e refl (four 1) (four t) (four c) (four i) lt) few_constants;
-        of_instructions = word_behind file (((S ++ word 1) ++ word t) ++ word c) _ 16 i
-            (fourth file S (word 1) (word t) (word c) (word i) types constants code (16 * t) e refl (four 1) (four t) (four c) (four i) lt) (front_of_four file
-            S (word 1) (word t) (word c) (word i) types constants code (16 * t) e refl (four 1) (four t) (four c) (four i) lt) few_instructions;
+        version = word_after file S _ 4 1 e refl (omega arith);
+        of_types = word_after file
+            (S ++ word_bytes 1) _ 8 t (second file S (word_bytes 1) (word_bytes t) (word_bytes c) (word_bytes i) types constants code (16 * t) e refl (four 1) (four t) (four c) (four i) lt)
+            (front_of_two file S (word_bytes 1) (word_bytes t) (word_bytes c) (word_bytes i) types constants code (16 * t) e refl (four 1) (four t) (four c) (four i) lt) few_types;
+        of_constants = word_after file ((S ++ word_bytes 1) ++ word_bytes t) _ 12 c
+            (third file S (word_bytes 1) (word_bytes t) (word_bytes c) (word_bytes i) types constants code (16 * t) e refl (four 1) (four t) (four c) (four i) lt) (front_of_three file
+            S (word_bytes 1) (word_bytes t) (word_bytes c) (word_bytes i) types constants code (16 * t) e refl (four 1) (four t) (four c) (four i) lt) few_constants;
+        of_instructions = word_after file (((S ++ word_bytes 1) ++ word_bytes t) ++ word_bytes c) _ 16 i
+            (fourth file S (word_bytes 1) (word_bytes t) (word_bytes c) (word_bytes i) types constants code (16 * t) e refl (four 1) (four t) (four c) (four i) lt) (front_of_four file
+            S (word_bytes 1) (word_bytes t) (word_bytes c) (word_bytes i) types constants code (16 * t) e refl (four 1) (four t) (four c) (four i) lt) few_instructions;
       };
       types = record {
         valid = v.types;
         whole = omega arith;
-        spelled = types_there file S (word 1) (word t) (word c) (word i) types constants code (16 * t) e refl (four 1) (four t) (four c) (four i) lt;
+        spelled = types_there file S (word_bytes 1) (word_bytes t) (word_bytes c) (word_bytes i) types constants code (16 * t) e refl (four 1) (four t) (four c) (four i) lt;
       };
       constants = record {
-        spelled = behind_types file S (word 1) (word t) (word c) (word i) types constants code (16 * t) e refl (four 1) (four t) (four c) (four i) lt
-            ∙ ap (λ xs. constants ++ xs) (sym (behind_constants file S (word 1) (word t) (word c) (word i) types constants code (16 * t) e refl (four 1)
+        spelled = after_types file S (word_bytes 1) (word_bytes t) (word_bytes c) (word_bytes i) types constants code (16 * t) e refl (four 1) (four t) (four c) (four i) lt
+            ∙ ap (λ xs. constants ++ xs) (sym (after_constants file S (word_bytes 1) (word_bytes t) (word_bytes c) (word_bytes i) types constants code (16 * t) e refl (four 1)
             (four t) (four c) (four i) lt (length constants) refl));
         place = refl;
         each = v.constants;
@@ -204,14 +204,14 @@ spelled_parts file client spells =
       code = record {
         right = v.code;
         shallow = v.shallow;
-        spelled = behind_constants file S (word 1) (word t) (word c) (word i) types constants code (16 * t) e refl (four 1) (four t) (four c) (four i) lt (length constants) refl;
+        spelled = after_constants file S (word_bytes 1) (word_bytes t) (word_bytes c) (word_bytes i) types constants code (16 * t) e refl (four 1) (four t) (four c) (four i) lt (length constants) refl;
         ends = omega arith;
       };
     }
 
 -- ---- what is read from one file
 
-header_same : (file : List ℕ) (t c i u d j : ℕ) → IsHeader file t c i → IsHeader file u d j → (t ≡ u) × (c ≡ d) × (i ≡ j)
+header_same : (file : List ℕ) (t c i u d j : ℕ) → IsFileHeader file t c i → IsFileHeader file u d j → (t ≡ u) × (c ≡ d) × (i ≡ j)
 header_same file t c i u d j h g = (sym h.of_types ∙ g.of_types, sym h.of_constants ∙ g.of_constants, sym h.of_instructions ∙ g.of_instructions)
 
 types_same : (file : List ℕ) (a b : Table) → AreTypes file a → AreTypes file b → length a ≡ length b → a ≡ b
@@ -223,21 +223,21 @@ constants_same file at p q cs ds h g n =
     let same : ds ≡ cs = f.1 ∙ ap (λ xs. cs ++ xs) (nil_from_length f.0 (let l = length-append cs f.0 in let m = ap length f.1 in omega arith)) ∙ append-nil cs in
     (sym same, h.place ∙ ap (λ xs. at + length (flat_map constant_bytes xs)) (sym same) ∙ sym g.place)
 
-pub no_types : (file : List ℕ) (t c i : ℕ) → IsHeader file t c i → ((table : Table) → length table ≡ t → AreTypes file table → ⊥) → (tree : Client) → Spells file tree → ⊥
+pub no_types : (file : List ℕ) (t c i : ℕ) → IsFileHeader file t c i → ((table : Table) → length table ≡ t → AreTypes file table → ⊥) → (tree : Client) → SpellsClient file tree → ⊥
 no_types file t c i header wrong tree spells =
     let p = spelled_parts file tree spells in
     let same = header_same file _ _ _ t c i p.header header in
     wrong tree.types same.0 p.types
 
-pub no_constants : (file : List ℕ) (t c i at : ℕ) → IsHeader file t c i → at ≡ 20 + 16 * t → ((cs : List Constant) (place : ℕ) → length cs ≡ c → AreConstants file at cs place → ⊥) → (tree : Client) → Spells file tree → ⊥
+pub no_constants : (file : List ℕ) (t c i at : ℕ) → IsFileHeader file t c i → at ≡ 20 + 16 * t → ((cs : List Constant) (place : ℕ) → length cs ≡ c → AreConstants file at cs place → ⊥) → (tree : Client) → SpellsClient file tree → ⊥
 no_constants file t c i at header e wrong tree spells =
     let p = spelled_parts file tree spells in
     let same = header_same file _ _ _ t c i p.header header in
     wrong tree.constants (code_place tree) same.1 (subst (λ n. AreConstants file n tree.constants (code_place tree)) (ap (λ n. 20 + 16 * n) same.0 ∙ sym e) p.constants)
 
 pub no_code : (file : List ℕ) (t c i at place : ℕ) (table : Table) (cs : List Constant)
-    → IsHeader file t c i → at ≡ 20 + 16 * t → length table ≡ t → AreTypes file table → length cs ≡ c → AreConstants file at cs place
-    → ((code : Statements) → length (listing code) ≡ i → IsCodeAt file place table cs code → ⊥) → (tree : Client) → Spells file tree → ⊥
+    → IsFileHeader file t c i → at ≡ 20 + 16 * t → length table ≡ t → AreTypes file table → length cs ≡ c → AreConstants file at cs place
+    → ((code : Statements) → length (listing code) ≡ i → IsCodeAt file place table cs code → ⊥) → (tree : Client) → SpellsClient file tree → ⊥
 no_code file t c i at place table cs header e n types m constants wrong tree spells =
     let p = spelled_parts file tree spells in
     let same = header_same file _ _ _ t c i p.header header in
@@ -248,13 +248,13 @@ no_code file t c i at place table cs header e n types m constants wrong tree spe
 
 -- the parts that were read are a client
 pub found_client : (file : List ℕ) (t c i at place : ℕ) (table : Table) (cs : List Constant) (code : Statements) → ((k : ℕ) → get_or file k 0 < 256)
-    → IsHeader file t c i → c ≤ 256 → i ≤ 4096 → at ≡ 20 + 16 * t → length table ≡ t → AreTypes file table → length cs ≡ c → AreConstants file at cs place
+    → IsFileHeader file t c i → c ≤ 256 → i ≤ 4096 → at ≡ 20 + 16 * t → length table ≡ t → AreTypes file table → length cs ≡ c → AreConstants file at cs place
     → length (listing code) ≡ i → IsCodeAt file place table cs code
-    → (tree : Client) × Spells file tree
+    → (tree : Client) × SpellsClient file tree
 found_client file t c i at place table cs code small header few many e n types m constants k is_code =
     let tree : Client = record { types = table; constants = cs; code = code } in
     let start : at ≡ 20 + 16 * length table = omega arith in
-    let header' = subst (λ x. IsHeader file x (length cs) (length (listing code))) (sym n) (subst (λ y. IsHeader file t y (length (listing code))) (sym m) (subst (λ z. IsHeader file t c z) (sym k) header)) in
+    let header' = subst (λ x. IsFileHeader file x (length cs) (length (listing code))) (sym n) (subst (λ y. IsFileHeader file t y (length (listing code))) (sym m) (subst (λ z. IsFileHeader file t c z) (sym k) header)) in
     let constants' = subst (λ x. AreConstants file x cs place) start constants in
     (tree, parts_spell file tree place (record { header = header'; types = types; constants = constants'; code = is_code }) small (omega arith) (omega arith))
 
@@ -264,20 +264,20 @@ no_matter (Err e) Q q = q
 
 -- ---- what a client's file says again
 
-pub types_again : (file : List ℕ) (tree : Client) → Spells file tree → (table : Table) (n : ℕ) → n ≡ length tree.types → length table ≡ n → AreTypes file table → table ≡ tree.types
+pub types_again : (file : List ℕ) (tree : Client) → SpellsClient file tree → (table : Table) (n : ℕ) → n ≡ length tree.types → length table ≡ n → AreTypes file table → table ≡ tree.types
 types_again file tree spells table n m e types = types_same file table tree.types types (spelled_parts file tree spells).types (e ∙ m)
 
-pub types_there_again : (file : List ℕ) (tree : Client) → Spells file tree → (n : ℕ) → n ≡ length tree.types → ((table : Table) → length table ≡ n → AreTypes file table → ⊥) → ⊥
+pub types_there_again : (file : List ℕ) (tree : Client) → SpellsClient file tree → (n : ℕ) → n ≡ length tree.types → ((table : Table) → length table ≡ n → AreTypes file table → ⊥) → ⊥
 types_there_again file tree spells n m wrong = wrong tree.types (sym m) (spelled_parts file tree spells).types
 
-pub constants_again : (file : List ℕ) (tree : Client) → Spells file tree → (cs : List Constant) (at place t n : ℕ) → t ≡ length tree.types
+pub constants_again : (file : List ℕ) (tree : Client) → SpellsClient file tree → (cs : List Constant) (at place t n : ℕ) → t ≡ length tree.types
     → n ≡ length tree.constants → at ≡ 20 + 16 * t → length cs ≡ n → AreConstants file at cs place → cs ≡ tree.constants
 constants_again file tree spells cs at place t n k m e l constants =
     let there = subst (λ x. AreConstants file x tree.constants (code_place tree)) (ap (λ x. 20 + 16 * x) (sym k) ∙ sym e) (spelled_parts file tree spells).constants in
     (constants_same file at place (code_place tree) cs tree.constants constants there (l ∙ m)).0
 
-pub constants_there_again : (file : List ℕ) (tree : Client) → Spells file tree → (at t n : ℕ) → t ≡ length tree.types → n ≡ length tree.constants
-    → at ≡ 20 + 16 * t → ((cs : List Constant) (behind : ℕ) → length cs ≡ n → AreConstants file at cs behind → ⊥) → ⊥
+pub constants_there_again : (file : List ℕ) (tree : Client) → SpellsClient file tree → (at t n : ℕ) → t ≡ length tree.types → n ≡ length tree.constants
+    → at ≡ 20 + 16 * t → ((cs : List Constant) (following : ℕ) → length cs ≡ n → AreConstants file at cs following → ⊥) → ⊥
 constants_there_again file tree spells at t n k m e wrong =
     wrong tree.constants (code_place tree) (sym m) (subst (λ x. AreConstants file x tree.constants (code_place tree)) (ap (λ x. 20 + 16 * x) (sym k) ∙ sym e) (spelled_parts file tree spells).constants)
 
@@ -300,7 +300,7 @@ some_word (x ∷ is) zero j all e = subst IsWord (Some_inj e) all.0
 some_word (x ∷ is) (suc i) j all e = some_word is i j all.1 e
 
 -- the instruction at an index
-pub instruction_there : (file : List ℕ) (tree : Client) → Spells file tree → (i : ℕ)
+pub instruction_there : (file : List ℕ) (tree : Client) → SpellsClient file tree → (i : ℕ)
     → i < length (listing tree.code) → (j : Instruction) × (slice_get (listing tree.code) i ≡ Some j) × IsWord j × (code_place tree + 8 * i + 8 ≤ length file)
     × (slice file (code_place tree + 8 * i) 8 ≡ instruction_bytes j)
 unfolding slice
@@ -320,11 +320,11 @@ past_instructions [] i h = refl
 past_instructions (x ∷ is) zero h = absurd (omega arith)
 past_instructions (x ∷ is) (suc i) h = past_instructions is i (omega arith)
 
-pub end_there : (file : List ℕ) (tree : Client) → Spells file tree → (place n : ℕ) → place ≡ code_place tree → n ≡ length (listing tree.code) → place + 8 * n ≡ length file
+pub end_there : (file : List ℕ) (tree : Client) → SpellsClient file tree → (place n : ℕ) → place ≡ code_place tree → n ≡ length (listing tree.code) → place + 8 * n ≡ length file
 end_there file tree spells place n e m = let ends = (spelled_parts file tree spells).code.ends in omega arith
 
 -- what is found at the place of an instruction is that instruction
-pub same_instruction : (file : List ℕ) (tree : Client) → Spells file tree → (i place : ℕ) (r : Option program.Instruction) → i < length (listing tree.code)
+pub same_instruction : (file : List ℕ) (tree : Client) → SpellsClient file tree → (i place : ℕ) (r : Option program.Instruction) → i < length (listing tree.code)
     → place ≡ code_place tree + 8 * i → IfSome r (λ j. (place + 8 ≤ length file) × (slice file place 8 ≡ instruction_bytes (instruction_of j)))
     → IfSome r (λ j. FitsSigned w32 j.number)
     → IfNone r (place + 8 ≤ length file → (j : Instruction) → slice file place 8 ≢ instruction_bytes j) → option_map instruction_of r ≡ slice_get (listing tree.code) i
@@ -338,7 +338,7 @@ same_instruction file tree spells i place (Some r) h e found range none =
 
 -- where the parts of a client that is read stand
 pub read_places : (file : List ℕ) (tree : Client)
-    → Spells file tree → (t c i at place : ℕ) (cs : List Constant) → IsHeader file t c i → at ≡ 20 + 16 * t → length cs ≡ c → AreConstants file at cs place
+    → SpellsClient file tree → (t c i at place : ℕ) (cs : List Constant) → IsFileHeader file t c i → at ≡ 20 + 16 * t → length cs ≡ c → AreConstants file at cs place
     → (t ≡ length tree.types) × (c ≡ length tree.constants) × (i ≡ length (listing tree.code)) × (place ≡ code_place tree)
 read_places file tree spells t c i at place cs header e m constants =
     let p = spelled_parts file tree spells in
@@ -347,9 +347,9 @@ read_places file tree spells t c i at place cs header e m constants =
     (same.0, same.1, same.2, (constants_same file at place (code_place tree) cs tree.constants constants there (m ∙ same.1)).1)
 
 pub client_there : (file : List ℕ) (t c i at place : ℕ) (table : Table) (items slice : List constant.Constant) (code : Statements)
-    → ((k : ℕ) → get_or file k 0 < 256) → IsHeader file t c i → c ≤ 256 → i ≤ 4096 → at ≡ 20 + 16 * t → length table ≡ t → AreTypes file table
+    → ((k : ℕ) → get_or file k 0 < 256) → IsFileHeader file t c i → c ≤ 256 → i ≤ 4096 → at ≡ 20 + 16 * t → length table ≡ t → AreTypes file table
     → length items ≡ c → AreConstants file at (constants_of items) place → slice ≡ items → length (listing code) ≡ i
-    → IsCodeAt file place table (constants_of slice) code → (tree : Client) × Spells file tree
+    → IsCodeAt file place table (constants_of slice) code → (tree : Client) × SpellsClient file tree
 client_there file t c i at place table items slice code small header few many e n types m constants same k is_code =
     let right = subst (λ xs. IsCodeAt file place table (constants_of xs) code) same is_code in
     let f = found_client file t c i at place table (constants_of items) code small header few many e n types (length-map items constant_of ∙ m) constants k right in

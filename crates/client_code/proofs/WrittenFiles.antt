@@ -15,7 +15,7 @@ use Rattle.client_code.specs.declared.outline.Section.TheVariants as section
 use Rattle.client_code.specs.Headers.{header_bytes}
 use Rattle.client_code.specs.Items.{item_bytes}
 use Rattle.client_code.specs.Outlines.{section_of, outlined}
-use Rattle.client_spec.specs.Pieces.{IsReadable, meant, Pieces, items_in, file_of, Says}
+use Rattle.client_spec.specs.Pieces.{IsReadable, meant, Pieces, all_items, file_of, Says}
 use Rattle.client_code.proofs.SpelledLines.{same_count, all_taken, one_more}
 
 -- the items of the first lines stand after the start of a file
@@ -46,21 +46,21 @@ further lines left start file n line item now written e spells readable bytes = 
 -- ---- items in order are pieces
 
 -- the first items belong to a section, and are all of one kind
-record First {A : Type 0} (f : A → Item) (n : ℕ) (behind : List Section) (items : List Item) : Type 0 where
+record First {A : Type 0} (f : A → Item) (n : ℕ) (following : List Section) (items : List Item) : Type 0 where
   pub list : List A
   pub rest : List Item
   pub count : length list ≡ n
   pub whole : items ≡ map f list ++ rest
-  pub sections : map section_of rest ≡ behind
+  pub sections : map section_of rest ≡ following
 
 first : {A : Type 0} (f : A → Item) (s : Section) → ((item : Item) → section_of item ≡ s → (x : A) × (item ≡ f x))
-    → (n : ℕ) (behind : List Section) (items : List Item) → map section_of items ≡ replicate n s ++ behind → First f n behind items
-first f s kind zero behind items e = record { list = []; rest = items; count = refl; whole = refl; sections = e }
-first f s kind (suc n) behind [] e = cc
-first f s kind (suc n) behind (item ∷ items) e =
-    let cut = tail_of (section_of item) s (map section_of items) (replicate n s ++ behind) e in
+    → (n : ℕ) (following : List Section) (items : List Item) → map section_of items ≡ replicate n s ++ following → First f n following items
+first f s kind zero following items e = record { list = []; rest = items; count = refl; whole = refl; sections = e }
+first f s kind (suc n) following [] e = cc
+first f s kind (suc n) following (item ∷ items) e =
+    let cut = tail_of (section_of item) s (map section_of items) (replicate n s ++ following) e in
     let here = kind item cut.0 in
-    let more = first f s kind n behind items cut.1 in
+    let more = first f s kind n following items cut.1 in
     record {
       list = here.0 ∷ more.list;
       rest = more.rest;
@@ -93,7 +93,7 @@ record InPieces (t c i : ℕ) (items : List Item) : Type 0 where
   pub types : length pieces.types ≡ t
   pub constants : length pieces.constants ≡ c
   pub instructions : length pieces.instructions ≡ i
-  pub whole : items ≡ items_in pieces
+  pub whole : items ≡ all_items pieces
 
 in_pieces : (t c i : ℕ) (items : List Item) → map section_of items ≡ outlined t c i → InPieces t c i items
 in_pieces t c i items e =
@@ -116,7 +116,7 @@ in_pieces t c i items e =
 abbrev header_in : Pieces → List ℕ
 header_in pieces = header_bytes (length pieces.types) (length pieces.constants) (length pieces.instructions)
 
-bytes_in : (pieces : Pieces) → flat_map item_bytes (items_in pieces) ≡ (flat_map form_bytes pieces.types ++ flat_map constant_bytes pieces.constants) ++ flat_map instruction_bytes pieces.instructions
+bytes_in : (pieces : Pieces) → flat_map item_bytes (all_items pieces) ≡ (flat_map form_bytes pieces.types ++ flat_map constant_bytes pieces.constants) ++ flat_map instruction_bytes pieces.instructions
 bytes_in pieces =
     let types = map type_item pieces.types in
     let constants = map constant_item pieces.constants in
@@ -133,7 +133,7 @@ regroup old header types constants code = simp append_assoc
 file_is : (old start : List ℕ) (t c i : ℕ) (items : List Item) (all : InPieces t c i items) → start ≡ old ++ header_bytes t c i → start ++ flat_map item_bytes items ≡ old ++ file_of all.pieces
 file_is old start t c i items all e =
     let pieces = all.pieces in
-    ap (λ xs. start ++ flat_map item_bytes xs) all.whole ∙ ap (λ xs. xs ++ flat_map item_bytes (items_in pieces)) (
+    ap (λ xs. start ++ flat_map item_bytes xs) all.whole ∙ ap (λ xs. xs ++ flat_map item_bytes (all_items pieces)) (
     e ∙ ap (λ n. old ++ header_bytes n c i) (sym all.types) ∙ ap (λ n. old ++ header_bytes (length pieces.types) n i) (sym all.constants)
     ∙ ap (λ n. old ++ header_bytes (length pieces.types) (length pieces.constants) n) (sym all.instructions)
     )

@@ -1,12 +1,12 @@
 -- A client file, part by part.
---     code_place client                              where the code of a client begins
---     IsHeader file types constants instructions     the header says so
---     AreRight file place                            the header's fields in front
---                                                    of a position are right
---     AreTypes file table                            these types stand after it
---     AreConstants file at constants behind          these constants stand there,
---                                                    and the rest after them
---     IsCodeAt file at table constants code          this code stands there, up to the end
+--     code_place client                                where the code of a client begins
+--     IsFileHeader file types constants instructions   the header says so
+--     AreRight file place                              the header's fields in front
+--                                                      of a position are right
+--     AreTypes file table                              these types stand after it
+--     AreConstants file at constants following         these constants stand there,
+--                                                      and the rest after them
+--     IsCodeAt file at table constants code            this code stands there, up to the end
 use Rattle.std.specs.Prelude.{◌≡◌, ℕ, ◌+◌, ◌*◌, ◌≤◌, List, ◌++◌, length, take, drop, flat_map, codes, All, AllPairs}
 use Rattle.seg_spec.specs.Bytes as bytes
 use Rattle.seg_spec.specs.Types.{Table, IsTable, form_bytes}
@@ -17,7 +17,7 @@ abbrev pub code_place : Client → ℕ
 code_place client =
     20 + 16 * length client.types + length (flat_map constant_bytes client.constants)
 
-pub record IsHeader (file : List ℕ) (types constants instructions : ℕ) : Type 0 where
+pub record IsFileHeader (file : List ℕ) (types constants instructions : ℕ) : Type 0 where
   pub whole : 20 ≤ length file
   pub magic : take 4 file ≡ codes "SEGC"
   pub version : bytes.word file 4 ≡ 1
@@ -33,9 +33,9 @@ pub record AreRight (file : List ℕ) (place : ℕ) : Type 0 where
   pub of_instructions : 20 ≤ place → (20 ≤ length file) × (bytes.word file 16 ≤ 4096)
 
 pub record AreConstants (file : List ℕ) (at : ℕ) (constants : List Constant)
-    (behind : ℕ) : Type 0 where
-  pub spelled : drop at file ≡ flat_map constant_bytes constants ++ drop behind file
-  pub place : behind ≡ at + length (flat_map constant_bytes constants)
+    (following : ℕ) : Type 0 where
+  pub spelled : drop at file ≡ flat_map constant_bytes constants ++ drop following file
+  pub place : following ≡ at + length (flat_map constant_bytes constants)
   pub each : All IsConstant constants
   pub different : AllPairs Differ constants
 

@@ -1,7 +1,7 @@
 -- The bytes of the header that says how many types, constants and instructions follow.
 use Rattle.std.specs.Prelude.{ℕ, List, ◌++◌, codes}
-use Rattle.client_spec.specs.Grammar.{word}
+use Rattle.client_spec.specs.Grammar.{word_bytes}
 
 abbrev pub header_bytes : ℕ → ℕ → ℕ → List ℕ
 header_bytes types constants instructions =
-    codes "SEGC" ++ word 1 ++ word types ++ word constants ++ word instructions
+    codes "SEGC" ++ word_bytes 1 ++ word_bytes types ++ word_bytes constants ++ word_bytes instructions

@@ -1,5 +1,5 @@
 -- What a line of a text says.
---     item_of item          an item of the program as the definitions know it
+--     text_item item        an item of the program as the definitions know it
 --     IsWritten item        an item that may stand in a client, as far as it is
 --                           known without the others
 --     item_bytes item       its bytes in a client file
@@ -16,10 +16,10 @@ use Rattle.client_code.specs.declared.item.Item.{Item}
 use Rattle.client_code.specs.declared.item.Item.TheVariants as item
 use Rattle.client_code.specs.Views.{constant_by, instruction_of}
 
-abbrev pub item_of : Item → text.Item
-item_of (item.«Type» type) = text.type_item (form_of type)
-item_of (item.Constant kind bytes) = text.constant_item (constant_by kind bytes.items)
-item_of (item.Instruction i) = text.instruction_item (instruction_of i)
+abbrev pub text_item : Item → text.Item
+text_item (item.«Type» type) = text.type_item (form_of type)
+text_item (item.Constant kind bytes) = text.constant_item (constant_by kind bytes.items)
+text_item (item.Instruction i) = text.instruction_item (instruction_of i)
 
 -- operands and number are right in some client
 pub record IsInSomeClient (i : code.Instruction) : Type 0 where

@@ -3,7 +3,7 @@
 --     outlined t c i         so many types, constants and instructions, in order
 --     IsOutline sections     they are in order, and as few as a client has
 --     outline_of header      what a header counts
---     entries_of header      how many that are
+--     entry_total header     how many that are
 use Rattle.std.specs.Prelude.{◌≡◌, ℕ, ◌+◌, ◌≤◌, List, ◌++◌, replicate}
 use Rattle.client_spec.specs.Text.{Item, type_item, constant_item, instruction_item}
 use Rattle.client_code.specs.declared.header.Header.{Header}
@@ -31,5 +31,5 @@ pub record IsOutline (sections : List Section) : Type 0 where
 abbrev pub outline_of : Header → List Section
 outline_of header = outlined header.types header.constants header.instructions
 
-abbrev pub entries_of : Header → ℕ
-entries_of header = header.types + header.constants + header.instructions
+abbrev pub entry_total : Header → ℕ
+entry_total header = header.types + header.constants + header.instructions

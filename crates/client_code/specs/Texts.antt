@@ -1,6 +1,6 @@
 -- The text of a client, piece by piece.
 --     with_spaces words     the words, each after a space
---     ended item            the line of an item, with its end
+--     ended_line item       the line of an item, with its end
 --     SpellsByte b rest spelling    a byte, and the rest after it
 --     before_space b line   how many bytes stand before a space, or before another byte
 use Rattle.std.specs.Prelude.{◌≡◌, ◌⊎◌, ℕ, suc, Bool, true, not, ◌==◌, if◌then◌else◌, List, [], ◌∷◌, ◌++◌, flat_map}
@@ -10,8 +10,8 @@ abbrev pub with_spaces : Words → List ℕ
 with_spaces words = flat_map (λ word. 32 ∷ word) words
 
 -- a line with its end
-abbrev pub ended : Item → List ℕ
-ended item = line_of item ++ 10 ∷ []
+abbrev pub ended_line : Item → List ℕ
+ended_line item = line_of item ++ 10 ∷ []
 
 -- how many bytes stand before the first of which it is this that it is a space
 abbrev pub before_space : Bool → List ℕ → ℕ

@@ -1,6 +1,6 @@
 ghost use Rattle.std.specs.Prelude.{◌≡◌, ◌⊎◌, ℕ, IfOk, IfErr, IfSome, IfNone, IsTrue};
 ghost use Rattle.client_spec.specs.Syntax as syntax;
-ghost use Rattle.client_spec.specs.Grammar.{IsClient, Spells, spelling};
+ghost use Rattle.client_spec.specs.Grammar.{IsClient, SpellsClient, client_bytes};
 ghost use Rattle.client_spec.specs.Text.{SpellsInText, text_of};
 
 use crate::item::Item;
@@ -14,10 +14,10 @@ use std::alloc::Allocator;
 /// The client file that a text spells, or `BadLine` with the first line, counted from 1, that is outside the grammar or against
 /// the rules of the file. Where an `END` is missing that is the line after the last. `Memory` where memory was refused.
 pub fn assemble<A: Allocator>(alloc: A, text: &[u8]) -> Result<Vec<u8, A>, Fault>
-    ensures found { IfOk result (λ file. (tree : syntax.Client) × Spells file.items tree
+    ensures found { IfOk result (λ file. (tree : syntax.Client) × SpellsClient file.items tree
         × SpellsInText text.now tree) }
     ensures canonical { IfOk result (λ file. (tree : syntax.Client) → IsClient tree →
-        text.now ≡ text_of tree → file.items ≡ spelling tree) }
+        text.now ≡ text_of tree → file.items ≡ client_bytes tree) }
     ensures wrong { IfErr result (λ fault. (line : ℕ) → fault ≡ Fault.BadLine line →
         (tree : syntax.Client) → SpellsInText text.now tree → ⊥) }
     ensures fault { IfErr result (λ fault. (fault ≡ Fault.Memory)
@@ -35,9 +35,9 @@ pub fn assemble<A: Allocator>(alloc: A, text: &[u8]) -> Result<Vec<u8, A>, Fault
 /// client's file and has all lines.
 fn wrong_place(file: &[u8], is_whole: bool) -> Option<u32>
     ensures right { IfNone result (IsTrue is_whole
-        × (tree : syntax.Client) × Spells file.now tree) }
+        × (tree : syntax.Client) × SpellsClient file.now tree) }
     ensures wrong { IfSome result (λ _. IsTrue is_whole → (tree : syntax.Client) →
-        Spells file.now tree → ⊥) }
+        SpellsClient file.now tree → ⊥) }
 {
     match parse(file) {
         Ok(_) if is_whole => None,

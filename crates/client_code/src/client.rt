@@ -1,6 +1,6 @@
 ghost use Rattle.std.specs.Prelude.{◌≡◌, ◌≤◌, ◌<◌, ◌+◌, ◌*◌, ◌^◌, length};
 ghost use Rattle.client_spec.specs.Syntax as syntax;
-ghost use Rattle.client_spec.specs.Grammar.{listing, Spells};
+ghost use Rattle.client_spec.specs.Grammar.{listing, SpellsClient};
 ghost use Rattle.client_code.specs.Files.{code_place};
 
 use crate::constant::Constant;
@@ -22,8 +22,8 @@ pub struct Client<'a> {
     // the position of the first instruction
     pub(crate) code: u32,
     ghost near: { code ≤ 2 ^ 20 },
-    ghost spelled: { ∥ ((tree : syntax.Client) × Spells file.now tree) ∥₁ },
-    ghost placed: { (tree : syntax.Client) → Spells file.now tree →
+    ghost spelled: { ∥ ((tree : syntax.Client) × SpellsClient file.now tree) ∥₁ },
+    ghost placed: { (tree : syntax.Client) → SpellsClient file.now tree →
         (header.types ≡ length tree.types)
         × (header.constants ≡ length tree.constants)
         × (header.instructions ≡ length (listing tree.code)) × (code ≡ code_place tree) },

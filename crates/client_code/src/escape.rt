@@ -66,9 +66,9 @@ pub fn unescaped(spelling: &[u8]) -> Option<Bytes>
     let mut bytes = ArrayVec::new();
     let mut rest = spelling;
     while !rest.is_empty() {
-        let (byte, behind) = first(rest)?;
+        let (byte, following) = first(rest)?;
         bytes.try_push(byte).ok()?;
-        rest = behind;
+        rest = following;
     }
     Some(bytes)
 }

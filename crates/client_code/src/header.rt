@@ -1,7 +1,7 @@
 ghost use Rattle.std.specs.Prelude.{◌≡◌, ◌≤◌, ◌<◌, ◌+◌, ◌*◌, ◌++◌, ℕ, length, IfOk, IfErr, OnOk, MatchOption};
 ghost use Rattle.seg_spec.specs.Bytes as bytes;
 ghost use Rattle.seg_spec.specs.Bytes.{spelling};
-ghost use Rattle.client_code.specs.Files.{IsHeader, AreRight};
+ghost use Rattle.client_code.specs.Files.{IsFileHeader, AreRight};
 ghost use Rattle.client_code.specs.Headers.{header_bytes};
 ghost use Rattle.client_code.specs.declared.header.TheConstants.{MOST_CONSTANTS, MOST_INSTRUCTIONS};
 ghost use Rattle.client_code.specs.declared.types.TheConstants.{MOST_TYPES};
@@ -67,9 +67,9 @@ fn append_word<A: Allocator>(file: &mut Vec<u8, A>, word: u32) -> Result<(), All
 impl Header {
     /// The header of a file, or the position of the first field that is wrong or cut.
     pub fn read(file: &[u8]) -> Result<Header, Fault>
-        ensures found { IfOk result (λ h. IsHeader file.now h.types h.constants h.instructions) }
+        ensures found { IfOk result (λ h. IsFileHeader file.now h.types h.constants h.instructions) }
         ensures wrong { IfErr result (λ fault. (t c i : ℕ) → t ≤ MOST_TYPES → c ≤ MOST_CONSTANTS →
-            i ≤ MOST_INSTRUCTIONS → IsHeader file.now t c i → ⊥) }
+            i ≤ MOST_INSTRUCTIONS → IsFileHeader file.now t c i → ⊥) }
         ensures fault { IfErr result (λ fault. (place : ℕ) × (fault ≡ Fault.BadCode place)
             × AreRight file.now place × (AreRight file.now (place + 4) → ⊥)) }
     {

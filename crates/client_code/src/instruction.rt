@@ -4,7 +4,7 @@ ghost use Rattle.seg_spec.specs.Types.{Table};
 ghost use Rattle.client_spec.specs.Syntax as syntax;
 ghost use Rattle.client_spec.specs.declared.table.Number.TheVariants as number;
 ghost use Rattle.client_spec.specs.Operations.{row_of};
-ghost use Rattle.client_spec.specs.Grammar.{IsOperand, IsText, NamesBy, IsNumber, IsInstruction, instruction_bytes};
+ghost use Rattle.client_spec.specs.Grammar.{IsOperand, IsTextConstant, NamesBy, IsNumber, IsInstruction, instruction_bytes};
 ghost use Rattle.client_code.specs.Views.{constants_of, instruction_of};
 
 use crate::constant::{Constant, ConstantKind};
@@ -137,7 +137,7 @@ impl Instruction {
 }
 
 fn is_text(constants: &[Constant], n: usize) -> bool
-    ensures { IsTrue result ↔ IsText (slice_get (constants_of constants.now) n) }
+    ensures { IsTrue result ↔ IsTextConstant (slice_get (constants_of constants.now) n) }
 {
     match constants.get(n) {
         Some(constant) => constant.kind == ConstantKind::Text,

@@ -8,9 +8,9 @@ ghost use Rattle.client_spec.specs.Grammar.{IsOperand, IsNumber};
 ghost use Rattle.client_spec.specs.Text as text;
 ghost use Rattle.client_spec.specs.Text.{words_of, type_word, type_words, operand_words, number_words, instruction_words, SpellsItem};
 ghost use Rattle.client_spec.specs.Pieces.{IsReadable, IsTold, IsToldInstruction};
-ghost use Rattle.client_spec.specs.Operations.{word_of};
+ghost use Rattle.client_spec.specs.Operations.{mnemonic};
 ghost use Rattle.client_code.specs.Views.{instruction_of};
-ghost use Rattle.client_code.specs.Items.{item_of, item_bytes, IsWritten, IsWords, IsInSomeClient};
+ghost use Rattle.client_code.specs.Items.{text_item, item_bytes, IsWritten, IsWords, IsInSomeClient};
 
 use crate::constant::ConstantKind;
 use crate::escape::{Bytes, unescaped};
@@ -33,8 +33,8 @@ pub enum Item {
 impl Item {
     /// What a line says. `None` where no line of a client's text is so.
     pub fn read(line: &[u8]) -> Option<Item>
-        ensures found { IfSome result (λ item. SpellsItem line.now (item_of item)) }
-        ensures readable { IfSome result (λ item. IsReadable (item_of item)) }
+        ensures found { IfSome result (λ item. SpellsItem line.now (text_item item)) }
+        ensures readable { IfSome result (λ item. IsReadable (text_item item)) }
         ensures none { IfNone result ((item : text.Item) → IsWritten item → SpellsItem line.now item
             → ⊥) }
     {
@@ -46,8 +46,8 @@ impl Item {
 
     /// What a line of words says.
     fn read_words(line: &[u8]) -> Option<Item>
-        ensures found { IfSome result (λ item. SpellsItem line.now (item_of item)) }
-        ensures readable { IfSome result (λ item. IsReadable (item_of item)) }
+        ensures found { IfSome result (λ item. SpellsItem line.now (text_item item)) }
+        ensures readable { IfSome result (λ item. IsReadable (text_item item)) }
         ensures none { IfNone result ((item : text.Item) → IsWords item → IsWritten item →
             SpellsItem line.now item → ⊥) }
     {
@@ -71,7 +71,7 @@ impl Item {
     /// The number of bytes that spell it in a client file.
     pub fn len(&self) -> usize
         ensures short { result ≤ 257 }
-        ensures len { result ≡ length (item_bytes (item_of self.now)) }
+        ensures len { result ≡ length (item_bytes (text_item self.now)) }
     {
         match self {
             Item::Type(kind) => kind.entry().len(),
@@ -82,7 +82,7 @@ impl Item {
 
     /// Adds its bytes to a client file.
     pub fn append<A: Allocator>(&self, file: &mut Vec<u8, A>) -> Result<(), AllocError>
-        ensures { OnOk result (file.new.items ≡ file.old.items ++ item_bytes (item_of self.now)) }
+        ensures { OnOk result (file.new.items ≡ file.old.items ++ item_bytes (text_item self.now)) }
     {
         match self {
             Item::Type(kind) => file.extend_from_slice(&kind.entry()),
@@ -175,15 +175,15 @@ fn read_fields(words: &mut Words) -> Option<Fields>
 }
 
 fn read_instruction(operation: Operation, words: &mut Words) -> Option<Instruction>
-    ensures found { IfSome result (λ i. word_of operation ∷ words_of words.old.line.now
+    ensures found { IfSome result (λ i. mnemonic operation ∷ words_of words.old.line.now
         ≡ instruction_words (instruction_of i) ++ words_of words.new.line.now) }
     ensures readable { IfSome result (λ i. IsToldInstruction (instruction_of i)) }
     ensures whole { IfSome result (λ i. (j : syntax.Instruction) → j.operation ≡ operation →
-        word_of operation ∷ words_of words.old.line.now ≡ instruction_words j →
+        mnemonic operation ∷ words_of words.old.line.now ≡ instruction_words j →
         words_of words.new.line.now ≡ []) }
     ensures none { IfNone result ((i : syntax.Instruction) (rest : text.Words) →
         i.operation ≡ operation → IsInSomeClient i →
-        word_of operation ∷ words_of words.old.line.now ≢ instruction_words i ++ rest) }
+        mnemonic operation ∷ words_of words.old.line.now ≢ instruction_words i ++ rest) }
 {
     let row = operation.row();
     Some(Instruction {

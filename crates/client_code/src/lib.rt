@@ -22,6 +22,7 @@ pub use assembler::assemble;
 pub use client::{Client, Constants};
 pub use client_spec::table::{Ends, Gives, Kinds, Need, Number, Operand, Operation, Role, Row};
 pub use constant::{Constant, ConstantKind};
+pub use header::MOST_INSTRUCTIONS;
 pub use instruction::{Instruction, REGISTERS};
 pub use nesting::{DEPTH, Nesting};
 pub use parser::parse;

@@ -1,6 +1,6 @@
 ghost use Rattle.std.specs.Prelude.{◌≡◌, ◌+◌, ◌∷◌, ◌++◌, [], ◌≤◌, ℕ, List, length, map, take, IsTrue, IsFalse};
 ghost use Rattle.client_spec.specs.Text.{Item, words_of, SpellsItem, EachSpells};
-ghost use Rattle.client_code.specs.Outlines.{section_of, IsOutline, outline_of, entries_of};
+ghost use Rattle.client_code.specs.Outlines.{section_of, IsOutline, outline_of, entry_total};
 ghost use Rattle.client_spec.specs.Pieces.{meant};
 
 use crate::header::{Header, MOST_CONSTANTS, MOST_INSTRUCTIONS};
@@ -47,11 +47,11 @@ impl Section {
 
 /// The header that counts the lines of a text, up to the first that stands after a later section or is one too many.
 pub fn header_of(text: &[u8]) -> Header
-    ensures within { entries_of result ≤ length (meant text.now) }
+    ensures within { entry_total result ≤ length (meant text.now) }
     ensures counted { (items : List Item) → EachSpells (meant text.now) items →
-        map section_of (take (entries_of result) items) ≡ outline_of result }
+        map section_of (take (entry_total result) items) ≡ outline_of result }
     ensures all { (items : List Item) → EachSpells (meant text.now) items →
-        IsOutline (map section_of items) → length items ≡ entries_of result }
+        IsOutline (map section_of items) → length items ≡ entry_total result }
 {
     let mut header = Header {
         types: 0,
@@ -71,9 +71,9 @@ pub fn header_of(text: &[u8]) -> Header
 fn add(header: &mut Header, section: Section) -> bool
     ensures counted { IsTrue result → outline_of header.new
         ≡ outline_of header.old ++ section ∷ [] }
-    ensures one { IsTrue result → entries_of header.new ≡ entries_of header.old + 1 }
-    ensures refused { IsFalse result → (behind : List Section) →
-        IsOutline (outline_of header.old ++ section ∷ behind) → ⊥ }
+    ensures one { IsTrue result → entry_total header.new ≡ entry_total header.old + 1 }
+    ensures refused { IsFalse result → (following : List Section) →
+        IsOutline (outline_of header.old ++ section ∷ following) → ⊥ }
     ensures kept { IsFalse result → header.new ≡ header.old }
 {
     let is_code = header.instructions > 0;

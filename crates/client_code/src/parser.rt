@@ -3,7 +3,7 @@ ghost use Rattle.std.specs.Int.{w32};
 ghost use Rattle.seg_spec.specs.Bytes.{slice};
 ghost use Rattle.client_spec.specs.Syntax as syntax;
 ghost use Rattle.client_spec.specs.Syntax.{Statements};
-ghost use Rattle.client_spec.specs.Grammar.{constant_bytes, instruction_bytes, listing, IsConstant, Differ, Spells};
+ghost use Rattle.client_spec.specs.Grammar.{constant_bytes, instruction_bytes, listing, IsConstant, Differ, SpellsClient};
 ghost use Rattle.client_code.specs.Views.{constant_of, constants_of, instruction_of};
 ghost use Rattle.client_code.specs.Files.{AreConstants, IsCodeAt};
 ghost use Rattle.client_code.specs.Clients.{bytes_of};
@@ -40,11 +40,11 @@ fn next_constant<'a>(file: &'a [u8], at: u32, before: &[Constant]) -> Option<(Co
         All (λ other. Differ (constant_of other) c) before.now →
         drop at file.now ≢ constant_bytes c ++ rest) }
 {
-    let (constant, behind) = Constant::read(file, at)?;
+    let (constant, following) = Constant::read(file, at)?;
     if !differs_from(before, constant) {
         return None;
     }
-    Some((constant, behind))
+    Some((constant, following))
 }
 
 /// The constants that begin at a position, and the position after them.
@@ -55,19 +55,19 @@ pub fn read_constants(file: &[u8], at: u32, count: u32) -> Result<(Constants<'_>
     ensures count { IfOk result (λ found. length found.0.items ≡ count) }
     ensures found { IfOk result (λ found. AreConstants file.now at
         (constants_of found.0.items) found.1) }
-    ensures wrong { IfErr result (λ fault. (cs : List syntax.Constant) (behind : ℕ) →
-        length cs ≡ count → AreConstants file.now at cs behind → ⊥) }
+    ensures wrong { IfErr result (λ fault. (cs : List syntax.Constant) (following : ℕ) →
+        length cs ≡ count → AreConstants file.now at cs following → ⊥) }
     ensures fault { IfErr result (λ fault. (place : ℕ) × (fault ≡ Fault.BadCode place)) }
 {
     let mut constants = ArrayVec::new();
     let mut next = at;
     for _ in 0..count {
         let place = next;
-        let Some((constant, behind)) = next_constant(file, place, constants.as_slice()) else {
+        let Some((constant, following)) = next_constant(file, place, constants.as_slice()) else {
             return Err(Fault::BadCode(place));
         };
         constants.push(constant);
-        next = behind;
+        next = following;
     }
     Ok((constants, next))
 }
@@ -124,8 +124,8 @@ fn check_code(
 /// too many, or with the file's length where an `END` is missing.
 pub fn parse(file: &[u8]) -> Result<Client<'_>, Fault>
     ensures file { IfOk result (λ client. bytes_of client ≡ file.now) }
-    ensures found { IfOk result (λ client. (tree : syntax.Client) × Spells file.now tree) }
-    ensures wrong { IfErr result (λ fault. (tree : syntax.Client) → Spells file.now tree → ⊥) }
+    ensures found { IfOk result (λ client. (tree : syntax.Client) × SpellsClient file.now tree) }
+    ensures wrong { IfErr result (λ fault. (tree : syntax.Client) → SpellsClient file.now tree → ⊥) }
     ensures fault { IfErr result (λ fault. (place : ℕ) × (fault ≡ Fault.BadCode place)) }
 {
     let header = Header::read(file)?;

@@ -2,10 +2,10 @@ ghost use Rattle.std.specs.Prelude.{◌≡◌, ◌∷◌, [], ◌++◌, if◌the
 ghost use Rattle.seg_layout.specs.Forms.{form_of};
 ghost use Rattle.seg_spec.specs.Types.{Form, form_at};
 ghost use Rattle.client_spec.specs.Syntax as syntax;
-ghost use Rattle.client_spec.specs.Grammar.{Spells, listing, IsConstant, IsNameByte};
-ghost use Rattle.client_spec.specs.Text.{type_item, constant_item, instruction_item, operand_words, number_words, type_word, is_plain, escaped, text_spelling, spaced, text_of};
+ghost use Rattle.client_spec.specs.Grammar.{SpellsClient, listing, IsConstant, IsNameByte};
+ghost use Rattle.client_spec.specs.Text.{type_item, constant_item, instruction_item, operand_words, number_words, type_word, is_plain, escaped, text_spelling, spaced_words, text_of};
 ghost use Rattle.client_code.specs.Views.{constant_of, constants_of, instruction_of};
-ghost use Rattle.client_code.specs.Texts.{with_spaces, ended};
+ghost use Rattle.client_code.specs.Texts.{with_spaces, ended_line};
 ghost use Rattle.client_code.specs.Clients.{bytes_of, OfTree};
 
 use crate::client::Client;
@@ -32,7 +32,7 @@ pub fn print<A: Allocator>(alloc: A, client: &Client) -> Result<Vec<u8, A>, Faul
 
 fn print_types<A: Allocator>(text: &mut String<A>, types: &TypeTable) -> Result<(), AllocError>
     ensures { OnOk result (text.new.bytes.items ≡ text.old.bytes.items
-        ++ flat_map ended (map type_item types.now)) }
+        ++ flat_map ended_line (map type_item types.now)) }
 {
     for type_id in 0..types.len() as u8 {
         print_entry(text, types, type_id)?;
@@ -46,7 +46,7 @@ fn print_entry<A: Allocator>(
     type_id: TypeId,
 ) -> Result<(), AllocError>
     ensures { OnOk result ((form : Form) → form_at types.now type_id ≡ Some form →
-        text.new.bytes.items ≡ text.old.bytes.items ++ ended (type_item form)) }
+        text.new.bytes.items ≡ text.old.bytes.items ++ ended_line (type_item form)) }
 {
     match types.kind(type_id) {
         Some(kind) => print_type(text, kind),
@@ -60,7 +60,7 @@ fn print_constants<A: Allocator>(
 ) -> Result<(), AllocError>
     ensures { OnOk result (All IsConstant (constants_of constants.now) →
         text.new.bytes.items ≡ text.old.bytes.items
-        ++ flat_map ended (map constant_item (constants_of constants.now))) }
+        ++ flat_map ended_line (map constant_item (constants_of constants.now))) }
 {
     for constant in constants {
         print_constant(text, *constant)?;
@@ -70,7 +70,7 @@ fn print_constants<A: Allocator>(
 
 fn print_code<A: Allocator>(text: &mut String<A>, client: &Client) -> Result<(), AllocError>
     ensures { OnOk result (OfTree client.now (λ tree. text.new.bytes.items
-        ≡ text.old.bytes.items ++ flat_map ended (map instruction_item (listing tree.code)))) }
+        ≡ text.old.bytes.items ++ flat_map ended_line (map instruction_item (listing tree.code)))) }
 {
     for i in 0..client.instruction_count() {
         print_at(text, client, i)?;
@@ -80,8 +80,8 @@ fn print_code<A: Allocator>(text: &mut String<A>, client: &Client) -> Result<(),
 
 fn print_at<A: Allocator>(text: &mut String<A>, client: &Client, i: u32) -> Result<(), AllocError>
     ensures { OnOk result ((tree : syntax.Client) (instruction : syntax.Instruction) →
-        Spells (bytes_of client.now) tree → slice_get (listing tree.code) i ≡ Some instruction →
-        text.new.bytes.items ≡ text.old.bytes.items ++ ended (instruction_item instruction)) }
+        SpellsClient (bytes_of client.now) tree → slice_get (listing tree.code) i ≡ Some instruction →
+        text.new.bytes.items ≡ text.old.bytes.items ++ ended_line (instruction_item instruction)) }
 {
     match client.instruction(i) {
         Some(instruction) => print_instruction(text, instruction),
@@ -91,7 +91,7 @@ fn print_at<A: Allocator>(text: &mut String<A>, client: &Client, i: u32) -> Resu
 
 fn print_type<A: Allocator>(text: &mut String<A>, kind: Type) -> Result<(), AllocError>
     ensures { OnOk result (text.new.bytes.items ≡ text.old.bytes.items
-        ++ ended (type_item (form_of kind))) }
+        ++ ended_line (type_item (form_of kind))) }
 {
     match kind {
         Type::I64 => text.push_str("type i64\n"),
@@ -107,7 +107,7 @@ fn print_type<A: Allocator>(text: &mut String<A>, kind: Type) -> Result<(), Allo
 
 fn print_struct<A: Allocator>(text: &mut String<A>, fields: &[TypeId]) -> Result<(), AllocError>
     ensures { OnOk result (text.new.bytes.items ≡ text.old.bytes.items
-        ++ ended (type_item (Form.struct fields.now))) }
+        ++ ended_line (type_item (Form.struct fields.now))) }
 {
     text.push_str("type struct")?;
     print_fields(text, fields)?;
@@ -128,7 +128,7 @@ fn print_fields<A: Allocator>(text: &mut String<A>, fields: &[TypeId]) -> Result
 fn print_constant<A: Allocator>(text: &mut String<A>, constant: Constant) -> Result<(), AllocError>
     ensures { OnOk result (IsConstant (constant_of constant.entry) →
         text.new.bytes.items ≡ text.old.bytes.items
-        ++ ended (constant_item (constant_of constant.entry))) }
+        ++ ended_line (constant_item (constant_of constant.entry))) }
 {
     match constant.kind {
         ConstantKind::Text => print_text(text, constant.bytes),
@@ -140,7 +140,7 @@ fn print_constant<A: Allocator>(text: &mut String<A>, constant: Constant) -> Res
 fn print_name<A: Allocator>(text: &mut String<A>, word: &str, name: &[u8]) -> Result<(), AllocError>
     ensures { OnOk result (All IsNameByte name.now →
         text.new.bytes.items ≡ text.old.bytes.items
-        ++ (spaced (word.now ∷ name.now ∷ []) ++ 10 ∷ [])) }
+        ++ (spaced_words (word.now ∷ name.now ∷ []) ++ 10 ∷ [])) }
 {
     text.push_str(word)?;
     text.push(' ')?;
@@ -160,7 +160,7 @@ fn print_plain<A: Allocator>(text: &mut String<A>, name: &[u8]) -> Result<(), Al
 
 fn print_text<A: Allocator>(text: &mut String<A>, bytes: &[u8]) -> Result<(), AllocError>
     ensures { OnOk result (text.new.bytes.items ≡ text.old.bytes.items
-        ++ ended (constant_item (syntax.Constant.Text bytes.now))) }
+        ++ ended_line (constant_item (syntax.Constant.Text bytes.now))) }
 {
     text.push_str("text ")?;
     print_escaped(text, bytes)?;
@@ -193,7 +193,7 @@ fn print_instruction<A: Allocator>(
     instruction: Instruction,
 ) -> Result<(), AllocError>
     ensures { OnOk result (text.new.bytes.items ≡ text.old.bytes.items
-        ++ ended (instruction_item (instruction_of instruction))) }
+        ++ ended_line (instruction_item (instruction_of instruction))) }
 {
     let row = instruction.operation.row();
     text.push_str(instruction.operation.word())?;

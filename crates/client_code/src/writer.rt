@@ -3,7 +3,7 @@ ghost use Rattle.client_spec.specs.Syntax as syntax;
 ghost use Rattle.client_spec.specs.Text as text;
 ghost use Rattle.client_spec.specs.Text.{SpellsItem, SpellsInText};
 ghost use Rattle.client_spec.specs.Pieces.{IsReadable, meant, Pieces, Says, file_of};
-ghost use Rattle.client_code.specs.Items.{item_of, IsWritten};
+ghost use Rattle.client_code.specs.Items.{text_item, IsWritten};
 
 use crate::item::Item;
 use crate::lines::Lines;
@@ -14,8 +14,8 @@ use std::alloc::{AllocError, Allocator};
 fn next_item(lines: &mut Lines) -> Option<Item>
     ensures found { IfSome result (λ item. (line : List ℕ)
         × (meant lines.old.text.now ≡ line ∷ meant lines.new.text.now)
-        × SpellsItem line (item_of item)) }
-    ensures readable { IfSome result (λ item. IsReadable (item_of item)) }
+        × SpellsItem line (text_item item)) }
+    ensures readable { IfSome result (λ item. IsReadable (text_item item)) }
     ensures none { IfNone result ((line : List ℕ) (rest : List (List ℕ)) (item : text.Item) →
         meant lines.old.text.now ≡ line ∷ rest → IsWritten item → SpellsItem line item → ⊥) }
 {

@@ -9,7 +9,7 @@ use Rattle.std.specs.Prelude.{slice_index_or, if◌then◌else◌}
 use Rattle.std.proofs.lemmas.List.{get_or_default, length-map}
 use Rattle.seg_spec.specs.Index.{same_name}
 use Rattle.client_spec.specs.declared.table.Operation.{Operation}
-use Rattle.client_spec.specs.Operations.{Entry, number_of, entries, no_entry, entry_of, word_of, row_of}
+use Rattle.client_spec.specs.Operations.{Entry, opcode, entries, no_entry, entry_of, mnemonic, row_of}
 
 -- ---- operations by their numbers and words
 
@@ -20,7 +20,7 @@ own_row o = refl
 operation_at : ℕ → Operation
 operation_at n = (slice_index_or entries (n - 1) no_entry).1.operation
 
-pub same_by_number : (a b : Operation) → number_of a ≡ number_of b → a ≡ b
+pub same_by_number : (a b : Operation) → opcode a ≡ opcode b → a ≡ b
 unfolding operation_at
 same_by_number a b e = sym (own_row a) ∙ ap operation_at e ∙ own_row b
 
@@ -29,15 +29,15 @@ operation_in : List Entry → List ℕ → Operation
 operation_in [] word = no_entry.1.operation
 operation_in (entry ∷ rest) word = if same_name entry.0 word then entry.1.operation else operation_in rest word
 
-own_word : (o : Operation) → operation_in entries (word_of o) ≡ o
+own_word : (o : Operation) → operation_in entries (mnemonic o) ≡ o
 unfolding operation_in
 own_word Operation.Const = refl
 own_word o = refl
 
-pub same_by_word : (a b : Operation) → word_of a ≡ word_of b → a ≡ b
+pub same_by_word : (a b : Operation) → mnemonic a ≡ mnemonic b → a ≡ b
 same_by_word a b e = sym (own_word a) ∙ ap (operation_in entries) e ∙ own_word b
 
-pub number_range : (o : Operation) → (1 ≤ number_of o) × (number_of o ≤ 50)
+pub number_range : (o : Operation) → (1 ≤ opcode o) × (opcode o ≤ 50)
 number_range Operation.Const = (omega arith, omega arith)
 number_range o = (omega arith, omega arith)
 
@@ -54,7 +54,7 @@ entry_at view rows same k d h =
     ∙ get_or_default entries k (view d) no_entry h
 
 -- at an operation's number
-pub at_number : {A : Type 0} (view : A → Entry) (rows : List A) → map view rows ≡ entries → (o : Operation) (n : ℕ) (d : A) → n ≡ number_of o → view (slice_index_or rows (n - 1) d) ≡ entry_of o
+pub at_number : {A : Type 0} (view : A → Entry) (rows : List A) → map view rows ≡ entries → (o : Operation) (n : ℕ) (d : A) → n ≡ opcode o → view (slice_index_or rows (n - 1) d) ≡ entry_of o
 at_number view rows same o n d e =
     let range = number_range o in
     entry_at view rows same (n - 1) d (omega arith) ∙ ap (λ m. slice_index_or entries (m - 1) no_entry) e
@@ -71,13 +71,13 @@ counted_at n (suc m) zero d h = omega arith
 counted_at n (suc m) (suc k) d h = let rest = counted_at (suc n) m k d (omega arith) in omega arith
 
 number_in : Entry → ℕ
-number_in entry = number_of entry.1.operation
+number_in entry = opcode entry.1.operation
 
 numbers_count : map number_in entries ≡ counted 1 50
 unfolding number_in counted
 numbers_count = refl
 
-pub number_at : (k : ℕ) → k < 50 → number_of (slice_index_or entries k no_entry).1.operation ≡ k + 1
+pub number_at : (k : ℕ) → k < 50 → opcode (slice_index_or entries k no_entry).1.operation ≡ k + 1
 unfolding number_in
 number_at k h =
     let found = ap (λ ns. slice_index_or ns k (number_in no_entry)) numbers_count ∙ counted_at 1 50 k (number_in no_entry) h in
@@ -87,24 +87,24 @@ number_at k h =
 pub entry_own : (k : ℕ) → k < 50 → entry_of (slice_index_or entries k no_entry).1.operation ≡ slice_index_or entries k no_entry
 entry_own k h =
     let n = number_at k h in
-    let place : number_of (slice_index_or entries k no_entry).1.operation - 1 ≡ k = omega arith in
+    let place : opcode (slice_index_or entries k no_entry).1.operation - 1 ≡ k = omega arith in
     ap (λ i. slice_index_or entries i no_entry) place
 
 -- the operation of an entry has its number, and its word
-pub operation_number : {A : Type 0} (view : A → Entry) (rows : List A) → map view rows ≡ entries → (k : ℕ) (d : A) → k < 50 → number_of (view (slice_index_or rows k d)).1.operation ≡ k + 1
-operation_number view rows same k d h = ap (λ entry. number_of entry.1.operation) (entry_at view rows same k d h) ∙ number_at k h
+pub operation_number : {A : Type 0} (view : A → Entry) (rows : List A) → map view rows ≡ entries → (k : ℕ) (d : A) → k < 50 → opcode (view (slice_index_or rows k d)).1.operation ≡ k + 1
+operation_number view rows same k d h = ap (λ entry. opcode entry.1.operation) (entry_at view rows same k d h) ∙ number_at k h
 
-pub operation_word : {A : Type 0} (view : A → Entry) (rows : List A) → map view rows ≡ entries → (k : ℕ) (d : A) → k < 50 → word_of (view (slice_index_or rows k d)).1.operation ≡ (view (slice_index_or rows k d)).0
+pub operation_word : {A : Type 0} (view : A → Entry) (rows : List A) → map view rows ≡ entries → (k : ℕ) (d : A) → k < 50 → mnemonic (view (slice_index_or rows k d)).1.operation ≡ (view (slice_index_or rows k d)).0
 operation_word view rows same k d h =
     let here = entry_at view rows same k d h in
-    ap (λ entry. word_of entry.1.operation) here ∙ ap (λ entry. entry.0) (entry_own k h) ∙ sym (ap (λ entry. entry.0) here)
+    ap (λ entry. mnemonic entry.1.operation) here ∙ ap (λ entry. entry.0) (entry_own k h) ∙ sym (ap (λ entry. entry.0) here)
 
 -- a word that no row has is that of no operation
-pub no_word : {A : Type 0} (view : A → Entry) (rows : List A) → map view rows ≡ entries → (word : List ℕ) → ((d : A) (k : ℕ) → k < 50 → (view (slice_index_or rows k d)).0 ≡ word → ⊥) → (o : Operation) → word_of o ≡ word → ⊥
+pub no_word : {A : Type 0} (view : A → Entry) (rows : List A) → map view rows ≡ entries → (word : List ℕ) → ((d : A) (k : ℕ) → k < 50 → (view (slice_index_or rows k d)).0 ≡ word → ⊥) → (o : Operation) → mnemonic o ≡ word → ⊥
 no_word view [] same word none o e = cc
 no_word view (row ∷ rows) same word none o e =
     let range = number_range o in
-    none row (number_of o - 1) (omega arith) (ap (λ entry. entry.0) (at_number view (row ∷ rows) same o (number_of o) row refl) ∙ e)
+    none row (opcode o - 1) (omega arith) (ap (λ entry. entry.0) (at_number view (row ∷ rows) same o (opcode o) row refl) ∙ e)
 
 pub fifty : {A : Type 0} (view : A → Entry) (rows : List A) → map view rows ≡ entries → length rows ≡ 50
 fifty view rows same = sym (length-map rows view) ∙ ap length same

@@ -8,9 +8,9 @@ use Rattle.seg_spec.specs.Window.{IsPlace}
 use Rattle.seg_spec.specs.Sound.{IsSound}
 use Rattle.seg_spec.specs.Faulty.{IsImageLength}
 use Rattle.client_spec.specs.Syntax.{Client}
-use Rattle.client_spec.specs.Grammar.{Spells}
+use Rattle.client_spec.specs.Grammar.{SpellsClient}
 use Rattle.client_spec.specs.OnImages.{Move, Given, Left}
-use Rattle.client_spec.specs.Clients.{IsVerified, AreAccepted, RunClients, table_behind, AreMoves, IsFirstBadMove}
+use Rattle.client_spec.specs.Clients.{IsVerified, AreAccepted, RunClients, table_after, AreMoves, IsFirstBadMove}
 
 -- the image has a place in the room
 pub record CanLie (image : List ℕ) (room base : ℕ) : Type 0 where
@@ -67,8 +67,8 @@ IsRefusalOf image texts room base moves Refusal.bad_image =
     CanMove image room base moves × (IsSound image → ⊥)
 IsRefusalOf image texts room base moves (Refusal.bad_text k) =
     CanMove image room base moves × (text : List ℕ) × IsTurnOf image texts k text ×
-    ((client : Client) → Spells text client → ⊥)
+    ((client : Client) → SpellsClient text client → ⊥)
 IsRefusalOf image texts room base moves (Refusal.bad_client k) =
     CanMove image room base moves × (text : List ℕ) × (turn : IsTurnOf image texts k text) ×
-    (client : Client) × Spells text client ×
-    (IsVerified (table_behind turn.sound.picture.table turn.clients) client → ⊥)
+    (client : Client) × SpellsClient text client ×
+    (IsVerified (table_after turn.sound.picture.table turn.clients) client → ⊥)

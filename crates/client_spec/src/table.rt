@@ -1,7 +1,7 @@
 //! The instruction table: the operations, and what each is. Definitions and code both read it.
 
 ghost use Rattle.std.specs.Prelude.{◌≡◌, ◌≢◌, map, IfSome, IfNone};
-ghost use Rattle.client_spec.specs.Operations.{number_of, entries, word_of, row_of};
+ghost use Rattle.client_spec.specs.Operations.{opcode, entries, mnemonic, row_of};
 
 /// What an instruction does. The discriminant is the number that stands for it in a client file.
 #[derive(Debug, Clone, Copy, PartialEq, Eq)]
@@ -282,14 +282,14 @@ fn rows() -> &'static [(&'static str, Row); OPERATIONS]
 impl Operation {
     /// The number that stands for the operation in a client file, from 1 on.
     pub fn number(self) -> u8
-        ensures { result ≡ number_of self }
+        ensures { result ≡ opcode self }
     {
         self as u8
     }
 
     /// The operation's word in the assembler text.
     pub fn word(self) -> &'static str
-        ensures { result.now ≡ word_of self }
+        ensures { result.now ≡ mnemonic self }
     {
         rows()[usize::from(self.number()) - 1].0
     }
@@ -304,8 +304,8 @@ impl Operation {
 
     /// The operation of a number.
     pub fn from_number(number: u8) -> Option<Operation>
-        ensures found { IfSome result (λ operation. number_of operation ≡ number) }
-        ensures none { IfNone result ((operation : Operation) → number_of operation ≢ number) }
+        ensures found { IfSome result (λ operation. opcode operation ≡ number) }
+        ensures none { IfNone result ((operation : Operation) → opcode operation ≢ number) }
     {
         let index = usize::from(number).checked_sub(1)?;
         let (_, row) = rows().get(index)?;
@@ -314,8 +314,8 @@ impl Operation {
 
     /// The operation of a word of the assembler text.
     pub fn from_word(word: &[u8]) -> Option<Operation>
-        ensures found { IfSome result (λ operation. word_of operation ≡ word.now) }
-        ensures none { IfNone result ((operation : Operation) → word_of operation ≢ word.now) }
+        ensures found { IfSome result (λ operation. mnemonic operation ≡ word.now) }
+        ensures none { IfNone result ((operation : Operation) → mnemonic operation ≢ word.now) }
     {
         for (text, row) in rows() {
             if text.as_bytes() == word {

@@ -16,7 +16,7 @@ use Rattle.client_spec.proofs.FirstRows.{Ok_inj}
 use Rattle.client_spec.proofs.Listed.{all_listed}
 use Rattle.client_spec.proofs.OneClient.{mark_word}
 use Rattle.client_spec.proofs.Values.{Some_inj}
-use Rattle.client_verify.specs.Passing.{Progress, start, at_most, passes, passes_all}
+use Rattle.client_verify.specs.Passing.{Progress, initial_progress, at_most, passes, passes_all}
 use Rattle.client_verify.specs.Refusals.{IsRejected}
 use Rattle.client_verify.proofs.Walking.{followed, walked}
 
@@ -73,19 +73,19 @@ accepted (Ok after) n p e = ((after, refl), sym (ap (λ q. q.steps) (Ok_inj e)))
 accepted (Err reason) n p e = cc
 
 -- what is known after the code, or the first reason to refuse it
-abbrev known_behind : Client → Checked RegisterTypes
-known_behind tree = types_after tree.types tree.constants tree.code (replicate 16 RegisterType.Undefined)
+abbrev known_in_parts : Client → Checked RegisterTypes
+known_in_parts tree = types_after tree.types tree.constants tree.code (replicate 16 RegisterType.Undefined)
 
 -- the instructions in front of the place i lead here
 abbrev pub WalksTo : Client → ℕ → Checked Progress → Type 0
-WalksTo tree i here = passes_all tree.types tree.constants start (take i (listing tree.code)) ≡ here
+WalksTo tree i here = passes_all tree.types tree.constants initial_progress (take i (listing tree.code)) ≡ here
 
 module _ (tree : Client) (valid : IsClient tree) where
-  all_passed : passes_all tree.types tree.constants start (listing tree.code) ≡ Ended (known_behind tree) (at_most (bound tree.code))
+  all_passed : passes_all tree.types tree.constants initial_progress (listing tree.code) ≡ Ended (known_in_parts tree) (at_most (bound tree.code))
   all_passed =
-      ap (passes_all tree.types tree.constants start) (sym (append-nil (listing tree.code)))
+      ap (passes_all tree.types tree.constants initial_progress) (sym (append-nil (listing tree.code)))
       ∙ walked tree.types tree.constants tree.code valid.code (replicate 16 RegisterType.Undefined) 0 [] [] (let d = valid.shallow in omega arith) (omega arith)
-      ∙ ap (λ n. Ended (known_behind tree) (at_most n)) (zero-add (bound tree.code))
+      ∙ ap (λ n. Ended (known_in_parts tree) (at_most n)) (zero-add (bound tree.code))
 
   -- the instruction at the place i is right there
   right_at : (i : ℕ) (x : Instruction) → slice_get (listing tree.code) i ≡ Some x → Right tree.types tree.constants x
@@ -96,19 +96,19 @@ module _ (tree : Client) (valid : IsClient tree) where
       → (Right types tree.constants x → passes types tree.constants p x ≡ r) → WalksTo tree (i + 1) (r >>= λ q. Ok q)
   goes_on types same i p x r e to here =
       let right_here = subst (λ ts. Right ts tree.constants x → passes ts tree.constants p x ≡ r) same here in
-      ap (passes_all tree.types tree.constants start) (ap (λ n. take n (listing tree.code)) (add-one i) ∙ taken (listing tree.code) i x e)
-      ∙ passes_more tree.types tree.constants start (take i (listing tree.code)) (x ∷ [])
+      ap (passes_all tree.types tree.constants initial_progress) (ap (λ n. take n (listing tree.code)) (add-one i) ∙ taken (listing tree.code) i x e)
+      ∙ passes_more tree.types tree.constants initial_progress (take i (listing tree.code)) (x ∷ [])
       ∙ ap (λ now. now >>= λ q. passes_all tree.types tree.constants q (x ∷ [])) to
       ∙ ap (λ now. now >>= λ q. Ok q) (right_here (right_at i x e))
 
   -- refused at a place, and so as a whole
   pub rejected : (i : ℕ) (reason : Reason) → WalksTo tree i (Err reason) → IsRejected tree reason
   rejected i reason to =
-      refused (known_behind tree) (at_most (bound tree.code)) reason (
-      sym all_passed ∙ ap (passes_all tree.types tree.constants start) (sym (take-append-drop i (listing tree.code)))
-      ∙ passes_more tree.types tree.constants start (take i (listing tree.code)) (drop i (listing tree.code))
+      refused (known_in_parts tree) (at_most (bound tree.code)) reason (
+      sym all_passed ∙ ap (passes_all tree.types tree.constants initial_progress) (sym (take-append-drop i (listing tree.code)))
+      ∙ passes_more tree.types tree.constants initial_progress (take i (listing tree.code)) (drop i (listing tree.code))
       ∙ ap (λ now. now >>= λ q. passes_all tree.types tree.constants q (drop i (listing tree.code))) to
       )
 
   pub ends : (i : ℕ) (p : Progress) → length (listing tree.code) ≤ i → WalksTo tree i (Ok p) → IsAccepted tree × (p.steps ≡ at_most (bound tree.code))
-  ends i p h to = accepted (known_behind tree) (at_most (bound tree.code)) p (sym all_passed ∙ ap (passes_all tree.types tree.constants start) (sym (take_all i (listing tree.code) h)) ∙ to)
+  ends i p h to = accepted (known_in_parts tree) (at_most (bound tree.code)) p (sym all_passed ∙ ap (passes_all tree.types tree.constants initial_progress) (sym (take_all i (listing tree.code) h)) ∙ to)

@@ -7,7 +7,7 @@ use Rattle.std.specs.Prelude.{ℤ, ◌==◌, if◌then◌else◌}
 use Rattle.std.specs.Option.{is_some, option_and_then}
 use Rattle.seg_spec.specs.Types.{Form, Table, form_at}
 use Rattle.client_spec.specs.Syntax.{Constant}
-use Rattle.client_spec.specs.Grammar.{NamesBy, IsText}
+use Rattle.client_spec.specs.Grammar.{NamesBy, IsTextConstant}
 use Rattle.client_spec.specs.Typed.{Class, RegisterType, RegisterTypes, Reason, ◌>>=◌, Rule, known, is_owner, integer_needed, reference_needed, owner_needed, copy_needed, some_needed, name_needed, text_needed, integer_or_none, form_needed, required}
 use Rattle.client_spec.specs.declared.table.Kinds.{Kinds}
 use Rattle.client_spec.specs.declared.table.Kinds.TheVariants as kinds
@@ -38,7 +38,7 @@ name_same (Some (Constant.Family prefix)) b k x y h e =
     let other : (b == 16) ≡ false = grind arith in
     ap (λ none. required (if none then true else is_integer k) Reason.WrongOperand >>= λ _. x) other ∙ integer_same k x y e
 
-pub text_same : (o : Option Constant) (x y : Rule) → IsText o → x ≡ y → x ≡ (text_needed o >>= λ _. y)
+pub text_same : (o : Option Constant) (x y : Rule) → IsTextConstant o → x ≡ y → x ≡ (text_needed o >>= λ _. y)
 text_same None x y h e = absurd h
 text_same (Some (Constant.Text bytes)) x y h e = e
 text_same (Some (Constant.Name name)) x y h e = absurd h
@@ -57,34 +57,34 @@ form_same number kinds f None x rest are same = ap (λ v. required v Reason.Wron
 form_same number kinds f (Some form) x rest are same = some_same (f form) (is_kind number kinds form) x rest (are.0 form) same
 
 pub reference_same : {A : Type 0} (types : Table) (number : ℤ) (kinds : Kinds)
-    (f : Class → Form → Option A) (k : RegisterType) (behind : RegisterType → Rule) (rest : Class × ℕ → A → Rule) → ((x : Class) → AreForms number kinds (f x))
-    → ((x : Class) (t : ℕ) (y : A) → option_and_then (f x) (form_at types t) ≡ Some y → behind (RegisterType.Reference x t) ≡ rest (x, t) y)
-    → (required (leads_to types number kinds k) Reason.WrongOperand >>= λ _. behind k)
+    (f : Class → Form → Option A) (k : RegisterType) (following : RegisterType → Rule) (rest : Class × ℕ → A → Rule) → ((x : Class) → AreForms number kinds (f x))
+    → ((x : Class) (t : ℕ) (y : A) → option_and_then (f x) (form_at types t) ≡ Some y → following (RegisterType.Reference x t) ≡ rest (x, t) y)
+    → (required (leads_to types number kinds k) Reason.WrongOperand >>= λ _. following k)
     ≡ (reference_needed k >>= λ x. form_needed (f x.0) types x.1 >>= λ y. rest x y)
-reference_same types number kinds f RegisterType.Undefined behind rest are same = refl
-reference_same types number kinds f RegisterType.Int behind rest are same = refl
-reference_same types number kinds f (RegisterType.Reference x t) behind rest are same = form_same number kinds (f x) (form_at types t) (behind (RegisterType.Reference x t)) (rest (x, t)) (are x) (same x t)
-reference_same types number kinds f (RegisterType.Owner t) behind rest are same = refl
+reference_same types number kinds f RegisterType.Undefined following rest are same = refl
+reference_same types number kinds f RegisterType.Int following rest are same = refl
+reference_same types number kinds f (RegisterType.Reference x t) following rest are same = form_same number kinds (f x) (form_at types t) (following (RegisterType.Reference x t)) (rest (x, t)) (are x) (same x t)
+reference_same types number kinds f (RegisterType.Owner t) following rest are same = refl
 
 any_kind : (number : ℤ) (o : Option Form) → is_kind_at number kinds.Any o ≡ true
 any_kind number None = refl
 any_kind number (Some form) = refl
 
-pub any_reference_same : (types : Table) (number : ℤ) (k : RegisterType) (behind : RegisterType → Rule) (rest : Class × ℕ → Rule)
-    → ((x : Class) (t : ℕ) → behind (RegisterType.Reference x t) ≡ rest (x, t))
-    → (required (leads_to types number kinds.Any k) Reason.WrongOperand >>= λ _. behind k) ≡ (reference_needed k >>= rest)
-any_reference_same types number RegisterType.Undefined behind rest same = refl
-any_reference_same types number RegisterType.Int behind rest same = refl
-any_reference_same types number (RegisterType.Reference x t) behind rest same = ap (λ v. required v Reason.WrongOperand >>= λ _. behind (RegisterType.Reference x t)) (any_kind number (form_at types t)) ∙ same x t
-any_reference_same types number (RegisterType.Owner t) behind rest same = refl
+pub any_reference_same : (types : Table) (number : ℤ) (k : RegisterType) (following : RegisterType → Rule) (rest : Class × ℕ → Rule)
+    → ((x : Class) (t : ℕ) → following (RegisterType.Reference x t) ≡ rest (x, t))
+    → (required (leads_to types number kinds.Any k) Reason.WrongOperand >>= λ _. following k) ≡ (reference_needed k >>= rest)
+any_reference_same types number RegisterType.Undefined following rest same = refl
+any_reference_same types number RegisterType.Int following rest same = refl
+any_reference_same types number (RegisterType.Reference x t) following rest same = ap (λ v. required v Reason.WrongOperand >>= λ _. following (RegisterType.Reference x t)) (any_kind number (form_at types t)) ∙ same x t
+any_reference_same types number (RegisterType.Owner t) following rest same = refl
 
 -- ---- owners and copies
 
-pub owner_same : (k : RegisterType) (behind : RegisterType → Rule) (rest : ℕ → Rule) → ((t : ℕ) → behind (RegisterType.Owner t) ≡ rest t) → (required (is_owner k) Reason.WrongOperand >>= λ _. behind k) ≡ (owner_needed k >>= rest)
-owner_same RegisterType.Undefined behind rest same = refl
-owner_same RegisterType.Int behind rest same = refl
-owner_same (RegisterType.Reference x t) behind rest same = refl
-owner_same (RegisterType.Owner t) behind rest same = same t
+pub owner_same : (k : RegisterType) (following : RegisterType → Rule) (rest : ℕ → Rule) → ((t : ℕ) → following (RegisterType.Owner t) ≡ rest t) → (required (is_owner k) Reason.WrongOperand >>= λ _. following k) ≡ (owner_needed k >>= rest)
+owner_same RegisterType.Undefined following rest same = refl
+owner_same RegisterType.Int following rest same = refl
+owner_same (RegisterType.Reference x t) following rest same = refl
+owner_same (RegisterType.Owner t) following rest same = same t
 
 pub content_same : (t : ℕ) (k : RegisterType) (x : Rule) → (required (is_content (Some t) k) Reason.WrongOperand >>= λ _. x) ≡ (owner_needed k >>= λ u. required (t == u) Reason.WrongOperand >>= λ _. x)
 content_same t RegisterType.Undefined x = refl
@@ -92,8 +92,8 @@ content_same t RegisterType.Int x = refl
 content_same t (RegisterType.Reference y u) x = refl
 content_same t (RegisterType.Owner u) x = refl
 
-pub copy_same : (k : RegisterType) (behind rest : RegisterType → Rule) → ((k : RegisterType) → behind k ≡ rest k) → (required (is_copyable k) Reason.WrongOperand >>= λ _. behind k) ≡ (copy_needed k >>= rest)
-copy_same RegisterType.Undefined behind rest same = refl
-copy_same RegisterType.Int behind rest same = same RegisterType.Int
-copy_same (RegisterType.Reference x t) behind rest same = same (RegisterType.Reference x t)
-copy_same (RegisterType.Owner t) behind rest same = refl
+pub copy_same : (k : RegisterType) (following rest : RegisterType → Rule) → ((k : RegisterType) → following k ≡ rest k) → (required (is_copyable k) Reason.WrongOperand >>= λ _. following k) ≡ (copy_needed k >>= rest)
+copy_same RegisterType.Undefined following rest same = refl
+copy_same RegisterType.Int following rest same = same RegisterType.Int
+copy_same (RegisterType.Reference x t) following rest same = same (RegisterType.Reference x t)
+copy_same (RegisterType.Owner t) following rest same = refl

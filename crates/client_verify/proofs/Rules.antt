@@ -14,7 +14,7 @@ use Rattle.client_spec.specs.declared.table.Kinds.TheVariants as kinds
 use Rattle.client_spec.specs.Operations.{row_of}
 use Rattle.client_verify.specs.Passing.{rule_at}
 use Rattle.client_verify.specs.Checking.{Step, part_known, is_integer, is_content, content_of, emptied, applied}
-use Rattle.client_verify.proofs.Shapes.{unless_lost, behind, from_first, in_turn, gives_same, opens_same}
+use Rattle.client_verify.proofs.Shapes.{unless_lost, following, from_first, in_turn, gives_same, opens_same}
 use Rattle.client_verify.proofs.Numbers.{AreNamed}
 use Rattle.client_verify.proofs.Owners.{owner_kept, owner_kept_but}
 use Rattle.client_verify.proofs.Needs.{integer_same, optional_same, name_same, text_same, reference_same, any_reference_same, owner_same, content_same, copy_same}
@@ -71,7 +71,7 @@ module _ (types : Table) (constants : List Constant) (a b c t k : ℕ) (ks : Reg
   same : (operation : Operation) (number : ℤ) → IsInstruction types constants (row_of operation).role (instruction operation number) → AreNamed (row_of operation).number number t k → IsSame operation number
   unfolding rule
   same op.Const number right named = gives_int
-  same op.Mov number right named = copy_same (known ks b) (behind (step op.Mov number)) (λ x. gives a x ks) (λ x. gives_same a x ks ks refl)
+  same op.Mov number right named = copy_same (known ks b) (following (step op.Mov number)) (λ x. gives a x ks) (λ x. gives_same a x ks ks refl)
   same op.Add number right named = combines_same
   same op.Sub number right named = combines_same
   same op.Mul number right named = combines_same
@@ -82,7 +82,7 @@ module _ (types : Table) (constants : List Constant) (a b c t k : ℕ) (ks : Reg
   same op.OutInt number right named = integer_same (known ks b) _ _ refl
   same op.Else number right named = refl
   same op.End number right named = refl
-  same op.OutStr number right named = reference_same types number kinds.Str _ (known ks b) (behind (step op.OutStr number)) _ (λ x. str_forms number) (λ x u y e. refl)
+  same op.OutStr number right named = reference_same types number kinds.Str _ (known ks b) (following (step op.OutStr number)) _ (λ x. str_forms number) (λ x u y e. refl)
   same op.OutConst (pos n) right named = text_same (slice_get constants n) _ _ right.number refl
   same op.GetByte number right named = opens_int
   same op.Make (pos n) right named = name_same (slice_get constants (n % 256)) b (known ks b) _ _ right.number.1 (optional_same c ks _ _ (opens_named (pos n) named))
@@ -96,45 +96,45 @@ module _ (types : Table) (constants : List Constant) (a b c t k : ℕ) (ks : Reg
   same op.FindOrMakeUnique number right named = opens_unique number named
   same op.KillUnique number right named = gives_same a RegisterType.Int (ended (Class.Unique t) ks) ks (sym (owner_kept (Class.Unique t) ks a)) ∙ ap (λ u. gives a RegisterType.Int (ended (Class.Unique u) ks)) named
   same op.New number right named = opens_same a (RegisterType.Owner t) ks ks refl ∙ ap (λ u. opens a (RegisterType.Owner u) ks) named
-  same op.Drop number right named = owner_same (known ks b) (behind (step op.Drop number)) _ (λ u. refl)
-  same op.Ref number right named = owner_same (known ks b) (behind (step op.Ref number)) _ (λ u. gives_same a (RegisterType.Reference (Class.Register b) u) ks ks refl)
-  same op.Put number right named = reference_same types number kinds.Own _ (known ks b) (behind (step op.Put number)) _ (λ x. own_forms number) (λ x u y e.
+  same op.Drop number right named = owner_same (known ks b) (following (step op.Drop number)) _ (λ u. refl)
+  same op.Ref number right named = owner_same (known ks b) (following (step op.Ref number)) _ (λ u. gives_same a (RegisterType.Reference (Class.Register b) u) ks ks refl)
+  same op.Put number right named = reference_same types number kinds.Own _ (known ks b) (following (step op.Put number)) _ (λ x. own_forms number) (λ x u y e.
       ap (λ part. required (is_content part (known ks c)) Reason.WrongOperand >>= λ _. moved x) (owned_part number (form_at types u) y e) ∙ content_same y (known ks c) (moved x))
     where
       moved : Class → Rule
       moved x = required (not (same_class x (Class.Register c))) Reason.PutIntoItself >>= λ _. known_after (emptied c (others_ended x b ks))
-  same op.Take number right named = reference_same types number kinds.Own _ (known ks b) (behind (step op.Take number)) _ (λ x. own_forms number) (λ x u y e.
+  same op.Take number right named = reference_same types number kinds.Own _ (known ks b) (following (step op.Take number)) _ (λ x. own_forms number) (λ x u y e.
       ap (λ part. gets (others_ended x b ks) (content_of part) RegisterType.Int) (owned_part number (form_at types u) y e)
       ∙ opens_same a (RegisterType.Owner y) (others_ended x b ks) ks (sym (owner_kept_but x b ks a)))
-  same op.Content number right named = reference_same types number kinds.Own _ (known ks b) (behind (step op.Content number)) _ (λ x. own_forms number) (λ x u y e. opens_part ks x u y _ refl (owned_part number (form_at types u) y e))
-  same op.Clear number right named = any_reference_same types number (known ks b) (behind (step op.Clear number)) _ (λ x u. refl)
+  same op.Content number right named = reference_same types number kinds.Own _ (known ks b) (following (step op.Content number)) _ (λ x. own_forms number) (λ x u y e. opens_part ks x u y _ refl (owned_part number (form_at types u) y e))
+  same op.Clear number right named = any_reference_same types number (known ks b) (following (step op.Clear number)) _ (λ x u. refl)
   same op.Forget number right named = gives_same b RegisterType.Undefined ks ks refl
-  same op.Load number right named = reference_same types number kinds.I64 _ (known ks b) (behind (step op.Load number)) _ (λ x. i64_forms number) (λ x u y e. gives_int)
-  same op.Store number right named = reference_same types number kinds.I64 _ (known ks b) (behind (step op.Store number)) _ (λ x. i64_forms number) (λ x u y e. integer_same (known ks c) _ _ refl)
-  same op.Field number right named = reference_same types number kinds.Struct _ (known ks b) (behind (step op.Field number)) _ (λ x. struct_forms number) (λ x u y e. gives_part x u y _ (field_part number (form_at types u) y e))
-  same op.Len number right named = reference_same types number kinds.Sized _ (known ks b) (behind (step op.Len number)) _ (λ x. sized_forms number) (λ x u y e. gives_int)
-  same op.At number right named = reference_same types number kinds.Indexed item_known (known ks b) (behind (step op.At number)) _ (item_forms number) (λ x u y e. integer_same (known ks c) _ _ (
+  same op.Load number right named = reference_same types number kinds.I64 _ (known ks b) (following (step op.Load number)) _ (λ x. i64_forms number) (λ x u y e. gives_int)
+  same op.Store number right named = reference_same types number kinds.I64 _ (known ks b) (following (step op.Store number)) _ (λ x. i64_forms number) (λ x u y e. integer_same (known ks c) _ _ refl)
+  same op.Field number right named = reference_same types number kinds.Struct _ (known ks b) (following (step op.Field number)) _ (λ x. struct_forms number) (λ x u y e. gives_part x u y _ (field_part number (form_at types u) y e))
+  same op.Len number right named = reference_same types number kinds.Sized _ (known ks b) (following (step op.Len number)) _ (λ x. sized_forms number) (λ x u y e. gives_int)
+  same op.At number right named = reference_same types number kinds.Indexed item_known (known ks b) (following (step op.At number)) _ (item_forms number) (λ x u y e. integer_same (known ks c) _ _ (
       ap (λ z. gets ks z RegisterType.Int) (item_part number x u (form_at types u) y e) ∙ opens_same a y ks ks refl))
-  same op.PushBack number right named = reference_same types number kinds.Sequence _ (known ks b) (behind (step op.PushBack number)) _
+  same op.PushBack number right named = reference_same types number kinds.Sequence _ (known ks b) (following (step op.PushBack number)) _
       (λ x. sequence_forms number) (λ x u y e. opens_part (others_ended x b ks) x u y _ (owner_kept_but x b ks a) (sequence_part number (form_at types u) y e))
-  same op.PushFront number right named = reference_same types number kinds.List _ (known ks b) (behind (step op.PushFront number)) _ (λ x. list_forms number)
+  same op.PushFront number right named = reference_same types number kinds.List _ (known ks b) (following (step op.PushFront number)) _ (λ x. list_forms number)
       (λ x u y e. opens_part (others_ended x b ks) x u y _ (owner_kept_but x b ks a) (list_part number (form_at types u) y e))
-  same op.PopBack number right named = reference_same types number kinds.Indexed _ (known ks b) (behind (step op.PopBack number)) _ (λ x. pop_forms number)
+  same op.PopBack number right named = reference_same types number kinds.Indexed _ (known ks b) (following (step op.PopBack number)) _ (λ x. pop_forms number)
       (λ x u y e. opens_same a RegisterType.Int (others_ended x b ks) ks (sym (owner_kept_but x b ks a)))
-  same op.PopFront number right named = reference_same types number kinds.List _ (known ks b) (behind (step op.PopFront number)) _ (λ x. list_forms number)
+  same op.PopFront number right named = reference_same types number kinds.List _ (known ks b) (following (step op.PopFront number)) _ (λ x. list_forms number)
       (λ x u y e. opens_same a RegisterType.Int (others_ended x b ks) ks (sym (owner_kept_but x b ks a)))
-  same op.SetStr (pos n) right named = reference_same types (pos n) kinds.Str _ (known ks b) (behind (step op.SetStr (pos n))) _ (λ x. str_forms (pos n)) (λ x u y e. text_same (slice_get constants n) _ _ right.number opens_int)
-  same op.AddStr (pos n) right named = reference_same types (pos n) kinds.Str _ (known ks b) (behind (step op.AddStr (pos n))) _ (λ x. str_forms (pos n)) (λ x u y e. text_same (slice_get constants n) _ _ right.number opens_int)
-  same op.AddByte number right named = reference_same types number kinds.Str _ (known ks b) (behind (step op.AddByte number)) _ (λ x. str_forms number) (λ x u y e. integer_same (known ks c) _ _ opens_int)
-  same op.Shrink number right named = reference_same types number kinds.Buffered _ (known ks b) (behind (step op.Shrink number)) _ (λ x. buffered_forms number) (λ x u y e. refl)
-  same op.GetKey number right named = reference_same types number kinds.Map _ (known ks b) (behind (step op.GetKey number)) _ (λ x. value_forms number)
+  same op.SetStr (pos n) right named = reference_same types (pos n) kinds.Str _ (known ks b) (following (step op.SetStr (pos n))) _ (λ x. str_forms (pos n)) (λ x u y e. text_same (slice_get constants n) _ _ right.number opens_int)
+  same op.AddStr (pos n) right named = reference_same types (pos n) kinds.Str _ (known ks b) (following (step op.AddStr (pos n))) _ (λ x. str_forms (pos n)) (λ x u y e. text_same (slice_get constants n) _ _ right.number opens_int)
+  same op.AddByte number right named = reference_same types number kinds.Str _ (known ks b) (following (step op.AddByte number)) _ (λ x. str_forms number) (λ x u y e. integer_same (known ks c) _ _ opens_int)
+  same op.Shrink number right named = reference_same types number kinds.Buffered _ (known ks b) (following (step op.Shrink number)) _ (λ x. buffered_forms number) (λ x u y e. refl)
+  same op.GetKey number right named = reference_same types number kinds.Map _ (known ks b) (following (step op.GetKey number)) _ (λ x. value_forms number)
       (λ x u y e. integer_same (known ks c) _ _ (opens_part ks x u y _ refl (value_part number (form_at types u) y e)))
-  same op.PutKey number right named = reference_same types number kinds.Map _ (known ks b) (behind (step op.PutKey number)) _ (λ x. value_forms number)
+  same op.PutKey number right named = reference_same types number kinds.Map _ (known ks b) (following (step op.PutKey number)) _ (λ x. value_forms number)
       (λ x u y e. integer_same (known ks c) _ _ (opens_part (others_ended x b ks) x u y _ (owner_kept_but x b ks a) (value_part number (form_at types u) y e)))
-  same op.DeleteKey number right named = reference_same types number kinds.Map _ (known ks b) (behind (step op.DeleteKey number)) _ (λ x. map_forms number)
+  same op.DeleteKey number right named = reference_same types number kinds.Map _ (known ks b) (following (step op.DeleteKey number)) _ (λ x. map_forms number)
       (λ x u y e. integer_same (known ks c) _ _ (gives_same a RegisterType.Int (others_ended x b ks) ks (sym (owner_kept_but x b ks a))))
-  same op.FirstKey number right named = reference_same types number kinds.Map _ (known ks b) (behind (step op.FirstKey number)) _ (λ x. map_forms number) (λ x u y e. opens_int)
-  same op.NextKey number right named = reference_same types number kinds.Map _ (known ks b) (behind (step op.NextKey number)) _ (λ x. map_forms number) (λ x u y e. integer_same (known ks c) _ _ opens_int)
+  same op.FirstKey number right named = reference_same types number kinds.Map _ (known ks b) (following (step op.FirstKey number)) _ (λ x. map_forms number) (λ x u y e. opens_int)
+  same op.NextKey number right named = reference_same types number kinds.Map _ (known ks b) (following (step op.NextKey number)) _ (λ x. map_forms number) (λ x u y e. integer_same (known ks c) _ _ opens_int)
   same op.OutConst (negsuc n) right named = absurd right.number
   same op.Make (negsuc n) right named = absurd right.number
   same op.Find (negsuc n) right named = absurd right.number

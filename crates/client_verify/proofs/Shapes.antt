@@ -1,5 +1,5 @@
 -- The rule by the columns, check for check, and what both say of the register that changes.
---     behind s held, in_turn     what comes of an instruction after the need of register b
+--     after s held, in_turn     what comes of an instruction after the need of register b
 --     gives_same, opens_same     a register gets a value, and with it in the else part the code
 use Rattle.std.proofs.Common.{◌≡◌, ℕ, refl, ap, ◌∙◌, Bool, true, false, Ok, Err}
 use Rattle.std.specs.Prelude.{not, if◌then◌else◌, slice_set}
@@ -20,14 +20,14 @@ unless_lost lost r = required (not lost) Reason.OwnerLost >>= λ _. Ok r
 
 module _ (s : Step) where
   -- where this is held in register b
-  abbrev pub behind : RegisterType → Rule
-  behind h = do
+  abbrev pub following : RegisterType → Rule
+  following h = do
     _ ← required (meets_by s.types s.number h s.row.needs_c s.c (known s.before s.c)) Reason.WrongOperand
     _ ← required (not (is_inside s.row.ends (referred h) s.c)) Reason.PutIntoItself
     unless_lost (is_lost (given_by s h s.row.gives) s.before) (changed (given_by s h s.row.gives) (ended_by s h s.row.ends), changed_by s.row.role (given_by s h s.row.gives) (ended_by s h s.row.ends))
 
   abbrev pub from_first : Rule
-  from_first = required (meets s s.row.needs_b s.b) Reason.WrongOperand >>= λ _. behind (held s)
+  from_first = required (meets s s.row.needs_b s.b) Reason.WrongOperand >>= λ _. following (held s)
 
   pub in_turn : applied s ≡ from_first
   in_turn =

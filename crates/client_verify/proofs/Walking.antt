@@ -78,14 +78,14 @@ module _ (types : Table) (constants : List Constant) where
       → walk (standing good k (in_success bad before ∷ parts)) (mark Operation.Else ∷ rest) ≡ walk (standing bad 0 (in_else good k before ∷ parts)) rest
   past_else good bad k before parts rest room = ap (λ now. walk (standing bad 0 now) rest) (opened (in_else good k before) parts room)
 
-  behind_parts : (good bad : RegisterTypes) (k l before : ℕ) (parts : List Open) (rest : List Instruction)
+  after_parts : (good bad : RegisterTypes) (k l before : ℕ) (parts : List Open) (rest : List Instruction)
       → walk (standing bad l (in_else good k before ∷ parts)) (mark Operation.End ∷ rest) ≡ (joined good bad >>= λ both. walk (standing both (at_most (before + max l k)) parts) rest)
-  behind_parts good bad k l before parts rest =
+  after_parts good bad k l before parts rest =
       given (joined good bad) (λ both. standing both (at_most (before + max l k)) parts) (λ q. walk q rest) (λ both. walk (standing both (at_most (before + max l k)) parts) rest) (λ _. refl)
 
-  behind_body : (ks after : RegisterTypes) (turns l before : ℕ) (parts : List Open) (rest : List Instruction)
+  after_body : (ks after : RegisterTypes) (turns l before : ℕ) (parts : List Open) (rest : List Instruction)
       → walk (standing after l (in_body ks turns before ∷ parts)) (mark Operation.End ∷ rest) ≡ (kept ks after >>= λ _. walk (standing ks (at_most (before + at_most (turns * at_most (l + 1)))) parts) rest)
-  behind_body ks after turns l before parts rest =
+  after_body ks after turns l before parts rest =
       let steps = at_most (before + at_most (turns * at_most (l + 1))) in
       given (kept ks after) (λ _. standing ks steps parts) (λ q. walk q rest) (λ _. walk (standing ks steps parts) rest) (λ _. refl)
 
@@ -123,7 +123,7 @@ module _ (types : Table) (constants : List Constant) where
       let free : length parts < 8 = omega arith in
       let code = ys ++ mark Operation.End ∷ rest in
       let to = λ (both : RegisterTypes). walk (standing both (at_most (n + (1 + max a b))) parts) rest in
-      let parts_end = λ (good bad : RegisterTypes). behind_parts good bad k l before parts rest
+      let parts_end = λ (good bad : RegisterTypes). after_parts good bad k l before parts rest
       ∙ alike (joined good bad) (λ both. walk (standing both (at_most (before + max l k)) parts) rest) to (λ both. ap (λ m. walk (standing both m parts) rest) (steps_of_parts n a b)) in
       let in_code = λ (good otherwise : RegisterTypes). past_else good otherwise k before parts code free
       ∙ on_code otherwise 0 (in_else good k before ∷ parts) (mark Operation.End ∷ rest) (omega arith) (omega arith)
@@ -143,7 +143,7 @@ module _ (types : Table) (constants : List Constant) where
       let free : length parts < 8 = omega arith in
       let body = in_body ks turns before in
       let to = λ (after : RegisterTypes). walk (standing after (at_most (n + (1 + turns * (1 + a)))) parts) rest in
-      let body_ends = λ (after : RegisterTypes). behind_body ks after turns l before parts rest
+      let body_ends = λ (after : RegisterTypes). after_body ks after turns l before parts rest
       ∙ followed (kept ks after) (λ _. Ok ks) (λ _. walk (standing ks (at_most (before + at_most (turns * at_most (l + 1)))) parts) rest) to (λ _. ap (λ m. walk (standing ks m parts) rest) (steps_of_turns n turns a)) in
       ap (walk (standing ks n parts)) (one_part (i ∷ xs) rest (mark Operation.End))
       ∙ past_loop i ks n parts (xs ++ mark Operation.End ∷ rest) place free

@@ -2,7 +2,7 @@
 --     Step     what it reads: the row, the operands, and what is known in front of the instruction
 --     meets, given, ended_in     whether a register holds what is needed, what a register gets,
 --                                what is known once references have ended
---     checked_first, known_behind, applied     the first reason to refuse the instruction, what is
+--     checked_first, known_in_parts, applied     the first reason to refuse the instruction, what is
 --                                              known after it in both parts, or either
 use Rattle.std.specs.Prelude.{⊤, ℕ, ℤ, pos, negsuc, List, Bool, true, false, not, ◌==◌, if◌then◌else◌, Option, Some, None, Ok, slice_get, slice_set}
 use Rattle.std.specs.Option.{is_some, option_and_then}
@@ -103,14 +103,14 @@ is_copyable RegisterType.Int = true
 is_copyable (RegisterType.Reference x t) = true
 is_copyable k = false
 
-abbrev pub is_same : Option ℕ → ℕ → Bool
-is_same None t = false
-is_same (Some u) t = u == t
+abbrev pub is_type : Option ℕ → ℕ → Bool
+is_type None t = false
+is_type (Some u) t = u == t
 
 -- an owner of an object of this type
 abbrev pub is_content : Option ℕ → RegisterType → Bool
-is_content part (RegisterType.Owner t) = is_same part t
-is_content part k = false
+is_content part_held (RegisterType.Owner t) = is_type part_held t
+is_content part_held k = false
 
 abbrev pub leads_to : Table → ℤ → Kinds → RegisterType → Bool
 leads_to types number kinds (RegisterType.Reference x t) = is_kind_at number kinds (form_at types t)
@@ -128,9 +128,9 @@ meets_by types number held (need.Reference kinds) r k = leads_to types number ki
 
 -- ---- what a register gets
 
-abbrev pub owned_by : ℕ → RegisterType → RegisterType
-owned_by b (RegisterType.Owner t) = RegisterType.Reference (Class.Register b) t
-owned_by b k = RegisterType.Undefined
+abbrev pub borrowed_from : ℕ → RegisterType → RegisterType
+borrowed_from b (RegisterType.Owner t) = RegisterType.Reference (Class.Register b) t
+borrowed_from b k = RegisterType.Undefined
 
 abbrev pub content_of : Option ℕ → RegisterType
 content_of None = RegisterType.Undefined
@@ -182,8 +182,8 @@ module _ (s : Step) where
   abbrev pub meets : Need → ℕ → Bool
   meets need r = meets_by s.types s.number held need r (known s.before r)
 
-  abbrev pub part : Option ℕ
-  part = part_in s.types s.number held
+  abbrev pub part_held : Option ℕ
+  part_held = part_in s.types s.number held
 
   -- the register that changes, and what it gets, where this is held in register b
   abbrev pub given_by : RegisterType → Gives → Option (ℕ × RegisterType)
@@ -193,7 +193,7 @@ module _ (s : Step) where
   given_by h gives.Named = Some (s.a, RegisterType.Reference (Class.Name s.constant) s.type_id)
   given_by h gives.Unique = Some (s.a, RegisterType.Reference (Class.Unique s.type_id) s.type_id)
   given_by h gives.Owner = Some (s.a, RegisterType.Owner s.type_id)
-  given_by h gives.Owned = Some (s.a, owned_by s.b h)
+  given_by h gives.Owned = Some (s.a, borrowed_from s.b h)
   given_by h gives.Content = Some (s.a, content_of (part_in s.types s.number h))
   given_by h gives.Part = Some (s.a, part_known (referred h) (part_in s.types s.number h))
   given_by h gives.Forgotten = Some (s.b, RegisterType.Undefined)
@@ -220,8 +220,8 @@ module _ (s : Step) where
     required (not (is_lost given s.before)) Reason.OwnerLost
 
   -- in the success part, and in the else part
-  abbrev pub known_behind : RegisterTypes × RegisterTypes
-  known_behind = (changed given ended_in, changed_by s.row.role given ended_in)
+  abbrev pub known_in_parts : RegisterTypes × RegisterTypes
+  known_in_parts = (changed given ended_in, changed_by s.row.role given ended_in)
 
   abbrev pub applied : Rule
-  applied = checked_first >>= λ _. Ok known_behind
+  applied = checked_first >>= λ _. Ok known_in_parts

@@ -2,7 +2,7 @@
 --     Progress                           what is known there
 --     passes types constants p i         after an instruction, or the reason to refuse it
 --     passes_all types constants p is    after several
---     start                              in front of the code
+--     initial_progress                   in front of the code
 --     rule_at types constants i ks       what is known after an instruction by itself, or in
 --                                        front of each of its parts
 --     at_most n                          n, or the most steps that the verifier counts
@@ -28,8 +28,8 @@ pub record Progress : Type 0 where
   pub steps : ℕ
   pub parts : List Open
 
-abbrev pub start : Progress
-start = record { known = replicate 16 RegisterType.Undefined; steps = 0; parts = [] }
+abbrev pub initial_progress : Progress
+initial_progress = record { known = replicate 16 RegisterType.Undefined; steps = 0; parts = [] }
 
 abbrev pub at_most : ℕ → ℕ
 at_most n = min n (2 ^ 64 - 1)
@@ -43,8 +43,8 @@ abbrev pub inside : RegisterTypes → Open → List Open → Progress
 inside ks part parts = record { known = ks; steps = 0; parts = with_part part parts }
 
 -- after an END, with the steps of what it ends
-abbrev pub behind : RegisterTypes → (before steps : ℕ) → List Open → Progress
-behind ks before steps parts =
+abbrev pub following : RegisterTypes → (before steps : ℕ) → List Open → Progress
+following ks before steps parts =
     record { known = ks; steps = at_most (before + steps); parts = parts }
 
 -- from the success part to the else part
@@ -57,11 +57,11 @@ turned p [] = p
 
 -- after the innermost part
 abbrev pub closed : Progress → List Open → Checked Progress
-closed p (in_success otherwise before ∷ parts) = Ok (behind p.known before p.steps parts)
+closed p (in_success otherwise before ∷ parts) = Ok (following p.known before p.steps parts)
 closed p (in_else success steps before ∷ parts) =
-    joined success p.known >>= λ both. Ok (behind both before (max p.steps steps) parts)
+    joined success p.known >>= λ both. Ok (following both before (max p.steps steps) parts)
 closed p (in_body found turns before ∷ parts) = kept found p.known
-    >>= λ _. Ok (behind found before (at_most (turns * at_most (p.steps + 1))) parts)
+    >>= λ _. Ok (following found before (at_most (turns * at_most (p.steps + 1))) parts)
 closed p [] = Ok p
 
 module _ (types : Table) (constants : List Constant) where

@@ -9,7 +9,7 @@ use Rattle.client_spec.specs.Grammar.{listing}
 use Rattle.client_spec.specs.Run.{bound}
 use Rattle.client_spec.specs.Safe.{IsAccepted}
 use Rattle.client_spec.specs.Typed.{Reason, RegisterType, reason_number, types_after}
-use Rattle.client_verify.specs.Passing.{Progress, start, passes_all}
+use Rattle.client_verify.specs.Passing.{Progress, initial_progress, passes_all}
 
 -- the rules refuse the code, for this reason first
 abbrev pub IsRejected : Client → Reason → Type 0
@@ -21,8 +21,8 @@ IsRejected client reason =
 abbrev pub IsRejectedAt : Client → ℕ → Reason → Type 0
 IsRejectedAt client i reason =
     (p : Progress) ×
-    (passes_all client.types client.constants start (take i (listing client.code)) ≡ Ok p) ×
-    (passes_all client.types client.constants start (take (i + 1) (listing client.code))
+    (passes_all client.types client.constants initial_progress (take i (listing client.code)) ≡ Ok p) ×
+    (passes_all client.types client.constants initial_progress (take (i + 1) (listing client.code))
     ≡ Err reason)
 
 abbrev pub IsRefused : Table → Client → Fault → Type 0

@@ -1,5 +1,5 @@
 -- What the verifier's rule reads, as the definitions know it.
---     step_of rule                     of an instruction
+--     step_by rule                     of an instruction
 --     types_of, before_of, instruction_in     the types, what is known in front of it, and itself
 use Rattle.seg_spec.specs.Types.{Table}
 use Rattle.client_code.specs.declared.instruction.Instruction.{Instruction}
@@ -8,8 +8,8 @@ use Rattle.client_verify.specs.declared.rule.Rule.{Rule}
 use Rattle.client_verify.specs.Views.{registers_of}
 use Rattle.client_verify.specs.Checking.{Step}
 
-abbrev pub step_of : Rule → Step
-step_of rule = record {
+abbrev pub step_by : Rule → Step
+step_by rule = record {
   types = rule.types.now;
   before = registers_of rule.before.now;
   row = rule.row;

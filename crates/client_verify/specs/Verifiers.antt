@@ -16,13 +16,13 @@ use Rattle.client_verify.specs.declared.verifier.Verifier.{Verifier}
 use Rattle.client_verify.specs.Views.{registers_of, checked}
 use Rattle.client_verify.specs.Passing as passing
 
-abbrev pub part_of : Part → (before : ℕ) → passing.Open
-part_of (part.Success otherwise) before = passing.in_success (registers_of otherwise) before
-part_of (part.Else success steps) before = passing.in_else (registers_of success) steps before
-part_of (part.Body found turns) before = passing.in_body (registers_of found) turns before
+abbrev pub open_part : Part → (before : ℕ) → passing.Open
+open_part (part.Success otherwise) before = passing.in_success (registers_of otherwise) before
+open_part (part.Else success steps) before = passing.in_else (registers_of success) steps before
+open_part (part.Body found turns) before = passing.in_body (registers_of found) turns before
 
 abbrev pub open_of : Open → passing.Open
-open_of part = part_of part.part part.steps
+open_of part = open_part part.part part.steps
 
 abbrev pub progress_of : Verifier → passing.Progress
 progress_of verifier = record {

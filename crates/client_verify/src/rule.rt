@@ -44,8 +44,8 @@ impl<'a> Rule<'a> {
     ghost use Rattle.seg_spec.specs.Types.{form_at};
     ghost use Rattle.seg_layout.specs.Forms.{form_of};
     ghost use Rattle.client_verify.specs.Views.{class_of, known_of};
-    ghost use Rattle.client_verify.specs.Checking.{referred, field_at, part_of, is_kind, is_kind_at, is_inside, is_lost, part_known, owned_by, otherwise_by, others, held, part as part_in, meets as meets_in, given as given_in, ended_in, checked_first, known_behind};
-    ghost use Rattle.client_verify.specs.Steps.{types_of, before_of, instruction_in, step_of};
+    ghost use Rattle.client_verify.specs.Checking.{referred, field_at, part_of, is_kind, is_kind_at, is_inside, is_lost, part_known, borrowed_from, otherwise_by, others, held, part_held as part_in, meets as meets_in, given as given_in, ended_in, checked_first, known_in_parts};
+    ghost use Rattle.client_verify.specs.Steps.{types_of, before_of, instruction_in, step_by};
 
     /// The rule of an instruction, in front of which this is known.
     pub fn new(types: &'a TypeTable, before: &'a Registers, instruction: Instruction) -> Rule<'a>
@@ -80,7 +80,7 @@ impl<'a> Rule<'a> {
 
     /// What is known after the instruction where there is no reason to reject it.
     fn after(&self) -> After
-        ensures { both_of result ≡ known_behind (step_of self.now) }
+        ensures { both_of result ≡ known_in_parts (step_by self.now) }
     {
         let ended = self.ended();
         let mut after = After {
@@ -96,7 +96,7 @@ impl<'a> Rule<'a> {
 
     /// The reasons in their order.
     fn check(&self) -> Result<(), Reason>
-        ensures { checked (λ x. x) result ≡ checked_first (step_of self.now) }
+        ensures { checked (λ x. x) result ≡ checked_first (step_by self.now) }
     {
         let Instruction { b, c, .. } = self.instruction;
         if !self.meets(self.row.needs_b, b) || !self.meets(self.row.needs_c, c) {
@@ -113,8 +113,8 @@ impl<'a> Rule<'a> {
 
     /// Whether the object of register c is to be put into a part of itself.
     fn is_inside(&self) -> bool
-        ensures { result ≡ is_inside (step_of self.now).row.ends
-            (referred (held (step_of self.now))) self.now.instruction.c }
+        ensures { result ≡ is_inside (step_by self.now).row.ends
+            (referred (held (step_by self.now))) self.now.instruction.c }
     {
         match self.row.ends {
             Ends::Moved => match self.reference() {
@@ -127,7 +127,7 @@ impl<'a> Rule<'a> {
 
     /// Whether the register that changes owns an object.
     fn loses_owner(&self) -> bool
-        ensures { result ≡ is_lost (given_in (step_of self.now))
+        ensures { result ≡ is_lost (given_in (step_by self.now))
             (registers_of self.now.before.now) }
     {
         match self.given() {
@@ -138,7 +138,7 @@ impl<'a> Rule<'a> {
 
     /// Whether a register holds what is needed.
     fn meets(&self, need: Need, register: u8) -> bool
-        ensures { result ≡ meets_in (step_of self.now) need register }
+        ensures { result ≡ meets_in (step_by self.now) need register }
     {
         let holds = self.before.get(register);
         match need {
@@ -219,7 +219,7 @@ impl<'a> Rule<'a> {
     /// The reference in register b.
     fn reference(&self) -> Option<(Class, TypeId)>
         ensures { option_map (λ x. (class_of x.0, x.1)) result
-            ≡ referred (held (step_of self.now)) }
+            ≡ referred (held (step_by self.now)) }
     {
         match self.before.get(self.instruction.b) {
             RegisterType::Reference(class, to) => Some((class, to)),
@@ -229,7 +229,7 @@ impl<'a> Rule<'a> {
 
     /// The type of a part of what register b leads to.
     fn part(&self) -> Option<TypeId>
-        ensures { result ≡ part_in (step_of self.now) }
+        ensures { result ≡ part_in (step_by self.now) }
     {
         let (_, to) = self.reference()?;
         self.part_of(self.types.kind(to)?)
@@ -237,7 +237,7 @@ impl<'a> Rule<'a> {
 
     /// The register that changes, and what it holds after success.
     fn given(&self) -> Option<(u8, RegisterType)>
-        ensures { option_map (λ x. (x.0, known_of x.1)) result ≡ given_in (step_of self.now) }
+        ensures { option_map (λ x. (x.0, known_of x.1)) result ≡ given_in (step_by self.now) }
     {
         let Instruction { a, b, .. } = self.instruction;
         let holds = match self.row.gives {
@@ -259,7 +259,7 @@ impl<'a> Rule<'a> {
 
     /// A reference to the object that register b owns.
     fn owned(&self) -> RegisterType
-        ensures { known_of result ≡ owned_by self.now.instruction.b (held (step_of self.now)) }
+        ensures { known_of result ≡ borrowed_from self.now.instruction.b (held (step_by self.now)) }
     {
         let b = self.instruction.b;
         match self.before.get(b) {
@@ -270,8 +270,8 @@ impl<'a> Rule<'a> {
 
     /// A reference to a part of what register b leads to. A part of a text is a number.
     fn part_reference(&self) -> RegisterType
-        ensures { known_of result ≡ part_known (referred (held (step_of self.now)))
-            (part_in (step_of self.now)) }
+        ensures { known_of result ≡ part_known (referred (held (step_by self.now)))
+            (part_in (step_by self.now)) }
     {
         match (self.reference(), self.part()) {
             (Some((class, _)), Some(part)) => RegisterType::Reference(class, part),
@@ -281,7 +281,7 @@ impl<'a> Rule<'a> {
 
     /// What the register that changes holds in the else part: the code.
     fn otherwise(&self, holds: RegisterType) -> RegisterType
-        ensures { known_of result ≡ otherwise_by (step_of self.now).row.role (known_of holds) }
+        ensures { known_of result ≡ otherwise_by (step_by self.now).row.role (known_of holds) }
     {
         match self.row.role {
             Role::Opener => RegisterType::Int,
@@ -291,7 +291,7 @@ impl<'a> Rule<'a> {
 
     /// What is known once references have ended, and a register was emptied.
     fn ended(&self) -> Registers
-        ensures { registers_of result ≡ ended_in (step_of self.now) }
+        ensures { registers_of result ≡ ended_in (step_by self.now) }
     {
         let Instruction { b, c, .. } = self.instruction;
         let mut registers = *self.before;
@@ -312,7 +312,7 @@ impl<'a> Rule<'a> {
     /// Ends the references of the class of the one in register b, but for that one.
     fn end_others(&self, registers: &mut Registers)
         ensures { registers_of registers.new
-            ≡ others (referred (held (step_of self.now))) self.now.instruction.b
+            ≡ others (referred (held (step_by self.now))) self.now.instruction.b
             (registers_of registers.old) }
     {
         if let Some((class, _)) = self.reference() {

@@ -5,8 +5,8 @@ ghost use Rattle.client_spec.specs.declared.table.Role.TheVariants as role;
 ghost use Rattle.client_spec.specs.Operations.{row_of};
 ghost use Rattle.client_code.specs.Views.{instruction_of};
 ghost use Rattle.client_verify.specs.Views.{reason_of, registers_of, checked};
-ghost use Rattle.client_verify.specs.Passing.{start, passes, at_most, inside, turned, closed};
-ghost use Rattle.client_verify.specs.Verifiers.{part_of, progress_of, PassesBy};
+ghost use Rattle.client_verify.specs.Passing.{initial_progress, passes, at_most, inside, turned, closed};
+ghost use Rattle.client_verify.specs.Verifiers.{open_part, progress_of, PassesBy};
 
 use crate::reason::Reason;
 use crate::registers::Registers;
@@ -58,7 +58,7 @@ impl<'a> Verifier<'a> {
     /// In front of the code.
     pub fn new(types: &'a TypeTable) -> Verifier<'a>
         ensures types { result.types.now ≡ types.now }
-        ensures start { progress_of result ≡ start }
+        ensures start { progress_of result ≡ initial_progress }
     {
         Verifier {
             types,
@@ -141,7 +141,7 @@ impl<'a> Verifier<'a> {
     fn push(&mut self, part: Part)
         ensures types { self.new.types.now ≡ self.old.types.now }
         ensures inside { progress_of self.new
-            ≡ inside (registers_of self.old.registers) (part_of part (at_most (self.old.steps + 1)))
+            ≡ inside (registers_of self.old.registers) (open_part part (at_most (self.old.steps + 1)))
             (progress_of self.old).parts }
     {
         let steps = self.steps.saturating_add(1);
@@ -172,7 +172,7 @@ impl<'a> Verifier<'a> {
         }
     }
 
-    /// Behind an `END`.
+    /// After an `END`.
     fn close(&mut self) -> Result<(), Reason>
         ensures types { self.new.types.now ≡ self.old.types.now }
         ensures closed { checked (λ _. progress_of self.new) result

@@ -8,9 +8,9 @@ use Rattle.seg_raw.specs.declared.fault.Fault.{Fault}
 use Rattle.seg_raw.specs.declared.fault.Fault.TheVariants as fault
 use Rattle.seg_check.specs.Faults.{IsFaultOf}
 use Rattle.client_spec.specs.Syntax.{Client}
-use Rattle.client_spec.specs.Grammar.{Spells}
+use Rattle.client_spec.specs.Grammar.{SpellsClient}
 use Rattle.client_spec.specs.OnImages.{Move, Left}
-use Rattle.client_spec.specs.Clients.{outputs, image_behind, ending_behind, table_behind, StayWithin}
+use Rattle.client_spec.specs.Clients.{outputs, image_after, ending_after, table_after, StayWithin}
 use Rattle.client_spec.specs.Outcome.{IsOutcome, Refusal, IsTurnOf, IsRefusalOf}
 use Rattle.client_verify.specs.Refusals.{IsRefused}
 use Rattle.client_vm.specs.declared.report.Report.{Report}
@@ -43,9 +43,9 @@ pub record HasOutcome (image : List ℕ) (texts : List (List ℕ)) (input : List
   pub outcome : IsOutcome image texts input room base moves lefts
   pub within : StayWithin outcome.clients lefts
   pub reports_are : AreReports reports lefts
-  pub ended_is : ending_of ended ≡ ending_behind lefts
+  pub ended_is : ending_of ended ≡ ending_after lefts
   pub took : Took taken taken_then (outputs lefts)
-  pub saved_is : saved ≡ image_behind image lefts
+  pub saved_is : saved ≡ image_after image lefts
   pub sound : IsSound saved
 
 -- ---- none of them ran
@@ -63,8 +63,8 @@ pub record IsBadClient (image : List ℕ) (texts : List (List ℕ)) (room base :
   pub text : List ℕ
   pub turn : IsTurnOf image texts k text
   pub client : Client
-  pub spells : Spells text client
-  pub fault : IsRefused (table_behind turn.sound.picture.table turn.clients) client f
+  pub spells : SpellsClient text client
+  pub fault : IsRefused (table_after turn.sound.picture.table turn.clients) client f
 
 module _ (image : List ℕ) (texts : List (List ℕ)) (room base : ℕ) (moves : List Move) where
   -- the move with this index is the first that may not be made; one past 32 bits is told as the largest number

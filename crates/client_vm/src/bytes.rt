@@ -35,7 +35,8 @@ pub fn run_bytes<A: Allocator + Copy, W: Sink>(
 ) -> Result<Outcome<A>, Refused>
     requires works { W.has_failed out.old ≡ false }
     ensures refused { OnErr result (W.has_failed out.new ≡ false) }
-    ensures ended { IfOk result (λ o. (o.ended ≡ Ended.OutputFailed) ↔ (W.has_failed out.new ≡ true)) }
+    ensures ended { IfOk result
+        (λ o. (o.ended ≡ Ended.OutputFailed) ↔ (W.has_failed out.new ≡ true)) }
 {
     let len = fitting(image, schedule)?;
     let region = Region::with_bytes(alloc, schedule.room, schedule.base, image)?;
@@ -53,7 +54,8 @@ pub fn run_image<A: Allocator + Copy, W: Sink>(
 ) -> Result<Outcome<A>, Refused>
     requires works { W.has_failed out.old ≡ false }
     ensures refused { OnErr result (W.has_failed out.new ≡ false) }
-    ensures ended { IfOk result (λ o. (o.ended ≡ Ended.OutputFailed) ↔ (W.has_failed out.new ≡ true)) }
+    ensures ended { IfOk result
+        (λ o. (o.ended ≡ Ended.OutputFailed) ↔ (W.has_failed out.new ≡ true)) }
 {
     let len = fitting(image.as_slice(), schedule)?;
     let region = if len == schedule.room {
@@ -76,7 +78,8 @@ fn run_in<A: Allocator + Copy, W: Sink>(
 ) -> Result<Outcome<A>, Refused>
     requires works { W.has_failed out.old ≡ false }
     ensures refused { OnErr result (W.has_failed out.new ≡ false) }
-    ensures ended { IfOk result (λ o. (o.ended ≡ Ended.OutputFailed) ↔ (W.has_failed out.new ≡ true)) }
+    ensures ended { IfOk result
+        (λ o. (o.ended ≡ Ended.OutputFailed) ↔ (W.has_failed out.new ≡ true)) }
 {
     let window = Window::place(region, schedule.base, len).map_err(|refused| refused.0)?;
     if window.get32(header::ALLOCATOR) == BestFit::word() {
@@ -97,7 +100,8 @@ fn run_on<F: Fit, A: Allocator + Copy, W: Sink>(
 ) -> Result<Outcome<A>, Refused>
     requires works { W.has_failed out.old ≡ false }
     ensures refused { OnErr result (W.has_failed out.new ≡ false) }
-    ensures ended { IfOk result (λ o. (o.ended ≡ Ended.OutputFailed) ↔ (W.has_failed out.new ≡ true)) }
+    ensures ended { IfOk result
+        (λ o. (o.ended ≡ Ended.OutputFailed) ↔ (W.has_failed out.new ≡ true)) }
 {
     let mut segment = open::<F, A, A>(alloc, window).map_err(|refused| refused.0)?;
     let programs = verify_all(alloc, clients, segment.types())?;
@@ -125,7 +129,8 @@ fn run_on<F: Fit, A: Allocator + Copy, W: Sink>(
 /// The length of an image that may lie at a place and make the moves.
 fn fitting(image: &[u8], schedule: &Schedule) -> Result<u32, Fault>
     ensures len { IfOk result (λ n. n ≡ length image.now) }
-    ensures fits { IfOk result (λ n. IsPlace schedule.now.room schedule.now.base n × (schedule.now.room ≤ 2 ^ 31)) }
+    ensures fits { IfOk result (λ n. IsPlace schedule.now.room schedule.now.base n
+        × (schedule.now.room ≤ 2 ^ 31)) }
 {
     let len = image_len(image)?;
     if schedule.room > MAX_ROOM || !is_place(schedule.room, schedule.base, len) {

@@ -9,7 +9,7 @@ use Rattle.seg_block.specs.Joining.{JoinsBefore}
 use Rattle.seg_block.specs.Tiling.{tile, IsTiling, Retiles, Spares}
 use Rattle.seg_block.proofs.Heaps.{Spares-none, Spares-trans, Spares-same}
 use Rattle.seg_block.proofs.LiveBlocks.{block_front, gives, read_is, read_held}
-use Rattle.seg_block.proofs.Resized.{HasGap, room_cases, before, behind, was}
+use Rattle.seg_block.proofs.Resized.{HasGap, room_cases, before, following, was}
 
 module _ (old absorbed joined new : List ℕ) (at u room place units : ℕ) (h : IsHeap 1 old) (held : Contains (live old) (record { at = at; units = u })) (room_is : room ≡ room_at (gaps old) (at + 16 * u))
     (none : room ≡ 0 → absorbed ≡ old)
@@ -20,7 +20,7 @@ module _ (old absorbed joined new : List ℕ) (at u room place units : ℕ) (h :
   xs = before old at u h held
 
   abbrev ys : List Tile
-  ys = behind old at u h held
+  ys = following old at u h held
 
   -- the block took in what is after it
   record Grown : Type 0 where
@@ -62,8 +62,8 @@ module _ (old absorbed joined new : List ℕ) (at u room place units : ℕ) (h :
   r : Retiles 1 joined new j.front (tile place units false ∷ []) grown.rest
   r = release j.front grown.rest j.tiling
 
-  behind_same : live_of (xs ++ grown.rest) ≡ live_of (xs ++ ys)
-  behind_same = live_of-append xs grown.rest ∙ ap (λ s. live_of xs ++ s) grown.live_is ∙ sym (live_of-append xs ys)
+  after_same : live_of (xs ++ grown.rest) ≡ live_of (xs ++ ys)
+  after_same = live_of-append xs grown.rest ∙ ap (λ s. live_of xs ++ s) grown.live_is ∙ sym (live_of-append xs ys)
 
   front_same : live_of (j.front ++ grown.rest) ≡ live_of (xs ++ grown.rest)
   front_same = live_of-append j.front grown.rest ∙ ap (λ s. s ++ live_of grown.rest) j.live_is ∙ sym (live_of-append xs grown.rest)
@@ -71,7 +71,7 @@ module _ (old absorbed joined new : List ℕ) (at u room place units : ℕ) (h :
   spared : Spares old new (xs ++ ys)
   spared =
       Spares-trans old absorbed new (xs ++ ys) grown.spared
-      (Spares-same absorbed new (xs ++ grown.rest) (xs ++ ys) (sym behind_same)
+      (Spares-same absorbed new (xs ++ grown.rest) (xs ++ ys) (sym after_same)
       (Spares-trans absorbed joined new (xs ++ grown.rest) j.spared (Spares-same joined new (j.front ++ grown.rest) (xs ++ grown.rest) (sym front_same) r.spared)))
 
   never : true ≡ false → ⊥
@@ -80,8 +80,8 @@ module _ (old absorbed joined new : List ℕ) (at u room place units : ℕ) (h :
   pub freed : Gives 1 old new at
   freed =
       gives old at u h held new (j.front ++ tile place units false ∷ grown.rest) r.tiling
-      (AreApart-append j.front (tile place units false ∷ grown.rest) true j.apart ((λ e. absurd (never (sym j.behind_live ∙ e))), grown.apart))
-      (live_of-append j.front (tile place units false ∷ grown.rest) ∙ sym (live_of-append j.front grown.rest) ∙ front_same ∙ behind_same) spared
+      (AreApart-append j.front (tile place units false ∷ grown.rest) true j.apart ((λ e. absurd (never (sym j.after_live ∙ e))), grown.apart))
+      (live_of-append j.front (tile place units false ∷ grown.rest) ∙ sym (live_of-append j.front grown.rest) ∙ front_same ∙ after_same) spared
 
 -- at the block that was named
 pub freed_named : (old absorbed joined new : List ℕ) (named at u room place units : ℕ) (h : IsHeap 1 old) (held : IsLive old named) → ((g : Span) → named ≡ g.at → IsSized old g → (at ≡ g.at) × (u ≡ g.units))

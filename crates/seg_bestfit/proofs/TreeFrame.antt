@@ -51,14 +51,14 @@ live_beside (t ∷ ts) from to b f c =
     ] in
     go c
   where
-    behind : (ts : List Tile) (from to end : ℕ) → Fill from ts to → end ≤ from → AllByRecursion (λ (g : Span). (end ≤ g.at + 16) ⊎ (g.at + 16 + 16 ≤ b.at + 8)) (free_of ts)
-    behind [] from to end f le = tt
-    behind (t ∷ ts) from to end f le =
-        let rest = behind ts (from + 16 * t.units) to end f.2 (omega arith) in
+    following : (ts : List Tile) (from to end : ℕ) → Fill from ts to → end ≤ from → AllByRecursion (λ (g : Span). (end ≤ g.at + 16) ⊎ (g.at + 16 + 16 ≤ b.at + 8)) (free_of ts)
+    following [] from to end f le = tt
+    following (t ∷ ts) from to end f le =
+        let rest = following ts (from + 16 * t.units) to end f.2 (omega arith) in
         elim t.live as (λ b'. AllByRecursion (λ (g : Span). (end ≤ g.at + 16) ⊎ (g.at + 16 + 16 ≤ b.at + 8)) (cond b' (free_of ts) (span_of t ∷ free_of ts))) [ true ↦ rest | false ↦ (inl (omega (arith, f.0)), rest) ]
 
     here : span_of t ≡ b → (2 ≤ b.units) × AllByRecursion (λ (g : Span). (end_of b ≤ g.at + 16) ⊎ (g.at + 16 + 16 ≤ b.at + 8)) (free_of ts)
-    here e = (subst (λ (s : Span). 2 ≤ s.units) e f.1, behind ts (from + 16 * t.units) to (end_of b) f.2 (let u = ap (λ (s : Span). s.units) e in let p = ap (λ (s : Span). s.at) e in omega (arith, f.0)))
+    here e = (subst (λ (s : Span). 2 ≤ s.units) e f.1, following ts (from + 16 * t.units) to (end_of b) f.2 (let u = ap (λ (s : Span). s.units) e in let p = ap (λ (s : Span). s.at) e in omega (arith, f.0)))
 
 -- ---- what is kept
 

@@ -4,7 +4,7 @@ use Rattle.std.specs.Prelude.{Contains}
 use Rattle.std.proofs.lemmas.Bool.Decides.{nat_tests}
 use Rattle.std.proofs.lemmas.List.{length-take-le, append-nil}
 use Rattle.seg_spec.specs.Bytes.{word, set_word, Agrees}
-use Rattle.seg_spec.specs.Heap.{Span, Tile, span_of, end_of, is_live_at, Fill, AreHeaders, AreApart, HoldsGaps, live_of, free_of, heap_start, tiles, live, gaps, IsHeap, Cuts, without_last, units_to_cut}
+use Rattle.seg_spec.specs.Heap.{Span, Tile, span_of, end_of, is_live_at, Fill, AreHeaders, AreApart, HoldsGaps, live_of, free_of, heap_start, tiles, live, gaps, IsHeap, Cuts, without_end, units_to_cut}
 use Rattle.seg_spec.proofs.BytesLaws.{number-part, number-set_same, number-set_other, Agrees-set_number, length-set_number}
 use Rattle.seg_spec.proofs.SliceLaws.{IsSame-agrees}
 use Rattle.seg_spec.proofs.TileLaws.{Fill-le, AreHeaders-back, live_of-append, free_of-append}
@@ -34,22 +34,22 @@ cut-front (t ∷ xs) gs from to end f h =
 
 -- ---- tiles that fill a part of the bytes
 
-prefix_word : (bytes : List ℕ) (n q : ℕ) → q + 4 ≤ length bytes - 16 * n → word (without_last bytes n) q ≡ word bytes q
+prefix_word : (bytes : List ℕ) (n q : ℕ) → q + 4 ≤ length bytes - 16 * n → word (without_end bytes n) q ≡ word bytes q
 prefix_word bytes n q high = number-part 4 bytes 0 (length bytes - 16 * n) q (omega arith) high ∙ ap (λ p. word bytes p) (zero-add q)
 
 prefix_tiling : {allocator : ℕ} (bytes : List ℕ) (n : ℕ) (ts : List Tile) → length bytes ≤ 2 ^ 30 → 736 ≤ length bytes - 16 * n → Fill heap_start ts (length bytes - 16 * n)
-    → AreHeaders bytes 0 ts → HoldsGaps allocator bytes (free_of ts) → IsTiling allocator (without_last bytes n) ts
+    → AreHeaders bytes 0 ts → HoldsGaps allocator bytes (free_of ts) → IsTiling allocator (without_end bytes n) ts
 prefix_tiling {allocator} bytes n ts small large filled headers free =
     let end = length bytes - 16 * n in
-    let long : length (without_last bytes n) ≡ end = length-take-le end bytes (omega arith) in
+    let long : length (without_end bytes n) ≡ end = length-take-le end bytes (omega arith) in
     let same = λ (p m : ℕ) (high : p + m ≤ end). front_same bytes end p m (omega arith) high in
     record {
       tiled = record {
         small = omega arith;
         filled = subst (λ e. Fill heap_start ts e) (sym long) filled;
-        headers = AreHeaders-words bytes (without_last bytes n) ts heap_start end 0 (λ q low high. prefix_word bytes n q high) filled headers;
+        headers = AreHeaders-words bytes (without_end bytes n) ts heap_start end 0 (λ q low high. prefix_word bytes n q high) filled headers;
       };
-      free = HoldsGaps-kept bytes (without_last bytes n) allocator (free_of ts) (same 24 4 (omega arith)) (free_kept bytes (without_last bytes n) ts heap_start end (λ p m low high. same p m high) filled) free;
+      free = HoldsGaps-kept bytes (without_end bytes n) allocator (free_of ts) (same 24 4 (omega arith)) (free_kept bytes (without_end bytes n) ts heap_start end (λ p m low high. same p m high) filled) free;
     }
 
 module _ {allocator : ℕ} (old : List ℕ) (large : 736 ≤ length old) (h : IsHeap allocator old) (xs : List Tile) (at u : ℕ) (l : Bool) (parts : tiles old ≡ xs ++ tile at u l ∷ []) where
@@ -83,9 +83,9 @@ module _ {allocator : ℕ} (old : List ℕ) (large : 736 ≤ length old) (h : Is
       → n ≡ units_to_cut (gaps old) (length old) → word new 12 ≡ (length old - 16 * n) / 16 → Agrees old new 0 12 → Agrees old new 16 24 → Agrees old new 28 heap_start
       → ((b : Span) → Contains (live old) b → Agrees old new (b.at + 8) (end_of b)) → Cuts allocator old new n
   cut_to new n ts long enough filled headers free ts_apart same n_is size front words back blocks =
-      let short : length (without_last new n) ≡ length old - 16 * n = length-take-le (length new - 16 * n) new (omega arith) ∙ ap (λ m. m - 16 * n) long in
+      let short : length (without_end new n) ≡ length old - 16 * n = length-take-le (length new - 16 * n) new (omega arith) ∙ ap (λ m. m - 16 * n) long in
       let small = was.tiled.small in
-      let now = heap_of_tiling (without_last new n) ts (prefix_tiling new n ts (omega arith) (omega arith) (subst (λ m. Fill heap_start ts (m - 16 * n)) (sym long) filled) headers free) ts_apart in
+      let now = heap_of_tiling (without_end new n) ts (prefix_tiling new n ts (omega arith) (omega arith) (subst (λ m. Fill heap_start ts (m - 16 * n)) (sym long) filled) headers free) ts_apart in
       record {
         heap = now.heap;
         cut = n_is;

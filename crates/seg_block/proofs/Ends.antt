@@ -42,16 +42,16 @@ module _ (bytes : List ℕ) (all : List Tile) (end place units : ℕ) (fits : en
         low = next;
       }
 
-  nothing_behind : (ts : List Tile) (from : ℕ) → Fill from ts end → end ≤ from → ts ≡ []
-  nothing_behind [] from f h = refl
-  nothing_behind (t ∷ ts) from f h = let le = Fill-le ts (from + 16 * t.units) end f.2 in absurd (omega (arith, f.1))
+  nothing_after : (ts : List Tile) (from : ℕ) → Fill from ts end → end ≤ from → ts ≡ []
+  nothing_after [] from f h = refl
+  nothing_after (t ∷ ts) from f h = let le = Fill-le ts (from + 16 * t.units) end f.2 in absurd (omega (arith, f.1))
 
   last : (passed left : List Tile) (at before : ℕ) → all ≡ passed ++ left → Fill at left end → AreHeaders bytes before left → at % 16 ≡ 0 → at < end
       → ((g : Span) → at ≡ g.at → IsSized bytes g → (place ≡ g.at) × (units ≡ g.units)) → end ≤ place + 16 * units → HasEnd bytes all place units
   last passed [] at before parts f h aligned low here end_is = absurd (omega (arith, f))
   last passed (t ∷ left) at before parts f h aligned low here end_is =
       let is = here (record { at = t.at; units = t.units }) (sym f.0) (first_block bytes t left at before end fits aligned f h) in
-      let none = nothing_behind left (at + 16 * t.units) f.2 (omega (arith, is.0, is.1, f.0)) in
+      let none = nothing_after left (at + 16 * t.units) f.2 (omega (arith, is.0, is.1, f.0)) in
       record {
         front = passed;
         live = t.live;

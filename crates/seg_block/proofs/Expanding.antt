@@ -6,7 +6,7 @@ use Rattle.seg_spec.specs.Heap.{Span, Tile, AreApart, live, gaps, IsHeap, room_a
 use Rattle.seg_block.specs.Blocks.{IsSized, IsResized}
 use Rattle.seg_block.specs.Tiling.{tile, IsTiling, Retiles}
 use Rattle.seg_block.proofs.LiveBlocks.{read_is, read_held}
-use Rattle.seg_block.proofs.Resized.{HasGap, room_cases, resized_whole, resized_cut, resized_less, expands_not, expands_to, shrinks_to, before, behind, was}
+use Rattle.seg_block.proofs.Resized.{HasGap, room_cases, resized_whole, resized_cut, resized_less, expands_not, expands_to, shrinks_to, before, following, was}
 
 module _ {allocator : ℕ} (Place : List Tile → Type 0) (old mid new : List ℕ) (at u room n : ℕ) (h : IsHeap allocator old) (held : Contains (live old) (record { at = at; units = u })) (room_is : room ≡ room_at (gaps old) (at + 16 * u))
     (place : Place (before old at u h held))
@@ -16,12 +16,12 @@ module _ {allocator : ℕ} (Place : List Tile → Type 0) (old mid new : List �
     (cut : n + 2 ≤ u + room → (xs ys : List Tile) → Place xs → IsTiling allocator mid (xs ++ tile at (u + room) true ∷ ys)
     → Retiles allocator mid new xs (tile at n true ∷ tile (at + 16 * n) (u + room - n) false ∷ []) ys × Agrees mid new (at + 8) (at + 16 * n)) where
   -- no gap is there
-  cut_alone : room ≡ 0 → AreApart false (behind old at u h held) → n + 2 ≤ u + room → IsResized allocator old new at n
+  cut_alone : room ≡ 0 → AreApart false (following old at u h held) → n + 2 ≤ u + room → IsResized allocator old new at n
   cut_alone e apart more =
       let same : u + room ≡ u = omega arith in
-      let c = subst (λ (p : List ℕ × ℕ). IsTiling allocator p.0 (before old at u h held ++ tile at p.1 true ∷ behind old at u h held)
-      → Retiles allocator p.0 new (before old at u h held) (tile at n true ∷ tile (at + 16 * n) (p.1 - n) false ∷ []) (behind old at u h held) × Agrees p.0 new (at + 8) (at + 16 * n))
-      (λ i. (none e i, same i)) (cut more (before old at u h held) (behind old at u h held) place) in
+      let c = subst (λ (p : List ℕ × ℕ). IsTiling allocator p.0 (before old at u h held ++ tile at p.1 true ∷ following old at u h held)
+      → Retiles allocator p.0 new (before old at u h held) (tile at n true ∷ tile (at + 16 * n) (p.1 - n) false ∷ []) (following old at u h held) × Agrees p.0 new (at + 8) (at + 16 * n))
+      (λ i. (none e i, same i)) (cut more (before old at u h held) (following old at u h held) place) in
       resized_less old at u h held new n apart (c (was old at u h held))
 
   -- the gap there is taken in, whole or in part

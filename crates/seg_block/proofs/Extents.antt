@@ -5,7 +5,7 @@ use Rattle.std.proofs.lemmas.Bool.Decides.{nat_tests}
 use Rattle.std.proofs.lemmas.List.{length-take-le, append-nil}
 use Rattle.std.proofs.lemmas.List.Elements.{Contains-append_left, Contains-append_right}
 use Rattle.seg_spec.specs.Bytes.{slice, word, set_word, Agrees, IsSame}
-use Rattle.seg_spec.specs.Heap.{Span, Tile, span_of, end_of, IsLive, Fill, AreHeaders, AreApart, HoldsGaps, live_of, free_of, heap_start, tiles, live, IsHeap, Gives, Extends, without, without_last, after_extend}
+use Rattle.seg_spec.specs.Heap.{Span, Tile, span_of, end_of, IsLive, Fill, AreHeaders, AreApart, HoldsGaps, live_of, free_of, heap_start, tiles, live, IsHeap, Gives, Extends, without, without_end, after_extend}
 use Rattle.seg_spec.proofs.BytesLaws.{part, number-part, slice-part, number-set_same, number-set_other, number-agrees, Agrees-within, Agrees-trans, Agrees-set_number, length-set_number}
 use Rattle.seg_spec.proofs.SliceLaws.{IsSame-agrees, IsSame-trans}
 use Rattle.seg_spec.proofs.TileLaws.{Fill-le, Fill-append, AreApart-append, AreApart-front, AreApart-back, units_after, live_of-append, free_of-append}
@@ -62,9 +62,9 @@ after_extend-one (t ∷ xs) from at u end l large f e =
 
 -- ---- the heap before
 
-module _ {allocator : ℕ} (old : List ℕ) (n : ℕ) (small : length old ≤ 2 ^ 30) (room : 736 + 16 * n ≤ length old) (h : IsHeap allocator (without_last old n)) where
+module _ {allocator : ℕ} (old : List ℕ) (n : ℕ) (small : length old ≤ 2 ^ 30) (room : 736 + 16 * n ≤ length old) (h : IsHeap allocator (without_end old n)) where
   abbrev front : List ℕ
-  front = without_last old n
+  front = without_end old n
 
   abbrev end : ℕ
   end = length old - 16 * n
@@ -281,7 +281,7 @@ module _ {allocator : ℕ} (old : List ℕ) (n : ℕ) (small : length old ≤ 2 
 
 -- ---- from what the steps ensure
 
-module _ {allocator : ℕ} (old after : List ℕ) (n len : ℕ) (small : length old ≤ 2 ^ 30) (room : 736 + 16 * n ≤ length old) (h : IsHeap allocator (without_last old n))
+module _ {allocator : ℕ} (old after : List ℕ) (n len : ℕ) (small : length old ≤ 2 ^ 30) (room : 736 + 16 * n ≤ length old) (h : IsHeap allocator (without_end old n))
     (len_is : len ≡ length old) (after_is : after ≡ set_word old 12 (len / 16)) where
   pub sized_is : after ≡ sized old n small room h
   sized_is = after_is ∙ ap (λ m. set_word old 12 (m / 16)) len_is
@@ -292,15 +292,15 @@ module _ {allocator : ℕ} (old after : List ℕ) (n len : ℕ) (small : length 
   pub end_never : ((ts : List Tile) → 704 < len - 16 * n → len - 16 * n ≤ length after → Fill 704 ts (len - 16 * n) → AreHeaders after 0 ts → ⊥) → ⊥
   end_never last =
       let e : length old - 16 * n ≡ len - 16 * n = ap (λ m. m - 16 * n) (sym len_is) in
-      last (tiles (without_last old n)) (omega arith) (omega (arith, ap length after_is, length-set_number 4 old 12 (len / 16)))
-      (subst (λ p. Fill heap_start (tiles (without_last old n)) p) e (filled old n small room h)) (subst (λ b. AreHeaders b 0 (tiles (without_last old n))) (sym sized_is) (headers old n small room h))
+      last (tiles (without_end old n)) (omega arith) (omega (arith, ap length after_is, length-set_number 4 old 12 (len / 16)))
+      (subst (λ p. Fill heap_start (tiles (without_end old n)) p) e (filled old n small room h)) (subst (λ b. AreHeaders b 0 (tiles (without_end old n))) (sym sized_is) (headers old n small room h))
 
   module _ (at u : ℕ) (last : (ts : List Tile) → 704 < len - 16 * n → len - 16 * n ≤ length after → Fill 704 ts (len - 16 * n) → AreHeaders after 0 ts → HasEnd after ts at u) where
-    pub the_end : HasEnd after (tiles (without_last old n)) at u
+    pub the_end : HasEnd after (tiles (without_end old n)) at u
     the_end =
         let e : length old - 16 * n ≡ len - 16 * n = ap (λ m. m - 16 * n) (sym len_is) in
-        last (tiles (without_last old n)) (omega arith) (omega (arith, ap length after_is, length-set_number 4 old 12 (len / 16)))
-        (subst (λ p. Fill heap_start (tiles (without_last old n)) p) e (filled old n small room h)) (subst (λ b. AreHeaders b 0 (tiles (without_last old n))) (sym sized_is) (headers old n small room h))
+        last (tiles (without_end old n)) (omega arith) (omega (arith, ap length after_is, length-set_number 4 old 12 (len / 16)))
+        (subst (λ p. Fill heap_start (tiles (without_end old n)) p) e (filled old n small room h)) (subst (λ b. AreHeaders b 0 (tiles (without_end old n))) (sym sized_is) (headers old n small room h))
 
     -- the units of the last tile and those after it
     pub end_units : n ≡ 1 → ((len - at) / 16 ≡ u + 1) × (at + 16 * (u + 1) ≡ length after)

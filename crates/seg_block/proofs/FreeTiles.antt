@@ -82,10 +82,10 @@ module _ {allocator : ℕ} (Place : List Tile → Type 0) (old : List ℕ) (u at
   abbrev tiles_before : List Tile
   tiles_before = around_gap.xs
 
-  abbrev tiles_behind : List Tile
-  tiles_behind = around_gap.ys
+  abbrev tiles_after : List Tile
+  tiles_after = around_gap.ys
 
-  gap_tiling : IsTiling allocator old (tiles_before ++ tile at units false ∷ tiles_behind)
+  gap_tiling : IsTiling allocator old (tiles_before ++ tile at units false ∷ tiles_after)
   gap_tiling = subst (λ l. IsTiling allocator old l) around_gap.parts (tiling_of_heap old h)
 
   pub takes_gap : (new : List ℕ) (n : ℕ) (mid : List ℕ) → Place tiles_before → n ≡ granted units u → 2 ≤ u → u ≤ units
@@ -95,8 +95,8 @@ module _ {allocator : ℕ} (Place : List Tile → Type 0) (old : List ℕ) (u at
       → Retiles allocator mid new xs (tile at n true ∷ tile (at + 16 * n) (units - n) false ∷ []) ys × Agrees mid new (at + 8) (at + 16 * n))
       → Takes allocator old new u (Some at)
   takes_gap new n mid place n_is large enough take whole cut =
-      let t = take tiles_before tiles_behind place gap_tiling in
-      takes old new u at units tiles_before tiles_behind h picked around_gap.parts mid large enough t (λ small. whole (n_is ∙ granted_all units u enough small))
+      let t = take tiles_before tiles_after place gap_tiling in
+      takes old new u at units tiles_before tiles_after h picked around_gap.parts mid large enough t (λ small. whole (n_is ∙ granted_all units u enough small))
       (λ room.
       let is : n ≡ u = n_is ∙ granted_part units u room in
-      subst (λ m. Retiles allocator mid new tiles_before (tile at m true ∷ tile (at + 16 * m) (units - m) false ∷ []) tiles_behind × Agrees mid new (at + 8) (at + 16 * m)) is (cut (omega arith) tiles_before tiles_behind place t.0.tiling))
+      subst (λ m. Retiles allocator mid new tiles_before (tile at m true ∷ tile (at + 16 * m) (units - m) false ∷ []) tiles_after × Agrees mid new (at + 8) (at + 16 * m)) is (cut (omega arith) tiles_before tiles_after place t.0.tiling))

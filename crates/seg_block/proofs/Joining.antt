@@ -10,17 +10,17 @@ use Rattle.seg_block.proofs.SizeLaws.{IsHeader-set_size, Agrees-set_size}
 use Rattle.seg_block.proofs.Tiled.{around, replaces}
 
 module _ (old : List ℕ) (xs ys : List Tile) (at u v : ℕ) (live live' : Bool) (was : IsTiled old (xs ++ (tile at u live ∷ tile (at + 16 * u) v live' ∷ ys))) where
-  abbrev behind : ℕ
-  behind = at + 16 * u
+  abbrev following : ℕ
+  following = at + 16 * u
 
   abbrev hi : ℕ
-  hi = behind + 16 * v
+  hi = following + 16 * v
 
   abbrev joined : List ℕ
   joined = set_size old at (u + v) live
 
-  first : (Fill heap_start xs at) × (2 ≤ u) × Fill behind (tile behind v live' ∷ ys) (length old)
-  first = around xs (tile behind v live' ∷ ys) heap_start (length old) at u live was.filled
+  first : (Fill heap_start xs at) × (2 ≤ u) × Fill following (tile following v live' ∷ ys) (length old)
+  first = around xs (tile following v live' ∷ ys) heap_start (length old) at u live was.filled
 
   pub join-large : 2 ≤ v
   join-large = first.2.1
@@ -47,7 +47,7 @@ module _ (old : List ℕ) (xs ys : List Tile) (at u v : ℕ) (live live' : Bool)
 
   pub join-headers : AreHeaders joined (units_after 0 xs) (tile at (u + v) live ∷ [])
   join-headers =
-      let h = (AreHeaders-back old xs (tile at u live ∷ tile behind v live' ∷ ys) 0 was.headers).0 in
+      let h = (AreHeaders-back old xs (tile at u live ∷ tile following v live' ∷ ys) 0 was.headers).0 in
       let a = first.1 in
       let room = inside in
       (IsHeader-set_size old at (u + v) (units_after 0 xs) live (omega arith) (omega arith) was.small h.before_is h.tag_is, tt)
@@ -59,5 +59,5 @@ module _ (old : List ℕ) (xs ys : List Tile) (at u v : ℕ) (live live' : Bool)
 
   pub join-replaces : Replaces old joined xs (tile at (u + v) live ∷ []) ys at (16 * u)
   join-replaces =
-      replaces old joined xs (tile at u live ∷ tile behind v live' ∷ []) (tile at (u + v) live ∷ []) ys at hi (16 * u) was first.0 join-middle join-back
-      join-kept join-headers join-next (Agrees-set_size old at (u + v) live (at + 8) behind (inr (omega arith)) (inl (omega arith)))
+      replaces old joined xs (tile at u live ∷ tile following v live' ∷ []) (tile at (u + v) live ∷ []) ys at hi (16 * u) was first.0 join-middle join-back
+      join-kept join-headers join-next (Agrees-set_size old at (u + v) live (at + 8) following (inr (omega arith)) (inl (omega arith)))

@@ -21,7 +21,7 @@ module _ {allocator : ℕ} (old : List ℕ) (xs ys : List Tile) (at u : ℕ) (wa
     front = xs;
     tiling = tiling;
     apart = apart;
-    behind_live = ⊎_elim (λ e. ap (live_after true) e)
+    after_live = ⊎_elim (λ e. ap (live_after true) e)
         (λ (l : HasLast xs). ap (live_after true) l.parts ∙ live_after-last l.front l.last true ∙ read_is_live l.last (read l.front ys true l.last (around_last l).tiled))
         (last_cases xs);
     live_is = refl;
@@ -48,7 +48,7 @@ module _ {allocator : ℕ} (old : List ℕ) (xs ys : List Tile) (at u : ℕ) (wa
       front = l.front;
       tiling = r.tiling;
       apart = AreApart-front l.front (tile f.at f.units false ∷ []) true front_apart;
-      behind_live = not_free (live_after true l.front) (AreApart-back l.front (tile f.at f.units false ∷ []) true front_apart).0;
+      after_live = not_free (live_after true l.front) (AreApart-back l.front (tile f.at f.units false ∷ []) true front_apart).0;
       live_is = front_live;
       spared = Spares-same old new (l.front ++ ys) (xs ++ ys) (live_of-append xs ys ∙ ap (λ s. s ++ live_of ys) (sym front_live) ∙ sym (live_of-append l.front ys)) r.spared;
     }

@@ -65,8 +65,8 @@ module _ {allocator : ℕ} (old : List ℕ) (at u : ℕ) (h : IsHeap allocator o
   pub block_apart : AreApart true (block.xs ++ tile at u true ∷ block.ys)
   block_apart = subst (λ l. AreApart true l) block.parts h.apart
 
-  pub block_behind : AreApart true block.ys
-  block_behind = (AreApart-back block.xs (tile at u true ∷ block.ys) true block_apart).1
+  pub block_after : AreApart true block.ys
+  block_after = (AreApart-back block.xs (tile at u true ∷ block.ys) true block_apart).1
 
   pub block_front : AreApart true block.xs
   block_front = AreApart-front block.xs (tile at u true ∷ block.ys) true block_apart

@@ -13,7 +13,7 @@ use Rattle.seg_block.specs.Tiling.{tile, IsTiled, IsTiling, Retiles, Spares}
 use Rattle.seg_block.proofs.LiveTiles.{cons_cases, live_within}
 use Rattle.seg_block.proofs.Tiled.{around}
 use Rattle.seg_block.proofs.Heaps.{heap_of_tiling, AreApart-live, Spares-trans, Spares-same, Keeps-same}
-use Rattle.seg_block.proofs.LiveBlocks.{block, block_tiling, block_apart, block_behind, block_front}
+use Rattle.seg_block.proofs.LiveBlocks.{block, block_tiling, block_apart, block_after, block_front}
 
 test_same : (m n : ℕ) → m ≡ n → eqb m n ≡ true
 test_same m n e = grind (arith, nat_tests)
@@ -59,31 +59,31 @@ module _ {allocator : ℕ} (old : List ℕ) (at u : ℕ) (h : IsHeap allocator o
   abbrev pub before : List Tile
   before = (block old at u h held).xs
 
-  abbrev pub behind : List Tile
-  behind = (block old at u h held).ys
+  abbrev pub following : List Tile
+  following = (block old at u h held).ys
 
-  pub was : IsTiling allocator old (before ++ tile at u true ∷ behind)
+  pub was : IsTiling allocator old (before ++ tile at u true ∷ following)
   was = block_tiling old at u h held
 
-  parts : (Fill heap_start before at) × (2 ≤ u) × Fill (at + 16 * u) behind (length old)
-  parts = around before behind heap_start (length old) at u true was.tiled.filled
+  parts : (Fill heap_start before at) × (2 ≤ u) × Fill (at + 16 * u) following (length old)
+  parts = around before following heap_start (length old) at u true was.tiled.filled
 
-  old_live : live old ≡ live_of before ++ record { at = at; units = u } ∷ live_of behind
-  old_live = (heap_of_tiling old (before ++ tile at u true ∷ behind) was (block_apart old at u h held)).live_is ∙ live_of-append before (tile at u true ∷ behind)
+  old_live : live old ≡ live_of before ++ record { at = at; units = u } ∷ live_of following
+  old_live = (heap_of_tiling old (before ++ tile at u true ∷ following) was (block_apart old at u h held)).live_is ∙ live_of-append before (tile at u true ∷ following)
 
-  old_gaps : gaps old ≡ free_of before ++ free_of behind
-  old_gaps = (heap_of_tiling old (before ++ tile at u true ∷ behind) was (block_apart old at u h held)).gaps_is ∙ free_of-append before (tile at u true ∷ behind)
+  old_gaps : gaps old ≡ free_of before ++ free_of following
+  old_gaps = (heap_of_tiling old (before ++ tile at u true ∷ following) was (block_apart old at u h held)).gaps_is ∙ free_of-append before (tile at u true ∷ following)
 
-  resized_is : (n : ℕ) → resized at n (live old) ≡ live_of before ++ record { at = at; units = n } ∷ live_of behind
+  resized_is : (n : ℕ) → resized at n (live old) ≡ live_of before ++ record { at = at; units = n } ∷ live_of following
   resized_is n =
-      ap (resized at n) old_live ∙ resized-front at n before (record { at = at; units = u } ∷ live_of behind) heap_start at parts.0 (omega arith)
-      ∙ ap (λ l. live_of before ++ l) (resized-here at n u (live_of behind))
+      ap (resized at n) old_live ∙ resized-front at n before (record { at = at; units = u } ∷ live_of following) heap_start at parts.0 (omega arith)
+      ∙ ap (λ l. live_of before ++ l) (resized-here at n u (live_of following))
 
   pub resized_same : resized at u (live old) ≡ live old
   resized_same = resized_is u ∙ sym old_live
 
-  room_is : room_at (gaps old) (at + 16 * u) ≡ room_at (free_of behind) (at + 16 * u)
-  room_is = ap (λ gs. room_at gs (at + 16 * u)) old_gaps ∙ room_at-front before (free_of behind) heap_start at (at + 16 * u) parts.0 (let p = parts.1 in omega arith)
+  room_is : room_at (gaps old) (at + 16 * u) ≡ room_at (free_of following) (at + 16 * u)
+  room_is = ap (λ gs. room_at gs (at + 16 * u)) old_gaps ∙ room_at-front before (free_of following) heap_start at (at + 16 * u) parts.0 (let p = parts.1 in omega arith)
 
   keeps_block : (new : List ℕ) (n : ℕ) (zs : List Tile) (c : Span) → Fill (at + 16 * n) zs (length new) → 2 ≤ n → Agrees old new (at + 8) (at + 16 * min u n)
       → (Contains (live_of before) c) ⊎ ((record { at = at; units = n } ≡ c) ⊎ Contains (live_of zs) c) → at ≡ c.at → Agrees old new (at + 8) (at + 16 * min u c.units)
@@ -91,28 +91,28 @@ module _ {allocator : ℕ} (old : List ℕ) (at u : ℕ) (h : IsHeap allocator o
   keeps_block new n zs c back large own (inr (inl x)) e = Agrees-within old new (at + 8) (at + 16 * min u n) (at + 8) (at + 16 * min u c.units) own (omega arith) (omega (arith, ap (λ (s : Span). s.units) x))
   keeps_block new n zs c back large own (inr (inr x)) e = let w = live_within zs (at + 16 * n) (length new) c back x in absurd (omega (arith, w.0))
 
-  keeps_any : (new : List ℕ) (n : ℕ) (zs : List Tile) (b c : Span) → Fill (at + 16 * n) zs (length new) → 2 ≤ n → Spares old new (before ++ behind) → Agrees old new (at + 8) (at + 16 * min u n)
-      → (Contains (live_of before) b) ⊎ ((record { at = at; units = u } ≡ b) ⊎ Contains (live_of behind) b) → (Contains (live_of before) c) ⊎ ((record { at = at; units = n } ≡ c) ⊎ Contains (live_of zs) c)
+  keeps_any : (new : List ℕ) (n : ℕ) (zs : List Tile) (b c : Span) → Fill (at + 16 * n) zs (length new) → 2 ≤ n → Spares old new (before ++ following) → Agrees old new (at + 8) (at + 16 * min u n)
+      → (Contains (live_of before) b) ⊎ ((record { at = at; units = u } ≡ b) ⊎ Contains (live_of following) b) → (Contains (live_of before) c) ⊎ ((record { at = at; units = n } ≡ c) ⊎ Contains (live_of zs) c)
       → b.at ≡ c.at → Agrees old new (b.at + 8) (b.at + 16 * min b.units c.units)
   keeps_any new n zs b c back large s own (inl x) k e =
       Agrees-within old new (b.at + 8) (end_of b) (b.at + 8) (b.at + 16 * min b.units c.units)
-      (s.tiles_kept b (subst (λ l. Contains l b) (sym (live_of-append before behind)) (Contains-append_left (live_of before) (live_of behind) b x))) (omega arith) (omega arith)
+      (s.tiles_kept b (subst (λ l. Contains l b) (sym (live_of-append before following)) (Contains-append_left (live_of before) (live_of following) b x))) (omega arith) (omega arith)
   keeps_any new n zs b c back large s own (inr (inr x)) k e =
       Agrees-within old new (b.at + 8) (end_of b) (b.at + 8) (b.at + 16 * min b.units c.units)
-      (s.tiles_kept b (subst (λ l. Contains l b) (sym (live_of-append before behind)) (Contains-append_right (live_of before) (live_of behind) b x))) (omega arith) (omega arith)
+      (s.tiles_kept b (subst (λ l. Contains l b) (sym (live_of-append before following)) (Contains-append_right (live_of before) (live_of following) b x))) (omega arith) (omega arith)
   keeps_any new n zs b c back large s own (inr (inl x)) k e =
       subst (λ (b : Span). b.at ≡ c.at → Agrees old new (b.at + 8) (b.at + 16 * min b.units c.units)) x (λ e. keeps_block new n zs c back large own k e) e
 
-  pub resizes : (new : List ℕ) (n : ℕ) (zs : List Tile) → IsTiling allocator new (before ++ tile at n true ∷ zs) → live_of zs ≡ live_of behind → AreApart true zs
-      → Spares old new (before ++ behind) → Agrees old new (at + 8) (at + 16 * min u n) → IsResized allocator old new at n
+  pub resizes : (new : List ℕ) (n : ℕ) (zs : List Tile) → IsTiling allocator new (before ++ tile at n true ∷ zs) → live_of zs ≡ live_of following → AreApart true zs
+      → Spares old new (before ++ following) → Agrees old new (at + 8) (at + 16 * min u n) → IsResized allocator old new at n
   resizes new n zs tiling same apart s own =
       let now = heap_of_tiling new (before ++ tile at n true ∷ zs) tiling (AreApart-append before (tile at n true ∷ zs) true (block_front old at u h held) (λ e. refl, apart)) in
       let new_parts = around before zs heap_start (length new) at n true tiling.tiled.filled in
       let new_live = now.live_is ∙ live_of-append before (tile at n true ∷ zs) in
       let cases = λ (c : Span) (k : Contains (live new) c). ⊎_elim (λ x. inl x) (λ x. inr (cons_cases (record { at = at; units = n }) c (live_of zs) x))
       (Contains-append_cases (live_of before) (record { at = at; units = n } ∷ live_of zs) c (subst (λ l. Contains l c) new_live k)) in
-      let olds = λ (b : Span) (k : Contains (live old) b). ⊎_elim (λ x. inl x) (λ x. inr (cons_cases (record { at = at; units = u }) b (live_of behind) x))
-      (Contains-append_cases (live_of before) (record { at = at; units = u } ∷ live_of behind) b (subst (λ l. Contains l b) old_live k)) in
+      let olds = λ (b : Span) (k : Contains (live old) b). ⊎_elim (λ x. inl x) (λ x. inr (cons_cases (record { at = at; units = u }) b (live_of following) x))
+      (Contains-append_cases (live_of before) (record { at = at; units = u } ∷ live_of following) b (subst (λ l. Contains l b) old_live k)) in
       record {
         heap = now.heap;
         kept = record {
@@ -127,19 +127,19 @@ module _ {allocator : ℕ} (old : List ℕ) (at u : ℕ) (h : IsHeap allocator o
   -- ---- the gap after
 
   -- no free tile stands right after
-  pub gap_none : AreApart false behind → room_at (gaps old) (at + 16 * u) ≡ 0
-  gap_none apart = room_is ∙ room_at-apart behind (at + 16 * u) (length old) parts.2 apart
+  pub gap_none : AreApart false following → room_at (gaps old) (at + 16 * u) ≡ 0
+  gap_none apart = room_is ∙ room_at-apart following (at + 16 * u) (length old) parts.2 apart
 
   pub record HasGap (v : ℕ) : Type 0 where
     pub rest : List Tile
-    pub gap_parts : behind ≡ tile (at + 16 * u) v false ∷ rest
+    pub gap_parts : following ≡ tile (at + 16 * u) v false ∷ rest
     pub room : room_at (gaps old) (at + 16 * u) ≡ v
     pub large : 2 ≤ v
     pub apart : AreApart false rest
     pub tiling : IsTiling allocator old (before ++ (tile at u true ∷ tile (at + 16 * u) v false ∷ rest))
     pub fill : Fill (at + 16 * u + 16 * v) rest (length old)
 
-  pub gap_found : (v : ℕ) (rest : List Tile) → behind ≡ tile (at + 16 * u) v false ∷ rest → HasGap v
+  pub gap_found : (v : ℕ) (rest : List Tile) → following ≡ tile (at + 16 * u) v false ∷ rest → HasGap v
   gap_found v rest is =
       let fill = subst (λ l. Fill (at + 16 * u) l (length old)) is parts.2 in
       record {
@@ -147,21 +147,21 @@ module _ {allocator : ℕ} (old : List ℕ) (at u : ℕ) (h : IsHeap allocator o
         gap_parts = is;
         room = room_is ∙ ap (λ l. room_at (free_of l) (at + 16 * u)) is ∙ rw (test_same (at + 16 * u) (at + 16 * u) refl) refl;
         large = fill.1;
-        apart = (subst (λ l. AreApart true l) is (block_behind old at u h held)).1;
+        apart = (subst (λ l. AreApart true l) is (block_after old at u h held)).1;
         tiling = subst (λ l. IsTiling allocator old (before ++ tile at u true ∷ l)) is was;
         fill = fill.2;
       }
 
   -- either holds
-  pub room_cases : (AreApart false behind × (room_at (gaps old) (at + 16 * u) ≡ 0)) ⊎ ((v : ℕ) × HasGap v)
-  room_cases = go behind refl
+  pub room_cases : (AreApart false following × (room_at (gaps old) (at + 16 * u) ≡ 0)) ⊎ ((v : ℕ) × HasGap v)
+  room_cases = go following refl
     where
-      go : (ys : List Tile) → behind ≡ ys → (AreApart false behind × (room_at (gaps old) (at + 16 * u) ≡ 0)) ⊎ ((v : ℕ) × HasGap v)
+      go : (ys : List Tile) → following ≡ ys → (AreApart false following × (room_at (gaps old) (at + 16 * u) ≡ 0)) ⊎ ((v : ℕ) × HasGap v)
       go [] e = let apart = subst (λ l. AreApart false l) (sym e) tt in inl (apart, gap_none apart)
       go (t ∷ ys) e =
-          let after = (subst (λ l. AreApart true l) e (block_behind old at u h held)).1 in
+          let after = (subst (λ l. AreApart true l) e (block_after old at u h held)).1 in
           let place = (subst (λ l. Fill (at + 16 * u) l (length old)) e parts.2).0 in
-          let cases = elim t.live as (λ b. t.live ≡ b → (AreApart false behind × (room_at (gaps old) (at + 16 * u) ≡ 0)) ⊎ ((v : ℕ) × HasGap v)) [
+          let cases = elim t.live as (λ b. t.live ≡ b → (AreApart false following × (room_at (gaps old) (at + 16 * u) ≡ 0)) ⊎ ((v : ℕ) × HasGap v)) [
             | true ↦ (λ is. let apart = subst (λ l. AreApart false l) (sym e) ((λ _. is), after) in inl (apart, gap_none apart))
             | false ↦ (λ is. inr (t.units, gap_found t.units ys (e ∙ (λ i. record { at = place i; units = t.units; live = is i } ∷ ys))))
           ] in
@@ -172,14 +172,14 @@ module _ {allocator : ℕ} (old : List ℕ) (at u : ℕ) (h : IsHeap allocator o
   pub resized_whole : (mid : List ℕ) (v : ℕ) (g : HasGap v) → Retiles allocator old mid before (tile at (u + v) true ∷ []) g.rest × Agrees old mid (at + 8) (at + 16 * u) → IsResized allocator old mid at (u + v)
   resized_whole mid v g r =
       resizes mid (u + v) g.rest r.0.tiling (sym (ap live_of g.gap_parts)) (AreApart-live false g.rest g.apart)
-      (Spares-same old mid (before ++ g.rest) (before ++ behind) (ap (λ l. live_of (before ++ l)) g.gap_parts ∙ live_of-append before (tile (at + 16 * u) v false ∷ g.rest) ∙ sym (live_of-append before g.rest)) r.0.spared)
+      (Spares-same old mid (before ++ g.rest) (before ++ following) (ap (λ l. live_of (before ++ l)) g.gap_parts ∙ live_of-append before (tile (at + 16 * u) v false ∷ g.rest) ∙ sym (live_of-append before g.rest)) r.0.spared)
       (Agrees-within old mid (at + 8) (at + 16 * u) (at + 8) (at + 16 * min u (u + v)) r.1 (omega arith) (omega arith))
 
   pub resized_cut : (mid new : List ℕ) (v need : ℕ) (g : HasGap v) → Retiles allocator old mid before (tile at (u + v) true ∷ []) g.rest × Agrees old mid (at + 8) (at + 16 * u)
       → Retiles allocator mid new before (tile at need true ∷ tile (at + 16 * need) (u + v - need) false ∷ []) g.rest × Agrees mid new (at + 8) (at + 16 * need) → IsResized allocator old new at need
   resized_cut mid new v need g r c =
       resizes new need (tile (at + 16 * need) (u + v - need) false ∷ g.rest) c.0.tiling (sym (ap live_of g.gap_parts)) ((λ e. absurd (never e)), g.apart)
-      (Spares-same old new (before ++ g.rest) (before ++ behind) (ap (λ l. live_of (before ++ l)) g.gap_parts ∙ live_of-append before (tile (at + 16 * u) v false ∷ g.rest) ∙ sym (live_of-append before g.rest))
+      (Spares-same old new (before ++ g.rest) (before ++ following) (ap (λ l. live_of (before ++ l)) g.gap_parts ∙ live_of-append before (tile (at + 16 * u) v false ∷ g.rest) ∙ sym (live_of-append before g.rest))
       (Spares-trans old mid new (before ++ g.rest) r.0.spared c.0.spared))
       (Agrees-trans old mid new (at + 8) (at + 16 * min u need) (Agrees-within old mid (at + 8) (at + 16 * u) (at + 8) (at + 16 * min u need) r.1 (omega arith) (omega arith))
       (Agrees-within mid new (at + 8) (at + 16 * need) (at + 8) (at + 16 * min u need) c.1 (omega arith) (omega arith)))
@@ -187,10 +187,10 @@ module _ {allocator : ℕ} (old : List ℕ) (at u : ℕ) (h : IsHeap allocator o
       never : true ≡ false → ⊥
       never e = cc
 
-  pub resized_less : (new : List ℕ) (need : ℕ) → AreApart false behind → Retiles allocator old new before (tile at need true ∷ tile (at + 16 * need) (u - need) false ∷ []) behind × Agrees old new (at + 8) (at + 16 * need)
+  pub resized_less : (new : List ℕ) (need : ℕ) → AreApart false following → Retiles allocator old new before (tile at need true ∷ tile (at + 16 * need) (u - need) false ∷ []) following × Agrees old new (at + 8) (at + 16 * need)
       → IsResized allocator old new at need
   resized_less new need apart c =
-      resizes new need (tile (at + 16 * need) (u - need) false ∷ behind) c.0.tiling refl ((λ e. absurd (never e)), apart) c.0.spared
+      resizes new need (tile (at + 16 * need) (u - need) false ∷ following) c.0.tiling refl ((λ e. absurd (never e)), apart) c.0.spared
       (Agrees-within old new (at + 8) (at + 16 * need) (at + 8) (at + 16 * min u need) c.1 (omega arith) (omega arith))
     where
       never : true ≡ false → ⊥
@@ -254,13 +254,13 @@ module _ {allocator : ℕ} (old : List ℕ) (at u need : ℕ) (h : IsHeap alloca
 module _ {allocator : ℕ} (old : List ℕ) (at u : ℕ) (h : IsHeap allocator old) (held : Contains (live old) (record { at = at; units = u })) where
   pub room_some : (f : Block) → ((xs ys : List Tile) (l : Bool) (t : Tile) → IsTiled old (xs ++ (tile at u l ∷ t ∷ ys)) → IsReadFree t (Some f)) → ((xs : List Tile) (l : Bool) → IsTiled old (xs ++ tile at u l ∷ []) → Some f ≡ None)
       → f.units ≡ room_at (gaps old) (at + 16 * u)
-  room_some f read none = ⊎_elim (λ n. go (behind old at u h held) refl n.0) (λ g. let tiles = g.1.tiling in ((read (before old at u h held) g.1.rest true (tile (at + 16 * u) g.0 false) tiles.tiled).free refl).1 ∙ sym g.1.room)
+  room_some f read none = ⊎_elim (λ n. go (following old at u h held) refl n.0) (λ g. let tiles = g.1.tiling in ((read (before old at u h held) g.1.rest true (tile (at + 16 * u) g.0 false) tiles.tiled).free refl).1 ∙ sym g.1.room)
       (room_cases old at u h held)
     where
       no : Some f ≡ None → ⊥
       no e = cc
 
-      go : (ys : List Tile) → behind old at u h held ≡ ys → AreApart false (behind old at u h held) → f.units ≡ room_at (gaps old) (at + 16 * u)
+      go : (ys : List Tile) → following old at u h held ≡ ys → AreApart false (following old at u h held) → f.units ≡ room_at (gaps old) (at + 16 * u)
       go [] e apart = absurd (no (none (before old at u h held) true (subst (λ l. IsTiled old (before old at u h held ++ tile at u true ∷ l)) e (was old at u h held).tiled)))
       go (t ∷ ys) e apart =
           let live = (subst (λ l. AreApart false l) e apart).0 refl in

@@ -34,15 +34,15 @@ others old new xs ys t s = record {
   front_kept = s.front_kept;
   back_kept = s.back_kept;
   tiles_kept = λ b c. s.tiles_kept b (subst (λ l. Contains l b) (sym (ap live_of (put_front-append xs ys t) ∙ live_of-append xs (t ∷ ys)))
-      (⊎_elim (λ h. Contains-append_left (live_of xs) (live_of (t ∷ ys)) b h) (λ h. Contains-append_right (live_of xs) (live_of (t ∷ ys)) b (behind t ys b h))
+      (⊎_elim (λ h. Contains-append_left (live_of xs) (live_of (t ∷ ys)) b h) (λ h. Contains-append_right (live_of xs) (live_of (t ∷ ys)) b (following t ys b h))
       (Contains-append_cases (live_of xs) (live_of ys) b (subst (λ l. Contains l b) (live_of-append xs ys) c))));
 }
   where
     later : (x b : Span) (l : List Span) → Contains l b → Contains (x ∷ l) b
     later x b l (n, k, e) = (suc n, omega arith, e)
 
-    behind : (t : Tile) (ys : List Tile) (b : Span) → Contains (live_of ys) b → Contains (live_of (t ∷ ys)) b
-    behind t ys b c = elim t.live as (λ l. Contains (cond l (span_of t ∷ live_of ys) (live_of ys)) b) [ true ↦ later (span_of t) b (live_of ys) c | false ↦ c ]
+    following : (t : Tile) (ys : List Tile) (b : Span) → Contains (live_of ys) b → Contains (live_of (t ∷ ys)) b
+    following t ys b c = elim t.live as (λ l. Contains (cond l (span_of t ∷ live_of ys) (live_of ys)) b) [ true ↦ later (span_of t) b (live_of ys) c | false ↦ c ]
 
 -- a gap has two units
 pub absorbs_large : {allocator : ℕ} (old : List ℕ) (xs ys : List Tile) (at u v : ℕ) → IsTiling allocator old (xs ++ (tile at u true ∷ tile (at + 16 * u) v false ∷ ys)) → 2 ≤ v

@@ -60,8 +60,8 @@ module _ {allocator : ℕ} (old new : List ℕ) (u at units : ℕ) (xs ys : List
   takes_whole : u ≤ units → units < u + 2 → Retiles allocator old new xs (tile at units true ∷ []) ys → link_at new at ≡ None → Takes allocator old new u (Some at)
   takes_whole enough small r link_none =
       let parts = around xs ys heap_start (length old) at units false gap_tiling.tiled.filled in
-      let behind = AreApart-back xs (tile at units false ∷ ys) true gap_apart in
-      finish units ys (granted_all units u enough small) refl (AreApart-live false ys behind.1) (subst (λ n. Fill (at + 16 * units) ys n) (sym r.spared.front_kept.length_kept) parts.2) parts.1 r.tiling r.spared link_none
+      let following = AreApart-back xs (tile at units false ∷ ys) true gap_apart in
+      finish units ys (granted_all units u enough small) refl (AreApart-live false ys following.1) (subst (λ n. Fill (at + 16 * units) ys n) (sym r.spared.front_kept.length_kept) parts.2) parts.1 r.tiling r.spared link_none
 
   abbrev rest_tile : Tile
   rest_tile = tile (at + 16 * u) (units - u) false
@@ -71,10 +71,10 @@ module _ {allocator : ℕ} (old new : List ℕ) (u at units : ℕ) (xs ys : List
       → Retiles allocator mid new xs (tile at u true ∷ rest_tile ∷ []) ys × Agrees mid new (at + 8) (at + 16 * u) → Takes allocator old new u (Some at)
   takes_part mid large room r link_none s =
       let parts = around xs ys heap_start (length old) at units false gap_tiling.tiled.filled in
-      let behind = AreApart-back xs (tile at units false ∷ ys) true gap_apart in
+      let following = AreApart-back xs (tile at units false ∷ ys) true gap_apart in
       let spared = Spares-trans old mid new (xs ++ ys) r.spared s.0.spared in
       let end : at + 16 * units ≡ at + 16 * u + 16 * (units - u) = omega arith in
-      finish u (rest_tile ∷ ys) (granted_part units u room) refl ((λ e. absurd (no e)), behind.1)
+      finish u (rest_tile ∷ ys) (granted_part units u room) refl ((λ e. absurd (no e)), following.1)
       (refl, omega arith, subst (λ n. Fill (at + 16 * u + 16 * (units - u)) ys n) (sym spared.front_kept.length_kept) (subst (λ p. Fill p ys (length old)) end parts.2))
       large s.0.tiling spared (target-agrees mid new (at + 8) (at + 16 * u) (at + 12) s.1 (omega arith) (omega arith) ∙ link_none)
     where

@@ -28,14 +28,14 @@ module _ (old new : List ℕ) (misses : ℕ → ℕ → Type 0) (part_misses : (
       let tag = number-agrees old new t.at (t.at + 12) 4 (t.at + 8) same (omega arith) (omega arith) in
       (IsHeader-same old new before before t first (back ∙ h.0.before_is) tag h.0, headers_front xs (from + 16 * t.units) t.units m.1 f.2 h.1)
 
-  headers_behind : (ys : List Tile) (from to before : ℕ) → hi + 8 ≤ from → EachHeader misses ys → Fill from ys to → AreHeaders old before ys → AreHeaders new before ys
-  headers_behind [] from to before high m f h = tt
-  headers_behind (t ∷ ys) from to before high m f h =
+  headers_after : (ys : List Tile) (from to before : ℕ) → hi + 8 ≤ from → EachHeader misses ys → Fill from ys to → AreHeaders old before ys → AreHeaders new before ys
+  headers_after [] from to before high m f h = tt
+  headers_after (t ∷ ys) from to before high m f h =
       let same = kept t.at (t.at + 12) m.0 (inr (omega (arith, f.0))) (inr (omega (arith, f.0))) in
       let first = number-agrees old new t.at (t.at + 12) 4 t.at same (omega arith) (omega arith) in
       let back = number-agrees old new t.at (t.at + 12) 4 (t.at + 4) same (omega arith) (omega arith) in
       let tag = number-agrees old new t.at (t.at + 12) 4 (t.at + 8) same (omega arith) (omega arith) in
-      (IsHeader-same old new before before t first (back ∙ h.0.before_is) tag h.0, headers_behind ys (from + 16 * t.units) to t.units (omega arith) m.1 f.2 h.1)
+      (IsHeader-same old new before before t first (back ∙ h.0.before_is) tag h.0, headers_after ys (from + 16 * t.units) to t.units (omega arith) m.1 f.2 h.1)
 
   headers_next : (ys : List Tile) (to before units : ℕ) → EachHeader misses ys → Fill hi ys to → (hi + 8 ≤ to → word new (hi + 4) ≡ units) → AreHeaders old before ys → AreHeaders new units ys
   headers_next [] to before units m f next h = tt
@@ -45,18 +45,18 @@ module _ (old new : List ℕ) (misses : ℕ → ℕ → Type 0) (part_misses : (
       (omega arith) (omega arith) in
       let tag = number-agrees old new (t.at + 8) (t.at + 12) 4 (t.at + 8)
       (kept (t.at + 8) (t.at + 12) (part_misses t.at (t.at + 12) (t.at + 8) (t.at + 12) m.0 (omega arith) (omega arith)) (inr (omega (arith, f.0))) (inr (omega (arith, f.0)))) (omega arith) (omega arith) in
-      (IsHeader-same old new before units t size (ap (λ p. word new (p + 4)) f.0 ∙ next (omega (arith, f.1))) tag h.0, headers_behind ys (hi + 16 * t.units) to t.units (omega (arith, f.1)) m.1 f.2 h.1)
+      (IsHeader-same old new before units t size (ap (λ p. word new (p + 4)) f.0 ∙ next (omega (arith, f.1))) tag h.0, headers_after ys (hi + 16 * t.units) to t.units (omega (arith, f.1)) m.1 f.2 h.1)
 
   module _ (xs ms ns ys : List Tile) (was : IsTiled old (xs ++ (ms ++ ys))) (length_kept : length new ≡ length old) (front : Fill heap_start xs lo) (middle : Fill lo ns hi) (back : Fill hi ys (length old)) where
     pub retiled : EachHeader misses xs → EachHeader misses ys → AreHeaders new (units_after 0 xs) ns → (hi + 8 ≤ length old → word new (hi + 4) ≡ units_after (units_after 0 xs) ns) → IsTiled new (xs ++ (ns ++ ys))
-    retiled before behind ns_is next_is =
+    retiled before following ns_is next_is =
         let rest = AreHeaders-back old ms ys (units_after 0 xs) (AreHeaders-back old xs (ms ++ ys) 0 was.headers) in
         record {
           small = subst (λ n. n ≤ 2 ^ 30) (sym length_kept) was.small;
           filled = subst (λ n. Fill heap_start (xs ++ (ns ++ ys)) n) (sym length_kept) (Fill-append xs (ns ++ ys) heap_start lo (length old) front (Fill-append ns ys lo hi (length old) middle back));
           headers =
               AreHeaders-append new xs (ns ++ ys) 0 (headers_front xs heap_start 0 before front (AreHeaders-front old xs (ms ++ ys) 0 was.headers))
-              (AreHeaders-append new ns ys (units_after 0 xs) ns_is (headers_next ys (length old) (units_after (units_after 0 xs) ms) (units_after (units_after 0 xs) ns) behind back next_is rest));
+              (AreHeaders-append new ns ys (units_after 0 xs) ns_is (headers_next ys (length old) (units_after (units_after 0 xs) ms) (units_after (units_after 0 xs) ns) following back next_is rest));
         }
 
     -- the tag, link and payload of each live tile beside the middle

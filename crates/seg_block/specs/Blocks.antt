@@ -22,8 +22,8 @@ abbrev pub LiesIn : List ℕ → Block → Type 0
 LiesIn bytes b = (2 ≤ b.units) × (block_end b ≤ length bytes) × (length bytes ≤ MAX_LEN)
 
 -- a block that a segment may have room for, right before a position
-abbrev pub EndsAt : ℕ → Block → Type 0
-EndsAt at b = (block_end b ≡ at) × (2 ≤ b.units)
+abbrev pub IsJustBefore : ℕ → Block → Type 0
+IsJustBefore at b = (block_end b ≡ at) × (2 ≤ b.units)
 
 -- the header at a position states a size of a block, for which the segment has room
 abbrev pub HasRoom : List ℕ → ℕ → Type 0

@@ -11,6 +11,6 @@ pub record JoinsBefore (allocator : ℕ) (live : Bool) (old new : List ℕ) (xs 
   pub front : List Tile
   pub tiling : IsTiling allocator new (front ++ tile at units live ∷ ys)
   pub apart : AreApart true front
-  pub behind_live : live_after true front ≡ true
+  pub after_live : live_after true front ≡ true
   pub live_is : live_of front ≡ live_of xs
   pub spared : Spares old new (xs ++ ys)

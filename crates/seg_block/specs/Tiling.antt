@@ -15,8 +15,8 @@ abbrev pub tile_of : Block → Bool → Tile
 tile_of b live = tile b.at b.units live
 
 -- the units right after a block as a tile
-abbrev pub tile_behind : Block → ℕ → Bool → Tile
-tile_behind b units live = tile (b.at + 16 * b.units) units live
+abbrev pub tile_after : Block → ℕ → Bool → Tile
+tile_after b units live = tile (b.at + 16 * b.units) units live
 
 -- a block with more units as a tile
 abbrev pub grown : Block → ℕ → Bool → Tile

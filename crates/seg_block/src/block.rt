@@ -3,8 +3,8 @@ ghost use Rattle.seg_spec.specs.Window.{with_bytes};
 ghost use Rattle.std.specs.Option.{SomeIff};
 ghost use Rattle.seg_spec.specs.Heap.{Span, span, span_of, Tile, Fill, AreHeaders, IsHeap, units_at, is_live_at};
 ghost use Rattle.seg_block.specs.Sizes.{set_size, set_split};
-ghost use Rattle.seg_block.specs.Tiling.{tile_of, tile_behind, grown, halves, IsTiled, Replaces, ForNext, WhereLast, ForPrevious, WhereFirst};
-ghost use Rattle.seg_block.specs.Blocks.{block_end, Covers, LiesIn, EndsAt, HasRoom, payload_at, IsSized, IsReadFree, HasEnd, IsLiveBlock, room_after};
+ghost use Rattle.seg_block.specs.Tiling.{tile_of, tile_after, grown, halves, IsTiled, Replaces, ForNext, WhereLast, ForPrevious, WhereFirst};
+ghost use Rattle.seg_block.specs.Blocks.{block_end, Covers, LiesIn, IsJustBefore, HasRoom, payload_at, IsSized, IsReadFree, HasEnd, IsLiveBlock, room_after};
 
 use crate::header::{
     HEAP_START, LIVE, TAG, UNIT, UNITS_BEFORE, block_of, is_live, units, units_before,
@@ -70,11 +70,11 @@ pub fn last_block<A: Allocator>(w: &Window<A>, end: u32) -> Option<Block>
 {
     let mut at = HEAP_START;
     while let Some(block) = block_at(w, at) {
-        let behind = block.at + UNIT * block.units;
-        if behind >= end {
+        let following = block.at + UNIT * block.units;
+        if following >= end {
             return Some(block);
         }
-        at = behind;
+        at = following;
     }
     None
 }
@@ -101,7 +101,7 @@ pub fn next<A: Allocator>(w: &Window<A>, block: Block) -> Option<Block>
 
 /// The block right before a block, where it isn't the first.
 pub fn previous<A: Allocator>(w: &Window<A>, block: Block) -> Option<Block>
-    ensures bounds { IfSome result (EndsAt block.at) }
+    ensures bounds { IfSome result (IsJustBefore block.at) }
     ensures read { ForPrevious w.now.bytes block
         (λ t. IsSomeAnd result (λ f. Covers f (span_of t))) }
     ensures none { WhereFirst w.now.bytes block (result ≡ None) }
@@ -123,16 +123,16 @@ pub fn free_after<A: Allocator>(w: &Window<A>, block: Block) -> Option<Block>
     ensures read { ForNext w.now.bytes block (λ t. IsReadFree t result) }
     ensures none { WhereLast w.now.bytes block (result ≡ None) }
 {
-    let behind = next(w, block)?;
-    if is_live(w, behind.at) {
+    let following = next(w, block)?;
+    if is_live(w, following.at) {
         return None;
     }
-    Some(behind)
+    Some(following)
 }
 
 /// The free block right before a block, where there is one.
 pub fn free_before<A: Allocator>(w: &Window<A>, block: Block) -> Option<Block>
-    ensures bounds { IfSome result (EndsAt block.at) }
+    ensures bounds { IfSome result (IsJustBefore block.at) }
     ensures read { ForPrevious w.now.bytes block (λ t. IsReadFree t result) }
     ensures none { WhereFirst w.now.bytes block (result ≡ None) }
 {
@@ -176,15 +176,15 @@ pub fn split<A: Allocator>(w: &mut Window<A>, block: Block, units: u32)
 }
 
 /// Joins a block with the block right after it. It stays live or free as it was.
-pub fn join<A: Allocator>(w: &mut Window<A>, block: Block, behind: Block)
-    requires { block_end block + UNIT * behind.units ≤ MAX_LEN }
+pub fn join<A: Allocator>(w: &mut Window<A>, block: Block, following: Block)
+    requires { block_end block + UNIT * following.units ≤ MAX_LEN }
     ensures bytes { w.new ≡ with_bytes w.old (set_size w.old.bytes block.at
-        (block.units + behind.units) (is_live_at w.old.bytes block.at)) }
+        (block.units + following.units) (is_live_at w.old.bytes block.at)) }
     ensures tiles { (xs ys : List Tile) (l m : Bool)
-        → IsTiled w.old.bytes (xs ++ (tile_of block l ∷ tile_behind block behind.units m ∷ ys))
-        → Replaces w.old.bytes w.new.bytes xs (grown block behind.units l ∷ []) ys
+        → IsTiled w.old.bytes (xs ++ (tile_of block l ∷ tile_after block following.units m ∷ ys))
+        → Replaces w.old.bytes w.new.bytes xs (grown block following.units l ∷ []) ys
         block.at (UNIT * block.units) }
 {
     let live = is_live(w, block.at);
-    set_size(w, block.at, block.units + behind.units, live);
+    set_size(w, block.at, block.units + following.units, live);
 }

@@ -1,6 +1,6 @@
 ghost use Rattle.std.specs.Prelude.{◌≡◌, ℕ, ◌+◌, ◌*◌, ◌/◌, ◌%◌, ◌<◌, ◌≤◌, ◌⊎◌, Bool, List, length};
 ghost use Rattle.seg_spec.specs.Window.{with_bytes, KeepsHost};
-ghost use Rattle.seg_spec.specs.Heap.{Tile, Fill, AreHeaders, HoldsGaps, IsHeap, IsLive, Takes, Gives, Expands, Shrinks, Begins, Extends, Cuts, without_last, free_of, shrunk};
+ghost use Rattle.seg_spec.specs.Heap.{Tile, Fill, AreHeaders, HoldsGaps, IsHeap, IsLive, Takes, Gives, Expands, Shrinks, Begins, Extends, Cuts, without_end, free_of, shrunk};
 ghost use Rattle.seg_block.specs.Blocks.{block_end, smallest, IsCut, IsLiveBlock, room_after, IsResized};
 ghost use Rattle.seg_block.specs.Extents.{Enlarges};
 ghost use Rattle.seg_block.specs.Tiling.{ending};
@@ -124,7 +124,7 @@ pub trait Fit {
         requires { UNIT * units ≤ length w.old.bytes }
         ensures host { KeepsHost w.old w.new }
         ensures extends { smallest + UNIT * units ≤ length w.old.bytes
-            → IsHeap allocator (without_last w.old.bytes units)
+            → IsHeap allocator (without_end w.old.bytes units)
             → Extends allocator w.old.bytes w.new.bytes units }
     {
         let len = w.len();

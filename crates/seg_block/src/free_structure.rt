@@ -5,7 +5,7 @@ ghost use Rattle.seg_spec.specs.Bytes.{Agrees};
 ghost use Rattle.seg_spec.specs.Window.{KeepsHost};
 ghost use Rattle.seg_spec.specs.Heap.{Tile, IsHeap, link_at};
 ghost use Rattle.seg_block.specs.Blocks.{block_end, IsCut, IsLiveBlock, room_after, IsResized};
-ghost use Rattle.seg_block.specs.Tiling.{tile, tile_of, tile_behind, grown, halves, IsTiling, Retiles};
+ghost use Rattle.seg_block.specs.Tiling.{tile, tile_of, tile_after, grown, halves, IsTiling, Retiles};
 
 use crate::block::{Block, join, split};
 use crate::header::{TAG, UNIT};
@@ -88,7 +88,7 @@ pub fn absorb<S: FreeStructure, A: Allocator>(
     ensures none { more ≡ 0 → w.new ≡ w.old }
     ensures tiles { (xs ys : List Tile) → S.leads predecessor xs
         → IsTiling S.allocator w.old.bytes
-        (xs ++ (tile_of block true ∷ tile_behind block more false ∷ ys))
+        (xs ++ (tile_of block true ∷ tile_after block more false ∷ ys))
         → Retiles S.allocator w.old.bytes w.new.bytes xs (grown block more true ∷ []) ys
         × Agrees w.old.bytes w.new.bytes (block.at + TAG) (block_end block) }
 {

@@ -6,7 +6,7 @@ use std::alloc::Allocator;
 const LIVE: u32 = 1 << 31;
 
 /// The bytes of an image, read as a [`Window`]'s are.
-// A copy of this stays in registers, which a window behind a reference doesn't where marks are written meanwhile.
+// A copy of this stays in registers, which a window that a reference leads to doesn't where marks are written meanwhile.
 #[derive(Clone, Copy)]
 pub(crate) struct Bytes<'a> {
     bytes: &'a [u8],

@@ -21,13 +21,13 @@ pub struct TypeTable {
 impl Model for TypeTable {
     ghost use Rattle.std.specs.Prelude.{List};
     ghost use Rattle.seg_spec.specs.Types.{Form};
-    ghost use Rattle.seg_layout.specs.Entries.{forms, AreEntries};
+    ghost use Rattle.seg_layout.specs.Entries.{forms, AreTypeEntries};
 
     ghost Value = { List Form };
 
     ghost view = { λ table. forms table.entries.items };
 
-    ghost invariant = { λ table. AreEntries table.entries.items };
+    ghost invariant = { λ table. AreTypeEntries table.entries.items };
 }
 
 impl TypeTable {

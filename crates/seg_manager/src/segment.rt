@@ -53,8 +53,8 @@ impl<F: Fit, A: Allocator> Segment<F, A> {
     /// The values of the segment, to change.
     pub fn heap_mut(&mut self) -> &mut Heap<F, A>
         ensures value { result.now ≡ self.old }
-        ensures* writes_back { sem 𝓛 (Lends (the_row F.row A.row F.Fit A.Allocator) (the_heap.the_row F.row A.row F.Fit A.Allocator) self.entry result
-            (λ heap. heap)) }
+        ensures* writes_back { sem 𝓛 (Lends (the_row F.row A.row F.Fit A.Allocator)
+            (the_heap.the_row F.row A.row F.Fit A.Allocator) self.entry result (λ heap. heap)) }
     {
         &mut self.heap
     }

@@ -44,7 +44,7 @@ impl NodeOrder<i64> for ByKey {
 
     ghost keyed = { λ _ _ bytes x y key less. steps_up int_cmp_total (signed_long bytes ((x + 16) % 2 ^ 32)) (signed_long bytes ((y + 16) % 2 ^ 32)) key less };
 
-    ghost apart = { λ _ _ _ x low _. (⊎_elim (λ before. inl (omega (arith, before))) (λ behind. inr (omega (arith, behind))) (cases_lt ((x + 16) % 2 ^ 32 + 7) x), tt) };
+    ghost apart = { λ _ _ _ x low _. (⊎_elim (λ before. inl (omega (arith, before))) (λ following. inr (omega (arith, following))) (cases_lt ((x + 16) % 2 ^ 32 + 7) x), tt) };
 
     ghost steady = { λ _ _ old new x y same_x same_y i. int_cmp (signed (number-slice 8 old new ((x + 16) % 2 ^ 32) ((x + 16) % 2 ^ 32) same_x.0 i))
         (signed (number-slice 8 old new ((y + 16) % 2 ^ 32) ((y + 16) % 2 ^ 32) same_y.0 i)) };

@@ -20,17 +20,17 @@ use Rattle.seg_rbtree.proofs.Apartness.{separate-swap}
 pub record AscendParts (order : ℕ → ℕ → Ordering) (xs : List ℕ) (at : ℕ) (ys : List ℕ) : Type 0 where
   pub left : Ascend order xs
   pub before : AllByRecursion (λ x. order x at ≡ Less) xs
-  pub behind : AllByRecursion (λ y. order at y ≡ Less) ys
+  pub following : AllByRecursion (λ y. order at y ≡ Less) ys
   pub right : Ascend order ys
 
 pub ascend-parts : (order : ℕ → ℕ → Ordering) (xs : List ℕ) (at : ℕ) (ys : List ℕ) → Ascend order (xs ++ at ∷ ys) → AscendParts order xs at ys
-ascend-parts order [] at ys a = record { left = tt; before = tt; behind = a.0; right = a.1 }
+ascend-parts order [] at ys a = record { left = tt; before = tt; following = a.0; right = a.1 }
 ascend-parts order (x ∷ xs) at ys a =
     let rest = ascend-parts order xs at ys a.1 in
     record {
       left = (each_left _ xs (at ∷ ys) a.0, rest.left);
       before = ((each_right _ xs (at ∷ ys) a.0).0, rest.before);
-      behind = rest.behind;
+      following = rest.following;
       right = rest.right;
     }
 

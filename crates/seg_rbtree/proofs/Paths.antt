@@ -9,7 +9,7 @@ use Rattle.std.specs.Ordering.{is_eq, ordering_reverse}
 use Rattle.std.specs.declared.cmp.Ordering.{Ordering}
 use Rattle.std.specs.declared.cmp.Ordering.TheVariants.{Less, Equal, Greater}
 use Rattle.seg_spec.specs.Shapes.{Tree, leaf, fork, nodes_of, IsTree}
-use Rattle.seg_spec.specs.Search.{step_of, Ascend, first_where, IsSearchTree}
+use Rattle.seg_spec.specs.Search.{rank_of, Ascend, first_where, IsSearchTree}
 use Rattle.seg_spec.proofs.Frame.{each_left, each_right, each_weaker}
 use Rattle.seg_rbtree.specs.declared.node.Side.{Side}
 use Rattle.seg_rbtree.specs.declared.node.Side.TheVariants.{Left, Right}
@@ -20,7 +20,7 @@ use Rattle.seg_rbtree.specs.Changes.{IsNew}
 use Rattle.seg_rbtree.proofs.Apartness.{each_join}
 use Rattle.seg_rbtree.proofs.Orders.{ascend-parts, ascend-down}
 use Rattle.seg_rbtree.proofs.Searching.{first_here, first_later}
-use Rattle.seg_rbtree.proofs.Unlinking.{before, behind, nodes_plug}
+use Rattle.seg_rbtree.proofs.Unlinking.{before, following, nodes_plug}
 use Rattle.seg_rbtree.proofs.Removed.{rest_hangs}
 
 reversed : (r s : Ordering) → ordering_reverse r ≡ s → r ≡ ordering_reverse s
@@ -33,7 +33,7 @@ unequal Less n = refl
 unequal Equal n = absurd (n refl)
 unequal Greater n = refl
 
-module _ (compare : ℕ → Ordering) (order : ℕ → ℕ → Ordering) (keyed : (x y : ℕ) → order x y ≡ Less → step_of (compare x) ≤ step_of (compare y)) where
+module _ (compare : ℕ → Ordering) (order : ℕ → ℕ → Ordering) (keyed : (x y : ℕ) → order x y ≡ Less → rank_of (compare x) ≤ rank_of (compare y)) where
   abbrev Differ : List ℕ → Type 0
   Differ ns = AllByRecursion (λ x. compare x ≢ Equal) ns
 
@@ -43,12 +43,12 @@ module _ (compare : ℕ → Ordering) (order : ℕ → ℕ → Ordering) (keyed 
   -- what is before a node that is below the key doesn't equal it, and what is after one above it
   differs_before : (at x : ℕ) → compare at ≡ Less → order x at ≡ Less → compare x ≢ Equal
   differs_before at x e l f =
-      let k : 1 ≤ 0 = subst (λ r. step_of r ≤ 0) f (subst (λ r. step_of (compare x) ≤ step_of r) e (keyed x at l)) in
+      let k : 1 ≤ 0 = subst (λ r. rank_of r ≤ 0) f (subst (λ r. rank_of (compare x) ≤ rank_of r) e (keyed x at l)) in
       omega (arith, k)
 
   differs_after : (at y : ℕ) → compare at ≡ Greater → order at y ≡ Less → compare y ≢ Equal
   differs_after at y e l f =
-      let k : 2 ≤ 1 = subst (λ r. 2 ≤ step_of r) f (subst (λ r. step_of r ≤ step_of (compare y)) e (keyed at y l)) in
+      let k : 2 ≤ 1 = subst (λ r. 2 ≤ rank_of r) f (subst (λ r. rank_of r ≤ rank_of (compare y)) e (keyed at y l)) in
       omega (arith, k)
 
   other : (at : ℕ) (r : Ordering) → compare at ≡ r → (r ≡ Equal → ⊥) → compare at ≢ Equal
@@ -61,16 +61,16 @@ module _ (compare : ℕ → Ordering) (order : ℕ → ℕ → Ordering) (keyed 
       go : (side : Side) → compare layer.at ≡ ordering_reverse (turn_of side) → Ascend order (nodes_of (branch side layer.at layer.colour rest layer.other)) → Differ (nodes_of (branch side layer.at layer.colour rest layer.other))
       go Left e h =
           let p = ascend-parts order (nodes_of rest) layer.at (nodes_of layer.other) h in
-          each_join _ (nodes_of rest) (layer.at ∷ nodes_of layer.other) d (other layer.at Greater e (λ q. cc), each_weaker _ _ (λ y f. differs_after layer.at y e f) (nodes_of layer.other) p.behind)
+          each_join _ (nodes_of rest) (layer.at ∷ nodes_of layer.other) d (other layer.at Greater e (λ q. cc), each_weaker _ _ (λ y f. differs_after layer.at y e f) (nodes_of layer.other) p.following)
       go Right e h =
           let p = ascend-parts order (nodes_of layer.other) layer.at (nodes_of rest) h in
           each_join _ (nodes_of layer.other) (layer.at ∷ nodes_of rest) (each_weaker _ _ (λ x f. differs_before layer.at x e f) (nodes_of layer.other) p.before) (other layer.at Less e (λ q. cc), d)
 
-  among : (layers : List Layer) (left right : Tree) (at : ℕ) (nodes : List ℕ) → nodes ≡ before layers ++ ((nodes_of left ++ at ∷ nodes_of right) ++ behind layers) → compare at ≡ Equal → IsEqualAmong compare nodes at
+  among : (layers : List Layer) (left right : Tree) (at : ℕ) (nodes : List ℕ) → nodes ≡ before layers ++ ((nodes_of left ++ at ∷ nodes_of right) ++ following layers) → compare at ≡ Equal → IsEqualAmong compare nodes at
   among layers left right at nodes e f = record {
     front = before layers ++ nodes_of left;
-    back = nodes_of right ++ behind layers;
-    nodes_are = e ∙ ap (λ ns. before layers ++ ns) (append_assoc (nodes_of left) (at ∷ nodes_of right) (behind layers)) ∙ sym (append_assoc (before layers) (nodes_of left) (at ∷ nodes_of right ++ behind layers));
+    back = nodes_of right ++ following layers;
+    nodes_are = e ∙ ap (λ ns. before layers ++ ns) (append_assoc (nodes_of left) (at ∷ nodes_of right) (following layers)) ∙ sym (append_assoc (before layers) (nodes_of left) (at ∷ nodes_of right ++ following layers));
     equals = f;
   }
 

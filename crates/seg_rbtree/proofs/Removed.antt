@@ -25,7 +25,7 @@ use Rattle.seg_rbtree.specs.Removing.{StandsAt, Loses, Unlinks, Restores}
 use Rattle.seg_rbtree.proofs.Apartness.{each_join}
 use Rattle.seg_rbtree.proofs.Keeping.{keeps-none, keeps-trans, keeps-wider}
 use Rattle.seg_rbtree.proofs.Orders.{ascend-parts, ascend-down}
-use Rattle.seg_rbtree.proofs.Unlinking.{before, behind, nodes_plug}
+use Rattle.seg_rbtree.proofs.Unlinking.{before, following, nodes_plug}
 use Rattle.seg_rbtree.proofs.WithoutNode.{without_lost, without_later}
 use Rattle.seg_rbtree.proofs.Steps.{last_word-steps}
 use Rattle.seg_rbtree.proofs.Branches.{tree-down}
@@ -45,16 +45,16 @@ module _ (order : ℕ → ℕ → Ordering) (total : IsTotalOrder order) (node :
   other_than : (at : ℕ) (r : Ordering) → order node at ≡ r → (r ≡ Equal → ⊥) → node ≢ at
   other_than at r e n s = n (sym e ∙ sym (ap (order node) s) ∙ itself)
 
-  not_behind : (at y : ℕ) → order node at ≡ Less → order at y ≡ Less → node ≢ y
-  not_behind at y e f s =
+  not_after : (at y : ℕ) → order node at ≡ Less → order at y ≡ Less → node ≢ y
+  not_after at y e f s =
       let back : order node at ≡ Greater = total.antisymm node at ∙ ap ordering_reverse (ap (order at) s ∙ f) in
       cc
 
   not_before : (at x : ℕ) (r : Ordering) → order node at ≡ r → (r ≡ Less → ⊥) → order x at ≡ Less → node ≢ x
   not_before at x r e n f s = n (sym e ∙ ap (λ y. order y at) s ∙ f)
 
-  not_behind_equal : (at y : ℕ) → order node at ≡ Equal → order at y ≡ Less → node ≢ y
-  not_behind_equal at y e f s =
+  not_after_equal : (at y : ℕ) → order node at ≡ Equal → order at y ≡ Less → node ≢ y
+  not_after_equal at y e f s =
       let back : order node at ≡ Greater = total.antisymm node at ∙ ap ordering_reverse (ap (order at) s ∙ f) in
       cc
 
@@ -69,7 +69,7 @@ module _ (order : ℕ → ℕ → Ordering) (total : IsTotalOrder order) (node :
       go : (side : Side) → order node layer.at ≡ turn_of side → Ascend order (nodes_of (branch side layer.at layer.colour rest layer.other)) → Misses (nodes_of (branch side layer.at layer.colour rest layer.other))
       go Left e h =
           let p = ascend-parts order (nodes_of rest) layer.at (nodes_of layer.other) h in
-          each_join _ (nodes_of rest) (layer.at ∷ nodes_of layer.other) m (other_than layer.at Less e (λ q. cc), each_weaker _ _ (λ y f. not_behind layer.at y e f) (nodes_of layer.other) p.behind)
+          each_join _ (nodes_of rest) (layer.at ∷ nodes_of layer.other) m (other_than layer.at Less e (λ q. cc), each_weaker _ _ (λ y f. not_after layer.at y e f) (nodes_of layer.other) p.following)
       go Right e h =
           let p = ascend-parts order (nodes_of layer.other) layer.at (nodes_of rest) h in
           each_join _ (nodes_of layer.other) (layer.at ∷ nodes_of rest) (each_weaker _ _ (λ x f. not_before layer.at x Greater e (λ q. cc) f) (nodes_of layer.other) p.before) (other_than layer.at Greater e (λ q. cc), m)
@@ -80,7 +80,7 @@ module _ (order : ℕ → ℕ → Ordering) (total : IsTotalOrder order) (node :
   not_at_end bytes (Some q) (fork l at c r) h e a n =
       let p = ascend-parts order (nodes_of l) at (nodes_of r) a in
       each_join _ (nodes_of l) (at ∷ nodes_of r) (each_weaker _ _ (λ x f. not_before at x Equal e (λ s. cc) f) (nodes_of l) p.before)
-      ((λ s. n (ap Some (sym h.0 ∙ sym s))), each_weaker _ _ (λ y f. not_behind_equal at y e f) (nodes_of r) p.behind)
+      ((λ s. n (ap Some (sym h.0 ∙ sym s))), each_weaker _ _ (λ y f. not_after_equal at y e f) (nodes_of r) p.following)
 
 without_absent : (node : ℕ) (xs : List ℕ) → AllByRecursion (λ x. node ≢ x) xs → without_node node xs ≡ xs
 without_absent node [] m = refl
@@ -112,8 +112,8 @@ module _ (bytes : List ℕ) (root : ℕ) (path : Path) (turn : ℕ → Ordering)
 
   pub not_absent : IsSearchTree bytes root shape → node_at bytes path ≡ Some node → AllByRecursion (λ x. node ≢ x) (nodes_of shape) → ⊥
   not_absent t e m =
-      let all : AllByRecursion (λ x. node ≢ x) (before way.layers ++ (nodes_of way.rest ++ behind way.layers)) = subst (λ ns. AllByRecursion (λ x. node ≢ x) ns) (ap nodes_of (sym way.shape_is) ∙ nodes_plug way.layers way.rest) m in
-      root_among bytes node way.rest (subst (λ o. IsTree bytes o way.rest) e (rest_hangs t.is_tree)) (each_left _ (nodes_of way.rest) (behind way.layers) (each_right _ (before way.layers) (nodes_of way.rest ++ behind way.layers) all))
+      let all : AllByRecursion (λ x. node ≢ x) (before way.layers ++ (nodes_of way.rest ++ following way.layers)) = subst (λ ns. AllByRecursion (λ x. node ≢ x) ns) (ap nodes_of (sym way.shape_is) ∙ nodes_plug way.layers way.rest) m in
+      root_among bytes node way.rest (subst (λ o. IsTree bytes o way.rest) e (rest_hangs t.is_tree)) (each_left _ (nodes_of way.rest) (following way.layers) (each_right _ (before way.layers) (nodes_of way.rest ++ following way.layers) all))
 
   pub named_there : node_at bytes path ≡ Some node → target bytes (place path.root way.layers) ≡ Some node
   named_there e = ap (target bytes) (sym (ap (last_word path.root) way.steps_are ∙ last_word-steps path.root way.layers)) ∙ e

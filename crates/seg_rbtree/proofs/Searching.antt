@@ -7,7 +7,7 @@ use Rattle.std.specs.declared.cmp.Ordering.{Ordering}
 use Rattle.std.specs.declared.cmp.Ordering.TheVariants.{Less}
 use Rattle.seg_spec.specs.Pointer.{target}
 use Rattle.seg_spec.specs.Shapes.{Tree, leaf, fork, nodes_of, IsTree}
-use Rattle.seg_spec.specs.Search.{step_of, reaches, Ascend, first_where, IsUpward, looks}
+use Rattle.seg_spec.specs.Search.{rank_of, reaches, Ascend, first_where, IsUpward, looks}
 use Rattle.seg_spec.proofs.Frame.{each_weaker}
 
 -- what hangs at `place` is still to be searched; a later found was found, if `found` is one; so many nodes were looked at
@@ -42,7 +42,7 @@ first_here p x xs e = rw e refl
 pub first_later : (p : ℕ → Bool) (x : ℕ) (xs : List ℕ) → p x ≡ false → first_where p (x ∷ xs) ≡ first_where p xs
 first_later p x xs e = rw e refl
 
--- ---- what is true of all behind
+-- ---- what is true of all after
 
 each_left : (P : ℕ → Type 0) (xs ys : List ℕ) → AllByRecursion P (xs ++ ys) → AllByRecursion P xs
 each_left P [] ys a = tt
@@ -76,8 +76,8 @@ reaches_by : (l x y : ℕ) → x ≤ y → leb l x ≡ true → leb l y ≡ true
 reaches_by l x y h e = grind (arith, nat_tests)
 
 -- what is no further down from a key reaches what the other reaches
-pub reaches_up : (least r s : Ordering) → step_of r ≤ step_of s → reaches least r ≡ true → reaches least s ≡ true
-reaches_up least r s h e = reaches_by (step_of least) (step_of r) (step_of s) h e
+pub reaches_up : (least r s : Ordering) → rank_of r ≤ rank_of s → reaches least r ≡ true → reaches least s ≡ true
+reaches_up least r s h e = reaches_by (rank_of least) (rank_of r) (rank_of s) h e
 
 -- ---- the walk
 
@@ -108,13 +108,13 @@ right bytes p shape leaf at found count e t u f k = absurd t
 right bytes p shape (fork l a c r) at found count e t u f k =
     let d : p a ≡ false = ap p t.0 ∙ e in
     let none : first_where p (nodes_of l) ≡ None = none_before p (nodes_of l) a (nodes_of r) u d in
-    let behind : first_where p (a ∷ nodes_of r) ≡ first_where p (nodes_of r) = first_later p a (nodes_of r) d in
+    let following : first_where p (a ∷ nodes_of r) ≡ first_where p (nodes_of r) = first_later p a (nodes_of r) d in
     let way : looks p (fork l a c r) ≡ suc (looks p r) = rw d refl in
     record {
       rest = r;
       hangs = t.3;
       upward = (upward_right p (nodes_of l) (a ∷ nodes_of r) u).1;
-      node_is = f ∙ ap (λ o. option_or o found) (first_append p (nodes_of l) (a ∷ nodes_of r) ∙ ap (λ o. option_or o (first_where p (a ∷ nodes_of r))) none ∙ behind);
+      node_is = f ∙ ap (λ o. option_or o found) (first_append p (nodes_of l) (a ∷ nodes_of r) ∙ ap (λ o. option_or o (first_where p (a ∷ nodes_of r))) none ∙ following);
       looks_are = omega (arith, k, way);
     }
 
@@ -162,7 +162,7 @@ each_true : (ns : List ℕ) → AllByRecursion (λ _. true ≡ true) ns
 each_true [] = tt
 each_true (x ∷ xs) = (refl, each_true xs)
 
--- what is always true is true of all behind
+-- what is always true is true of all after
 pub always : (ns : List ℕ) → IsUpward (λ _. true) ns
 always [] = tt
 always (x ∷ xs) = (λ _. each_true xs, always xs)

@@ -5,7 +5,7 @@ use Rattle.std.specs.declared.cmp.Ordering.{Ordering}
 use Rattle.std.specs.declared.cmp.Ordering.TheVariants.{Less, Equal}
 use Rattle.seg_spec.specs.Pointer.{target}
 use Rattle.seg_spec.specs.Shapes.{Tree, leaf, fork, nodes_of, IsTree}
-use Rattle.seg_spec.specs.Search.{step_of, Ascend, first_where, IsSearchTree}
+use Rattle.seg_spec.specs.Search.{rank_of, Ascend, first_where, IsSearchTree}
 use Rattle.seg_rbtree.specs.declared.node.Side.{Side}
 use Rattle.seg_rbtree.specs.declared.node.Side.TheVariants.{Left, Right}
 use Rattle.seg_rbtree.specs.Nodes.{side_word}
@@ -75,7 +75,7 @@ module _ (bytes : List ℕ) (turn : ℕ → Ordering) (shape : Tree) where
 
 -- ---- what it finds
 
-module _ (compare : ℕ → Ordering) (order : ℕ → ℕ → Ordering) (keyed : (x y : ℕ) → order x y ≡ Less → step_of (compare x) ≤ step_of (compare y)) (one : (x y : ℕ) → compare x ≡ Equal → compare y ≡ Equal → order x y ≡ Equal) where
+module _ (compare : ℕ → Ordering) (order : ℕ → ℕ → Ordering) (keyed : (x y : ℕ) → order x y ≡ Less → rank_of (compare x) ≤ rank_of (compare y)) (one : (x y : ℕ) → compare x ≡ Equal → compare y ≡ Equal → order x y ≡ Equal) where
   abbrev turn_to : ℕ → Ordering
   turn_to x = ordering_reverse (compare x)
 

@@ -8,7 +8,7 @@ pub last_word-append : (root : ℕ) (xs : List Step) (s : Step) → last_word ro
 last_word-append root [] s = refl
 last_word-append root (x ∷ xs) s = last_word-append (side_word x.node x.side) xs s
 
--- the word behind the steps of layers is that of the place below them
+-- the word after the steps of layers is that of the place below them
 pub last_word-steps : (root : ℕ) (layers : List Layer) → last_word root (steps_of layers) ≡ place root layers
 last_word-steps root [] = refl
 last_word-steps root (layer ∷ layers) = last_word-append root (steps_of layers) (step_of layer)
@@ -18,7 +18,7 @@ last_word-take root [] k d h = absurd (omega arith)
 last_word-take root (x ∷ xs) zero d h = refl
 last_word-take root (x ∷ xs) (suc k) d h = last_word-take (side_word x.node x.side) xs k d (omega arith)
 
--- the word behind the first n steps
+-- the word after the first n steps
 pub word_below : (root : ℕ) (items xs : List Step) (n word : ℕ) (s : Step) → xs ≡ items → n ≢ 0 → n ≤ length items → s ≡ get_or xs (n - 1) s → word ≡ side_word s.node s.side → word ≡ last_word root (take n items)
 word_below root items xs n word s same some enough at is =
     let n_is : suc (n - 1) ≡ n = omega arith in

@@ -23,7 +23,7 @@ use Rattle.seg_rbtree.proofs.Unlinking.{lone_lost, red_unlinked, black_unlinked}
 use Rattle.seg_rbtree.proofs.Walking.{length-steps}
 use Rattle.seg_rbtree.proofs.Lengthening.{path_word, turned_at, here, here_apart, no_tree, painted_fork, fork_at}
 
--- ---- ways one behind the other
+-- ---- ways one after the other
 
 pub plug_on : (tree : Tree) (lower upper : List Layer) → plug tree (lower ++ upper) ≡ plug (plug tree lower) upper
 plug_on tree [] upper = refl

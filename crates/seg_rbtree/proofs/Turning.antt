@@ -71,9 +71,9 @@ turns-up old new at side node colour x far room y h apart t =
     let other : target new opp ≡ target old opp = target-kept old new (side_word node side) opp (nodes_of room) t.kept (two_words node side) (side_word-clear node (opposite side) (nodes_of room) p.node_near) in
     let colours : HasColour new node colour = colour-kept old new (side_word node side) node (nodes_of room) colour t.kept (colour_beside node side) (clear-part node 16 (node + 8) 8 (nodes_of room) (omega arith) (omega arith) p.node_near)
     was.coloured in
-    let behind : IsTree new (target old opp) far = tree-kept old new (side_word node side) (nodes_of room) (target old opp) far t.kept (side_word-clear node side (nodes_of far) p.node_far) p.far_near was.far_hangs in
+    let following : IsTree new (target old opp) far = tree-kept old new (side_word node side) (nodes_of room) (target old opp) far t.kept (side_word-clear node side (nodes_of far) p.node_far) p.far_near was.far_hangs in
     record {
-      hangs = subst (λ o. IsTree new o (branch side node colour y far)) (sym root) (branch-whole new side node colour y far colours t.hangs (subst (λ o. IsTree new o far) (sym other) behind));
+      hangs = subst (λ o. IsTree new o (branch side node colour y far)) (sym root) (branch-whole new side node colour y far colours t.hangs (subst (λ o. IsTree new o far) (sym other) following));
       kept = keeps-wider old new (side_word node side) at (nodes_of room) (nodes_of (branch side node colour room far)) (λ q n s k.
           let c = clear-parts q n side node colour room far k in
           (side_word-apart node q n side c.node_apart, c.near_clear)) t.kept;
@@ -207,9 +207,9 @@ module _ (bytes : List ℕ) (at : ℕ) (side : Side) (node up : ℕ) (colour upp
       (separate-part up 16 (side_word node (opposite side)) 4 (up + 8) 8 (omega arith) (omega arith) (separate-swap (side_word node (opposite side)) 4 up 16 word_up)) high.coloured in
       let up_far : target first (side_word up (opposite side)) ≡ target bytes (side_word up (opposite side)) = target-word bytes (side_word node (opposite side)) v (side_word up (opposite side))
       (separate-swap (side_word node (opposite side)) 4 (side_word up (opposite side)) 4 (side_word-apart up (side_word node (opposite side)) 4 (opposite side) word_up)) in
-      let behind : IsTree first (target first (side_word up (opposite side))) d = subst (λ o. IsTree first o d) (sym up_far)
+      let following : IsTree first (target first (side_word up (opposite side))) d = subst (λ o. IsTree first o d) (sym up_far)
       (tree-word bytes (side_word node (opposite side)) v (target bytes (side_word up (opposite side))) d up_clear.far_clear high.far_hangs) in
-      let whole : IsTree second (Some up) after = relink first up upper side (Some node) (branch side node colour x m) d up_colour lower behind
+      let whole : IsTree second (Some up) after = relink first up upper side (Some node) (branch side node colour x m) d up_colour lower following
       (subst (λ n. StandApart n (side_word up side) (nodes_of (branch side node colour x m))) (sym long_first) r.near_apart) r.node_far in
       let last = turns-hung second at (Some up) before after (subst (λ n. StandApart n at (nodes_of after)) (sym long_second) apart_after) whole in
       record {

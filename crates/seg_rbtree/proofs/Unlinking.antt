@@ -16,33 +16,33 @@ pub nodes_before : Side → Tree → ℕ → List ℕ
 nodes_before Left other at = []
 nodes_before Right other at = nodes_of other ++ at ∷ []
 
-pub nodes_behind : Side → Tree → ℕ → List ℕ
-nodes_behind Left other at = at ∷ nodes_of other
-nodes_behind Right other at = []
+pub nodes_after : Side → Tree → ℕ → List ℕ
+nodes_after Left other at = at ∷ nodes_of other
+nodes_after Right other at = []
 
 pub before : List Layer → List ℕ
 before [] = []
 before (l ∷ ls) = before ls ++ nodes_before l.side l.other l.at
 
-pub behind : List Layer → List ℕ
-behind [] = []
-behind (l ∷ ls) = nodes_behind l.side l.other l.at ++ behind ls
+pub following : List Layer → List ℕ
+following [] = []
+following (l ∷ ls) = nodes_after l.side l.other l.at ++ following ls
 
-nodes_fork : (side : Side) (inner outer : Tree) (at : ℕ) (colour : Colour) → nodes_of (branch side at colour inner outer) ≡ nodes_before side outer at ++ (nodes_of inner ++ nodes_behind side outer at)
-unfolding nodes_before nodes_behind
+nodes_fork : (side : Side) (inner outer : Tree) (at : ℕ) (colour : Colour) → nodes_of (branch side at colour inner outer) ≡ nodes_before side outer at ++ (nodes_of inner ++ nodes_after side outer at)
+unfolding nodes_before nodes_after
 nodes_fork Left inner outer at colour = refl
 nodes_fork Right inner outer at colour = simp (append_assoc, append-nil)
 
 five : (a b c d e : List ℕ) → a ++ ((b ++ (c ++ d)) ++ e) ≡ (a ++ b) ++ (c ++ (d ++ e))
 five a b c d e = simp append_assoc
 
-pub nodes_plug : (layers : List Layer) (tree : Tree) → nodes_of (plug tree layers) ≡ before layers ++ (nodes_of tree ++ behind layers)
-unfolding before behind
+pub nodes_plug : (layers : List Layer) (tree : Tree) → nodes_of (plug tree layers) ≡ before layers ++ (nodes_of tree ++ following layers)
+unfolding before following
 nodes_plug [] tree = sym (append-nil (nodes_of tree))
 nodes_plug (l ∷ ls) tree =
     nodes_plug ls (branch l.side l.at l.colour tree l.other)
-    ∙ ap (λ ns. before ls ++ (ns ++ behind ls)) (nodes_fork l.side tree l.other l.at l.colour)
-    ∙ five (before ls) (nodes_before l.side l.other l.at) (nodes_of tree) (nodes_behind l.side l.other l.at) (behind ls)
+    ∙ ap (λ ns. before ls ++ (ns ++ following ls)) (nodes_fork l.side tree l.other l.at l.colour)
+    ∙ five (before ls) (nodes_before l.side l.other l.at) (nodes_of tree) (nodes_after l.side l.other l.at) (following ls)
 
 -- a part on the far side with the same nodes
 pub outer_nodes : (side : Side) (inner outer other : Tree) (at : ℕ) (colour : Colour) → nodes_of outer ≡ nodes_of other → nodes_of (branch side at colour inner outer) ≡ nodes_of (branch side at colour inner other)
@@ -54,15 +54,15 @@ outer_nodes Right inner outer other at colour e = ap (λ ns. ns ++ at ∷ nodes_
 pub lone_lost : (layers : List Layer) (side : Side) (only : Tree) (node : ℕ) (colour : Colour) → Loses node (nodes_of (plug (branch side node colour leaf only) layers)) (nodes_of (plug only layers))
 lone_lost layers Left only node colour = record {
   front = before layers;
-  back = nodes_of only ++ behind layers;
+  back = nodes_of only ++ following layers;
   old_is = nodes_plug layers (fork leaf node colour only);
   new_is = nodes_plug layers only;
 }
 lone_lost layers Right only node colour = record {
   front = before layers ++ nodes_of only;
-  back = behind layers;
+  back = following layers;
   old_is = nodes_plug layers (fork only node colour leaf) ∙ simp append_assoc;
-  new_is = nodes_plug layers only ∙ sym (append_assoc (before layers) (nodes_of only) (behind layers));
+  new_is = nodes_plug layers only ∙ sym (append_assoc (before layers) (nodes_of only) (following layers));
 }
 
 -- red: the rules of colour hold
@@ -124,20 +124,20 @@ module _ (colour : Colour) (other : Tree) (layers : List Layer) where
   before_next [] at a = refl
   before_next (l ∷ ls) at a = ap (λ s. before (ls ++ right_of at) ++ nodes_before s l.other l.at) a.0 ∙ append-nil (before (ls ++ right_of at)) ∙ before_next ls at a.1
 
-  behind_next : (lower : List Layer) (x y : ℕ) → behind (lower ++ right_of x) ≡ behind (lower ++ right_of y)
-  unfolding behind nodes_behind
-  behind_next [] x y = refl
-  behind_next (l ∷ ls) x y = ap (λ ns. nodes_behind l.side l.other l.at ++ ns) (behind_next ls x y)
+  after_next : (lower : List Layer) (x y : ℕ) → following (lower ++ right_of x) ≡ following (lower ++ right_of y)
+  unfolding following nodes_after
+  after_next [] x y = refl
+  after_next (l ∷ ls) x y = ap (λ ns. nodes_after l.side l.other l.at ++ ns) (after_next ls x y)
 
   -- the next node stands in the place of the one that it follows
   pub next_lost : (lower : List Layer) (node next : ℕ) (tint : Colour) (only : Tree) → AreLeft lower
       → Loses node (nodes_of (plug (fork leaf next tint only) (lower ++ right_of node))) (nodes_of (plug only (lower ++ right_of next)))
   next_lost lower node next tint only a =
-      let rest = behind (lower ++ right_of node) in
+      let rest = following (lower ++ right_of node) in
       record {
         front = before layers ++ nodes_of other;
         back = next ∷ nodes_of only ++ rest;
         old_is = nodes_plug (lower ++ right_of node) (fork leaf next tint only) ∙ ap (λ xs. xs ++ (next ∷ nodes_of only ++ rest)) (before_next lower node a) ∙ simp append_assoc;
-        new_is = nodes_plug (lower ++ right_of next) only ∙ ap (λ xs. xs ++ (nodes_of only ++ behind (lower ++ right_of next))) (before_next lower next a)
-            ∙ ap (λ ys. (before layers ++ (nodes_of other ++ next ∷ [])) ++ (nodes_of only ++ ys)) (behind_next lower next node) ∙ simp append_assoc;
+        new_is = nodes_plug (lower ++ right_of next) only ∙ ap (λ xs. xs ++ (nodes_of only ++ following (lower ++ right_of next))) (before_next lower next a)
+            ∙ ap (λ ys. (before layers ++ (nodes_of other ++ next ∷ [])) ++ (nodes_of only ++ ys)) (after_next lower next node) ∙ simp append_assoc;
       }

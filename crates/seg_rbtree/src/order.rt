@@ -5,7 +5,7 @@ ghost use Rattle.std.specs.declared.cmp.Ordering.{Ordering};
 ghost use Rattle.std.specs.declared.cmp.Ordering.TheVariants.{Less, Equal};
 ghost use Rattle.seg_spec.specs.Apart.{Separate};
 ghost use Rattle.seg_spec.specs.Bytes.{IsSame};
-ghost use Rattle.seg_spec.specs.Search.{step_of};
+ghost use Rattle.seg_spec.specs.Search.{rank_of};
 ghost use Rattle.seg_rbtree.specs.Parts.{Part};
 ghost use Rattle.seg_rbtree.specs.Paths.{sought_by};
 
@@ -45,7 +45,7 @@ pub trait NodeOrder<K: Copy> {
     // A node before another one is no further up from any key.
     ghost keyed: { exact → (order : Self) (bytes : List ℕ) (x y : ℕ) (key : K)
         → compare order bytes x y ≡ Less
-        → step_of (compare_key order bytes x key) ≤ step_of (compare_key order bytes y key) };
+        → rank_of (compare_key order bytes x key) ≤ rank_of (compare_key order bytes y key) };
 
     // It reads no tree word of the node, where a header may lie before it.
     ghost apart: { exact → (order : Self) (bytes : List ℕ) (x : ℕ) → 16 ≤ x

@@ -12,9 +12,9 @@ use Rattle.seg_spec.proofs.TileLaws.{AreHeaders-front, AreApart-front}
 use Rattle.seg_spec.proofs.HeaderLaws.{AreHeaders-set_link}
 use Rattle.seg_block.specs.Sizes.{size_word, set_size}
 use Rattle.seg_block.specs.Tiling.{tile, IsTiling}
-use Rattle.seg_seqfit.specs.Retiling.{link_behind}
+use Rattle.seg_seqfit.specs.Retiling.{link_past}
 use Rattle.seg_block.specs.Blocks.{HasEnd}
-use Rattle.seg_seqfit.proofs.LinkLaws.{Links-changed, link_behind-low, link_behind-off, link_behind-cases, live_beside_link}
+use Rattle.seg_seqfit.proofs.LinkLaws.{Links-changed, link_past-low, link_past-off, link_past-cases, live_beside_link}
 use Rattle.seg_block.proofs.Cuttings as ends
 use Rattle.seg_block.proofs.Extents.{AreHeaders-words}
 use Rattle.seg_block.proofs.Heaps.{tiling_of_heap}
@@ -46,14 +46,14 @@ module _ (old : List ℕ) (large : 736 ≤ length old) (h : IsHeap 0 old) (xs : 
     in_front = ends.in_front old large h xs at u l parts is_free
 
     -- a gap is cut, which some block is in front of, or another
-    module _ (link : ℕ) (link_is : link ≡ link_behind 24 xs) (above : 704 < at) where
+    module _ (link : ℕ) (link_is : link ≡ link_past 24 xs) (above : 704 < at) where
       abbrev pub cut_off : List ℕ
       cut_off = set_pointer (with_size (at / 16)) link None
 
       link_places : (24 ≤ link) × (link + 4 ≤ at)
       link_places =
-          let low = link_behind-low xs 24 heap_start at (omega arith) places.0 in
-          (⊎_elim (λ k. omega arith) (λ k. omega arith) (link_behind-cases xs 24 heap_start at places.0), omega arith)
+          let low = link_past-low xs 24 heap_start at (omega arith) places.0 in
+          (⊎_elim (λ k. omega arith) (λ k. omega arith) (link_past-cases xs 24 heap_start at places.0), omega arith)
 
       agrees_cut : (from to : ℕ) → (to ≤ 12) ⊎ (16 ≤ from) → (to ≤ link) ⊎ (link + 4 ≤ from) → Agrees old cut_off from to
       agrees_cut from to out off = Agrees-trans old (with_size (at / 16)) cut_off from to (agrees_size (at / 16) from to out) (Agrees-set_number 4 (with_size (at / 16)) link (distance link None) from to off)
@@ -68,19 +68,19 @@ module _ (old : List ℕ) (large : 736 ≤ length old) (h : IsHeap 0 old) (xs : 
           let size_long = length-set_number 4 old 12 m in
           let end : at ≡ length old - 16 * u = omega arith in
           let wide = ends.room_in_front old large h xs at u l parts is_free above in
-          let off : (link + 4 ≤ heap_start) ⊎ (link % 16 ≡ 12) = subst (λ x. (x + 4 ≤ heap_start) ⊎ (x % 16 ≡ 12)) (sym link_is) (link_behind-off xs 24 heap_start at heap_start (inl (omega arith)) refl places.0) in
+          let off : (link + 4 ≤ heap_start) ⊎ (link % 16 ≡ 12) = subst (λ x. (x + 4 ≤ heap_start) ⊎ (x % 16 ≡ 12)) (sym link_is) (link_past-off xs 24 heap_start at heap_start (inl (omega arith)) refl places.0) in
           let named : target cut_off link ≡ None = target-set_same (with_size m) link None (omega arith) (omega arith) (λ t e. absurd (never t e)) in
           let heads = AreHeaders-words old (with_size m) xs heap_start at 0 (λ q low high. word_size m q (omega arith)) places.0 (AreHeaders-front old xs (tile at u l ∷ []) 0 was.tiled.headers) in
           ends.cut_to old large h xs at u l parts cut_off u xs long (omega arith) (subst (λ e. Fill heap_start xs e) end places.0)
           (AreHeaders-set_link (with_size m) xs heap_start at 0 link (distance link None) refl off places.0 heads)
           (subst (λ ts. Links cut_off 24 (free_of ts) None) (append-nil xs)
-          (Links-changed old cut_off xs (tile at u l ∷ []) [] 24 heap_start at None None (omega arith) places.0 (agrees_cut 24 (link_behind 24 xs) (inr (omega arith)) (inl (omega arith))) was.free
+          (Links-changed old cut_off xs (tile at u l ∷ []) [] 24 heap_start at None None (omega arith) places.0 (agrees_cut 24 (link_past 24 xs) (inr (omega arith)) (inl (omega arith))) was.free
           (subst (λ x. target cut_off x ≡ None) link_is named)))
           (AreApart-front xs (tile at u l ∷ []) true (ends.apart old large h xs at u l parts)) free_places
           (ends.units_of_gap old large h xs at u l parts is_free above)
           (number-set_other 4 4 (with_size m) link (distance link None) 12 (inl (omega arith)) ∙ number-set_same 4 old 12 m (omega arith) (omega arith) ∙ ap (λ x. x / 16) end)
           (agrees_cut 0 12 (inl (omega arith)) (inl (omega arith))) (agrees_cut 16 24 (inr (omega arith)) (inl (omega arith)))
-          (agrees_cut 28 heap_start (inr (omega arith)) (⊎_elim (λ e. inr (omega arith)) (λ e. inl (omega arith)) (link_behind-cases xs 24 heap_start at places.0)))
+          (agrees_cut 28 heap_start (inr (omega arith)) (⊎_elim (λ e. inr (omega arith)) (λ e. inl (omega arith)) (link_past-cases xs 24 heap_start at places.0)))
           (λ b c. let w = in_front b c in agrees_cut (b.at + 8) (end_of b) (inr (omega arith))
           (subst (λ x. (end_of b ≤ x) ⊎ (x + 4 ≤ b.at + 8)) (sym link_is)
           (⊎_elim (λ e. inl e) (λ e. inr (omega arith)) (live_beside_link xs 24 heap_start at b (omega arith) places.0 (subst (λ s. Contains s b) (ends.live_there old large h xs at u l parts ∙ sym free_places) c)))))
@@ -146,7 +146,7 @@ module _ (old : List ℕ) (len : ℕ) (large : 736 ≤ length old) (h : IsHeap 0
         subst (λ b. Cuts 0 old b (u - 2)) (sym new_is) (cut_whole old large h e.front at u e.live e.parts (sym flag ∙ free) below)
 
     pub cuts_gap : (new : List ℕ) (link : ℕ) → is_live_at old at ≡ false → 704 < at
-        → ((xs ys : List Tile) (l : Bool) → IsTiling 0 old (xs ++ tile at u l ∷ ys) → link ≡ link_behind 24 xs)
+        → ((xs ys : List Tile) (l : Bool) → IsTiling 0 old (xs ++ tile at u l ∷ ys) → link ≡ link_past 24 xs)
         → new ≡ set_pointer (set_word old 12 (at / 16)) link None → Cuts 0 old new u
     cuts_gap new link free above place new_is =
         let e = the_end in

@@ -10,7 +10,7 @@ use Rattle.seg_block.specs.Joining.{JoinsBefore}
 use Rattle.seg_block.specs.Tiling.{tile, IsTiled, IsTiling, Retiles}
 use Rattle.seg_block.proofs.Tiled.{around}
 use Rattle.seg_block.proofs.Heaps.{Spares-trans, Spares-same}
-use Rattle.seg_block.proofs.LiveBlocks.{HasLive, block, block_tiling, block_behind, block_front, gives, read_is, read_held}
+use Rattle.seg_block.proofs.LiveBlocks.{HasLive, block, block_tiling, block_after, block_front, gives, read_is, read_held}
 use Rattle.seg_seqfit.specs.Retiling.{JoinsAfter}
 use Rattle.seg_block.proofs.ReadFree.{found_never, read_is_free, read_is_live}
 
@@ -64,7 +64,7 @@ module _ (old : List ℕ) (at u : ℕ) (h : IsHeap 0 old) (held : Contains (live
   first = release found.xs found.ys (block_tiling old at u h held) (block_front old at u h held)
 
   second : JoinsAfter released new first.front place n found.ys
-  second = join first.front found.ys first.tiling (block_behind old at u h held)
+  second = join first.front found.ys first.tiling (block_after old at u h held)
 
   same : live_of (first.front ++ found.ys) ≡ live_of (found.xs ++ found.ys)
   same = live_of-append first.front found.ys ∙ ap (λ l. l ++ live_of found.ys) first.live_is ∙ sym (live_of-append found.xs found.ys)
@@ -75,7 +75,7 @@ module _ (old : List ℕ) (at u : ℕ) (h : IsHeap 0 old) (held : Contains (live
   freed : Gives 0 old new at
   freed =
       gives old at u h held new (first.front ++ tile place n false ∷ second.rest) second.tiling
-      (AreApart-append first.front (tile place n false ∷ second.rest) true first.apart ((λ e. absurd (never (sym first.behind_live ∙ e))), second.apart))
+      (AreApart-append first.front (tile place n false ∷ second.rest) true first.apart ((λ e. absurd (never (sym first.after_live ∙ e))), second.apart))
       left (Spares-trans old released new (found.xs ++ found.ys) first.spared (Spares-same released new (first.front ++ found.ys) (found.xs ++ found.ys) (sym same) second.spared))
 
 -- at the block that was named

@@ -6,72 +6,72 @@ use Rattle.seg_spec.specs.Pointer.{target}
 use Rattle.seg_spec.specs.Heap.{Span, Tile, span_of, end_of, Fill, Links, live_of, free_of}
 use Rattle.seg_spec.proofs.BytesLaws.{Agrees-within}
 use Rattle.seg_spec.proofs.TileLaws.{Fill-le}
-use Rattle.seg_seqfit.specs.Retiling.{link_behind}
+use Rattle.seg_seqfit.specs.Retiling.{link_past}
 use Rattle.seg_block.proofs.LiveTiles.{cons_cases}
 use Rattle.seg_block.proofs.Heaps.{target-agrees}
 
 -- ---- where the pointer word after some tiles lies
 
-pub link_behind-low : (ts : List Tile) (p from to : ℕ) → p + 4 ≤ from → Fill from ts to → link_behind p ts + 4 ≤ to
-link_behind-low [] p from to low f = omega (arith, f)
-link_behind-low (t ∷ ts) p from to low f =
-    elim t.live as (λ b. link_behind (cond b p (t.at + 12)) ts + 4 ≤ to) [
-      | true ↦ link_behind-low ts p (from + 16 * t.units) to (omega arith) f.2
-      | false ↦ link_behind-low ts (t.at + 12) (from + 16 * t.units) to (omega (arith, f.0, f.1)) f.2
+pub link_past-low : (ts : List Tile) (p from to : ℕ) → p + 4 ≤ from → Fill from ts to → link_past p ts + 4 ≤ to
+link_past-low [] p from to low f = omega (arith, f)
+link_past-low (t ∷ ts) p from to low f =
+    elim t.live as (λ b. link_past (cond b p (t.at + 12)) ts + 4 ≤ to) [
+      | true ↦ link_past-low ts p (from + 16 * t.units) to (omega arith) f.2
+      | false ↦ link_past-low ts (t.at + 12) (from + 16 * t.units) to (omega (arith, f.0, f.1)) f.2
     ]
 
-pub link_behind-off : (ts : List Tile) (p from to start : ℕ) → (p + 4 ≤ start) ⊎ (p % 16 ≡ 12) → from % 16 ≡ 0 → Fill from ts to → (link_behind p ts + 4 ≤ start) ⊎ (link_behind p ts % 16 ≡ 12)
-link_behind-off [] p from to start off aligned f = off
-link_behind-off (t ∷ ts) p from to start off aligned f =
-    elim t.live as (λ b. (link_behind (cond b p (t.at + 12)) ts + 4 ≤ start) ⊎ (link_behind (cond b p (t.at + 12)) ts % 16 ≡ 12)) [
-      | true ↦ link_behind-off ts p (from + 16 * t.units) to start off (omega arith) f.2
-      | false ↦ link_behind-off ts (t.at + 12) (from + 16 * t.units) to start (inr (omega (arith, f.0))) (omega arith) f.2
+pub link_past-off : (ts : List Tile) (p from to start : ℕ) → (p + 4 ≤ start) ⊎ (p % 16 ≡ 12) → from % 16 ≡ 0 → Fill from ts to → (link_past p ts + 4 ≤ start) ⊎ (link_past p ts % 16 ≡ 12)
+link_past-off [] p from to start off aligned f = off
+link_past-off (t ∷ ts) p from to start off aligned f =
+    elim t.live as (λ b. (link_past (cond b p (t.at + 12)) ts + 4 ≤ start) ⊎ (link_past (cond b p (t.at + 12)) ts % 16 ≡ 12)) [
+      | true ↦ link_past-off ts p (from + 16 * t.units) to start off (omega arith) f.2
+      | false ↦ link_past-off ts (t.at + 12) (from + 16 * t.units) to start (inr (omega (arith, f.0))) (omega arith) f.2
     ]
 
-pub link_behind-cases : (ts : List Tile) (p from to : ℕ) → Fill from ts to → (link_behind p ts ≡ p) ⊎ (from ≤ link_behind p ts)
-link_behind-cases [] p from to f = inl refl
-link_behind-cases (t ∷ ts) p from to f =
-    elim t.live as (λ b. (link_behind (cond b p (t.at + 12)) ts ≡ p) ⊎ (from ≤ link_behind (cond b p (t.at + 12)) ts)) [
-      | true ↦ weaker (link_behind-cases ts p (from + 16 * t.units) to f.2)
-      | false ↦ inr (above (link_behind-cases ts (t.at + 12) (from + 16 * t.units) to f.2))
+pub link_past-cases : (ts : List Tile) (p from to : ℕ) → Fill from ts to → (link_past p ts ≡ p) ⊎ (from ≤ link_past p ts)
+link_past-cases [] p from to f = inl refl
+link_past-cases (t ∷ ts) p from to f =
+    elim t.live as (λ b. (link_past (cond b p (t.at + 12)) ts ≡ p) ⊎ (from ≤ link_past (cond b p (t.at + 12)) ts)) [
+      | true ↦ weaker (link_past-cases ts p (from + 16 * t.units) to f.2)
+      | false ↦ inr (above (link_past-cases ts (t.at + 12) (from + 16 * t.units) to f.2))
     ]
   where
-    weaker : (link_behind p ts ≡ p) ⊎ (from + 16 * t.units ≤ link_behind p ts) → (link_behind p ts ≡ p) ⊎ (from ≤ link_behind p ts)
+    weaker : (link_past p ts ≡ p) ⊎ (from + 16 * t.units ≤ link_past p ts) → (link_past p ts ≡ p) ⊎ (from ≤ link_past p ts)
     weaker (inl e) = inl e
     weaker (inr h) = inr (omega arith)
 
-    above : (link_behind (t.at + 12) ts ≡ t.at + 12) ⊎ (from + 16 * t.units ≤ link_behind (t.at + 12) ts) → from ≤ link_behind (t.at + 12) ts
+    above : (link_past (t.at + 12) ts ≡ t.at + 12) ⊎ (from + 16 * t.units ≤ link_past (t.at + 12) ts) → from ≤ link_past (t.at + 12) ts
     above (inl e) = omega (arith, f.0)
     above (inr h) = omega arith
 
 -- ---- the list in two parts
 
-pub Links-behind : (bytes : List ℕ) (xs ys : List Tile) (p : ℕ) (last : Option ℕ) → Links bytes p (free_of (xs ++ ys)) last → Links bytes (link_behind p xs) (free_of ys) last
-Links-behind bytes [] ys p last l = l
-Links-behind bytes (t ∷ xs) ys p last l =
-    let go = elim t.live as (λ b. Links bytes p (cond b (free_of (xs ++ ys)) (span_of t ∷ free_of (xs ++ ys))) last → Links bytes (link_behind (cond b p (t.at + 12)) xs) (free_of ys) last)
-    [ true ↦ (λ l. Links-behind bytes xs ys p last l) | false ↦ (λ l. Links-behind bytes xs ys (t.at + 12) last l.1) ] in
+pub Links-after : (bytes : List ℕ) (xs ys : List Tile) (p : ℕ) (last : Option ℕ) → Links bytes p (free_of (xs ++ ys)) last → Links bytes (link_past p xs) (free_of ys) last
+Links-after bytes [] ys p last l = l
+Links-after bytes (t ∷ xs) ys p last l =
+    let go = elim t.live as (λ b. Links bytes p (cond b (free_of (xs ++ ys)) (span_of t ∷ free_of (xs ++ ys))) last → Links bytes (link_past (cond b p (t.at + 12)) xs) (free_of ys) last)
+    [ true ↦ (λ l. Links-after bytes xs ys p last l) | false ↦ (λ l. Links-after bytes xs ys (t.at + 12) last l.1) ] in
     go l
 
 -- the words before the one after some tiles stay, and what that one begins is changed
-pub Links-changed : (old new : List ℕ) (xs ys zs : List Tile) (p from to : ℕ) (last last' : Option ℕ) → p + 4 ≤ from → Fill from xs to → Agrees old new p (link_behind p xs)
-    → Links old p (free_of (xs ++ ys)) last → Links new (link_behind p xs) (free_of zs) last' → Links new p (free_of (xs ++ zs)) last'
+pub Links-changed : (old new : List ℕ) (xs ys zs : List Tile) (p from to : ℕ) (last last' : Option ℕ) → p + 4 ≤ from → Fill from xs to → Agrees old new p (link_past p xs)
+    → Links old p (free_of (xs ++ ys)) last → Links new (link_past p xs) (free_of zs) last' → Links new p (free_of (xs ++ zs)) last'
 Links-changed old new [] ys zs p from to last last' low f same l l' = l'
 Links-changed old new (t ∷ xs) ys zs p from to last last' low f same l l' =
-    let go = elim t.live as (λ b. Agrees old new p (link_behind (cond b p (t.at + 12)) xs) → Links old p (cond b (free_of (xs ++ ys)) (span_of t ∷ free_of (xs ++ ys))) last
-    → Links new (link_behind (cond b p (t.at + 12)) xs) (free_of zs) last' → Links new p (cond b (free_of (xs ++ zs)) (span_of t ∷ free_of (xs ++ zs))) last') [
+    let go = elim t.live as (λ b. Agrees old new p (link_past (cond b p (t.at + 12)) xs) → Links old p (cond b (free_of (xs ++ ys)) (span_of t ∷ free_of (xs ++ ys))) last
+    → Links new (link_past (cond b p (t.at + 12)) xs) (free_of zs) last' → Links new p (cond b (free_of (xs ++ zs)) (span_of t ∷ free_of (xs ++ zs))) last') [
       | true ↦ (λ same l l'. Links-changed old new xs ys zs p (from + 16 * t.units) to last last' (omega arith) f.2 same l l')
       | false ↦ (λ same l l'.
-          let reach = link_behind-cases xs (t.at + 12) (from + 16 * t.units) to f.2 in
-          let far : t.at + 12 ≤ link_behind (t.at + 12) xs = within reach in (
-            target-agrees old new p (link_behind (t.at + 12) xs) p same (omega arith) (omega (arith, f.0)) ∙ l.0,
+          let reach = link_past-cases xs (t.at + 12) (from + 16 * t.units) to f.2 in
+          let far : t.at + 12 ≤ link_past (t.at + 12) xs = within reach in (
+            target-agrees old new p (link_past (t.at + 12) xs) p same (omega arith) (omega (arith, f.0)) ∙ l.0,
             Links-changed old new xs ys zs (t.at + 12) (from + 16 * t.units) to last last' (omega (arith, f.0, f.1)) f.2
-                (Agrees-within old new p (link_behind (t.at + 12) xs) (t.at + 12) (link_behind (t.at + 12) xs) same (omega (arith, f.0)) (omega arith)) l.1 l',
+                (Agrees-within old new p (link_past (t.at + 12) xs) (t.at + 12) (link_past (t.at + 12) xs) same (omega (arith, f.0)) (omega arith)) l.1 l',
           ))
     ] in
     go same l l'
   where
-    within : (link_behind (t.at + 12) xs ≡ t.at + 12) ⊎ (from + 16 * t.units ≤ link_behind (t.at + 12) xs) → t.at + 12 ≤ link_behind (t.at + 12) xs
+    within : (link_past (t.at + 12) xs ≡ t.at + 12) ⊎ (from + 16 * t.units ≤ link_past (t.at + 12) xs) → t.at + 12 ≤ link_past (t.at + 12) xs
     within (inl e) = omega arith
     within (inr h) = omega (arith, f.0, f.1)
 
@@ -106,16 +106,16 @@ names_tile bytes (s ∷ ts) p from to t aligned f l e =
 
 -- ---- a live tile lies beside the pointer word after the tiles
 
-beside_own : (ts : List Tile) (p from to : ℕ) (t : Tile) (b : Span) → p + 4 ≤ from → t.at ≡ from → Fill (from + 16 * t.units) ts to → span_of t ≡ b → (end_of b ≤ link_behind p ts) ⊎ (link_behind p ts + 4 ≤ b.at)
+beside_own : (ts : List Tile) (p from to : ℕ) (t : Tile) (b : Span) → p + 4 ≤ from → t.at ≡ from → Fill (from + 16 * t.units) ts to → span_of t ≡ b → (end_of b ≤ link_past p ts) ⊎ (link_past p ts + 4 ≤ b.at)
 beside_own ts p from to t b low at_is f e =
-    subst (λ (s : Span). (end_of s ≤ link_behind p ts) ⊎ (link_behind p ts + 4 ≤ s.at)) e
-    (⊎_elim (λ is. inr (omega arith)) (λ above. inl (omega arith)) (link_behind-cases ts p (from + 16 * t.units) to f))
+    subst (λ (s : Span). (end_of s ≤ link_past p ts) ⊎ (link_past p ts + 4 ≤ s.at)) e
+    (⊎_elim (λ is. inr (omega arith)) (λ above. inl (omega arith)) (link_past-cases ts p (from + 16 * t.units) to f))
 
 -- a live tile lies beside the pointer word after the tiles
-pub live_beside_link : (ts : List Tile) (p from to : ℕ) (b : Span) → p + 4 ≤ from → Fill from ts to → Contains (live_of ts) b → (end_of b ≤ link_behind p ts) ⊎ (link_behind p ts + 4 ≤ b.at)
+pub live_beside_link : (ts : List Tile) (p from to : ℕ) (b : Span) → p + 4 ≤ from → Fill from ts to → Contains (live_of ts) b → (end_of b ≤ link_past p ts) ⊎ (link_past p ts + 4 ≤ b.at)
 live_beside_link [] p from to b low f (n, k, e) = absurd (omega arith)
 live_beside_link (t ∷ ts) p from to b low f c =
-    let go = elim t.live as (λ l. Contains (cond l (span_of t ∷ live_of ts) (live_of ts)) b → (end_of b ≤ link_behind (cond l p (t.at + 12)) ts) ⊎ (link_behind (cond l p (t.at + 12)) ts + 4 ≤ b.at)) [
+    let go = elim t.live as (λ l. Contains (cond l (span_of t ∷ live_of ts) (live_of ts)) b → (end_of b ≤ link_past (cond l p (t.at + 12)) ts) ⊎ (link_past (cond l p (t.at + 12)) ts + 4 ≤ b.at)) [
       | true ↦ (λ c. ⊎_elim (λ e. beside_own ts p from to t b low f.0 f.2 e) (λ c. live_beside_link ts p (from + 16 * t.units) to b (omega arith) f.2 c) (cons_cases (span_of t) b (live_of ts) c))
       | false ↦ (λ c. live_beside_link ts (t.at + 12) (from + 16 * t.units) to b (omega (arith, f.0, f.1)) f.2 c)
     ] in

@@ -3,11 +3,11 @@ use Rattle.std.proofs.Common.{◌≡◌, ℕ, List, sym, ap, ◌∙◌}
 use Rattle.seg_spec.specs.Heap.{Tile, gaps, tiles, IsHeap}
 use Rattle.seg_block.proofs.FreeTiles.{HasFree, around_gap}
 use Rattle.seg_seqfit.specs.FreeBlocks.{link_after, IsFirstFit}
-use Rattle.seg_seqfit.specs.Retiling.{link_behind}
+use Rattle.seg_seqfit.specs.Retiling.{link_past}
 use Rattle.seg_seqfit.proofs.Predecessor.{link_after-free_of}
 
 abbrev pub Place : ℕ → List Tile → Type 0
-Place link xs = link ≡ link_behind 24 xs
+Place link xs = link ≡ link_past 24 xs
 
 -- that of the first gap that fits
 pub place_of_gap : (old : List ℕ) (u link at units : ℕ) (h : IsHeap 0 old) (f : IsFirstFit (gaps old) u link at units) → Place link (around_gap (Place link) old u at units h f.is_first f.seen f.rest f.parts).xs

@@ -9,8 +9,8 @@ use Rattle.seg_block.proofs.Tiled.{around}
 use Rattle.seg_block.proofs.Neighbours.{own_flag}
 use Rattle.seg_block.specs.FreeBlocks.{AreFreeBlocks}
 use Rattle.seg_seqfit.specs.FreeBlocks.{link_after}
-use Rattle.seg_seqfit.specs.Retiling.{link_behind}
-use Rattle.seg_seqfit.specs.Leading.{link_behind-append}
+use Rattle.seg_seqfit.specs.Retiling.{link_past}
+use Rattle.seg_seqfit.specs.Leading.{link_past-append}
 use Rattle.seg_block.proofs.FreeTiles.{free_blocks}
 use Rattle.seg_block.proofs.ReadFree.{HasLast, last_cases}
 use Rattle.seg_seqfit.proofs.Walks.{AreBelow, AreAbove, IsPassed, passed_none}
@@ -30,10 +30,10 @@ AreAbove-free_of (t ∷ ys) at from to h f =
     let rest = AreAbove-free_of ys at (from + 16 * t.units) to (omega arith) f.2 in
     elim t.live as (λ b. AreAbove at (cond b (free_of ys) (span_of t ∷ free_of ys))) [ true ↦ rest | false ↦ (omega (arith, f.0), rest) ]
 
-pub link_after-free_of : (xs : List Tile) (p : ℕ) → link_after p (free_of xs) ≡ link_behind p xs
+pub link_after-free_of : (xs : List Tile) (p : ℕ) → link_after p (free_of xs) ≡ link_past p xs
 link_after-free_of [] p = refl
 link_after-free_of (t ∷ xs) p =
-    elim t.live as (λ b. link_after p (cond b (free_of xs) (span_of t ∷ free_of xs)) ≡ link_behind (cond b p (t.at + 12)) xs)
+    elim t.live as (λ b. link_after p (cond b (free_of xs) (span_of t ∷ free_of xs)) ≡ link_past (cond b p (t.at + 12)) xs)
     [ true ↦ link_after-free_of xs p | false ↦ link_after-free_of xs (t.at + 12) ]
 
 pub passed_first : (bytes : List ℕ) (xs ys : List Tile) (at u : ℕ) (l : Bool) → IsTiling 0 bytes (xs ++ tile at u l ∷ ys) → IsPassed bytes (free_of xs) (free_of (tile at u l ∷ ys)) at 24 704
@@ -48,21 +48,21 @@ passed_first bytes xs ys at u l was =
 -- the tiles from this one up to the tiles xs are live
 pub record IsNear (bytes : List ℕ) (xs : List Tile) (near : Block) : Type 0 where
   pub before : List Tile
-  pub behind : List Tile
+  pub following : List Tile
   pub live : Bool
-  pub tiled : IsTiled bytes (before ++ tile near.at near.units live ∷ behind)
-  pub link_is : link_behind 24 before ≡ link_behind 24 xs
+  pub tiled : IsTiled bytes (before ++ tile near.at near.units live ∷ following)
+  pub link_is : link_past 24 before ≡ link_past 24 xs
 
 pub near_first : (bytes : List ℕ) (xs ys : List Tile) (block : Block) (l : Bool) → IsTiling 0 bytes (xs ++ tile block.at block.units l ∷ ys) → IsNear bytes xs block
-near_first bytes xs ys block l was = record { before = xs; behind = ys; live = l; tiled = was.tiled; link_is = refl }
+near_first bytes xs ys block l was = record { before = xs; following = ys; live = l; tiled = was.tiled; link_is = refl }
 
 module _ (bytes : List ℕ) (xs : List Tile) (near : Block) (n : IsNear bytes xs near) where
   -- no tile is before it
-  pub near_none : ((ys zs : List Tile) (l : Bool) (t : Tile) → IsTiled bytes (ys ++ (t ∷ tile near.at near.units l ∷ zs)) → ⊥) → 24 ≡ link_behind 24 xs
+  pub near_none : ((ys zs : List Tile) (l : Bool) (t : Tile) → IsTiled bytes (ys ++ (t ∷ tile near.at near.units l ∷ zs)) → ⊥) → 24 ≡ link_past 24 xs
   near_none never =
-      ⊎_elim (λ e. ap (link_behind 24) (sym e) ∙ n.link_is)
-      (λ h. absurd (never h.front n.behind n.live h.last (subst (λ l. IsTiled bytes l)
-      (ap (λ l. l ++ tile near.at near.units n.live ∷ n.behind) h.parts ∙ append_assoc h.front (h.last ∷ []) (tile near.at near.units n.live ∷ n.behind)) n.tiled)))
+      ⊎_elim (λ e. ap (link_past 24) (sym e) ∙ n.link_is)
+      (λ h. absurd (never h.front n.following n.live h.last (subst (λ l. IsTiled bytes l)
+      (ap (λ l. l ++ tile near.at near.units n.live ∷ n.following) h.parts ∙ append_assoc h.front (h.last ∷ []) (tile near.at near.units n.live ∷ n.following)) n.tiled)))
       (last_cases n.before)
 
   -- this one is before it
@@ -72,28 +72,28 @@ module _ (bytes : List ℕ) (xs : List Tile) (near : Block) (n : IsNear bytes xs
     no e = cc
 
     last : HasLast n.before
-    last = ⊎_elim (λ e. absurd (no (some n.behind n.live (subst (λ l. IsTiled bytes (l ++ tile near.at near.units n.live ∷ n.behind)) e n.tiled)))) (λ h. h) (last_cases n.before)
+    last = ⊎_elim (λ e. absurd (no (some n.following n.live (subst (λ l. IsTiled bytes (l ++ tile near.at near.units n.live ∷ n.following)) e n.tiled)))) (λ h. h) (last_cases n.before)
 
-    tiled : IsTiled bytes (last.front ++ (last.last ∷ tile near.at near.units n.live ∷ n.behind))
-    tiled = subst (λ l. IsTiled bytes l) (ap (λ l. l ++ tile near.at near.units n.live ∷ n.behind) last.parts ∙ append_assoc last.front (last.last ∷ []) (tile near.at near.units n.live ∷ n.behind)) n.tiled
+    tiled : IsTiled bytes (last.front ++ (last.last ∷ tile near.at near.units n.live ∷ n.following))
+    tiled = subst (λ l. IsTiled bytes l) (ap (λ l. l ++ tile near.at near.units n.live ∷ n.following) last.parts ∙ append_assoc last.front (last.last ∷ []) (tile near.at near.units n.live ∷ n.following)) n.tiled
 
     is : (f.at ≡ last.last.at) × (f.units ≡ last.last.units)
-    is = read last.front n.behind n.live last.last tiled
+    is = read last.front n.following n.live last.last tiled
 
     live_is : flag ≡ last.last.live
-    live_is = flag_is ∙ ap (is_live_at bytes) is.0 ∙ own_flag bytes last.front (tile near.at near.units n.live ∷ n.behind) last.last tiled
+    live_is = flag_is ∙ ap (is_live_at bytes) is.0 ∙ own_flag bytes last.front (tile near.at near.units n.live ∷ n.following) last.last tiled
 
-    link_of_last : cond flag (link_behind 24 last.front) (f.at + 12) ≡ link_behind 24 xs
-    link_of_last = (λ i. cond (live_is i) (link_behind 24 last.front) (is.0 i + 12)) ∙ sym (link_behind-append last.front (last.last ∷ []) 24) ∙ ap (link_behind 24) (sym last.parts) ∙ n.link_is
+    link_of_last : cond flag (link_past 24 last.front) (f.at + 12) ≡ link_past 24 xs
+    link_of_last = (λ i. cond (live_is i) (link_past 24 last.front) (is.0 i + 12)) ∙ sym (link_past-append last.front (last.last ∷ []) 24) ∙ ap (link_past 24) (sym last.parts) ∙ n.link_is
 
-    pub near_free : flag ≡ false → f.at + 12 ≡ link_behind 24 xs
-    near_free e = ap (λ b. cond b (link_behind 24 last.front) (f.at + 12)) (sym e) ∙ link_of_last
+    pub near_free : flag ≡ false → f.at + 12 ≡ link_past 24 xs
+    near_free e = ap (λ b. cond b (link_past 24 last.front) (f.at + 12)) (sym e) ∙ link_of_last
 
     pub near_more : flag ≡ true → IsNear bytes xs f
     near_more e = record {
       before = last.front;
-      behind = tile near.at near.units n.live ∷ n.behind;
+      following = tile near.at near.units n.live ∷ n.following;
       live = last.last.live;
-      tiled = subst (λ (t : Tile). IsTiled bytes (last.front ++ (t ∷ tile near.at near.units n.live ∷ n.behind))) (λ i. record { at = sym is.0 i; units = sym is.1 i; live = last.last.live }) tiled;
-      link_is = ap (λ b. cond b (link_behind 24 last.front) (f.at + 12)) (sym e) ∙ link_of_last;
+      tiled = subst (λ (t : Tile). IsTiled bytes (last.front ++ (t ∷ tile near.at near.units n.live ∷ n.following))) (λ i. record { at = sym is.0 i; units = sym is.1 i; live = last.last.live }) tiled;
+      link_is = ap (λ b. cond b (link_past 24 last.front) (f.at + 12)) (sym e) ∙ link_of_last;
     }

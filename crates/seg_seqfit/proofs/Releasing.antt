@@ -8,15 +8,15 @@ use Rattle.seg_spec.proofs.PointerLaws.{target-set_same, target-same}
 use Rattle.seg_spec.proofs.TileLaws.{Fill-le, AreHeaders-back, units_after}
 use Rattle.seg_block.specs.Sizes.{size_word, set_size}
 use Rattle.seg_block.specs.Tiling.{tile, IsTiling, Retiles}
-use Rattle.seg_seqfit.specs.Retiling.{link_behind}
+use Rattle.seg_seqfit.specs.Retiling.{link_past}
 use Rattle.seg_block.proofs.SizeLaws.{IsHeader-set_size}
-use Rattle.seg_seqfit.proofs.LinkLaws.{Links-behind, link_behind-low, names_tile}
+use Rattle.seg_seqfit.proofs.LinkLaws.{Links-after, link_past-low, names_tile}
 use Rattle.seg_block.proofs.Tiled.{around, aligned_end}
 use Rattle.seg_seqfit.proofs.Retile.{IsLocal, retile, spares, link_names, IsLocal-trans, IsLocal-word, IsLocal-link, IsLocal-set_size}
 
 module _ (old : List ℕ) (xs ys : List Tile) (at u : ℕ) (was : IsTiling 0 old (xs ++ tile at u true ∷ ys)) where
   abbrev link : ℕ
-  link = link_behind 24 xs
+  link = link_past 24 xs
 
   abbrev tagged : List ℕ
   tagged = set_word old (at + 8) 0
@@ -40,10 +40,10 @@ module _ (old : List ℕ) (xs ys : List Tile) (at u : ℕ) (was : IsTiling 0 old
   inside = Fill-le ys (at + 16 * u) (length old) parts.2
 
   below : link + 4 ≤ at
-  below = link_behind-low xs 24 heap_start at (omega arith) parts.0
+  below = link_past-low xs 24 heap_start at (omega arith) parts.0
 
   rest_links : Links old link (free_of ys) None
-  rest_links = Links-behind old xs (tile at u true ∷ ys) 24 None was.free
+  rest_links = Links-after old xs (tile at u true ∷ ys) 24 None was.free
 
   length-linked : length linked ≡ length old
   length-linked = length-set_number 4 tagged (at + 12) (distance (at + 12) (target old link)) ∙ length-set_number 4 old (at + 8) 0

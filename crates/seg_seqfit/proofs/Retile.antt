@@ -11,9 +11,9 @@ use Rattle.seg_block.specs.Sizes.{size_word, set_size}
 use Rattle.seg_spec.proofs.TileLaws.{Fill-le, units_after, live_of-append}
 use Rattle.seg_spec.proofs.HeaderLaws.{off_header}
 use Rattle.seg_block.specs.Tiling.{IsTiled, Spares, IsTiling}
-use Rattle.seg_seqfit.specs.Retiling.{link_behind}
+use Rattle.seg_seqfit.specs.Retiling.{link_past}
 use Rattle.seg_block.proofs.Tiled.{EachHeader, retiled, spared_tiles}
-use Rattle.seg_seqfit.proofs.LinkLaws.{link_behind-low, link_behind-off, link_behind-cases, Links-behind, Links-changed, Links-moved, live_beside_link}
+use Rattle.seg_seqfit.proofs.LinkLaws.{link_past-low, link_past-off, link_past-cases, Links-after, Links-changed, Links-moved, live_beside_link}
 use Rattle.seg_block.proofs.LiveTiles.{live_within}
 
 -- only a pointer word, the bytes from lo up to hi, and the word 4 after hi may change
@@ -36,23 +36,23 @@ each_front [] link from to aligned off f = tt
 each_front (t ∷ xs) link from to aligned off f =
     (⊎_elim (λ h. inr (omega (arith, f.0))) (λ h. inl (omega (arith, f.0))) (off_header link from aligned off), each_front xs link (from + 16 * t.units) to (omega arith) (⊎_elim (λ h. inl (omega arith)) (λ h. inr h) off) f.2)
 
-each_behind : (ys : List Tile) (link from to : ℕ) → link + 4 ≤ from → Fill from ys to → EachHeader (Misses link) ys
-each_behind [] link from to low f = tt
-each_behind (t ∷ ys) link from to low f = (inr (omega (arith, f.0)), each_behind ys link (from + 16 * t.units) to (omega arith) f.2)
+each_after : (ys : List Tile) (link from to : ℕ) → link + 4 ≤ from → Fill from ys to → EachHeader (Misses link) ys
+each_after [] link from to low f = tt
+each_after (t ∷ ys) link from to low f = (inr (omega (arith, f.0)), each_after ys link (from + 16 * t.units) to (omega arith) f.2)
 
 -- ---- the free list
 
-Links-last : (bytes : List ℕ) (ts : List Tile) (p : ℕ) (last : Option ℕ) → Links bytes p (free_of ts) last → target bytes (link_behind p ts) ≡ last
+Links-last : (bytes : List ℕ) (ts : List Tile) (p : ℕ) (last : Option ℕ) → Links bytes p (free_of ts) last → target bytes (link_past p ts) ≡ last
 Links-last bytes [] p last l = l
 Links-last bytes (t ∷ ts) p last l =
-    let go = elim t.live as (λ b. Links bytes p (cond b (free_of ts) (span_of t ∷ free_of ts)) last → target bytes (link_behind (cond b p (t.at + 12)) ts) ≡ last)
+    let go = elim t.live as (λ b. Links bytes p (cond b (free_of ts) (span_of t ∷ free_of ts)) last → target bytes (link_past (cond b p (t.at + 12)) ts) ≡ last)
     [ true ↦ (λ l. Links-last bytes ts p last l) | false ↦ (λ l. Links-last bytes ts (t.at + 12) last l.1) ] in
     go l
 
-Links-append : (bytes : List ℕ) (xs ys : List Tile) (p : ℕ) (last last' : Option ℕ) → Links bytes p (free_of xs) last → Links bytes (link_behind p xs) (free_of ys) last' → Links bytes p (free_of (xs ++ ys)) last'
+Links-append : (bytes : List ℕ) (xs ys : List Tile) (p : ℕ) (last last' : Option ℕ) → Links bytes p (free_of xs) last → Links bytes (link_past p xs) (free_of ys) last' → Links bytes p (free_of (xs ++ ys)) last'
 Links-append bytes [] ys p last last' l l' = l'
 Links-append bytes (t ∷ xs) ys p last last' l l' =
-    let go = elim t.live as (λ b. Links bytes p (cond b (free_of xs) (span_of t ∷ free_of xs)) last → Links bytes (link_behind (cond b p (t.at + 12)) xs) (free_of ys) last'
+    let go = elim t.live as (λ b. Links bytes p (cond b (free_of xs) (span_of t ∷ free_of xs)) last → Links bytes (link_past (cond b p (t.at + 12)) xs) (free_of ys) last'
     → Links bytes p (cond b (free_of (xs ++ ys)) (span_of t ∷ free_of (xs ++ ys))) last')
     [ true ↦ (λ l l'. Links-append bytes xs ys p last last' l l') | false ↦ (λ l l'. (l.0, Links-append bytes xs ys (t.at + 12) last last' l.1 l')) ] in
     go l l'
@@ -60,15 +60,15 @@ Links-append bytes (t ∷ xs) ys p last last' l l' =
 -- ---- the whole heap
 
 module _ (old new : List ℕ) (xs ms ns ys : List Tile) (lo hi : ℕ) (was : IsTiling 0 old (xs ++ (ms ++ ys))) (front : Fill heap_start xs lo) (middle : Fill lo ns hi)
-    (back : Fill hi ys (length old)) (local : IsLocal old new (link_behind 24 xs) lo hi) where
-  pub link_low : link_behind 24 xs + 4 ≤ lo
-  link_low = link_behind-low xs 24 heap_start lo (omega arith) front
+    (back : Fill hi ys (length old)) (local : IsLocal old new (link_past 24 xs) lo hi) where
+  pub link_low : link_past 24 xs + 4 ≤ lo
+  link_low = link_past-low xs 24 heap_start lo (omega arith) front
 
-  link_high : 24 ≤ link_behind 24 xs
-  link_high = ⊎_elim (λ h. omega arith) (λ h. omega arith) (link_behind-cases xs 24 heap_start lo front)
+  link_high : 24 ≤ link_past 24 xs
+  link_high = ⊎_elim (λ h. omega arith) (λ h. omega arith) (link_past-cases xs 24 heap_start lo front)
 
-  link_off : (link_behind 24 xs + 4 ≤ heap_start) ⊎ (link_behind 24 xs % 16 ≡ 12)
-  link_off = link_behind-off xs 24 heap_start lo heap_start (inl (omega arith)) refl front
+  link_off : (link_past 24 xs + 4 ≤ heap_start) ⊎ (link_past 24 xs % 16 ≡ 12)
+  link_off = link_past-off xs 24 heap_start lo heap_start (inl (omega arith)) refl front
 
   middle_le : lo ≤ hi
   middle_le = Fill-le ns lo hi middle
@@ -77,26 +77,26 @@ module _ (old new : List ℕ) (xs ms ns ys : List Tile) (lo hi : ℕ) (was : IsT
   retile_tiled ns_is next_is =
       let low = link_low in
       let le = middle_le in
-      retiled old new (Misses (link_behind 24 xs)) (part_misses (link_behind 24 xs)) lo hi le local.kept xs ms ns ys was.tiled local.length_kept front middle back
-      (each_front xs (link_behind 24 xs) heap_start lo refl link_off front) (each_behind ys (link_behind 24 xs) hi (length old) (omega arith) back) ns_is next_is
+      retiled old new (Misses (link_past 24 xs)) (part_misses (link_past 24 xs)) lo hi le local.kept xs ms ns ys was.tiled local.length_kept front middle back
+      (each_front xs (link_past 24 xs) heap_start lo refl link_off front) (each_after ys (link_past 24 xs) hi (length old) (omega arith) back) ns_is next_is
 
-  pub retile_links : Links new (link_behind 24 xs) (free_of ns) (target old (link_behind (link_behind 24 xs) ms)) → Links new 24 (free_of (xs ++ (ns ++ ys))) None
+  pub retile_links : Links new (link_past 24 xs) (free_of ns) (target old (link_past (link_past 24 xs) ms)) → Links new 24 (free_of (xs ++ (ns ++ ys))) None
   retile_links names =
       let link_below = link_low in
       let le = middle_le in
-      let l = link_behind 24 xs in
-      let rest = Links-behind old ms ys l None (Links-behind old xs (ms ++ ys) 24 None was.free) in
+      let l = link_past 24 xs in
+      let rest = Links-after old ms ys l None (Links-after old xs (ms ++ ys) 24 None was.free) in
       Links-changed old new xs (ms ++ ys) (ns ++ ys) 24 heap_start lo None None (omega arith) front (local.kept 24 l (inl (omega arith)) (inl (omega arith)) (inl (omega arith))) was.free
-      (Links-append new ns ys l (target old (link_behind l ms)) None names
-      (Links-moved old new ys (link_behind l ms) (link_behind l ns) hi (length old) None (Links-last new ns l (target old (link_behind l ms)) names)
+      (Links-append new ns ys l (target old (link_past l ms)) None names
+      (Links-moved old new ys (link_past l ms) (link_past l ns) hi (length old) None (Links-last new ns l (target old (link_past l ms)) names)
       (local.kept (hi + 8) (length old) (inr (omega arith)) (inr (omega arith)) (inr (omega arith))) back rest))
 
   pub retile : AreHeaders new (units_after 0 xs) ns → (hi + 8 ≤ length old → word new (hi + 4) ≡ units_after (units_after 0 xs) ns)
-      → Links new (link_behind 24 xs) (free_of ns) (target old (link_behind (link_behind 24 xs) ms)) → IsTiling 0 new (xs ++ (ns ++ ys))
+      → Links new (link_past 24 xs) (free_of ns) (target old (link_past (link_past 24 xs) ms)) → IsTiling 0 new (xs ++ (ns ++ ys))
   retile ns_is next_is names =
       record { tiled = retile_tiled ns_is next_is; free = retile_links names }
 
-  live_misses : (b : Span) → Contains (live_of (xs ++ ys)) b → Misses (link_behind 24 xs) (b.at + 8) (end_of b)
+  live_misses : (b : Span) → Contains (live_of (xs ++ ys)) b → Misses (link_past 24 xs) (b.at + 8) (end_of b)
   live_misses b c =
       let low = link_low in
       let le = middle_le in
@@ -112,8 +112,8 @@ module _ (old new : List ℕ) (xs ms ns ys : List Tile) (lo hi : ℕ) (was : IsT
       let start = Fill-le xs heap_start lo front in
       record {
         front_kept = local.kept 0 24 (inl (omega arith)) (inl (omega arith)) (inl (omega arith));
-        back_kept = local.kept 28 heap_start (⊎_elim (λ h. inr (omega arith)) (λ h. inl (omega arith)) (link_behind-cases xs 24 heap_start lo front)) (inl (omega arith)) (inl (omega arith));
-        tiles_kept = spared_tiles old new (Misses (link_behind 24 xs)) (part_misses (link_behind 24 xs)) lo hi le local.kept xs ms ns ys was.tiled local.length_kept front middle back live_misses;
+        back_kept = local.kept 28 heap_start (⊎_elim (λ h. inr (omega arith)) (λ h. inl (omega arith)) (link_past-cases xs 24 heap_start lo front)) (inl (omega arith)) (inl (omega arith));
+        tiles_kept = spared_tiles old new (Misses (link_past 24 xs)) (part_misses (link_past 24 xs)) lo hi le local.kept xs ms ns ys was.tiled local.length_kept front middle back live_misses;
       }
 
 -- ---- where a tile lies
@@ -123,11 +123,11 @@ pub out_of : (from to lo hi p : ℕ) → (to ≤ lo) ⊎ (hi ≤ from) → lo �
 out_of from to lo hi p (inl h) low high = inl (omega arith)
 out_of from to lo hi p (inr h) low high = inr (omega arith)
 
-pub link_names : (xs : List Tile) (lo t : ℕ) → Fill heap_start xs lo → t % 16 ≡ 0 → t ≢ link_behind 24 xs + 1
+pub link_names : (xs : List Tile) (lo t : ℕ) → Fill heap_start xs lo → t % 16 ≡ 0 → t ≢ link_past 24 xs + 1
 link_names xs lo t front even e =
-    ⊎_elim (λ (h : link_behind 24 xs + 4 ≤ 28). ⊎_elim (λ (k : link_behind 24 xs ≡ 24). absurd (omega arith)) (λ (k : heap_start ≤ link_behind 24 xs). absurd (omega arith)) (link_behind-cases xs 24 heap_start lo front))
-    (λ (h : link_behind 24 xs % 16 ≡ 12). absurd (omega arith))
-    (link_behind-off xs 24 heap_start lo 28 (inl (omega arith)) refl front)
+    ⊎_elim (λ (h : link_past 24 xs + 4 ≤ 28). ⊎_elim (λ (k : link_past 24 xs ≡ 24). absurd (omega arith)) (λ (k : heap_start ≤ link_past 24 xs). absurd (omega arith)) (link_past-cases xs 24 heap_start lo front))
+    (λ (h : link_past 24 xs % 16 ≡ 12). absurd (omega arith))
+    (link_past-off xs 24 heap_start lo 28 (inl (omega arith)) refl front)
 
 -- ---- single writes
 

@@ -8,23 +8,23 @@ use Rattle.seg_spec.proofs.PointerLaws.{target-set_same, target-same}
 use Rattle.seg_spec.proofs.TileLaws.{Fill-le, AreHeaders-back, units_after}
 use Rattle.seg_block.specs.Sizes.{size_word, set_size}
 use Rattle.seg_block.specs.Tiling.{tile, IsTiling, Retiles}
-use Rattle.seg_seqfit.specs.Retiling.{link_behind}
+use Rattle.seg_seqfit.specs.Retiling.{link_past}
 use Rattle.seg_block.proofs.SizeLaws.{IsHeader-set_size, Agrees-set_size, length-set_size}
-use Rattle.seg_seqfit.proofs.LinkLaws.{Links-behind, link_behind-low, names_tile}
+use Rattle.seg_seqfit.proofs.LinkLaws.{Links-after, link_past-low, names_tile}
 use Rattle.seg_block.proofs.Tiled.{around, aligned_end}
 use Rattle.seg_seqfit.proofs.Retile.{IsLocal, retile, spares, out_of, link_names}
 
 -- what the pointer word of a tile of the list names
-pub named_behind : (bytes : List ℕ) (xs ys : List Tile) (at u t : ℕ) → IsTiling 0 bytes (xs ++ tile at u false ∷ ys) → target bytes (at + 12) ≡ Some t → (t % 16 ≡ 0) × (t ≤ length bytes)
-named_behind bytes xs ys at u t was e =
+pub named_after : (bytes : List ℕ) (xs ys : List Tile) (at u t : ℕ) → IsTiling 0 bytes (xs ++ tile at u false ∷ ys) → target bytes (at + 12) ≡ Some t → (t % 16 ≡ 0) × (t ≤ length bytes)
+named_after bytes xs ys at u t was e =
     let parts = around xs ys heap_start (length bytes) at u false was.tiled.filled in
     let even = aligned_end xs heap_start at refl parts.0 in
-    let rest = Links-behind bytes (tile at u false ∷ []) ys (link_behind 24 xs) None (Links-behind bytes xs (tile at u false ∷ ys) 24 None was.free) in
+    let rest = Links-after bytes (tile at u false ∷ []) ys (link_past 24 xs) None (Links-after bytes xs (tile at u false ∷ ys) 24 None was.free) in
     names_tile bytes ys (at + 12) (at + 16 * u) (length bytes) t (omega arith) parts.2 rest e
 
 module _ (old : List ℕ) (xs ys : List Tile) (at u : ℕ) (was : IsTiling 0 old (xs ++ tile at u false ∷ ys)) where
   abbrev link : ℕ
-  link = link_behind 24 xs
+  link = link_past 24 xs
 
   abbrev unlinked : List ℕ
   unlinked = set_pointer old link (target old (at + 12))
@@ -48,7 +48,7 @@ module _ (old : List ℕ) (xs ys : List Tile) (at u : ℕ) (was : IsTiling 0 old
   inside = Fill-le ys (at + 16 * u) (length old) parts.2
 
   below : link + 4 ≤ at
-  below = link_behind-low xs 24 heap_start at (omega arith) parts.0
+  below = link_past-low xs 24 heap_start at (omega arith) parts.0
 
   local : IsLocal old taken link at (at + 16 * u)
   local = record {
@@ -89,7 +89,7 @@ module _ (old : List ℕ) (xs ys : List Tile) (at u : ℕ) (was : IsTiling 0 old
       ∙ number-set_other 4 4 closed at (size_word u true) link (inl (omega arith))
       ∙ number-set_other 4 4 unlinked (at + 12) (distance (at + 12) None) link (inl (omega arith)))
       ∙ target-set_same old link (target old (at + 12)) (omega arith) (omega (arith, was.tiled.small))
-      (λ t e. let is = named_behind old xs ys at u t was e in (omega (arith, was.tiled.small), link_names xs at t parts.0 is.0))
+      (λ t e. let is = named_after old xs ys at u t was e in (omega (arith, was.tiled.small), link_names xs at t parts.0 is.0))
 
   pub take-retiles : Retiles 0 old taken xs (tile at u true ∷ []) ys
   take-retiles = record {

@@ -7,13 +7,13 @@ use Rattle.seg_block.specs.Tiling.{tile, IsTiling, Spares}
 
 -- the pointer word that names the first free tile after these, where a list
 -- begins at a pointer word
-abbrev pub link_behind : ℕ → List Tile → ℕ
-link_behind at [] = at
-link_behind at (t ∷ ts) = link_behind (if t.live then at else t.at + LINK) ts
+abbrev pub link_past : ℕ → List Tile → ℕ
+link_past at [] = at
+link_past at (t ∷ ts) = link_past (if t.live then at else t.at + LINK) ts
 
 -- the pointer word of the list that names the first free tile after these
 abbrev pub link_to : List Tile → ℕ
-link_to ts = link_behind FREE ts
+link_to ts = link_past FREE ts
 
 -- the free tile at a position was joined with the free tile right after it, where there is one,
 -- and has so many units now

@@ -5,7 +5,7 @@ ghost use Rattle.seg_spec.specs.Window.{KeepsHost};
 ghost use Rattle.seg_spec.specs.Heap.{Tile, AreApart};
 ghost use Rattle.seg_block.specs.Joining.{JoinsBefore};
 ghost use Rattle.seg_block.specs.Blocks.{block_end};
-ghost use Rattle.seg_block.specs.Tiling.{tile_of, tile_behind, grown, IsTiling, Retiles};
+ghost use Rattle.seg_block.specs.Tiling.{tile_of, tile_after, grown, IsTiling, Retiles};
 ghost use Rattle.seg_seqfit.specs.Retiling.{link_to, JoinsAfter};
 ghost use Rattle.seg_seqfit.specs.Leading.{leads_past};
 
@@ -73,7 +73,7 @@ pub(crate) fn merge<A: Allocator>(w: &mut Window<A>, front: Block, rest: Block)
     ensures host { KeepsHost w.old w.new }
     ensures tiles { (xs ys : List Tile)
         → IsTiling 0 w.old.bytes
-        (xs ++ (tile_of front false ∷ tile_behind front rest.units false ∷ ys))
+        (xs ++ (tile_of front false ∷ tile_after front rest.units false ∷ ys))
         → Retiles 0 w.old.bytes w.new.bytes xs (grown front rest.units false ∷ []) ys }
 {
     let next = w.target((front.at + UNIT * front.units) as usize + LINK);

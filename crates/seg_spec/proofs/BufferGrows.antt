@@ -1,10 +1,10 @@
 -- A place where calls find it, after a block that it owns got more units where it stands.
-use Rattle.std.proofs.Common.{◌≡◌, ◌≢◌, ℕ, zero, suc, ◌+◌, ◌-◌, ◌*◌, ◌<◌, ◌≤◌, ◌⊎◌, inl, inr, true, false, List, [], ◌∷◌, length, eqb, refl, sym, ap, ◌∙◌, subst, arith}
+use Rattle.std.proofs.Common.{◌≡◌, ◌≢◌, ℕ, zero, suc, ◌≤◌, ◌⊎◌, inl, inr, true, false, List, [], ◌∷◌, length, eqb, refl, sym, ap, ◌∙◌, subst, arith}
 use Rattle.std.specs.Prelude.{Contains, slice_index_or}
-use Rattle.std.specs.List.{AllByRecursion}
 use Rattle.std.proofs.lemmas.Bool.{cases_eq}
 use Rattle.std.proofs.lemmas.Bool.Decides.{nat_tests}
 use Rattle.seg_spec.specs.Bytes.{IsSame}
+use Rattle.seg_spec.specs.Header.{KeepsFront, KeepsBack}
 use Rattle.seg_spec.specs.Types.{Table, size}
 use Rattle.seg_spec.specs.Value.{Value}
 use Rattle.seg_spec.specs.Heap.{Span, span, units_at, IsHeap, live, heap_start, resized, Keeps}
@@ -12,12 +12,12 @@ use Rattle.seg_spec.specs.Block.{IsOwnable, KeepsBlock}
 use Rattle.seg_spec.specs.Reads.{Place}
 use Rattle.seg_spec.specs.Sound.{times, positions}
 use Rattle.seg_spec.specs.Owning.{Stands}
-use Rattle.seg_spec.proofs.LiveLaws.{times-same, there, LiesIn, live-lie, positions-resized}
+use Rattle.seg_spec.proofs.LiveLaws.{there, LiesIn, live-lie, positions-resized}
 use Rattle.seg_spec.proofs.KeptLaws.{each_contained, StatesSpan, live_stated, block_kept, block_ownable, front_kept}
 use Rattle.seg_spec.proofs.Giving.{found}
 use Rattle.seg_spec.proofs.Composing.{around_kept}
 use Rattle.seg_spec.proofs.PlaceSteps.{home_live}
-use Rattle.seg_spec.proofs.Standing.{Frames, each_live_at, live_at, same_place, stands_still, still_home}
+use Rattle.seg_spec.proofs.Standing.{Frames, each_live_at, live_at, same_place, stands_still}
 
 resized_here : (at n : ℕ) (bs : List Span) (b : Span) → Contains bs b → b.at ≡ at → Contains (resized at n bs) (span at n)
 resized_here at n [] b c e = absurd (omega (arith, c.1))
@@ -85,7 +85,7 @@ module _ (allocator : ℕ) (old : List ℕ) (table : Table) (place : Place) (v :
   home_lies : LiesIn old heap_start (length old) s.home
   home_lies = there (LiesIn old heap_start (length old)) s.home (positions (live old)) (live-lie old allocator s.heap) (home_live allocator old table place v blocks s)
 
-  front : IsSame old new 0 24 × IsSame old new 28 676
+  front : KeepsFront old new × KeepsBack old new
   front = front_kept old new kept (omega (arith, home_lies.low, home_lies.high))
 
   of_ours : (h : ℕ) → 1 ≤ times h (s.home ∷ blocks) → 1 ≤ times h (positions (live old))

@@ -1,18 +1,15 @@
 -- A buffer that moves to a new block, step by step: the block gets its tag, the entries move there, the cell names it, and the
 -- old block is given back.
-use Rattle.std.proofs.Common.{◌≡◌, ◌≢◌, ℕ, ◌+◌, ◌-◌, ◌*◌, ◌%◌, ◌^◌, ◌<◌, ◌≤◌, inl, inr, ⊎_elim, true, List, [], ◌∷◌, ◌++◌, length, Option, Some, None, unwrap_or, option_to_list, option_map, MatchOption, refl, sym, ap, ◌∙◌, subst, arith}
-use Rattle.std.proofs.lemmas.Bool.{cases_eq}
+use Rattle.std.proofs.Common.{◌≡◌, ◌≢◌, ℕ, ◌+◌, ◌-◌, ◌*◌, ◌%◌, ◌^◌, ◌<◌, ◌≤◌, inr, true, List, [], ◌∷◌, ◌++◌, length, Option, Some, None, option_to_list, option_map, MatchOption, refl, sym, ap, ◌∙◌, subst, arith}
 use Rattle.std.specs.Prelude.{Contains}
-use Rattle.std.specs.List.{AllByRecursion}
-use Rattle.seg_spec.specs.Bytes.{word, set_word, IsSame, ChangesOnly}
+use Rattle.seg_spec.specs.Bytes.{set_word, IsSame, ChangesOnly}
 use Rattle.seg_spec.specs.Pointer.{target, set_pointer, distance}
 use Rattle.seg_spec.specs.Types.{Form, Table, form_at, size}
 use Rattle.seg_spec.specs.Value.{Value}
-use Rattle.seg_spec.specs.Heap.{Span, units_at, IsHeap, live, heap_start, without, IsLive, Takes, Gives}
+use Rattle.seg_spec.specs.Heap.{units_at, live, heap_start, without, IsLive, Takes, Gives}
 use Rattle.seg_spec.specs.Block.{Kind, tag_of, IsBlock, IsInside, KeepsBlock, block_of, payload_size, has_buffer}
 use Rattle.seg_spec.specs.Reads.{Place, Holds, count_at, named, start, NamesRoom}
 use Rattle.seg_spec.specs.Sound.{times, positions}
-use Rattle.seg_spec.specs.Roots.{ChangesPlace}
 use Rattle.seg_spec.specs.Demand.{after_gives}
 use Rattle.seg_spec.specs.Cells.{IsWithin}
 use Rattle.seg_spec.specs.Owning.{Stands, StandsBeside}
@@ -25,15 +22,15 @@ use Rattle.seg_spec.proofs.Frame.{IsBlock-kept, cell-target, cell-count}
 use Rattle.seg_spec.proofs.TypesLaws.{size_large}
 use Rattle.seg_spec.proofs.Writing.{set_number-changes}
 use Rattle.seg_spec.proofs.LiveLaws.{times-same, times-other, times-append, times-more, times-without, there, each_there, LiesIn, live-lie, live-once}
-use Rattle.seg_spec.proofs.NewBlock.{block_fits, was_free}
+use Rattle.seg_spec.proofs.NewBlock.{was_free}
 use Rattle.seg_spec.proofs.Giving.{found}
 use Rattle.seg_spec.proofs.CellSteps.{ChangesOnly-none, ChangesOnly-wider}
 use Rattle.seg_spec.proofs.PlaceSteps.{home_live, owned_live, owned_other, place_within, live_then, whole_then}
-use Rattle.seg_spec.proofs.Standing.{Frames, same_place, marked_home, beside_home, written_home, marked_kept, frames_twice, marked_heap, marked_live, marked_counts, marked_block, marked_stands, marked_frames, unowned, beside_live, beside_stands, beside_place, beside_frames, beside_block, written_stands, written_frames, left_stands, left_place, left_frames, left_kept, changes_of}
+use Rattle.seg_spec.proofs.Standing.{Frames, same_place, marked_home, beside_home, written_home, marked_kept, frames_twice, marked_live, marked_counts, marked_block, marked_stands, marked_frames, unowned, beside_live, beside_stands, beside_place, beside_frames, beside_block, written_stands, written_frames, left_stands, left_place, left_frames, left_kept, changes_of}
 use Rattle.seg_spec.proofs.Buffered.{HoldsEntries, Buffered, buffered, holds_buffered, MovesEntries, entries_moved, entries_changes, entries_kept, entries_none}
 
 smaller_block : (bytes : List ℕ) (p tag n m : ℕ) → m ≤ n → IsBlock bytes p tag n → IsBlock bytes p tag m
-smaller_block bytes p tag n m l b = record { behind_header = b.behind_header; live = b.live; has_tag = b.has_tag; room = omega (arith, b.room) }
+smaller_block bytes p tag n m l b = record { after_header = b.after_header; live = b.live; has_tag = b.has_tag; room = omega (arith, b.room) }
 
 pub less_room : (bytes : List ℕ) (at n m : ℕ) → m ≤ n → HasRoomFor bytes at n → HasRoomFor bytes at m
 less_room bytes at n m l h = go (target bytes at) h
@@ -118,7 +115,7 @@ module _ (allocator : ℕ) (old taken : List ℕ) (table : Table) (place : Place
       let room : IsBlock tagged p (tag_of Kind.buffer place.type) (n * each) = rw e at its.room in
       let mine : 1 ≤ times (block_of p) blocks = rw (its.blocks_are, e) (omega (arith, times-same (block_of p) its.owned)) in
       let l = there (LiesIn tagged heap_start (length tagged)) (block_of p) (positions (live tagged)) (live-lie tagged allocator tagged_stands.heap) (owned_live allocator tagged table place v blocks tagged_stands (block_of p) mine) in
-      record { fits = omega (arith, room.room, room.behind_header, l.high, l.size); small = tagged_stands.heap.small }
+      record { fits = omega (arith, room.room, room.after_header, l.high, l.size); small = tagged_stands.heap.small }
 
   pub to_within : n * each + 16 ≤ 16 * u → IsWithin tagged (g + 16) (n * each)
   to_within fits = record { fits = omega (arith, g_lies.high, units); small = tagged_stands.heap.small }

@@ -122,15 +122,15 @@ no_before : (ps : List ℕ) → map (λ p. p + 0) ps ≡ ps
 no_before [] = refl
 no_before (p ∷ ps) = let e : p + 0 ≡ p = omega arith in rw (e, no_before ps) refl
 
--- the keys behind the first
-all_behind : (q s each m k : ℕ) → q ≤ s → AllByRecursion (λ p. (q + 8 ≤ p) ⊎ (p + m ≤ q)) (map (λ p. p + 8) (spaced s each k))
-all_behind q s each m zero l = tt
-all_behind q s each m (suc k) l = (inl (omega arith), all_behind q (s + each) each m k (omega arith))
+-- the keys after the first
+all_after : (q s each m k : ℕ) → q ≤ s → AllByRecursion (λ p. (q + 8 ≤ p) ⊎ (p + m ≤ q)) (map (λ p. p + 8) (spaced s each k))
+all_after q s each m zero l = tt
+all_after q s each m (suc k) l = (inl (omega arith), all_after q (s + each) each m k (omega arith))
 
 -- a key lies beside each value
 key_beside : (q s each m i k : ℕ) → 8 + m ≡ each → q ≡ s + i * each → AllByRecursion (λ p. (q + 8 ≤ p) ⊎ (p + m ≤ q)) (map (λ p. p + 8) (spaced s each k))
 key_beside q s each m i zero e at = tt
-key_beside q s each m zero (suc k) e at = all_behind q s each m (suc k) (omega arith)
+key_beside q s each m zero (suc k) e at = all_after q s each m (suc k) (omega arith)
 key_beside q s each m (suc i) (suc k) e at =
     let more : suc i * each ≡ each + i * each = grind arith in
     (inr (omega arith), key_beside q (s + each) each m i k e (omega arith))

@@ -11,7 +11,7 @@ use Rattle.seg_spec.specs.Value.{Label, Value, Values}
 use Rattle.seg_spec.specs.Heap.{units_at, IsHeap, live, heap_start}
 use Rattle.seg_spec.specs.Block.{Kind, tag_of, IsBlock, KeepsBlock, IsInside, block_of, payload_size}
 use Rattle.seg_spec.specs.Shapes.{nodes_of}
-use Rattle.seg_spec.specs.Reads.{Place, Opened, count_at, named, start, spaced, places_of, items, OpensOwn, OpensBuffer, OpensTree, Opens, Holds, holds, HoldsEach, holds_none}
+use Rattle.seg_spec.specs.Reads.{Place, Opened, count_at, named, start, spaced, places_of, items, OpensOwn, OpensBuffer, OpensTree, Opens, Holds, holds, HoldsEach, holds_none, map_words}
 use Rattle.seg_spec.specs.Cells.{EachCell}
 use Rattle.seg_spec.specs.Sound.{times, SameBlocks, positions}
 use Rattle.seg_spec.specs.Owing.{NamesNothing, AreParts, no_parts, more_parts, entries_at, entries_of, OpensBlock, Owes, owes, no_links}
@@ -36,7 +36,7 @@ module _ (allocator : ℕ) (old new : List ℕ) (at m h : ℕ) (heap : IsHeap al
       let x = block_of q in
       let k = there (KeptBut old new at m changes allocator heap h inside owned) (block_of q) (positions (live old)) (live_kept_but old new at m changes allocator heap h inside owned) some in
       record {
-        behind_header = b.behind_header;
+        after_header = b.after_header;
         live = ap (λ w. nat_le (2 ^ 31) w) (word-same old new (block_of q) (k.outside (block_of q) 4 (omega arith) (omega arith))) ∙ b.live;
         has_tag = word-same old new (block_of q + 8) (k.outside (block_of q + 8) 4 (omega arith) (omega arith)) ∙ b.has_tag;
         room = rw k.units_kept b.room;
@@ -80,7 +80,7 @@ module _ (bytes : List ℕ) (table : Table) (place : Place) (p : ℕ) (e : targe
   tree_by : (U : ℕ) (f : form_at table place.type ≡ Some (Form.map U)) (opened : Opened) (inside : Values) (owned xs : List ℕ) → OpensTree bytes table place.at (tag_of Kind.node place.type) U opened →
       HoldsEach bytes table opened.parts inside owned → xs ≡ opened.blocks ++ owned → GoesWith bytes table p xs
   tree_by U f opened inside owned xs o hs is =
-      let parts : opened.parts ≡ places_of U (map (λ p. p + 24) (nodes_of o.tree)) = ap (λ (r : Opened). r.parts) o.opened_is in
+      let parts : opened.parts ≡ places_of U (map (λ p. p + map_words) (nodes_of o.tree)) = ap (λ (r : Opened). r.parts) o.opened_is in
       let blocks : opened.blocks ≡ map block_of (nodes_of o.tree) = ap (λ (r : Opened). r.blocks) o.opened_is in
       let r = tree_owes bytes table place.type U f (target bytes place.at) o.tree inside owned o.is_tree o.are_nodes (subst (λ ps. HoldsEach bytes table ps inside owned) parts hs) in
       record {
@@ -103,7 +103,7 @@ module _ (bytes : List ℕ) (table : Table) (place : Place) (p : ℕ) (e : targe
       HoldsEach bytes table opened.parts inside owned → xs ≡ opened.blocks ++ owned → GoesWith bytes table p xs
   text_by f opened is inside owned xs o blocks_is parts_is hs xs_is =
       let room : IsBlock bytes p (tag_of Kind.buffer place.type) (count_at bytes place.at * 1) = rw e at o.named_room in
-      let block : IsBlock bytes p (tag_of Kind.buffer place.type) 0 = record { behind_header = room.behind_header; live = room.live; has_tag = room.has_tag; room = omega arith } in
+      let block : IsBlock bytes p (tag_of Kind.buffer place.type) 0 = record { after_header = room.after_header; live = room.live; has_tag = room.has_tag; room = omega arith } in
       let none : owned ≡ [] = nothing inside owned (subst (λ ps. HoldsEach bytes table ps inside owned) (ap (λ (r : Opened). r.parts) o.opened_is ∙ parts_is) hs) in
       let blocks : opened.blocks ≡ block_of p ∷ [] = ap (λ (r : Opened). r.blocks) o.opened_is ∙ blocks_is ∙ named_is in
       let shown : OpensBlock bytes table p Kind.buffer place.type (form_at table place.type) [] [] = rw f (block, refl, refl) in
@@ -172,7 +172,7 @@ module _ (allocator : ℕ) (old new : List ℕ) (table : Table) (valid : IsTable
   inside : IsInside old (block_of p) (p + n * (before + size table U)) (payload_size old (block_of p) - n * (before + size table U))
   inside =
       let room = block.room in
-      let low = block.behind_header in
+      let low = block.after_header in
       let large = (there (LiesIn old heap_start (length old)) (block_of p) (positions (live old)) (live-lie old allocator heap) here).size in
       record { low = omega arith; high = omega arith }
 
@@ -206,7 +206,7 @@ module _ (allocator : ℕ) (old new : List ℕ) (table : Table) (valid : IsTable
         goes = record {
           owed = block_of p ∷ ((owned ++ []) ++ []);
           owes_it = owes Kind.buffer T (entries_of new table p before U) [] (owned ++ []) []
-              (shows (record { behind_header = block_new.behind_header; live = block_new.live; has_tag = block_new.has_tag; room = omega arith }))
+              (shows (record { after_header = block_new.after_header; live = block_new.live; has_tag = block_new.has_tag; room = omega arith }))
               (subst (λ ps. AreParts new table ps (owned ++ [])) (sym entries) all) no_links refl;
           owed_are = λ h. let a = times-append h owned [] in let b = times-append h (owned ++ []) [] in let s = same h in omega arith;
         };

@@ -212,13 +212,13 @@ module _ (R : List ℕ → List ℕ → ℕ → Option Form → Type 0) (local :
       let total = sum_push Us U in
       let before : IsSame b c at (sum_by (size table) Us) = l.changes.others at (sum_by (size table) Us) (inl (omega arith)) in
       let before_0 : IsSame b c (at + 0) (sum_by (size table) Us) = rw (add-zero at) before in
-      let behind : IsSame a b (at + sum_by (size table) Us) (size table U) = k.changes.others (at + sum_by (size table) Us) (size table U) (inr (omega arith)) in
+      let following : IsSame a b (at + sum_by (size table) Us) (size table U) = k.changes.others (at + sum_by (size table) Us) (size table U) (inr (omega arith)) in
       record {
         changes = ChangesOnly-trans a b c at (sum_by (size table) (Us ++ U ∷ []))
             (ChangesOnly-wider a b at (sum_by (size table) Us) at (sum_by (size table) (Us ++ U ∷ [])) (omega arith) (omega arith) k.changes)
             (ChangesOnly-wider b c (at + sum_by (size table) Us) (size table U) at (sum_by (size table) (Us ++ U ∷ [])) (omega arith) (omega arith) l.changes);
         cells = field_push (λ d form. R a c (at + d) form) 0 Us U (fields_then a b c at 0 Us before_0 k.cells)
-            (each_weaker _ _ (λ c' r. place_it at (sum_by (size table) Us) c'.from (form_at table c'.type) r) (cells table U) (cells_after a b c (at + sum_by (size table) Us) U behind l.cells));
+            (each_weaker _ _ (λ c' r. place_it at (sum_by (size table) Us) c'.from (form_at table c'.type) r) (cells table U) (cells_after a b c (at + sum_by (size table) Us) U following l.cells));
       }
     where
       place_it : (at s d : ℕ) (form : Option Form) → R a c (at + s + d) form → R a c (at + (0 + s + d)) form
@@ -459,9 +459,9 @@ module _ (R : List ℕ → List ℕ → ℕ → Option Form → Type 0) (local :
       ChangesEach R a c table T at ((i + 1) * each) (value_positions at (i + 1))
   next_entry a b c at i k l =
       let all : (i + 1) * each ≡ each + i * each = grind arith in
-      let behind : IsSame a b (at + i * each + before) (size table T) = k.changes.others (at + i * each + before) (size table T) (inr (omega arith)) in
+      let following : IsSame a b (at + i * each + before) (size table T) = k.changes.others (at + i * each + before) (size table T) (inr (omega arith)) in
       let older = kept_before a b c at i (at + i * each + before) (size table T) (omega arith) l.changes k.cells in
-      let newer = cells_after R local table valid a b c (at + i * each + before) T behind l.cells in
+      let newer = cells_after R local table valid a b c (at + i * each + before) T following l.cells in
       record {
         changes = ChangesOnly-trans a b c at ((i + 1) * each)
             (ChangesOnly-wider a b at (i * each) at ((i + 1) * each) (omega arith) (omega arith) k.changes)

@@ -4,6 +4,7 @@ use Rattle.std.specs.List.{AllByRecursion}
 use Rattle.std.proofs.lemmas.Bool.Decides.{nat_tests}
 use Rattle.std.proofs.lemmas.Bool.{cases_eq}
 use Rattle.seg_spec.specs.Bytes.{IsSame, ChangesOnly}
+use Rattle.seg_spec.specs.Header.{free_word, back_start, back_size, KeepsFront, KeepsBack}
 use Rattle.seg_spec.specs.Pointer.{distance, set_pointer}
 use Rattle.seg_spec.specs.Types.{Table, IsTable, size}
 use Rattle.seg_spec.specs.Heap.{Span, Tile, span_of, tiles, Fill, live_of, units_at, IsHeap, live, heap_start, without, Gives, link_at}
@@ -208,8 +209,8 @@ pub record HasFreed (allocator : ℕ) (old new : List ℕ) (table : Table) (firs
   pub left : List ℕ
   pub blocks_are : SameBlocks blocks (given ++ left)
   pub length_kept : length new ≡ length old
-  pub front_kept : IsSame old new 0 24
-  pub back_kept : IsSame old new 28 676
+  pub front_kept : KeepsFront old new
+  pub back_kept : KeepsBack old new
   pub live_is : live new ≡ after_gives (live old) given
   pub live_are : (h : ℕ) → times h (positions (live new)) + times h given ≡ times h (positions (live old))
   pub fewer : length (live new) + turns ≡ length (live old)
@@ -327,8 +328,8 @@ module _ (allocator : ℕ) (old now : List ℕ) (table : Table) (valid : IsTable
           times-append h rest pop.others,
         );
         length_kept = g.kept.length_kept ∙ adds.keeps.length_kept ∙ f.length_kept;
-        front_kept = front.0 ∙ adds.keeps.front_kept 0 24 (omega arith) ∙ f.front_kept;
-        back_kept = front.1 ∙ adds.keeps.front_kept 28 676 (omega arith) ∙ f.back_kept;
+        front_kept = front.0 ∙ adds.keeps.front_kept 0 free_word (omega arith) ∙ f.front_kept;
+        back_kept = front.1 ∙ adds.keeps.front_kept back_start back_size (omega arith) ∙ f.back_kept;
         live_is = g.given ∙ ap (without (block_of p)) (adds.keeps.live_kept ∙ f.live_is) ∙ sym (gives_more (live old) f.given (block_of p));
         live_are = λ h. omega (arith, gone h, f.live_are h, times-append h f.given (block_of p ∷ []));
         fewer = omega (arith, f.fewer, ap length adds.keeps.live_kept, ap length g.given, one_less (block_of p) (live opened) here_then);
@@ -345,7 +346,7 @@ module _ (allocator : ℕ) (old now : List ℕ) (table : Table) (valid : IsTable
           large : heap_start ≤ length opened
           large = let l = there (LiesIn opened heap_start (length opened)) (block_of p) (positions (live opened)) (live-lie opened allocator adds.pends.heap) here_then in omega (arith, l.low, l.high)
 
-          front : IsSame opened new 0 24 × IsSame opened new 28 676
+          front : KeepsFront opened new × KeepsBack opened new
           front = front_kept opened new g.kept large
 
   -- where none waits any more, all were given back

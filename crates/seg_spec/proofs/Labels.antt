@@ -4,6 +4,7 @@ use Rattle.std.specs.Prelude.{nat_le}
 use Rattle.std.proofs.lemmas.Bool.{false≢true}
 use Rattle.std.specs.List.{AllByRecursion}
 use Rattle.seg_spec.specs.Bytes.{word, IsSame, ChangesOnly}
+use Rattle.seg_spec.specs.Header.{free_word}
 use Rattle.seg_spec.specs.Heap.{Tile, units_at, IsHeader, tiles, AreHeaders, live_of, free_of, live, gaps, HoldsGaps, IsHeap, heap_start}
 use Rattle.seg_spec.specs.Block.{payload_size}
 use Rattle.seg_spec.specs.Apart.{Separate}
@@ -84,7 +85,7 @@ module _ (old new : List ℕ) (h : ℕ) (changes : ChangesOnly old new (h + 8) 8
     filled = rw (tiles_then, changes.length_kept) heap.filled;
     headers = rw tiles_then (headers_then (tiles old) 0 all_spots heap.headers);
     apart = rw tiles_then heap.apart;
-    free = subst (λ gs. HoldsGaps allocator new gs) (sym gaps_then) (HoldsGaps-kept old new allocator (gaps old) (changes.others 24 4 (inl (omega (arith, the_block.low)))) gap_headers (gap_part 16 16 (omega arith)) heap.free);
+    free = subst (λ gs. HoldsGaps allocator new gs) (sym gaps_then) (HoldsGaps-kept old new allocator (gaps old) (changes.others free_word 4 (inl (omega (arith, the_block.low)))) gap_headers (gap_part 16 16 (omega arith)) heap.free);
     small = rw changes.length_kept heap.small;
   }
 

@@ -27,8 +27,8 @@ module _ (old new : List ℕ) (table : Table) (valid : IsTable table) where
       let all : AllByRecursion (KeepsBlock old new) (opened.blocks ++ opens_as.owned) = subst (AllByRecursion (KeepsBlock old new)) opens_as.blocks_are kept in
       let stays = Opens-kept old new table valid place form opened (rw (size-form table valid place.type form f) at same) (each_left _ opened.blocks opens_as.owned all) o in
       let m = middle old table opens_as.each i part part_is in
-      let behind : AllByRecursion (KeepsBlock old new) opens_as.owned = each_right (KeepsBlock old new) opened.blocks opens_as.owned all in
-      let inside : AllByRecursion (KeepsBlock old new) (m.xs ++ (m.zs ++ m.ys)) = subst (AllByRecursion (KeepsBlock old new)) m.blocks_are behind in
+      let following : AllByRecursion (KeepsBlock old new) opens_as.owned = each_right (KeepsBlock old new) opened.blocks opens_as.owned all in
+      let inside : AllByRecursion (KeepsBlock old new) (m.xs ++ (m.zs ++ m.ys)) = subst (AllByRecursion (KeepsBlock old new)) m.blocks_are following in
       into form opened i part f stays.opens index part_is
       (Leads-kept rest m.holds_it (each_at (SamePlace old new table) opened.parts i part stays.parts part_is) (each_left _ m.zs m.ys (each_right _ m.xs (m.zs ++ m.ys) inside)))
 

@@ -8,7 +8,7 @@ use Rattle.seg_spec.specs.Types.{Form, Table, form_at, size, IsTable, built, Cel
 use Rattle.seg_spec.specs.Value.{Label, Value, Values}
 use Rattle.seg_spec.specs.Block.{KeepsBlock, block_of}
 use Rattle.seg_spec.specs.Shapes.{nodes_of}
-use Rattle.seg_spec.specs.Reads.{Place, Opened, count_at, named, start, spaced, fields, keys_at, NamesRoom, Opens, Holds, holds, HoldsEach, holds_none, holds_more}
+use Rattle.seg_spec.specs.Reads.{Place, Opened, count_at, named, start, spaced, fields, keys_at, NamesRoom, Opens, Holds, holds, HoldsEach, holds_none, holds_more, map_words}
 use Rattle.seg_spec.specs.Cells.{EachCell, IsMoved}
 use Rattle.seg_spec.proofs.Frame.{SamePlace, each_left, each_right, each_of_map, each_map, each_weaker, buffer-same, buffer-kept, spaced-same, nodes-same, nodes-kept, IsRing-same, IsTree-same, keys_at-same, places-same, inner-same, shorter, further, HoldsEach-kept}
 use Rattle.seg_spec.proofs.CellLaws.{cells-form}
@@ -121,7 +121,7 @@ module _ (old new : List ℕ) (table : Table) (valid : IsTable table) where
       }
   Opens-moved place to (Form.map U) opened flat m ks o =
       let at = place.at in
-      let each = 24 + size table U in
+      let each = map_words + size table U in
       let nodes = nodes_of o.tree in
       let kept : AllByRecursion (KeepsBlock old new) (map block_of nodes) = rw (ap (λ (r : Opened). r.blocks) o.opened_is) at ks in
       let all : AllByRecursion (λ p. IsSame old new p each) nodes = nodes-same old new _ each nodes kept o.are_nodes in
@@ -136,7 +136,7 @@ module _ (old new : List ℕ) (table : Table) (valid : IsTable table) where
           ascending = rw keys o.ascending;
           opened_is = rw keys o.opened_is;
         };
-        parts = rw (ap (λ (r : Opened). r.parts) o.opened_is) (inner-same old new table valid U 24 each nodes (omega arith) all);
+        parts = rw (ap (λ (r : Opened). r.parts) o.opened_is) (inner-same old new table valid U map_words each nodes (omega arith) all);
       }
   Opens-moved place to (Form.own U) opened flat m ks o =
       let at = place.at in

@@ -3,6 +3,7 @@ use Rattle.std.proofs.Common.{◌≡◌, ◌≢◌, ℕ, zero, suc, ◌+◌, ◌
 use Rattle.std.specs.Prelude.{Contains, slice_index_or, nat_le, nat_lt}
 use Rattle.std.proofs.lemmas.Bool.Decides.{nat_tests}
 use Rattle.seg_spec.specs.Bytes.{Agrees, word, set_word, IsSame, ChangesOnly}
+use Rattle.seg_spec.specs.Header.{free_word, back_start, back_size, KeepsFront, KeepsBack}
 use Rattle.seg_spec.specs.Heap.{Span, units_at, link_at, with_block, granted, pick, gaps_of, after_take, IsHeap, live, heap_start, Takes}
 use Rattle.seg_spec.specs.Block.{IsBlock, IsInside, payload_size}
 use Rattle.seg_spec.specs.Sound.{times, positions}
@@ -211,7 +212,7 @@ module _ (allocator u h tag : ℕ) (old taken new : List ℕ) (heap : IsHeap all
         let more = got.enough in
         let kept_units = b.units_kept in
         record {
-          behind_header = omega arith;
+          after_header = omega arith;
           live = rw own (ap (λ w. nat_le (2 ^ 31) w) (first ∙ own_first) ∙ l.live_is);
           has_tag = rw own (word-same tagged new (h + 8) (b.outside (h + 8) 4 (omega arith) (omega arith)) ∙ written);
           room = rw own (omega arith);
@@ -231,11 +232,11 @@ module _ (allocator u h tag : ℕ) (old taken new : List ℕ) (heap : IsHeap all
         let same = t.kept.front_kept.length_kept in
         omega (arith, l.low, l.high)
 
-    pub new_front : IsSame old new 0 24
-    new_front = low_then 0 24 (omega arith) (front_kept old taken t.kept fits_old).0
+    pub new_front : KeepsFront old new
+    new_front = low_then 0 free_word (omega arith) (front_kept old taken t.kept fits_old).0
 
-    pub new_back : IsSame old new 28 676
-    new_back = low_then 28 676 (omega arith) (front_kept old taken t.kept fits_old).1
+    pub new_back : KeepsBack old new
+    new_back = low_then back_start back_size (omega arith) (front_kept old taken t.kept fits_old).1
 
     pub new_link : link_at new h ≡ None
     new_link =

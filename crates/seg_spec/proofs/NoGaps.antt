@@ -59,8 +59,8 @@ module _ (allocator : ℕ) (bs : List Span) (end : ℕ) where
   not_taken : (u v : ℕ) → AllByRecursion (λ g. g.units < u) (gaps_of bs end) → u ≤ v → after_take allocator bs end v ≡ None
   not_taken u v a l = ap (option_map (λ g. (g.at, with_block (record { at = g.at; units = granted g.units v }) bs))) (no_pick allocator (gaps_of bs end) u v a l)
 
-  abbrev behind : ℕ → ℕ
-  behind at = room_at (gaps_of bs end) (at + 16 * room_at bs at)
+  abbrev following : ℕ → ℕ
+  following at = room_at (gaps_of bs end) (at + 16 * room_at bs at)
 
   in_vain : (old : Option ℕ) (preferred limit : ℕ) → after_request_of allocator bs end old preferred limit ≡ None → IsTooSmall limit old
   in_vain None preferred limit e =
@@ -73,14 +73,14 @@ module _ (allocator : ℕ) (bs : List Span) (end : ℕ) where
       let s = or_none (take preferred) (option_or (expand limit) (take limit)) r.1 in
       let t = or_none (expand limit) (take limit) s.1 in (
         no_take limit (map_none (λ r. fresh r.0 r.1) (after_take allocator bs end limit) t.1),
-        not_expanded x (behind at) limit (map_none (λ n. resized at n bs) (expanded x (behind at) limit) (map_none same (after_expand bs end at x limit) t.0)),
+        not_expanded x (following at) limit (map_none (λ n. resized at n bs) (expanded x (following at) limit) (map_none same (after_expand bs end at x limit) t.0)),
       )
 
   granted_none : (old : Option ℕ) (preferred limit : ℕ) → limit ≤ preferred → IsTooSmall limit old → after_request_of allocator bs end old preferred limit ≡ None
   granted_none None preferred limit l small = rw (not_taken limit preferred small.0 l, not_taken limit limit small.0 (omega arith)) refl
   granted_none (Some at) preferred limit l small =
       let x = room_at bs at in
-      let none = λ (u : ℕ) (m : limit ≤ u). ap (λ o. option_map same (option_map (λ n. resized at n bs) o)) (no_expanded x (behind at) limit u small.1 m) in
+      let none = λ (u : ℕ) (m : limit ≤ u). ap (λ o. option_map same (option_map (λ n. resized at n bs) o)) (no_expanded x (following at) limit u small.1 m) in
       rw (none preferred l, none limit (omega arith), not_taken limit preferred small.0 l, not_taken limit limit small.0 (omega arith)) refl
 
 pub denied : (allocator : ℕ) (bs : List Span) (end : ℕ) (asks : List Ask) → NoRoom allocator bs end asks → IsDenied allocator bs end asks

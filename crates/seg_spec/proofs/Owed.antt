@@ -6,7 +6,7 @@ use Rattle.seg_spec.specs.Bytes.{IsSame}
 use Rattle.seg_spec.specs.Types.{Form, Table, form_at, size, IsTable}
 use Rattle.seg_spec.specs.Heap.{link_at}
 use Rattle.seg_spec.specs.Block.{Kind, tag_of, IsBlock, KeepsBlock, block_of, payload_size}
-use Rattle.seg_spec.specs.Reads.{Place, spaced, places_of}
+use Rattle.seg_spec.specs.Reads.{Place, spaced, places_of, map_words}
 use Rattle.seg_spec.specs.Owing.{KeepsWhole, KeepsLinked, NamesNothing, IsPart, AreParts, no_parts, more_parts, entries_of, OpensBlock, Owes, owes, OwesLinks, no_links, null_link, node_link, Waits, none_waits, waits}
 use Rattle.seg_spec.proofs.SliceLaws.{IsSame-part}
 use Rattle.seg_spec.proofs.Frame.{SamePlace, target-same, each_left, each_right, each_weaker, Holds-kept, IsBlock-kept, payload-same}
@@ -46,7 +46,7 @@ module _ (old new : List ℕ) (table : Table) (valid : IsTable table) where
       (IsSame-part old new p n (p + before) (size table U) (omega arith) (omega arith) s, entries_same (p + each) before U (n - each) k (IsSame-part old new p n (p + each) (n - each) (omega arith) (omega arith) s) (omega arith))
 
   whole_payload : (p tag n : ℕ) → KeepsWhole old new (block_of p) → IsBlock old p tag n → IsSame old new p (payload_size old (block_of p))
-  whole_payload p tag n k b = let e : p - 16 + 16 ≡ p = omega (arith, b.behind_header) in rw e at k.kept.payload
+  whole_payload p tag n k b = let e : p - 16 + 16 ≡ p = omega (arith, b.after_header) in rw e at k.kept.payload
 
   -- what a block shows, where it is kept
   pub record Shown (p : ℕ) (kind : Kind) (T : ℕ) (form : Option Form) (values : List Place) (links : List ℕ) : Type 0 where
@@ -80,11 +80,11 @@ module _ (old new : List ℕ) (table : Table) (valid : IsTable table) where
         links_same = rw o.2 (IsSame-part old new p (8 + size table U) p 4 (omega arith) (omega arith) s, tt);
       }
   shown_kept p Kind.node T (Some (Form.map U)) values links k o =
-      let s = payload-same old new p _ (24 + size table U) k.kept o.0 in
+      let s = payload-same old new p _ (map_words + size table U) k.kept o.0 in
       record {
-        opens = (IsBlock-kept old new p _ (24 + size table U) k.kept o.0, o.1, o.2);
-        values_same = rw o.1 (IsSame-part old new p (24 + size table U) (p + 24) (size table U) (omega arith) (omega arith) s, tt);
-        links_same = rw o.2 (IsSame-part old new p (24 + size table U) p 4 (omega arith) (omega arith) s, (IsSame-part old new p (24 + size table U) (p + 4) 4 (omega arith) (omega arith) s, tt));
+        opens = (IsBlock-kept old new p _ (map_words + size table U) k.kept o.0, o.1, o.2);
+        values_same = rw o.1 (IsSame-part old new p (map_words + size table U) (p + map_words) (size table U) (omega arith) (omega arith) s, tt);
+        links_same = rw o.2 (IsSame-part old new p (map_words + size table U) p 4 (omega arith) (omega arith) s, (IsSame-part old new p (map_words + size table U) (p + 4) 4 (omega arith) (omega arith) s, tt));
       }
   shown_kept p _ T _ values links k o = absurd o
 

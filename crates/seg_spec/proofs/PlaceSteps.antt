@@ -3,6 +3,7 @@ use Rattle.std.proofs.Common.{◌≡◌, ◌≢◌, ℕ, ◌+◌, ◌≤◌, ⊎
 use Rattle.std.proofs.lemmas.Bool.{cases_eq}
 use Rattle.std.specs.List.{AllByRecursion}
 use Rattle.seg_spec.specs.Bytes.{ChangesOnly}
+use Rattle.seg_spec.specs.Header.{free_word, back_start, back_size}
 use Rattle.seg_spec.specs.Types.{Table, size}
 use Rattle.seg_spec.specs.Value.{Value}
 use Rattle.seg_spec.specs.Heap.{IsHeap, live, heap_start, KeepsTiles}
@@ -78,8 +79,8 @@ module _ (allocator : ℕ) (old : List ℕ) (table : Table) (place : Place) (v :
     pub changes_place : (w : Value) (others given : List ℕ) → Holds new table place w others → ChangesPlace old new table place w others (live old) given given
     changes_place w others given h = record {
       length_kept = changes.length_kept;
-      front_kept = low_kept old new place.at (size table place.type) changes allocator s.heap s.home s.inside home_live 0 24 (omega arith);
-      back_kept = low_kept old new place.at (size table place.type) changes allocator s.heap s.home s.inside home_live 28 676 (omega arith);
+      front_kept = low_kept old new place.at (size table place.type) changes allocator s.heap s.home s.inside home_live 0 free_word (omega arith);
+      back_kept = low_kept old new place.at (size table place.type) changes allocator s.heap s.home s.inside home_live back_start back_size (omega arith);
       heap = subst (λ a. IsHeap a new) (sym s.allocator_is) heap_then;
       ownable = ownable_then;
       holds_it = h;

@@ -22,20 +22,20 @@ use Rattle.seg_spec.proofs.Labels.{labelled_live, labelled_heap, labelled_other}
 pub record Begins (p : ℕ) (blocks : List ℕ) : Type 0 where
   pub rest : List ℕ
   pub blocks_are : blocks ≡ block_of p ∷ rest
-  pub behind_header : 16 ≤ p
+  pub after_header : 16 ≤ p
 
 module _ (bytes : List ℕ) (table : Table) where
   shown_low : (p : ℕ) (kind : Kind) (T : ℕ) (form : Option Form) (values : List Place) (links : List ℕ) → OpensBlock bytes table p kind T form values links → 16 ≤ p
-  shown_low p Kind.object T form values links o = o.0.behind_header
-  shown_low p Kind.buffer T (Some Form.str) values links o = o.0.behind_header
-  shown_low p Kind.buffer T (Some (Form.vec U)) values links o = o.0.behind_header
-  shown_low p Kind.buffer T (Some (Form.flat_map U)) values links o = o.0.behind_header
-  shown_low p Kind.node T (Some (Form.list U)) values links o = o.0.behind_header
-  shown_low p Kind.node T (Some (Form.map U)) values links o = o.0.behind_header
+  shown_low p Kind.object T form values links o = o.0.after_header
+  shown_low p Kind.buffer T (Some Form.str) values links o = o.0.after_header
+  shown_low p Kind.buffer T (Some (Form.vec U)) values links o = o.0.after_header
+  shown_low p Kind.buffer T (Some (Form.flat_map U)) values links o = o.0.after_header
+  shown_low p Kind.node T (Some (Form.list U)) values links o = o.0.after_header
+  shown_low p Kind.node T (Some (Form.map U)) values links o = o.0.after_header
   shown_low p _ T _ values links o = absurd o
 
   pub owes_begins : (p : ℕ) (blocks : List ℕ) → Owes bytes table p blocks → Begins p blocks
-  owes_begins p blocks (owes kind T values links xs ys o parts more is) = record { rest = xs ++ ys; blocks_are = is; behind_header = shown_low p kind T (form_at table T) values links o }
+  owes_begins p blocks (owes kind T values links xs ys o parts more is) = record { rest = xs ++ ys; blocks_are = is; after_header = shown_low p kind T (form_at table T) values links o }
 
   -- a first one that waits stands after the header of a block that goes with it
   pub waits_begins : (q : ℕ) (first : Option ℕ) (blocks : List ℕ) → first ≡ Some q → Waits bytes table first blocks → (16 ≤ q) × (1 ≤ times (block_of q) blocks)
@@ -46,7 +46,7 @@ module _ (bytes : List ℕ) (table : Table) where
       let n1 = times-append (block_of p) xs ys in
       let n2 : times (block_of p) xs ≡ times (block_of p) (block_of p ∷ b.rest) = ap (times (block_of p)) b.blocks_are in
       let n3 = times-same (block_of p) b.rest in
-      (subst (λ r. 16 ≤ r) same b.behind_header, subst (λ r. 1 ≤ times (block_of r) (xs ++ ys)) same (omega arith))
+      (subst (λ r. 16 ≤ r) same b.after_header, subst (λ r. 1 ≤ times (block_of r) (xs ++ ys)) same (omega arith))
 
 -- what pushing leaves
 pub record Pushed (allocator : ℕ) (old new : List ℕ) (table : Table) (p : ℕ) (blocks : List ℕ) : Type 0 where

@@ -91,14 +91,14 @@ module _ (allocator : ℕ) (old : List ℕ) (table : Table) (valid : IsTable tab
   nodes_once h = let m = times_mapped h (x ∷ ys) in let n = times-append (block_of h) (map block_of (x ∷ ys)) owned in let l = fits (block_of h) in let o = live-once old allocator heap (block_of h) in omega arith
 
   nodes_aligned : AllByRecursion (λ q. q % 16 ≡ 0) (x ∷ ys)
-  nodes_aligned = each_there (λ q. q % 16 ≡ 0) (x ∷ ys) (λ q some. let l = node_lies q some in let b = node_block q some in omega (arith, l.aligned, b.behind_header))
+  nodes_aligned = each_there (λ q. q % 16 ≡ 0) (x ∷ ys) (λ q some. let l = node_lies q some in let b = node_block q some in omega (arith, l.aligned, b.after_header))
 
   last_some : 1 ≤ times last (x ∷ ys)
   unfolding last
   last_some = last_there x ys
 
   last_inside : IsInside old (block_of last) last 4
-  last_inside = let l = node_lies last last_some in let b = node_block last last_some in record { low = omega (arith, b.behind_header); high = omega (arith, b.behind_header, l.size) }
+  last_inside = let l = node_lies last last_some in let b = node_block last last_some in record { low = omega (arith, b.after_header); high = omega (arith, b.after_header, l.size) }
 
   new : List ℕ
   new = set_pointer old last None
@@ -119,7 +119,7 @@ module _ (allocator : ℕ) (old : List ℕ) (table : Table) (valid : IsTable tab
       (λ ne.
       let b = node_block q some in
       let l = node_block last last_some in
-      let k = other_kept (block_of q) (node_live q some) (λ e. ne (omega (arith, e, b.behind_header, l.behind_header))) in
+      let k = other_kept (block_of q) (node_live q some) (λ e. ne (omega (arith, e, b.after_header, l.after_header))) in
       let s = payload-same old new q (tag_of Kind.node T) (8 + size table U) k b in
       IsSame-part old new q (8 + size table U) (q + 8) (size table U) (omega arith) (omega arith) s)
       (cases_eq q last))
@@ -136,7 +136,7 @@ module _ (allocator : ℕ) (old : List ℕ) (table : Table) (valid : IsTable tab
   ring_goes xs is linked =
       let l = node_lies last last_some in
       let b = node_block last last_some in
-      let chain = ring_opened old x last (omega (arith, l.high, l.size, b.behind_header)) (omega (arith, l.high, l.size, b.behind_header, heap.small)) x ys refl nodes_aligned nodes_once linked in
+      let chain = ring_opened old x last (omega (arith, l.high, l.size, b.after_header)) (omega (arith, l.high, l.size, b.after_header, heap.small)) x ys refl nodes_aligned nodes_once linked in
       let nodes : AreNodes new (tag_of Kind.node T) (8 + size table U) (x ∷ ys) = each_there (λ p. IsBlock new p (tag_of Kind.node T) (8 + size table U)) (x ∷ ys)
       (λ q some. block_there allocator old new last 4 (block_of last) heap last_inside (node_live last last_some) changes q (tag_of Kind.node T) (8 + size table U) (node_live q some) (node_block q some)) in
       let values = HoldsEach-kept old new table valid hs (each_map (SamePlace old new table) (λ p. record { at = p; type = U }) (map (λ p. p + 8) (x ∷ ys)) (each_map (λ p. IsSame old new p (size table U))

@@ -11,7 +11,7 @@ use Rattle.seg_spec.specs.Value.{Value, Values}
 use Rattle.seg_spec.specs.Heap.{IsHeap, live, heap_start}
 use Rattle.seg_spec.specs.Block.{IsBlock, KeepsBlock, block_of}
 use Rattle.seg_spec.specs.Shapes.{IsRing, Tree, leaf, fork, nodes_of, IsTree}
-use Rattle.seg_spec.specs.Reads.{Place, Opened, count_at, spaced, places_of, fields, AreNodes, Opens, Holds, holds, HoldsEach, holds_none, holds_more}
+use Rattle.seg_spec.specs.Reads.{Place, Opened, count_at, spaced, places_of, fields, AreNodes, Opens, Holds, holds, HoldsEach, holds_none, holds_more, map_words}
 use Rattle.seg_spec.specs.Sound.{times, positions}
 use Rattle.seg_spec.specs.Cells.{IsWithin, EachCell, ChangesCells, ChangesEach, IsMoved, IsFurther}
 use Rattle.seg_spec.specs.Owning.{StandsBeside}
@@ -62,7 +62,7 @@ module _ (bytes : List ℕ) (table : Table) (valid : IsTable table) where
   room_named None n kind each t e r = absurd (cc)
   room_named (Some p) n kind each t e r =
       let same : p ≡ t = cc in
-      (subst (λ q. 16 ≤ q) same r.behind_header, subst (λ q. 1 ≤ times (block_of q) (block_of p ∷ [])) same (omega (arith, times-same (block_of p) [])))
+      (subst (λ q. 16 ≤ q) same r.after_header, subst (λ q. 1 ≤ times (block_of q) (block_of p ∷ [])) same (omega (arith, times-same (block_of p) [])))
 
   ring_named : (o : Option ℕ) (kind each t : ℕ) (nodes : List ℕ) → o ≡ Some t → IsRing bytes o nodes → AreNodes bytes kind each nodes → (16 ≤ t) × (1 ≤ times (block_of t) (map block_of nodes))
   ring_named None kind each t nodes e r a = absurd (cc)
@@ -70,7 +70,7 @@ module _ (bytes : List ℕ) (table : Table) (valid : IsTable table) where
   ring_named (Some p) kind each t (x ∷ xs) e r a =
       let pt : p ≡ t = cc in
       let same : x ≡ t = r.0 ∙ pt in
-      (subst (λ q. 16 ≤ q) same a.0.behind_header, subst (λ q. 1 ≤ times (block_of q) (block_of x ∷ map block_of xs)) same (omega (arith, times-same (block_of x) (map block_of xs))))
+      (subst (λ q. 16 ≤ q) same a.0.after_header, subst (λ q. 1 ≤ times (block_of q) (block_of x ∷ map block_of xs)) same (omega (arith, times-same (block_of x) (map block_of xs))))
 
   tree_named : (o : Option ℕ) (kind each t : ℕ) (tree : Tree) → o ≡ Some t → IsTree bytes o tree → AreNodes bytes kind each (nodes_of tree) → (16 ≤ t) × (1 ≤ times (block_of t) (map block_of (nodes_of tree)))
   tree_named None kind each t tree e r a = absurd (cc)
@@ -83,7 +83,7 @@ module _ (bytes : List ℕ) (table : Table) (valid : IsTable table) where
       let n1 = times-append (block_of at) (map block_of (nodes_of left)) (block_of at ∷ map block_of (nodes_of right)) in
       let n2 = times-same (block_of at) (map block_of (nodes_of right)) in
       let some : 1 ≤ times (block_of at) (map block_of (nodes_of left ++ at ∷ nodes_of right)) = rw split (omega arith) in
-      (subst (λ q. 16 ≤ q) same mine.0.behind_header, subst (λ q. 1 ≤ times (block_of q) (map block_of (nodes_of left ++ at ∷ nodes_of right))) same some)
+      (subst (λ q. 16 ≤ q) same mine.0.after_header, subst (λ q. 1 ≤ times (block_of q) (map block_of (nodes_of left ++ at ∷ nodes_of right))) same some)
 
   opens_named : (place : Place) (form : Form) (opened : Opened) → IsOne table valid form → Opens bytes table place form opened → NamesIn opened.blocks place.at
   opens_named place Form.i64 opened one o = absurd one
@@ -93,7 +93,7 @@ module _ (bytes : List ℕ) (table : Table) (valid : IsTable table) where
   opens_named place (Form.flat_map U) opened one o = λ t e. rw (ap (λ (r : Opened). r.blocks) o.opened_is) (room_named (target bytes place.at) _ _ (8 + size table U) t e o.named_room)
   opens_named place (Form.own U) opened one o = λ t e. rw (ap (λ (r : Opened). r.blocks) o.opened_is) (room_named (target bytes place.at) _ _ (size table U) t e o.named_room)
   opens_named place (Form.list U) opened one o = λ t e. rw (ap (λ (r : Opened). r.blocks) o.opened_is) (ring_named (target bytes place.at) _ (8 + size table U) t o.nodes e o.ring o.are_nodes)
-  opens_named place (Form.map U) opened one o = λ t e. rw (ap (λ (r : Opened). r.blocks) o.opened_is) (tree_named (target bytes place.at) _ (24 + size table U) t o.tree e o.is_tree o.are_nodes)
+  opens_named place (Form.map U) opened one o = λ t e. rw (ap (λ (r : Opened). r.blocks) o.opened_is) (tree_named (target bytes place.at) _ (map_words + size table U) t o.tree e o.is_tree o.are_nodes)
 
   one_owned : (place : Place) (form : Form) (opened : Opened) (blocks owned : List ℕ) → form_at table place.type ≡ Some form → IsOne table valid form → Opens bytes table place form opened →
       blocks ≡ opened.blocks ++ owned → EachCell table place.type (λ d f. NamesOwned blocks (place.at + d) f)
@@ -198,7 +198,7 @@ module _ (old raw new : List ℕ) (table : Table) (valid : IsTable table) (n : �
   pointer_there blocks p q aligned far small eight s names f =
       let first : word raw q ≡ word old p = number-slice 4 old raw q p (part_same 0 4 (omega arith)) in
       let second : count_at raw q ≡ count_at old p = number-slice 4 old raw (q + 4) (p + 4) (part_at 4 4 (omega arith)) in (
-        pointer_moved old new p q n (f.0 ∙ ap (cells_words.further n) first) far small (λ t e. not_behind t (names t e).0 (aligned (block_of t) (names t e).1)),
+        pointer_moved old new p q n (f.0 ∙ ap (cells_words.further n) first) far small (λ t e. not_after t (names t e).0 (aligned (block_of t) (names t e).1)),
         f.1 ∙ second,
       )
     where
@@ -208,8 +208,8 @@ module _ (old raw new : List ℕ) (table : Table) (valid : IsTable table) (n : �
       part_same : (i m : ℕ) → m ≤ 8 → slice raw q m ≡ slice old p m
       part_same i m fits = let e = part_at 0 m (omega arith) in rw (add-zero q, add-zero p) at e
 
-      not_behind : (t : ℕ) → 16 ≤ t → (t - 16) % 16 ≡ 0 → t ≢ q + 1
-      not_behind t low even = λ e. omega arith
+      not_after : (t : ℕ) → 16 ≤ t → (t - 16) % 16 ≡ 0 → t ≢ q + 1
+      not_after t low even = λ e. omega arith
 
   cell_there : (blocks : List ℕ) (p q : ℕ) (form : Option Form) → ((h : ℕ) → 1 ≤ times h blocks → h % 16 ≡ 0) → (q + n) % 2 ^ 32 ≡ p → q < 2 ^ 31 → q % 8 ≡ 0 → slice raw q 8 ≡ slice old p 8
       → NamesOwned old table valid blocks p form → IsFurther raw new n q form → IsMoved old new p q form

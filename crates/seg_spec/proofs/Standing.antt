@@ -3,6 +3,7 @@ use Rattle.std.proofs.Common.{◌≡◌, ◌≢◌, ℕ, ◌+◌, ◌-◌, ◌*�
 use Rattle.std.proofs.lemmas.Bool.{cases_eq}
 use Rattle.std.specs.List.{AllByRecursion}
 use Rattle.seg_spec.specs.Bytes.{word, set_word, IsSame, ChangesOnly}
+use Rattle.seg_spec.specs.Header.{allocator_word, free_word, back_start, back_size, KeepsFront, KeepsBack}
 use Rattle.seg_spec.specs.Types.{Table, size, form_at}
 use Rattle.seg_spec.specs.Value.{Value}
 use Rattle.seg_spec.specs.Heap.{Span, units_at, IsHeap, live, heap_start, Takes, Gives}
@@ -30,8 +31,8 @@ use Rattle.seg_spec.proofs.PlaceSteps.{home_live, heap_then, live_then, ownable_
 -- the bytes before the heap are kept, and so is each live block that doesn't go, but for n bytes from a position on
 pub record Frames (old new : List ℕ) (at n : ℕ) (gone : List ℕ) : Type 0 where
   pub length_kept : length new ≡ length old
-  pub front_kept : IsSame old new 0 24
-  pub back_kept : IsSame old new 28 676
+  pub front_kept : KeepsFront old new
+  pub back_kept : KeepsBack old new
   pub kept : (h : ℕ) → 1 ≤ times h (positions (live old)) → times h gone ≡ 0 → KeepsBlockAround old new at n h
   pub stays : (h : ℕ) → 1 ≤ times h (positions (live old)) → times h gone ≡ 0 → 1 ≤ times h (positions (live new))
 
@@ -73,7 +74,7 @@ module _ (allocator : ℕ) (old : List ℕ) (table : Table) (place : Place) (v :
 
   -- ---- where every live block is kept, with others beside them
 
-  module _ (new : List ℕ) (heap : IsHeap allocator new) (front : IsSame old new 0 24) (kept : (h : ℕ) → 1 ≤ times h (s.home ∷ blocks) → KeepsBlock old new h)
+  module _ (new : List ℕ) (heap : IsHeap allocator new) (front : KeepsFront old new) (kept : (h : ℕ) → 1 ≤ times h (s.home ∷ blocks) → KeepsBlock old new h)
       (ownable : AllByRecursion (λ b. IsOwnable new table b.at) (live new)) (stay : (h : ℕ) → times h (s.home ∷ blocks) ≤ times h (positions (live new))) where
     home_kept : KeepsBlock old new s.home
     home_kept = kept s.home (omega (arith, times-same s.home blocks))
@@ -85,7 +86,7 @@ module _ (allocator : ℕ) (old : List ℕ) (table : Table) (place : Place) (v :
         let mine = each_there (KeepsBlock old new) blocks (λ h some. kept h (omega arith)) in
         record {
           heap = heap;
-          allocator_is = word-same old new 16 (IsSame-part old new 0 24 16 4 (omega arith) (omega arith) front) ∙ s.allocator_is;
+          allocator_is = word-same old new allocator_word (IsSame-part old new 0 free_word allocator_word 4 (omega arith) (omega arith) front) ∙ s.allocator_is;
           is_table = s.is_table;
           ownable = ownable;
           holds_it = Holds-kept old new table s.is_table s.holds_it (same_place new home_kept) mine;
@@ -199,7 +200,7 @@ module _ (allocator : ℕ) (old : List ℕ) (table : Table) (place : Place) (v :
     pub beside_stands : Stands allocator new table place v blocks
     beside_stands =
         stands_still new (IsHeap-kept old new allocator s.heap (tiles_kept old new at m changes allocator s.heap g inside g_live))
-        (low_kept old new at m changes allocator s.heap g inside g_live 0 24 (omega arith))
+        (low_kept old new at m changes allocator s.heap g inside g_live 0 free_word (omega arith))
         (λ h some. (beside_linked h (owned_live_or_home h some) (other_than h some)).whole.kept)
         (IsOwnable-kept old new allocator s.heap (tiles_kept old new at m changes allocator s.heap g inside g_live) table s.ownable)
         (λ h. subst (λ bs. times h (s.home ∷ blocks) ≤ times h (positions bs)) (sym beside_live) (s.owned h))
@@ -214,8 +215,8 @@ module _ (allocator : ℕ) (old : List ℕ) (table : Table) (place : Place) (v :
     pub beside_frames : (n : ℕ) → Frames old new place.at n (g ∷ [])
     beside_frames n = record {
       length_kept = changes.length_kept;
-      front_kept = low_kept old new at m changes allocator s.heap g inside g_live 0 24 (omega arith);
-      back_kept = low_kept old new at m changes allocator s.heap g inside g_live 28 676 (omega arith);
+      front_kept = low_kept old new at m changes allocator s.heap g inside g_live 0 free_word (omega arith);
+      back_kept = low_kept old new at m changes allocator s.heap g inside g_live back_start back_size (omega arith);
       kept = λ h some away. around_kept old new place.at n h (omega (arith, solid h some)) (beside_linked h some (not_it h away)).whole.kept;
       stays = λ h some away. subst (λ bs. 1 ≤ times h (positions bs)) (sym beside_live) some;
     }
@@ -234,7 +235,7 @@ module _ (allocator : ℕ) (old : List ℕ) (table : Table) (place : Place) (v :
         let room = rw own at b.room in
         let units = k.units_kept in
         record {
-          behind_header = b.behind_header;
+          after_header = b.after_header;
           live = rw (own, first) was;
           has_tag = rw own (word-same old new (g + 8) (k.outside (g + 8) 4 (omega arith) (omega arith)) ∙ tagged);
           room = rw own (omega arith);
@@ -250,8 +251,8 @@ module _ (allocator : ℕ) (old : List ℕ) (table : Table) (place : Place) (v :
     pub written_frames : Frames old new place.at (size table place.type) []
     written_frames = record {
       length_kept = changes.length_kept;
-      front_kept = low_kept old new place.at (size table place.type) changes allocator s.heap s.home s.inside (home_live allocator old table place v blocks s) 0 24 (omega arith);
-      back_kept = low_kept old new place.at (size table place.type) changes allocator s.heap s.home s.inside (home_live allocator old table place v blocks s) 28 676 (omega arith);
+      front_kept = low_kept old new place.at (size table place.type) changes allocator s.heap s.home s.inside (home_live allocator old table place v blocks s) 0 free_word (omega arith);
+      back_kept = low_kept old new place.at (size table place.type) changes allocator s.heap s.home s.inside (home_live allocator old table place v blocks s) back_start back_size (omega arith);
       kept = λ h some away. around_then allocator old table place v blocks s new changes h some;
       stays = λ h some away. subst (λ bs. 1 ≤ times h (positions bs)) (sym now_live) some;
     }
@@ -262,7 +263,7 @@ module _ (allocator : ℕ) (old : List ℕ) (table : Table) (place : Place) (v :
         (live_kept_but old new place.at (size table place.type) changes allocator s.heap s.home s.inside (home_live allocator old table place v blocks s)) (home_live allocator old table place v blocks s) in
         record {
           heap = heap_then allocator old table place v blocks s new changes;
-          allocator_is = word-same old new 16 (IsSame-part old new 0 24 16 4 (omega arith) (omega arith) written_frames.front_kept) ∙ s.allocator_is;
+          allocator_is = word-same old new allocator_word (IsSame-part old new 0 free_word allocator_word 4 (omega arith) (omega arith) written_frames.front_kept) ∙ s.allocator_is;
           is_table = s.is_table;
           ownable = ownable_then allocator old table place v blocks s new changes;
           holds_it = holds_it;
@@ -360,7 +361,7 @@ stands_after allocator old new table place v w blocks others spans s c =
     let two = (there (LiesIn old heap_start (length old)) s.home (positions (live old)) (live-lie old allocator s.heap) mine).size in
     record {
       heap = subst (λ a. IsHeap a new) s.allocator_is c.heap;
-      allocator_is = word-same old new 16 (IsSame-part old new 0 24 16 4 (omega arith) (omega arith) c.front_kept) ∙ s.allocator_is;
+      allocator_is = word-same old new allocator_word (IsSame-part old new 0 free_word allocator_word 4 (omega arith) (omega arith) c.front_kept) ∙ s.allocator_is;
       is_table = s.is_table;
       ownable = c.ownable;
       holds_it = c.holds_it;

@@ -6,7 +6,7 @@ use Rattle.seg_spec.specs.Types.{Form, Table, form_at, size}
 use Rattle.seg_spec.specs.Value.{Values, nil, cons}
 use Rattle.seg_spec.specs.Block.{Kind, tag_of, IsBlock, block_of}
 use Rattle.seg_spec.specs.Shapes.{Tree, leaf, fork, nodes_of, IsTree}
-use Rattle.seg_spec.specs.Reads.{Place, places_of, AreNodes, HoldsEach, holds_none, holds_more}
+use Rattle.seg_spec.specs.Reads.{Place, places_of, AreNodes, HoldsEach, holds_none, holds_more, map_words}
 use Rattle.seg_spec.specs.Sound.{times}
 use Rattle.seg_spec.specs.Owing.{AreParts, no_parts, more_parts, OpensBlock, Owes, owes, OwesLinks, no_links, null_link, node_link}
 use Rattle.seg_spec.proofs.Frame.{each_left, each_right}
@@ -31,7 +31,7 @@ module _ (bytes : List ℕ) (table : Table) where
   module _ (T U : ℕ) (f : form_at table T ≡ Some (Form.map U)) where
     -- where the values of nodes stand
     abbrev pub values_in : List ℕ → List Place
-    values_in nodes = places_of U (map (λ p. p + 24) nodes)
+    values_in nodes = places_of U (map (λ p. p + map_words) nodes)
 
     -- what goes with the tree that hangs at a pointer: its nodes and what their values own
     pub record TreeOwes (o : Option ℕ) (nodes owned : List ℕ) : Type 0 where
@@ -48,11 +48,11 @@ module _ (bytes : List ℕ) (table : Table) where
     no_more [] = refl
     no_more (x ∷ xs) = ap (λ ys. x ∷ ys) (no_more xs)
 
-    values_split : (xs : List ℕ) (p : ℕ) (ys : List ℕ) → values_in (xs ++ p ∷ ys) ≡ values_in xs ++ (record { at = p + 24; type = U } ∷ values_in ys)
+    values_split : (xs : List ℕ) (p : ℕ) (ys : List ℕ) → values_in (xs ++ p ∷ ys) ≡ values_in xs ++ (record { at = p + map_words; type = U } ∷ values_in ys)
     values_split [] p ys = refl
-    values_split (x ∷ xs) p ys = ap (λ ps. record { at = x + 24; type = U } ∷ ps) (values_split xs p ys)
+    values_split (x ∷ xs) p ys = ap (λ ps. record { at = x + map_words; type = U } ∷ ps) (values_split xs p ys)
 
-    pub tree_owes : (o : Option ℕ) (tree : Tree) (vs : Values) (owned : List ℕ) → IsTree bytes o tree → AreNodes bytes (tag_of Kind.node T) (24 + size table U) (nodes_of tree) →
+    pub tree_owes : (o : Option ℕ) (tree : Tree) (vs : Values) (owned : List ℕ) → IsTree bytes o tree → AreNodes bytes (tag_of Kind.node T) (map_words + size table U) (nodes_of tree) →
         HoldsEach bytes table (values_in (nodes_of tree)) vs owned → TreeOwes o (nodes_of tree) owned
     tree_owes None leaf vs owned t a holds_none = record { blocks = []; counts = λ h. omega arith; owes_it = refl }
     tree_owes (Some p) leaf vs owned t a h = absurd t
@@ -60,15 +60,15 @@ module _ (bytes : List ℕ) (table : Table) where
     tree_owes (Some p) (fork left at colour right) vs owned t a h =
         let at_is : at ≡ p = t.0 in
         let h' = rw (values_split (nodes_of left) at (nodes_of right)) at h in
-        let s = each_split (values_in (nodes_of left)) (record { at = at + 24; type = U } ∷ values_in (nodes_of right)) vs owned h' in
-        let mine = each_split (record { at = at + 24; type = U } ∷ []) (values_in (nodes_of right)) s.rights s.back s.right in
+        let s = each_split (values_in (nodes_of left)) (record { at = at + map_words; type = U } ∷ values_in (nodes_of right)) vs owned h' in
+        let mine = each_split (record { at = at + map_words; type = U } ∷ []) (values_in (nodes_of right)) s.rights s.back s.right in
         let block = (each_right _ (nodes_of left) (at ∷ nodes_of right) a).0 in
         let l = tree_owes (target bytes p) left s.lefts s.front t.2 (each_left _ (nodes_of left) (at ∷ nodes_of right) a) s.left in
         let r = tree_owes (target bytes (p + 4)) right mine.rights mine.back t.3 (each_right _ (nodes_of left) (at ∷ nodes_of right) a).1 mine.right in
         let links : OwesLinks bytes table (p ∷ (p + 4) ∷ []) (l.blocks ++ (r.blocks ++ [])) = link_owes p (target bytes p) l.blocks refl l.owes_it (link_owes (p + 4) (target bytes (p + 4)) r.blocks refl r.owes_it no_links) in
         let parts = own_part at mine.lefts mine.front mine.left in
-        let block_there : IsBlock bytes p (tag_of Kind.node T) (24 + size table U) = subst (λ q. IsBlock bytes q (tag_of Kind.node T) (24 + size table U)) at_is block in
-        let shown : OpensBlock bytes table p Kind.node T (form_at table T) (record { at = p + 24; type = U } ∷ []) (p ∷ (p + 4) ∷ []) = rw f (block_there, refl, refl) in
+        let block_there : IsBlock bytes p (tag_of Kind.node T) (map_words + size table U) = subst (λ q. IsBlock bytes q (tag_of Kind.node T) (map_words + size table U)) at_is block in
+        let shown : OpensBlock bytes table p Kind.node T (form_at table T) (record { at = p + map_words; type = U } ∷ []) (p ∷ (p + 4) ∷ []) = rw f (block_there, refl, refl) in
         record {
           blocks = block_of p ∷ (mine.front ++ (l.blocks ++ (r.blocks ++ [])));
           counts = λ k.
@@ -86,9 +86,9 @@ module _ (bytes : List ℕ) (table : Table) where
               let m2 = times-append k (map block_of (nodes_of left)) (block_of at ∷ map block_of (nodes_of right)) in
               let m3 : times k (block_of p ∷ []) ≡ times k (block_of at ∷ []) = ap (λ q. times k (block_of q ∷ [])) (sym at_is) in
               omega arith;
-          owes_it = owes Kind.node T (record { at = p + 24; type = U } ∷ []) (p ∷ (p + 4) ∷ []) mine.front (l.blocks ++ (r.blocks ++ [])) shown
-              (subst (λ q. AreParts bytes table (record { at = q + 24; type = U } ∷ []) mine.front) at_is parts) links refl;
+          owes_it = owes Kind.node T (record { at = p + map_words; type = U } ∷ []) (p ∷ (p + 4) ∷ []) mine.front (l.blocks ++ (r.blocks ++ [])) shown
+              (subst (λ q. AreParts bytes table (record { at = q + map_words; type = U } ∷ []) mine.front) at_is parts) links refl;
         }
       where
-        own_part : (q : ℕ) (ws : Values) (bs : List ℕ) → HoldsEach bytes table (record { at = q + 24; type = U } ∷ []) ws bs → AreParts bytes table (record { at = q + 24; type = U } ∷ []) bs
+        own_part : (q : ℕ) (ws : Values) (bs : List ℕ) → HoldsEach bytes table (record { at = q + map_words; type = U } ∷ []) ws bs → AreParts bytes table (record { at = q + map_words; type = U } ∷ []) bs
         own_part q ws bs (holds_more {v = u} first holds_none) = more_parts (inl (u, first)) no_parts

@@ -17,11 +17,12 @@ use Rattle.seg_spec.specs.Pointer.{target}
 use Rattle.seg_spec.specs.Types.{Form, Table, form_at, size, cells}
 use Rattle.seg_spec.specs.Reads.{count_at, spaced}
 use Rattle.seg_spec.specs.Fresh.{IsFreshCell}
+use Rattle.seg_spec.specs.Header.{max_length}
 
 -- n bytes from a position on lie in the bytes, which are no more than a segment has
 pub record IsWithin (bytes : List ℕ) (at n : ℕ) : Type 0 where
   pub fits : at + n ≤ length bytes
-  pub small : length bytes ≤ 2 ^ 30
+  pub small : length bytes ≤ max_length
 
 -- each cell of a value of the type, by its distance from the value's start
 abbrev pub EachCell : Table → ℕ → (ℕ → Option Form → Type 0) → Type 0

@@ -19,6 +19,7 @@ use Rattle.seg_spec.specs.Block.{block_of, payload_size}
 use Rattle.seg_spec.specs.Reads.{spaced}
 use Rattle.seg_spec.specs.Cells.{EachCell}
 use Rattle.seg_spec.specs.Owing.{NamesNothing, Owes, Waits, KeepsLinked}
+use Rattle.seg_spec.specs.Header.{KeepsFront, KeepsBack}
 
 -- these blocks are live, each once
 abbrev pub AreLive : List ℕ → List ℕ → Type 0
@@ -64,8 +65,8 @@ pub record Pops (allocator : ℕ) (bytes : List ℕ) (table : Table) (p : ℕ) (
 -- these blocks were given back: the heap is in order, and each other live block is kept with its link
 pub record Frees (allocator : ℕ) (old new : List ℕ) (gives : List ℕ) : Type 0 where
   pub length_kept : length new ≡ length old
-  pub front_kept : IsSame old new 0 24
-  pub back_kept : IsSame old new 28 676
+  pub front_kept : KeepsFront old new
+  pub back_kept : KeepsBack old new
   pub heap : IsHeap allocator new
   pub live_is : live new ≡ after_gives (live old) gives
   pub live_are : (h : ℕ) →

@@ -7,18 +7,19 @@
 --         what is wrong, where all before it is right
 --     Lacks bytes failure        the same by a name for each but the last, which is a
 --                                case of the one before it
-use Rattle.std.specs.Prelude.{◌≡◌, ℕ, ◌%◌, ◌^◌, ◌≤◌, true, List, [], ◌++◌, length}
+use Rattle.std.specs.Prelude.{◌≡◌, ℕ, ◌%◌, ◌≤◌, true, List, [], ◌++◌, length}
 use Rattle.std.specs.List.{AllByRecursion}
 use Rattle.seg_spec.specs.Bytes.{word, slice}
 use Rattle.seg_spec.specs.Types.{Table, IsTable, HasTable, IsFirstWrong}
 use Rattle.seg_spec.specs.Heap.{heap_start, tiles, Fill, AreHeaders, AreApart, live, gaps, HoldsGaps}
 use Rattle.seg_spec.specs.Block.{IsOwnable}
 use Rattle.seg_spec.specs.Sound.{Picture, roots_of, HasHeader, HoldsRoots, IsLaidOut, IsSound, times, positions}
+use Rattle.seg_spec.specs.Header.{min_length, max_length, types_start, types_size, allocator_word}
 
--- a length that an image may have: whole units, from 2 of heap on to 2 ^ 30 bytes
+-- a length that an image may have: whole units, as many as a segment may have
 pub record IsImageLength (n : ℕ) : Type 0 where
-  pub not_small : 736 ≤ n
-  pub not_large : n ≤ 2 ^ 30
+  pub not_small : min_length ≤ n
+  pub not_large : n ≤ max_length
   pub whole_units : n % 16 ≡ 0
 
 -- Tiles fill the heap, each with its header, tag and link, and no two free ones are neighbours.
@@ -45,7 +46,7 @@ pub record HoldsAll (bytes : List ℕ) : Type 0 where
 -- header and types are in order
 pub record HasFront (bytes : List ℕ) (table : Table) : Type 0 where
   pub header : HasHeader bytes
-  pub types : HasTable bytes 64 table
+  pub types : HasTable bytes types_start table
   pub is_table : IsTable table
 
 -- the fixed words or the length
@@ -54,7 +55,7 @@ LacksHeader bytes = HasHeader bytes → ⊥
 
 -- entry k of the table of types
 abbrev pub LacksType : List ℕ → ℕ → Type 0
-LacksType bytes k = HasHeader bytes × IsFirstWrong (slice bytes 64 512) k
+LacksType bytes k = HasHeader bytes × IsFirstWrong (slice bytes types_start types_size) k
 
 -- tiles, headers, tags or links
 abbrev pub LacksTiles : List ℕ → Type 0
@@ -63,13 +64,13 @@ LacksTiles bytes = (table : Table) × HasFront bytes table × (HasTiles bytes ta
 -- the free structure
 abbrev pub LacksGaps : List ℕ → Type 0
 LacksGaps bytes = (table : Table) × HasFront bytes table × HasTiles bytes table ×
-    (HoldsGaps (word bytes 16) bytes (gaps bytes) → ⊥)
+    (HoldsGaps (word bytes allocator_word) bytes (gaps bytes) → ⊥)
 
 -- the index, a unique object, a value, or one owner for each block
 abbrev pub LacksContent : List ℕ → Type 0
 LacksContent bytes =
     (table : Table) × HasFront bytes table × HasTiles bytes table ×
-    HoldsGaps (word bytes 16) bytes (gaps bytes) × (IsSound bytes → ⊥)
+    HoldsGaps (word bytes allocator_word) bytes (gaps bytes) × (IsSound bytes → ⊥)
 
 -- nothing but an owner for a live block
 abbrev pub LacksOwner : List ℕ → Type 0

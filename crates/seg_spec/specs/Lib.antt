@@ -1,4 +1,5 @@
 pub mod Bytes
+pub mod Header
 pub mod Pointer
 pub mod Window
 pub mod Types

@@ -13,7 +13,7 @@ use Rattle.seg_spec.specs.Types.{Form, Table, form_at, size}
 use Rattle.seg_spec.specs.Value.{Value}
 use Rattle.seg_spec.specs.Heap.{link_at}
 use Rattle.seg_spec.specs.Block.{Kind, tag_of, IsBlock, KeepsBlock, block_of, payload_size}
-use Rattle.seg_spec.specs.Reads.{Place, spaced, places_of, Holds}
+use Rattle.seg_spec.specs.Reads.{Place, spaced, places_of, Holds, map_words}
 use Rattle.seg_spec.specs.Cells.{EachCell}
 
 -- the cell names nothing
@@ -63,8 +63,8 @@ OpensBlock bytes table p Kind.node T (Some (Form.list U)) values links =
     IsBlock bytes p (tag_of Kind.node T) (8 + size table U) ×
     (values ≡ record { at = p + 8; type = U } ∷ []) × (links ≡ p ∷ [])
 OpensBlock bytes table p Kind.node T (Some (Form.map U)) values links =
-    IsBlock bytes p (tag_of Kind.node T) (24 + size table U) ×
-    (values ≡ record { at = p + 24; type = U } ∷ []) × (links ≡ p ∷ (p + 4) ∷ [])
+    IsBlock bytes p (tag_of Kind.node T) (map_words + size table U) ×
+    (values ≡ record { at = p + map_words; type = U } ∷ []) × (links ≡ p ∷ (p + 4) ∷ [])
 OpensBlock bytes table p _ T _ values links = ⊥
 
 mutual

@@ -12,6 +12,7 @@ use Rattle.seg_spec.specs.Heap.{IsHeap, live}
 use Rattle.seg_spec.specs.Block.{IsInside, IsOwnable}
 use Rattle.seg_spec.specs.Reads.{Place, Holds}
 use Rattle.seg_spec.specs.Sound.{times, positions}
+use Rattle.seg_spec.specs.Header.{allocator_word}
 
 -- n bytes from a position on lie in the payload of a live block, and these
 -- blocks are other live ones
@@ -25,7 +26,7 @@ pub record StandsBeside (bytes : List ℕ) (home at n : ℕ) (blocks : List ℕ)
 pub record Stands (allocator : ℕ) (bytes : List ℕ) (table : Table) (place : Place) (v : Value)
     (blocks : List ℕ) : Type 0 where
   pub heap : IsHeap allocator bytes
-  pub allocator_is : word bytes 16 ≡ allocator
+  pub allocator_is : word bytes allocator_word ≡ allocator
   pub is_table : IsTable table
   pub ownable : AllByRecursion (λ b. IsOwnable bytes table b.at) (live bytes)
   pub holds_it : Holds bytes table place v blocks

@@ -244,7 +244,7 @@ module _ (allocator : ℕ) (old : List ℕ) (table : Table) (place : Place) (for
 
       entries_same : IsSame old new p n
       entries_same =
-          let behind = block_is.behind_header in
+          let following = block_is.after_header in
           let least = between in
           let large = states_old.high in
           slice-agrees old new (block_of p + 8) (block_of p + 16 * min x units) p n agrees (omega arith) (omega arith) (omega arith)
@@ -255,7 +255,7 @@ module _ (allocator : ℕ) (old : List ℕ) (table : Table) (place : Place) (for
           let large = states_old.high in
           let is_units = states_new.units_is in
           record {
-            behind_header = block_is.behind_header;
+            after_header = block_is.after_header;
             live = states_new.live_is;
             has_tag = number-agrees old new (block_of p + 8) (block_of p + 16 * min x units) 4 (block_of p + 8) agrees (omega arith) (omega arith) ∙ block_is.has_tag;
             room = omega arith;

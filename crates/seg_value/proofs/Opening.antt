@@ -79,7 +79,7 @@ module _ (bytes : List ℕ) (table : Table) (valid : IsTable table) (p : ℕ) wh
         let room = o.0.room in
         let zero_off : p + 0 ≡ p = omega arith in
         record {
-          low = o.0.behind_header;
+          low = o.0.after_header;
           links = rw of'.shape_is (subst (λ ls. OwesLinks bytes table ls bs) o.2 more);
           entries = inr (record {
             before = 0;
@@ -104,7 +104,7 @@ module _ (bytes : List ℕ) (table : Table) (valid : IsTable table) (p : ℕ) wh
         let is = same_buffer k t T (sym tag ∙ o.0.has_tag) in
         let of' = rw f at (subst (λ u. OfBlock table kind.Buffer u (Some content)) is.1 (subst (λ j. OfBlock table j t (Some content)) is.0 of)) in
         record {
-          low = o.0.behind_header;
+          low = o.0.after_header;
           links = rw of'.shape_is (subst (λ ls. OwesLinks bytes table ls bs) o.2 more);
           entries = inl (of'.held_is, no_values us (subst (λ ps. AreParts bytes table ps us) o.1 parts));
         }
@@ -115,7 +115,7 @@ module _ (bytes : List ℕ) (table : Table) (valid : IsTable table) (p : ℕ) wh
         let is = same_buffer k t T (sym tag ∙ o.0.has_tag) in
         let of' = rw f at (subst (λ u. OfBlock table kind.Buffer u (Some content)) is.1 (subst (λ j. OfBlock table j t (Some content)) is.0 of)) in
         record {
-          low = o.0.behind_header;
+          low = o.0.after_header;
           links = rw of'.shape_is (subst (λ ls. OwesLinks bytes table ls bs) o.2 more);
           entries = inr (record {
             before = 0;
@@ -131,7 +131,7 @@ module _ (bytes : List ℕ) (table : Table) (valid : IsTable table) (p : ℕ) wh
         let is = same_buffer k t T (sym tag ∙ o.0.has_tag) in
         let of' = rw f at (subst (λ u. OfBlock table kind.Buffer u (Some content)) is.1 (subst (λ j. OfBlock table j t (Some content)) is.0 of)) in
         record {
-          low = o.0.behind_header;
+          low = o.0.after_header;
           links = rw of'.shape_is (subst (λ ls. OwesLinks bytes table ls bs) o.2 more);
           entries = inr (record {
             before = 8;
@@ -158,7 +158,7 @@ module _ (bytes : List ℕ) (table : Table) (valid : IsTable table) (p : ℕ) wh
         let of' = rw f at (subst (λ u. OfBlock table kind.Node u (Some content)) is.1 (subst (λ j. OfBlock table j t (Some content)) is.0 of)) in
         let room = o.0.room in
         record {
-          low = o.0.behind_header;
+          low = o.0.after_header;
           links = rw of'.shape_is (subst (λ ls. OwesLinks bytes table ls bs) o.2 more);
           entries = inr (record {
             before = 8;
@@ -175,7 +175,7 @@ module _ (bytes : List ℕ) (table : Table) (valid : IsTable table) (p : ℕ) wh
         let of' = rw f at (subst (λ u. OfBlock table kind.Node u (Some content)) is.1 (subst (λ j. OfBlock table j t (Some content)) is.0 of)) in
         let room = o.0.room in
         record {
-          low = o.0.behind_header;
+          low = o.0.after_header;
           links = rw of'.shape_is (subst (λ ls. OwesLinks bytes table ls bs) o.2 more);
           entries = inr (record {
             before = 24;

@@ -185,7 +185,7 @@ module _ (allocator : ℕ) (old : List ℕ) (table : Table) (own : Place) (U : �
         apart : (h : ℕ) → h ≢ s.home → LiesIn old heap_start (length old) h → OneOrApart old s.home h → Separate (h + 16) (payload_size old h) own.at (size table own.type)
         apart h ne l (inl same) = absurd (ne same)
         apart h ne l (inr (inl before)) = inr (omega (arith, s.inside.high))
-        apart h ne l (inr (inr behind)) = inl (omega (arith, s.inside.low, l.size))
+        apart h ne l (inr (inr following)) = inl (omega (arith, s.inside.low, l.size))
 
     pub stands : Stands allocator after table own Empty []
     stands = record {
@@ -231,7 +231,7 @@ module _ (allocator : ℕ) (old : List ℕ) (table : Table) (own : Place) (U : �
             let is : object ≡ t = cc in
             let o = other (block_of object) (omega (arith, times-same (block_of object) inside)) in
             let l = lies (block_of object) o.0 in
-            let b = loose.block.behind_header in
+            let b = loose.block.after_header in
             let small = s.heap.small in
             let even = s.aligned in
             let aligned = l.aligned in

@@ -79,14 +79,14 @@ module _ (allocator : ℕ) (old : List ℕ) (table : Table) (valid : IsTable tab
       let live_there : 1 ≤ times (block_of p) (positions (live old)) = omega (arith, fits (block_of p)) in
       let z : 0 + size table U ≡ size table U = omega arith in
       let less : used * (0 + size table U) ≤ payload_size old (block_of p) = rw (z, count) room in
-      vector_goes allocator old new table valid heap place p e v xs fits U f h (rw count at (rest 0 U k.entry_is b.block.behind_header live_there less))
+      vector_goes allocator old new table valid heap place p e v xs fits U f h (rw count at (rest 0 U k.entry_is b.block.after_header live_there less))
   buffer_by new used (Some (Form.flat_map U)) f k s count text rest =
       let b = flat_map_named old table place p U v xs f e h in
       let room = b.block.room in
       let mine = b.mine in
       let live_there : 1 ≤ times (block_of p) (positions (live old)) = omega (arith, fits (block_of p)) in
       let less : used * (8 + size table U) ≤ payload_size old (block_of p) = rw count room in
-      flat_map_goes allocator old new table valid heap place p e v xs fits U f h (rw count at (rest 8 U k.entry_is b.block.behind_header live_there less))
+      flat_map_goes allocator old new table valid heap place p e v xs fits U f h (rw count at (rest 8 U k.entry_is b.block.after_header live_there less))
 
   pub buffer : (new : List ℕ) (used : ℕ) → ContentOf table place.type (form_at table place.type) (Some content) → content.shape ≡ shape.Buffer → used ≡ count_at old place.at → (content.entry.held ≡ held.Bytes → new ≡ old) →
       ((before U : ℕ) → IsEntryOf table before U content.entry → 16 ≤ p → 1 ≤ times (block_of p) (positions (live old)) → used * (before + size table U) ≤ payload_size old (block_of p) → DefaultsRest old new table p before U used) →

@@ -57,7 +57,7 @@ impl<'a, R: rt::Files<File = File> + AllocGlobal> HostFiles<'a, R> {
         }
     }
 
-    /// Writes what a link leads to, through all links behind it: a plain file is replaced in its own folder, and the links stay.
+    /// Writes what a link leads to, through all links that follow: a plain file is replaced in its own folder, and the links stay.
     /// A link that leads nowhere, or round to itself, is an error: a file where nobody asked for one is worse than none.
     fn write_through(&self, link: &str, bytes: &[u8]) -> io::Result<()> {
         let there = fs::metadata(self.rt, link)?;

@@ -1,5 +1,5 @@
 //! The program `segtool`: checks images of managed segments, and runs clients on them. Here the host's words, files and
-//! outputs are put behind the commands.
+//! outputs are put after the commands.
 #![tactic(auto)]
 
 ghost use Rattle.std.specs.Prelude.{◌≡◌, false};

@@ -10,7 +10,7 @@ use Rattle.seg_spec.specs.Value.{Label, Int, nil, Selector}
 use Rattle.seg_spec.specs.Heap.{span, Tile, Fill, AreHeaders, IsHeap, heap_start, live, room_at}
 use Rattle.seg_spec.specs.Block.{Kind, IsOwnable}
 use Rattle.seg_spec.specs.Reads.{Place, Opened, Opens, Holds, holds, holds_none, holds_more, count_at, Leads, here, into}
-use Rattle.seg_spec.specs.Apart.{KeepsBlockAround, GoesBehind}
+use Rattle.seg_spec.specs.Apart.{KeepsBlockAround, GoesOnAfter}
 use Rattle.seg_spec.specs.Sound.{times, positions}
 use Rattle.seg_spec.specs.Roots.{KeepsPaths, KeepsPathsBeside, ChangesPlace}
 use Rattle.seg_spec.specs.Spending.{units_named, item_size, cut_to}
@@ -70,7 +70,7 @@ holds_number at k e = holds Form.i64 _ nil [] refl refl holds_none (ap Int (sym 
 
 cut_vec : Holds cut vec_table vec_place vec_value (784 ∷ [])
 unfolding cut roomy slice put set_number number number_of signed target size
-cut_vec = holds {place = vec_place} (Form.vec 0) _ _ [] refl (record { named_room = record { behind_header = lit≤ tt; live = refl; has_tag = refl; room = lit≤ tt }; ascending = tt; opened_is = refl })
+cut_vec = holds {place = vec_place} (Form.vec 0) _ _ [] refl (record { named_room = record { after_header = lit≤ tt; live = refl; has_tag = refl; room = lit≤ tt }; ascending = tt; opened_is = refl })
     (holds_more (holds_number 800 (pos 1) refl) (holds_more (holds_number 808 (pos 2) refl) holds_none)) refl refl
 
 -- ---- the frame
@@ -150,7 +150,7 @@ opens_roomy : (opened : Opened) → Opens roomy vec_table vec_place (Form.vec 0)
 unfolding cut roomy slice put set_number number number_of target size its_items
 opens_roomy opened o = (
   ap (λ (x : Opened). x.parts) o.opened_is,
-  record { named_room = record { behind_header = lit≤ tt; live = refl; has_tag = refl; room = lit≤ tt }; ascending = tt; opened_is = o.opened_is },
+  record { named_room = record { after_header = lit≤ tt; live = refl; has_tag = refl; room = lit≤ tt }; ascending = tt; opened_is = o.opened_is },
 )
 
 pub cut-paths : KeepsPathsInside roomy cut vec_table vec_place
@@ -182,7 +182,7 @@ second = record { at = 808; type = 0 }
 leads_to_second : Leads roomy vec_table vec_place (Selector.item 1 ∷ []) second
 unfolding roomy slice number number_of target size second
 leads_to_second = into {place = vec_place} (Form.vec 0) (record { label = Label.seq; blocks = 784 ∷ []; parts = record { at = 800; type = 0 } ∷ record { at = 808; type = 0 } ∷ [] }) 1 (record { at = 808; type = 0 }) refl
-    (record { named_room = record { behind_header = lit≤ tt; live = refl; has_tag = refl; room = lit≤ tt }; ascending = tt; opened_is = refl }) refl refl here
+    (record { named_room = record { after_header = lit≤ tt; live = refl; has_tag = refl; room = lit≤ tt }; ascending = tt; opened_is = refl }) refl refl here
 
 no_parts : (opened : Opened) → Opens unnamed vec_table vec_place (Form.vec 0) opened → opened.parts ≡ []
 unfolding unnamed roomy slice put number number_of target size
@@ -210,6 +210,6 @@ pub unnamed-not_beside : KeepsPathsBeside roomy unnamed vec_table vec_root 0 (Se
 unfolding size
 unnamed-not_beside keeps = go (keeps 0 (Selector.item 1 ∷ []) second (lit< tt) leads_to_second)
   where
-    go : ((zero ≡ zero) × GoesBehind (Selector.item 0 ∷ []) (Selector.item 1 ∷ [])) ⊎ Leads unnamed vec_table vec_place (Selector.item 1 ∷ []) second → ⊥
+    go : ((zero ≡ zero) × GoesOnAfter (Selector.item 0 ∷ []) (Selector.item 1 ∷ [])) ⊎ Leads unnamed vec_table vec_place (Selector.item 1 ∷ []) second → ⊥
     go (inl b) = let e = b.1.2 in cc
     go (inr l) = nowhere l

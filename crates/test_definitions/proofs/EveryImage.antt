@@ -85,12 +85,12 @@ number_5 = number_at 720 (pos 5) refl
 
 text : Holds every every_table (record { at = 728; type = 1 }) (Text (104 ∷ 105 ∷ [])) (880 ∷ [])
 unfolding every slice number number_of target
-text = holds {place = record { at = 728; type = 1 }} Form.str _ nil [] refl (record { named_room = record { behind_header = lit≤ tt; live = refl; has_tag = refl; room = lit≤ tt }; ascending = tt; opened_is = refl }) holds_none refl refl
+text = holds {place = record { at = 728; type = 1 }} Form.str _ nil [] refl (record { named_room = record { after_header = lit≤ tt; live = refl; has_tag = refl; room = lit≤ tt }; ascending = tt; opened_is = refl }) holds_none refl refl
 
 vec : Holds every every_table (record { at = 736; type = 2 }) (Seq (many (pos 1 ∷ pos 2 ∷ []))) (912 ∷ [])
 unfolding every slice number number_of target signed size
 vec = holds {place = record { at = 736; type = 2 }} (Form.vec 0) _ (many (pos 1 ∷ pos 2 ∷ [])) [] refl
-    (record { named_room = record { behind_header = lit≤ tt; live = refl; has_tag = refl; room = lit≤ tt }; ascending = tt; opened_is = refl })
+    (record { named_room = record { after_header = lit≤ tt; live = refl; has_tag = refl; room = lit≤ tt }; ascending = tt; opened_is = refl })
     (holds_more (number_at 928 (pos 1) refl) (holds_more (number_at 936 (pos 2) refl) holds_none)) refl refl
 
 list : Holds every every_table (record { at = 744; type = 3 }) (Seq (many (pos 3 ∷ pos 4 ∷ []))) (944 ∷ 976 ∷ [])
@@ -99,14 +99,14 @@ list = holds {place = record { at = 744; type = 3 }} (Form.list 0) _ (many (pos 
   nodes = 960 ∷ 992 ∷ [];
   ring = (refl, (record { next = refl; previous = refl }, record { next = refl; previous = refl }));
   counted = refl;
-  are_nodes = (record { behind_header = lit≤ tt; live = refl; has_tag = refl; room = lit≤ tt }, (record { behind_header = lit≤ tt; live = refl; has_tag = refl; room = lit≤ tt }, tt));
+  are_nodes = (record { after_header = lit≤ tt; live = refl; has_tag = refl; room = lit≤ tt }, (record { after_header = lit≤ tt; live = refl; has_tag = refl; room = lit≤ tt }, tt));
   opened_is = refl;
 }) (holds_more (number_at 968 (pos 3) refl) (holds_more (number_at 1000 (pos 4) refl) holds_none)) refl refl
 
 flat_map : Holds every every_table (record { at = 752; type = 4 }) (Map (negsuc 0 ∷ pos 2 ∷ []) (many (pos 10 ∷ pos 20 ∷ []))) (1008 ∷ [])
 unfolding every slice number number_of target signed size
 flat_map = holds {place = record { at = 752; type = 4 }} (Form.flat_map 0) _ (many (pos 10 ∷ pos 20 ∷ [])) [] refl
-    (record { named_room = record { behind_header = lit≤ tt; live = refl; has_tag = refl; room = lit≤ tt }; ascending = (record { lt = tt }, tt); opened_is = refl })
+    (record { named_room = record { after_header = lit≤ tt; live = refl; has_tag = refl; room = lit≤ tt }; ascending = (record { lt = tt }, tt); opened_is = refl })
     (holds_more (number_at 1032 (pos 10) refl) (holds_more (number_at 1048 (pos 20) refl) holds_none)) refl refl
 
 map_tree : Holds every every_table (record { at = 760; type = 5 }) (Map (negsuc 4 ∷ pos 2 ∷ []) (many (pos 30 ∷ pos 40 ∷ []))) (1104 ∷ 1056 ∷ [])
@@ -116,7 +116,7 @@ map_tree = holds {place = record { at = 760; type = 5 }} (Form.map 0) _ (many (p
   is_tree = (refl, record { colour_is = refl; zero_is = refl }, (refl, record { colour_is = refl; zero_is = refl }, tt, tt), tt);
   red_black = record { root = tt; height = 1; balanced = (0, refl, (tt, tt, refl, refl), refl) };
   counted = refl;
-  are_nodes = (record { behind_header = lit≤ tt; live = refl; has_tag = refl; room = lit≤ tt }, (record { behind_header = lit≤ tt; live = refl; has_tag = refl; room = lit≤ tt }, tt));
+  are_nodes = (record { after_header = lit≤ tt; live = refl; has_tag = refl; room = lit≤ tt }, (record { after_header = lit≤ tt; live = refl; has_tag = refl; room = lit≤ tt }, tt));
   ascending = (record { lt = tt }, tt);
   opened_is = refl;
 }) (holds_more (number_at 1144 (pos 30) refl) (holds_more (number_at 1096 (pos 40) refl) holds_none)) refl refl
@@ -124,7 +124,7 @@ map_tree = holds {place = record { at = 760; type = 5 }} (Form.map 0) _ (many (p
 own : Holds every every_table (record { at = 768; type = 6 }) (Full (Int (pos 9))) (1152 ∷ [])
 unfolding every slice number number_of target signed size
 own = holds {place = record { at = 768; type = 6 }} (Form.own 0) _ (many (pos 9 ∷ [])) [] refl (record
-    { named_room = record { behind_header = lit≤ tt; live = refl; has_tag = refl; room = lit≤ tt }; counted = refl; opened_is = refl }) (holds_more (number_at 1168 (pos 9) refl) holds_none) refl refl
+    { named_room = record { after_header = lit≤ tt; live = refl; has_tag = refl; room = lit≤ tt }; counted = refl; opened_is = refl }) (holds_more (number_at 1168 (pos 9) refl) holds_none) refl refl
 
 abbrev every_blocks : List ℕ
 every_blocks = 880 ∷ 912 ∷ 944 ∷ 976 ∷ 1008 ∷ 1104 ∷ 1056 ∷ 1152 ∷ []
@@ -141,15 +141,15 @@ named_root = record { name = 97 ∷ []; at = 720; type = 7; values = cons every_
 
 named : HoldsRoot every every_table named_root (704 ∷ every_blocks)
 unfolding every slice number number_of size
-named = record { block = record { behind_header = lit≤ tt; live = refl; has_tag = refl; room = lit≤ tt }; name_is = refl; inside = every_blocks; values = holds_more struct holds_none; blocks_are = refl }
+named = record { block = record { after_header = lit≤ tt; live = refl; has_tag = refl; room = lit≤ tt }; name_is = refl; inside = every_blocks; values = holds_more struct holds_none; blocks_are = refl }
 
 unique : HoldsRoot every every_table (record { name = []; at = 1200; type = 0; values = cons (Int (pos 7)) nil }) (1184 ∷ [])
 unfolding every slice number number_of size signed
-unique = record { block = record { behind_header = lit≤ tt; live = refl; has_tag = refl; room = lit≤ tt }; name_is = refl; inside = []; values = holds_more (number_at 1200 (pos 7) refl) holds_none; blocks_are = refl }
+unique = record { block = record { after_header = lit≤ tt; live = refl; has_tag = refl; room = lit≤ tt }; name_is = refl; inside = []; values = holds_more (number_at 1200 (pos 7) refl) holds_none; blocks_are = refl }
 
 loose : HoldsRoot every every_table (record { name = []; at = 1232; type = 0; values = cons (Int (pos 8)) nil }) (1216 ∷ [])
 unfolding every slice number number_of size signed
-loose = record { block = record { behind_header = lit≤ tt; live = refl; has_tag = refl; room = lit≤ tt }; name_is = refl; inside = []; values = holds_more (number_at 1232 (pos 8) refl) holds_none; blocks_are = refl }
+loose = record { block = record { after_header = lit≤ tt; live = refl; has_tag = refl; room = lit≤ tt }; name_is = refl; inside = []; values = holds_more (number_at 1232 (pos 8) refl) holds_none; blocks_are = refl }
 
 -- ---- the image
 
@@ -245,7 +245,7 @@ laid_out = record {
       is_tree = (refl, record { colour_is = refl; zero_is = refl }, tt, tt);
       red_black = record { root = tt; height = 1; balanced = (0, refl, refl, refl) };
       counted = refl;
-      are_nodes = (record { behind_header = lit≤ tt; live = refl; has_tag = refl; room = lit≤ tt }, tt);
+      are_nodes = (record { after_header = lit≤ tt; live = refl; has_tag = refl; room = lit≤ tt }, tt);
       index_is = refl;
     };
     entries = (

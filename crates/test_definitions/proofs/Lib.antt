@@ -9,7 +9,7 @@ pub mod EveryImage
 pub mod NoRoots
 pub mod PartLaw
 pub mod RootPaths
-pub mod PathsBehind
+pub mod PathsAfter
 pub mod Denials
 pub mod CutBuffers
 pub mod WorkedCalls

@@ -28,7 +28,7 @@ counter_x = holds Form.i64 _ nil [] refl refl holds_none refl refl
 counter_holds : HoldsRoot counter (Form.i64 ∷ []) counter_root (704 ∷ [])
 unfolding counter slice number number_of size
 counter_holds = record {
-  block = record { behind_header = lit≤ tt; live = refl; has_tag = refl; room = lit≤ tt };
+  block = record { after_header = lit≤ tt; live = refl; has_tag = refl; room = lit≤ tt };
   name_is = refl;
   inside = [];
   values = holds_more counter_x holds_none;
@@ -66,7 +66,7 @@ counter_laid_out = record {
   names = record {
     index = record { blocks = 736 ∷ []; entries = 752 ∷ [] };
     opens = record {
-      named_room = record { behind_header = lit≤ tt; live = refl; has_tag = refl; room = lit≤ tt };
+      named_room = record { after_header = lit≤ tt; live = refl; has_tag = refl; room = lit≤ tt };
       none_if_empty = λ e. absurd (omega arith);
       index_is = refl;
     };
@@ -111,13 +111,13 @@ greeting_tiles = record { at = 704; units = 2; live = true } ∷ record { at = 7
 
 greeting_s : Holds greeting (Form.str ∷ []) (record { at = 720; type = 0 }) (Text (104 ∷ 105 ∷ [])) (784 ∷ [])
 unfolding greeting slice number number_of target
-greeting_s = holds {place = record { at = 720; type = 0 }} Form.str _ nil [] refl (record { named_room = record { behind_header = lit≤ tt; live = refl; has_tag = refl; room = lit≤ tt }; ascending = tt; opened_is = refl })
+greeting_s = holds {place = record { at = 720; type = 0 }} Form.str _ nil [] refl (record { named_room = record { after_header = lit≤ tt; live = refl; has_tag = refl; room = lit≤ tt }; ascending = tt; opened_is = refl })
     holds_none refl refl
 
 greeting_holds : HoldsRoot greeting (Form.str ∷ []) greeting_root (704 ∷ 784 ∷ [])
 unfolding greeting slice number number_of size
 greeting_holds = record {
-  block = record { behind_header = lit≤ tt; live = refl; has_tag = refl; room = lit≤ tt };
+  block = record { after_header = lit≤ tt; live = refl; has_tag = refl; room = lit≤ tt };
   name_is = refl;
   inside = 784 ∷ [];
   values = holds_more greeting_s holds_none;
@@ -166,7 +166,7 @@ greeting_laid_out = record {
   names = record {
     index = record { blocks = 736 ∷ []; entries = 752 ∷ [] };
     opens = record {
-      named_room = record { behind_header = lit≤ tt; live = refl; has_tag = refl; room = lit≤ tt };
+      named_room = record { after_header = lit≤ tt; live = refl; has_tag = refl; room = lit≤ tt };
       none_if_empty = λ e. absurd (omega arith);
       index_is = refl;
     };

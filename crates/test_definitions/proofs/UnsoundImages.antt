@@ -10,7 +10,7 @@ use Rattle.seg_spec.specs.Heap.{Tile, live, live_of, tag_at}
 use Rattle.seg_spec.specs.Block.{Kind, tag_of, block_of, IsOwnable}
 use Rattle.seg_spec.specs.Reads.{Place, Opened, Opens, count_at, named, start, spaced, items, Holds, holds, HoldsEach, holds_more}
 use Rattle.seg_spec.specs.Index.{Root, Index, OpensIndex, AreEntries, position_of, ListsNames}
-use Rattle.seg_spec.specs.Sound.{IsPlain, kind_of, HoldsRoots, holds_no_root, holds_more_roots, IsSound, times, positions}
+use Rattle.seg_spec.specs.Sound.{IsPlain, kind_by_name, HoldsRoots, holds_no_root, holds_more_roots, IsSound, times, positions}
 use Rattle.seg_spec.specs.Fixtures.{counter, greeting, empty, empty_tree, other_magic, other_size, linked, odd_kind, lost_gap, red_root, neighbours, no_items, named_as_unique, no_buffer, own_buffer, two_owners, no_owner}
 use Rattle.seg_spec.proofs.OneTable.{HasTable-one}
 use Rattle.seg_spec.proofs.RootLaws.{HoldsRoots-split}
@@ -130,7 +130,7 @@ unique_tag bytes table (root ∷ roots) blocks T p (holds_more_roots {rest = res
     elim (root.type == T) as (λ b. Some p ≡ cond b (Some root.at) (position_of roots T) → tag_at bytes (block_of p) % 256 ≡ 2) [
       | true ↦ (λ f.
           let at : p ≡ root.at = cc in
-          let kind : kind_of root.name ≡ Kind.object = ap kind_of plain.0.no_name in
+          let kind : kind_by_name root.name ≡ Kind.object = ap kind_by_name plain.0.no_name in
           let tag : tag_at bytes (block_of root.at) ≡ 2 + 256 * root.type = h.block.has_tag ∙ ap (λ k. tag_of k root.type) kind in
           subst (λ q. tag_at bytes (block_of q) % 256 ≡ 2) (sym at) (omega arith))
       | false ↦ (λ f. unique_tag bytes table roots rest T p hs plain.1 f)
@@ -151,7 +151,7 @@ first_place : (bytes : List ℕ) (table : Table) (place : Place) (places : List 
 first_place bytes table place places nil blocks h = elim h [ ]
 first_place bytes table place places (cons v vs) blocks (holds_more {blocks = xs} h hs) = (v, xs, h)
 
-kind_named : (name : List ℕ) → 1 ≤ length name → kind_of name ≡ Kind.named
+kind_named : (name : List ℕ) → 1 ≤ length name → kind_by_name name ≡ Kind.named
 kind_named [] some = absurd (omega arith)
 kind_named (b ∷ name) some = refl
 

@@ -4,7 +4,7 @@ use Rattle.std.specs.Prelude.{Contains}
 use Rattle.seg_spec.specs.Bytes.{slice, put, number_of, number, set_number}
 use Rattle.seg_spec.specs.Pointer.{target}
 use Rattle.seg_spec.specs.Heap.{Span, span, Tile, live, Fill, AreHeaders, heap_start, Takes, Gives, Expands}
-use Rattle.seg_spec.specs.Fixtures.{empty, taken, grown, given_back}
+use Rattle.seg_spec.specs.Fixtures.{empty, taken, widened, given_back}
 use Rattle.seg_spec.proofs.SliceLaws.{Agrees-same_slice}
 use Rattle.seg_spec.proofs.KeptLaws.{each_contained}
 use Rattle.test_definitions.proofs.Evaluating.{live_evaluated, heap_evaluated}
@@ -24,12 +24,12 @@ taken_headers = (record { units_is = refl; live_is = refl; before_is = refl; tag
 abbrev grown_tiles : List Tile
 grown_tiles = record { at = 704; units = 4; live = true } ∷ []
 
-grown_fill : Fill heap_start grown_tiles (length grown)
-unfolding grown taken empty slice put set_number
+grown_fill : Fill heap_start grown_tiles (length widened)
+unfolding widened taken empty slice put set_number
 grown_fill = (refl, lit≤ tt, refl)
 
-grown_headers : AreHeaders grown 0 grown_tiles
-unfolding grown taken empty slice put set_number number number_of
+grown_headers : AreHeaders widened 0 grown_tiles
+unfolding widened taken empty slice put set_number number number_of
 grown_headers = (record { units_is = refl; live_is = refl; before_is = refl; tag_is = λ e. cc }, tt)
 
 given_fill : Fill heap_start empty_tiles (length given_back)
@@ -46,8 +46,8 @@ live_empty = live_evaluated empty empty_tiles empty_fill empty_headers
 live_taken : live taken ≡ span 704 2 ∷ []
 live_taken = live_evaluated taken taken_tiles taken_fill taken_headers
 
-live_grown : live grown ≡ span 704 4 ∷ []
-live_grown = live_evaluated grown grown_tiles grown_fill grown_headers
+live_grown : live widened ≡ span 704 4 ∷ []
+live_grown = live_evaluated widened grown_tiles grown_fill grown_headers
 
 live_given : live given_back ≡ []
 live_given = live_evaluated given_back empty_tiles given_fill given_headers
@@ -71,18 +71,18 @@ takes = record {
   taken = rw live_empty (refl, live_taken, refl);
 }
 
-pub expands : Expands 0 taken grown 704 2 3 true
-unfolding grown taken empty slice put set_number number number_of target
+pub expands : Expands 0 taken widened 704 2 3 true
+unfolding widened taken empty slice put set_number number number_of target
 expands = record {
-  heap = heap_evaluated grown grown_tiles grown_fill grown_headers 0 ((λ e. refl), tt) refl (lit≤ tt);
+  heap = heap_evaluated widened grown_tiles grown_fill grown_headers 0 ((λ e. refl), tt) refl (lit≤ tt);
   kept = record {
     length_kept = refl;
-    front_kept = Agrees-same_slice taken grown 0 24 refl refl;
-    back_kept = Agrees-same_slice taken grown 28 676 refl refl;
+    front_kept = Agrees-same_slice taken widened 0 24 refl refl;
+    back_kept = Agrees-same_slice taken widened 28 676 refl refl;
     blocks_kept = λ b c old new e.
         let was = one_contained (live taken) b (span 704 2) live_taken old in
-        let is = one_contained (live grown) c (span 704 4) live_grown new in
-        rw (was, is) (Agrees-same_slice taken grown 712 24 refl refl);
+        let is = one_contained (live widened) c (span 704 4) live_grown new in
+        rw (was, is) (Agrees-same_slice taken widened 712 24 refl refl);
   };
   unchanged = λ less. absurd (omega arith);
   expands = rw live_taken (refl, live_grown);

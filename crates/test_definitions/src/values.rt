@@ -7,7 +7,7 @@ ghost use Rattle.seg_spec.specs.Bytes.{IsSame};
 ghost use Rattle.seg_spec.specs.Types.{Table, IsTable, size};
 ghost use Rattle.seg_spec.specs.Value.{Value, Has, default_of, Selector, value_at};
 ghost use Rattle.seg_spec.specs.Block.{KeepsBlock};
-ghost use Rattle.seg_spec.specs.Reads.{Place, Holds, Leads, LeadsTo};
+ghost use Rattle.seg_spec.specs.Reads.{Place, Holds, Leads, LeadsToValue};
 ghost use Rattle.seg_spec.specs.Fresh.{IsFresh};
 ghost use Rattle.seg_spec.specs.Apart.{ComesApart};
 
@@ -40,7 +40,7 @@ pub fn paths()
     ensures found { (bytes : List ℕ) (table : Table) (place : Place) (path : List Selector)
         (v inner : Value) (blocks : List ℕ) →
         Holds bytes table place v blocks → value_at v path ≡ Some inner →
-        LeadsTo bytes table place path inner }
+        LeadsToValue bytes table place path inner }
     ensures joined { (bytes : List ℕ) (table : Table) (place middle inner : Place)
         (path more : List Selector) →
         Leads bytes table place path middle → Leads bytes table middle more inner →

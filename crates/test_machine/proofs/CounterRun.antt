@@ -18,7 +18,7 @@ use Rattle.test_definitions.proofs.SoundImages.{counter_tiles, counter_fill, cou
 use Rattle.seg_spec.proofs.Writing.{stored}
 use Rattle.client_spec.specs.declared.table.Operation.{Operation}
 use Rattle.client_spec.specs.Syntax.{Instruction}
-use Rattle.client_spec.specs.Grammar.{spelling}
+use Rattle.client_spec.specs.Grammar.{client_bytes}
 use Rattle.client_spec.specs.Machine.{Register, State, with_name}
 use Rattle.client_spec.specs.Answer.{success}
 use Rattle.client_spec.specs.Effect.{outcome, effect}
@@ -26,7 +26,7 @@ use Rattle.client_spec.specs.Typed.{RegisterType, types_after, rule}
 use Rattle.client_spec.specs.Run.{Run, Nothing, finished}
 use Rattle.client_spec.specs.Pictures.{Pictures, AreOwned, names_in, object_of}
 use Rattle.client_spec.specs.Asks.{ChangesBlocks}
-use Rattle.client_spec.specs.OnImages.{Situation, image_machine, RowOn, Given, Left, IsFirst, IsLeft, RunsClient}
+use Rattle.client_spec.specs.OnImages.{Situation, image_machine, RowOn, Given, Left, IsFirst, IsLeftAfter, RunsClient}
 use Rattle.client_spec.specs.Clients.{AreAccepted}
 use Rattle.client_spec.specs.Outcome.{given_first, IsOutcome}
 use Rattle.client_spec.specs.Fixtures.{at, increment, counted, x}
@@ -229,7 +229,7 @@ is_first = record {
   steps = refl;
 }
 
-is_left : IsLeft given (situation (more (codes "42\n")) image (h6 first_host) 6) left
+is_left : IsLeftAfter given (situation (more (codes "42\n")) image (h6 first_host) 6) left
 unfolding pictured_then
 is_left = record {
   pictured = pictured_then (codes "42\n");
@@ -254,7 +254,7 @@ is_left = record {
 has_run : RunsClient increment given left
 has_run = record { first = situation counted counter first_host 0; is_first = is_first; last = situation (more (codes "42\n")) image (h6 first_host) 6; run = runs first_host; is_left = is_left }
 
-accepted : AreAccepted (counter_picture.table) (spelling increment ∷ []) (increment ∷ [])
+accepted : AreAccepted (counter_picture.table) (client_bytes increment ∷ []) (increment ∷ [])
 unfolding types_after rule
 accepted = (increment_spelled, record { agree = refl; typed = (replicate 16 RegisterType.Undefined, refl); bounded = lit≤ tt }, tt)
 
@@ -266,7 +266,7 @@ room_fits : IsPlace 2048 0 (length counter)
 unfolding counter
 room_fits = (refl, lit≤ tt, lit≤ tt)
 
-pub outcome_is : IsOutcome counter (spelling increment ∷ []) [] 2048 0 [] (left ∷ [])
+pub outcome_is : IsOutcome counter (client_bytes increment ∷ []) [] 2048 0 [] (left ∷ [])
 outcome_is = record {
   can_move = record { lies = record { size = sized; room_fits = lit≤ tt; placed = room_fits }; fit = tt };
   sound = record { picture = counter_picture; held = counter_held; none_loose = refl };

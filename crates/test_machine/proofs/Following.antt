@@ -7,8 +7,8 @@ use Rattle.seg_spec.specs.Value.{Value, Values, nil, cons, count, Selector}
 use Rattle.seg_spec.specs.Items.{key_place}
 use Rattle.client_spec.specs.declared.table.Operation.{Operation}
 use Rattle.client_spec.specs.Syntax.{Constant}
-use Rattle.client_spec.specs.Machine.{◌>>=◌, Origin, Path, extend, Register, Object, State, register, set_register, owned_by, at_origin, value_at, type_at, put_origin, put_at}
-use Rattle.client_spec.specs.Answer.{Answer, success, out_of_range, Outcome, answer, copied, integer_at, path_of, give, fail, refer, give_count, index_below, object_count, byte_of, type_operand, constant_operand, integer_or, spelled, constant_text, number_in, bytes_in, items_in, entries_in, content_in, fields_in, length_in, vec_or_list_item, list_item, map_value, owned_type, form_of, provided, with_room, write_out}
+use Rattle.client_spec.specs.Machine.{◌>>=◌, Origin, Path, extend, Register, Object, State, register, set_register, owned_by, at_origin, path_value, path_type, put_origin, put_at}
+use Rattle.client_spec.specs.Answer.{Answer, success, out_of_range, Outcome, answer, copied, integer_at, path_of, give, fail, refer, give_count, index_below, object_count, byte_of, type_operand, constant_operand, integer_or, constant_name, constant_text, number_in, bytes_in, items_in, entries_in, content_in, fields_in, length_in, vec_or_list_item, list_item, map_value, owned_type, path_form, provided, with_room, write_out}
 use Rattle.client_spec.proofs.Values.{Some_inj}
 use Rattle.client_spec.specs.Safe.{Writes}
 use Rattle.client_spec.specs.Effect.{effect, combine, next_byte, add_object, item_of_object, find_or_add, count_of_object, destroy_object, add_unique, item_of_value, pop_bytes, pop_last, pop_first, set_text, first_key, take_content, see_content}
@@ -170,16 +170,16 @@ module _ (s : State) where
   rows constants Operation.Else a b c number room = none
   rows constants Operation.End a b c number room = none
   rows constants Operation.OutInt a b c number room = bound (integer_at s b) _ (λ x. writes _)
-  rows constants Operation.OutStr a b c number room = bound (path_of s b) _ (λ p. bound (value_at s p >>= bytes_in) _ (λ bytes. writes bytes))
+  rows constants Operation.OutStr a b c number room = bound (path_of s b) _ (λ p. bound (path_value s p >>= bytes_in) _ (λ bytes. writes bytes))
   rows constants Operation.OutConst a b c number room = bound (slice_get constants (nat_abs number) >>= constant_text) _ (λ bytes. writes bytes)
   rows constants Operation.GetByte a b c number room = next a s.input
-  rows constants Operation.Make a b c number room = bound (slice_get constants (constant_operand number) >>= λ k. spelled k (register s b)) _ (λ name. bound (integer_or (pos 1) c s) _ (λ x. either _
+  rows constants Operation.Make a b c number room = bound (slice_get constants (constant_operand number) >>= λ k. constant_name k (register s b)) _ (λ name. bound (integer_or (pos 1) c s) _ (λ x. either _
       (object_count x) _ (λ n. adds a name (type_operand number) (s.names name) n room) (given _ a _)))
-  rows constants Operation.Find a b c number room = bound (slice_get constants (constant_operand number) >>= λ k. spelled k (register s b)) _ (λ name. bound (integer_or (pos 0) c s) _
+  rows constants Operation.Find a b c number room = bound (slice_get constants (constant_operand number) >>= λ k. constant_name k (register s b)) _ (λ name. bound (integer_or (pos 0) c s) _
       (λ x. item a name (type_operand number) x (s.names name)))
-  rows constants Operation.FindOrMake a b c number room = bound (slice_get constants (constant_operand number) >>= λ k. spelled k (register s b)) _ (λ name. finds a name (type_operand number) (s.names name) room)
-  rows constants Operation.Count a b c number room = bound (slice_get constants (constant_operand number) >>= λ k. spelled k (register s b)) _ (λ name. counts a (type_operand number) (s.names name))
-  rows constants Operation.Kill a b c number room = bound (slice_get constants (constant_operand number) >>= λ k. spelled k (register s b)) _ (λ name. destroys a name (type_operand number) (s.names name))
+  rows constants Operation.FindOrMake a b c number room = bound (slice_get constants (constant_operand number) >>= λ k. constant_name k (register s b)) _ (λ name. finds a name (type_operand number) (s.names name) room)
+  rows constants Operation.Count a b c number room = bound (slice_get constants (constant_operand number) >>= λ k. constant_name k (register s b)) _ (λ name. counts a (type_operand number) (s.names name))
+  rows constants Operation.Kill a b c number room = bound (slice_get constants (constant_operand number) >>= λ k. constant_name k (register s b)) _ (λ name. destroys a name (type_operand number) (s.names name))
   rows constants Operation.MakeUnique a b c number room = tested _ _ _ (given _ a _) (unique a (nat_abs number) room)
   rows constants Operation.FindUnique a b c number room = tested _ _ _ (given success a _) (given _ a _)
   rows constants Operation.FindOrMakeUnique a b c number room = tested _ _ _ (given success a _) (unique a (nat_abs number) room)
@@ -187,28 +187,28 @@ module _ (s : State) where
   rows constants Operation.New a b c number room = roomy room a _ (given success a _)
   rows constants Operation.Drop a b c number room = bound (owned_by (register s b)) _ (λ o. some success _ (alike s _ refl refl))
   rows constants Operation.Ref a b c number room = bound (owned_by (register s b)) _ (λ o. given success a _)
-  rows constants Operation.Put a b c number room = bound (path_of s b) _ (λ p. bound (form_of s p >>= owned_type) _ (λ t. bound (owned_by (register s c)) _ (λ new. bound
-      (value_at s p >>= content_in) _ (λ o. shown _ _ (some success _ (set_follows s _ c Register.Undefined (put_follows p _)))))))
-  rows constants Operation.Take a b c number room = bound (path_of s b) _ (λ p. bound (form_of s p >>= owned_type) _ (λ t. bound (value_at s p >>= content_in) _ (λ inside. takes a p t inside)))
-  rows constants Operation.Content a b c number room = bound (path_of s b) _ (λ p. bound (value_at s p >>= content_in) _ (λ inside. sees a p inside))
-  rows constants Operation.Clear a b c number room = bound (path_of s b) _ (λ p. bound (type_at s p) _ (λ t. bound (value_at s p) _ (λ v. put_some p _)))
+  rows constants Operation.Put a b c number room = bound (path_of s b) _ (λ p. bound (path_form s p >>= owned_type) _ (λ t. bound (owned_by (register s c)) _ (λ new. bound
+      (path_value s p >>= content_in) _ (λ o. shown _ _ (some success _ (set_follows s _ c Register.Undefined (put_follows p _)))))))
+  rows constants Operation.Take a b c number room = bound (path_of s b) _ (λ p. bound (path_form s p >>= owned_type) _ (λ t. bound (path_value s p >>= content_in) _ (λ inside. takes a p t inside)))
+  rows constants Operation.Content a b c number room = bound (path_of s b) _ (λ p. bound (path_value s p >>= content_in) _ (λ inside. sees a p inside))
+  rows constants Operation.Clear a b c number room = bound (path_of s b) _ (λ p. bound (path_type s p) _ (λ t. bound (path_value s p) _ (λ v. put_some p _)))
   rows constants Operation.Forget a b c number room = either _ (owned_by (register s b)) _ (λ o. none) (some success _ (alike s _ refl refl))
-  rows constants Operation.Load a b c number room = bound (path_of s b) _ (λ p. bound (value_at s p >>= number_in) _ (λ k. given success a _))
-  rows constants Operation.Store a b c number room = bound (path_of s b) _ (λ p. bound (value_at s p >>= number_in) _ (λ k. bound (integer_at s c) _ (λ x. put_some p _)))
-  rows constants Operation.Field a b c number room = bound (path_of s b) _ (λ p. bound (value_at s p >>= fields_in) _ (λ vs. bound (index_below (count vs) number) _ (λ i. given success a _)))
-  rows constants Operation.Len a b c number room = bound (path_of s b) _ (λ p. bound (value_at s p >>= length_in) _ (λ n. given success a _))
-  rows constants Operation.At a b c number room = bound (path_of s b) _ (λ p. bound (integer_at s c) _ (λ x. bound (value_at s p) _ (λ v. value_item a p x v)))
-  rows constants Operation.PushBack a b c number room = bound (path_of s b) _ (λ p. bound (form_of s p >>= vec_or_list_item) _ (λ t. bound (value_at s p >>= items_in) _ (λ vs. roomy room a _ (given_put a _ p _))))
-  rows constants Operation.PushFront a b c number room = bound (path_of s b) _ (λ p. bound (form_of s p >>= list_item) _ (λ t. bound (value_at s p >>= items_in) _ (λ vs. roomy room a _ (given_put a _ p _))))
-  rows constants Operation.PopBack a b c number room = bound (path_of s b) _ (λ p. bound (value_at s p) _ (λ v. either _ (bytes_in v) _ (λ bytes. bytes_pop a p bytes) (bound (items_in v) _ (λ vs. last_pop a p vs))))
-  rows constants Operation.PopFront a b c number room = bound (path_of s b) _ (λ p. bound (form_of s p >>= list_item) _ (λ t. bound (value_at s p >>= items_in) _ (λ vs. first_pop a p vs)))
-  rows constants Operation.SetStr a b c number room = bound (path_of s b) _ (λ p. bound (value_at s p >>= bytes_in) _ (λ old. bound (slice_get constants (nat_abs number) >>= constant_text) _ (λ new. text a p new room)))
-  rows constants Operation.AddStr a b c number room = bound (path_of s b) _ (λ p. bound (value_at s p >>= bytes_in) _ (λ old. bound (slice_get constants (nat_abs number) >>= constant_text) _ (λ more. text a p _ room)))
-  rows constants Operation.AddByte a b c number room = bound (path_of s b) _ (λ p. bound (value_at s p >>= bytes_in) _ (λ old. bound (integer_at s c) _ (λ x. either _ (byte_of x) _ (λ byte. text a p _ room) (given _ a _))))
-  rows constants Operation.Shrink a b c number room = bound (path_of s b) _ (λ p. bound (form_of s p) _ (λ k. bound (value_at s p) _ (λ v. shown _ _ (some success s (still s)))))
-  rows constants Operation.GetKey a b c number room = bound (path_of s b) _ (λ p. bound (integer_at s c) _ (λ k. bound (value_at s p >>= entries_in) _ (λ es. either _ (key_place es.0 k) _ (λ i. given success a _) (given _ a _))))
-  rows constants Operation.PutKey a b c number room = bound (path_of s b) _ (λ p. bound (integer_at s c) _ (λ k. bound (form_of s p >>= map_value) _ (λ t. bound (value_at s p >>= entries_in) _
+  rows constants Operation.Load a b c number room = bound (path_of s b) _ (λ p. bound (path_value s p >>= number_in) _ (λ k. given success a _))
+  rows constants Operation.Store a b c number room = bound (path_of s b) _ (λ p. bound (path_value s p >>= number_in) _ (λ k. bound (integer_at s c) _ (λ x. put_some p _)))
+  rows constants Operation.Field a b c number room = bound (path_of s b) _ (λ p. bound (path_value s p >>= fields_in) _ (λ vs. bound (index_below (count vs) number) _ (λ i. given success a _)))
+  rows constants Operation.Len a b c number room = bound (path_of s b) _ (λ p. bound (path_value s p >>= length_in) _ (λ n. given success a _))
+  rows constants Operation.At a b c number room = bound (path_of s b) _ (λ p. bound (integer_at s c) _ (λ x. bound (path_value s p) _ (λ v. value_item a p x v)))
+  rows constants Operation.PushBack a b c number room = bound (path_of s b) _ (λ p. bound (path_form s p >>= vec_or_list_item) _ (λ t. bound (path_value s p >>= items_in) _ (λ vs. roomy room a _ (given_put a _ p _))))
+  rows constants Operation.PushFront a b c number room = bound (path_of s b) _ (λ p. bound (path_form s p >>= list_item) _ (λ t. bound (path_value s p >>= items_in) _ (λ vs. roomy room a _ (given_put a _ p _))))
+  rows constants Operation.PopBack a b c number room = bound (path_of s b) _ (λ p. bound (path_value s p) _ (λ v. either _ (bytes_in v) _ (λ bytes. bytes_pop a p bytes) (bound (items_in v) _ (λ vs. last_pop a p vs))))
+  rows constants Operation.PopFront a b c number room = bound (path_of s b) _ (λ p. bound (path_form s p >>= list_item) _ (λ t. bound (path_value s p >>= items_in) _ (λ vs. first_pop a p vs)))
+  rows constants Operation.SetStr a b c number room = bound (path_of s b) _ (λ p. bound (path_value s p >>= bytes_in) _ (λ old. bound (slice_get constants (nat_abs number) >>= constant_text) _ (λ new. text a p new room)))
+  rows constants Operation.AddStr a b c number room = bound (path_of s b) _ (λ p. bound (path_value s p >>= bytes_in) _ (λ old. bound (slice_get constants (nat_abs number) >>= constant_text) _ (λ more. text a p _ room)))
+  rows constants Operation.AddByte a b c number room = bound (path_of s b) _ (λ p. bound (path_value s p >>= bytes_in) _ (λ old. bound (integer_at s c) _ (λ x. either _ (byte_of x) _ (λ byte. text a p _ room) (given _ a _))))
+  rows constants Operation.Shrink a b c number room = bound (path_of s b) _ (λ p. bound (path_form s p) _ (λ k. bound (path_value s p) _ (λ v. shown _ _ (some success s (still s)))))
+  rows constants Operation.GetKey a b c number room = bound (path_of s b) _ (λ p. bound (integer_at s c) _ (λ k. bound (path_value s p >>= entries_in) _ (λ es. either _ (key_place es.0 k) _ (λ i. given success a _) (given _ a _))))
+  rows constants Operation.PutKey a b c number room = bound (path_of s b) _ (λ p. bound (integer_at s c) _ (λ k. bound (path_form s p >>= map_value) _ (λ t. bound (path_value s p >>= entries_in) _
       (λ es. either _ (key_place es.0 k) _ (λ i. given success a _) (roomy room a _ (given_put a _ p _))))))
-  rows constants Operation.DeleteKey a b c number room = bound (path_of s b) _ (λ p. bound (integer_at s c) _ (λ k. bound (value_at s p >>= entries_in) _ (λ es. either _ (key_place es.0 k) _ (λ i. given_put a _ p _) (given success a _))))
-  rows constants Operation.FirstKey a b c number room = bound (path_of s b) _ (λ p. bound (value_at s p >>= entries_in) _ (λ es. key a es.0))
-  rows constants Operation.NextKey a b c number room = bound (path_of s b) _ (λ p. bound (integer_at s c) _ (λ k. bound (value_at s p >>= entries_in) _ (λ es. key a _)))
+  rows constants Operation.DeleteKey a b c number room = bound (path_of s b) _ (λ p. bound (integer_at s c) _ (λ k. bound (path_value s p >>= entries_in) _ (λ es. either _ (key_place es.0 k) _ (λ i. given_put a _ p _) (given success a _))))
+  rows constants Operation.FirstKey a b c number room = bound (path_of s b) _ (λ p. bound (path_value s p >>= entries_in) _ (λ es. key a es.0))
+  rows constants Operation.NextKey a b c number room = bound (path_of s b) _ (λ p. bound (integer_at s c) _ (λ k. bound (path_value s p >>= entries_in) _ (λ es. key a _)))

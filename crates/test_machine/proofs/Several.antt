@@ -4,10 +4,10 @@ use Rattle.seg_spec.specs.Types.{Table, Agree, longer}
 use Rattle.seg_spec.specs.Sound.{Picture, IsHeld}
 use Rattle.test_definitions.proofs.OnePicture.{Held-one}
 use Rattle.client_spec.specs.Syntax.{Client}
-use Rattle.client_spec.specs.Grammar.{Spells}
+use Rattle.client_spec.specs.Grammar.{SpellsClient}
 use Rattle.client_spec.specs.Run.{Ending, finished, stopped, stuck, bound}
 use Rattle.client_spec.specs.OnImages.{Given, Left, RunsClient}
-use Rattle.client_spec.specs.Clients.{IsVerified, AreAccepted, given_next, GoesOn, RunClients, image_behind, StayWithin}
+use Rattle.client_spec.specs.Clients.{IsVerified, AreAccepted, given_next, GoesOn, RunClients, image_after, StayWithin}
 use Rattle.test_machine.proofs.Simulated.{run_of_states, client_within_bound}
 use Rattle.test_machine.proofs.Stopped.{run_writes}
 
@@ -19,7 +19,7 @@ table_left client given left table picture held is runs =
     let run = run_of_states client.constants given.others given.moves client.code runs.first runs.last left.steps left.ending runs.run in
     runs.is_left.types ∙ (run_writes client.constants client.code runs.first.state runs.last.state left.steps left.ending run).types ∙ runs.is_first.types ∙ ap (λ t. longer t client.types) same
 
-one_within : (client : Client) (given : Given) (left : Left) (text : List ℕ) (table : Table) (picture : Picture) → IsHeld given.image picture → picture.table ≡ table → Spells text client
+one_within : (client : Client) (given : Given) (left : Left) (text : List ℕ) (table : Table) (picture : Picture) → IsHeld given.image picture → picture.table ≡ table → SpellsClient text client
     → IsVerified table client → RunsClient client given left
     → (left.steps ≤ bound client.code) × (left.ending ≢ stuck)
 one_within client given left text table picture held is spells verified runs =
@@ -52,20 +52,20 @@ all_within table (text ∷ texts) (client ∷ clients) given (left ∷ lefts) pi
 abbrev Shows : Given → List ℕ → Type 0
 Shows given image = (picture : Picture) × IsHeld image picture × (picture.loose ≡ given.others)
 
-pub held_behind : (clients : List Client) (given : Given) (lefts : List Left) (picture : Picture) → IsHeld given.image picture → picture.loose ≡ given.others → RunClients clients given lefts
-    → (last : Picture) × IsHeld (image_behind given.image lefts) last × (last.loose ≡ given.others)
-held_behind [] given [] picture held loose r = (picture, held, loose)
-held_behind [] given (left ∷ lefts) picture held loose r = absurd r
-held_behind (client ∷ clients) given [] picture held loose r = absurd r
-held_behind (client ∷ clients) given (left ∷ lefts) picture held loose r =
+pub held_after : (clients : List Client) (given : Given) (lefts : List Left) (picture : Picture) → IsHeld given.image picture → picture.loose ≡ given.others → RunClients clients given lefts
+    → (last : Picture) × IsHeld (image_after given.image lefts) last × (last.loose ≡ given.others)
+held_after [] given [] picture held loose r = (picture, held, loose)
+held_after [] given (left ∷ lefts) picture held loose r = absurd r
+held_after (client ∷ clients) given [] picture held loose r = absurd r
+held_after (client ∷ clients) given (left ∷ lefts) picture held loose r =
     let l = r.0.is_left in
-    rest left.ending r.1 (held_behind clients (given_next given left) lefts l.picture l.held l.loose)
+    rest left.ending r.1 (held_after clients (given_next given left) lefts l.picture l.held l.loose)
   where
-    ended : (ls : List Left) → ls ≡ [] → Shows given (image_behind left.image ls)
+    ended : (ls : List Left) → ls ≡ [] → Shows given (image_after left.image ls)
     ended [] e = (r.0.is_left.picture, r.0.is_left.held, r.0.is_left.loose)
     ended (l ∷ ls) e = absurd (let f : l ∷ ls ≡ [] = e in cc)
 
-    rest : (end : Ending) → GoesOn end (RunClients clients (given_next given left) lefts) lefts → (RunClients clients (given_next given left) lefts → Shows given (image_behind left.image lefts)) → Shows given (image_behind left.image lefts)
+    rest : (end : Ending) → GoesOn end (RunClients clients (given_next given left) lefts) lefts → (RunClients clients (given_next given left) lefts → Shows given (image_after left.image lefts)) → Shows given (image_after left.image lefts)
     rest finished g f = f g
     rest stopped g f = ended lefts g
     rest stuck g f = absurd g

@@ -7,7 +7,7 @@ use Rattle.client_spec.specs.Syntax.{Constant, Instruction, Statement, plain, op
 use Rattle.client_spec.specs.Machine.{State}
 use Rattle.client_spec.specs.Answer.{Answer, success, is_zero, already_exists, bad_alloc, absent, other_type, out_of_range, null_or_none}
 use Rattle.client_spec.specs.Grammar.{IsClient}
-use Rattle.client_spec.specs.Run.{Ending, stuck, Way, Nothing, Then, Step, picked, Performs, Turns, Run, RunOne, bound}
+use Rattle.client_spec.specs.Run.{Ending, stuck, Way, Nothing, Then, OneStep, picked, Performs, Loops, Run, RunOne, bound}
 use Rattle.client_spec.specs.Plain.{plain_machine}
 use Rattle.client_spec.specs.Safe.{IsAccepted}
 use Rattle.client_spec.specs.OnImages.{Move, Situation, TickOn, image_machine, Given, Left, RunsClient}
@@ -28,7 +28,7 @@ then_maps a b c d f g = record { each = λ x y n end w. by x y n end w }
     by x y n end (inr w) = inr (f.each _ _ _ _ w.0, w.1)
 
 module _ (constants : List Constant) (others : List Root) (moves : List Move) where
-  step_maps : Maps (Step Situation (TickOn moves)) (Step State (λ s s'. s' ≡ s))
+  step_maps : Maps (OneStep Situation (TickOn moves)) (OneStep State (λ s s'. s' ≡ s))
   step_maps = record { each = λ x y n end w. record { ticks = w.ticks.state; steps = w.steps; ends = w.ends } }
 
   picked_maps : (a b : Way Situation) (c d : Way State) → Maps a c → Maps b d → (answer : Answer) → Maps (picked answer a b) (picked answer c d)
@@ -49,17 +49,17 @@ module _ (constants : List Constant) (others : List Root) (moves : List Move) wh
       by x y n end (inr (inl w)) = inr (inl (w.0.cut, w.1, w.2))
       by x y n end (inr (inr w)) = absurd w.0
 
-  turns_maps : (register turns : ℕ) (a : Way Situation) (c : Way State) → Maps a c → Maps (Turns Situation (image_machine constants others moves) register turns a) (Turns State (plain_machine constants) register turns c)
+  turns_maps : (register turns : ℕ) (a : Way Situation) (c : Way State) → Maps a c → Maps (Loops Situation (image_machine constants others moves) register turns a) (Loops State (plain_machine constants) register turns c)
   turns_maps register zero a c f = nothing_maps
   turns_maps register (suc turns) a c f = turn_maps (then_maps _ _ _ _ step_maps (then_maps _ _ _ _ f (turns_maps register turns a c f)))
     where
       turn_maps : Maps
-          (Then Situation (Step Situation (TickOn moves)) (Then Situation a (Turns Situation (image_machine constants others moves) register turns a)))
-          (Then State (Step State (λ s s'. s' ≡ s)) (Then State c (Turns State (plain_machine constants) register turns c)))
-          → Maps (Turns Situation (image_machine constants others moves) register (suc turns) a) (Turns State (plain_machine constants) register (suc turns) c)
+          (Then Situation (OneStep Situation (TickOn moves)) (Then Situation a (Loops Situation (image_machine constants others moves) register turns a)))
+          (Then State (OneStep State (λ s s'. s' ≡ s)) (Then State c (Loops State (plain_machine constants) register turns c)))
+          → Maps (Loops Situation (image_machine constants others moves) register (suc turns) a) (Loops State (plain_machine constants) register (suc turns) c)
       turn_maps g = record { each = λ x y n end w. by x y n end w }
         where
-          by : (x y : Situation) (n : ℕ) (end : Ending) → Turns Situation (image_machine constants others moves) register (suc turns) a x y n end → Turns State (plain_machine constants) register (suc turns) c x.state y.state n end
+          by : (x y : Situation) (n : ℕ) (end : Ending) → Loops Situation (image_machine constants others moves) register (suc turns) a x y n end → Loops State (plain_machine constants) register (suc turns) c x.state y.state n end
           by x y n end (inl w) = inl (w.0, nothing_maps.each x y n end w.1)
           by x y n end (inr (inl w)) = inr (inl (w.0, w.1, w.2, g.each x y n end w.3))
           by x y n end (inr (inr w)) = inr (inr (w.0, ap (λ (z : Situation). z.state) w.1, w.2, w.3))

@@ -6,9 +6,9 @@ use Rattle.client_spec.specs.Syntax.{Constant, Instruction, Statement, plain, op
 use Rattle.client_spec.specs.Grammar.{IsClient}
 use Rattle.client_spec.specs.Machine.{State}
 use Rattle.client_spec.specs.Answer.{Answer, success, is_zero, already_exists, bad_alloc, absent, other_type, out_of_range, null_or_none}
-use Rattle.client_spec.specs.Run.{Ending, finished, stopped, stuck, Way, Nothing, Then, Step, picked, Performs, Turns, Run, RunOne}
+use Rattle.client_spec.specs.Run.{Ending, finished, stopped, stuck, Way, Nothing, Then, OneStep, picked, Performs, Loops, Run, RunOne}
 use Rattle.client_spec.specs.Plain.{plain_machine}
-use Rattle.client_spec.specs.Safe.{Begins, IsAccepted, Writes, IsFront}
+use Rattle.client_spec.specs.Safe.{MayBegin, IsAccepted, Writes, IsFront}
 use Rattle.test_machine.proofs.Following.{still, onward, rows}
 use Rattle.client_spec.proofs.Keeping.{never_wrong}
 use Rattle.client_spec.proofs.Total.{Total, nothing_total, then_total, step_total, turns_total, one_total}
@@ -79,7 +79,7 @@ module _ (first second : Way State) (f : Way_is first) (g : Way_is second) where
       on s t n (inr w) = then_on s t (f.on.each s t n w.0)
 
 module _ (constants : List Constant) where
-  step_is : Way_is (Step State (plain_machine constants).tick)
+  step_is : Way_is (OneStep State (plain_machine constants).tick)
   step_is = record {
     total = step_total constants;
     grows = record { each = λ s t n end w. subst (Writes s) (sym w.ticks) (still s) };
@@ -117,19 +117,19 @@ module _ (constants : List Constant) where
           record { last = r.0; steps = 1 + r.1; ending = r.2; runs = inl (success, cut.whole, r.1, (cut.room, cut.written), r.3, refl); goes_on = r.4; rest = cut.lost ++ more.more; output = all.0; some = all.1 }
       on s t n (inr (inr w)) = absurd (let e = w.3 in cc)
 
-  turns_is : (register turns : ℕ) (body : Way State) → Way_is body → Way_is (Turns State (plain_machine constants) register turns body)
+  turns_is : (register turns : ℕ) (body : Way State) → Way_is body → Way_is (Loops State (plain_machine constants) register turns body)
   turns_is register zero body b = nothing_is
   turns_is register (suc turns) body b = turn_is (then_is _ _ step_is (then_is _ _ b (turns_is register turns body b)))
     where
-      turn_is : Way_is (Then State (Step State (plain_machine constants).tick) (Then State body (Turns State (plain_machine constants) register turns body))) → Way_is (Turns State (plain_machine constants) register (suc turns) body)
+      turn_is : Way_is (Then State (OneStep State (plain_machine constants).tick) (Then State body (Loops State (plain_machine constants) register turns body))) → Way_is (Loops State (plain_machine constants) register (suc turns) body)
       turn_is r = record { total = turns_total constants register (suc turns) body b.total; grows = record { each = grow }; on = record { each = on } }
         where
-          grow : (s t : State) (n : ℕ) (end : Ending) → Turns State (plain_machine constants) register (suc turns) body s t n end → Writes s t
+          grow : (s t : State) (n : ℕ) (end : Ending) → Loops State (plain_machine constants) register (suc turns) body s t n end → Writes s t
           grow s t n end (inl w) = nothing_is.grows.each s t n end w.1
           grow s t n end (inr (inl w)) = r.grows.each s t n end w.3
           grow s t n end (inr (inr w)) = subst (Writes s) (sym w.1) (still s)
 
-          on : (s t : State) (n : ℕ) → Turns State (plain_machine constants) register (suc turns) body s t n stopped → Further (Turns State (plain_machine constants) register (suc turns) body) s t
+          on : (s t : State) (n : ℕ) → Loops State (plain_machine constants) register (suc turns) body s t n stopped → Further (Loops State (plain_machine constants) register (suc turns) body) s t
           on s t n (inl w) = absurd (let e = w.1.ends in cc)
           on s t n (inr (inl w)) =
               let h = r.on.each s t n w.3 in
@@ -152,7 +152,7 @@ module _ (constants : List Constant) where
 pub run_writes : (constants : List Constant) (code : Statements) (s t : State) (n : ℕ) (end : Ending) → Run State (plain_machine constants) code s t n end → Writes s t
 run_writes constants code = (run_is constants code).grows.each
 
-pub front_of_whole : (client : Client) (s t : State) (n : ℕ) → IsClient client → IsAccepted client → Begins client s → Run State (plain_machine client.constants) client.code s t n stopped → IsFront client s t
+pub front_of_whole : (client : Client) (s t : State) (n : ℕ) → IsClient client → IsAccepted client → MayBegin client s → Run State (plain_machine client.constants) client.code s t n stopped → IsFront client s t
 front_of_whole client s t n valid accepted begins w = go h.ending h.runs h.goes_on
   where
     h : Further (Run State (plain_machine client.constants) client.code) s t

@@ -5,29 +5,29 @@ use Rattle.seg_spec.specs.Types.{Table, longer}
 use Rattle.seg_spec.specs.Sound.{IsSound}
 use Rattle.test_definitions.proofs.OnePicture.{Held-one}
 use Rattle.client_spec.specs.Syntax.{Client}
-use Rattle.client_spec.specs.Grammar.{Spells}
+use Rattle.client_spec.specs.Grammar.{SpellsClient}
 use Rattle.client_spec.specs.OnImages.{Move, Left}
-use Rattle.client_spec.specs.Clients.{IsVerified, AreAccepted, AreMoves, table_behind, image_behind, StayWithin}
+use Rattle.client_spec.specs.Clients.{IsVerified, AreAccepted, AreMoves, table_after, image_after, StayWithin}
 use Rattle.client_spec.specs.Outcome.{given_first, IsOutcome, Refusal, IsTurnOf, IsRefusalOf}
 use Rattle.client_spec.proofs.OneClient.{one_client}
-use Rattle.test_machine.proofs.Several.{all_within, held_behind}
+use Rattle.test_machine.proofs.Several.{all_within, held_after}
 
-bytes_one : (text : List ℕ) (client other : Client) → Spells text client → Spells text other → client ≡ other
+bytes_one : (text : List ℕ) (client other : Client) → SpellsClient text client → SpellsClient text other → client ≡ other
 bytes_one text client other h k = one_client client other h.valid k.valid (sym h.spelled ∙ k.spelled)
 
-pub sound_behind : (image : List ℕ) (texts : List (List ℕ)) (input : List ℕ) (room base : ℕ) (moves : List Move) (lefts : List Left) → (o : IsOutcome image texts input room base moves lefts)
-    → StayWithin o.clients lefts × IsSound (image_behind image lefts)
-sound_behind image texts input room base moves lefts o =
+pub sound_after : (image : List ℕ) (texts : List (List ℕ)) (input : List ℕ) (room base : ℕ) (moves : List Move) (lefts : List Left) → (o : IsOutcome image texts input room base moves lefts)
+    → StayWithin o.clients lefts × IsSound (image_after image lefts)
+sound_after image texts input room base moves lefts o =
     let given = given_first image o.host input base moves in
-    let last = held_behind o.clients given lefts o.sound.picture o.sound.held o.sound.none_loose o.runs in
+    let last = held_after o.clients given lefts o.sound.picture o.sound.held o.sound.none_loose o.runs in
     (all_within o.sound.picture.table texts o.clients given lefts o.sound.picture o.sound.held refl o.accepted o.runs, record { picture = last.0; held = last.1; none_loose = last.2 })
 
 -- the client of a text, and that it is verified after those before it
 its_client : (table : Table) (texts : List (List ℕ)) (clients before : List Client) (k : ℕ) (text : List ℕ) → AreAccepted table texts clients → AreAccepted table (take k texts) before → slice_get texts k ≡ Some text
-    → (client : Client) × Spells text client × IsVerified (table_behind table before) client
+    → (client : Client) × SpellsClient text client × IsVerified (table_after table before) client
 its_client table [] clients before k text a b e = cc
 its_client table (t ∷ texts) [] before k text a b e = absurd a
-its_client table (t ∷ texts) (client ∷ clients) [] zero text a b e = let same : t ≡ text = cc in (client, subst (λ x. Spells x client) same a.0, a.1)
+its_client table (t ∷ texts) (client ∷ clients) [] zero text a b e = let same : t ≡ text = cc in (client, subst (λ x. SpellsClient x client) same a.0, a.1)
 its_client table (t ∷ texts) (client ∷ clients) (other ∷ before) zero text a b e = absurd b
 its_client table (t ∷ texts) (client ∷ clients) [] (suc k) text a b e = absurd b
 its_client table (t ∷ texts) (client ∷ clients) (other ∷ before) (suc k) text a b e =
@@ -35,7 +35,7 @@ its_client table (t ∷ texts) (client ∷ clients) (other ∷ before) (suc k) t
     its_client (longer table other.types) texts clients before k text (subst (λ (c : Client). AreAccepted (longer table c.types) texts clients) same a.2) b.2 e
 
 at_turn : (image : List ℕ) (texts : List (List ℕ)) (input : List ℕ) (room base : ℕ) (moves : List Move) (lefts : List Left) (o : IsOutcome image texts input room base moves lefts) (k : ℕ) (text : List ℕ) (turn : IsTurnOf image texts k text)
-    → (client : Client) × Spells text client × IsVerified (table_behind turn.sound.picture.table turn.clients) client
+    → (client : Client) × SpellsClient text client × IsVerified (table_after turn.sound.picture.table turn.clients) client
 at_turn image texts input room base moves lefts o k text turn =
     let same : o.sound.picture.table ≡ turn.sound.picture.table = (Held-one image o.sound.picture turn.sound.picture o.sound.held turn.sound.held).table in
     its_client turn.sound.picture.table texts o.clients turn.clients k text (subst (λ t. AreAccepted t texts o.clients) same o.accepted) turn.accepted turn.text_is
@@ -57,4 +57,4 @@ not_both image texts input room base moves lefts (Refusal.bad_text k) ne r o = l
 not_both image texts input room base moves lefts (Refusal.bad_client k) ne r o =
     let c = at_turn image texts input room base moves lefts o k r.1 r.2 in
     let same : c.0 ≡ r.3 = bytes_one r.1 c.0 r.3 c.1 r.4 in
-    r.5 (subst (IsVerified (table_behind r.2.sound.picture.table r.2.clients)) same c.2)
+    r.5 (subst (IsVerified (table_after r.2.sound.picture.table r.2.clients)) same c.2)

@@ -13,7 +13,7 @@ use Rattle.client_spec.specs.declared.table.Operation.{Operation}
 use Rattle.client_spec.specs.Syntax.{Constant}
 use Rattle.client_spec.specs.declared.table.Role.{Role}
 use Rattle.client_spec.specs.Operations.{row_of}
-use Rattle.client_spec.specs.Grammar.{IsNameByte, IsConstant, IsOperand, IsNumber, IsInstruction, IsCode, IsClient, Spells, listing, depth, spelling}
+use Rattle.client_spec.specs.Grammar.{IsNameByte, IsConstant, IsOperand, IsNumber, IsInstruction, IsCode, IsClient, SpellsClient, listing, depth, client_bytes}
 use Rattle.client_spec.specs.Pictures.{Pictures, names_in, object_of}
 use Rattle.client_spec.specs.Fixtures.{at, increment, counted}
 
@@ -65,7 +65,7 @@ increment_valid = record {
   code = increment_code;
 }
 
-pub increment_spelled : Spells (spelling increment) increment
+pub increment_spelled : SpellsClient (client_bytes increment) increment
 increment_spelled = record { valid = increment_valid; spelled = refl }
 
 pub same_x : (name : List ℕ) → counted.names name ≡ names_in counter_picture name

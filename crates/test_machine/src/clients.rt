@@ -2,26 +2,26 @@
 
 ghost use Rattle.std.specs.Prelude.{◌≡◌, ℕ, ◌^◌, ◌<◌, ◌++◌, pos, [], ◌∷◌, codes, replicate, Ok, Err};
 ghost use Rattle.client_spec.specs.Syntax.{Constant, Statements};
-ghost use Rattle.client_spec.specs.Grammar.{spelling, Spells};
+ghost use Rattle.client_spec.specs.Grammar.{client_bytes, SpellsClient};
 ghost use Rattle.client_spec.specs.Text.{text_of};
 ghost use Rattle.client_spec.specs.Run.{finished, stopped, stuck, bound};
-ghost use Rattle.client_spec.specs.Clients.{outputs, image_behind, ending_behind, table_behind, StayWithin, AreMoves, IsFirstBadMove, IsLeftInPlace};
+ghost use Rattle.client_spec.specs.Clients.{outputs, image_after, ending_after, table_after, StayWithin, AreMoves, IsFirstBadMove, IsLeftInPlace};
 ghost use Rattle.client_spec.specs.Safe.{IsFront, Writes};
 ghost use Rattle.client_spec.specs.Typed.{Reason, RegisterType, reason_number, types_after};
-ghost use Rattle.client_spec.specs.Fixtures.{increment, chain, cycle, dangling, lost, changed, three_turns, counting_down, idle, echo, kill_twice, as_a_text, nested, types, constants, beginning, counted, no_names, RunsTo, left_with, two_runs, given_at_0, move_to};
+ghost use Rattle.client_spec.specs.Fixtures.{increment, chain, cycle, dangling, lost, retyped, three_turns, counting_down, idle, echo, kill_twice, as_a_text, nested, types, constants, beginning, counted, no_names, RunsTo, left_with, two_runs, given_at_0, move_to};
 ghost use Rattle.seg_spec.specs.Types.{Form};
 
 /// The client that adds one to x: its 103 bytes, its text, the most steps that it takes, and what is known after it.
-#[tactic(auto, unfolding(client_spec::specs::Grammar::spelling, client_spec::specs::Grammar::listing, client_spec::specs::Typed::types_after, client_spec::specs::Typed::rule))]
+#[tactic(auto, unfolding(client_spec::specs::Grammar::client_bytes, client_spec::specs::Grammar::listing, client_spec::specs::Typed::types_after, client_spec::specs::Typed::rule))]
 pub fn the_increment()
-    ensures bytes { spelling increment ≡
+    ensures bytes { client_bytes increment ≡
         83 ∷ 69 ∷ 71 ∷ 67 ∷ 1 ∷ 0 ∷ 0 ∷ 0 ∷ 1 ∷ 0 ∷ 0 ∷ 0 ∷ 1 ∷ 0 ∷ 0 ∷ 0 ∷ 8 ∷ 0 ∷ 0 ∷ 0
         ∷ 1 ∷ 0 ∷ 0 ∷ 0 ∷ 0 ∷ 0 ∷ 0 ∷ 0 ∷ 0 ∷ 0 ∷ 0 ∷ 0 ∷ 0 ∷ 0 ∷ 0 ∷ 0 ∷ 2 ∷ 1 ∷ 120
         ∷ 17 ∷ 0 ∷ 16 ∷ 16 ∷ 0 ∷ 0 ∷ 0 ∷ 0 ∷ 33 ∷ 1 ∷ 0 ∷ 0 ∷ 0 ∷ 0 ∷ 0 ∷ 0
         ∷ 1 ∷ 2 ∷ 0 ∷ 0 ∷ 1 ∷ 0 ∷ 0 ∷ 0 ∷ 3 ∷ 1 ∷ 1 ∷ 2 ∷ 0 ∷ 0 ∷ 0 ∷ 0
         ∷ 34 ∷ 0 ∷ 0 ∷ 1 ∷ 0 ∷ 0 ∷ 0 ∷ 0 ∷ 12 ∷ 0 ∷ 1 ∷ 0 ∷ 0 ∷ 0 ∷ 0 ∷ 0
         ∷ 10 ∷ 0 ∷ 0 ∷ 0 ∷ 0 ∷ 0 ∷ 0 ∷ 0 ∷ 11 ∷ 0 ∷ 0 ∷ 0 ∷ 0 ∷ 0 ∷ 0 ∷ 0 ∷ [] }
-    ensures client { Spells (spelling increment) increment }
+    ensures client { SpellsClient (client_bytes increment) increment }
     ensures text { text_of increment
         ≡ codes "type i64\nname x\nFIND r0 - - t0 k0\nLOAD r1 r0\nCONST r2 1\n"
         ++ codes "ADD r1 r1 r2\nSTORE r0 r1\nOUTI r1\nELSE\nEND\n" }
@@ -55,7 +55,7 @@ pub fn refused()
         (replicate 16 RegisterType.Undefined) ≡ Err Reason.WrongOperand }
     ensures lost { types_after types constants lost (replicate 16 RegisterType.Undefined) ≡
         Err Reason.OwnerLost }
-    ensures changed { types_after types constants changed (replicate 16 RegisterType.Undefined) ≡
+    ensures changed { types_after types constants retyped (replicate 16 RegisterType.Undefined) ≡
         Err Reason.ChangedInLoop }
 {}
 
@@ -86,12 +86,12 @@ pub fn runs()
 #[tactic(auto, unfolding(client_spec::specs::Grammar::listing))]
 pub fn several_runs()
     ensures outputs { outputs two_runs ≡ codes "424" }
-    ensures image { image_behind (codes "0") two_runs ≡ codes "b" }
-    ensures first_image { image_behind (codes "0") [] ≡ codes "0" }
-    ensures ending { ending_behind two_runs ≡ stopped }
-    ensures no_ending { ending_behind [] ≡ finished }
-    ensures table { table_behind [] (increment ∷ chain ∷ []) ≡ chain.types }
-    ensures shorter { table_behind chain.types (increment ∷ []) ≡ chain.types }
+    ensures image { image_after (codes "0") two_runs ≡ codes "b" }
+    ensures first_image { image_after (codes "0") [] ≡ codes "0" }
+    ensures ending { ending_after two_runs ≡ stopped }
+    ensures no_ending { ending_after [] ≡ finished }
+    ensures table { table_after [] (increment ∷ chain ∷ []) ≡ chain.types }
+    ensures shorter { table_after chain.types (increment ∷ []) ≡ chain.types }
     ensures within { StayWithin (increment ∷ increment ∷ []) two_runs }
     ensures too_long { StayWithin (increment ∷ []) (left_with 7 finished [] [] ∷ []) → ⊥ }
     ensures stuck { StayWithin (increment ∷ []) (left_with 6 stuck [] [] ∷ []) → ⊥ }

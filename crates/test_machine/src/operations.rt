@@ -6,7 +6,7 @@ ghost use Rattle.seg_spec.specs.Value.{Int, Text, Seq, Map, Empty, Full, Struct,
 ghost use Rattle.client_spec.specs.declared.table.Operation.{Operation};
 ghost use Rattle.client_spec.specs.Machine.{Origin, Register, extend};
 ghost use Rattle.client_spec.specs.Answer.{success, is_zero, already_exists, bad_alloc, absent, other_type, out_of_range, null_or_none, path_from};
-ghost use Rattle.client_spec.specs.Fixtures.{x, no_names, with_items, holding, with_numbers, row, register_after, value_after, output_after, input_after};
+ghost use Rattle.client_spec.specs.Fixtures.{x, no_names, with_items, holding, with_numbers, two_items, two_fields, row, register_after, value_after, output_after, input_after};
 
 /// Numbers: constants, copies, sums that wrap at 64 bits, and comparisons. A register that owns an object is not overwritten.
 #[tactic(auto, unfolding(client_spec::specs::Effect::effect, seg_spec::specs::Value::default_of))]
@@ -290,7 +290,7 @@ pub fn values()
         (holding 6 (Full (Int (pos 4))) (pos 0))) ≡ Some (success, Some Empty) }
     ensures clear_a_struct { value_after x
         (row Operation.Clear 0 1 0 (pos 0) true
-        (holding 7 (Struct (cons (Int (pos 4)) (cons (Text (codes "hi")) nil))) (pos 0)))
+        (holding 7 two_fields (pos 0)))
         ≡ Some (success, Some (Struct (cons (Int (pos 0)) (cons (Text []) nil)))) }
     ensures load { register_after 0 (row Operation.Load 0 1 0 (pos 0) true
         (holding 0 (Int (pos 5)) (pos 3))) ≡ Some (success, Register.Int (pos 5)) }
@@ -300,10 +300,10 @@ pub fn values()
         (holding 0 (Int (pos 5)) (pos 3))) ≡ Some (success, Some (Int (pos 3))) }
     ensures field { register_after 0
         (row Operation.Field 0 1 0 (pos 1) true
-        (holding 7 (Struct (cons (Int (pos 4)) (cons (Text (codes "hi")) nil))) (pos 0)))
+        (holding 7 two_fields (pos 0)))
         ≡ Some (success, Register.Reference (extend x (Selector.field 1))) }
     ensures no_field { row Operation.Field 0 1 0 (pos 2) true
-        (holding 7 (Struct (cons (Int (pos 4)) (cons (Text (codes "hi")) nil))) (pos 0)) ≡ None }
+        (holding 7 two_fields (pos 0)) ≡ None }
 {}
 
 /// Vectors and lists. POP works on texts too.
@@ -311,17 +311,17 @@ pub fn values()
 pub fn sequences()
     ensures length { register_after 0
         (row Operation.Len 0 1 0 (pos 0) true
-        (holding 2 (Seq (cons (Int (pos 4)) (cons (Int (pos 5)) nil))) (pos 1)))
+        (holding 2 two_items (pos 1)))
         ≡ Some (success, Register.Int (pos 2)) }
     ensures at { register_after 0 (row Operation.At 0 1 2 (pos 0) true
-        (holding 2 (Seq (cons (Int (pos 4)) (cons (Int (pos 5)) nil))) (pos 1)))
+        (holding 2 two_items (pos 1)))
         ≡ Some (success, Register.Reference (extend x (Selector.item 1))) }
     ensures at_the_end { register_after 0
         (row Operation.At 0 1 2 (pos 0) true
-        (holding 2 (Seq (cons (Int (pos 4)) (cons (Int (pos 5)) nil))) (pos 2)))
+        (holding 2 two_items (pos 2)))
         ≡ Some (out_of_range, Register.Int (pos 5)) }
     ensures push { value_after x (row Operation.PushBack 0 1 0 (pos 0) true
-        (holding 2 (Seq (cons (Int (pos 4)) (cons (Int (pos 5)) nil))) (pos 1)))
+        (holding 2 two_items (pos 1)))
         ≡ Some (
           success,
           Some
@@ -329,15 +329,15 @@ pub fn sequences()
         ) }
     ensures push_refers { register_after 0
         (row Operation.PushBack 0 1 0 (pos 0) true
-        (holding 3 (Seq (cons (Int (pos 4)) (cons (Int (pos 5)) nil))) (pos 1)))
+        (holding 3 two_items (pos 1)))
         ≡ Some (success, Register.Reference (extend x (Selector.item 2))) }
     ensures push_without_room { register_after 0
         (row Operation.PushBack 0 1 0 (pos 0) false
-        (holding 2 (Seq (cons (Int (pos 4)) (cons (Int (pos 5)) nil))) (pos 1)))
+        (holding 2 two_items (pos 1)))
         ≡ Some (bad_alloc, Register.Int (pos 2)) }
     ensures push_front { value_after x
         (row Operation.PushFront 0 1 0 (pos 0) true
-        (holding 3 (Seq (cons (Int (pos 4)) (cons (Int (pos 5)) nil))) (pos 1)))
+        (holding 3 two_items (pos 1)))
         ≡ Some (
           success,
           Some
@@ -345,20 +345,20 @@ pub fn sequences()
         ) }
     ensures push_front_refers { register_after 0
         (row Operation.PushFront 0 1 0 (pos 0) true
-        (holding 3 (Seq (cons (Int (pos 4)) (cons (Int (pos 5)) nil))) (pos 1)))
+        (holding 3 two_items (pos 1)))
         ≡ Some (success, Register.Reference (extend x (Selector.item 0))) }
     ensures push_front_without_room { register_after 0
         (row Operation.PushFront 0 1 0 (pos 0) false
-        (holding 3 (Seq (cons (Int (pos 4)) (cons (Int (pos 5)) nil))) (pos 1)))
+        (holding 3 two_items (pos 1)))
         ≡ Some (bad_alloc, Register.Int (pos 2)) }
     ensures no_push_front_of_a_vector { row Operation.PushFront 0 1 0 (pos 0) true
-        (holding 2 (Seq (cons (Int (pos 4)) (cons (Int (pos 5)) nil))) (pos 1)) ≡ None }
+        (holding 2 two_items (pos 1)) ≡ None }
     ensures pop { value_after x (row Operation.PopBack 0 1 0 (pos 0) true
-        (holding 2 (Seq (cons (Int (pos 4)) (cons (Int (pos 5)) nil))) (pos 1)))
+        (holding 2 two_items (pos 1)))
         ≡ Some (success, Some (Seq (cons (Int (pos 4)) nil))) }
     ensures pop_answers { register_after 0
         (row Operation.PopBack 0 1 0 (pos 0) true
-        (holding 3 (Seq (cons (Int (pos 4)) (cons (Int (pos 5)) nil))) (pos 1)))
+        (holding 3 two_items (pos 1)))
         ≡ Some (success, Register.Int (pos 1)) }
     ensures pop_none { register_after 0
         (row Operation.PopBack 0 1 0 (pos 0) true (holding 3 (Seq nil) (pos 0)))
@@ -368,17 +368,17 @@ pub fn sequences()
         ≡ Some (success, Some (Text (codes "ab"))) }
     ensures pop_front { value_after x
         (row Operation.PopFront 0 1 0 (pos 0) true
-        (holding 3 (Seq (cons (Int (pos 4)) (cons (Int (pos 5)) nil))) (pos 1)))
+        (holding 3 two_items (pos 1)))
         ≡ Some (success, Some (Seq (cons (Int (pos 5)) nil))) }
     ensures pop_front_answers { register_after 0
         (row Operation.PopFront 0 1 0 (pos 0) true
-        (holding 3 (Seq (cons (Int (pos 4)) (cons (Int (pos 5)) nil))) (pos 1)))
+        (holding 3 two_items (pos 1)))
         ≡ Some (success, Register.Int (pos 1)) }
     ensures pop_front_none { register_after 0
         (row Operation.PopFront 0 1 0 (pos 0) true (holding 3 (Seq nil) (pos 0)))
         ≡ Some (null_or_none, Register.Int (pos 6)) }
     ensures no_pop_front_of_a_vector { row Operation.PopFront 0 1 0 (pos 0) true
-        (holding 2 (Seq (cons (Int (pos 4)) (cons (Int (pos 5)) nil))) (pos 1)) ≡ None }
+        (holding 2 two_items (pos 1)) ≡ None }
 {}
 
 /// Texts.
@@ -423,7 +423,7 @@ pub fn texts()
     ensures shrink { value_after x (row Operation.Shrink 0 1 0 (pos 0) true
         (holding 1 (Text (codes "abc")) (pos 1))) ≡ Some (success, Some (Text (codes "abc"))) }
     ensures no_shrink_of_a_list { row Operation.Shrink 0 1 0 (pos 0) true
-        (holding 3 (Seq (cons (Int (pos 4)) (cons (Int (pos 5)) nil))) (pos 1)) ≡ None }
+        (holding 3 two_items (pos 1)) ≡ None }
 {}
 
 /// Maps, of both kinds. The keys are -2 and 7.

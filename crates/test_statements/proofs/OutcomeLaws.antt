@@ -11,10 +11,10 @@ use Rattle.test_definitions.proofs.UnsoundImages.{lost_gap-unsound}
 use Rattle.seg_raw.specs.declared.fault.Fault.{Fault}
 use Rattle.seg_raw.specs.declared.fault.Fault.TheVariants as fault
 use Rattle.client_spec.specs.Syntax.{Client}
-use Rattle.client_spec.specs.Grammar.{Spells, spelling}
+use Rattle.client_spec.specs.Grammar.{SpellsClient, client_bytes}
 use Rattle.client_spec.specs.Run.{finished, stopped}
 use Rattle.client_spec.specs.OnImages.{Move, Given, Left}
-use Rattle.client_spec.specs.Clients.{IsVerified, AreAccepted, RunClients, table_behind, outputs, image_behind, ending_behind}
+use Rattle.client_spec.specs.Clients.{IsVerified, AreAccepted, RunClients, table_after, outputs, image_after, ending_after}
 use Rattle.client_spec.specs.Outcome.{CanLie, CanMove, IsOutcome, Refusal, IsTurnOf, IsRefusalOf}
 use Rattle.client_spec.specs.Fixtures.{increment, move_to}
 use Rattle.client_verify.specs.Refusals.{IsRefused}
@@ -135,13 +135,13 @@ module _ {input : List ℕ} {base : ℕ} {taken taken_then : Option (List ℕ)} 
   nothing_left = no_lefts o.outcome.sound.picture.table o.outcome.clients _ o.lefts o.outcome.accepted o.outcome.runs
 
   pub saved_same : saved ≡ counter
-  saved_same = o.saved_is ∙ ap (image_behind counter) nothing_left
+  saved_same = o.saved_is ∙ ap (image_after counter) nothing_left
 
   pub no_reports : AreReports reports []
   no_reports = subst (AreReports reports) nothing_left o.reports_are
 
-  pub came_to_end : ending_behind o.lefts ≡ finished
-  came_to_end = ap ending_behind nothing_left
+  pub came_to_end : ending_after o.lefts ≡ finished
+  came_to_end = ap ending_after nothing_left
 
   pub wrote_nothing : outputs o.lefts ≡ []
   wrote_nothing = ap outputs nothing_left
@@ -190,8 +190,8 @@ lost_gap-moves = record { lies = record { size = record { not_small = lit≤ tt;
 pub lost_gap-refused : IsFault lost_gap [] 2048 0 [] None (fault.BadFree 24)
 lost_gap-refused = record { refusal = (lost_gap-moves, lost_gap-unsound); fault = lost_gap-lacks }
 
-no_text : (client : Client) → Spells [] client → ⊥
-unfolding spelling
+no_text : (client : Client) → SpellsClient [] client → ⊥
+unfolding client_bytes
 no_text client s = let e = s.spelled in cc
 
 pub no_client : IsFault counter ([] ∷ []) 2048 0 [] (Some 0) (fault.BadCode 0)
@@ -207,28 +207,28 @@ greeting-moves = record { lies = record { size = record { not_small = lit≤ tt;
 texts_differ : IsVerified (Form.str ∷ []) increment → ⊥
 texts_differ v = let e = v.agree in cc
 
-pub other_types : IsFault greeting (spelling increment ∷ []) 2048 0 [] (Some 0) (fault.TypeMismatch 0)
+pub other_types : IsFault greeting (client_bytes increment ∷ []) 2048 0 [] (Some 0) (fault.TypeMismatch 0)
 other_types =
-    let turn : IsTurnOf greeting (spelling increment ∷ []) 0 (spelling increment) = record { sound = record { picture = greeting_picture; held = greeting_held; none_loose = refl }; clients = []; accepted = tt; text_is = refl } in
+    let turn : IsTurnOf greeting (client_bytes increment ∷ []) 0 (client_bytes increment) = record { sound = record { picture = greeting_picture; held = greeting_held; none_loose = refl }; clients = []; accepted = tt; text_is = refl } in
     record {
-      refusal = (greeting-moves, spelling increment, turn, increment, increment_spelled, texts_differ);
-      text = spelling increment;
+      refusal = (greeting-moves, client_bytes increment, turn, increment, increment_spelled, texts_differ);
+      text = client_bytes increment;
       turn = turn;
       client = increment;
       spells = increment_spelled;
       fault = record { in_old = lit< tt; in_new = lit< tt; same_before = refl; differs = λ e. cc };
     }
 
-pub its_types : IsFault counter (spelling increment ∷ []) 2048 0 [] (Some 0) (fault.TypeMismatch 0) → ⊥
+pub its_types : IsFault counter (client_bytes increment ∷ []) 2048 0 [] (Some 0) (fault.TypeMismatch 0) → ⊥
 its_types r = go r.turn.clients r.turn.accepted r.text r.turn.text_is r.client r.spells r.fault
   where
     table : r.turn.sound.picture.table ≡ Form.i64 ∷ []
     table = (Held-one counter r.turn.sound.picture counter_picture r.turn.sound.held counter_held).table
 
-    go : (clients : List Client) → AreAccepted r.turn.sound.picture.table [] clients → (text : List ℕ) → Some (spelling increment) ≡ Some text → (client : Client) → Spells text client
-        → IsRefused (table_behind r.turn.sound.picture.table clients) client (fault.TypeMismatch 0) → ⊥
+    go : (clients : List Client) → AreAccepted r.turn.sound.picture.table [] clients → (text : List ℕ) → Some (client_bytes increment) ≡ Some text → (client : Client) → SpellsClient text client
+        → IsRefused (table_after r.turn.sound.picture.table clients) client (fault.TypeMismatch 0) → ⊥
     go [] a text e client s f =
-        let same : text ≡ spelling increment = cc in
+        let same : text ≡ client_bytes increment = cc in
         let it : client ≡ increment = one_client client increment s.valid increment_spelled.valid (sym s.spelled ∙ same) in
         f.differs (ap (λ t. form_at t 0) table ∙ sym (ap (λ (c : Client). form_at c.types 0) it))
     go (c ∷ clients) a text e client s f = absurd a

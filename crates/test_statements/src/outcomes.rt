@@ -2,7 +2,7 @@
 
 ghost use Rattle.std.specs.Prelude.{◌≡◌, ℕ, List, [], ◌∷◌, codes, Option, Some, None};
 ghost use Rattle.seg_spec.specs.Fixtures.{counter, greeting, empty, lost_gap};
-ghost use Rattle.client_spec.specs.Grammar.{spelling};
+ghost use Rattle.client_spec.specs.Grammar.{client_bytes};
 ghost use Rattle.client_spec.specs.OnImages.{Move};
 ghost use Rattle.client_spec.specs.Outcome.{Refusal, IsRefusalOf};
 ghost use Rattle.client_spec.specs.Fixtures.{increment, move_to};
@@ -31,7 +31,8 @@ pub fn no_clients()
     ensures wrote { HasOutcome counter [] [] 2048 0 [] (Some (codes "=")) (Some (codes "=4"))
         counter [] Ended.Done → ⊥ }
     ensures another { HasOutcome counter [] [] 2048 0 [] None None empty [] Ended.Done → ⊥ }
-    ensures stopped { HasOutcome counter [] [] 2048 0 [] None None counter [] Ended.OutputFailed → ⊥ }
+    ensures stopped { HasOutcome counter [] [] 2048 0 [] None None
+        counter [] Ended.OutputFailed → ⊥ }
     ensures a_report { (report : Report) →
         HasOutcome counter [] [] 2048 0 [] None None counter (report ∷ []) Ended.Done → ⊥ }
     ensures no_place { HasOutcome counter [] [] 2048 8 [] None None counter [] Ended.Done → ⊥ }
@@ -58,8 +59,8 @@ pub fn refused()
         (record { client = Some 0; fault = Fault.BadCode 0 }) }
     ensures first_client { IsRefusedFor counter ([] ∷ []) 2048 0 []
         (record { client = Some 1; fault = Fault.BadCode 0 }) → ⊥ }
-    ensures other_types { IsRefusedFor greeting (spelling increment ∷ []) 2048 0 []
+    ensures other_types { IsRefusedFor greeting (client_bytes increment ∷ []) 2048 0 []
         (record { client = Some 0; fault = Fault.TypeMismatch 0 }) }
-    ensures its_types { IsRefusedFor counter (spelling increment ∷ []) 2048 0 []
+    ensures its_types { IsRefusedFor counter (client_bytes increment ∷ []) 2048 0 []
         (record { client = Some 0; fault = Fault.TypeMismatch 0 }) → ⊥ }
 {}

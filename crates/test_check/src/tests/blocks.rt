@@ -5,7 +5,7 @@ use seg_raw::Fault;
 use std::alloc::Global;
 use std::test::Fail;
 
-/// Three unique numbers, with gaps of 2, 3 and 2 units behind them. The payloads of the gaps are at 752, 816 and 896, and
+/// Three unique numbers, with gaps of 2, 3 and 2 units after them. The payloads of the gaps are at 752, 816 and 896, and
 /// their links at 748, 812 and 892.
 fn comb(alloc: Global) -> Result<Image, Fail> {
     let mut image = Image::new(alloc, &[I64, I64, I64])?;
@@ -63,7 +63,7 @@ fn finds_faults_in_headers_of_blocks(rt: HostRuntime) -> Result<(), Fail> {
     for (change, header) in wrong {
         image.finds(&rt, &[change], Fault::BadBlock(header))?;
     }
-    // a free block behind a free one
+    // a free block after a free one
     image.finds(&rt, &[(768, 2), (776, 0)], Fault::BadBlock(768))?;
     // these tags are allowed, of blocks that nothing may name here
     for tag in [1, 5, 6, 0x102] {

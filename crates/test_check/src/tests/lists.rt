@@ -59,7 +59,7 @@ fn finds_what_is_no_ring(rt: HostRuntime) -> Result<(), Fail> {
     }
     // the claims come first
     image.finds(&rt, &[null(756), null(784)], Fault::BadPointer(784))?;
-    // a ring that goes on behind the nodes that are counted
+    // a ring that goes on after the nodes that are counted
     image.finds(&rt, &[(724, 2), to(784, 752)], Fault::BadValue(720))?;
     image.finds(
         &rt,

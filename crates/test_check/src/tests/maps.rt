@@ -11,7 +11,7 @@ fn put_key(image: &mut Image, at: u32, key: i64) {
 }
 
 /// A unique map with the keys -9, 0 and 9: its cell is at 720, the root at 800, the nodes to its left and right at 752 and
-/// 848. The keys are 16 bytes behind.
+/// 848. The keys are 16 bytes after.
 fn map(alloc: Global) -> Result<Image, Fail> {
     let mut image = Image::new(alloc, &[map_of(1), I64])?;
     let cell = image.add_unique(0, 2);
@@ -174,7 +174,7 @@ fn finds_faults_of_a_flat_map(rt: HostRuntime) -> Result<(), Fail> {
     image.accepts(&rt, &[])
 }
 
-/// The keys behind those that are counted are of no matter.
+/// The keys after those that are counted are of no matter.
 #[test]
 fn reads_only_the_keys_that_count(rt: HostRuntime) -> Result<(), Fail> {
     let mut image = flat_map(rt.alloc())?;

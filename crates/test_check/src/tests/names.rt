@@ -107,7 +107,7 @@ fn finds_faults_of_names(rt: HostRuntime) -> Result<(), Fail> {
     // the first name after the second, and equal to it
     image.finds(&rt, &[(728, name(b'b', 0))], Fault::BadIndex(888))?;
     image.finds(&rt, &[(892, counts(1, 1))], Fault::BadIndex(888))?;
-    // a prefix behind the longer name
+    // a prefix after the longer name
     image.finds(
         &rt,
         &[
@@ -123,7 +123,7 @@ fn finds_faults_of_names(rt: HostRuntime) -> Result<(), Fail> {
 }
 
 /// The numbers a, b and c at 720, 752 and 784, with a tree of nodes at 816, 864, the root, and 912. Their entries are 16
-/// bytes behind.
+/// bytes after.
 fn tree(alloc: Global) -> Result<Image, Fail> {
     let mut image = Image::new(alloc, &[I64])?.with_tree_index();
     let a = add_number(&mut image, b"a", 2);

@@ -117,7 +117,7 @@ fn finds_faults_in_a_struct(rt: HostRuntime) -> Result<(), Fail> {
     image.finds(&rt, &[to(736, 768)], Fault::DoubleOwner(752))
 }
 
-/// The values of a named object: two strings, and behind them its name.
+/// The values of a named object: two strings, and after them its name.
 #[test]
 fn finds_faults_in_each_value_of_an_object(rt: HostRuntime) -> Result<(), Fail> {
     let mut image = Image::new(rt.alloc(), &[STR])?;

@@ -117,7 +117,7 @@ fn finds_faults_in_images(rt: HostRuntime) -> Result<(), Fail> {
     says(&rt, &[(12, 50)], "fault 10\n")?;
     says(&rt, &[(28, 1)], "fault 10\n")?;
     says(&rt, &[(60, 1 << 24)], "fault 10\n")?;
-    // a type of an unknown kind, a used entry behind an unused one
+    // a type of an unknown kind, a used entry after an unused one
     says(&rt, &[(64, 9)], "fault 3 0\n")?;
     says(&rt, &[(96, 1)], "fault 3 2\n")?;
     // units too few and too many, of the block before, a tag without its type, a link

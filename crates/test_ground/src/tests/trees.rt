@@ -17,7 +17,7 @@ use std::process::Abort;
 use std::test::Fail;
 use support_data::Random;
 
-/// Nodes of 32 bytes with a number behind the tree words.
+/// Nodes of 32 bytes with a number after the tree words.
 const NODE: u32 = 32;
 
 /// By that number.

@@ -17,7 +17,7 @@ pub struct Model {
 }
 
 /// Where a block ends.
-pub fn behind(block: Block) -> u32 {
+pub fn following(block: Block) -> u32 {
     block.at.saturating_add(block.units.saturating_mul(16))
 }
 
@@ -36,7 +36,7 @@ impl Model {
         let mut at = HEAP_START;
         for block in &self.live {
             add_gap(&mut gaps, at, block.at)?;
-            at = behind(*block);
+            at = following(*block);
         }
         add_gap(&mut gaps, at, self.end)?;
         Ok(gaps)
@@ -56,9 +56,9 @@ impl Model {
         Ok(picked)
     }
 
-    /// The units of the gap right behind a block.
+    /// The units of the gap right after a block.
     fn room(&self, block: Block) -> Result<u32, AllocError> {
-        let at = behind(block);
+        let at = following(block);
         let gaps = self.gaps()?;
         Ok(
             gaps.iter()
@@ -116,7 +116,7 @@ impl Model {
         let end = self.end;
         if units == 1 {
             for block in self.live.iter_mut() {
-                if behind(*block) == end {
+                if following(*block) == end {
                     block.units = block.units.saturating_add(1);
                 }
             }
@@ -128,7 +128,7 @@ impl Model {
     pub fn cut(&mut self) -> Result<u32, AllocError> {
         let gaps = self.gaps()?;
         let cut = match gaps.last() {
-            Some(gap) if behind(*gap) != self.end => 0,
+            Some(gap) if following(*gap) != self.end => 0,
             Some(gap) if gap.at == HEAP_START => gap.units.saturating_sub(2),
             Some(gap) => gap.units,
             None => 0,

@@ -1,7 +1,7 @@
 use crate::tests::support::{Accepted, Rejected, check_accepted, check_rejected};
 use client_verify::{Class, Reason, RegisterType, Registers};
 
-// References that an instruction ends, and a use of one behind it.
+// References that an instruction ends, and a use of one after it.
 static ENDED: [Rejected; 27] = [
     (2, "MOV r5 r0; PUSH r1 r0; LEN r6 r5; ELSE; END", 3, 1),
     (2, "MOV r5 r0; PUSH r1 r0; ELSE; LEN r6 r5; END", 4, 1),

@@ -158,7 +158,7 @@ static OTHER_FILES: [(&[u8], u32); 9] = [
     (b"SEGC\x01\0\0\0\0\0\0\0\0\0\0\0\x01\x10\0\0", 16),
     // one byte too many
     (b"SEGC\x01\0\0\0\0\0\0\0\0\0\0\0\0\0\0\0\0", 20),
-    // no END, and one byte too many behind
+    // no END, and one byte too many after
     (
         b"SEGC\x01\0\0\0\0\0\0\0\0\0\0\0\x01\0\0\0\x08\0\0\0\0\0\0\0\0",
         28,
@@ -172,7 +172,7 @@ fn other_wrong_files(rt: HostRuntime) {
     }
 }
 
-/// A file of two type entries, of which the second is cut behind so many bytes.
+/// A file of two type entries, of which the second is cut after so many bytes.
 fn two_types(alloc: Global, first: &[u8], second: &[u8]) -> Result<Vec<u8>, AllocError> {
     let mut file = Vec::from_slice(alloc, b"SEGC\x01\0\0\0\x02\0\0\0\0\0\0\0\0\0\0\0")?;
     for byte in 0..16usize {

@@ -5,7 +5,7 @@ use seg_raw::Fault;
 use std::alloc::Global;
 use std::process::Abort;
 
-/// Types and constants of every kind: the tables' programs stand behind them.
+/// Types and constants of every kind: the tables' programs stand after them.
 const FRONT: &[u8] = b"type i64
 type str
 type vec t0
@@ -27,8 +27,8 @@ pub fn verdict(alloc: Global, text: &[u8]) -> Result<u64, Fault> {
     Ok(verify(client, &TypeTable::new())?.bound())
 }
 
-/// The same for a program behind the front. `;` ends its lines too.
-pub fn verdict_behind_front(alloc: Global, program: &[u8]) -> Result<u64, Fault> {
+/// The same for a program after the front. `;` ends its lines too.
+pub fn verdict_after_front(alloc: Global, program: &[u8]) -> Result<u64, Fault> {
     let mut text = Vec::from_slice(alloc, FRONT)?;
     for byte in program {
         text.push(if *byte == b';' { b'\n' } else { *byte })
@@ -40,7 +40,7 @@ pub fn verdict_behind_front(alloc: Global, program: &[u8]) -> Result<u64, Fault>
 /// The same for a program inside `FINDOR r0 - t k1`, whose instruction is number 0: r0 leads to a value of the type.
 pub fn verdict_with(alloc: Global, type_id: u8, program: &str) -> Result<u64, Fault> {
     let text = format!(in alloc; "FINDOR r0 - t{type_id} k1;{program};ELSE;END")?;
-    verdict_behind_front(alloc, text.as_bytes())
+    verdict_after_front(alloc, text.as_bytes())
 }
 
 /// A program that is accepted with this bound, inside the opener.

@@ -10,8 +10,8 @@ fn canonical(alloc: Global, text: &[u8]) -> Result<Vec<u8>, Fault> {
     print(alloc, &parse(file.as_slice())?)
 }
 
-/// The same behind a front of one type and three constants.
-fn canonical_behind_front(alloc: Global, text: &str) -> Result<Vec<u8>, Fault> {
+/// The same after a front of one type and three constants.
+fn canonical_after_front(alloc: Global, text: &str) -> Result<Vec<u8>, Fault> {
     let text = format!(in alloc; "type i64\ntext hi\nname n\nfamily f\n{text}")?;
     canonical(alloc, text.as_bytes())
 }
@@ -201,8 +201,8 @@ fn wrong_texts(rt: HostRuntime) {
     }
 }
 
-// Lines behind `type i64`, `text hi`, `name n`, `family f`; the fifth line is the first of these.
-static WRONG_BEHIND_FRONT: [(&str, u32); 20] = [
+// Lines after `type i64`, `text hi`, `name n`, `family f`; the fifth line is the first of these.
+static WRONG_AFTER_FRONT: [(&str, u32); 20] = [
     ("FIND r0 - - t0 k2\nELSE\nEND", 5),
     ("FIND r0 r1 - t0 k1\nELSE\nEND", 5),
     ("FIND r0 - - t0 k0\nELSE\nEND", 5),
@@ -227,8 +227,8 @@ static WRONG_BEHIND_FRONT: [(&str, u32); 20] = [
 
 #[test]
 fn wrong_operands(rt: HostRuntime) {
-    for (text, line) in &WRONG_BEHIND_FRONT {
-        let found = canonical_behind_front(rt.alloc(), text).err();
+    for (text, line) in &WRONG_AFTER_FRONT {
+        let found = canonical_after_front(rt.alloc(), text).err();
         assert_eq!(rt; found, Some(Fault::BadLine(*line)), "{text}");
     }
 }

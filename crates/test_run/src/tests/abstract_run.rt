@@ -144,13 +144,13 @@ impl<'a> AbstractRun<'a> {
             Role::Plain => {
                 self.count_step();
                 self.act(objects, i)?;
-                self.go_behind(self.at);
+                self.go_after(self.at);
             }
             Role::Opener => {
                 self.count_step();
                 let opens = self.open(objects, i)?;
                 self.parts.push(Part::Opener)?;
-                self.go_behind(if opens {
+                self.go_after(if opens {
                     self.at
                 } else {
                     self.mark(Role::Else)
@@ -166,7 +166,7 @@ impl<'a> AbstractRun<'a> {
             }
             Role::Else => {
                 let _ = self.parts.pop();
-                self.go_behind(self.mark(Role::End));
+                self.go_after(self.mark(Role::End));
             }
             Role::End => self.end()?,
         }
@@ -177,7 +177,7 @@ impl<'a> AbstractRun<'a> {
         self.steps = self.steps.wrapping_add(1);
     }
 
-    fn go_behind(&mut self, at: u32) {
+    fn go_after(&mut self, at: u32) {
         self.at = at.wrapping_add(1);
     }
 
@@ -194,11 +194,11 @@ impl<'a> AbstractRun<'a> {
                     start,
                     turns: turns.wrapping_sub(1),
                 })?;
-                self.go_behind(start);
+                self.go_after(start);
                 return Ok(());
             }
         }
-        self.go_behind(self.at);
+        self.go_after(self.at);
         Ok(())
     }
 

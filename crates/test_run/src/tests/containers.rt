@@ -252,7 +252,7 @@ fn lists_of_numbers(rt: HostRuntime) -> Result<(), Fail> {
     leaves(&rt, &ran, "", 320, 0)
 }
 
-/// Prints the keys of the map m: the first, the next, and the code behind the last.
+/// Prints the keys of the map m: the first, the next, and the code after the last.
 fn print_keys(alloc: Global, kind: &str) -> Result<String, AllocError> {
     format!(in alloc;
         "type i64

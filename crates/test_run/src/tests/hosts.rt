@@ -61,8 +61,8 @@ fn host_bytes_stay(rt: HostRuntime) -> Result<(), Fail> {
         let region = increments(&rt, base, &[])?;
         let bytes = region.slice(0, region.len() as usize);
         let (before, rest) = bytes.split_at_checked(base as usize).ok_or("short")?;
-        let (_, behind) = rest.split_at_checked(784).ok_or("short")?;
-        assert!(rt; is_untouched(before) && is_untouched(behind));
+        let (_, following) = rest.split_at_checked(784).ok_or("short")?;
+        assert!(rt; is_untouched(before) && is_untouched(following));
     }
     Ok(())
 }

@@ -136,7 +136,7 @@ fn shifted_values_read_the_same(rt: HostRuntime) -> Result<(), Fail> {
     reads_as(&rt, &s, "([97, 98], [])")
 }
 
-/// Bytes behind the used items may be a pointer to a block that something else owns, which stays.
+/// Bytes after the used items may be a pointer to a block that something else owns, which stays.
 #[test]
 fn unused_items_own_nothing(rt: HostRuntime) -> Result<(), Fail> {
     let mut s = new_segment::<SeqFit>(rt.alloc(), 1024, &[STR, of(3, 0)], 1)?;

@@ -50,7 +50,7 @@ pub(crate) fn reads_as<F: Fit>(
     Ok(())
 }
 
-/// One step, and what must hold behind it. True where it found no room.
+/// One step, and what must hold after it. True where it found no room.
 fn checked_step<F: Fit, T: Trial<F>>(
     rt: &(impl Abort + AllocGlobal),
     s: &mut Segment<F>,

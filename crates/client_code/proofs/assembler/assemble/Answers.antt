@@ -1,5 +1,5 @@
 use Rattle.std.proofs.Common.{◌++◌, ap, ◌∙◌, subst}
-use Rattle.client_spec.specs.Grammar.{Spells}
+use Rattle.client_spec.specs.Grammar.{SpellsClient}
 use Rattle.client_spec.specs.Pieces.{file_of}
 use Rattle.client_code.proofs.Assembling.{text_spells, canonical_file, no_client}
 use Rattle.client_code.proofs.assembler.assemble.Goals as goal
@@ -8,7 +8,7 @@ pub returns-in-None-clause-found : goal.returns-in-None-clause-found
 returns-in-None-clause-found g c =
     let (is_whole, tree, spells) = c.in-None.ensures.right in
     let (pieces, said, e) = c.in_ok-is_whole.ensures.whole is_whole in
-    let here = subst (λ file. Spells file tree) c.as_slice.ensures.value spells in
+    let here = subst (λ file. SpellsClient file tree) c.as_slice.ensures.value spells in
     (tree, here, text_spells c.args.text.now c.write.new.file.items pieces tree said (e ∙ ap (λ xs. xs ++ file_of pieces) c.new-file.ensures.items) here)
 
 pub returns-in-None-clause-canonical : goal.returns-in-None-clause-canonical

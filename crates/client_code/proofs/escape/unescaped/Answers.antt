@@ -23,9 +23,9 @@ returns-in_err-ok-clause-none c =
 
 pub loop-rest-preserved : goal.loop-rest-preserved
 loop-rest-preserved c =
-    subst (λ bytes. Reads c.args.spelling.now bytes c.in_ok-byte.behind.now)
+    subst (λ bytes. Reads c.args.spelling.now bytes c.in_ok-byte.following.now)
     (sym (was_ok c.try_push.result _ _ c.try_push.ensures.ok (sym c.ok.ensures.value ∙ c.in_ok-ok.was)))
-    (further c.args.spelling.now c.loop-rest.bytes.items c.loop-rest.rest.now c.in_ok-byte.byte c.in_ok-byte.behind.now c.in_ok-byte.ensures.small
+    (further c.args.spelling.now c.loop-rest.bytes.items c.loop-rest.rest.now c.in_ok-byte.byte c.in_ok-byte.following.now c.in_ok-byte.ensures.small
     c.loop-rest.invariant c.in_ok-byte.ensures.found)
 
 pub returns-clause-found : goal.returns-clause-found

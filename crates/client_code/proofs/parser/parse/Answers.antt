@@ -2,7 +2,7 @@ use Rattle.std.proofs.Common.{sym, ◌∙◌, subst}
 use Rattle.std.proofs.lemmas.List.{length-map}
 use Rattle.std.proofs.lemmas.Grind.{merely}
 use Rattle.client_spec.specs.Syntax.{Client}
-use Rattle.client_spec.specs.Grammar.{Spells}
+use Rattle.client_spec.specs.Grammar.{SpellsClient}
 use Rattle.client_code.specs.Views.{constant_of, constants_of}
 use Rattle.client_code.specs.Files.{IsCodeAt}
 use Rattle.client_code.proofs.Whole.{client_there, no_types, no_constants, no_code, spelled_parts, read_places, no_matter}
@@ -42,7 +42,7 @@ returns-clause-found c =
 
 pub returns-in_err-header-clause-wrong : goal.returns-in_err-header-clause-wrong
 returns-in_err-header-clause-wrong c =
-    no_matter c.from_residual.result _ (λ (tree : Client) (spells : Spells c.args.file.now tree).
+    no_matter c.from_residual.result _ (λ (tree : Client) (spells : SpellsClient c.args.file.now tree).
     c.in_err-header.ensures.wrong _ _ _ spells.valid.types.few spells.valid.few_constants spells.valid.few_instructions (spelled_parts c.args.file.now tree spells).header)
 
 pub returns-in_err-types-clause-wrong : goal.returns-in_err-types-clause-wrong

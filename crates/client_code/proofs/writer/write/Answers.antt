@@ -2,10 +2,10 @@ use Rattle.std.proofs.Common.{◌≡◌, ℕ, ◌≤◌, ◌∷◌, Bool, true, 
 use Rattle.std.specs.Prelude.{Option, IfSome, IfNone}
 use Rattle.std.specs.Option.{is_some}
 use Rattle.std.proofs.lemmas.Bool.{true≢false, false≢true}
-use Rattle.client_code.specs.Outlines.{section_of, entries_of}
+use Rattle.client_code.specs.Outlines.{section_of, entry_total}
 use Rattle.client_spec.specs.Pieces.{meant}
 use Rattle.client_code.proofs.SpelledLines.{past}
-use Rattle.client_code.proofs.ValidItems.{line_says, none_behind}
+use Rattle.client_code.proofs.ValidItems.{line_says, none_after}
 use Rattle.client_code.proofs.WrittenFiles.{further, ends}
 use Rattle.client_code.proofs.writer.write.Goals as goal
 
@@ -43,7 +43,7 @@ returns-clause-whole g c whole =
     let limits = header.limits in
     let counted = c.header_of-header.ensures in
     let within = counted.within in
-    let all : c.loop.counter ≡ entries_of header = reached c.loop.counter c.entries-end.result (entries_of header) c.loop.auto.counter-end c.loop-test.false c.entries-end.ensures in
+    let all : c.loop.counter ≡ entry_total header = reached c.loop.counter c.entries-end.result (entry_total header) c.loop.auto.counter-end c.loop-test.false c.entries-end.ensures in
     ends c.args.text.now c.args.file.now.items _ _ header.types header.constants header.instructions c.loop.counter c.loop.invariant.written
     (sym c.loop.invariant.rest ∙ when_none c.next_meant.result c.is_none.result _ c.is_none.ensures whole c.next_meant.ensures.none)
     (omega arith) c.in_ok-append.ensures limits.0 limits.1 limits.2 (λ items spells. ap (λ n. map section_of (take n items)) all ∙ counted.counted items spells)
@@ -51,6 +51,6 @@ returns-clause-whole g c whole =
 pub returns-clause-cut : goal.returns-clause-cut
 returns-clause-cut g c cut tree spells =
     let counted = c.header_of-header.ensures in
-    let all : c.loop.counter ≡ entries_of c.header_of-header.result = reached c.loop.counter c.entries-end.result (entries_of c.header_of-header.result) c.loop.auto.counter-end c.loop-test.false c.entries-end.ensures in
+    let all : c.loop.counter ≡ entry_total c.header_of-header.result = reached c.loop.counter c.entries-end.result (entry_total c.header_of-header.result) c.loop.auto.counter-end c.loop-test.false c.entries-end.ensures in
     let (line, found) = when_some c.next_meant.result c.is_none.result _ c.is_none.ensures cut c.next_meant.ensures.found in
-    none_behind c.args.text.now tree spells c.loop.counter line.now _ (sym c.loop.invariant.rest ∙ found) (λ items each outline. counted.all items each outline ∙ sym all)
+    none_after c.args.text.now tree spells c.loop.counter line.now _ (sym c.loop.invariant.rest ∙ found) (λ items each outline. counted.all items each outline ∙ sym all)

@@ -9,12 +9,12 @@ pub loop-block-preserved : goal.loop-block-preserved
 loop-block-preserved g c = (
   omega (arith, c.in-Some.ensures.bounds),
   λ ts low fits f h.
-      reached_more c.args.w.now.bytes ts c.args.end c.in-Some.block.at c.in-Some.block.units fits c.loop-block.at (c.loop-block.invariant.1 ts low fits f h) c.in-Some.ensures.read c.if-behind-end.false,
+      reached_more c.args.w.now.bytes ts c.args.end c.in-Some.block.at c.in-Some.block.units fits c.loop-block.at (c.loop-block.invariant.1 ts low fits f h) c.in-Some.ensures.read c.if-following-end.false,
 )
 
-pub returns-then-behind-end-clause-last : goal.returns-then-behind-end-clause-last
-returns-then-behind-end-clause-last g c = λ ts low fits f h.
-    reached_end c.args.w.now.bytes ts c.args.end c.in-Some.block.at c.in-Some.block.units fits c.loop-block.at (c.loop-block.invariant.1 ts low fits f h) c.in-Some.ensures.read c.if-behind-end.true
+pub returns-then-following-end-clause-last : goal.returns-then-following-end-clause-last
+returns-then-following-end-clause-last g c = λ ts low fits f h.
+    reached_end c.args.w.now.bytes ts c.args.end c.in-Some.block.at c.in-Some.block.units fits c.loop-block.at (c.loop-block.invariant.1 ts low fits f h) c.in-Some.ensures.read c.if-following-end.true
 
 pub returns-clause-last : goal.returns-clause-last
 returns-clause-last g c = λ ts low fits f h.

@@ -13,7 +13,7 @@ returns c = record {
   not_of_type = refl;
   same_picture = λ picture held. held;
   other_picture = λ keeps. let same = (Held-one empty counter_picture empty_picture (keeps counter_picture counter_held) empty_held).names in cc;
-  behind = (Selector.field 0, [], refl);
-  not_behind = λ h. let e = h.2 in cc;
+  following = (Selector.field 0, [], refl);
+  not_after = λ h. let e = h.2 in cc;
   elsewhere = λ h. let e = h.2 in cc;
 }

@@ -2,18 +2,25 @@ use Rattle.test_definitions.proofs.UnsoundImages.{other_magic-unsound, other_siz
 use Rattle.test_definitions.proofs.examples.unsound_images.Goals as goal
 
 pub returns : goal.returns
-returns c = record {
-  other_magic = other_magic-unsound;
-  other_size = other_size-unsound;
-  linked = linked-unsound;
-  odd_kind = odd_kind-unsound;
-  neighbours = neighbours-unsound;
-  lost_gap = lost_gap-unsound;
-  red_root = red_root-unsound;
-  no_items = no_items-unsound;
-  named_as_unique = named_as_unique-unsound;
-  no_buffer = no_buffer-unsound;
-  own_buffer = own_buffer-unsound;
-  two_owners = two_owners-unsound;
-  no_owner = no_owner-unsound;
-}
+returns c = (
+  other_magic-unsound,
+  (
+    other_size-unsound,
+    (
+      linked-unsound,
+      (
+        odd_kind-unsound,
+        (
+          neighbours-unsound,
+          (
+            lost_gap-unsound,
+            (
+              red_root-unsound,
+              (no_items-unsound, (named_as_unique-unsound, (no_buffer-unsound, (own_buffer-unsound, (two_owners-unsound, (no_owner-unsound, tt)))))),
+            ),
+          ),
+        ),
+      ),
+    ),
+  ),
+)

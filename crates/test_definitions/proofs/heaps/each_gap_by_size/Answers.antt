@@ -11,7 +11,7 @@ pub returns-clause-inserted : goal.returns-clause-inserted
 returns-clause-inserted c = λ before gap after. by_size-middle before gap after
 
 pub returns-clause-placed : goal.returns-clause-placed
-returns-clause-placed c = λ gap before after behind front. insert-placed gap before after behind front
+returns-clause-placed c = λ gap before after following front. insert-placed gap before after following front
 
 pub returns-clause-removed : goal.returns-clause-removed
 returns-clause-removed c = λ gap gs before after other e. insert-removed gap gs before after other e

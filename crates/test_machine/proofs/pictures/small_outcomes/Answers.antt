@@ -3,7 +3,7 @@ use Rattle.seg_spec.specs.Fixtures.{counter}
 use Rattle.seg_spec.specs.Faulty.{IsImageLength}
 use Rattle.test_definitions.proofs.SoundImages.{counter_sound}
 use Rattle.client_spec.specs.Syntax.{Client}
-use Rattle.client_spec.specs.Grammar.{Spells, spelling}
+use Rattle.client_spec.specs.Grammar.{SpellsClient, client_bytes}
 use Rattle.seg_spec.specs.Types.{Table}
 use Rattle.client_spec.specs.OnImages.{Given, Left}
 use Rattle.client_spec.specs.Clients.{AreAccepted, RunClients}
@@ -31,8 +31,8 @@ outcome = record { can_move = moves; sound = counter_sound; clients = []; accept
 turn : IsTurnOf counter ([] ∷ []) 0 []
 turn = record { sound = counter_sound; clients = []; accepted = tt; text_is = refl }
 
-no_client : (client : Client) → Spells [] client → ⊥
-unfolding spelling
+no_client : (client : Client) → SpellsClient [] client → ⊥
+unfolding client_bytes
 no_client client s = let e = s.spelled in cc
 
 too_many : (left : Left) (table : Table) (clients : List Client) (given : Given) → AreAccepted table [] clients → RunClients clients given (left ∷ []) → ⊥

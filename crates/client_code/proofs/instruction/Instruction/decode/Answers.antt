@@ -1,6 +1,6 @@
 use Rattle.std.proofs.Common.{◌≡◌, ◌+◌, ◌*◌, ◌^◌, ◌<◌, ◌∷◌, slice_index_or, sym, ap, ◌∙◌, arith, w32, to_z, of_z}
 use Rattle.std.proofs.lemmas.Int.{of_z-to_z}
-use Rattle.client_spec.specs.Grammar.{word}
+use Rattle.client_spec.specs.Grammar.{word_bytes}
 use Rattle.client_code.proofs.Spelling.{eight}
 use Rattle.client_code.proofs.instruction.Instruction.decode.Goals as goal
 
@@ -18,4 +18,4 @@ returns-clause-found c =
     let long = c.in-len8.len_at_least in
     let short = c.in-len8.len_below in
     eight bytes (of_z w32 (to_z w32 (of_z w32 c.from_le_bytes-number.result))) (omega arith) c.type_inv.bytes (number ∙ omega arith)
-    ∙ ap (λ n. n ∷ slice_index_or bytes 1 0 ∷ slice_index_or bytes 2 0 ∷ slice_index_or bytes 3 0 ∷ word (of_z w32 (to_z w32 (of_z w32 c.from_le_bytes-number.result)))) (sym c.in_ok-operation.ensures.found)
+    ∙ ap (λ n. n ∷ slice_index_or bytes 1 0 ∷ slice_index_or bytes 2 0 ∷ slice_index_or bytes 3 0 ∷ word_bytes (of_z w32 (to_z w32 (of_z w32 c.from_le_bytes-number.result)))) (sym c.in_ok-operation.ensures.found)

@@ -8,17 +8,17 @@ use Rattle.client_spec.specs.Operations.{row_of}
 use Rattle.client_verify.specs.declared.rule.Rule.{Rule}
 use Rattle.client_verify.specs.Views.{registers_of, both_of, checked}
 use Rattle.client_verify.specs.Passing.{rule_at}
-use Rattle.client_verify.specs.Checking.{known_behind, applied}
-use Rattle.client_verify.specs.Steps.{step_of}
+use Rattle.client_verify.specs.Checking.{known_in_parts, applied}
+use Rattle.client_verify.specs.Steps.{step_by}
 use Rattle.client_verify.proofs.Numbers.{are_named}
 use Rattle.client_verify.proofs.Rules.{rule_same}
 use Rattle.client_verify.proofs.rule.Rule.apply.Goals as goal
 
 columns_say : (r : Rule) (constants : List Constant) → IsInstruction r.types.now constants (row_of r.instruction.operation).role (instruction_of r.instruction)
-    → applied (step_of r) ≡ rule_at r.types.now constants (instruction_of r.instruction) (registers_of r.before.now)
+    → applied (step_by r) ≡ rule_at r.types.now constants (instruction_of r.instruction) (registers_of r.before.now)
 columns_say r constants right =
     let i = r.instruction in
-    rule_same (step_of r) constants i.operation r.own right
+    rule_same (step_by r) constants i.operation r.own right
     (are_named r.types.now constants i.b r.type_id r.constant (row_of i.operation).number i.number r.few right.number r.named r.unique r.name)
 
 pub returns-in_err-check : goal.returns-in_err-check
@@ -27,11 +27,11 @@ returns-in_err-check c constants right =
     let failed = err_from_is_err_and c.from_residual.result c.from_residual.ensures.1 in
     let same : failed.0 ≡ e = failed.2 in
     ap (checked both_of) (failed.1 ∙ ap Err same)
-    ∙ ap (λ r. r >>= λ _. Ok (known_behind (step_of c.args.self.now))) c.in_err-check.ensures
+    ∙ ap (λ r. r >>= λ _. Ok (known_in_parts (step_by c.args.self.now))) c.in_err-check.ensures
     ∙ columns_say c.args.self.now constants right
 
 pub returns : goal.returns
 returns c constants right =
     ap Ok c.after.ensures
-    ∙ ap (λ r. r >>= λ _. Ok (known_behind (step_of c.args.self.now))) c.in_ok-check.ensures
+    ∙ ap (λ r. r >>= λ _. Ok (known_in_parts (step_by c.args.self.now))) c.in_ok-check.ensures
     ∙ columns_say c.args.self.now constants right

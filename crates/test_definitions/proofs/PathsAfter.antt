@@ -8,7 +8,7 @@ use Rattle.seg_spec.specs.Value.{Value, count, Selector, index_of}
 use Rattle.seg_spec.specs.Reads.{Place, Opened, Opens, Holds, Leads, here, into}
 use Rattle.seg_spec.specs.Index.{Root}
 use Rattle.seg_spec.specs.Sound.{Picture, IsHeld}
-use Rattle.seg_spec.specs.Apart.{GoesBehind}
+use Rattle.seg_spec.specs.Apart.{GoesOnAfter}
 use Rattle.seg_spec.specs.Roots.{Listed, roots_in, roots_before, roots_after, item_of, KeepsPaths, KeepsPathsBeside}
 use Rattle.seg_spec.specs.Shrinking.{KeepsPathsInside, ShrinksPlace}
 use Rattle.seg_spec.proofs.OneReading.{Opens-one}
@@ -26,15 +26,15 @@ same_part bytes table form other_form opened other place s i k part other_part e
     cc
 
 -- what goes on after a path goes on from where it leads
-pub Leads-behind : (bytes : List ℕ) (table : Table) {place inner target : Place} {path more : List Selector} → Leads bytes table place path inner → Leads bytes table place (path ++ more) target → Leads bytes table inner more target
-Leads-behind bytes table here l = l
-Leads-behind bytes table {place = place} {target = target} {more = more} (into {s = s} {path = path} form opened i part f o index part_is rest) (into other_form other k other_part g p index' other_is l) =
+pub Leads-after : (bytes : List ℕ) (table : Table) {place inner target : Place} {path more : List Selector} → Leads bytes table place path inner → Leads bytes table place (path ++ more) target → Leads bytes table inner more target
+Leads-after bytes table here l = l
+Leads-after bytes table {place = place} {target = target} {more = more} (into {s = s} {path = path} form opened i part f o index part_is rest) (into other_form other k other_part g p index' other_is l) =
     let same_form : form ≡ other_form = (let e : Some form ≡ Some other_form = sym f ∙ g in cc) in
     let same = same_part bytes table form other_form opened other place s i k part other_part same_form o p index index' part_is other_is in
-    Leads-behind bytes table rest (subst (λ (x : Place). Leads bytes table x (path ++ more) target) same l)
+    Leads-after bytes table rest (subst (λ (x : Place). Leads bytes table x (path ++ more) target) same l)
 
-not_behind_itself : (path : List Selector) → GoesBehind path path → ⊥
-not_behind_itself path g =
+not_after_itself : (path : List Selector) → GoesOnAfter path path → ⊥
+not_after_itself path g =
     let n : length path ≡ length (path ++ g.0 ∷ g.1) = ap length g.2 in
     absurd (omega (arith, length-append path (g.0 ∷ g.1)))
 
@@ -43,19 +43,19 @@ module _ (old new : List ℕ) (table : Table) (root : Root) (j : ℕ) (path : Li
   leads_then : Leads new table (item_of table root j) path inner
   leads_then = go (beside j path inner within leads)
     where
-      go : ((j ≡ j) × GoesBehind path path) ⊎ Leads new table (item_of table root j) path inner → Leads new table (item_of table root j) path inner
-      go (inl b) = absurd (not_behind_itself path b.1)
+      go : ((j ≡ j) × GoesOnAfter path path) ⊎ Leads new table (item_of table root j) path inner → Leads new table (item_of table root j) path inner
+      go (inl b) = absurd (not_after_itself path b.1)
       go (inr l) = l
 
   pub paths_kept : KeepsPaths old new table root
   paths_kept i other target less l = go (beside i other target less l)
     where
-      go : ((i ≡ j) × GoesBehind path other) ⊎ Leads new table (item_of table root i) other target → Leads new table (item_of table root i) other target
+      go : ((i ≡ j) × GoesOnAfter path other) ⊎ Leads new table (item_of table root i) other target → Leads new table (item_of table root i) other target
       go (inr k) = k
       go (inl b) =
           let from : Leads old table (item_of table root j) other target = subst (λ n. Leads old table (item_of table root n) other target) b.0 l in
           let more = b.1.0 ∷ b.1.1 in
-          let rest = Leads-behind old table {more = more} leads (subst (λ p. Leads old table (item_of table root j) p target) b.1.2 from) in
+          let rest = Leads-after old table {more = more} leads (subst (λ p. Leads old table (item_of table root j) p target) b.1.2 from) in
           let whole = Leads-append new table leads_then (inside more target rest) in
           subst (λ p. Leads new table (item_of table root i) p target) (sym b.1.2) (subst (λ n. Leads new table (item_of table root n) (path ++ more) target) (sym b.0) whole)
 
