@@ -1,20 +1,23 @@
 -- A write inside a live block, of which nothing else is known: the heap stays, and all beside it. And calls on a place, one after the other.
-use Rattle.std.proofs.Common.{◌≡◌, ◌≢◌, ℕ, ◌+◌, ◌-◌, ◌≤◌, ◌⊎◌, inl, inr, List, [], ◌∷◌, refl, sym, ◌∙◌, subst, arith}
+use Rattle.std.proofs.Common.{◌≡◌, ◌≢◌, ℕ, ◌+◌, ◌-◌, ◌≤◌, ◌⊎◌, inl, inr, List, [], ◌∷◌, refl, sym, ◌∙◌, subst, length, arith, ap}
 use Rattle.std.specs.List.{AllByRecursion}
-use Rattle.seg_spec.specs.Bytes.{word, ChangesOnly}
+use Rattle.seg_spec.specs.Bytes.{IsSame, word, ChangesOnly}
 use Rattle.seg_spec.specs.Types.{Table, size}
 use Rattle.seg_spec.specs.Value.{Value}
-use Rattle.seg_spec.specs.Heap.{Span, IsHeap, live, KeepsTiles}
+use Rattle.seg_spec.specs.Heap.{Gives, heap_start, Span, IsHeap, live, KeepsTiles}
 use Rattle.seg_spec.specs.Block.{IsBlock, IsInside, IsOwnable, KeepsBlock, KeepsHeader}
 use Rattle.seg_spec.specs.Reads.{Place}
 use Rattle.seg_spec.specs.Sound.{times, positions}
 use Rattle.seg_spec.specs.Roots.{ChangesPlace}
 use Rattle.seg_spec.proofs.Frame.{word-same}
-use Rattle.seg_spec.proofs.LiveLaws.{times-same, there, live-once}
+use Rattle.seg_spec.proofs.LiveLaws.{LiesIn, live-lie, times-more, times-without, times-same, there, live-once}
 use Rattle.seg_spec.proofs.HeapFrame.{IsHeap-kept, live-kept, IsOwnable-kept}
 use Rattle.seg_spec.proofs.WriteInside.{tiles_kept, low_kept, KeptBut, live_kept_but}
 use Rattle.seg_spec.proofs.Composing.{around_twice, around_kept}
-use Rattle.seg_spec.proofs.Standing.{Frames}
+use Rattle.seg_spec.specs.Owing.{KeepsLinked}
+use Rattle.seg_spec.proofs.Giving.{given_kept}
+use Rattle.seg_spec.proofs.KeptLaws.{front_kept}
+use Rattle.seg_spec.proofs.Standing.{each_live_at, live_at, ownable_linked, Frames}
 
 module _ (allocator : ℕ) (old new : List ℕ) (table : Table) (g at m : ℕ) (heap : IsHeap allocator old) (changes : ChangesOnly old new at m) (inside : IsInside old g at m) (g_live : 1 ≤ times g (positions (live old))) where
   tiles : KeepsTiles old new
@@ -99,3 +102,27 @@ changes_twice allocator a b c table place v w xs ys gone spans more same heap x 
   live_are = λ h. omega (arith, x.live_are h, y.live_are h);
   kept = λ h some none. around_twice a b c place.at (size table place.type) h (x.kept h some none) (y.kept h (omega (arith, x.live_are h)) (omega (arith, x.live_are h, live-once b allocator heap h)));
 }
+
+-- ---- a block is given back
+
+module _ (allocator : ℕ) (old new : List ℕ) (table : Table) (g : ℕ) (heap : IsHeap allocator old) (gives : Gives allocator old new g) (g_live : 1 ≤ times g (positions (live old))) where
+  pub given_counts : (h : ℕ) → times h (g ∷ positions (live new)) ≡ times h (positions (live old))
+  given_counts h = ap (λ bs. times h (g ∷ positions bs)) gives.given ∙ times-without h g (live old) g_live
+
+  pub given_linked : (h : ℕ) → 1 ≤ times h (positions (live old)) → h ≢ g → KeepsLinked old new h
+  given_linked h some other = given_kept allocator old new g heap gives h some other
+
+  pub given_ownable : AllByRecursion (λ b. IsOwnable old table b.at) (live old) → AllByRecursion (λ b. IsOwnable new table b.at) (live new)
+  given_ownable o = each_live_at (IsOwnable new table) (live new) (λ h some.
+      let was : 1 ≤ times h (positions (live old)) = omega (arith, given_counts h, times-more h g (positions (live new))) in
+      ownable_linked old new table h (given_linked h was (not_it h some)) (live_at (IsOwnable old table) (live old) h o was))
+    where
+      not_it : (h : ℕ) → 1 ≤ times h (positions (live new)) → h ≢ g
+      not_it h some e =
+          let one : 1 ≤ times g (positions (live new)) = subst (λ x. 1 ≤ times x (positions (live new))) e some in
+          omega (arith, given_counts g, times-same g (positions (live new)), live-once old allocator heap g)
+
+  pub given_front : IsSame old new 0 24 × IsSame old new 28 676
+  given_front =
+      let l = there (LiesIn old heap_start (length old)) g (positions (live old)) (live-lie old allocator heap) g_live in
+      front_kept old new gives.kept (omega (arith, l.low, l.high))

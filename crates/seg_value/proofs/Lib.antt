@@ -17,3 +17,5 @@ pub mod Pointers
 pub mod Runs
 pub mod Inside
 pub mod Between
+pub mod Header
+pub mod Named

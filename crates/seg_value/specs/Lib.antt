@@ -4,5 +4,6 @@ pub mod Places
 pub mod Search
 pub mod Buffers
 pub mod Entries
+pub mod Names
 pub mod Waiting
 pub mod Pointers

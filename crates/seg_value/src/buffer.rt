@@ -18,6 +18,7 @@ ghost use Rattle.seg_block.specs.Blocks.{IsSized};
 ghost use Rattle.seg_block.specs.Tags.{word_of};
 ghost use Rattle.seg_value.specs.Buffers.{NamesBuffer, HasSizedBuffer};
 ghost use Rattle.seg_value.specs.Contents.{IsContent, GivesBlock};
+ghost use Rattle.seg_value.specs.Names.{index_cell, FindsNames, EmptiesIndex};
 ghost use Rattle.seg_value.specs.Places.{place_of, object_at as place_at};
 
 use crate::content::{Content, Shape};
@@ -187,7 +188,7 @@ impl<F: Fit, A: Allocator> Heap<F, A> {
         let kept = self.count(cell);
         self.shift_entries(content.entry, old, new, kept);
         self.window.point(cell as usize, Some(new));
-        F::free(&mut self.window, block_of(old));
+        self.free_block(old);
     }
 
     /// Cuts the buffer of a string, a vector or a flat map to what it uses. An empty one gives it up.
@@ -227,11 +228,15 @@ impl<F: Fit, A: Allocator> Heap<F, A> {
             count_at self.old.window.bytes cell ≡ 0 →
             (others : List ℕ) × ShrinksPlace self.old.window.bytes self.new.window.bytes
             self.old.types (place_at cell T) form v blocks others }
+        ensures empties { cell ≡ index_cell →
+            FindsNames F.allocator self.old.window.bytes self.old.types →
+            count_at self.old.window.bytes cell ≡ 0 →
+            EmptiesIndex self.old.window.bytes self.new.window.bytes self.old.types }
     {
         let Some(start) = self.window.target(cell as usize) else {
             return;
         };
         self.window.point(cell as usize, None);
-        F::free(&mut self.window, block_of(start));
+        self.free_block(start);
     }
 }

@@ -34,6 +34,7 @@ pub struct Content {
 
 impl Content {
     ghost use Rattle.seg_value.specs.Contents.{IsContent, ContentOf, OfBlock, kind_of_shape};
+    ghost use Rattle.seg_value.specs.Names.{IsIndexBuffer};
 
     /// What the cell of a type names. None for types whose values name nothing themselves, numbers and structs, and for
     /// those that the table lacks.
@@ -65,7 +66,9 @@ impl Content {
     }
 
     /// The buffer of the flat index: entries of 8 bytes that begin with a pointer to a named object.
-    pub fn index_buffer() -> Content {
+    pub fn index_buffer() -> Content
+        ensures { IsIndexBuffer result }
+    {
         Content {
             shape: Shape::Buffer,
             tag: Tag {

@@ -9,6 +9,7 @@ ghost use Rattle.seg_spec.specs.Spending.{PlaceBlocks};
 ghost use Rattle.seg_spec.specs.Value.{Values, Map};
 ghost use Rattle.seg_spec.specs.Window.{KeepsHost};
 ghost use Rattle.seg_value.specs.Entries.{NamesFlatMap, OpensEntry, flat_asks, flat_value};
+ghost use Rattle.seg_value.specs.Names.{index_cell, IsIndexBuffer, FindsNames, ClosesName};
 ghost use Rattle.seg_value.specs.Places.{object_at as place_at};
 
 use crate::content::Content;
@@ -64,6 +65,10 @@ impl<F: Fit, A: Allocator> Heap<F, A> {
             ChangesPlace self.old.window.bytes self.new.window.bytes self.old.types
             (place_at cell T) (without_entry (keys, vs) index) blocks (live self.old.window.bytes)
             blocks blocks }
+        ensures closes_name { IsIndexBuffer content.now → cell ≡ index_cell →
+            FindsNames F.allocator self.old.window.bytes self.old.types →
+            index < count_at self.old.window.bytes cell →
+            ClosesName self.old.window.bytes self.new.window.bytes self.old.types index }
     {
         let entry = content.entry;
         let last = self.count(cell).saturating_sub(1);

@@ -34,5 +34,5 @@ returns-clause-moves g c = λ T u before v blocks names s t two fits.
     let pointed = bytes_of c.point-2.new.self (with_bytes c.self-2.inside.window (set_pointer c.self-2.inside.window.bytes c.args.cell (Some c.tagged-new.result))) c.point-2.ensures
     ∙ ap (λ b. set_pointer b c.args.cell (Some c.tagged-new.result)) there in
     next_buffer g.F.Fit.allocator before taken.bytes marked.bytes c.args.self.now.types c.args.cell T v blocks c.args.content.now names s u c.args.block c.tagged-new.result t two fits
-    marked_by c.tagged-new.ensures.payload c.in-Some.old c.count-kept.result moved.bytes c.point-2.new.self.bytes c.free.new.w.bytes some c.count-kept.ensures
-    c.shift_entries.ensures.text (rw c.tagged-new.ensures.types at c.shift_entries.ensures.shifted) pointed (rw c.block_of.ensures at c.free.ensures.gives)
+    marked_by c.tagged-new.ensures.payload c.in-Some.old c.count-kept.result moved.bytes c.point-2.new.self.bytes c.free_block.new.self.window.bytes some c.count-kept.ensures
+    c.shift_entries.ensures.text (rw c.tagged-new.ensures.types at c.shift_entries.ensures.shifted) pointed c.free_block.ensures.gives

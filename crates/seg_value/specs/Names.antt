@@ -1,0 +1,88 @@
+-- The buffer of the flat index, as calls on it find and leave it.
+--     index_cell                          where the index's cell stands
+--     IsIndexBuffer content               entries of 8 bytes that begin with a pointer
+--     name_entry bytes i                  the position of an entry
+--     FindsNames allocator bytes table    the heap is in order, and the cell names a buffer of entries
+--     ChangesIndex old new table spans    nothing changed but the cell and its buffer
+--     IsSameEntry old new from to         an entry is what another one was
+--     ClosesName old new table index      the entry at an index is gone
+--     EmptiesIndex old new table          the buffer is gone
+use Rattle.std.specs.Prelude.{◌≡◌, ℕ, ◌+◌, ◌*◌, ◌%◌, ◌<◌, ◌≤◌, List, length, Some, None}
+use Rattle.std.specs.List.{AllByRecursion}
+use Rattle.seg_spec.specs.Bytes.{word, IsSame, slice}
+use Rattle.seg_spec.specs.Pointer.{target}
+use Rattle.seg_spec.specs.Types.{Table}
+use Rattle.seg_spec.specs.Heap.{Span, IsHeap, live}
+use Rattle.seg_spec.specs.Block as block
+use Rattle.seg_spec.specs.Block.{tag_of, IsOwnable, KeepsBlock}
+use Rattle.seg_spec.specs.Demand.{after_gives}
+use Rattle.seg_spec.specs.Reads.{count_at, named, start, NamesRoom}
+use Rattle.seg_spec.specs.Sound.{times, positions}
+use Rattle.seg_block.specs.Tags.{word_of}
+use Rattle.seg_value.specs.declared.content.Content.{Content}
+use Rattle.seg_value.specs.declared.content.Shape.TheVariants as shape
+use Rattle.seg_value.specs.declared.entry.Held.TheVariants as held
+
+-- where the index's cell stands
+abbrev pub index_cell : ℕ
+index_cell = 32
+
+-- a buffer of entries of 8 bytes, each with a pointer to an object that it doesn't own
+pub record IsIndexBuffer (content : Content) : Type 0 where
+  pub shape_is : content.shape ≡ shape.Buffer
+  pub tag_is : word_of content.tag ≡ tag_of block.Kind.index_buffer 0
+  pub size_is : content.entry.size ≡ 8
+  pub before_is : content.entry.before ≡ 0
+  pub held_is : content.entry.held ≡ held.Pointer
+
+-- the position of an entry
+abbrev pub name_entry : List ℕ → ℕ → ℕ
+name_entry bytes i = start bytes index_cell + i * 8
+
+-- what calls on the index find: the heap is in order, and the index's cell names nothing and counts nothing, or names a
+-- live block with room for its entries; what an entry names isn't the byte after its pointer
+pub record FindsNames (allocator : ℕ) (bytes : List ℕ) (table : Table) : Type 0 where
+  pub heap : IsHeap allocator bytes
+  pub allocator_is : word bytes 16 ≡ allocator
+  pub ownable : AllByRecursion (λ b. IsOwnable bytes table b.at) (live bytes)
+  pub room : NamesRoom bytes index_cell (tag_of block.Kind.index_buffer 0) 8
+  pub is_live : (h : ℕ) → 1 ≤ times h (named bytes index_cell) →
+      1 ≤ times h (positions (live bytes))
+  pub aligned : (i t : ℕ) → i < count_at bytes index_cell →
+      target bytes (name_entry bytes i) ≡ Some t → t % 8 ≡ 0
+
+-- only the index's cell and its buffer changed; the live blocks are these now, and all others are kept
+pub record ChangesIndex (old new : List ℕ) (table : Table) (spans : List Span) : Type 0 where
+  pub length_kept : length new ≡ length old
+  pub front_kept : IsSame old new 0 24
+  pub middle_kept : IsSame old new 28 4
+  pub back_kept : IsSame old new 40 664
+  pub heap : IsHeap (word old 16) new
+  pub ownable : AllByRecursion (λ b. IsOwnable new table b.at) (live new)
+  pub live_is : live new ≡ spans
+  pub live_are : (h : ℕ) →
+      times h (positions (live new)) + times h (named old index_cell)
+      ≡ times h (positions (live old)) + times h (named new index_cell)
+  pub kept : (h : ℕ) → 1 ≤ times h (positions (live old)) → times h (named old index_cell) ≡ 0 →
+      KeepsBlock old new h
+  pub room : NamesRoom new index_cell (tag_of block.Kind.index_buffer 0) 8
+
+-- an entry names what the other one named, with the same bytes after its pointer
+abbrev pub IsSameEntry : List ℕ → List ℕ → ℕ → ℕ → Type 0
+IsSameEntry old new from to =
+    (target new to ≡ target old from) × (slice new (to + 4) 4 ≡ slice old (from + 4) 4)
+
+-- the entry at an index is gone, and those after it stand one before
+pub record ClosesName (old new : List ℕ) (table : Table) (index : ℕ) : Type 0 where
+  pub changes : ChangesIndex old new table (live old)
+  pub counted : count_at old index_cell ≡ count_at new index_cell + 1
+  pub before : (i : ℕ) → i < index →
+      IsSameEntry old new (name_entry old i) (name_entry new i)
+  pub after : (i : ℕ) → index ≤ i → i < count_at new index_cell →
+      IsSameEntry old new (name_entry old (i + 1)) (name_entry new i)
+
+-- the index names no buffer any more, and has no entries
+pub record EmptiesIndex (old new : List ℕ) (table : Table) : Type 0 where
+  pub changes : ChangesIndex old new table (after_gives (live old) (named old index_cell))
+  pub names_none : target new index_cell ≡ None
+  pub counts_none : count_at new index_cell ≡ 0
