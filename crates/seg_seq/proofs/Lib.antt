@@ -1,1 +1,6 @@
 mod Lasting
+mod Rooms
+mod Counting
+mod TextSteps
+mod TooMuch
+mod TextCalls
