@@ -4,3 +4,5 @@ mod Counting
 mod TextSteps
 mod TooMuch
 mod TextCalls
+mod Items
+mod ItemAdded
