@@ -6,3 +6,4 @@ mod TooMuch
 mod TextCalls
 mod Items
 mod ItemAdded
+mod ItemCalls

@@ -10,8 +10,9 @@
 --     MakesRoom ..        a string keeps its first bytes, and has as many more as the caller writes
 --     PushesBack ..       a default item joined the others, and stands at the position
 --     PopsBack ..         the last item went, with the blocks that it owned
---     is_ordered form, is_counted form            values of this form have items or bytes in an order;
---                                                 they count something
+--     item_type form                              the type of the items of a vector or a list
+--     is_countless form, is_unordered form        values of this form have no count; they count
+--                                                 what has no order of its own
 use Rattle.std.specs.Prelude.{◌≡◌, ℕ, ◌+◌, ◌-◌, ◌≤◌, Bool, true, false, List, [], ◌∷◌, ◌++◌, length, take, Option, Some, None, Result, Ok, Err, MatchResult}
 use Rattle.seg_spec.specs.Types.{Form, form_at, size}
 use Rattle.seg_spec.specs.Value.{Value, Values, nil, cons, Text, Seq, count, append, default_of, Selector}
@@ -39,12 +40,24 @@ pub record HasItems (allocator : ℕ) (heap : Stored) (place : Place) (U : ℕ) 
   pub form_is : form_at heap.types place.type ≡ Some (Form.vec U)
   pub stands : Stands allocator heap.window.bytes heap.types place (Seq vs) blocks
 
--- values of this form have items, or bytes, in an order
-abbrev pub is_ordered : Option Form → Bool
-is_ordered (Some Form.str) = true
-is_ordered (Some (Form.vec U)) = true
-is_ordered (Some (Form.list U)) = true
-is_ordered _ = false
+-- the type of the items of a vector or a list
+abbrev pub item_type : Option Form → Option ℕ
+item_type (Some (Form.vec U)) = Some U
+item_type (Some (Form.list U)) = Some U
+item_type _ = None
+
+-- values of this form have no count
+abbrev pub is_countless : Option Form → Bool
+is_countless None = true
+is_countless (Some Form.i64) = true
+is_countless (Some (Form.struct Us)) = true
+is_countless _ = false
+
+-- values of this form count what has no order of its own
+abbrev pub is_unordered : Option Form → Bool
+is_unordered (Some (Form.map U)) = true
+is_unordered (Some (Form.own U)) = true
+is_unordered _ = false
 
 -- ---- what they leave
 
