@@ -27,7 +27,7 @@ use Rattle.seg_seq.proofs.Counting as counting
 use Rattle.seg_seq.proofs.Rooms.{block_again, its, Reaches, reaches}
 use Rattle.seg_seq.proofs.Items.{one_more, how_many, leads_to_item}
 
-same_items : (vs ws : Values) → Seq vs ≡ Seq ws → vs ≡ ws
+pub same_items : (vs ws : Values) → Seq vs ≡ Seq ws → vs ≡ ws
 same_items vs ws e = cc
 
 module _ (allocator : ℕ) (bytes : List ℕ) (table : Table) (place : Place) (U : ℕ) (vs : Values) (blocks : List ℕ) (f : form_at table place.type ≡ Some (Form.vec U)) (s : Stands allocator bytes table place (Seq vs) blocks) where

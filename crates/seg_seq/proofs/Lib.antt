@@ -7,3 +7,4 @@ mod TextCalls
 mod Items
 mod ItemAdded
 mod ItemCalls
+mod ItemRemoved
