@@ -20,10 +20,11 @@ use Rattle.seg_value.specs.Stored.{Stored}
 use Rattle.seg_value.specs.Contents.{ContentOf}
 use Rattle.seg_value.specs.Buffers.{NamesBuffer}
 use Rattle.seg_value.specs.declared.content.Content.{Content}
+use Rattle.seg_value.specs.declared.entry.Held.TheVariants.{Bytes}
 use Rattle.seg_seq.specs.Sequences.{HasText, LacksRoom, ComesToHold, MakesRoom, Rewrites, text_asks}
 use Rattle.seg_seq.proofs.Rooms.{reaches, text_counts}
 use Rattle.seg_seq.proofs.TooMuch.{too_much}
-use Rattle.seg_seq.proofs.TextSteps.{names, room_made, text_written}
+use Rattle.seg_seq.proofs.TextSteps.{names, room_made, text_written, byte_removed}
 
 -- a result by its case
 pub on_err : {A : Type 0} (P : A → Type 0) (Q : Code → Type 0) (r : Result A Code) (e : Code) → r ≡ Err e → Q e → MatchResult r P Q
@@ -119,3 +120,15 @@ module _ (allocator : ℕ) (old : Stored) (place : Place) (xs blocks : List ℕ)
 pub one_byte : (bytes : List ℕ) (at x : ℕ) → x < 256 → set_byte bytes at x ≡ put bytes at (x ∷ [])
 unfolding set_number
 one_byte bytes at x small = let same : x % 256 ≡ x = omega arith in ap (λ y. put bytes at (y ∷ [])) same
+
+-- what a string's buffer holds
+pub text_entry : (table : Table) (T : ℕ) (content : Content) → form_at table T ≡ Some Form.str → NamesBuffer table T content → content.entry.held ≡ Bytes
+text_entry table T content f n = let c = rw f at n.0 in c.held_is
+
+-- the last byte goes
+pub byte_popped : (allocator : ℕ) (old new : Stored) (place : Place) (xs blocks : List ℕ) → HasText allocator old place xs blocks → (n : ℕ) → length xs ≡ n + 1 → new.window.bytes ≡ set_word old.window.bytes (place.at + 4) n
+    → ComesToHold allocator old new place (Text (take n xs)) [] [] blocks
+byte_popped allocator old new place xs blocks t n more new_is = record {
+  others = blocks;
+  succeeds = byte_removed allocator old.window.bytes old.types place xs blocks t.form_is t.stands n more new.window.bytes new_is;
+}

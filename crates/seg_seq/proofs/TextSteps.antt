@@ -23,7 +23,9 @@ use Rattle.seg_spec.proofs.TypesLaws.{size_large}
 use Rattle.seg_spec.proofs.PointerLaws.{target-same}
 use Rattle.seg_spec.proofs.Frame.{cell-target, cell-count}
 use Rattle.seg_spec.proofs.Writing.{set_number-changes}
-use Rattle.seg_spec.proofs.Standing.{stands_after, same_place}
+use Rattle.seg_spec.proofs.CellSteps.{ChangesOnly-none}
+use Rattle.seg_spec.proofs.PlaceSteps.{changes_place}
+use Rattle.seg_spec.proofs.Standing.{stands_after}
 use Rattle.seg_spec.proofs.Buffered.{holds_buffered}
 use Rattle.seg_seq.proofs.Lasting.{Leaves, begun, ended}
 use Rattle.seg_seq.proofs.Counting.{count_leaves, count_names, count_is, count_kept, count_header, inner_leaves, inner_names, inner_count, inner_header}
@@ -203,4 +205,49 @@ module _ (allocator : ℕ) (old mid : List ℕ) (table : Table) (place : Place) 
       go (inl some) None e =
           let none = none_counted allocator mid table place Form.str (Text ys) others f refl u e in
           let known = text_counts allocator mid table place ys others f u in
+          absurd (omega arith)
+
+-- ---- the last byte goes
+
+module _ (allocator : ℕ) (old : List ℕ) (table : Table) (place : Place) (xs blocks : List ℕ) (f : form_at table place.type ≡ Some Form.str) (s : Stands allocator old table place (Text xs) blocks)
+    (n : ℕ) (more : length xs ≡ n + 1) (new : List ℕ) (new_is : new ≡ set_word old (place.at + 4) n) where
+  still : Leaves allocator old old table place blocks blocks (live old)
+  still = begun allocator old old table place (Text xs) (Text xs) blocks blocks (live old) s
+      (changes_place allocator old table place (Text xs) blocks s old (ChangesOnly-none old place.at (size table place.type)) (Text xs) blocks blocks s.holds_it)
+
+  known : length xs ≡ count_at old place.at
+  known = text_counts allocator old table place xs blocks f s
+
+  cut_at : (p : ℕ) → target old place.at ≡ Some p → Succeeds allocator old new table place (Text (take n xs)) [] [] blocks blocks
+  cut_at p is =
+      let g = reaches allocator old table place Form.str (Text xs) blocks f refl s p is in
+      let room = g.block_is.room in
+      let k = known in
+      let small : n < 2 ^ 32 = let h = s.heap.small in omega (arith, g.high) in
+      let names = count_names allocator old old table s.is_table place blocks blocks (live old) still n small new new_is in
+      let counts = count_is allocator old old table s.is_table place blocks blocks (live old) still n small new new_is in
+      let header = count_header allocator old old table s.is_table place blocks blocks (live old) still n small new new_is (block_of p) g.mine in
+      let kept = count_kept allocator old old table s.is_table place blocks blocks (live old) still n small new new_is (block_of p) g.mine in
+      let now : start new place.at ≡ p = rw (names, is) refl in
+      let was : start old place.at ≡ p = rw is refl in
+      let same : IsSame old new p n = IsSame-part old new (block_of p + 16) (payload_size old (block_of p)) p n (omega (arith, g.low)) (omega (arith, g.low)) kept.payload in
+      let text : xs ≡ slice old p (count_at old place.at) = rw was at (text_is allocator old table place xs blocks f s) in
+      let all : take n xs ≡ slice new (start new place.at) (count_at new place.at) =
+      ap (take n) text ∙ take_slice old p n (count_at old place.at) (omega arith) ∙ sym same ∙ sym (ap (λ a. slice new a (count_at new place.at)) now ∙ ap (slice new p) counts) in
+      record {
+        left = live old;
+        left_is = refl;
+        changes = ended allocator old new table place blocks blocks (live old) (count_leaves allocator old old table s.is_table place blocks blocks (live old) still n small new new_is) (Text (take n xs))
+            (holds_text old new table place blocks (take n xs) f (text_owns allocator old table place xs blocks f s) names
+            (rw (names, is) (block_again old new p (tag_of Kind.buffer place.type) (count_at old place.at * 1) (count_at new place.at * 1) header (rw counts (omega arith)) g.block_is)) all);
+      }
+
+  pub byte_removed : Succeeds allocator old new table place (Text (take n xs)) [] [] blocks blocks
+  byte_removed = go (target old place.at) refl
+    where
+      go : (o : Option ℕ) → target old place.at ≡ o → Succeeds allocator old new table place (Text (take n xs)) [] [] blocks blocks
+      go (Some p) e = cut_at p e
+      go None e =
+          let none = none_counted allocator old table place Form.str (Text xs) blocks f refl s e in
+          let k = known in
           absurd (omega arith)

@@ -2,6 +2,7 @@
 --     HasText allocator heap place xs blocks      a string stands there, with this text
 --     HasItems allocator heap place U vs blocks   a vector stands there, with these items
 --     Declines code old new result                the call returned a code, and nothing changed
+--     HasNone old new n code                      of n there was none to take, and nothing changed
 --     ComesToHold allocator old new place w asks gives blocks
 --         a place holds w, after requests that were granted; these blocks of it went back
 --     LacksRoom allocator old new asks code       one of the requests got nothing, and nothing changed
@@ -24,7 +25,7 @@ use Rattle.seg_spec.specs.Items.{without_last}
 use Rattle.seg_spec.specs.Owning.{Stands}
 use Rattle.seg_spec.specs.Spending.{buffer_asks, PartBlocks}
 use Rattle.seg_raw.specs.declared.code.Code.{Code}
-use Rattle.seg_raw.specs.declared.code.Code.TheVariants.{BadAlloc}
+use Rattle.seg_raw.specs.declared.code.Code.TheVariants.{BadAlloc, Null}
 use Rattle.seg_value.specs.Stored.{Stored}
 
 -- ---- what calls find
@@ -65,6 +66,12 @@ is_unordered _ = false
 pub record Declines {A : Type 0} (code : Code) (old new : Stored) (result : Result A Code) :
     Type 0 where
   pub result_is : result ≡ Err code
+  pub same : new.window ≡ old.window
+
+-- of n there was none to take, and nothing changed
+pub record HasNone (old new : Stored) (n : ℕ) (code : Code) : Type 0 where
+  pub code_is : code ≡ Null
+  pub none : n ≡ 0
   pub same : new.window ≡ old.window
 
 -- one of the requests got nothing, and nothing changed

@@ -1,10 +1,11 @@
-ghost use Rattle.std.specs.Prelude.{◌≡◌, ℕ, ◌↔◌, List, Some, None, true, false, IsTrue, MatchResult};
+ghost use Rattle.std.specs.Prelude.{◌≡◌, ℕ, ◌+◌, ◌-◌, ◌≤◌, ◌↔◌, List, [], length, take, Some, None, true, false, IsTrue, MatchResult};
+ghost use Rattle.seg_spec.specs.Reads.{count_at};
 ghost use Rattle.seg_spec.specs.Types.{Form, form_at};
-ghost use Rattle.seg_spec.specs.Value.{Values};
+ghost use Rattle.seg_spec.specs.Value.{Values, count, Text};
 ghost use Rattle.seg_spec.specs.Window.{KeepsHost};
 ghost use Rattle.seg_value.specs.Buffers.{NamesBuffer};
 ghost use Rattle.seg_value.specs.Places.{place_of, object_at};
-ghost use Rattle.seg_seq.specs.Sequences.{HasItems, item_type, Declines, LacksRoom, push_asks, PushesBack};
+ghost use Rattle.seg_seq.specs.Sequences.{HasText, HasItems, item_type, is_countless, is_unordered, Declines, HasNone, ComesToHold, LacksRoom, push_asks, PushesBack, PopsBack};
 
 use crate::list::{item_of, push_node, remove_node};
 use crate::ring::{Way, neighbour, node_at};
@@ -95,6 +96,24 @@ fn push_entry<F: Fit, A: Allocator>(
 pub fn pop_back<F: Fit, A: Allocator>(heap: &mut Heap<F, A>, sequence: Place) -> Result<(), Code>
     ensures window { KeepsHost heap.old.window heap.new.window }
     ensures types { heap.new.types ≡ heap.old.types }
+    ensures text { (xs blocks : List ℕ) →
+        HasText F.allocator heap.old (place_of sequence) xs blocks →
+        MatchResult result
+        (λ done. ComesToHold F.allocator heap.old heap.new (place_of sequence)
+        (Text (take (length xs - 1) xs)) [] [] blocks)
+        (HasNone heap.old heap.new (length xs)) }
+    ensures vector { (U : ℕ) (vs : Values) (blocks : List ℕ) →
+        HasItems F.allocator heap.old (place_of sequence) U vs blocks →
+        MatchResult result
+        (λ done. PopsBack F.allocator heap.old heap.new (place_of sequence) vs blocks)
+        (HasNone heap.old heap.new (count vs)) }
+    ensures none { is_countless (form_at heap.old.types sequence.type_id) ≡ false →
+        count_at heap.old.window.bytes sequence.at ≡ 0 → Declines Code.Null heap.old heap.new result }
+    ensures other { is_countless (form_at heap.old.types sequence.type_id) ≡ true →
+        Declines Code.OtherType heap.old heap.new result }
+    ensures unordered { is_unordered (form_at heap.old.types sequence.type_id) ≡ true →
+        1 ≤ count_at heap.old.window.bytes sequence.at →
+        Declines Code.OtherType heap.old heap.new result }
 {
     let content = heap.content(sequence.type_id).ok_or(Code::OtherType)?;
     let last = heap.count(sequence.at).checked_sub(1).ok_or(Code::Null)?;
@@ -113,6 +132,14 @@ pub fn pop_back<F: Fit, A: Allocator>(heap: &mut Heap<F, A>, sequence: Place) ->
 fn pop_entry<F: Fit, A: Allocator>(heap: &mut Heap<F, A>, content: &Content, cell: u32, last: u32)
     ensures window { KeepsHost heap.old.window heap.new.window }
     ensures types { heap.new.types ≡ heap.old.types }
+    ensures text { (T : ℕ) (xs blocks : List ℕ) → NamesBuffer heap.old.types T content.now →
+        HasText F.allocator heap.old (object_at cell T) xs blocks → length xs ≡ last + 1 →
+        ComesToHold F.allocator heap.old heap.new (object_at cell T) (Text (take last xs)) [] []
+        blocks }
+    ensures vector { (T U : ℕ) (vs : Values) (blocks : List ℕ) →
+        NamesBuffer heap.old.types T content.now →
+        HasItems F.allocator heap.old (object_at cell T) U vs blocks → count vs ≡ last + 1 →
+        PopsBack F.allocator heap.old heap.new (object_at cell T) vs blocks }
 {
     if let Some(item) = content.entry.value(heap.start(cell), last) {
         heap.clear(item);
