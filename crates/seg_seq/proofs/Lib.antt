@@ -1,0 +1,10 @@
+mod Lasting
+mod Rooms
+mod Counting
+mod TextSteps
+mod TooMuch
+mod TextCalls
+mod Items
+mod ItemAdded
+mod ItemCalls
+mod ItemRemoved
