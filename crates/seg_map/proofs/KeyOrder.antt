@@ -1,5 +1,5 @@
 -- Nodes in ascending order of numbers: what a search finds among them, and one more or one less of them.
-use Rattle.std.proofs.Common.{◌≡◌, ◌≢◌, ℕ, zero, suc, ◌+◌, ◌<◌, ◌≤◌, Bool, true, false, cond, ltb, not, ◌&&◌, ℤ, ◌<ℤ◌, pos, List, [], ◌∷◌, ◌++◌, ◌⊎◌, inl, inr, length, map, take, drop, Option, Some, None, MatchOption, option_map, refl, sym, ap, ◌∙◌, subst, arith}
+use Rattle.std.proofs.Common.{◌≡◌, ◌≢◌, ℕ, zero, suc, ◌+◌, ◌<◌, ◌≤◌, Bool, true, false, cond, ltb, not, ◌&&◌, ℤ, ◌<ℤ◌, pos, List, [], ◌∷◌, ◌++◌, ◌⊎◌, inl, inr, length, map, take, drop, Option, Some, None, MatchOption, option_map, refl, sym, ap, ◌∙◌, subst, arith, zero-add}
 use Rattle.std.specs.Prelude.{int_lt, slice_get, filter, insert, remove, position, count_by, eqb}
 use Rattle.std.specs.List.{prefix_len}
 use Rattle.std.specs.List.{AllByRecursion}
@@ -8,6 +8,7 @@ use Rattle.std.specs.Cmp.{int_cmp_is, int_ranks, int_cmp_total}
 use Rattle.std.specs.declared.cmp.Ordering.{Ordering}
 use Rattle.std.specs.declared.cmp.Ordering.TheVariants.{Less, Equal, Greater}
 use Rattle.std.proofs.lemmas.Bool.Decides.{nat_tests}
+use Rattle.std.proofs.lemmas.List.Sums.{sum_by-cons}
 use Rattle.seg_spec.specs.Value.{IsAscending, same_int}
 use Rattle.seg_spec.specs.Items.{key_place, keys_below}
 use Rattle.seg_spec.specs.Search.{Ascend, first_where, reaches}
@@ -226,3 +227,112 @@ module _ (f : ℕ → ℤ) where
           → option_map f (cond b (Some x) (first_where (λ y. reaches Greater (int_cmp (f y) k)) xs)) ≡ first_of (cond (int_lt k (f x)) (f x ∷ keys_above (map f xs) k) (keys_above (map f xs) k))
       go true e h = ap (λ b. first_of (cond b (f x ∷ keys_above (map f xs) k) (keys_above (map f xs) k))) (sym e ∙ above_test k x)
       go false e h = h ∙ ap (λ b. first_of (cond b (f x ∷ keys_above (map f xs) k) (keys_above (map f xs) k))) (sym e ∙ above_test k x)
+
+  -- ---- one more, and one less
+
+  -- how many numbers are below one
+  below_one : (k : ℤ) (x : ℤ) (xs : List ℤ) → keys_below (x ∷ xs) k ≡ cond (int_lt x k) 1 0 + keys_below xs k
+  below_one k x xs = sum_by-cons (λ y. cond (int_lt y k) 1 0) x xs
+
+  below_front : (k : ℤ) (front back : List ℕ) → Before k front → AllByRecursion (λ x. int_lt (f x) k ≡ false) back → keys_below (map f (front ++ back)) k ≡ length front
+  below_front k [] [] h b = refl
+  below_front k [] (x ∷ xs) h b = below_one k (f x) (map f xs) ∙ ap (λ t. cond t 1 0 + keys_below (map f xs) k) b.0 ∙ zero-add (keys_below (map f xs) k) ∙ below_front k [] xs tt b.1
+  below_front k (x ∷ front) back h b =
+      let rest = below_front k front back h.1 b in
+      below_one k (f x) (map f (front ++ back)) ∙ ap (λ t. cond t 1 0 + keys_below (map f (front ++ back)) k) (less_tests (f x) k h.0).0 ∙ ap (λ n. 1 + n) rest ∙ one_more (length front)
+    where
+      one_more : (n : ℕ) → 1 + n ≡ suc n
+      one_more n = omega arith
+
+  taken : (front back : List ℤ) → take (length front) (front ++ back) ≡ front
+  taken [] back = refl
+  taken (x ∷ xs) back = ap (λ ys. x ∷ ys) (taken xs back)
+
+  dropped : (front back : List ℤ) → drop (length front) (front ++ back) ≡ back
+  dropped [] back = refl
+  dropped (x ∷ xs) back = dropped xs back
+
+  map_parts : (xs ys : List ℕ) → map f (xs ++ ys) ≡ map f xs ++ map f ys
+  map_parts [] ys = refl
+  map_parts (x ∷ xs) ys = ap (λ zs. f x ∷ zs) (map_parts xs ys)
+
+  map_long : (xs : List ℕ) → length (map f xs) ≡ length xs
+  map_long [] = refl
+  map_long (x ∷ xs) = ap suc (map_long xs)
+
+  behind_tests : (k : ℤ) (back : List ℕ) → Behind k back → AllByRecursion (λ x. int_lt (f x) k ≡ false) back
+  behind_tests k back h = each_weaker _ _ (λ x e. (greater_tests (f x) k e).0) back h
+
+  inserted_at : (xs front back : List ℤ) (k : ℤ) (n : ℕ) → xs ≡ front ++ back → n ≡ length front → insert xs n k ≡ front ++ k ∷ back
+  inserted_at xs front back k n e m = ap (λ ys. insert ys n k) e ∙ ap (λ i. insert (front ++ back) i k) m ∙ ap (λ ys. ys ++ k ∷ drop (length front) (front ++ back)) (taken front back) ∙ ap (λ ys. front ++ k ∷ ys) (dropped front back)
+
+  -- the numbers with one more
+  pub more_keys : (k : ℤ) (node : ℕ) (front back : List ℕ) → f node ≡ k → Before k front → Behind k back
+      → insert (map f (front ++ back)) (keys_below (map f (front ++ back)) k) k ≡ map f (front ++ node ∷ back)
+  more_keys k node front back e low high =
+      inserted_at (map f (front ++ back)) (map f front) (map f back) k (keys_below (map f (front ++ back)) k) (map_parts front back) (below_front k front back low (behind_tests k back high) ∙ sym (map_long front))
+      ∙ ap (λ n. map f front ++ n ∷ map f back) (sym e) ∙ sym (map_parts front (node ∷ back))
+
+  pub place_of_more : (k : ℤ) (front back : List ℕ) → Before k front → Behind k back → keys_below (map f (front ++ back)) k ≡ length front
+  place_of_more k front back low high = below_front k front back low (behind_tests k back high)
+
+  -- where a node comes among the others
+  comes_here : (node : ℕ) (back : List ℕ) → Behind (f node) back → with_node by node back ≡ node ∷ back
+  comes_here node [] h = refl
+  comes_here node (x ∷ xs) h = let e : is_lt (int_cmp (f node) (f x)) ≡ true = ap is_lt (less_of_greater (f x) (f node) h.0) in rw e refl
+
+  pub comes_between : (node : ℕ) (front back : List ℕ) → Before (f node) front → Behind (f node) back → with_node by node (front ++ back) ≡ front ++ node ∷ back
+  comes_between node [] back low high = comes_here node back high
+  comes_between node (x ∷ front) back low high =
+      let rest = comes_between node front back low.1 high in
+      let e : is_lt (int_cmp (f node) (f x)) ≡ false = ap is_lt (int_cmp_total.antisymm (f node) (f x) ∙ ap ordering_reverse low.0) in
+      rw e (ap (λ ys. x ∷ ys) rest)
+
+  ascend_before : (node : ℕ) (front back : List ℕ) → Ascend by (front ++ back) → Before (f node) front → Behind (f node) back → Ascend by (front ++ node ∷ back)
+  ascend_before node [] back a low high = (each_weaker _ _ (λ x e. less_of_greater (f x) (f node) e) back high, a)
+  ascend_before node (x ∷ front) back a low high =
+      (each_joined_with x node front back low.0 a.0, ascend_before node front back a.1 low.1 high)
+    where
+      each_joined_with : (x node : ℕ) (front back : List ℕ) → by x node ≡ Less → AllByRecursion (λ y. by x y ≡ Less) (front ++ back) → AllByRecursion (λ y. by x y ≡ Less) (front ++ node ∷ back)
+      each_joined_with x node [] back e h = (e, h)
+      each_joined_with x node (y ∷ front) back e h = (h.0, each_joined_with x node front back e h.1)
+
+  -- the numbers still ascend
+  pub ascends_with : (node : ℕ) (front back : List ℕ) → Ascend by (front ++ back) → Before (f node) front → Behind (f node) back → IsAscending (map f (front ++ node ∷ back))
+  ascends_with node front back a low high = ascending_of (front ++ node ∷ back) (ascend_before node front back a low high)
+
+  ascend_less : (node : ℕ) (front back : List ℕ) → Ascend by (front ++ node ∷ back) → Ascend by (front ++ back)
+  ascend_less node [] back a = a.1
+  ascend_less node (x ∷ front) back a = (each_less x node front back a.0, ascend_less node front back a.1)
+    where
+      each_less : (x node : ℕ) (front back : List ℕ) → AllByRecursion (λ y. by x y ≡ Less) (front ++ node ∷ back) → AllByRecursion (λ y. by x y ≡ Less) (front ++ back)
+      each_less x node [] back h = h.1
+      each_less x node (y ∷ front) back h = (h.0, each_less x node front back h.1)
+
+  pub ascends_without : (node : ℕ) (front back : List ℕ) → Ascend by (front ++ node ∷ back) → IsAscending (map f (front ++ back))
+  ascends_without node front back a = ascending_of (front ++ back) (ascend_less node front back a)
+
+  removed_at : (xs front back : List ℤ) (k : ℤ) (n : ℕ) → xs ≡ front ++ k ∷ back → n ≡ length front → remove xs n ≡ front ++ back
+  removed_at xs front back k n e m = ap (λ ys. remove ys n) e ∙ ap (λ i. remove (front ++ k ∷ back) i) m ∙ ap (λ ys. ys ++ drop (suc (length front)) (front ++ k ∷ back)) (taken front (k ∷ back)) ∙ ap (λ ys. front ++ ys) (past_one front back)
+    where
+      past_one : (front back : List ℤ) → drop (suc (length front)) (front ++ k ∷ back) ≡ back
+      past_one [] back = refl
+      past_one (x ∷ xs) back = past_one xs back
+
+  -- the numbers with one less
+  pub fewer_keys : (node : ℕ) (front back : List ℕ) → remove (map f (front ++ node ∷ back)) (length front) ≡ map f (front ++ back)
+  fewer_keys node front back = removed_at (map f (front ++ node ∷ back)) (map f front) (map f back) (f node) (length front) (map_parts front (node ∷ back)) (sym (map_long front)) ∙ sym (map_parts front back)
+
+  differ_before : (k : ℤ) (node : ℕ) (front : List ℕ) → int_cmp (f node) k ≡ Equal → Before k front → AllByRecursion (λ x. node ≢ x) front
+  differ_before k node front e h = each_weaker _ _ (λ x l same. let both : Less ≡ Equal = sym l ∙ ap (λ y. int_cmp (f y) k) (sym same) ∙ e in absurd (cc)) front h
+
+  goes_from : (node : ℕ) (front back : List ℕ) → AllByRecursion (λ x. node ≢ x) front → without_node node (front ++ node ∷ back) ≡ front ++ back
+  goes_from node [] back h = let same : eqb node node ≡ true = grind (arith, nat_tests) in rw same refl
+  goes_from node (x ∷ front) back h =
+      let ne = h.0 in
+      let other : eqb node x ≡ false = grind (arith, nat_tests) in
+      let rest = goes_from node front back h.1 in
+      rw other (ap (λ ys. x ∷ ys) rest)
+
+  pub goes_between : (k : ℤ) (node : ℕ) (front back : List ℕ) → int_cmp (f node) k ≡ Equal → Before k front → without_node node (front ++ node ∷ back) ≡ front ++ back
+  goes_between k node front back e h = goes_from node front back (differ_before k node front e h)
