@@ -1,3 +1,5 @@
 pub mod KeyOrder
 pub mod TreeMaps
 pub mod SeveralWrites
+pub mod Relinking
+pub mod Rebuilding
