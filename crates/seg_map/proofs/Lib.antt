@@ -3,3 +3,4 @@ pub mod TreeMaps
 pub mod SeveralWrites
 pub mod Relinking
 pub mod Rebuilding
+pub mod Entering
