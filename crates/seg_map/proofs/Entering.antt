@@ -72,7 +72,7 @@ pub record Entered (allocator : ℕ) (old new : List ℕ) (table : Table) (T U n
   pub spent_is : spent allocator (live old) (length old) (block_for (24 + size table U) ∷ []) [] ≡ Some (live new)
 
 module _ (allocator : ℕ) (old mid new : List ℕ) (table : Table) (T U node : ℕ) (key : ℤ) (valid : IsTable table) (f : form_at table T ≡ Some (Form.map U)) (ownable : AllByRecursion (λ b. IsOwnable old table b.at) (live old)) (start : heap_start ≤ length old)
-    (g : GivesBlock allocator old mid table (tag_of Kind.node T) 24 U node) (now_live : times (block_of node) (positions (live mid)) ≡ 1)
+    (g : GivesBlock allocator old mid table (tag_of Kind.node T) 24 U node)
     (stored : ChangesOnly mid new (node + 16) 8) (key_is : signed_long new (node + 16) ≡ key) where
   more : OneMore (live old) (block_for (24 + size table U)) allocator (length old) (live mid)
   more = one_more allocator (length old) (need (24 + size table U)) (live old) (live mid) g.granted_is
@@ -82,13 +82,13 @@ module _ (allocator : ℕ) (old mid new : List ℕ) (table : Table) (T U node : 
     where
       go : (more.at ≡ block_of node) ⊎ (more.at ≢ block_of node) → more.at ≡ block_of node
       go (inl e) = e
-      go (inr ne) = absurd (let c = more.counts (block_of node) in let o = times-other (block_of node) more.at (positions (live old)) ne in let free = g.was_free in omega arith)
+      go (inr ne) = absurd (let c = more.counts (block_of node) in let o = times-other (block_of node) more.at (positions (live old)) ne in let free = g.was_free in let one = g.now_live in omega arith)
 
   mid_counts : (h : ℕ) → times h (positions (live mid)) ≡ times h (block_of node ∷ positions (live old))
   mid_counts h = more.counts h ∙ ap (λ a. times h (a ∷ positions (live old))) at_is
 
   own_live : 1 ≤ times (block_of node) (positions (live mid))
-  own_live = omega (arith, now_live)
+  own_live = let one = g.now_live in omega arith
 
   ranges : List Range
   ranges = record { at = node + 16; n = 8; block = block_of node } ∷ []

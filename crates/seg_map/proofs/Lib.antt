@@ -4,3 +4,4 @@ pub mod SeveralWrites
 pub mod Relinking
 pub mod Rebuilding
 pub mod Entering
+pub mod Adding

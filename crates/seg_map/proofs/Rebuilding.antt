@@ -3,11 +3,14 @@ use Rattle.std.proofs.Common.{◌≡◌, ℕ, zero, suc, ◌+◌, ℤ, List, [],
 use Rattle.std.specs.List.{AllByRecursion}
 use Rattle.seg_spec.specs.Pointer.{target}
 use Rattle.seg_spec.specs.Types.{Form, Table, form_at, size}
-use Rattle.seg_spec.specs.Value.{Label, Value, Values, nil, cons, append, count, Map, IsAscending}
-use Rattle.seg_spec.specs.Items.{insert_nth, remove_nth}
+use Rattle.seg_spec.specs.Value.{Label, Selector, Value, Values, nil, cons, append, count, Map, IsAscending}
+use Rattle.seg_spec.specs.Items.{key_place, insert_nth, remove_nth}
 use Rattle.seg_spec.specs.Block.{Kind, tag_of, block_of}
 use Rattle.seg_spec.specs.Shapes.{Tree, nodes_of, IsTree, IsRedBlack}
-use Rattle.seg_spec.specs.Reads.{Place, Opened, count_at, keys_at, places_of, AreNodes, Opens, OpensTree, Holds, holds, HoldsEach, holds_none, holds_more}
+use Rattle.seg_spec.specs.Reads.{Place, Opened, count_at, keys_at, places_of, AreNodes, Opens, OpensTree, Holds, holds, HoldsEach, holds_none, holds_more, Leads, here, into}
+use Rattle.std.specs.Prelude.{slice_get}
+use Rattle.seg_map.specs.Maps.{value_of}
+use Rattle.seg_map.proofs.TreeMaps.{mapped_at}
 
 -- where the values of nodes stand
 abbrev pub value_places : ℕ → List ℕ → List Place
@@ -78,3 +81,11 @@ module _ (bytes : List ℕ) (table : Table) where
       let opened : Opened = record { label = Label.map (keys_at bytes (map (λ p. p + 16) (nodes_of tree))); blocks = map block_of (nodes_of tree); parts = value_places U (nodes_of tree) } in
       let o : OpensTree bytes table place.at (tag_of Kind.node place.type) U opened = record { tree = tree; is_tree = t; red_black = b; counted = c; are_nodes = n; ascending = subst IsAscending k a; opened_is = refl } in
       holds {place = place} (Form.map U) opened vs owned f o h (ap (λ ks. Map ks vs) k) refl
+
+  pub map_leads : (place : Place) (U : ℕ) (tree : Tree) → form_at table place.type ≡ Some (Form.map U) → IsTree bytes (target bytes place.at) tree → IsRedBlack tree
+      → length (nodes_of tree) ≡ count_at bytes place.at → AreNodes bytes (tag_of Kind.node place.type) (24 + size table U) (nodes_of tree) → IsAscending (keys_at bytes (map (λ p. p + 16) (nodes_of tree)))
+      → (key : ℤ) (i node : ℕ) → key_place (keys_at bytes (map (λ p. p + 16) (nodes_of tree))) key ≡ Some i → slice_get (nodes_of tree) i ≡ Some node → Leads bytes table place (Selector.key key ∷ []) (value_of U (node + 24))
+  map_leads place U tree f t b c n a key i node e at =
+      let opened : Opened = record { label = Label.map (keys_at bytes (map (λ p. p + 16) (nodes_of tree))); blocks = map block_of (nodes_of tree); parts = value_places U (nodes_of tree) } in
+      let o : OpensTree bytes table place.at (tag_of Kind.node place.type) U opened = record { tree = tree; is_tree = t; red_black = b; counted = c; are_nodes = n; ascending = a; opened_is = refl } in
+      into (Form.map U) opened i (value_of U (node + 24)) f o e (mapped_at (value_of U) (map (λ p. p + 24) (nodes_of tree)) i (node + 24) (mapped_at (λ p. p + 24) (nodes_of tree) i node at)) here

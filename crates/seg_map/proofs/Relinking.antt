@@ -50,7 +50,7 @@ pub record Remade (allocator : ℕ) (mid new : List ℕ) (cell home n : ℕ) (to
   pub nodes_are : nodes_of tree ≡ now
   pub count_is : count_at new cell ≡ n
 
-module _ (allocator : ℕ) (mid three new : List ℕ) (cell home n : ℕ) (touched now : List ℕ) (heap : IsHeap allocator mid) (l : Leaves mid three cell touched now) (new_is : new ≡ set_word three (cell + 4) n) (small : n < 2 ^ 32)
+module _ (allocator : ℕ) (mid three new : List ℕ) (cell home n : ℕ) (touched now : List ℕ) (heap : IsHeap allocator mid) (l : Leaves mid three cell touched now) (new_is : new ≡ set_word three (cell + 4) n)
     (home_in : IsInside mid home cell 8) (home_live : 1 ≤ times home (positions (live mid))) (each : AllByRecursion (IsTouched mid home) touched) (among : (P : ℕ → Type 0) → AllByRecursion P touched → AllByRecursion P now) where
   lies : (h : ℕ) → 1 ≤ times h (positions (live mid)) → LiesIn mid heap_start (length mid) h
   lies h some = there (LiesIn mid heap_start (length mid)) h (positions (live mid)) (live-lie mid allocator heap) some
@@ -123,8 +123,8 @@ module _ (allocator : ℕ) (mid three new : List ℕ) (cell home n : ℕ) (touch
       go q (inl a) = inr (omega arith)
       go q (inr a) = inl (omega arith)
 
-  pub remade : Remade allocator mid new cell home n touched now
-  remade = record {
+  pub remade : n < 2 ^ 32 → Remade allocator mid new cell home n touched now
+  remade small = record {
     length_kept = long;
     low = λ p m f. low_same mid new allocator heap (written cell home touched) writable long beside p m f;
     heap = heap_same mid new allocator heap (written cell home touched) writable long beside;

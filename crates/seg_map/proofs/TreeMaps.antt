@@ -122,7 +122,7 @@ few_live allocator bytes heap = few_in (tiles bytes) heap_start (length bytes) h
 
 -- ---- where calls find a map
 
-mapped_at : {X Y : Type 0} (g : X → Y) (xs : List X) (i : ℕ) (x : X) → slice_get xs i ≡ Some x → slice_get (map g xs) i ≡ Some (g x)
+pub mapped_at : {X Y : Type 0} (g : X → Y) (xs : List X) (i : ℕ) (x : X) → slice_get xs i ≡ Some x → slice_get (map g xs) i ≡ Some (g x)
 mapped_at g [] i x e = cc
 mapped_at g (y ∷ xs) zero x e = let same : y ≡ x = cc in ap (λ z. Some (g z)) same
 mapped_at g (y ∷ xs) (suc i) x e = mapped_at g xs i x e
@@ -167,7 +167,7 @@ module _ (allocator : ℕ) (bytes : List ℕ) (table : Table) (place : Place) (U
   pub ascend : Ascend (λ x y. int_cmp (key_at bytes x) (key_at bytes y)) nodes
   ascend = ascend_of (key_at bytes) nodes (subst IsAscending (keys_low bytes nodes low) its.opens.ascending)
 
-  few_nodes : heap_start + 32 * length nodes ≤ length bytes
+  pub few_nodes : heap_start + 32 * length nodes ≤ length bytes
   few_nodes =
       let n = no_more (map block_of nodes) (positions (live bytes)) (λ h. let o = s.owned h in let m = times-more h s.home blocks in let e : times h blocks ≡ times h (map block_of nodes ++ its.owned) = ap (times h) its.blocks_are in
       let k = times-append h (map block_of nodes) its.owned in omega arith) in
