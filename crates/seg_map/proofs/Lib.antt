@@ -5,3 +5,4 @@ pub mod Relinking
 pub mod Rebuilding
 pub mod Entering
 pub mod Adding
+pub mod Putting
