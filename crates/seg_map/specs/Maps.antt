@@ -1,0 +1,81 @@
+-- Calls on maps of both kinds.
+--     first_of keys                 the first of keys, if there is one
+--     keys_above keys after         those above another, in their order
+--     value_of U at                 the place of a value of type U
+--     WhereMap form allocator bytes table cell claim     the claim holds of each map of this form at a cell
+--     FindsValue bytes table map U keys key found     where the value of a key stands: nowhere exactly where
+--                                                     the map doesn't have the key
+--     AddsKey, PutsKey              a key came to a map; what putting a key leaves
+--     TakesKey, RemovesKey          a key went from a map; what removing a key leaves
+use Rattle.std.specs.Prelude.{◌≡◌, ℕ, Bool, true, false, ℤ, int_lt, List, [], ◌∷◌, filter, slice_get, Option, Some, None, MatchOption, Result, MatchResult}
+use Rattle.seg_spec.specs.Types.{Form, Table, form_at}
+use Rattle.seg_spec.specs.Value.{Values, Map, Selector, default_of}
+use Rattle.seg_spec.specs.Items.{key_place, with_entry, without_entry}
+use Rattle.seg_spec.specs.Reads.{Place, Leads}
+use Rattle.seg_spec.specs.Calls.{Refuses}
+use Rattle.seg_spec.specs.Demand.{Ask}
+use Rattle.seg_spec.specs.Spending.{PartBlocks}
+use Rattle.seg_spec.specs.Growing.{Succeeds}
+use Rattle.seg_spec.specs.Owning.{Stands}
+use Rattle.seg_value.specs.Places.{object_at}
+
+-- the first of keys, if there is one
+abbrev pub first_of : List ℤ → Option ℤ
+first_of keys = slice_get keys 0
+
+-- those above another, in their order
+abbrev pub keys_above : List ℤ → ℤ → List ℤ
+keys_above keys after = filter (λ x. int_lt after x) keys
+
+-- the place of a value of type U
+abbrev pub value_of : ℕ → ℕ → Place
+value_of U at = record { at = at; type = U }
+
+-- the claim holds of each map of this form that calls find at a cell: of its type and that of its
+-- values, its keys and values, and the blocks that it owns
+abbrev pub WhereMap : (ℕ → Form) → ℕ → List ℕ → Table → ℕ
+    → (ℕ → ℕ → List ℤ → Values → List ℕ → Type 0) → Type 0
+WhereMap form allocator bytes table cell claim =
+    (T U : ℕ) (keys : List ℤ) (vs : Values) (blocks : List ℕ) → form_at table T ≡ Some (form U)
+    → Stands allocator bytes table (object_at cell T) (Map keys vs) blocks
+    → claim T U keys vs blocks
+
+-- where the value of a key stands: nowhere exactly where the map doesn't have the key
+abbrev pub FindsValue : List ℕ → Table → Place → ℕ → List ℤ → ℤ → Option ℕ → Type 0
+FindsValue bytes table map U keys key found = MatchOption found (key_place keys key ≡ None)
+    (λ p. Leads bytes table map (Selector.key key ∷ []) (value_of U p))
+
+-- a map has one more key, with the default of a value, which stands at p
+pub record AddsKey (allocator : ℕ) (old new : List ℕ) (table : Table) (map : Place) (U : ℕ)
+    (keys : List ℤ) (vs : Values) (key : ℤ) (blocks : List ℕ) (asks : List Ask)
+    (p : ℕ) : Type 0 where
+  pub others : List ℕ
+  pub succeeds : Succeeds allocator old new table map
+      (with_entry (keys, vs) key (default_of table U)) asks [] blocks others
+  pub stands_at : Leads new table map (Selector.key key ∷ []) (value_of U p)
+
+-- what putting a key leaves, by its place among the map's keys: nothing changes where it has one
+abbrev pub PutsKey : {E : Type 0} → ℕ → List ℕ → List ℕ → Table → Place → ℕ → List ℤ → Values → ℤ
+    → List ℕ → List Ask → Option ℕ → Result ℕ E → Type 0
+PutsKey allocator old new table map U keys vs key blocks asks None result = MatchResult result
+    (AddsKey allocator old new table map U keys vs key blocks asks)
+    (λ code. Refuses allocator old new asks)
+PutsKey allocator old new table map U keys vs key blocks asks (Some i) result = MatchResult result
+    (λ p. (new ≡ old) × Leads old table map (Selector.key key ∷ []) (value_of U p))
+    (λ code. ⊥)
+
+-- a map lost the key at a place among its keys, with its value
+pub record TakesKey (allocator : ℕ) (old new : List ℕ) (table : Table) (map : Place)
+    (keys : List ℤ) (vs : Values) (blocks : List ℕ) (i : ℕ) : Type 0 where
+  pub gives : List ℕ
+  pub part : PartBlocks old table map i gives
+  pub others : List ℕ
+  pub succeeds : Succeeds allocator old new table map (without_entry (keys, vs) i) [] gives
+      blocks others
+
+-- what removing a key leaves, by its place among the map's keys: nothing changes where it has none
+abbrev pub RemovesKey : ℕ → List ℕ → List ℕ → Table → Place → List ℤ → Values → List ℕ → Option ℕ
+    → Bool → Type 0
+RemovesKey allocator old new table map keys vs blocks None gone = (gone ≡ false) × (new ≡ old)
+RemovesKey allocator old new table map keys vs blocks (Some i) gone =
+    (gone ≡ true) × TakesKey allocator old new table map keys vs blocks i
