@@ -37,12 +37,13 @@ on_ok P Q r a is p = subst (λ x. MatchResult x P Q) (sym is) p
 pub record NamesText (table : Table) (T : ℕ) (content : Content) : Type 0 where
   pub names : NamesBuffer table T content
   pub size_is : content.entry.size ≡ 1
+  pub before_is : content.entry.before ≡ 0
 
 pub names_text : (table : Table) (T : ℕ) (content : Content) (o : Option Content) → form_at table T ≡ Some Form.str → ContentOf table T (form_at table T) o → o ≡ Some content → NamesText table T content
 names_text table T content o f c is =
     let known : ContentOf table T (form_at table T) (Some content) = subst (ContentOf table T (form_at table T)) is c in
     let text = rw f at known in
-    record { names = (known, text.shape_is); size_is = text.size_is }
+    record { names = (known, text.shape_is); size_is = text.size_is; before_is = text.before_is }
 
 -- no buffer has so much room
 no_such_room : (allocator : ℕ) (mid : List ℕ) (table : Table) (place : Place) (xs blocks : List ℕ) (n : ℕ) → form_at table place.type ≡ Some Form.str → Stands allocator mid table place (Text xs) blocks → HasRoomFor mid place.at n → n ≤ 2 ^ 30

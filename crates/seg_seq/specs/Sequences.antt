@@ -11,10 +11,14 @@
 --     MakesRoom ..        a string keeps its first bytes, and has as many more as the caller writes
 --     PushesBack ..       a default item joined the others, and stands at the position
 --     PopsBack ..         the last item went, with the blocks that it owned
+--     IsPast index n code                         of n there is none at the index
+--     ShowsByte heap place xs index p             the byte of a text at an index stands there
+--     ShowsItem heap place U index p              the item of a vector or a list at an index does
 --     item_type form                              the type of the items of a vector or a list
 --     is_countless form, is_unordered form        values of this form have no count; they count
 --                                                 what has no order of its own
-use Rattle.std.specs.Prelude.{◌≡◌, ℕ, ◌+◌, ◌-◌, ◌≤◌, Bool, true, false, List, [], ◌∷◌, ◌++◌, length, take, Option, Some, None, Result, Ok, Err, MatchResult}
+use Rattle.std.specs.Prelude.{◌≡◌, ℕ, ◌+◌, ◌-◌, ◌<◌, ◌≤◌, Bool, true, false, List, [], ◌∷◌, ◌++◌, length, take, slice_index, Option, Some, None, Result, Ok, Err, MatchResult}
+use Rattle.seg_spec.specs.Bytes.{byte}
 use Rattle.seg_spec.specs.Types.{Form, form_at, size}
 use Rattle.seg_spec.specs.Value.{Value, Values, nil, cons, Text, Seq, count, append, default_of, Selector}
 use Rattle.seg_spec.specs.Reads.{Place, count_at, start, Leads}
@@ -25,7 +29,7 @@ use Rattle.seg_spec.specs.Items.{without_last}
 use Rattle.seg_spec.specs.Owning.{Stands}
 use Rattle.seg_spec.specs.Spending.{buffer_asks, PartBlocks}
 use Rattle.seg_raw.specs.declared.code.Code.{Code}
-use Rattle.seg_raw.specs.declared.code.Code.TheVariants.{BadAlloc, Null}
+use Rattle.seg_raw.specs.declared.code.Code.TheVariants.{BadAlloc, Null, OutOfRange}
 use Rattle.seg_value.specs.Stored.{Stored}
 
 -- ---- what calls find
@@ -129,3 +133,21 @@ pub record PopsBack (allocator : ℕ) (old new : Stored) (place : Place) (vs : V
   pub gives : List ℕ
   pub its : PartBlocks old.window.bytes old.types place (count vs - 1) gives
   pub holds_it : ComesToHold allocator old new place (Seq (without_last vs)) [] gives blocks
+
+-- ---- what they find
+
+-- of n there is none at the index
+pub record IsPast (index n : ℕ) (code : Code) : Type 0 where
+  pub code_is : code ≡ OutOfRange
+  pub past : n ≤ index
+
+-- the byte of a text at an index stands at the position p
+pub record ShowsByte (heap : Stored) (place : Place) (xs : List ℕ) (index p : ℕ) : Type 0 where
+  pub below : index < length xs
+  pub at_is : p ≡ start heap.window.bytes place.at + index
+  pub byte_is : byte heap.window.bytes p ≡ slice_index xs index
+
+-- the item at an index stands at the position p
+abbrev pub ShowsItem : Stored → Place → ℕ → ℕ → ℕ → Type 0
+ShowsItem heap place U index p =
+    Leads heap.window.bytes heap.types place (Selector.item index ∷ []) (record { at = p; type = U })
