@@ -1,9 +1,9 @@
 -- Where the bytes of a string and the items of a vector stand.
-use Rattle.std.proofs.Common.{◌≡◌, ℕ, ◌+◌, ◌-◌, ◌*◌, ◌%◌, ◌^◌, ◌<◌, ◌≤◌, List, [], ◌∷◌, length, take, drop, get_or, Option, Some, None, refl, sym, ap, ◌∙◌, subst, arith, drop-cons}
+use Rattle.std.proofs.Common.{◌≡◌, ℕ, ◌+◌, ◌*◌, ◌%◌, ◌^◌, ◌<◌, ◌≤◌, List, length, take, get_or, Option, Some, None, refl, sym, ap, ◌∙◌, arith, drop-cons}
 use Rattle.seg_spec.specs.Bytes.{byte, slice, spelled}
 use Rattle.seg_spec.specs.Pointer.{target}
-use Rattle.seg_spec.specs.Types.{Form, form_at, size}
-use Rattle.seg_spec.specs.Value.{Values, count, Seq, Text}
+use Rattle.seg_spec.specs.Types.{Form, size}
+use Rattle.seg_spec.specs.Value.{Values, Seq, Text}
 use Rattle.seg_spec.specs.Reads.{Place, count_at, start}
 use Rattle.seg_spec.proofs.BytesLaws.{number_in, number-slice}
 use Rattle.seg_spec.proofs.SliceLaws.{slice-slice}
@@ -40,7 +40,8 @@ module _ (allocator : ℕ) (heap : Stored) (place : Place) (xs blocks : List ℕ
   at_there =
       let fits = start_fits in
       let small = t.stands.heap.small in
-      item_at first index each before (start heap.window.bytes place.at) index 1 at first_is refl each_is before_is at_is (omega arith) ∙ (let e : start heap.window.bytes place.at + index * 1 ≡ start heap.window.bytes place.at + index = omega arith in e)
+      let alone : start heap.window.bytes place.at + index * 1 ≡ start heap.window.bytes place.at + index = omega arith in
+      item_at first index each before (start heap.window.bytes place.at) index 1 at first_is refl each_is before_is at_is (omega arith) ∙ alone
 
   pub shows_byte : ShowsByte heap place xs index at
   shows_byte =

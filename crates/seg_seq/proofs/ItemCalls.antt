@@ -1,9 +1,9 @@
 -- What the calls on vectors return, from what the calls below them return.
-use Rattle.std.proofs.Common.{◌≡◌, ℕ, ◌+◌, ◌-◌, ◌*◌, ◌%◌, ◌^◌, ◌<◌, ◌≤◌, min, List, [], ◌∷◌, length, Option, Some, refl, sym, ap, ◌∙◌, subst, arith}
+use Rattle.std.proofs.Common.{◌≡◌, ℕ, ◌+◌, ◌-◌, ◌*◌, ◌%◌, ◌^◌, ◌<◌, min, List, [], length, Option, Some, refl, sym, ap, ◌∙◌, subst, arith}
 use Rattle.seg_spec.specs.Bytes.{set_word, ChangesOnly}
 use Rattle.seg_spec.specs.Types.{Form, Table, IsTable, form_at, size}
 use Rattle.seg_spec.specs.Value.{Value, Values, count, Seq, default_of}
-use Rattle.seg_spec.specs.Reads.{Place, count_at, start, Holds}
+use Rattle.seg_spec.specs.Reads.{count_at, start, Holds}
 use Rattle.seg_spec.specs.Cells.{IsWithin}
 use Rattle.seg_spec.specs.Calls.{Refuses}
 use Rattle.seg_spec.specs.Growing.{Reserves}
@@ -12,7 +12,6 @@ use Rattle.seg_spec.specs.Demand.{after_gives}
 use Rattle.seg_spec.specs.Owning.{Stands}
 use Rattle.seg_spec.specs.Roots.{ChangesPlace}
 use Rattle.seg_spec.specs.Spending.{buffer_asks}
-use Rattle.seg_raw.specs.declared.code.Code.{Code}
 use Rattle.seg_raw.specs.declared.code.Code.TheVariants.{BadAlloc}
 use Rattle.seg_value.specs.Stored.{Stored}
 use Rattle.seg_value.specs.Places.{object_at}

@@ -16,11 +16,7 @@ use std::alloc::Allocator;
 
 /// The position of an item of a vector or a list, or of a byte of a string. `OtherType` where the place has no items,
 /// `OutOfRange` where there are not so many.
-pub fn at<F: Fit, A: Allocator>(
-    heap: &Heap<F, A>,
-    sequence: Place,
-    index: u32,
-) -> Result<u32, Code>
+pub fn at<F: Fit, A: Allocator>(heap: &Heap<F, A>, sequence: Place, index: u32) -> Result<u32, Code>
     ensures text { (xs blocks : List ℕ) →
         HasText F.allocator heap.now (place_of sequence) xs blocks →
         MatchResult result
@@ -123,7 +119,8 @@ pub fn pop_back<F: Fit, A: Allocator>(heap: &mut Heap<F, A>, sequence: Place) ->
         (λ done. PopsBack F.allocator heap.old heap.new (place_of sequence) vs blocks)
         (HasNone heap.old heap.new (count vs)) }
     ensures none { is_countless (form_at heap.old.types sequence.type_id) ≡ false →
-        count_at heap.old.window.bytes sequence.at ≡ 0 → Declines Code.Null heap.old heap.new result }
+        count_at heap.old.window.bytes sequence.at ≡ 0 →
+        Declines Code.Null heap.old heap.new result }
     ensures other { is_countless (form_at heap.old.types sequence.type_id) ≡ true →
         Declines Code.OtherType heap.old heap.new result }
     ensures unordered { is_unordered (form_at heap.old.types sequence.type_id) ≡ true →

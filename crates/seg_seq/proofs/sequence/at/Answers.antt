@@ -1,5 +1,4 @@
-use Rattle.std.proofs.Common.{rules, ◌≡◌, ◌≤◌, length, refl, ◌∙◌, sym, arith, Some}
-use Rattle.seg_spec.specs.Value.{count}
+use Rattle.std.proofs.Common.{rules, ◌≡◌, refl, arith, Some}
 use Rattle.seg_value.specs.Places.{place_of}
 use Rattle.seg_seq.proofs.TextCalls.{counted_all, names_text}
 use Rattle.seg_seq.proofs.ItemCalls.{items_counted, names_vector, vector_entry}
