@@ -3,8 +3,8 @@ use Rattle.std.proofs.Common.{◌≡◌, ◌≢◌, ℕ, ◌+◌, ◌-◌, ◌*�
 use Rattle.seg_spec.specs.Bytes.{set_word, IsSame, ChangesOnly}
 use Rattle.seg_spec.specs.Pointer.{target}
 use Rattle.seg_spec.specs.Types.{Table, IsTable, size}
-use Rattle.seg_spec.specs.Heap.{Span, units_at, live, heap_start}
-use Rattle.seg_spec.specs.Block.{block_of, IsInside, KeepsBlock, payload_size}
+use Rattle.seg_spec.specs.Heap.{Span, live, heap_start}
+use Rattle.seg_spec.specs.Block.{IsInside, KeepsBlock, payload_size}
 use Rattle.seg_spec.specs.Reads.{Place, count_at}
 use Rattle.seg_spec.specs.Sound.{times, positions}
 use Rattle.seg_spec.proofs.BytesLaws.{number-set_same}
@@ -13,7 +13,7 @@ use Rattle.seg_spec.proofs.TypesLaws.{size_large}
 use Rattle.seg_spec.proofs.Frame.{target-same, cell-target, cell-count}
 use Rattle.seg_spec.proofs.LiveLaws.{LiesIn, live-lie, there}
 use Rattle.seg_spec.proofs.Writing.{set_number-changes}
-use Rattle.seg_seq.proofs.Lasting.{Leaves, home_live, its_live, its_other, live_same, other_kept, header_same, written_inside, written_there}
+use Rattle.seg_seq.proofs.Lasting.{Leaves, home_live, its_live, its_other, other_kept, header_same, written_inside, written_there}
 
 module _ (allocator : ℕ) (old mid : List ℕ) (table : Table) (valid : IsTable table) (place : Place) (blocks others : List ℕ) (spans : List Span) (l : Leaves allocator old mid table place blocks others spans) where
   large : 8 ≤ size table place.type

@@ -1,27 +1,26 @@
 -- A vector that gets one item more, from what the steps leave.
-use Rattle.std.proofs.Common.{◌≡◌, ◌≢◌, ℕ, ◌+◌, ◌-◌, ◌*◌, ◌%◌, ◌^◌, ◌<◌, ◌≤◌, ◌⊎◌, inl, inr, true, List, [], ◌∷◌, ◌++◌, length, Option, Some, None, refl, sym, ap, ◌∙◌, subst, arith}
+use Rattle.std.proofs.Common.{◌≡◌, ℕ, ◌+◌, ◌*◌, ◌^◌, ◌<◌, ◌≤◌, inl, List, [], ◌∷◌, ◌++◌, Option, Some, None, refl, sym, ap, ◌∙◌, subst, arith}
 use Rattle.std.specs.Prelude.{option_map, option_to_list}
 use Rattle.std.specs.List.{AllByRecursion}
 use Rattle.std.proofs.lemmas.List.{append-nil}
 use Rattle.seg_spec.specs.Bytes.{set_word, IsSame, ChangesOnly}
 use Rattle.seg_spec.specs.Pointer.{target}
 use Rattle.seg_spec.specs.Types.{Form, Table, form_at, size}
-use Rattle.seg_spec.specs.Value.{Value, Values, nil, cons, count, append, Seq, default_of, Selector}
-use Rattle.seg_spec.specs.Heap.{live}
+use Rattle.seg_spec.specs.Value.{Values, nil, cons, count, append, Seq, default_of, Selector}
 use Rattle.seg_spec.specs.Block.{Kind, tag_of, block_of, IsInside, KeepsBlock, payload_size}
 use Rattle.seg_spec.specs.Reads.{Place, count_at, named, start, items, NamesRoom, Holds, HoldsEach, holds_none, Leads}
 use Rattle.seg_spec.specs.Cells.{IsWithin}
-use Rattle.seg_spec.specs.Sound.{times, positions}
+use Rattle.seg_spec.specs.Sound.{times}
 use Rattle.seg_spec.specs.Owning.{Stands}
 use Rattle.seg_spec.specs.Growing.{Succeeds, Reserves}
 use Rattle.seg_spec.specs.Demand.{Ask}
 use Rattle.seg_spec.proofs.SliceLaws.{IsSame-part, IsSame-trans}
 use Rattle.seg_spec.proofs.TypesLaws.{size_large}
-use Rattle.seg_spec.proofs.LiveLaws.{times-same, times-other, times-more, each_there, live-once}
+use Rattle.seg_spec.proofs.LiveLaws.{times-same, times-more, each_there, live-once}
 use Rattle.seg_spec.proofs.Composing.{kept_twice}
 use Rattle.seg_spec.proofs.Paths.{count_is, each_joined}
 use Rattle.seg_spec.proofs.Standing.{stands_after}
-use Rattle.seg_spec.proofs.Buffered.{HoldsEntries, holds_buffered, entries_kept}
+use Rattle.seg_spec.proofs.Buffered.{holds_buffered, entries_kept}
 use Rattle.seg_seq.proofs.Lasting.{Leaves, begun, ended}
 use Rattle.seg_seq.proofs.Counting as counting
 use Rattle.seg_seq.proofs.Rooms.{block_again, its, Reaches, reaches}
@@ -153,7 +152,8 @@ module _ (allocator : ℕ) (old mid : List ℕ) (table : Table) (place : Place) 
           ∙ counting.count_is allocator old mid table s.is_table place blocks r.others r.succeeds.left l (n + 1) small counted counted_is
 
       header_now : IsSame mid new (block_of p) 16
-      header_now = IsSame-trans mid counted new (block_of p) 16 header (counting.inner_header allocator old counted table s.is_table place blocks r.others r.succeeds.left lc new (block_of p) q (size table U) changes item_inside g.mine (block_of p) g.mine)
+      header_now = IsSame-trans mid counted new (block_of p) 16 header
+          (counting.inner_header allocator old counted table s.is_table place blocks r.others r.succeeds.left lc new (block_of p) q (size table U) changes item_inside g.mine (block_of p) g.mine)
 
       first_now : IsSame mid new p (n * size table U)
       first_now = IsSame-trans mid counted new p (n * size table U) kept_first (changes.others p (n * size table U) (inl (omega arith)))
@@ -174,7 +174,8 @@ module _ (allocator : ℕ) (old mid : List ℕ) (table : Table) (place : Place) 
 
       old_items : HoldsEach new table (items table p U n) vs e.owned
       old_items =
-          let was : HoldsEach mid table (items table p U n) vs e.owned = subst (λ k. HoldsEach mid table (items table p U k) vs e.owned) same_count (subst (λ a. HoldsEach mid table (items table a U (count_at mid place.at)) vs e.owned) was_there e.each) in
+          let was : HoldsEach mid table (items table p U n) vs e.owned = subst (λ k. HoldsEach mid table (items table p U k) vs e.owned) same_count
+          (subst (λ a. HoldsEach mid table (items table a U (count_at mid place.at)) vs e.owned) was_there e.each) in
           let k = entries_kept mid new table s.is_table (Form.vec U) p n (Seq vs) e.owned first_now owned_kept (vs, refl, was) in
           subst (λ ws. HoldsEach new table (items table p U n) ws e.owned) (sym (same_items vs k.0 k.1)) k.2
 

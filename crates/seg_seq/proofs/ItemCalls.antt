@@ -1,9 +1,9 @@
 -- What the calls on vectors return, from what the calls below them return.
-use Rattle.std.proofs.Common.{◌≡◌, ℕ, ◌+◌, ◌-◌, ◌*◌, ◌%◌, ◌^◌, ◌<◌, ◌≤◌, min, List, [], ◌∷◌, length, Option, Some, refl, sym, ap, ◌∙◌, subst, arith}
+use Rattle.std.proofs.Common.{◌≡◌, ℕ, ◌+◌, ◌-◌, ◌*◌, ◌%◌, ◌^◌, ◌<◌, min, List, [], length, Option, Some, refl, sym, ap, ◌∙◌, subst, arith}
 use Rattle.seg_spec.specs.Bytes.{set_word, ChangesOnly}
 use Rattle.seg_spec.specs.Types.{Form, Table, IsTable, form_at, size}
 use Rattle.seg_spec.specs.Value.{Value, Values, count, Seq, default_of}
-use Rattle.seg_spec.specs.Reads.{Place, count_at, start, Holds}
+use Rattle.seg_spec.specs.Reads.{count_at, start, Holds}
 use Rattle.seg_spec.specs.Cells.{IsWithin}
 use Rattle.seg_spec.specs.Calls.{Refuses}
 use Rattle.seg_spec.specs.Growing.{Reserves}
@@ -12,7 +12,6 @@ use Rattle.seg_spec.specs.Demand.{after_gives}
 use Rattle.seg_spec.specs.Owning.{Stands}
 use Rattle.seg_spec.specs.Roots.{ChangesPlace}
 use Rattle.seg_spec.specs.Spending.{buffer_asks}
-use Rattle.seg_raw.specs.declared.code.Code.{Code}
 use Rattle.seg_raw.specs.declared.code.Code.TheVariants.{BadAlloc}
 use Rattle.seg_value.specs.Stored.{Stored}
 use Rattle.seg_value.specs.Places.{object_at}
@@ -39,7 +38,7 @@ item_known : (table : Table) (T U : ℕ) → IsTable table → form_at table T �
 item_known table T U valid f = valid.forms T (Form.vec U) f
 
 -- the same position, computed modulo the word
-item_at : (first kept each before p n z at : ℕ) → first ≡ p → kept ≡ n → each ≡ z → before ≡ 0 → at ≡ (first + kept * each + before) % 2 ^ 32 → p + n * z < 2 ^ 32 → at ≡ p + n * z
+pub item_at : (first kept each before p n z at : ℕ) → first ≡ p → kept ≡ n → each ≡ z → before ≡ 0 → at ≡ (first + kept * each + before) % 2 ^ 32 → p + n * z < 2 ^ 32 → at ≡ p + n * z
 item_at first kept each before p n z at a b c d e l = let f : at ≡ (p + n * z + 0) % 2 ^ 32 = rw (a, b, c, d) at e in omega arith
 
 -- one option names one place

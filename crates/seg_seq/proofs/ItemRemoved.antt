@@ -1,12 +1,12 @@
 -- A vector that loses its last item, from what the steps leave.
-use Rattle.std.proofs.Common.{◌≡◌, ◌≢◌, ℕ, ◌+◌, ◌-◌, ◌*◌, ◌/◌, ◌%◌, ◌^◌, ◌<◌, ◌≤◌, ◌⊎◌, inl, inr, true, List, [], ◌∷◌, ◌++◌, length, Option, Some, None, refl, sym, ap, ◌∙◌, subst, arith}
+use Rattle.std.proofs.Common.{◌≡◌, ◌≢◌, ℕ, ◌+◌, ◌*◌, ◌/◌, ◌%◌, ◌^◌, ◌<◌, ◌≤◌, ◌⊎◌, inl, inr, List, [], ◌∷◌, ◌++◌, length, Option, Some, None, refl, sym, ap, ◌∙◌, subst, arith}
 use Rattle.std.specs.Prelude.{option_map, option_to_list}
 use Rattle.std.specs.List.{AllByRecursion}
 use Rattle.std.proofs.lemmas.Bool.{cases_eq}
-use Rattle.seg_spec.specs.Bytes.{word, set_word, IsSame, ChangesOnly}
+use Rattle.seg_spec.specs.Bytes.{set_word, IsSame}
 use Rattle.seg_spec.specs.Pointer.{target}
 use Rattle.seg_spec.specs.Types.{Form, Table, form_at, size}
-use Rattle.seg_spec.specs.Value.{Value, Values, nil, cons, count, append, Seq, default_of}
+use Rattle.seg_spec.specs.Value.{Values, Seq, default_of}
 use Rattle.seg_spec.specs.Items.{without_last}
 use Rattle.seg_spec.specs.Heap.{units_at, IsHeap, live, heap_start}
 use Rattle.seg_spec.specs.Block.{Kind, tag_of, block_of, IsBlock, IsInside, KeepsBlock, payload_size}
@@ -25,7 +25,6 @@ use Rattle.seg_spec.proofs.Frame.{cell-target}
 use Rattle.seg_spec.proofs.LiveLaws.{times-same, times-other, times-more, times-append, there, each_there, live-once, LiesIn, live-lie, live-apart, OneOrApart}
 use Rattle.seg_spec.proofs.Composing.{kept_twice, around_kept}
 use Rattle.seg_spec.proofs.PlaceSteps.{home_live}
-use Rattle.seg_spec.proofs.Standing.{Frames}
 use Rattle.seg_spec.proofs.Buffered.{holds_buffered, entries_kept}
 use Rattle.seg_seq.proofs.Lasting.{Leaves, ended}
 use Rattle.seg_seq.proofs.Counting as counting

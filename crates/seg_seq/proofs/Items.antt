@@ -2,12 +2,11 @@
 use Rattle.std.proofs.Common.{◌≡◌, ℕ, zero, suc, ◌+◌, ◌-◌, ◌*◌, ◌<◌, ◌≤◌, List, [], ◌∷◌, ◌++◌, length, Some, refl, sym, ap, ◌∙◌, subst, arith}
 use Rattle.std.specs.Prelude.{slice_get}
 use Rattle.std.proofs.lemmas.List.{append-nil}
-use Rattle.seg_spec.specs.Types.{Form, Table, IsTable, form_at, size}
-use Rattle.seg_spec.specs.Value.{Label, Value, Values, nil, cons, count, append, Seq, Selector}
+use Rattle.seg_spec.specs.Types.{Form, Table, form_at, size}
+use Rattle.seg_spec.specs.Value.{Label, Value, Values, nil, cons, append, Selector}
 use Rattle.seg_spec.specs.Items.{without_last}
 use Rattle.seg_spec.specs.Block.{Kind, tag_of}
-use Rattle.seg_spec.specs.Reads.{Place, Opened, count_at, named, start, spaced, items, NamesRoom, Opens, Holds, holds, HoldsEach, holds_none, holds_more, Leads, here, into}
-use Rattle.seg_spec.proofs.Paths.{count_is}
+use Rattle.seg_spec.specs.Reads.{Place, Opened, count_at, named, start, items, NamesRoom, Holds, HoldsEach, holds_none, holds_more, Leads, here, into}
 
 module _ (table : Table) (U : ℕ) where
   pub get_item : (at n i : ℕ) → i < n → slice_get (items table at U n) i ≡ Some (record { at = at + i * size table U; type = U })

@@ -1,11 +1,11 @@
 -- A place while a call on it is under way: all that its steps keep, whatever the place holds meanwhile.
-use Rattle.std.proofs.Common.{◌≡◌, ◌≢◌, ℕ, ◌+◌, ◌-◌, ◌*◌, ◌<◌, ◌≤◌, ◌⊎◌, inl, inr, List, [], ◌∷◌, ◌++◌, length, refl, sym, ap, ◌∙◌, subst, arith}
+use Rattle.std.proofs.Common.{◌≡◌, ◌≢◌, ℕ, ◌+◌, ◌≤◌, ◌⊎◌, inl, inr, List, ◌∷◌, refl, sym, ap, ◌∙◌, subst, arith}
 use Rattle.std.specs.List.{AllByRecursion}
 use Rattle.seg_spec.specs.Bytes.{word, IsSame, ChangesOnly}
 use Rattle.seg_spec.specs.Types.{Table, size}
 use Rattle.seg_spec.specs.Value.{Value}
 use Rattle.seg_spec.specs.Heap.{Span, units_at, IsHeap, live}
-use Rattle.seg_spec.specs.Block.{IsOwnable, IsInside, KeepsBlock, payload_size}
+use Rattle.seg_spec.specs.Block.{IsOwnable, IsInside, KeepsBlock}
 use Rattle.seg_spec.specs.Reads.{Place, Holds}
 use Rattle.seg_spec.specs.Apart.{KeepsBlockAround}
 use Rattle.seg_spec.specs.Sound.{times, positions}

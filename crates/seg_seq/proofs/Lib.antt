@@ -8,3 +8,4 @@ mod Items
 mod ItemAdded
 mod ItemCalls
 mod ItemRemoved
+mod Found

@@ -1,13 +1,13 @@
 -- The buffer that a place names: where it lies, and how many entries it has.
-use Rattle.std.proofs.Common.{◌≡◌, ◌≢◌, ℕ, ◌+◌, ◌-◌, ◌*◌, ◌<◌, ◌≤◌, true, List, [], ◌∷◌, ◌++◌, length, Some, None, MatchOption, refl, sym, ap, ◌∙◌, subst, arith}
+use Rattle.std.proofs.Common.{◌≡◌, ◌≢◌, ℕ, ◌+◌, ◌*◌, ◌≤◌, true, List, [], ◌++◌, length, Some, None, refl, ap, ◌∙◌, arith}
 use Rattle.std.proofs.Math.Nat.{mul-one}
 use Rattle.seg_spec.specs.Bytes.{slice, IsSame}
 use Rattle.seg_spec.specs.Pointer.{target}
-use Rattle.seg_spec.specs.Types.{Form, Table, form_at, size}
+use Rattle.seg_spec.specs.Types.{Form, Table, form_at}
 use Rattle.seg_spec.specs.Value.{Value, Text}
-use Rattle.seg_spec.specs.Heap.{units_at, is_live_at, tag_at, live, heap_start}
+use Rattle.seg_spec.specs.Heap.{live, heap_start}
 use Rattle.seg_spec.specs.Block.{Kind, tag_of, block_of, has_buffer, IsBlock, payload_size}
-use Rattle.seg_spec.specs.Reads.{Place, count_at, named, start, NamesRoom}
+use Rattle.seg_spec.specs.Reads.{Place, count_at, named, start}
 use Rattle.seg_spec.specs.Sound.{times, positions}
 use Rattle.seg_spec.specs.Owning.{Stands}
 use Rattle.seg_spec.specs.Spending.{item_size}

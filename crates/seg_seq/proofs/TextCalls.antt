@@ -1,5 +1,5 @@
 -- What the calls on strings return, from what the calls below them return.
-use Rattle.std.proofs.Common.{◌≡◌, ℕ, ◌+◌, ◌-◌, ◌*◌, ◌%◌, ◌^◌, ◌<◌, ◌≤◌, ◌⊎◌, inl, inr, min, List, [], ◌∷◌, ◌++◌, length, take, Option, Some, None, MatchOption, MatchResult, refl, sym, ap, ◌∙◌, subst, arith}
+use Rattle.std.proofs.Common.{◌≡◌, ℕ, ◌+◌, ◌*◌, ◌%◌, ◌^◌, ◌<◌, ◌≤◌, ◌⊎◌, inl, inr, min, List, [], ◌∷◌, ◌++◌, length, take, Option, Some, None, MatchResult, refl, sym, ap, ◌∙◌, subst, arith}
 use Rattle.std.specs.Prelude.{Result, Ok, Err}
 use Rattle.std.proofs.lemmas.Bool.{cases_lt}
 use Rattle.std.proofs.lemmas.List.{take_all}
@@ -9,7 +9,6 @@ use Rattle.seg_spec.specs.Types.{Form, Table, form_at}
 use Rattle.seg_spec.specs.Value.{Text}
 use Rattle.seg_spec.specs.Reads.{Place, count_at, start}
 use Rattle.seg_spec.specs.Calls.{Refuses}
-use Rattle.seg_spec.specs.Demand.{Ask}
 use Rattle.seg_spec.specs.Growing.{HasRoomFor, Reserves}
 use Rattle.seg_spec.specs.Spending.{buffer_asks}
 use Rattle.seg_spec.specs.Owning.{Stands}
@@ -21,31 +20,26 @@ use Rattle.seg_value.specs.Contents.{ContentOf}
 use Rattle.seg_value.specs.Buffers.{NamesBuffer}
 use Rattle.seg_value.specs.declared.content.Content.{Content}
 use Rattle.seg_value.specs.declared.entry.Held.TheVariants.{Bytes}
-use Rattle.seg_seq.specs.Sequences.{HasText, LacksRoom, ComesToHold, MakesRoom, Rewrites, text_asks}
+use Rattle.seg_seq.specs.Sequences.{HasText, LacksRoom, ComesToHold, MakesRoom, text_asks}
 use Rattle.seg_seq.proofs.Rooms.{reaches, text_counts}
 use Rattle.seg_seq.proofs.TooMuch.{too_much}
 use Rattle.seg_seq.proofs.TextSteps.{names, room_made, text_written, byte_removed}
-
--- a result by its case
-pub on_err : {A : Type 0} (P : A → Type 0) (Q : Code → Type 0) (r : Result A Code) (e : Code) → r ≡ Err e → Q e → MatchResult r P Q
-on_err P Q r e is q = subst (λ x. MatchResult x P Q) (sym is) q
-
-pub on_ok : {A : Type 0} (P : A → Type 0) (Q : Code → Type 0) (r : Result A Code) (a : A) → r ≡ Ok a → P a → MatchResult r P Q
-on_ok P Q r a is p = subst (λ x. MatchResult x P Q) (sym is) p
 
 -- what the cell of a string names
 pub record NamesText (table : Table) (T : ℕ) (content : Content) : Type 0 where
   pub names : NamesBuffer table T content
   pub size_is : content.entry.size ≡ 1
+  pub before_is : content.entry.before ≡ 0
 
 pub names_text : (table : Table) (T : ℕ) (content : Content) (o : Option Content) → form_at table T ≡ Some Form.str → ContentOf table T (form_at table T) o → o ≡ Some content → NamesText table T content
 names_text table T content o f c is =
     let known : ContentOf table T (form_at table T) (Some content) = subst (ContentOf table T (form_at table T)) is c in
     let text = rw f at known in
-    record { names = (known, text.shape_is); size_is = text.size_is }
+    record { names = (known, text.shape_is); size_is = text.size_is; before_is = text.before_is }
 
 -- no buffer has so much room
-no_such_room : (allocator : ℕ) (mid : List ℕ) (table : Table) (place : Place) (xs blocks : List ℕ) (n : ℕ) → form_at table place.type ≡ Some Form.str → Stands allocator mid table place (Text xs) blocks → HasRoomFor mid place.at n → n ≤ 2 ^ 30
+no_such_room : (allocator : ℕ) (mid : List ℕ) (table : Table) (place : Place) (xs blocks : List ℕ) (n : ℕ)
+    → form_at table place.type ≡ Some Form.str → Stands allocator mid table place (Text xs) blocks → HasRoomFor mid place.at n → n ≤ 2 ^ 30
 no_such_room allocator mid table place xs blocks n f s room = go (target mid place.at) refl
   where
     go : (o : Option ℕ) → target mid place.at ≡ o → n ≤ 2 ^ 30

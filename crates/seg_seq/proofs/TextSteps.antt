@@ -1,35 +1,27 @@
 -- Strings whose text becomes another one, from what the steps leave.
-use Rattle.std.proofs.Common.{◌≡◌, ◌≢◌, ℕ, ◌+◌, ◌-◌, ◌*◌, ◌^◌, ◌<◌, ◌≤◌, ◌⊎◌, inl, inr, true, List, [], ◌∷◌, ◌++◌, length, take, drop, Option, Some, None, MatchOption, refl, sym, ap, ◌∙◌, subst, arith, append_assoc}
-use Rattle.std.specs.Prelude.{option_map, option_to_list, unwrap_or}
-use Rattle.std.proofs.Math.Nat.{mul-one}
+use Rattle.std.proofs.Common.{◌≡◌, ℕ, ◌+◌, ◌*◌, ◌^◌, ◌<◌, ◌≤◌, ◌⊎◌, inl, inr, List, [], ◌∷◌, ◌++◌, length, take, drop, Option, Some, None, refl, sym, ap, ◌∙◌, arith}
 use Rattle.std.proofs.Math.Seq.{take-add}
 use Rattle.std.proofs.lemmas.List.{take-append-drop, length-drop, same_lists, places, append-nil, take_all}
 use Rattle.std.proofs.lemmas.Bool.{cases_lt}
-use Rattle.seg_spec.specs.Bytes.{slice, put, set_word, set_byte, set_number, spelling, IsSame, ChangesOnly}
+use Rattle.seg_spec.specs.Bytes.{slice, put, set_word, IsSame, ChangesOnly}
 use Rattle.seg_spec.specs.Pointer.{target}
 use Rattle.seg_spec.specs.Types.{Form, Table, form_at, size}
 use Rattle.seg_spec.specs.Value.{Value, Text}
-use Rattle.seg_spec.specs.Heap.{Span, live}
-use Rattle.seg_spec.specs.Block.{Kind, tag_of, block_of, IsBlock, IsInside, payload_size}
+use Rattle.seg_spec.specs.Heap.{live}
+use Rattle.seg_spec.specs.Block.{Kind, tag_of, block_of, IsInside, payload_size}
 use Rattle.seg_spec.specs.Reads.{Place, count_at, named, start, NamesRoom, Holds}
-use Rattle.seg_spec.specs.Roots.{ChangesPlace}
 use Rattle.seg_spec.specs.Owning.{Stands}
-use Rattle.seg_spec.specs.Growing.{Succeeds, HasRoomFor, Reserves}
+use Rattle.seg_spec.specs.Growing.{Succeeds, Reserves}
 use Rattle.seg_spec.specs.Demand.{Ask}
-use Rattle.seg_spec.specs.Apart.{KeepsBlockAround}
-use Rattle.seg_spec.proofs.BytesLaws.{put_in, put_past, length-put, length-slice, number-set_same, number-set_other}
+use Rattle.seg_spec.proofs.BytesLaws.{put_in, put_past, length-slice}
 use Rattle.seg_spec.proofs.SliceLaws.{slice-slice, slice-put_same, slice-put_other, put-changes, IsSame-part}
-use Rattle.seg_spec.proofs.TypesLaws.{size_large}
-use Rattle.seg_spec.proofs.PointerLaws.{target-same}
-use Rattle.seg_spec.proofs.Frame.{cell-target, cell-count}
-use Rattle.seg_spec.proofs.Writing.{set_number-changes}
 use Rattle.seg_spec.proofs.CellSteps.{ChangesOnly-none}
 use Rattle.seg_spec.proofs.PlaceSteps.{changes_place}
 use Rattle.seg_spec.proofs.Standing.{stands_after}
 use Rattle.seg_spec.proofs.Buffered.{holds_buffered}
 use Rattle.seg_seq.proofs.Lasting.{Leaves, begun, ended}
 use Rattle.seg_seq.proofs.Counting.{count_leaves, count_names, count_is, count_kept, count_header, inner_leaves, inner_names, inner_count, inner_header}
-use Rattle.seg_seq.proofs.Rooms.{block_again, its, cell_fits, Reaches, reaches, none_counted, text_is, text_owns, text_counts}
+use Rattle.seg_seq.proofs.Rooms.{block_again, reaches, none_counted, text_is, text_owns, text_counts}
 
 -- ---- slices
 
@@ -46,7 +38,6 @@ slice_split bytes at n m = take-add n m (drop at bytes) ∙ ap (λ xs. take n (d
   where
     drop_twice : (xs : List ℕ) (a b : ℕ) → drop b (drop a xs) ≡ drop (a + b) xs
     drop_twice xs a b = same_lists _ _ (simp (length-drop) (omega arith)) (λ k d l. grind (arith, places))
-
 
 first_bytes : (xs : List ℕ) (k : ℕ) → take k xs ≡ slice xs 0 k
 unfolding slice
@@ -184,7 +175,8 @@ module _ (allocator : ℕ) (old mid : List ℕ) (table : Table) (place : Place) 
       let there : start new place.at ≡ p = rw (names, e) refl in
       let count_now : count_at new place.at ≡ kept + length bs = counts ∙ sym known ∙ long in
       let text : ys ≡ slice mid p (kept + length bs) = text_is allocator mid table place ys others f u ∙ ap (λ a. slice mid a (count_at mid place.at)) at_is ∙ ap (slice mid p) (sym known ∙ long) in
-      let front : slice new p kept ≡ take kept ys = ap (λ b. slice b p kept) written ∙ slice-put_other mid (p + kept) bs p kept (inl (omega arith)) ∙ sym (take_slice mid p kept (kept + length bs) (omega arith)) ∙ ap (take kept) (sym text) in
+      let front : slice new p kept ≡ take kept ys = ap (λ b. slice b p kept) written ∙ slice-put_other mid (p + kept) bs p kept (inl (omega arith))
+      ∙ sym (take_slice mid p kept (kept + length bs) (omega arith)) ∙ ap (take kept) (sym text) in
       let back : slice new (p + kept) (length bs) ≡ bs = ap (λ b. slice b (p + kept) (length bs)) written ∙ slice-put_same mid (p + kept) bs (length bs) refl (omega (arith, g.high)) in
       let all : take kept ys ++ bs ≡ slice new (start new place.at) (count_at new place.at) =
       sym (ap (λ a. slice new a (count_at new place.at)) there ∙ ap (slice new p) count_now ∙ slice_split new p kept (length bs) ∙ ap (λ zs. zs ++ slice new (p + kept) (length bs)) front ∙ ap (λ zs. take kept ys ++ zs) back) in

@@ -7,7 +7,7 @@ use Rattle.std.proofs.lemmas.Bool.Decides.{nat_tests}
 use Rattle.seg_spec.specs.Pointer.{target}
 use Rattle.seg_spec.specs.Types.{Form, Table, form_at}
 use Rattle.seg_spec.specs.Value.{Value}
-use Rattle.seg_spec.specs.Heap.{Span, Tile, span_of, units_at, tiles, Fill, free_of, live, gaps, gaps_of, room_at, IsHeap, heap_start}
+use Rattle.seg_spec.specs.Heap.{Span, Tile, tiles, Fill, live, gaps_of, room_at, IsHeap, heap_start}
 use Rattle.seg_spec.specs.Block.{block_of, has_buffer}
 use Rattle.seg_spec.specs.Reads.{Place, count_at}
 use Rattle.seg_spec.specs.Owning.{Stands}
@@ -16,7 +16,7 @@ use Rattle.seg_spec.specs.Spending.{units_named, buffer_asks}
 use Rattle.seg_spec.proofs.TileLaws.{gaps_between-live_of}
 use Rattle.seg_spec.proofs.Frame.{each_weaker}
 use Rattle.seg_spec.proofs.WriteInside.{each_free_tile}
-use Rattle.seg_spec.proofs.KeptLaws.{StatesSpan, live_stated}
+use Rattle.seg_spec.proofs.KeptLaws.{live_stated}
 use Rattle.seg_spec.proofs.NoGaps.{no_room}
 use Rattle.seg_seq.proofs.Rooms.{reaches}
 

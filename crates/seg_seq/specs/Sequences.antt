@@ -1,20 +1,29 @@
 -- What calls on strings and vectors find and leave.
---     HasText allocator heap place xs blocks      a string stands there, with this text
---     HasItems allocator heap place U vs blocks   a vector stands there, with these items
---     Declines code old new result                the call returned a code, and nothing changed
---     HasNone old new n code                      of n there was none to take, and nothing changed
---     ComesToHold allocator old new place w asks gives blocks
---         a place holds w, after requests that were granted; these blocks of it went back
---     LacksRoom allocator old new asks code       one of the requests got nothing, and nothing changed
---     Rewrites allocator old new place n ys blocks result
---         a string, whose buffer is to have so many bytes, has this text now, or it lacked the room
---     MakesRoom ..        a string keeps its first bytes, and has as many more as the caller writes
---     PushesBack ..       a default item joined the others, and stands at the position
---     PopsBack ..         the last item went, with the blocks that it owned
+--     HasText allocator heap place xs blocks      a string stands at a place, with this text
+--     HasItems allocator heap place U vs blocks   a vector stands at a place, with these items
 --     item_type form                              the type of the items of a vector or a list
 --     is_countless form, is_unordered form        values of this form have no count; they count
 --                                                 what has no order of its own
-use Rattle.std.specs.Prelude.{◌≡◌, ℕ, ◌+◌, ◌-◌, ◌≤◌, Bool, true, false, List, [], ◌∷◌, ◌++◌, length, take, Option, Some, None, Result, Ok, Err, MatchResult}
+--     Declines code old new result                the call returned a code, and nothing changed
+--     HasNone old new n code                      of n there was none to take, and nothing changed
+--     LacksRoom allocator old new asks code       one of the requests got nothing, and nothing
+--                                                 changed
+--     ComesToHold allocator old new place w asks gives blocks
+--         a place holds w, after requests that were granted; these blocks went back
+--     text_asks heap place n, push_asks heap place U      the requests for a buffer of n bytes, and
+--                                                         for one of an item more
+--     Rewrites allocator old new place n ys blocks result
+--         a string, whose buffer is to have n bytes, has this text now, or it lacked the room
+--     MakesRoom allocator old new place kept n xs blocks at len
+--         a string keeps its first bytes, and has n more from a position on, whatever they are
+--     PushesBack allocator old new place U vs blocks p    a default item joined the others, and
+--                                                         stands at a position
+--     PopsBack allocator old new place vs blocks          the last item went, with its blocks
+--     IsPast index n code                         of n there is none at the index
+--     ShowsByte heap place xs index p             the byte of a text at an index stands there
+--     ShowsItem heap place U index p              the item of a vector or a list at an index does
+use Rattle.std.specs.Prelude.{◌≡◌, ℕ, ◌+◌, ◌-◌, ◌<◌, ◌≤◌, Bool, true, false, List, [], ◌∷◌, length, take, slice_index, Option, Some, None, Result, Err, MatchResult}
+use Rattle.seg_spec.specs.Bytes.{byte}
 use Rattle.seg_spec.specs.Types.{Form, form_at, size}
 use Rattle.seg_spec.specs.Value.{Value, Values, nil, cons, Text, Seq, count, append, default_of, Selector}
 use Rattle.seg_spec.specs.Reads.{Place, count_at, start, Leads}
@@ -25,13 +34,14 @@ use Rattle.seg_spec.specs.Items.{without_last}
 use Rattle.seg_spec.specs.Owning.{Stands}
 use Rattle.seg_spec.specs.Spending.{buffer_asks, PartBlocks}
 use Rattle.seg_raw.specs.declared.code.Code.{Code}
-use Rattle.seg_raw.specs.declared.code.Code.TheVariants.{BadAlloc, Null}
+use Rattle.seg_raw.specs.declared.code.Code.TheVariants.{BadAlloc, Null, OutOfRange}
 use Rattle.seg_value.specs.Stored.{Stored}
 
 -- ---- what calls find
 
 -- a string stands at the place, with this text
-pub record HasText (allocator : ℕ) (heap : Stored) (place : Place) (xs blocks : List ℕ) : Type 0 where
+pub record HasText (allocator : ℕ) (heap : Stored) (place : Place) (xs blocks : List ℕ) :
+    Type 0 where
   pub form_is : form_at heap.types place.type ≡ Some Form.str
   pub stands : Stands allocator heap.window.bytes heap.types place (Text xs) blocks
 
@@ -80,7 +90,8 @@ pub record LacksRoom (allocator : ℕ) (old new : Stored) (asks : List Ask) (cod
   pub code_is : code ≡ BadAlloc
   pub refuses : Refuses allocator old.window.bytes new.window.bytes asks
 
--- the place holds w now, and owns other blocks; the requests were granted, and these blocks went back
+-- the place holds w now, and owns other blocks; the requests were granted, and these blocks
+-- went back
 pub record ComesToHold (allocator : ℕ) (old new : Stored) (place : Place) (w : Value)
     (asks : List Ask) (gives blocks : List ℕ) : Type 0 where
   pub others : List ℕ
@@ -129,3 +140,22 @@ pub record PopsBack (allocator : ℕ) (old new : Stored) (place : Place) (vs : V
   pub gives : List ℕ
   pub its : PartBlocks old.window.bytes old.types place (count vs - 1) gives
   pub holds_it : ComesToHold allocator old new place (Seq (without_last vs)) [] gives blocks
+
+-- ---- what they find
+
+-- of n there is none at the index
+pub record IsPast (index n : ℕ) (code : Code) : Type 0 where
+  pub code_is : code ≡ OutOfRange
+  pub past : n ≤ index
+
+-- the byte of a text at an index stands at the position p
+pub record ShowsByte (heap : Stored) (place : Place) (xs : List ℕ) (index p : ℕ) : Type 0 where
+  pub below : index < length xs
+  pub at_is : p ≡ start heap.window.bytes place.at + index
+  pub byte_is : byte heap.window.bytes p ≡ slice_index xs index
+
+-- the item at an index stands at the position p
+abbrev pub ShowsItem : Stored → Place → ℕ → ℕ → ℕ → Type 0
+ShowsItem heap place U index p =
+    Leads heap.window.bytes heap.types place (Selector.item index ∷ [])
+    (record { at = p; type = U })

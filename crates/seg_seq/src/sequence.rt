@@ -1,11 +1,11 @@
-ghost use Rattle.std.specs.Prelude.{◌≡◌, ℕ, ◌+◌, ◌-◌, ◌≤◌, ◌↔◌, List, [], length, take, Some, None, true, false, IsTrue, MatchResult};
+ghost use Rattle.std.specs.Prelude.{◌≡◌, ℕ, ◌+◌, ◌-◌, ◌<◌, ◌≤◌, ◌↔◌, List, [], length, take, Some, None, true, false, Err, IsTrue, MatchResult};
 ghost use Rattle.seg_spec.specs.Reads.{count_at};
 ghost use Rattle.seg_spec.specs.Types.{Form, form_at};
 ghost use Rattle.seg_spec.specs.Value.{Values, count, Text};
 ghost use Rattle.seg_spec.specs.Window.{KeepsHost};
 ghost use Rattle.seg_value.specs.Buffers.{NamesBuffer};
 ghost use Rattle.seg_value.specs.Places.{place_of, object_at};
-ghost use Rattle.seg_seq.specs.Sequences.{HasText, HasItems, item_type, is_countless, is_unordered, Declines, HasNone, ComesToHold, LacksRoom, push_asks, PushesBack, PopsBack};
+ghost use Rattle.seg_seq.specs.Sequences.{HasText, HasItems, item_type, is_countless, is_unordered, Declines, HasNone, ComesToHold, LacksRoom, push_asks, PushesBack, PopsBack, IsPast, ShowsByte, ShowsItem};
 
 use crate::list::{item_of, push_node, remove_node};
 use crate::ring::{Way, neighbour, node_at};
@@ -16,11 +16,22 @@ use std::alloc::Allocator;
 
 /// The position of an item of a vector or a list, or of a byte of a string. `OtherType` where the place has no items,
 /// `OutOfRange` where there are not so many.
-pub fn at<F: Fit, A: Allocator>(
-    heap: &Heap<F, A>,
-    sequence: Place,
-    index: u32,
-) -> Result<u32, Code> {
+pub fn at<F: Fit, A: Allocator>(heap: &Heap<F, A>, sequence: Place, index: u32) -> Result<u32, Code>
+    ensures text { (xs blocks : List ℕ) →
+        HasText F.allocator heap.now (place_of sequence) xs blocks →
+        MatchResult result
+        (ShowsByte heap.now (place_of sequence) xs index) (IsPast index (length xs)) }
+    ensures vector { (U : ℕ) (vs : Values) (blocks : List ℕ) →
+        HasItems F.allocator heap.now (place_of sequence) U vs blocks →
+        MatchResult result
+        (ShowsItem heap.now (place_of sequence) U index) (IsPast index (count vs)) }
+    ensures other { is_countless (form_at heap.now.types sequence.type_id) ≡ true →
+        result ≡ Err Code.OtherType }
+    ensures past { is_countless (form_at heap.now.types sequence.type_id) ≡ false →
+        count_at heap.now.window.bytes sequence.at ≤ index → result ≡ Err Code.OutOfRange }
+    ensures unordered { is_unordered (form_at heap.now.types sequence.type_id) ≡ true →
+        index < count_at heap.now.window.bytes sequence.at → result ≡ Err Code.OtherType }
+{
     let content = heap.content(sequence.type_id).ok_or(Code::OtherType)?;
     if index >= heap.count(sequence.at) {
         return Err(Code::OutOfRange);
@@ -108,7 +119,8 @@ pub fn pop_back<F: Fit, A: Allocator>(heap: &mut Heap<F, A>, sequence: Place) ->
         (λ done. PopsBack F.allocator heap.old heap.new (place_of sequence) vs blocks)
         (HasNone heap.old heap.new (count vs)) }
     ensures none { is_countless (form_at heap.old.types sequence.type_id) ≡ false →
-        count_at heap.old.window.bytes sequence.at ≡ 0 → Declines Code.Null heap.old heap.new result }
+        count_at heap.old.window.bytes sequence.at ≡ 0 →
+        Declines Code.Null heap.old heap.new result }
     ensures other { is_countless (form_at heap.old.types sequence.type_id) ≡ true →
         Declines Code.OtherType heap.old heap.new result }
     ensures unordered { is_unordered (form_at heap.old.types sequence.type_id) ≡ true →

@@ -124,7 +124,8 @@ fn make_room<F: Fit, A: Allocator>(
     ensures text { (xs blocks : List ℕ) →
         HasText F.allocator heap.old (place_of text) xs blocks → kept ≤ length xs →
         MatchResult result
-        (λ r. MakesRoom F.allocator heap.old heap.new (place_of text) kept added xs blocks r.at r.len)
+        (λ r. MakesRoom F.allocator heap.old heap.new (place_of text) kept added xs blocks
+        r.at r.len)
         (LacksRoom F.allocator heap.old heap.new
         (text_asks heap.old (place_of text) (kept + added))) }
     ensures other { form_at heap.old.types text.type_id ≢ Some Form.str →

@@ -1,8 +1,8 @@
-use Rattle.std.proofs.Common.{rules, ◌≡◌, ◌+◌, ◌-◌, ◌≤◌, length, refl, ap, ◌∙◌, sym, arith, Some, Err}
+use Rattle.std.proofs.Common.{rules, ◌≡◌, ◌+◌, ◌-◌, ◌≤◌, length, refl, ◌∙◌, sym, arith, Some, Err}
 use Rattle.seg_raw.specs.declared.code.Code.TheVariants.{Null}
 use Rattle.seg_spec.specs.Value.{count}
 use Rattle.seg_value.specs.Places.{place_of}
-use Rattle.seg_seq.proofs.TextCalls.{on_err, counted_all, names_text}
+use Rattle.seg_seq.proofs.TextCalls.{counted_all, names_text}
 use Rattle.seg_seq.proofs.ItemCalls.{items_counted, names_vector}
 use Rattle.seg_seq.proofs.sequence.pop_back.Goals as goal
 
@@ -11,14 +11,14 @@ returns-in_err-last-clause-text g c = λ xs blocks t.
     let result : c.from_residual-in_err-last.result ≡ Err Null = search rules in
     let none : c.count.result ≡ 0 = search rules in
     let all = counted_all g.F.Fit.allocator c.args.heap.now (place_of c.args.sequence) xs blocks t c.count.result c.count.ensures in
-    on_err _ _ c.from_residual-in_err-last.result Null result (record { code_is = refl; none = omega arith; same = refl })
+    rw result (record { code_is = refl; none = omega arith; same = refl })
 
 pub returns-in_err-last-clause-vector : goal.returns-in_err-last-clause-vector
 returns-in_err-last-clause-vector g c = λ U vs blocks h.
     let result : c.from_residual-in_err-last.result ≡ Err Null = search rules in
     let none : c.count.result ≡ 0 = search rules in
     let all = items_counted g.F.Fit.allocator c.args.heap.now c.args.sequence.at c.args.sequence.type_id U vs blocks h in
-    on_err _ _ c.from_residual-in_err-last.result Null result (record { code_is = refl; none = all ∙ sym c.count.ensures ∙ none; same = refl })
+    rw result (record { code_is = refl; none = all ∙ sym c.count.ensures ∙ none; same = refl })
 
 pub returns-in-Buffer-clause-text : goal.returns-in-Buffer-clause-text
 returns-in-Buffer-clause-text g c = λ xs blocks t.

@@ -1,11 +1,9 @@
-use Rattle.std.proofs.Common.{rules, ◌≡◌, ◌+◌, ◌*◌, ◌%◌, ◌^◌, ap, ◌∙◌, sym, subst, Some, None}
-use Rattle.std.specs.Option.{IfSome}
+use Rattle.std.proofs.Common.{◌≡◌, ◌+◌, ◌*◌, ◌%◌, ◌^◌, ap, ◌∙◌, sym}
 use Rattle.seg_spec.specs.Bytes.{set_word}
 use Rattle.seg_spec.specs.Window.{Placement, with_bytes}
 use Rattle.seg_value.specs.Places.{object_at}
 use Rattle.seg_value.specs.Stored.{Stored}
 use Rattle.seg_value.specs.declared.place.Place.{Place}
-use Rattle.seg_value.specs.declared.entry.Held.TheVariants.{Bytes, Value}
 use Rattle.seg_seq.proofs.TextCalls.{text_entry, byte_popped}
 use Rattle.seg_seq.proofs.ItemCalls.{vector_entry, one_place, item_popped}
 use Rattle.seg_seq.proofs.sequence.pop_entry.Goals as goal
@@ -35,10 +33,10 @@ returns-clause-vector g c = λ T U vs blocks n h more.
     let written = bytes_of new.window (with_bytes cut.window (set_word cut.window.bytes (c.args.cell + 4) c.args.last)) c.set_count.ensures.window in
     elim c.match-value.branch [
       | in-Some w ↦ (
-        let item = one_place c.value.result w.in-Some.item (record { at = (c.start.result + c.args.last * content.entry.size + content.entry.before) % 2 ^ 32; type_id = U }) w.in-Some.is is in
-        item_popped g.F.Fit.allocator old c.args.cell T U vs blocks h w.clear.new.self new content.entry.size c.args.last c.start.result content.entry.before w.in-Some.item.at w.in-Some.item.type_id
-        entry.size_is more c.start.ensures entry.before_is (ap (λ (x : Place). x.at) item) (ap (λ (x : Place). x.type_id) item)
-        (written ∙ ap (λ (s : Stored). set_word s.window.bytes (c.args.cell + 4) c.args.last) w.heap-is) w.clear.ensures.cleared
-      )
+          let item = one_place c.value.result w.in-Some.item (record { at = (c.start.result + c.args.last * content.entry.size + content.entry.before) % 2 ^ 32; type_id = U }) w.in-Some.is is in
+          item_popped g.F.Fit.allocator old c.args.cell T U vs blocks h w.clear.new.self new content.entry.size c.args.last c.start.result content.entry.before w.in-Some.item.at w.in-Some.item.type_id
+          entry.size_is more c.start.ensures entry.before_is (ap (λ (x : Place). x.at) item) (ap (λ (x : Place). x.type_id) item)
+          (written ∙ ap (λ (s : Stored). set_word s.window.bytes (c.args.cell + 4) c.args.last) w.heap-is) w.clear.ensures.cleared
+          )
       | in_default w ↦ (let none = w.in_default.is in absurd (cc))
     ]

@@ -1,10 +1,10 @@
-use Rattle.std.proofs.Common.{rules, ◌≡◌, ◌+◌, ◌*◌, ◌^◌, ◌<◌, ◌≤◌, refl, ap, ◌∙◌, arith, Some, Err}
+use Rattle.std.proofs.Common.{rules, ◌≡◌, ◌+◌, ◌*◌, ◌^◌, ◌<◌, ◌≤◌, refl, ap, arith, Some, Err}
 use Rattle.seg_spec.specs.Bytes.{set_word}
 use Rattle.seg_spec.specs.Value.{Text}
 use Rattle.seg_spec.specs.Window.{Placement, with_bytes}
 use Rattle.seg_raw.specs.declared.code.Code.TheVariants.{BadAlloc}
 use Rattle.seg_value.specs.Places.{place_of}
-use Rattle.seg_seq.proofs.TextCalls.{on_err, names_text, too_long, no_room_made, makes_room}
+use Rattle.seg_seq.proofs.TextCalls.{names_text, too_long, no_room_made, makes_room}
 use Rattle.seg_seq.proofs.text.make_room.Goals as goal
 
 bytes_of : (p q : Placement) → p ≡ q → p.bytes ≡ q.bytes
@@ -16,8 +16,7 @@ returns-in_err-added-clause-text g c = λ xs blocks t few.
     let result : c.from_residual-in_err-added.result ≡ Err c.in_err-added.field-0.0 = search rules in
     let much : 4294967296 ≤ c.args.added = search rules in
     let old = c.args.heap.now in
-    on_err _ _ c.from_residual-in_err-added.result c.in_err-added.field-0.0 result
-    (rw code (too_long g.F.Fit.allocator old (place_of c.args.text) xs blocks t c.args.kept c.args.added old refl (omega arith)))
+    rw result (rw code (too_long g.F.Fit.allocator old (place_of c.args.text) xs blocks t c.args.kept c.args.added old refl (omega arith)))
 
 pub returns-in_err-reserve-clause-text : goal.returns-in_err-reserve-clause-text
 returns-in_err-reserve-clause-text g c = λ xs blocks t few.
@@ -28,8 +27,7 @@ returns-in_err-reserve-clause-text g c = λ xs blocks t few.
     let names = names_text old.types c.args.text.type_id c.in_ok-content.content c.content.result t.form_is c.content.ensures some in
     let small : c.saturating_add-len.result * c.in_ok-content.content.entry.size < 2 ^ 32 = rw names.size_is (omega (arith, c.saturating_add-len.ensures)) in
     let refuses = c.in_err-reserve.ensures.reserves c.args.text.type_id (Text xs) blocks names.names t.stands small in
-    on_err _ _ c.from_residual-in_err-reserve.result c.in_err-reserve.field-0.0 result
-    (rw c.in_err-reserve.ensures.code (no_room_made g.F.Fit.allocator old (place_of c.args.text) xs blocks t c.args.kept c.args.added c.reserve.new.self c.in_ok-content.content.entry.size c.saturating_add-len.result
+    rw result (rw c.in_err-reserve.ensures.code (no_room_made g.F.Fit.allocator old (place_of c.args.text) xs blocks t c.args.kept c.args.added c.reserve.new.self c.in_ok-content.content.entry.size c.saturating_add-len.result
     names.size_is (rw added at c.saturating_add-len.ensures) refuses))
 
 pub returns-clause-text : goal.returns-clause-text

@@ -1,8 +1,8 @@
-use Rattle.std.proofs.Common.{rules, ◌≡◌, ◌+◌, ◌≤◌, ◌<◌, ◌∷◌, [], length, refl, ap, ◌∙◌, arith, Err}
+use Rattle.std.proofs.Common.{rules, ◌≡◌, ◌≤◌, ◌<◌, ◌∷◌, [], length, refl, ap, ◌∙◌, arith, Err}
 use Rattle.seg_spec.specs.Bytes.{set_byte}
 use Rattle.seg_spec.specs.Window.{Placement}
 use Rattle.seg_value.specs.Places.{place_of}
-use Rattle.seg_seq.proofs.TextCalls.{on_err, counted_all, all_kept, written_to, one_byte}
+use Rattle.seg_seq.proofs.TextCalls.{counted_all, all_kept, written_to, one_byte}
 use Rattle.seg_seq.proofs.text.push_byte.Goals as goal
 
 pub returns-in_err-added-clause-text : goal.returns-in_err-added-clause-text
@@ -11,7 +11,7 @@ returns-in_err-added-clause-text g c = λ xs blocks t.
     let all = counted_all g.F.Fit.allocator c.args.heap.now (place_of c.args.text) xs blocks t c.count-kept.result c.count-kept.ensures in
     let few : c.count-kept.result ≤ length xs = omega arith in
     let lacks = c.in_err-added.ensures.text xs blocks t few in
-    on_err _ _ c.from_residual.result c.in_err-added.field-0.0 result (rw all at lacks)
+    rw result (rw all at lacks)
 
 pub returns-clause-text : goal.returns-clause-text
 returns-clause-text g c = λ xs blocks t.

@@ -2,14 +2,14 @@ use Rattle.std.proofs.Common.{rules, ◌≡◌, length, refl, ap, ◌∙◌, Err
 use Rattle.seg_spec.specs.Bytes.{put}
 use Rattle.seg_spec.specs.Window.{Placement}
 use Rattle.seg_value.specs.Places.{place_of}
-use Rattle.seg_seq.proofs.TextCalls.{on_err, written_to}
+use Rattle.seg_seq.proofs.TextCalls.{written_to}
 use Rattle.seg_seq.proofs.text.write.Goals as goal
 
 pub returns-in_err-added-clause-text : goal.returns-in_err-added-clause-text
 returns-in_err-added-clause-text g c = λ xs blocks t few.
     let result : c.from_residual.result ≡ Err c.in_err-added.field-0.0 = search rules in
     let lacks = c.in_err-added.ensures.text xs blocks t few in
-    on_err _ _ c.from_residual.result c.in_err-added.field-0.0 result lacks
+    rw result lacks
 
 pub returns-clause-text : goal.returns-clause-text
 returns-clause-text g c = λ xs blocks t few.
