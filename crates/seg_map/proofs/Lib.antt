@@ -6,3 +6,4 @@ pub mod Rebuilding
 pub mod Entering
 pub mod Adding
 pub mod Putting
+pub mod Removing
