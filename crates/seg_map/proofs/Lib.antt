@@ -1,0 +1,2 @@
+pub mod KeyLaws
+pub mod FlatMaps

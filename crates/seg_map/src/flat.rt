@@ -1,7 +1,12 @@
 //! A flat map: a buffer of entries {key, value} in order of their keys.
 
-ghost use Rattle.std.specs.Prelude.{◌≡◌};
+ghost use Rattle.std.specs.Prelude.{◌≡◌, ℕ, ℤ, List, Some, None, MatchResult, slice_get};
+ghost use Rattle.seg_spec.specs.Items.{key_place, keys_below};
+ghost use Rattle.seg_spec.specs.Value.{Values};
 ghost use Rattle.seg_spec.specs.Window.{KeepsHost};
+ghost use Rattle.seg_value.specs.Places.{object_at};
+ghost use Rattle.seg_map.specs.Flats.{IsFlat};
+ghost use Rattle.seg_map.specs.Maps.{FindsKey, least_key, least_above};
 
 use seg_block::Fit;
 use seg_raw::Code;
@@ -14,7 +19,12 @@ fn search<F: Fit, A: Allocator>(
     entry: Entry,
     cell: u32,
     key: i64,
-) -> Result<u32, u32> {
+) -> Result<u32, u32>
+    ensures finds { (T U : ℕ) (keys : List ℤ) (vs : Values) (blocks : List ℕ) →
+        IsFlat F.allocator heap.now entry cell T U keys vs blocks →
+        MatchResult result (λ index. key_place keys key ≡ Some index)
+        (λ index. (key_place keys key ≡ None) × (index ≡ keys_below keys key)) }
+{
     let entries = heap.start(cell);
     binary_search(heap.count(cell), |index| {
         heap.load(entry.at(entries, index)).cmp(&key)
@@ -27,7 +37,11 @@ pub(crate) fn get<F: Fit, A: Allocator>(
     entry: Entry,
     cell: u32,
     key: i64,
-) -> Option<u32> {
+) -> Option<u32>
+    ensures finds { (T U : ℕ) (keys : List ℤ) (vs : Values) (blocks : List ℕ) →
+        IsFlat F.allocator heap.now entry cell T U keys vs blocks →
+        FindsKey heap.now.window.bytes heap.now.types (object_at cell T) U keys key result }
+{
     let index = search(heap, entry, cell, key).ok()?;
     Some(entry.value_at(heap.start(cell), index))
 }
@@ -93,7 +107,10 @@ fn key_of<F: Fit, A: Allocator>(
     entry: Entry,
     cell: u32,
     index: u32,
-) -> Option<i64> {
+) -> Option<i64>
+    ensures key { (T U : ℕ) (keys : List ℤ) (vs : Values) (blocks : List ℕ) →
+        IsFlat F.allocator heap.now entry cell T U keys vs blocks → result ≡ slice_get keys index }
+{
     if index < heap.count(cell) {
         Some(heap.load(entry.at(heap.start(cell), index)))
     } else {
@@ -106,7 +123,10 @@ pub(crate) fn first_key<F: Fit, A: Allocator>(
     heap: &Heap<F, A>,
     entry: Entry,
     cell: u32,
-) -> Option<i64> {
+) -> Option<i64>
+    ensures first { (T U : ℕ) (keys : List ℤ) (vs : Values) (blocks : List ℕ) →
+        IsFlat F.allocator heap.now entry cell T U keys vs blocks → result ≡ least_key keys }
+{
     key_of(heap, entry, cell, 0)
 }
 
@@ -116,7 +136,10 @@ pub(crate) fn next_key<F: Fit, A: Allocator>(
     entry: Entry,
     cell: u32,
     after: i64,
-) -> Option<i64> {
+) -> Option<i64>
+    ensures next { (T U : ℕ) (keys : List ℤ) (vs : Values) (blocks : List ℕ) →
+        IsFlat F.allocator heap.now entry cell T U keys vs blocks → result ≡ least_above keys after }
+{
     let index = match search(heap, entry, cell, after) {
         Ok(index) => index.saturating_add(1),
         Err(index) => index,
