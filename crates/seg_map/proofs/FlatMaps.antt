@@ -1,28 +1,32 @@
 -- A flat map in memory: its entries lie in the segment, and read as its keys and values.
-use Rattle.std.proofs.Common.{◌≡◌, ℕ, zero, suc, ◌+◌, ◌-◌, ◌*◌, ◌%◌, ◌^◌, ◌<◌, ◌≤◌, ◌⊎◌, inl, inr, ℤ, ◌<ℤ◌, List, [], ◌∷◌, ◌++◌, length, map, Option, Some, None, Result, Ok, Err, MatchResult, IfOk, IfErr, refl, sym, ap, ◌∙◌, subst, arith}
+use Rattle.std.proofs.Common.{◌≡◌, ℕ, zero, suc, ◌+◌, ◌-◌, ◌*◌, ◌%◌, ◌^◌, ◌<◌, ◌≤◌, min, ◌⊎◌, inl, inr, ℤ, ◌<ℤ◌, List, [], ◌∷◌, ◌++◌, length, map, Option, Some, None, Result, Ok, Err, MatchResult, IfOk, IfErr, refl, sym, ap, ◌∙◌, subst, arith}
 use Rattle.std.specs.Prelude.{slice_get}
-use Rattle.std.proofs.Math.Nat.{mul-le-mul_right}
+use Rattle.std.proofs.Math.Nat.{mul-le-mul_left, mul-le-mul_right}
 use Rattle.std.proofs.lemmas.Bool.{cases_lt}
 use Rattle.std.proofs.lemmas.Option.{slice_get_past}
+use Rattle.std.specs.Result.{result_ok}
 use Rattle.std.specs.Ordering.{int_cmp}
 use Rattle.std.specs.Cmp.{int_ranked}
 use Rattle.std.specs.declared.cmp.Ordering.{Ordering}
 use Rattle.std.specs.declared.cmp.Ordering.TheVariants.{Less, Equal, Greater}
 use Rattle.seg_spec.specs.Bytes.{signed_long}
 use Rattle.seg_spec.specs.Pointer.{target}
-use Rattle.seg_spec.specs.Types.{Form, Table, size}
-use Rattle.seg_spec.specs.Value.{Label, Value, node, Values, Map, IsAscending}
+use Rattle.seg_spec.specs.Types.{Form, Table, form_at, size}
+use Rattle.seg_spec.specs.Value.{Label, Value, node, Values, Map, IsAscending, Selector}
 use Rattle.seg_spec.specs.Heap.{live, heap_start, units_at}
 use Rattle.seg_spec.specs.Block.{Kind, tag_of, IsBlock, IsInside, block_of}
-use Rattle.seg_spec.specs.Reads.{Place, count_at, named, start, spaced, places_of, keys_at, HoldsEach}
+use Rattle.seg_spec.specs.Reads.{Place, count_at, named, start, spaced, places_of, keys_at, Opens, HoldsEach, Leads, here, into}
+use Rattle.seg_spec.specs.Owning.{Stands}
 use Rattle.seg_spec.specs.Sound.{times, positions}
 use Rattle.seg_spec.specs.Items.{key_place, keys_below}
 use Rattle.seg_spec.proofs.LiveLaws.{times-same, times-append, there, LiesIn, live-lie}
 use Rattle.seg_spec.proofs.PlaceSteps.{owned_live}
 use Rattle.seg_spec.proofs.Buffered.{Buffered, buffered}
 use Rattle.seg_value.specs.Search.{IsBetween}
-use Rattle.seg_map.specs.Maps.{MapStands}
-use Rattle.seg_map.proofs.KeyLaws.{Parted, parted_at, parted_front, parted_after, found_place, missing_place, missing_below}
+use Rattle.seg_value.specs.Contents.{IsEntryOf}
+use Rattle.seg_value.specs.declared.entry.Entry.{Entry}
+use Rattle.seg_map.specs.Maps.{value_of, first_of, keys_above}
+use Rattle.seg_map.proofs.KeyLaws.{Parted, parted_at, parted_front, parted_after, found_place, missing_place, missing_below, place_below, found_next, missing_next, parted_found, parted_missing}
 
 -- ---- results
 
@@ -66,7 +70,7 @@ one_less i = omega arith
 same_map : (keys others : List ℤ) (vs ws : Values) → Map keys vs ≡ Map others ws → (keys ≡ others) × (vs ≡ ws)
 same_map keys others vs ws e = (cc, cc)
 
-module _ (allocator : ℕ) (bytes : List ℕ) (table : Table) (place : Place) (U : ℕ) (keys : List ℤ) (vs : Values) (blocks : List ℕ) (m : MapStands allocator bytes table place (Form.flat_map U) U keys vs blocks) where
+module _ (allocator : ℕ) (bytes : List ℕ) (table : Table) (place : Place) (U : ℕ) (keys : List ℤ) (vs : Values) (blocks : List ℕ) (f : form_at table place.type ≡ Some (Form.flat_map U)) (s : Stands allocator bytes table place (Map keys vs) blocks) where
   abbrev pub each : ℕ
   each = 8 + size table U
 
@@ -77,7 +81,7 @@ module _ (allocator : ℕ) (bytes : List ℕ) (table : Table) (place : Place) (U
   entries = spaced (start bytes place.at) each n
 
   pub its : Buffered bytes table place (Form.flat_map U) (Map keys vs) blocks
-  its = buffered bytes table place (Form.flat_map U) (Map keys vs) blocks m.form_is refl m.stands.holds_it
+  its = buffered bytes table place (Form.flat_map U) (Map keys vs) blocks f refl s.holds_it
 
   pub keys_are : keys ≡ keys_at bytes entries
   keys_are = (same_map keys (keys_at bytes entries) vs its.entries.0 its.entries.1).0
@@ -107,8 +111,8 @@ module _ (allocator : ℕ) (bytes : List ℕ) (table : Table) (place : Place) (U
       go (Some p) e =
           let room : IsBlock bytes p (tag_of Kind.buffer place.type) (n * each) = rw e at its.room in
           let mine : 1 ≤ times (block_of p) blocks = rw (its.blocks_are, e) (omega (arith, times-same (block_of p) its.owned)) in
-          let is_live = owned_live allocator bytes table place (Map keys vs) blocks m.stands (block_of p) mine in
-          record { p = p; names = e; block = room; mine = mine; lies = there (LiesIn bytes heap_start (length bytes)) (block_of p) (positions (live bytes)) (live-lie bytes allocator m.stands.heap) is_live }
+          let is_live = owned_live allocator bytes table place (Map keys vs) blocks s (block_of p) mine in
+          record { p = p; names = e; block = room; mine = mine; lies = there (LiesIn bytes heap_start (length bytes)) (block_of p) (positions (live bytes)) (live-lie bytes allocator s.heap) is_live }
 
   -- an entry lies in the segment
   pub entry_fits : (i : ℕ) → i < n → start bytes place.at + i * each + each ≤ length bytes
@@ -120,7 +124,7 @@ module _ (allocator : ℕ) (bytes : List ℕ) (table : Table) (place : Place) (U
       omega (arith, b.block.room, b.block.behind_header, b.lies.high, b.lies.size)
 
   pub entry_small : (i : ℕ) → i < n → start bytes place.at + i * each + each < 2 ^ 32
-  entry_small i h = omega (arith, entry_fits i h, m.stands.heap.small)
+  entry_small i h = omega (arith, entry_fits i h, s.heap.small)
 
   -- the key of an entry
   pub key_is : (i : ℕ) → i < n → slice_get keys i ≡ Some (signed_long bytes (start bytes place.at + i * each))
@@ -182,3 +186,73 @@ module _ (allocator : ℕ) (bytes : List ℕ) (table : Table) (place : Place) (U
       → IfOk result (λ i. (i < len) × Compares from step key i Equal) → IfErr result (λ i. (i ≤ len) × IsBetween (Compares from step key) len i)
       → MatchResult result (λ i. key_place keys key ≡ Some i) (λ i. (key_place keys key ≡ None) × (i ≡ keys_below keys key))
   searched key from step len result from_is step_is len_is there between = ends key (Compares from step key) from step len from_is step_is len_is (λ i r e. e) result there between
+
+  -- ---- what the calls that read return
+
+  opens : Opens bytes table place (Form.flat_map U) (record { label = Label.map (keys_at bytes entries); blocks = named bytes place.at; parts = places_of U (map (λ p. p + 8) entries) })
+  opens = record { named_room = its.room; ascending = its.entries.2; opened_is = refl }
+
+  part_is : (i : ℕ) → i < n → slice_get (places_of U (map (λ p. p + 8) entries)) i ≡ Some (value_of U (start bytes place.at + i * each + 8))
+  part_is i h =
+      map_get (λ p. value_of U p) (map (λ p. p + 8) entries) i (start bytes place.at + i * each + 8)
+      (map_get (λ p. p + 8) entries i (start bytes place.at + i * each) (spaced_get (start bytes place.at) each n i h))
+
+  pub key_leads : (key : ℤ) (i : ℕ) → key_place keys key ≡ Some i → Leads bytes table place (Selector.key key ∷ []) (value_of U (start bytes place.at + i * each + 8))
+  key_leads key i at =
+      let below : i < n = subst (λ k. i < k) length_is (place_below keys key i at) in
+      let index : key_place (keys_at bytes entries) key ≡ Some i = subst (λ ks. key_place ks key ≡ Some i) keys_are at in
+      into {place = place} (Form.flat_map U) (record { label = Label.map (keys_at bytes entries); blocks = named bytes place.at; parts = places_of U (map (λ p. p + 8) entries) }) i
+      (value_of U (start bytes place.at + i * each + 8)) f opens index (part_is i below) here
+
+  -- as the code computes the position
+  pub value_leads : (entry : Entry) (key : ℤ) (i from p : ℕ) → IsEntryOf table 8 U entry → from ≡ start bytes place.at → p ≡ (from + i * entry.size + entry.before) % 2 ^ 32 → key_place keys key ≡ Some i
+      → Leads bytes table place (Selector.key key ∷ []) (value_of U p)
+  value_leads entry key i from p e from_is p_is at =
+      let below : i < n = subst (λ k. i < k) length_is (place_below keys key i at) in
+      let small = entry_small i below in
+      let here_is : (start bytes place.at + i * each + 8) % 2 ^ 32 ≡ start bytes place.at + i * each + 8 = omega arith in
+      let same : p ≡ start bytes place.at + i * each + 8 = p_is ∙ rw (from_is, e.size_is, e.before_is) here_is in
+      rw same (key_leads key i at)
+
+  -- what a search says, of the key as the code passes it
+  abbrev pub Searched : ℤ → Result ℕ ℕ → Type 0
+  Searched key r = MatchResult r (λ i. key_place keys key ≡ Some i) (λ i. (key_place keys key ≡ None) × (i ≡ keys_below keys key))
+
+  pub found_at : (key : ℤ) (i : ℕ) (r : Result ℕ ℕ) → Searched key r → result_ok r ≡ Some i → key_place keys key ≡ Some i
+  found_at key i (Ok j) h e = let same : j ≡ i = cc in subst (λ k. key_place keys key ≡ Some k) same h
+  found_at key i (Err j) h e = cc
+
+  pub found_none : (key : ℤ) (r : Result ℕ ℕ) → Searched key r → result_ok r ≡ None → key_place keys key ≡ None
+  found_none key (Ok j) h e = cc
+  found_none key (Err j) h e = h.0
+
+  pub got : (entry : Entry) (key passed : ℤ) (i from p : ℕ) (r : Result ℕ ℕ) → IsEntryOf table 8 U entry → passed ≡ key → Searched passed r → result_ok r ≡ Some i → from ≡ start bytes place.at
+      → p ≡ (from + i * entry.size + entry.before) % 2 ^ 32 → Leads bytes table place (Selector.key key ∷ []) (value_of U p)
+  got entry key passed i from p r e same h at from_is p_is = value_leads entry key i from p e from_is p_is (found_at key i r (subst (λ k. Searched k r) same h) at)
+
+  pub got_none : (key passed : ℤ) (r : Result ℕ ℕ) → passed ≡ key → Searched passed r → result_ok r ≡ None → key_place keys key ≡ None
+  got_none key passed r same h none = found_none key r (subst (λ k. Searched k r) same h) none
+
+  pub read_key : (entry : Entry) (i count from at : ℕ) (x loaded : ℤ) → IsEntryOf table 8 U entry → count ≡ n → i < count → from ≡ start bytes place.at → at ≡ (from + i * entry.size) % 2 ^ 32
+      → loaded ≡ signed_long bytes at → x ≡ loaded → Some x ≡ slice_get keys i
+  read_key entry i count from at x loaded e count_is h from_is at_is loaded_is x_is =
+      let there : at ≡ (start bytes place.at + i * each) % 2 ^ 32 = at_is ∙ rw (from_is, e.size_is) refl in
+      ap Some (x_is ∙ loaded_is ∙ ap (λ q. signed_long bytes q) there) ∙ sym (key_read i (omega arith))
+
+  pub read_none : (i count : ℕ) → count ≡ n → count ≤ i → None ≡ slice_get keys i
+  read_none i count count_is h = sym (no_key i (omega arith))
+
+  -- the first key above another, by what a search for that one says
+  pub next_read : (key passed : ℤ) (i j : ℕ) (r : Result ℕ ℕ) (read : Option ℤ) → passed ≡ key → Searched passed r → r ≡ Ok i → j ≡ min (i + 1) 4294967295 → read ≡ slice_get keys j → read ≡ first_of (keys_above keys key)
+  next_read key passed i j r read same h is j_is read_is =
+      let at = found_at key i r (subst (λ k. Searched k r) same h) (ap result_ok is) in
+      let below : i < n = subst (λ k. i < k) length_is (place_below keys key i at) in
+      let large : 8 ≤ each = omega arith in
+      let few = mul-le-mul_left i large in
+      let next : j ≡ suc i = omega (arith, entry_small i below) in
+      read_is ∙ ap (slice_get keys) next ∙ sym (found_next keys key i (parted_found keys key i ascending at))
+
+  pub next_read_missing : (key passed : ℤ) (i : ℕ) (r : Result ℕ ℕ) (read : Option ℤ) → passed ≡ key → Searched passed r → r ≡ Err i → read ≡ slice_get keys i → read ≡ first_of (keys_above keys key)
+  next_read_missing key passed i r read same h is read_is =
+      let none : (key_place keys key ≡ None) × (i ≡ keys_below keys key) = subst (Searched key) is (subst (λ k. Searched k r) same h) in
+      read_is ∙ sym (missing_next keys key i (parted_missing keys key i ascending none.0 none.1))

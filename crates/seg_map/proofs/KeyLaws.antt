@@ -1,13 +1,16 @@
 -- Ascending keys, and where another one stands among them.
-use Rattle.std.proofs.Common.{◌≡◌, ℕ, zero, suc, ◌+◌, ◌-◌, ◌<◌, ◌≤◌, ◌⊎◌, inl, inr, ℤ, ◌<ℤ◌, Bool, true, false, not, cond, T, List, [], ◌∷◌, ◌++◌, length, take, drop, Option, Some, None, refl, sym, ap, ◌∙◌, subst, arith, zero-add, length-append, lt-ltb, le-ltb}
+use Rattle.std.proofs.Common.{◌≡◌, ℕ, zero, suc, ◌+◌, ◌-◌, ◌<◌, ◌≤◌, ◌⊎◌, inl, inr, ℤ, ◌<ℤ◌, Bool, true, false, not, cond, T, List, [], ◌∷◌, ◌++◌, length, take, drop, Option, Some, None, refl, sym, ap, ◌∙◌, subst, arith, zero-add, length-append, lt-ltb, le-ltb, ltb-true}
 use Rattle.std.specs.Prelude.{int_lt, ◌&&◌, filter, count_by, nat_lt, slice_get, insert, remove, position}
 use Rattle.std.specs.List.{AllByRecursion, prefix_len, position_or_len}
 use Rattle.std.proofs.lemmas.List.Sums.{sum_by-cons}
-use Rattle.std.specs.Cmp.{int_chain}
+use Rattle.std.specs.Ordering.{int_cmp}
+use Rattle.std.specs.Cmp.{int_chain, int_ranked}
+use Rattle.std.specs.declared.cmp.Ordering.{Ordering}
+use Rattle.std.specs.declared.cmp.Ordering.TheVariants.{Less, Equal, Greater}
 use Rattle.std.specs.Int.Signed.{<ℤ_irrefl}
 use Rattle.seg_spec.specs.Value.{IsAscending, same_int}
 use Rattle.seg_spec.specs.Items.{key_place, keys_below}
-use Rattle.seg_map.specs.Maps.{least_key, least_above}
+use Rattle.seg_map.specs.Maps.{first_of, keys_above}
 
 -- ---- two numbers
 
@@ -194,7 +197,7 @@ module _ (keys : List ℤ) (k : ℤ) (i : ℕ) where
         let l : nat_lt i (length (p.below ++ k ∷ p.above)) ≡ true = nat_lt_true i (length (p.below ++ k ∷ p.above)) (omega (arith, p.at_is)) in
         rw (p.keys_are, len, l) refl
 
-    pub found_next : least_above keys k ≡ slice_get keys (suc i)
+    pub found_next : first_of (keys_above keys k) ≡ slice_get keys (suc i)
     found_next =
         let rest : filter (λ x. int_lt k x) (p.below ++ k ∷ p.above) ≡ p.above = filtered_below p.below (k ∷ p.above) k p.all_below ∙ rw (not_self k) (filtered_above p.above k p.all_above) in
         let at : slice_get (p.below ++ k ∷ p.above) (length p.below + 1) ≡ slice_get p.above 0 = get_append p.below (k ∷ p.above) 1 in
@@ -211,9 +214,72 @@ module _ (keys : List ℤ) (k : ℤ) (i : ℕ) where
     pub missing_below : keys_below keys k ≡ i
     missing_below = rw p.keys_are (counted_below p.below p.above k p.all_below ∙ rw (counted_above p.above k p.all_above) (omega (arith, p.at_is)))
 
-    pub missing_next : least_above keys k ≡ slice_get keys i
+    pub missing_next : first_of (keys_above keys k) ≡ slice_get keys i
     missing_next =
         let rest : filter (λ x. int_lt k x) (p.below ++ p.above) ≡ p.above = filtered_below p.below p.above k p.all_below ∙ filtered_above p.above k p.all_above in
         let at : slice_get (p.below ++ p.above) (length p.below + 0) ≡ slice_get p.above 0 = get_append p.below p.above 0 in
         let e : length p.below + 0 ≡ i = omega (arith, p.at_is) in
         rw (p.keys_are, rest) (sym at ∙ ap (slice_get (p.below ++ p.above)) e)
+
+-- a key that is there stands below the end
+pub place_below : (keys : List ℤ) (k : ℤ) (i : ℕ) → key_place keys k ≡ Some i → i < length keys
+place_below keys k i e = go (nat_lt (prefix_len (misses k) keys) (length keys)) refl e
+  where
+    go : (b : Bool) → nat_lt (prefix_len (misses k) keys) (length keys) ≡ b → cond b (Some (prefix_len (misses k) keys)) None ≡ Some i → i < length keys
+    go true f g = let same : prefix_len (misses k) keys ≡ i = cc in subst (λ j. j < length keys) same (ltb-true _ _ f)
+    go false f g = cc
+
+-- ---- each key is among others, or would stand between them
+
+abbrev pub PartedAt : List ℤ → ℤ → Type 0
+PartedAt keys k = ((i : ℕ) × Parted keys k i (k ∷ [])) ⊎ ((i : ℕ) × Parted keys k i [])
+
+pub parted : (keys : List ℤ) (k : ℤ) → IsAscending keys → PartedAt keys k
+parted [] k a = inr (0, parted_front [] k a (λ y e. cc))
+parted (x ∷ xs) k a = by (parted xs k (ascending_tail x xs a)) (int_cmp x k) refl
+  where
+    more : x <ℤ k → PartedAt xs k → PartedAt (x ∷ xs) k
+    more h (inl p) = inl (suc p.0, one_more x xs k p.0 (k ∷ []) h p.1)
+    more h (inr p) = inr (suc p.0, one_more x xs k p.0 [] h p.1)
+
+    by : PartedAt xs k → (r : Ordering) → r ≡ int_cmp x k → PartedAt (x ∷ xs) k
+    by rest Less e = more (int_ranked x k Less e) rest
+    by rest Equal e = inl (0, parted_at (x ∷ xs) k 0 a (ap Some (int_ranked x k Equal e)))
+    by rest Greater e = inr (0, parted_front (x ∷ xs) k a (λ y f. let same : x ≡ y = cc in subst (λ z. k <ℤ z) same (int_ranked x k Greater e)))
+
+pub parted_found : (keys : List ℤ) (k : ℤ) (i : ℕ) → IsAscending keys → key_place keys k ≡ Some i → Parted keys k i (k ∷ [])
+parted_found keys k i a e = by (parted keys k a)
+  where
+    by : PartedAt keys k → Parted keys k i (k ∷ [])
+    by (inl p) = let there = found_place keys k p.0 p.1 in let same : p.0 ≡ i = cc in subst (λ j. Parted keys k j (k ∷ [])) same p.1
+    by (inr p) = let none = missing_place keys k p.0 p.1 in cc
+
+pub parted_missing : (keys : List ℤ) (k : ℤ) (i : ℕ) → IsAscending keys → key_place keys k ≡ None → i ≡ keys_below keys k → Parted keys k i []
+parted_missing keys k i a e is = by (parted keys k a)
+  where
+    by : PartedAt keys k → Parted keys k i []
+    by (inl p) = let there = found_place keys k p.0 p.1 in cc
+    by (inr p) = subst (λ j. Parted keys k j []) (sym (missing_below keys k p.0 p.1) ∙ sym is) p.1
+
+-- ---- a key comes
+
+take_front : (xs ys : List ℤ) → take (length xs) (xs ++ ys) ≡ xs
+take_front [] ys = refl
+take_front (x ∷ xs) ys = ap (λ zs. x ∷ zs) (take_front xs ys)
+
+drop_front : (xs ys : List ℤ) → drop (length xs) (xs ++ ys) ≡ ys
+drop_front [] ys = refl
+drop_front (x ∷ xs) ys = drop_front xs ys
+
+module _ (keys : List ℤ) (k : ℤ) (i : ℕ) (p : Parted keys k i []) where
+  pub inserted : insert keys i k ≡ p.below ++ k ∷ p.above
+  inserted = rw (p.keys_are, sym p.at_is) (rw (take_front p.below p.above, drop_front p.below p.above) refl)
+
+  abbrev both : Parted (insert keys i k) k i (k ∷ [])
+  both = record { below = p.below; above = p.above; keys_are = inserted; at_is = p.at_is; all_below = p.all_below; all_above = p.all_above }
+
+  pub inserted_place : key_place (insert keys i k) k ≡ Some i
+  inserted_place = found_place (insert keys i k) k i both
+
+  pub inserted_ascends : IsAscending keys → IsAscending (insert keys i k)
+  inserted_ascends a = rw inserted (ascending_with p.below k p.above (subst IsAscending p.keys_are a) p.all_below p.all_above)

@@ -1,2 +1,1 @@
 pub mod Maps
-pub mod Flats

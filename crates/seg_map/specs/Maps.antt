@@ -1,110 +1,81 @@
--- What calls on maps find and leave: the same words for flat maps and for trees.
---     map_value form                     the type of a map's values
---     MapStands allocator bytes table place form U keys vs blocks     a place of this form is a map of these keys and values
---     KeyLeads bytes table place U k p   the value of a key stands at p
---     FindsKey bytes table place U keys k result     where the value of a key stands, if the map has the key
---     least_key keys, least_above keys k   the least key, and the least one above another
---     key_asks bytes table at form       the requests for one more key
---     PutsKey .., AddsKey ..             a key was there, or came with a default value
---     RefusesKey ..                      there was no room for a key, and nothing changed
---     RemovesKey .., DropsKey ..         a key went with its value, if it was there
---     KeepsOtherKeys old new table place k     paths through all other keys lead where they led
-use Rattle.std.specs.Prelude.{◌≡◌, ◌≢◌, ℕ, ◌+◌, ℤ, int_lt, Bool, true, false, List, [], ◌∷◌, filter, Option, Some, None, MatchOption, slice_get}
-use Rattle.seg_spec.specs.Types.{Form, Table, form_at, size}
+-- Calls on maps of both kinds.
+--     first_of keys                 the first of keys, if there is one
+--     keys_above keys after         those above another, in their order
+--     value_of U at                 the place of a value of type U
+--     WhereMap form allocator bytes table cell claim     the claim holds of each map of this form at a cell
+--     FindsValue bytes table map U keys key found     where the value of a key stands: nowhere exactly where
+--                                                     the map doesn't have the key
+--     AddsKey, PutsKey              a key came to a map; what putting a key leaves
+--     TakesKey, RemovesKey          a key went from a map; what removing a key leaves
+use Rattle.std.specs.Prelude.{◌≡◌, ℕ, Bool, true, false, ℤ, int_lt, List, [], ◌∷◌, filter, slice_get, Option, Some, None, MatchOption, Result, MatchResult}
+use Rattle.seg_spec.specs.Types.{Form, Table, form_at}
 use Rattle.seg_spec.specs.Value.{Values, Map, Selector, default_of}
 use Rattle.seg_spec.specs.Items.{key_place, with_entry, without_entry}
-use Rattle.seg_spec.specs.Reads.{Place, count_at, Leads}
-use Rattle.seg_spec.specs.Owning.{Stands}
+use Rattle.seg_spec.specs.Reads.{Place, Leads}
 use Rattle.seg_spec.specs.Calls.{Refuses}
-use Rattle.seg_spec.specs.Demand.{Ask, block_for}
-use Rattle.seg_spec.specs.Spending.{buffer_asks, PartBlocks}
+use Rattle.seg_spec.specs.Demand.{Ask}
+use Rattle.seg_spec.specs.Spending.{PartBlocks}
 use Rattle.seg_spec.specs.Growing.{Succeeds}
+use Rattle.seg_spec.specs.Owning.{Stands}
+use Rattle.seg_value.specs.Places.{object_at}
 
--- the type of a map's values
-abbrev pub map_value : Form → Option ℕ
-map_value (Form.flat_map U) = Some U
-map_value (Form.map U) = Some U
-map_value form = None
+-- the first of keys, if there is one
+abbrev pub first_of : List ℤ → Option ℤ
+first_of keys = slice_get keys 0
 
--- what a call on a map finds: a place of this form, which stands with these keys and values of type U
-pub record MapStands (allocator : ℕ) (bytes : List ℕ) (table : Table) (place : Place) (form : Form)
-    (U : ℕ) (keys : List ℤ) (vs : Values) (blocks : List ℕ) : Type 0 where
-  pub form_is : form_at table place.type ≡ Some form
-  pub value_is : map_value form ≡ Some U
-  pub stands : Stands allocator bytes table place (Map keys vs) blocks
+-- those above another, in their order
+abbrev pub keys_above : List ℤ → ℤ → List ℤ
+keys_above keys after = filter (λ x. int_lt after x) keys
 
--- ---- reading
+-- the place of a value of type U
+abbrev pub value_of : ℕ → ℕ → Place
+value_of U at = record { at = at; type = U }
 
--- the value of a key stands at p
-abbrev pub KeyLeads : List ℕ → Table → Place → ℕ → ℤ → ℕ → Type 0
-KeyLeads bytes table place U k p =
-    Leads bytes table place (Selector.key k ∷ []) (record { at = p; type = U })
+-- the claim holds of each map of this form that calls find at a cell: of its type and that of its
+-- values, its keys and values, and the blocks that it owns
+abbrev pub WhereMap : (ℕ → Form) → ℕ → List ℕ → Table → ℕ
+    → (ℕ → ℕ → List ℤ → Values → List ℕ → Type 0) → Type 0
+WhereMap form allocator bytes table cell claim =
+    (T U : ℕ) (keys : List ℤ) (vs : Values) (blocks : List ℕ) → form_at table T ≡ Some (form U)
+    → Stands allocator bytes table (object_at cell T) (Map keys vs) blocks
+    → claim T U keys vs blocks
 
--- where the value of a key stands: none exactly where the map doesn't have the key
-abbrev pub FindsKey : List ℕ → Table → Place → ℕ → List ℤ → ℤ → Option ℕ → Type 0
-FindsKey bytes table place U keys k result =
-    MatchOption result (key_place keys k ≡ None) (KeyLeads bytes table place U k)
+-- where the value of a key stands: nowhere exactly where the map doesn't have the key
+abbrev pub FindsValue : List ℕ → Table → Place → ℕ → List ℤ → ℤ → Option ℕ → Type 0
+FindsValue bytes table map U keys key found = MatchOption found (key_place keys key ≡ None)
+    (λ p. Leads bytes table map (Selector.key key ∷ []) (value_of U p))
 
--- the least of ascending keys
-abbrev pub least_key : List ℤ → Option ℤ
-least_key keys = slice_get keys 0
+-- a map has one more key, with the default of a value, which stands at p
+pub record AddsKey (allocator : ℕ) (old new : List ℕ) (table : Table) (map : Place) (U : ℕ)
+    (keys : List ℤ) (vs : Values) (key : ℤ) (blocks : List ℕ) (asks : List Ask)
+    (p : ℕ) : Type 0 where
+  pub others : List ℕ
+  pub succeeds : Succeeds allocator old new table map
+      (with_entry (keys, vs) key (default_of table U)) asks [] blocks others
+  pub stands_at : Leads new table map (Selector.key key ∷ []) (value_of U p)
 
--- the least of ascending keys above another
-abbrev pub least_above : List ℤ → ℤ → Option ℤ
-least_above keys k = least_key (filter (λ x. int_lt k x) keys)
+-- what putting a key leaves, by its place among the map's keys: nothing changes where it has one
+abbrev pub PutsKey : {E : Type 0} → ℕ → List ℕ → List ℕ → Table → Place → ℕ → List ℤ → Values → ℤ
+    → List ℕ → List Ask → Option ℕ → Result ℕ E → Type 0
+PutsKey allocator old new table map U keys vs key blocks asks None result = MatchResult result
+    (AddsKey allocator old new table map U keys vs key blocks asks)
+    (λ code. Refuses allocator old new asks)
+PutsKey allocator old new table map U keys vs key blocks asks (Some i) result = MatchResult result
+    (λ p. (new ≡ old) × Leads old table map (Selector.key key ∷ []) (value_of U p))
+    (λ code. ⊥)
 
--- ---- a key comes
-
--- the requests for one more key of a map, by its form
-abbrev pub key_asks : List ℕ → Table → ℕ → Form → List Ask
-key_asks bytes table at (Form.flat_map U) =
-    buffer_asks bytes at (8 + size table U) (count_at bytes at + 1)
-key_asks bytes table at (Form.map U) = block_for (24 + size table U) ∷ []
-key_asks bytes table at form = []
-
--- the key came, with a default value: one more request was granted
-abbrev pub AddsKey : ℕ → List ℕ → List ℕ → Table → Place → Form → ℕ → List ℤ → Values → List ℕ →
-    ℤ → Type 0
-AddsKey allocator old new table place form U keys vs blocks k =
-    (others : List ℕ) × Succeeds allocator old new table place
-    (with_entry (keys, vs) k (default_of table U)) (key_asks old table place.at form) [] blocks others
-
--- The key is in the map, and its value stands at p. Where it was there before, nothing changed.
-pub record PutsKey (allocator : ℕ) (old new : List ℕ) (table : Table) (place : Place) (form : Form)
-    (U : ℕ) (keys : List ℤ) (vs : Values) (blocks : List ℕ) (k : ℤ) (p : ℕ) : Type 0 where
-  pub comes : MatchOption (key_place keys k)
-      (AddsKey allocator old new table place form U keys vs blocks k) (λ i. new ≡ old)
-  pub leads : KeyLeads new table place U k p
-
--- the key was missing, and there was no room for it: nothing changed
-pub record RefusesKey (allocator : ℕ) (old new : List ℕ) (table : Table) (place : Place)
-    (form : Form) (keys : List ℤ) (k : ℤ) : Type 0 where
-  pub missing : key_place keys k ≡ None
-  pub refuses : Refuses allocator old new (key_asks old table place.at form)
-
--- ---- a key goes
-
--- the key at a place went, and the blocks of its entry
-pub record DropsKey (allocator : ℕ) (old new : List ℕ) (table : Table) (place : Place)
+-- a map lost the key at a place among its keys, with its value
+pub record TakesKey (allocator : ℕ) (old new : List ℕ) (table : Table) (map : Place)
     (keys : List ℤ) (vs : Values) (blocks : List ℕ) (i : ℕ) : Type 0 where
   pub gives : List ℕ
-  pub its : PartBlocks old table place i gives
+  pub part : PartBlocks old table map i gives
   pub others : List ℕ
-  pub succeeds : Succeeds allocator old new table place (without_entry (keys, vs) i) [] gives
+  pub succeeds : Succeeds allocator old new table map (without_entry (keys, vs) i) [] gives
       blocks others
 
--- the key went, if the map had it: where it didn't, nothing changed
-abbrev pub RemovesKey : ℕ → List ℕ → List ℕ → Table → Place → List ℤ → Values → List ℕ → ℤ → Bool →
-    Type 0
-RemovesKey allocator old new table place keys vs blocks k result =
-    MatchOption (key_place keys k) ((result ≡ false) × (new ≡ old))
-    (λ i. (result ≡ true) × DropsKey allocator old new table place keys vs blocks i)
-
--- ---- what stays where it stood, in a tree
-
--- each path through another key leads where it led
-abbrev pub KeepsOtherKeys : List ℕ → List ℕ → Table → Place → ℤ → Type 0
-KeepsOtherKeys old new table place k =
-    (other : ℤ) (path : List Selector) (inner : Place) → other ≢ k →
-    Leads old table place (Selector.key other ∷ path) inner →
-    Leads new table place (Selector.key other ∷ path) inner
+-- what removing a key leaves, by its place among the map's keys: nothing changes where it has none
+abbrev pub RemovesKey : ℕ → List ℕ → List ℕ → Table → Place → List ℤ → Values → List ℕ → Option ℕ
+    → Bool → Type 0
+RemovesKey allocator old new table map keys vs blocks None gone = (gone ≡ false) × (new ≡ old)
+RemovesKey allocator old new table map keys vs blocks (Some i) gone =
+    (gone ≡ true) × TakesKey allocator old new table map keys vs blocks i

@@ -1,12 +1,12 @@
 //! A flat map: a buffer of entries {key, value} in order of their keys.
 
-ghost use Rattle.std.specs.Prelude.{◌≡◌, ℕ, ℤ, List, Some, None, MatchResult, slice_get};
+ghost use Rattle.std.specs.Prelude.{◌≡◌, Some, None, MatchResult, slice_get};
 ghost use Rattle.seg_spec.specs.Items.{key_place, keys_below};
-ghost use Rattle.seg_spec.specs.Value.{Values};
+ghost use Rattle.seg_spec.specs.Types.{Form};
 ghost use Rattle.seg_spec.specs.Window.{KeepsHost};
 ghost use Rattle.seg_value.specs.Places.{object_at};
-ghost use Rattle.seg_map.specs.Flats.{IsFlat};
-ghost use Rattle.seg_map.specs.Maps.{FindsKey, least_key, least_above};
+ghost use Rattle.seg_value.specs.Contents.{IsEntryOf};
+ghost use Rattle.seg_map.specs.Maps.{WhereMap, FindsValue, first_of, keys_above};
 
 use seg_block::Fit;
 use seg_raw::Code;
@@ -20,10 +20,10 @@ fn search<F: Fit, A: Allocator>(
     cell: u32,
     key: i64,
 ) -> Result<u32, u32>
-    ensures finds { (T U : ℕ) (keys : List ℤ) (vs : Values) (blocks : List ℕ) →
-        IsFlat F.allocator heap.now entry cell T U keys vs blocks →
+    ensures { WhereMap Form.flat_map F.allocator heap.now.window.bytes heap.now.types cell
+        (λ T U keys vs blocks. IsEntryOf heap.now.types 8 U entry →
         MatchResult result (λ index. key_place keys key ≡ Some index)
-        (λ index. (key_place keys key ≡ None) × (index ≡ keys_below keys key)) }
+        (λ index. (key_place keys key ≡ None) × (index ≡ keys_below keys key))) }
 {
     let entries = heap.start(cell);
     binary_search(heap.count(cell), |index| {
@@ -38,9 +38,9 @@ pub(crate) fn get<F: Fit, A: Allocator>(
     cell: u32,
     key: i64,
 ) -> Option<u32>
-    ensures finds { (T U : ℕ) (keys : List ℤ) (vs : Values) (blocks : List ℕ) →
-        IsFlat F.allocator heap.now entry cell T U keys vs blocks →
-        FindsKey heap.now.window.bytes heap.now.types (object_at cell T) U keys key result }
+    ensures { WhereMap Form.flat_map F.allocator heap.now.window.bytes heap.now.types cell
+        (λ T U keys vs blocks. IsEntryOf heap.now.types 8 U entry →
+        FindsValue heap.now.window.bytes heap.now.types (object_at cell T) U keys key result) }
 {
     let index = search(heap, entry, cell, key).ok()?;
     Some(entry.value_at(heap.start(cell), index))
@@ -108,8 +108,8 @@ fn key_of<F: Fit, A: Allocator>(
     cell: u32,
     index: u32,
 ) -> Option<i64>
-    ensures key { (T U : ℕ) (keys : List ℤ) (vs : Values) (blocks : List ℕ) →
-        IsFlat F.allocator heap.now entry cell T U keys vs blocks → result ≡ slice_get keys index }
+    ensures { WhereMap Form.flat_map F.allocator heap.now.window.bytes heap.now.types cell
+        (λ T U keys vs blocks. IsEntryOf heap.now.types 8 U entry → result ≡ slice_get keys index) }
 {
     if index < heap.count(cell) {
         Some(heap.load(entry.at(heap.start(cell), index)))
@@ -124,8 +124,8 @@ pub(crate) fn first_key<F: Fit, A: Allocator>(
     entry: Entry,
     cell: u32,
 ) -> Option<i64>
-    ensures first { (T U : ℕ) (keys : List ℤ) (vs : Values) (blocks : List ℕ) →
-        IsFlat F.allocator heap.now entry cell T U keys vs blocks → result ≡ least_key keys }
+    ensures { WhereMap Form.flat_map F.allocator heap.now.window.bytes heap.now.types cell
+        (λ T U keys vs blocks. IsEntryOf heap.now.types 8 U entry → result ≡ first_of keys) }
 {
     key_of(heap, entry, cell, 0)
 }
@@ -137,8 +137,8 @@ pub(crate) fn next_key<F: Fit, A: Allocator>(
     cell: u32,
     after: i64,
 ) -> Option<i64>
-    ensures next { (T U : ℕ) (keys : List ℤ) (vs : Values) (blocks : List ℕ) →
-        IsFlat F.allocator heap.now entry cell T U keys vs blocks → result ≡ least_above keys after }
+    ensures { WhereMap Form.flat_map F.allocator heap.now.window.bytes heap.now.types cell
+        (λ T U keys vs blocks. IsEntryOf heap.now.types 8 U entry → result ≡ first_of (keys_above keys after)) }
 {
     let index = match search(heap, entry, cell, after) {
         Ok(index) => index.saturating_add(1),
