@@ -15,7 +15,7 @@ use Rattle.seg_spec.specs.Types.{Form, Table, form_at, size}
 use Rattle.seg_spec.specs.Value.{Label, Value, node, Values, Map, IsAscending, Selector}
 use Rattle.seg_spec.specs.Heap.{live, heap_start, units_at}
 use Rattle.seg_spec.specs.Block.{Kind, tag_of, IsBlock, IsInside, block_of}
-use Rattle.seg_spec.specs.Reads.{Place, count_at, named, start, spaced, places_of, keys_at, Opens, HoldsEach, Leads, here, into}
+use Rattle.seg_spec.specs.Reads.{Place, Opened, count_at, named, start, spaced, places_of, keys_at, Opens, Holds, HoldsEach, Leads, here, into}
 use Rattle.seg_spec.specs.Owning.{Stands}
 use Rattle.seg_spec.specs.Sound.{times, positions}
 use Rattle.seg_spec.specs.Items.{key_place, keys_below}
@@ -70,6 +70,45 @@ one_less i = omega arith
 same_map : (keys others : List ℤ) (vs ws : Values) → Map keys vs ≡ Map others ws → (keys ≡ others) × (vs ≡ ws)
 same_map keys others vs ws e = (cc, cc)
 
+-- ---- a place that holds a map
+
+module _ (bytes : List ℕ) (table : Table) (place : Place) (U : ℕ) (keys : List ℤ) (vs : Values) (blocks : List ℕ) (f : form_at table place.type ≡ Some (Form.flat_map U)) (h : Holds bytes table place (Map keys vs) blocks) where
+  abbrev held_entries : List ℕ
+  held_entries = spaced (start bytes place.at) (8 + size table U) (count_at bytes place.at)
+
+  pub held : Buffered bytes table place (Form.flat_map U) (Map keys vs) blocks
+  held = buffered bytes table place (Form.flat_map U) (Map keys vs) blocks f refl h
+
+  pub held_keys : keys ≡ keys_at bytes (spaced (start bytes place.at) (8 + size table U) (count_at bytes place.at))
+  held_keys = (same_map keys (keys_at bytes held_entries) vs held.entries.0 held.entries.1).0
+
+  pub held_length : length keys ≡ count_at bytes place.at
+  held_length = ap length held_keys ∙ length-keys_at bytes held_entries ∙ length-spaced (start bytes place.at) (8 + size table U) (count_at bytes place.at)
+
+  -- the place of the value of a key
+  abbrev pub held_value : ℕ → Place
+  held_value i = value_of U (start bytes place.at + i * (8 + size table U) + 8)
+
+  abbrev pub held_opened : Opened
+  held_opened = record { label = Label.map (keys_at bytes (spaced (start bytes place.at) (8 + size table U) (count_at bytes place.at))); blocks = named bytes place.at;
+      parts = places_of U (map (λ p. p + 8) (spaced (start bytes place.at) (8 + size table U) (count_at bytes place.at))) }
+
+  pub held_opens : Opens bytes table place (Form.flat_map U) held_opened
+  held_opens = record { named_room = held.room; ascending = held.entries.2; opened_is = refl }
+
+  pub held_part : (i : ℕ) → i < count_at bytes place.at → slice_get held_opened.parts i ≡ Some (held_value i)
+  held_part i h =
+      map_get (λ p. value_of U p) (map (λ p. p + 8) held_entries) i (start bytes place.at + i * (8 + size table U) + 8)
+      (map_get (λ p. p + 8) held_entries i (start bytes place.at + i * (8 + size table U)) (spaced_get (start bytes place.at) (8 + size table U) (count_at bytes place.at) i h))
+
+  pub held_leads : (key : ℤ) (i : ℕ) → key_place keys key ≡ Some i → Leads bytes table place (Selector.key key ∷ []) (held_value i)
+  held_leads key i at =
+      let below : i < count_at bytes place.at = subst (λ k. i < k) held_length (place_below keys key i at) in
+      let index : key_place (keys_at bytes held_entries) key ≡ Some i = subst (λ ks. key_place ks key ≡ Some i) held_keys at in
+      into {place = place} (Form.flat_map U) held_opened i (held_value i) f held_opens index (held_part i below) here
+
+-- ---- where calls find it
+
 module _ (allocator : ℕ) (bytes : List ℕ) (table : Table) (place : Place) (U : ℕ) (keys : List ℤ) (vs : Values) (blocks : List ℕ) (f : form_at table place.type ≡ Some (Form.flat_map U)) (s : Stands allocator bytes table place (Map keys vs) blocks) where
   abbrev pub each : ℕ
   each = 8 + size table U
@@ -81,10 +120,10 @@ module _ (allocator : ℕ) (bytes : List ℕ) (table : Table) (place : Place) (U
   entries = spaced (start bytes place.at) each n
 
   pub its : Buffered bytes table place (Form.flat_map U) (Map keys vs) blocks
-  its = buffered bytes table place (Form.flat_map U) (Map keys vs) blocks f refl s.holds_it
+  its = held bytes table place U keys vs blocks f s.holds_it
 
   pub keys_are : keys ≡ keys_at bytes entries
-  keys_are = (same_map keys (keys_at bytes entries) vs its.entries.0 its.entries.1).0
+  keys_are = held_keys bytes table place U keys vs blocks f s.holds_it
 
   pub ascending : IsAscending keys
   ascending = subst IsAscending (sym keys_are) its.entries.2
@@ -93,7 +132,7 @@ module _ (allocator : ℕ) (bytes : List ℕ) (table : Table) (place : Place) (U
   holds_each = subst (λ ws. HoldsEach bytes table (places_of U (map (λ p. p + 8) entries)) ws its.owned) (sym (same_map keys (keys_at bytes entries) vs its.entries.0 its.entries.1).1) its.entries.3
 
   pub length_is : length keys ≡ n
-  length_is = ap length keys_are ∙ length-keys_at bytes entries ∙ length-spaced (start bytes place.at) each n
+  length_is = held_length bytes table place U keys vs blocks f s.holds_it
 
   -- the buffer, where there is an entry
   pub record HasBuffer : Type 0 where
@@ -189,20 +228,8 @@ module _ (allocator : ℕ) (bytes : List ℕ) (table : Table) (place : Place) (U
 
   -- ---- what the calls that read return
 
-  opens : Opens bytes table place (Form.flat_map U) (record { label = Label.map (keys_at bytes entries); blocks = named bytes place.at; parts = places_of U (map (λ p. p + 8) entries) })
-  opens = record { named_room = its.room; ascending = its.entries.2; opened_is = refl }
-
-  part_is : (i : ℕ) → i < n → slice_get (places_of U (map (λ p. p + 8) entries)) i ≡ Some (value_of U (start bytes place.at + i * each + 8))
-  part_is i h =
-      map_get (λ p. value_of U p) (map (λ p. p + 8) entries) i (start bytes place.at + i * each + 8)
-      (map_get (λ p. p + 8) entries i (start bytes place.at + i * each) (spaced_get (start bytes place.at) each n i h))
-
   pub key_leads : (key : ℤ) (i : ℕ) → key_place keys key ≡ Some i → Leads bytes table place (Selector.key key ∷ []) (value_of U (start bytes place.at + i * each + 8))
-  key_leads key i at =
-      let below : i < n = subst (λ k. i < k) length_is (place_below keys key i at) in
-      let index : key_place (keys_at bytes entries) key ≡ Some i = subst (λ ks. key_place ks key ≡ Some i) keys_are at in
-      into {place = place} (Form.flat_map U) (record { label = Label.map (keys_at bytes entries); blocks = named bytes place.at; parts = places_of U (map (λ p. p + 8) entries) }) i
-      (value_of U (start bytes place.at + i * each + 8)) f opens index (part_is i below) here
+  key_leads key i at = held_leads bytes table place U keys vs blocks f s.holds_it key i at
 
   -- as the code computes the position
   pub value_leads : (entry : Entry) (key : ℤ) (i from p : ℕ) → IsEntryOf table 8 U entry → from ≡ start bytes place.at → p ≡ (from + i * entry.size + entry.before) % 2 ^ 32 → key_place keys key ≡ Some i

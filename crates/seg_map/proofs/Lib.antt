@@ -1,2 +1,4 @@
 pub mod KeyLaws
 pub mod FlatMaps
+pub mod PartCleared
+pub mod FlatChanges

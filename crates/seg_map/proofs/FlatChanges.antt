@@ -1,0 +1,217 @@
+-- A flat map that gets a key, or loses one, from what the steps of the calls leave.
+use Rattle.std.proofs.Common.{◌≡◌, ◌≢◌, ℕ, zero, suc, ◌+◌, ◌*◌, ◌%◌, ◌^◌, ◌<◌, ◌≤◌, ◌⊎◌, inl, inr, ⊎_elim, ℤ, true, List, [], ◌∷◌, ◌++◌, length, Option, Some, None, refl, sym, ap, ◌∙◌, subst, arith}
+use Rattle.std.specs.Prelude.{insert, remove, option_map, option_to_list, unwrap_or}
+use Rattle.std.proofs.Math.Nat.{mul-le-mul_right}
+use Rattle.seg_spec.specs.Bytes.{signed, signed_long, ChangesOnly, IsSame}
+use Rattle.seg_spec.specs.Pointer.{target}
+use Rattle.seg_spec.specs.Types.{Form, Table, form_at, size}
+use Rattle.seg_spec.specs.Value.{Value, Values, nil, cons, Map, IsAscending, Selector, change_nth, default_of, put}
+use Rattle.seg_spec.specs.Heap.{live, units_at}
+use Rattle.seg_spec.specs.Block.{IsInside, block_of}
+use Rattle.seg_spec.specs.Reads.{Place, count_at, named, start, Holds, Leads}
+use Rattle.seg_spec.specs.Apart.{Separate, ComesApart}
+use Rattle.seg_spec.specs.Cells.{IsWithin}
+use Rattle.seg_spec.specs.Sound.{times, positions}
+use Rattle.seg_spec.specs.Items.{key_place, keys_below, insert_nth, remove_nth, with_entry, without_entry}
+use Rattle.seg_spec.specs.Roots.{ChangesPlace}
+use Rattle.seg_spec.specs.Owning.{Stands}
+use Rattle.seg_spec.specs.Demand.{Ask, after_gives}
+use Rattle.seg_spec.specs.Spending.{PlaceBlocks}
+use Rattle.seg_spec.specs.Growing.{Succeeds}
+use Rattle.seg_spec.proofs.BytesLaws.{number-slice}
+use Rattle.seg_spec.proofs.Frame.{cell-target, cell-count}
+use Rattle.seg_spec.proofs.SliceLaws.{IsSame-part}
+use Rattle.seg_spec.proofs.TypesLaws.{size_large}
+use Rattle.seg_spec.proofs.CellSteps.{ChangesOnly-wider, size_aligned}
+use Rattle.seg_spec.proofs.LiveLaws.{times-same, times-append, live-once}
+use Rattle.seg_spec.proofs.Paths.{Middle, middle}
+use Rattle.seg_spec.proofs.OneReading.{Holds-one}
+use Rattle.seg_value.specs.Contents.{IsEntryOf}
+use Rattle.seg_value.specs.declared.entry.Entry.{Entry}
+use Rattle.seg_map.specs.Maps.{value_of, AddsKey, TakesKey, RemovesKey}
+use Rattle.seg_map.proofs.KeyLaws.{parted_missing, inserted_place, inserted_ascends, place_below}
+use Rattle.seg_map.proofs.FlatMaps.{HasBuffer, has_buffer, entry_fits, entry_small, its, holds_each, length_is, ascending, key_leads, held_leads, held_opened, held_opens, held_part}
+use Rattle.seg_map.proofs.PartCleared as part
+
+-- ---- a key comes
+
+changes_twice : (a b c : List ℕ) (at n : ℕ) → ChangesOnly a b at n → ChangesOnly b c at n → ChangesOnly a c at n
+changes_twice a b c at n x y = record { length_kept = y.length_kept ∙ x.length_kept; others = λ p m apart. y.others p m apart ∙ x.others p m apart }
+
+module _ (allocator : ℕ) (old opened stored new : List ℕ) (table : Table) (place : Place) (U : ℕ) (keys : List ℤ) (vs : Values) (blocks : List ℕ) (f : form_at table place.type ≡ Some (Form.flat_map U))
+    (s : Stands allocator old table place (Map keys vs) blocks) (entry : Entry) (e : IsEntryOf table 8 U entry) (key : ℤ) (index at : ℕ) (asks : List Ask) (others : List ℕ)
+    (missing : key_place keys key ≡ None) (index_is : index ≡ keys_below keys key)
+    (at_is : at ≡ start opened place.at + index * (8 + size table U)) (within : IsWithin opened at (8 + size table U)) (apart : Separate at (8 + size table U) place.at (size table place.type))
+    (becomes : (written : List ℕ) (w : Value) → ChangesOnly opened written at (8 + size table U) → IsAscending (insert keys index (signed_long written at)) →
+        Holds written table (value_of U (start opened place.at + index * (8 + size table U) + 8)) w [] →
+        Succeeds allocator old written table place (Map (insert keys index (signed_long written at)) (insert_nth vs index w)) asks [] blocks others) where
+  eight : 8 ≤ size table place.type
+  eight = size_large table s.is_table place.type
+
+  module _ (value : Place) (changes : ChangesOnly opened stored at 8) (key_is : signed_long stored at ≡ key) (value_at : value.at ≡ at + 8) (value_type : value.type ≡ U)
+      (filled : ChangesOnly stored new value.at (size table value.type)) (holds_it : Holds new table value (default_of table value.type) []) where
+    all_changes : ChangesOnly opened new at (8 + size table U)
+    all_changes = changes_twice opened stored new at (8 + size table U) (ChangesOnly-wider opened stored at 8 at (8 + size table U) (omega arith) (omega arith) changes)
+        (let sizes : size table value.type ≡ size table U = ap (size table) value_type in ChangesOnly-wider stored new value.at (size table value.type) at (8 + size table U) (omega arith) (omega arith) filled)
+
+    new_key : signed_long new at ≡ key
+    new_key = ap signed (number-slice 8 stored new at at (filled.others at 8 (inl (omega arith)))) ∙ key_is
+
+    value_is : value ≡ value_of U (start opened place.at + index * (8 + size table U) + 8)
+    value_is = same value (value_at ∙ ap (λ p. p + 8) at_is) value_type
+      where
+        same : (p : Place) {a b : ℕ} → p.at ≡ a → p.type ≡ b → p ≡ record { at = a; type = b }
+        same p x y = rw (sym x, sym y) refl
+
+    ascends : IsAscending (insert keys index (signed_long new at))
+    ascends = rw new_key (inserted_ascends keys key index (parted_missing keys key index (ascending allocator old table place U keys vs blocks f s) missing index_is) (ascending allocator old table place U keys vs blocks f s))
+
+    fresh : Holds new table (value_of U (start opened place.at + index * (8 + size table U) + 8)) (default_of table U) []
+    fresh = subst (λ p. Holds new table p (default_of table U) []) value_is (subst (λ t. Holds new table value (default_of table t) []) value_type holds_it)
+
+    came_at : Succeeds allocator old new table place (Map (insert keys index key) (insert_nth vs index (default_of table U))) asks [] blocks others
+    came_at =
+        let c = becomes new (default_of table U) all_changes ascends fresh in
+        subst (λ x. Succeeds allocator old new table place (Map (insert keys index x) (insert_nth vs index (default_of table U))) asks [] blocks others) new_key c
+
+    start_same : start new place.at ≡ start opened place.at
+    start_same =
+        let same : IsSame opened new place.at 8 = all_changes.others place.at 8 (⊎_elim (λ l. inr l) (λ l. let k = eight in inl (omega arith)) apart) in
+        ap (λ t. unwrap_or t 0) (cell-target opened new place.at same)
+
+    leads : Leads new table place (Selector.key key ∷ []) (value_of U (start new place.at + index * (8 + size table U) + 8))
+    leads =
+        held_leads new table place U (insert keys index key) (insert_nth vs index (default_of table U)) others f came_at.changes.holds_it key index
+        (inserted_place keys key index (parted_missing keys key index (ascending allocator old table place U keys vs blocks f s) missing index_is))
+
+    pub added : (p : ℕ) → p ≡ at + 8 → AddsKey allocator old new table place U keys vs key blocks asks p
+    added p p_is = record {
+      others = others;
+      succeeds = subst (λ i. Succeeds allocator old new table place (Map (insert keys i key) (insert_nth vs i (default_of table U))) asks [] blocks others) index_is came_at;
+      stands_at =
+          let same : p ≡ start new place.at + index * (8 + size table U) + 8 = p_is ∙ ap (λ q. q + 8) at_is ∙ ap (λ q. q + index * (8 + size table U) + 8) (sym start_same) in
+          subst (λ q. Leads new table place (Selector.key key ∷ []) (value_of U q)) (sym same) leads;
+    }
+
+-- ---- a key goes
+
+removed_changed : (g : Value → Value) (vs : Values) (i : ℕ) → remove_nth (change_nth (Some i) g vs) i ≡ remove_nth vs i
+removed_changed g nil i = refl
+removed_changed g (cons v vs) zero = refl
+removed_changed g (cons v vs) (suc i) = ap (cons v) (removed_changed g vs i)
+
+module _ (allocator : ℕ) (old : List ℕ) (table : Table) (place : Place) (U : ℕ) (keys : List ℤ) (vs : Values) (blocks : List ℕ) (f : form_at table place.type ≡ Some (Form.flat_map U))
+    (s : Stands allocator old table place (Map keys vs) blocks) (key : ℤ) (i : ℕ) (there : key_place keys key ≡ Some i) where
+  abbrev each : ℕ
+  each = 8 + size table U
+
+  -- the place of the value
+  abbrev pub inner : Place
+  inner = value_of U (start old place.at + i * (8 + size table U) + 8)
+
+  below : i < count_at old place.at
+  below = subst (λ k. i < k) (length_is allocator old table place U keys vs blocks f s) (place_below keys key i there)
+
+  b : HasBuffer allocator old table place U keys vs blocks f s
+  b = has_buffer allocator old table place U keys vs blocks f s (let l = below in omega arith)
+
+  start_is : start old place.at ≡ b.p
+  start_is = rw b.names refl
+
+  pub led : Leads old table place (Selector.key key ∷ []) inner
+  led = key_leads allocator old table place U keys vs blocks f s key i there
+
+  -- the value, its blocks, and those that are left
+  abbrev pub c : ComesApart old table place (Selector.key key ∷ []) inner (Map keys vs) blocks
+  c = part.c allocator old table place (Map keys vs) blocks s inner (Selector.key key ∷ []) led
+
+  abbrev pub rest : List ℕ
+  rest = part.rest allocator old table place (Map keys vs) blocks s inner (Selector.key key ∷ []) led
+
+  inside : IsInside old (block_of b.p) inner.at (size table inner.type)
+  inside =
+      let e = start_is in
+      let whole : suc i * each ≤ count_at old place.at * each = mul-le-mul_right each below in
+      let more : suc i * each ≡ i * each + each = grind arith in
+      record { low = omega (arith, b.block.behind_header); high = omega (arith, b.block.room, b.block.behind_header, b.lies.size) }
+
+  aligned : inner.at % 8 ≡ 0
+  aligned =
+      let e = start_is in
+      let a = b.lies.aligned in
+      let low = b.block.behind_header in
+      let e8 = size_aligned table s.is_table U in
+      let entries8 = multiple i (8 + size table U) (omega arith) in
+      omega arith
+    where
+      multiple : (i m : ℕ) → m % 8 ≡ 0 → (i * m) % 8 ≡ 0
+      multiple zero m e = omega arith
+      multiple (suc i) m e = let rest = multiple i m e in let more : suc i * m ≡ m + i * m = grind arith in omega arith
+
+  -- the buffer is none of the blocks of the value
+  mine : 1 ≤ times (block_of b.p) rest
+  mine =
+      let h = block_of b.p in
+      let buffered = its allocator old table place U keys vs blocks f s in
+      let m = middle old table (holds_each allocator old table place U keys vs blocks f s) i inner (held_part old table place U keys vs blocks f s.holds_it i below) in
+      let same : c.its ≡ m.zs = (Holds-one old table c.holds_it m.holds_it).1 in
+      let one : times h (named old place.at) ≡ 1 = rw b.names (times-same h []) in
+      let all = ap (times h) buffered.blocks_are in
+      let both = times-append h (named old place.at) buffered.owned in
+      let inner_all = ap (times h) m.blocks_are in
+      let left = times-append h m.xs (m.zs ++ m.ys) in
+      let right = times-append h m.zs m.ys in
+      let its_are = ap (times h) same in
+      let few = part.blocks_once allocator old table place (Map keys vs) blocks s inner (Selector.key key ∷ []) led h in
+      let parts = part.counts allocator old table place (Map keys vs) blocks s inner (Selector.key key ∷ []) led h in
+      omega arith
+
+  pub inner_stands : Stands allocator old table inner c.value c.its
+  inner_stands = part.inner_stands allocator old table place (Map keys vs) blocks s inner (Selector.key key ∷ []) led (block_of b.p) inside mine aligned
+
+  -- the value is destroyed, and the gap closed
+  module _ (mid new : List ℕ) (w : Value) (change : ChangesPlace old mid table inner w [] (after_gives (live old) c.its) c.its []) where
+    changed : Values
+    changed = change_nth (Some i) (put [] w) vs
+
+    stands_mid : Stands allocator mid table place (Map keys changed) rest
+    unfolding changed
+    stands_mid =
+        let k = part.stands_mid allocator old table place (Map keys vs) blocks s inner (Selector.key key ∷ []) led (block_of b.p) inside mine aligned mid w change in
+        subst (λ o. Stands allocator mid table place (Map keys (change_nth o (put [] w) vs)) rest) there k
+
+    cell_same : IsSame old mid place.at 8
+    cell_same =
+        let large = size_large table s.is_table place.type in
+        IsSame-part old mid place.at (size table place.type) place.at 8 (omega arith) (omega arith)
+        (part.place_same allocator old table place (Map keys vs) blocks s inner (Selector.key key ∷ []) led (block_of b.p) inside mine aligned mid w change)
+
+    start_kept : start mid place.at ≡ start old place.at
+    start_kept = ap (λ t. unwrap_or t 0) (cell-target old mid place.at cell_same)
+
+    pub closed : (Closes : (vs : Values) (blocks : List ℕ) → Stands allocator mid table place (Map keys vs) blocks → i < count_at mid place.at → PlaceBlocks mid table (value_of U (start mid place.at + i * (8 + size table U) + 8)) []
+        → ChangesPlace mid new table place (without_entry (keys, vs) i) blocks (live mid) blocks blocks) → TakesKey allocator old new table place keys vs blocks i
+    closed closes =
+        let value : Holds mid table (value_of U (start mid place.at + i * (8 + size table U) + 8)) w [] =
+        subst (λ a. Holds mid table (value_of U (a + i * (8 + size table U) + 8)) w []) (sym start_kept) change.holds_it in
+        let count = cell-count old mid place.at cell_same in
+        let last = closes changed rest stands_mid (let l = below in omega arith) (w, value) in
+        let last' : ChangesPlace mid new table place (without_entry (keys, vs) i) rest (live mid) rest rest =
+        subst (λ us. ChangesPlace mid new table place (Map (remove keys i) us) rest (live mid) rest rest) (removed_changed (put [] w) vs i) last in
+        record {
+          gives = c.its;
+          part = record {
+            form = Form.flat_map U;
+            form_is = f;
+            opened = held_opened old table place U keys vs blocks f s.holds_it;
+            opens = held_opens old table place U keys vs blocks f s.holds_it;
+            part = inner;
+            part_is = held_part old table place U keys vs blocks f s.holds_it i below;
+            value = c.value;
+            blocks = c.its;
+            holds = c.holds_it;
+            gives_are = refl;
+          };
+          others = rest;
+          succeeds = part.cleared allocator old table place (Map keys vs) blocks s inner (Selector.key key ∷ []) led (block_of b.p) inside mine aligned mid w change new (without_entry (keys, vs) i) last';
+        }
