@@ -171,11 +171,10 @@ module _ (allocator : ℕ) (old : List ℕ) (table : Table) (place : Place) (U :
 
   -- the value is destroyed, and the gap closed
   module _ (mid new : List ℕ) (w : Value) (change : ChangesPlace old mid table inner w [] (after_gives (live old) c.its) c.its []) where
-    changed : Values
+    abbrev pub changed : Values
     changed = change_nth (Some i) (put [] w) vs
 
     stands_mid : Stands allocator mid table place (Map keys changed) rest
-    unfolding changed
     stands_mid =
         let k = part.stands_mid allocator old table place (Map keys vs) blocks s inner (Selector.key key ∷ []) led (block_of b.p) inside mine aligned mid w change in
         subst (λ o. Stands allocator mid table place (Map keys (change_nth o (put [] w) vs)) rest) there k

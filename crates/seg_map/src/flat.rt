@@ -1,12 +1,13 @@
 //! A flat map: a buffer of entries {key, value} in order of their keys.
 
-ghost use Rattle.std.specs.Prelude.{◌≡◌, Some, None, MatchResult, slice_get};
+ghost use Rattle.std.specs.Prelude.{◌≡◌, Some, None, IsOkUnless, MatchResult, slice_get};
 ghost use Rattle.seg_spec.specs.Items.{key_place, keys_below};
 ghost use Rattle.seg_spec.specs.Types.{Form};
 ghost use Rattle.seg_spec.specs.Window.{KeepsHost};
 ghost use Rattle.seg_value.specs.Places.{object_at};
 ghost use Rattle.seg_value.specs.Contents.{IsEntryOf};
-ghost use Rattle.seg_map.specs.Maps.{WhereMap, FindsValue, first_of, keys_above};
+ghost use Rattle.seg_value.specs.Entries.{NamesFlatMap, flat_asks};
+ghost use Rattle.seg_map.specs.Maps.{WhereMap, FindsValue, PutsKey, RemovesKey, first_of, keys_above};
 
 use seg_block::Fit;
 use seg_raw::Code;
@@ -55,6 +56,12 @@ pub(crate) fn put<F: Fit, A: Allocator>(
 ) -> Result<u32, Code>
     ensures window { KeepsHost heap.old.window heap.new.window }
     ensures types { heap.new.types ≡ heap.old.types }
+    ensures code { IsOkUnless result Code.BadAlloc }
+    ensures puts { WhereMap Form.flat_map F.allocator heap.old.window.bytes heap.old.types cell
+        (λ T U keys vs blocks. NamesFlatMap heap.old.types T U content.now →
+        PutsKey F.allocator heap.old.window.bytes heap.new.window.bytes heap.old.types
+        (object_at cell T) U keys vs key blocks
+        (flat_asks heap.old.window.bytes heap.old.types cell U) (key_place keys key) result) }
 {
     match search(heap, content.entry, cell, key) {
         Ok(index) => Ok(content.entry.value_at(heap.start(cell), index)),
@@ -72,6 +79,13 @@ fn insert<F: Fit, A: Allocator>(
 ) -> Result<u32, Code>
     ensures window { KeepsHost heap.old.window heap.new.window }
     ensures types { heap.new.types ≡ heap.old.types }
+    ensures code { IsOkUnless result Code.BadAlloc }
+    ensures inserts { WhereMap Form.flat_map F.allocator heap.old.window.bytes heap.old.types cell
+        (λ T U keys vs blocks. NamesFlatMap heap.old.types T U content.now →
+        key_place keys key ≡ None → index ≡ keys_below keys key →
+        PutsKey F.allocator heap.old.window.bytes heap.new.window.bytes heap.old.types
+        (object_at cell T) U keys vs key blocks
+        (flat_asks heap.old.window.bytes heap.old.types cell U) None result) }
 {
     let at = heap.open_entry(content, cell, index)?;
     heap.store(at, key);
@@ -90,6 +104,10 @@ pub(crate) fn remove<F: Fit, A: Allocator>(
 ) -> bool
     ensures window { KeepsHost heap.old.window heap.new.window }
     ensures types { heap.new.types ≡ heap.old.types }
+    ensures removes { WhereMap Form.flat_map F.allocator heap.old.window.bytes heap.old.types cell
+        (λ T U keys vs blocks. NamesFlatMap heap.old.types T U content.now →
+        RemovesKey F.allocator heap.old.window.bytes heap.new.window.bytes heap.old.types
+        (object_at cell T) keys vs blocks (key_place keys key) result) }
 {
     let Ok(index) = search(heap, content.entry, cell, key) else {
         return false;
