@@ -14,3 +14,6 @@ pub mod Clearing
 pub mod Setting
 pub mod Cutting
 pub mod Pointers
+pub mod Runs
+pub mod Inside
+pub mod Between

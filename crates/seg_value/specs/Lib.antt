@@ -3,5 +3,6 @@ pub mod Contents
 pub mod Places
 pub mod Search
 pub mod Buffers
+pub mod Entries
 pub mod Waiting
 pub mod Pointers

@@ -1,5 +1,15 @@
-ghost use Rattle.std.specs.Prelude.{◌≡◌};
+ghost use Rattle.std.specs.Prelude.{◌≡◌, ℕ, ℤ, ◌<◌, ◌≤◌, List, [], IsOkUnless, MatchResult};
+ghost use Rattle.seg_spec.specs.Calls.{Refuses};
+ghost use Rattle.seg_spec.specs.Heap.{live};
+ghost use Rattle.seg_spec.specs.Items.{without_entry};
+ghost use Rattle.seg_spec.specs.Owning.{Stands};
+ghost use Rattle.seg_spec.specs.Reads.{count_at};
+ghost use Rattle.seg_spec.specs.Roots.{ChangesPlace};
+ghost use Rattle.seg_spec.specs.Spending.{PlaceBlocks};
+ghost use Rattle.seg_spec.specs.Value.{Values, Map};
 ghost use Rattle.seg_spec.specs.Window.{KeepsHost};
+ghost use Rattle.seg_value.specs.Entries.{NamesFlatMap, OpensEntry, flat_asks, flat_value};
+ghost use Rattle.seg_value.specs.Places.{object_at as place_at};
 
 use crate::content::Content;
 use crate::heap::Heap;
@@ -15,6 +25,17 @@ impl<F: Fit, A: Allocator> Heap<F, A> {
     pub fn open_entry(&mut self, content: &Content, cell: u32, index: u32) -> Result<u32, Code>
         ensures window { KeepsHost self.old.window self.new.window }
         ensures types { self.new.types ≡ self.old.types }
+        ensures code { IsOkUnless result Code.BadAlloc }
+        ensures opens { (T U : ℕ) (keys : List ℤ) (vs : Values) (blocks : List ℕ) →
+            NamesFlatMap self.old.types T U content.now →
+            Stands F.allocator self.old.window.bytes self.old.types (place_at cell T) (Map keys vs)
+            blocks →
+            index ≤ count_at self.old.window.bytes cell →
+            MatchResult result
+            (OpensEntry F.allocator self.old.window.bytes self.new.window.bytes self.old.types
+            (place_at cell T) U keys vs blocks index)
+            (λ code. Refuses F.allocator self.old.window.bytes self.new.window.bytes
+            (flat_asks self.old.window.bytes self.old.types cell U)) }
     {
         let entry = content.entry;
         let kept = self.count(cell);
@@ -33,6 +54,16 @@ impl<F: Fit, A: Allocator> Heap<F, A> {
     pub fn close_entry(&mut self, content: &Content, cell: u32, index: u32)
         ensures window { KeepsHost self.old.window self.new.window }
         ensures types { self.new.types ≡ self.old.types }
+        ensures closes { (T U : ℕ) (keys : List ℤ) (vs : Values) (blocks : List ℕ) →
+            NamesFlatMap self.old.types T U content.now →
+            Stands F.allocator self.old.window.bytes self.old.types (place_at cell T) (Map keys vs)
+            blocks →
+            index < count_at self.old.window.bytes cell →
+            PlaceBlocks self.old.window.bytes self.old.types
+            (flat_value self.old.window.bytes self.old.types cell U index) [] →
+            ChangesPlace self.old.window.bytes self.new.window.bytes self.old.types
+            (place_at cell T) (without_entry (keys, vs) index) blocks (live self.old.window.bytes)
+            blocks blocks }
     {
         let entry = content.entry;
         let last = self.count(cell).saturating_sub(1);

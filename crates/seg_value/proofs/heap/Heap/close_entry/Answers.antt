@@ -1,0 +1,17 @@
+use Rattle.std.proofs.Common.{◌≡◌, ◌+◌, ap}
+use Rattle.seg_spec.specs.Bytes.{set_word}
+use Rattle.seg_spec.specs.Window.{Placement, with_bytes}
+use Rattle.seg_value.specs.Places.{object_at}
+use Rattle.seg_value.proofs.Between.{closed_by}
+use Rattle.seg_value.proofs.heap.Heap.close_entry.Goals as goal
+
+bytes_of : (p q : Placement) → p ≡ q → p.bytes ≡ q.bytes
+bytes_of p q e = ap (λ (r : Placement). r.bytes) e
+
+pub returns-clause-closes : goal.returns-clause-closes
+returns-clause-closes g c = λ T U keys vs blocks names s below nothing.
+    let moved = c.shift_entries.new.self.window in
+    let new_is = bytes_of c.set_count.new.self.window (with_bytes moved (set_word moved.bytes (c.args.cell + 4) c.saturating_sub-last.result)) c.set_count.ensures.window in
+    closed_by g.F.Fit.allocator c.args.self.now.window.bytes c.args.self.now.types (object_at c.args.cell T) U keys vs blocks s names.0 c.args.index c.args.content.now.entry.size c.at-at.result c.at-next.result
+    c.saturating_sub-last.result c.saturating_sub.result c.saturating_add.result c.start-start.result moved.bytes c.set_count.new.self.window.bytes below names.1.entry_is.size_is c.start-start.ensures
+    (rw c.count.ensures at c.saturating_sub-last.ensures) c.saturating_sub.ensures c.saturating_add.ensures c.at-at.ensures c.at-next.ensures (c.shift_entries.ensures.shifted U 8 names.1.entry_is) new_is nothing

@@ -1,0 +1,55 @@
+use Rattle.std.proofs.Common.{◌≡◌, ℕ, ◌+◌, ap, ◌∙◌, sym, subst, Result, Ok, Err, Some}
+use Rattle.std.specs.Prelude.{MatchResult, IsErr}
+use Rattle.std.proofs.lemmas.Bool.{false≢true}
+use Rattle.seg_spec.specs.Bytes.{set_word}
+use Rattle.seg_spec.specs.Calls.{Refuses}
+use Rattle.seg_spec.specs.Reads.{count_at}
+use Rattle.seg_spec.specs.Spending.{buffer_asks}
+use Rattle.seg_spec.specs.Types.{Table, size}
+use Rattle.seg_spec.specs.Value.{Map}
+use Rattle.seg_spec.specs.Window.{Placement, with_bytes}
+use Rattle.seg_value.specs.Buffers.{NamesBuffer}
+use Rattle.seg_value.specs.Contents.{ContentOf}
+use Rattle.seg_value.specs.Entries.{NamesFlatMap, OpensEntry}
+use Rattle.seg_value.specs.declared.content.Content.{Content}
+use Rattle.seg_value.specs.Places.{object_at}
+use Rattle.seg_value.proofs.Between.{one_more, opened_by}
+use Rattle.seg_value.proofs.heap.Heap.open_entry.Goals as goal
+
+bytes_of : (p q : Placement) → p ≡ q → p.bytes ≡ q.bytes
+bytes_of p q e = ap (λ (r : Placement). r.bytes) e
+
+only_err : {X Y : Type 0} (r : Result X Y) (P : X → Type 0) (Q : Type 0) → IsErr r → Q → MatchResult r P (λ code. Q)
+only_err (Ok x) P Q e q = absurd (false≢true e)
+only_err (Err y) P Q e q = q
+
+names_buffer : (table : Table) (T U : ℕ) (content : Content) → NamesFlatMap table T U content → NamesBuffer table T content
+names_buffer table T U content n = (subst (λ o. ContentOf table T o (Some content)) (sym n.0) n.1, n.1.shape_is)
+
+pub returns-in_err-reserve-clause-opens : goal.returns-in_err-reserve-clause-opens
+returns-in_err-reserve-clause-opens g c = λ T U keys vs blocks names s below.
+    let old = c.args.self.now.window.bytes in
+    let table = c.args.self.now.types in
+    let content = c.args.content.now in
+    let more = one_more g.F.Fit.allocator old table (object_at c.args.cell T) U keys vs blocks s names.0 content.entry.size c.count-kept.result c.saturating_add-len.result
+    names.1.entry_is.size_is c.count-kept.ensures c.saturating_add-len.ensures in
+    let refused = c.in_err-reserve.ensures.reserves T (Map keys vs) blocks (names_buffer table T U content names) s more.1 in
+    let len_is : c.saturating_add-len.result ≡ count_at old c.args.cell + 1 = more.0 ∙ ap (λ n. n + 1) c.count-kept.ensures in
+    only_err c.from_residual.result (OpensEntry g.F.Fit.allocator old c.reserve.new.self.window.bytes table (object_at c.args.cell T) U keys vs blocks c.args.index)
+    (Refuses g.F.Fit.allocator old c.reserve.new.self.window.bytes (buffer_asks old c.args.cell (8 + size table U) (count_at old c.args.cell + 1))) c.from_residual.ensures.0 (rw (len_is, names.1.entry_is.size_is) at refused)
+
+pub returns-clause-opens : goal.returns-clause-opens
+returns-clause-opens g c = λ T U keys vs blocks names s below.
+    let old = c.args.self.now.window.bytes in
+    let mid = c.reserve.new.self.window.bytes in
+    let table = c.args.self.now.types in
+    let content = c.args.content.now in
+    let moved = c.shift_entries.new.self.window in
+    let more = one_more g.F.Fit.allocator old table (object_at c.args.cell T) U keys vs blocks s names.0 content.entry.size c.count-kept.result c.saturating_add-len.result
+    names.1.entry_is.size_is c.count-kept.ensures c.saturating_add-len.ensures in
+    let len_is : c.saturating_add-len.result ≡ count_at old c.args.cell + 1 = more.0 ∙ ap (λ n. n + 1) c.count-kept.ensures in
+    let reserved = rw (len_is, names.1.entry_is.size_is) at (c.in_ok-reserve.ensures.reserves T (Map keys vs) blocks (names_buffer table T U content names) s more.1) in
+    let new_is = bytes_of c.set_count.new.self.window (with_bytes moved (set_word moved.bytes (c.args.cell + 4) c.saturating_add-len.result)) c.set_count.ensures.window in
+    opened_by g.F.Fit.allocator old table (object_at c.args.cell T) U keys vs blocks s names.0 mid c.args.index content.entry.size c.at-at.result c.at-next.result c.count-kept.result c.saturating_add-len.result c.saturating_sub.result
+    c.saturating_add.result c.start-start.result moved.bytes c.set_count.new.self.window.bytes reserved below names.1.entry_is.size_is c.count-kept.ensures more.0 c.start-start.ensures c.saturating_sub.ensures c.saturating_add.ensures
+    c.at-at.ensures c.at-next.ensures ((rw c.reserve.ensures.types at c.shift_entries.ensures.shifted) U 8 names.1.entry_is) new_is

@@ -1,0 +1,58 @@
+-- Entries of flat maps, as they come and go.
+--     NamesFlatMap table T U content        the cell of a type names the entries of a flat map of U
+--     flat_entry bytes table cell U i       the position of an entry: of its key
+--     flat_value bytes table cell U i       the place of its value
+--     flat_asks bytes table cell U          the requests for one more entry
+--     OpensEntry ..                         a flat map has room for an entry at an index
+use Rattle.std.specs.Prelude.{◌≡◌, ℕ, ◌+◌, ◌*◌, ◌%◌, ℤ, List, [], Some, insert}
+use Rattle.seg_spec.specs.Apart.{Separate}
+use Rattle.seg_spec.specs.Block as block
+use Rattle.seg_spec.specs.Block.{tag_of}
+use Rattle.seg_spec.specs.Bytes.{signed_long, ChangesOnly}
+use Rattle.seg_spec.specs.Cells.{IsWithin}
+use Rattle.seg_spec.specs.Demand.{Ask}
+use Rattle.seg_spec.specs.Growing.{Succeeds}
+use Rattle.seg_spec.specs.Items.{insert_nth}
+use Rattle.seg_spec.specs.Reads.{Place, count_at, start, Holds}
+use Rattle.seg_spec.specs.Spending.{buffer_asks}
+use Rattle.seg_spec.specs.Types.{Form, Table, form_at, size}
+use Rattle.seg_spec.specs.Value.{Value, Values, Map, IsAscending}
+use Rattle.seg_value.specs.declared.content.Content.{Content}
+use Rattle.seg_value.specs.declared.content.Shape.TheVariants as shape
+use Rattle.seg_value.specs.Contents.{IsContent}
+
+-- the cell of the type names the entries of a flat map, with values of the type U
+abbrev pub NamesFlatMap : Table → ℕ → ℕ → Content → Type 0
+NamesFlatMap table T U content =
+    (form_at table T ≡ Some (Form.flat_map U)) ×
+    IsContent table shape.Buffer (tag_of block.Kind.buffer T) 8 U content
+
+-- where an entry begins, with its key
+abbrev pub flat_entry : List ℕ → Table → ℕ → ℕ → ℕ → ℕ
+flat_entry bytes table cell U index = start bytes cell + index * (8 + size table U)
+
+-- the place of the value after the key
+abbrev pub flat_value : List ℕ → Table → ℕ → ℕ → ℕ → Place
+flat_value bytes table cell U index =
+    record { at = flat_entry bytes table cell U index + 8; type = U }
+
+-- what is asked of the heap for one more entry
+abbrev pub flat_asks : List ℕ → Table → ℕ → ℕ → List Ask
+flat_asks bytes table cell U = buffer_asks bytes cell (8 + size table U) (count_at bytes cell + 1)
+
+-- A flat map with these keys and values has room for an entry at an index. Once a key that keeps
+-- the order and a value that owns nothing are written there, the place holds the map with both: the
+-- requests for the room were granted.
+pub record OpensEntry (allocator : ℕ) (old new : List ℕ) (table : Table) (place : Place) (U : ℕ)
+    (keys : List ℤ) (vs : Values) (blocks : List ℕ) (index at : ℕ) : Type 0 where
+  pub at_is : at ≡ flat_entry new table place.at U index
+  pub aligned : at % 8 ≡ 0
+  pub within : IsWithin new at (8 + size table U)
+  pub apart : Separate at (8 + size table U) place.at (size table place.type)
+  pub others : List ℕ
+  pub becomes : (written : List ℕ) (w : Value) → ChangesOnly new written at (8 + size table U) →
+      IsAscending (insert keys index (signed_long written at)) →
+      Holds written table (flat_value new table place.at U index) w [] →
+      Succeeds allocator old written table place
+      (Map (insert keys index (signed_long written at)) (insert_nth vs index w))
+      (flat_asks old table place.at U) [] blocks others
