@@ -1,7 +1,8 @@
 -- A flat map that gets a key, or loses one, from what the steps of the calls leave.
 use Rattle.std.proofs.Common.{◌≡◌, ◌≢◌, ℕ, zero, suc, ◌+◌, ◌*◌, ◌%◌, ◌^◌, ◌<◌, ◌≤◌, ◌⊎◌, inl, inr, ⊎_elim, ℤ, true, List, [], ◌∷◌, ◌++◌, length, Option, Some, None, refl, sym, ap, ◌∙◌, subst, arith}
-use Rattle.std.specs.Prelude.{insert, remove, option_map, option_to_list, unwrap_or}
-use Rattle.std.proofs.Math.Nat.{mul-le-mul_right}
+use Rattle.std.specs.Prelude.{insert, remove, int_lt, option_map, option_to_list, unwrap_or}
+use Rattle.std.proofs.Math.Nat.{zero-mul, mul-le-mul_right}
+use Rattle.std.proofs.lemmas.List.Sums.{count_by-le-length}
 use Rattle.seg_spec.specs.Bytes.{signed, signed_long, ChangesOnly, IsSame}
 use Rattle.seg_spec.specs.Pointer.{target}
 use Rattle.seg_spec.specs.Types.{Form, Table, form_at, size}
@@ -27,6 +28,9 @@ use Rattle.seg_spec.proofs.LiveLaws.{times-same, times-append, live-once}
 use Rattle.seg_spec.proofs.Paths.{Middle, middle}
 use Rattle.seg_spec.proofs.OneReading.{Holds-one}
 use Rattle.seg_value.specs.Contents.{IsEntryOf}
+use Rattle.seg_value.specs.Entries.{OpensEntry, flat_asks}
+use Rattle.seg_value.specs.Places.{object_at, place_of}
+use Rattle.seg_value.specs.declared.place.Place as code
 use Rattle.seg_value.specs.declared.entry.Entry.{Entry}
 use Rattle.seg_map.specs.Maps.{value_of, AddsKey, TakesKey, RemovesKey}
 use Rattle.seg_map.proofs.KeyLaws.{parted_missing, inserted_place, inserted_ascends, place_below}
@@ -92,6 +96,39 @@ module _ (allocator : ℕ) (old opened stored new : List ℕ) (table : Table) (p
           let same : p ≡ start new place.at + index * (8 + size table U) + 8 = p_is ∙ ap (λ q. q + 8) at_is ∙ ap (λ q. q + index * (8 + size table U) + 8) (sym start_same) in
           subst (λ q. Leads new table place (Selector.key key ∷ []) (value_of U q)) (sym same) leads;
     }
+
+pub index_fits : (allocator : ℕ) (bytes : List ℕ) (table : Table) (place : Place) (U : ℕ) (keys : List ℤ) (vs : Values) (blocks : List ℕ) → form_at table place.type ≡ Some (Form.flat_map U)
+    → Stands allocator bytes table place (Map keys vs) blocks → (key : ℤ) (index : ℕ) → index ≡ keys_below keys key → index ≤ count_at bytes place.at
+index_fits allocator bytes table place U keys vs blocks f s key index is =
+    let few = count_by-le-length (λ x. int_lt x key) keys in
+    let long = length_is allocator bytes table place U keys vs blocks f s in
+    omega arith
+
+-- the steps of the code
+module _ (allocator : ℕ) (old opened stored new : List ℕ) (table here : Table) (same : here ≡ table) (cell T U : ℕ) (keys : List ℤ) (vs : Values) (blocks : List ℕ)
+    (f : form_at table T ≡ Some (Form.flat_map U)) (s : Stands allocator old table (object_at cell T) (Map keys vs) blocks) (entry : Entry) (e : IsEntryOf table 8 U entry) (key passed : ℤ) (back : passed ≡ key)
+    (index at : ℕ) (missing : key_place keys key ≡ None) (index_is : index ≡ keys_below keys key) (o : OpensEntry allocator old opened table (object_at cell T) U keys vs blocks index at)
+    (changes : ChangesOnly opened stored at 8) (key_is : at + 8 ≤ length opened → signed_long stored at ≡ passed) where
+  value_at : (at + 0 * entry.size + entry.before) % 2 ^ 32 ≡ at + 8
+  value_at = let before = e.before_is in let fits = o.within.fits in let small = o.within.small in let none : 0 * entry.size ≡ 0 = zero-mul entry.size in omega arith
+
+  pub inserted : (value : code.Place) (p : ℕ) → Some value ≡ Some (record { at = (at + 0 * entry.size + entry.before) % 2 ^ 32; type_id = U })
+      → (IsWithin stored value.at (size here value.type_id) → ChangesOnly stored new value.at (size here value.type_id))
+      → (IsWithin stored value.at (size here value.type_id) → value.type_id < length here → Holds new here (place_of value) (default_of here value.type_id) [])
+      → p ≡ (at + 0 * entry.size + entry.before) % 2 ^ 32 → AddsKey allocator old new table (object_at cell T) U keys vs key blocks (flat_asks old table cell U) p
+  inserted value p value_is fills holds_it p_is =
+      let at_is : value.at ≡ at + 8 = ap (λ (v : code.Place). v.at) (known value (record { at = (at + 0 * entry.size + entry.before) % 2 ^ 32; type_id = U }) value_is) ∙ value_at in
+      let type_is : value.type_id ≡ U = ap (λ (v : code.Place). v.type_id) (known value (record { at = (at + 0 * entry.size + entry.before) % 2 ^ 32; type_id = U }) value_is) in
+      let sizes : size here value.type_id ≡ size table U = ap (λ t. size t value.type_id) same ∙ ap (size table) type_is in
+      let within : IsWithin stored value.at (size here value.type_id) = record { fits = omega (arith, o.within.fits, changes.length_kept); small = omega (arith, o.within.small, changes.length_kept) } in
+      let below : value.type_id < length here = let t = s.is_table.forms T (Form.flat_map U) f in let l = ap length same in omega arith in
+      let filled : ChangesOnly stored new value.at (size table value.type_id) = subst (λ t. ChangesOnly stored new value.at (size t value.type_id)) same (fills within) in
+      let held : Holds new table (place_of value) (default_of table value.type_id) [] = subst (λ t. Holds new t (place_of value) (default_of t value.type_id) []) same (holds_it within below) in
+      added allocator old opened stored new table (object_at cell T) U keys vs blocks f s entry e key index at (flat_asks old table cell U) o.others missing index_is o.at_is o.within o.apart o.becomes
+      (place_of value) changes (key_is (omega (arith, o.within.fits)) ∙ back) at_is type_is filled held p (p_is ∙ value_at)
+    where
+      known : (x y : code.Place) → Some x ≡ Some y → x ≡ y
+      known x y e = cc
 
 -- ---- a key goes
 

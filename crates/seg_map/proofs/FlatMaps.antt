@@ -1,8 +1,8 @@
 -- A flat map in memory: its entries lie in the segment, and read as its keys and values.
 use Rattle.std.proofs.Common.{◌≡◌, ℕ, zero, suc, ◌+◌, ◌-◌, ◌*◌, ◌%◌, ◌^◌, ◌<◌, ◌≤◌, min, ◌⊎◌, inl, inr, ℤ, ◌<ℤ◌, List, [], ◌∷◌, ◌++◌, length, map, Option, Some, None, Result, Ok, Err, MatchResult, IfOk, IfErr, refl, sym, ap, ◌∙◌, subst, arith}
-use Rattle.std.specs.Prelude.{slice_get}
+use Rattle.std.specs.Prelude.{slice_get, IsErr}
 use Rattle.std.proofs.Math.Nat.{mul-le-mul_left, mul-le-mul_right}
-use Rattle.std.proofs.lemmas.Bool.{cases_lt}
+use Rattle.std.proofs.lemmas.Bool.{cases_lt, false≢true}
 use Rattle.std.proofs.lemmas.Option.{slice_get_past}
 use Rattle.std.specs.Result.{result_ok}
 use Rattle.std.specs.Ordering.{int_cmp}
@@ -37,6 +37,11 @@ ok_then (Err e) h f = tt
 pub err_then : {X E : Type 0} {P Q : E → Type 0} (r : Result X E) → IfErr r P → ((e : E) → P e → Q e) → IfErr r Q
 err_then (Ok x) h f = tt
 err_then (Err e) h f = f e h
+
+-- what an error says, whatever its code
+pub only_err : {X E : Type 0} (r : Result X E) (P : X → Type 0) (Q : Type 0) → IsErr r → Q → MatchResult r P (λ code. Q)
+only_err (Ok x) P Q e q = absurd (false≢true e)
+only_err (Err y) P Q e q = q
 
 pub or_then : {A B C : Type 0} → A ⊎ B → (B → C) → A ⊎ C
 or_then (inl a) f = inl a
