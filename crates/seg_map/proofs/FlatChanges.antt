@@ -1,19 +1,18 @@
 -- A flat map that gets a key, or loses one, from what the steps of the calls leave.
-use Rattle.std.proofs.Common.{◌≡◌, ◌≢◌, ℕ, zero, suc, ◌+◌, ◌*◌, ◌%◌, ◌^◌, ◌<◌, ◌≤◌, ◌⊎◌, inl, inr, ⊎_elim, ℤ, true, List, [], ◌∷◌, ◌++◌, length, Option, Some, None, refl, sym, ap, ◌∙◌, subst, arith}
-use Rattle.std.specs.Prelude.{insert, remove, int_lt, option_map, option_to_list, unwrap_or}
+use Rattle.std.proofs.Common.{◌≡◌, ℕ, zero, suc, ◌+◌, ◌*◌, ◌%◌, ◌^◌, ◌<◌, ◌≤◌, inl, inr, ⊎_elim, ℤ, true, false, List, [], ◌∷◌, ◌++◌, length, Some, None, Result, Ok, refl, sym, ap, ◌∙◌, subst, arith}
+use Rattle.std.specs.Prelude.{insert, remove, int_lt, unwrap_or}
 use Rattle.std.proofs.Math.Nat.{zero-mul, mul-le-mul_right}
 use Rattle.std.proofs.lemmas.List.Sums.{count_by-le-length}
 use Rattle.seg_spec.specs.Bytes.{signed, signed_long, ChangesOnly, IsSame}
-use Rattle.seg_spec.specs.Pointer.{target}
 use Rattle.seg_spec.specs.Types.{Form, Table, form_at, size}
 use Rattle.seg_spec.specs.Value.{Value, Values, nil, cons, Map, IsAscending, Selector, change_nth, default_of, put}
-use Rattle.seg_spec.specs.Heap.{live, units_at}
+use Rattle.seg_spec.specs.Heap.{live}
 use Rattle.seg_spec.specs.Block.{IsInside, block_of}
 use Rattle.seg_spec.specs.Reads.{Place, count_at, named, start, Holds, Leads}
 use Rattle.seg_spec.specs.Apart.{Separate, ComesApart}
 use Rattle.seg_spec.specs.Cells.{IsWithin}
-use Rattle.seg_spec.specs.Sound.{times, positions}
-use Rattle.seg_spec.specs.Items.{key_place, keys_below, insert_nth, remove_nth, with_entry, without_entry}
+use Rattle.seg_spec.specs.Sound.{times}
+use Rattle.seg_spec.specs.Items.{key_place, keys_below, insert_nth, remove_nth, without_entry}
 use Rattle.seg_spec.specs.Roots.{ChangesPlace}
 use Rattle.seg_spec.specs.Owning.{Stands}
 use Rattle.seg_spec.specs.Demand.{Ask, after_gives}
@@ -24,17 +23,17 @@ use Rattle.seg_spec.proofs.Frame.{cell-target, cell-count}
 use Rattle.seg_spec.proofs.SliceLaws.{IsSame-part}
 use Rattle.seg_spec.proofs.TypesLaws.{size_large}
 use Rattle.seg_spec.proofs.CellSteps.{ChangesOnly-wider, size_aligned}
-use Rattle.seg_spec.proofs.LiveLaws.{times-same, times-append, live-once}
-use Rattle.seg_spec.proofs.Paths.{Middle, middle}
+use Rattle.seg_spec.proofs.LiveLaws.{times-same, times-append}
+use Rattle.seg_spec.proofs.Paths.{middle}
 use Rattle.seg_spec.proofs.OneReading.{Holds-one}
 use Rattle.seg_value.specs.Contents.{IsEntryOf}
-use Rattle.seg_value.specs.Entries.{OpensEntry, flat_asks}
+use Rattle.seg_value.specs.Entries.{OpensEntry, flat_asks, flat_value}
 use Rattle.seg_value.specs.Places.{object_at, place_of}
 use Rattle.seg_value.specs.declared.place.Place as code
 use Rattle.seg_value.specs.declared.entry.Entry.{Entry}
-use Rattle.seg_map.specs.Maps.{value_of, AddsKey, TakesKey, RemovesKey}
+use Rattle.seg_map.specs.Maps.{value_of, AddsKey, PutsKey, TakesKey, RemovesKey}
 use Rattle.seg_map.proofs.KeyLaws.{parted_missing, inserted_place, inserted_ascends, place_below}
-use Rattle.seg_map.proofs.FlatMaps.{HasBuffer, has_buffer, entry_fits, entry_small, its, holds_each, length_is, ascending, key_leads, held_leads, held_opened, held_opens, held_part}
+use Rattle.seg_map.proofs.FlatMaps.{HasBuffer, has_buffer, entry_small, its, holds_each, length_is, value_leads, ascending, key_leads, held_leads, held_opened, held_opens, held_part}
 use Rattle.seg_map.proofs.PartCleared as part
 
 -- ---- a key comes
@@ -47,8 +46,8 @@ module _ (allocator : ℕ) (old opened stored new : List ℕ) (table : Table) (p
     (missing : key_place keys key ≡ None) (index_is : index ≡ keys_below keys key)
     (at_is : at ≡ start opened place.at + index * (8 + size table U)) (within : IsWithin opened at (8 + size table U)) (apart : Separate at (8 + size table U) place.at (size table place.type))
     (becomes : (written : List ℕ) (w : Value) → ChangesOnly opened written at (8 + size table U) → IsAscending (insert keys index (signed_long written at)) →
-        Holds written table (value_of U (start opened place.at + index * (8 + size table U) + 8)) w [] →
-        Succeeds allocator old written table place (Map (insert keys index (signed_long written at)) (insert_nth vs index w)) asks [] blocks others) where
+    Holds written table (value_of U (start opened place.at + index * (8 + size table U) + 8)) w [] →
+    Succeeds allocator old written table place (Map (insert keys index (signed_long written at)) (insert_nth vs index w)) asks [] blocks others) where
   eight : 8 ≤ size table place.type
   eight = size_large table s.is_table place.type
 
@@ -225,7 +224,7 @@ module _ (allocator : ℕ) (old : List ℕ) (table : Table) (place : Place) (U :
     start_kept : start mid place.at ≡ start old place.at
     start_kept = ap (λ t. unwrap_or t 0) (cell-target old mid place.at cell_same)
 
-    pub closed : (Closes : (vs : Values) (blocks : List ℕ) → Stands allocator mid table place (Map keys vs) blocks → i < count_at mid place.at → PlaceBlocks mid table (value_of U (start mid place.at + i * (8 + size table U) + 8)) []
+    pub closed : ((vs : Values) (blocks : List ℕ) → Stands allocator mid table place (Map keys vs) blocks → i < count_at mid place.at → PlaceBlocks mid table (value_of U (start mid place.at + i * (8 + size table U) + 8)) []
         → ChangesPlace mid new table place (without_entry (keys, vs) i) blocks (live mid) blocks blocks) → TakesKey allocator old new table place keys vs blocks i
     closed closes =
         let value : Holds mid table (value_of U (start mid place.at + i * (8 + size table U) + 8)) w [] =
@@ -251,3 +250,51 @@ module _ (allocator : ℕ) (old : List ℕ) (table : Table) (place : Place) (U :
           others = rest;
           succeeds = part.cleared allocator old table place (Map keys vs) blocks s inner (Selector.key key ∷ []) led (block_of b.p) inside mine aligned mid w change new (without_entry (keys, vs) i) last';
         }
+
+-- ---- the calls
+
+module _ (allocator : ℕ) (old : List ℕ) (table : Table) (cell T U : ℕ) (keys : List ℤ) (vs : Values) (blocks : List ℕ) (f : form_at table T ≡ Some (Form.flat_map U))
+    (s : Stands allocator old table (object_at cell T) (Map keys vs) blocks) (key passed : ℤ) (back : passed ≡ key) where
+  pub put_found : (E : Type 0) (asks : List Ask) (entry : Entry) (i from p : ℕ) → IsEntryOf table 8 U entry → key_place keys passed ≡ Some i → from ≡ start old cell → p ≡ (from + i * entry.size + entry.before) % 2 ^ 32
+      → PutsKey {E = E} allocator old old table (object_at cell T) U keys vs key blocks asks (key_place keys key) (Ok p)
+  put_found E asks entry i from p e h from_is p_is =
+      let there : key_place keys key ≡ Some i = subst (λ k. key_place keys k ≡ Some i) back h in
+      subst (λ o. PutsKey {E = E} allocator old old table (object_at cell T) U keys vs key blocks asks o (Ok p)) (sym there)
+      (refl, value_leads allocator old table (object_at cell T) U keys vs blocks f s entry key i from p e from_is p_is there)
+
+  pub put_missing : (E : Type 0) (asks : List Ask) (new : List ℕ) (r : Result ℕ E) → key_place keys passed ≡ None → PutsKey {E = E} allocator old new table (object_at cell T) U keys vs passed blocks asks None r
+      → PutsKey {E = E} allocator old new table (object_at cell T) U keys vs key blocks asks (key_place keys key) r
+  put_missing E asks new r none puts =
+      let missing : key_place keys key ≡ None = subst (λ k. key_place keys k ≡ None) back none in
+      subst (λ o. PutsKey {E = E} allocator old new table (object_at cell T) U keys vs key blocks asks o r) (sym missing)
+      (subst (λ k. PutsKey {E = E} allocator old new table (object_at cell T) U keys vs k blocks asks None r) back puts)
+
+  pub remove_missing : key_place keys passed ≡ None → RemovesKey allocator old old table (object_at cell T) keys vs blocks (key_place keys key) false
+  remove_missing none =
+      let missing : key_place keys key ≡ None = subst (λ k. key_place keys k ≡ None) back none in
+      subst (λ o. RemovesKey allocator old old table (object_at cell T) keys vs blocks o false) (sym missing) (refl, refl)
+
+  pub remove_found : (mid new : List ℕ) (here : Table) → here ≡ table → (entry : Entry) (i from : ℕ) (value : code.Place) → IsEntryOf table 8 U entry → key_place keys passed ≡ Some i → from ≡ start old cell
+      → Some value ≡ Some (record { at = (from + i * entry.size + entry.before) % 2 ^ 32; type_id = U })
+      → ((v : Value) (bs : List ℕ) → Stands allocator old table (place_of value) v bs → ChangesPlace old mid table (place_of value) (default_of table value.type_id) [] (after_gives (live old) bs) bs [])
+      → ((us : Values) (bs : List ℕ) → Stands allocator mid here (object_at cell T) (Map keys us) bs → i < count_at mid cell → PlaceBlocks mid here (flat_value mid here cell U i) []
+      → ChangesPlace mid new here (object_at cell T) (without_entry (keys, us) i) bs (live mid) bs bs) → RemovesKey allocator old new table (object_at cell T) keys vs blocks (key_place keys key) true
+  remove_found mid new here same entry i from value e h from_is value_is clears closes =
+      let there : key_place keys key ≡ Some i = subst (λ k. key_place keys k ≡ Some i) back h in
+      let below : i < count_at old cell = subst (λ k. i < k) (length_is allocator old table (object_at cell T) U keys vs blocks f s) (place_below keys key i there) in
+      let small = entry_small allocator old table (object_at cell T) U keys vs blocks f s i below in
+      let plain : (start old cell + i * (8 + size table U) + 8) % 2 ^ 32 ≡ start old cell + i * (8 + size table U) + 8 = omega arith in
+      let at_is : (from + i * entry.size + entry.before) % 2 ^ 32 ≡ start old cell + i * (8 + size table U) + 8 = rw (from_is, e.size_is, e.before_is) plain in
+      let place_is : place_of value ≡ inner allocator old table (object_at cell T) U keys vs blocks f s key i there =
+      ap place_of (known value (record { at = (from + i * entry.size + entry.before) % 2 ^ 32; type_id = U }) value_is) ∙ ap (value_of U) at_is in
+      let stands = inner_stands allocator old table (object_at cell T) U keys vs blocks f s key i there in
+      let c' = c allocator old table (object_at cell T) U keys vs blocks f s key i there in
+      let change = clears c'.value c'.its (subst (λ p. Stands allocator old table p c'.value c'.its) (sym place_is) stands) in
+      let change' = subst (λ (p : Place). ChangesPlace old mid table p (default_of table p.type) [] (after_gives (live old) c'.its) c'.its []) place_is change in
+      let closes' = subst (λ t. (us : Values) (bs : List ℕ) → Stands allocator mid t (object_at cell T) (Map keys us) bs → i < count_at mid cell → PlaceBlocks mid t (flat_value mid t cell U i) []
+      → ChangesPlace mid new t (object_at cell T) (without_entry (keys, us) i) bs (live mid) bs bs) same closes in
+      subst (λ o. RemovesKey allocator old new table (object_at cell T) keys vs blocks o true) (sym there)
+      (refl, closed allocator old table (object_at cell T) U keys vs blocks f s key i there mid new (default_of table U) change' closes')
+    where
+      known : (x y : code.Place) → Some x ≡ Some y → x ≡ y
+      known x y e = cc

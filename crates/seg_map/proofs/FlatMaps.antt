@@ -1,5 +1,5 @@
 -- A flat map in memory: its entries lie in the segment, and read as its keys and values.
-use Rattle.std.proofs.Common.{◌≡◌, ℕ, zero, suc, ◌+◌, ◌-◌, ◌*◌, ◌%◌, ◌^◌, ◌<◌, ◌≤◌, min, ◌⊎◌, inl, inr, ℤ, ◌<ℤ◌, List, [], ◌∷◌, ◌++◌, length, map, Option, Some, None, Result, Ok, Err, MatchResult, IfOk, IfErr, refl, sym, ap, ◌∙◌, subst, arith}
+use Rattle.std.proofs.Common.{◌≡◌, ℕ, zero, suc, ◌+◌, ◌-◌, ◌*◌, ◌%◌, ◌^◌, ◌<◌, ◌≤◌, min, ◌⊎◌, inl, inr, ℤ, ◌<ℤ◌, List, [], ◌∷◌, length, map, Option, Some, None, Result, Ok, Err, MatchResult, IfOk, IfErr, refl, sym, ap, ◌∙◌, subst, arith}
 use Rattle.std.specs.Prelude.{slice_get, IsErr}
 use Rattle.std.proofs.Math.Nat.{mul-le-mul_left, mul-le-mul_right}
 use Rattle.std.proofs.lemmas.Bool.{cases_lt, false≢true}
@@ -12,14 +12,14 @@ use Rattle.std.specs.declared.cmp.Ordering.TheVariants.{Less, Equal, Greater}
 use Rattle.seg_spec.specs.Bytes.{signed_long}
 use Rattle.seg_spec.specs.Pointer.{target}
 use Rattle.seg_spec.specs.Types.{Form, Table, form_at, size}
-use Rattle.seg_spec.specs.Value.{Label, Value, node, Values, Map, IsAscending, Selector}
-use Rattle.seg_spec.specs.Heap.{live, heap_start, units_at}
-use Rattle.seg_spec.specs.Block.{Kind, tag_of, IsBlock, IsInside, block_of}
+use Rattle.seg_spec.specs.Value.{Label, Values, Map, IsAscending, Selector}
+use Rattle.seg_spec.specs.Heap.{live, heap_start}
+use Rattle.seg_spec.specs.Block.{Kind, tag_of, IsBlock, block_of}
 use Rattle.seg_spec.specs.Reads.{Place, Opened, count_at, named, start, spaced, places_of, keys_at, Opens, Holds, HoldsEach, Leads, here, into}
 use Rattle.seg_spec.specs.Owning.{Stands}
 use Rattle.seg_spec.specs.Sound.{times, positions}
 use Rattle.seg_spec.specs.Items.{key_place, keys_below}
-use Rattle.seg_spec.proofs.LiveLaws.{times-same, times-append, there, LiesIn, live-lie}
+use Rattle.seg_spec.proofs.LiveLaws.{times-same, there, LiesIn, live-lie}
 use Rattle.seg_spec.proofs.PlaceSteps.{owned_live}
 use Rattle.seg_spec.proofs.Buffered.{Buffered, buffered}
 use Rattle.seg_value.specs.Search.{IsBetween}
@@ -95,8 +95,11 @@ module _ (bytes : List ℕ) (table : Table) (place : Place) (U : ℕ) (keys : Li
   held_value i = value_of U (start bytes place.at + i * (8 + size table U) + 8)
 
   abbrev pub held_opened : Opened
-  held_opened = record { label = Label.map (keys_at bytes (spaced (start bytes place.at) (8 + size table U) (count_at bytes place.at))); blocks = named bytes place.at;
-      parts = places_of U (map (λ p. p + 8) (spaced (start bytes place.at) (8 + size table U) (count_at bytes place.at))) }
+  held_opened = record {
+    label = Label.map (keys_at bytes (spaced (start bytes place.at) (8 + size table U) (count_at bytes place.at)));
+    blocks = named bytes place.at;
+    parts = places_of U (map (λ p. p + 8) (spaced (start bytes place.at) (8 + size table U) (count_at bytes place.at)));
+  }
 
   pub held_opens : Opens bytes table place (Form.flat_map U) held_opened
   held_opens = record { named_room = held.room; ascending = held.entries.2; opened_is = refl }

@@ -1,11 +1,11 @@
 -- A value inside a place that gives up what it owns: the place holds the value changed, and all around is kept.
-use Rattle.std.proofs.Common.{◌≡◌, ◌≢◌, ℕ, ◌+◌, ◌*◌, ◌%◌, ◌≤◌, ◌⊎◌, inl, inr, ⊎_elim, List, [], ◌∷◌, ◌++◌, length, Some, refl, sym, ap, ◌∙◌, subst, arith}
+use Rattle.std.proofs.Common.{◌≡◌, ◌≢◌, ℕ, ◌+◌, ◌*◌, ◌%◌, ◌≤◌, inl, inr, ⊎_elim, List, [], ◌∷◌, ◌++◌, length, refl, sym, ap, ◌∙◌, subst, arith}
 use Rattle.std.proofs.lemmas.Bool.{cases_eq}
 use Rattle.std.specs.List.{AllByRecursion}
 use Rattle.seg_spec.specs.Bytes.{word, IsSame}
 use Rattle.seg_spec.specs.Types.{Table, size}
 use Rattle.seg_spec.specs.Value.{Value, Selector, put}
-use Rattle.seg_spec.specs.Heap.{Span, units_at, IsHeap, live, heap_start}
+use Rattle.seg_spec.specs.Heap.{units_at, IsHeap, live, heap_start}
 use Rattle.seg_spec.specs.Block.{IsInside, KeepsBlock, payload_size}
 use Rattle.seg_spec.specs.Reads.{Place, Holds, Leads}
 use Rattle.seg_spec.specs.Apart.{Separate, RangeApart, BlocksApart, KeptAround, KeepsBlockAround, ComesApart}
@@ -39,7 +39,7 @@ module _ (allocator : ℕ) (old : List ℕ) (table : Table) (place : Place) (v :
   own_home : (h : ℕ) → times h (s.home ∷ []) + times h blocks ≤ times h (positions (live old))
   own_home h = ⊎_elim
       (λ (e : s.home ≡ h). let l : times h (s.home ∷ blocks) ≡ 1 + times h blocks = subst (λ x. times h (x ∷ blocks) ≡ 1 + times h blocks) (sym e) (times-same h blocks) in
-          let k : times h (s.home ∷ []) ≡ 1 + times h [] = subst (λ x. times h (x ∷ []) ≡ 1 + times h []) (sym e) (times-same h []) in omega (arith, s.owned h))
+      let k : times h (s.home ∷ []) ≡ 1 + times h [] = subst (λ x. times h (x ∷ []) ≡ 1 + times h []) (sym e) (times-same h []) in omega (arith, s.owned h))
       (λ ne. let l = times-other h s.home blocks ne in let k = times-other h s.home [] ne in omega (arith, s.owned h))
       (cases_eq s.home h)
 
@@ -90,7 +90,7 @@ module _ (allocator : ℕ) (old : List ℕ) (table : Table) (place : Place) (v :
       inside = inside;
       owned = λ h. ⊎_elim
           (λ (e : block ≡ h). let l : times h (block ∷ c.its) ≡ 1 + times h c.its = subst (λ x. times h (x ∷ c.its) ≡ 1 + times h c.its) (sym e) (times-same h c.its) in
-              let some : 1 ≤ times h rest = subst (λ x. 1 ≤ times x rest) e mine in omega (arith, own_home h, counts h))
+          let some : 1 ≤ times h rest = subst (λ x. 1 ≤ times x rest) e mine in omega (arith, own_home h, counts h))
           (λ ne. let l = times-other h block c.its ne in omega (arith, own_home h, counts h))
           (cases_eq block h);
     }
@@ -146,7 +146,7 @@ module _ (allocator : ℕ) (old : List ℕ) (table : Table) (place : Place) (v :
         inside = let room = home_around.header.room in let two = (lies s.home home_live).size in record { low = s.inside.low; high = omega (arith, s.inside.high) };
         owned = λ h. ⊎_elim
             (λ (e : s.home ≡ h). let l : times h (s.home ∷ rest) ≡ 1 + times h rest = subst (λ x. times h (x ∷ rest) ≡ 1 + times h rest) (sym e) (times-same h rest) in
-                let k : times h (s.home ∷ []) ≡ 1 + times h [] = subst (λ x. times h (x ∷ []) ≡ 1 + times h []) (sym e) (times-same h []) in omega (arith, own_home h, counts h, live_mid h))
+            let k : times h (s.home ∷ []) ≡ 1 + times h [] = subst (λ x. times h (x ∷ []) ≡ 1 + times h []) (sym e) (times-same h []) in omega (arith, own_home h, counts h, live_mid h))
             (λ ne. let l = times-other h s.home rest ne in omega (arith, own_home h, counts h, live_mid h))
             (cases_eq s.home h);
       }
