@@ -7,3 +7,7 @@ pub mod Entering
 pub mod Adding
 pub mod Putting
 pub mod Removing
+pub mod KeyLaws
+pub mod FlatMaps
+pub mod PartCleared
+pub mod FlatChanges

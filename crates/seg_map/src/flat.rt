@@ -1,7 +1,13 @@
 //! A flat map: a buffer of entries {key, value} in order of their keys.
 
-ghost use Rattle.std.specs.Prelude.{◌≡◌};
+ghost use Rattle.std.specs.Prelude.{◌≡◌, Some, None, IsOkUnless, MatchResult, slice_get};
+ghost use Rattle.seg_spec.specs.Items.{key_place, keys_below};
+ghost use Rattle.seg_spec.specs.Types.{Form};
 ghost use Rattle.seg_spec.specs.Window.{KeepsHost};
+ghost use Rattle.seg_value.specs.Places.{object_at};
+ghost use Rattle.seg_value.specs.Contents.{IsEntryOf};
+ghost use Rattle.seg_value.specs.Entries.{NamesFlatMap, flat_asks};
+ghost use Rattle.seg_map.specs.Maps.{WhereMap, FindsValue, PutsKey, RemovesKey, first_of, keys_above};
 
 use seg_block::Fit;
 use seg_raw::Code;
@@ -14,7 +20,12 @@ fn search<F: Fit, A: Allocator>(
     entry: Entry,
     cell: u32,
     key: i64,
-) -> Result<u32, u32> {
+) -> Result<u32, u32>
+    ensures { WhereMap Form.flat_map F.allocator heap.now.window.bytes heap.now.types cell
+        (λ T U keys vs blocks. IsEntryOf heap.now.types 8 U entry →
+        MatchResult result (λ index. key_place keys key ≡ Some index)
+        (λ index. (key_place keys key ≡ None) × (index ≡ keys_below keys key))) }
+{
     let entries = heap.start(cell);
     binary_search(heap.count(cell), |index| {
         heap.load(entry.at(entries, index)).cmp(&key)
@@ -27,7 +38,11 @@ pub(crate) fn get<F: Fit, A: Allocator>(
     entry: Entry,
     cell: u32,
     key: i64,
-) -> Option<u32> {
+) -> Option<u32>
+    ensures { WhereMap Form.flat_map F.allocator heap.now.window.bytes heap.now.types cell
+        (λ T U keys vs blocks. IsEntryOf heap.now.types 8 U entry →
+        FindsValue heap.now.window.bytes heap.now.types (object_at cell T) U keys key result) }
+{
     let index = search(heap, entry, cell, key).ok()?;
     Some(entry.value_at(heap.start(cell), index))
 }
@@ -41,6 +56,12 @@ pub(crate) fn put<F: Fit, A: Allocator>(
 ) -> Result<u32, Code>
     ensures window { KeepsHost heap.old.window heap.new.window }
     ensures types { heap.new.types ≡ heap.old.types }
+    ensures code { IsOkUnless result Code.BadAlloc }
+    ensures puts { WhereMap Form.flat_map F.allocator heap.old.window.bytes heap.old.types cell
+        (λ T U keys vs blocks. NamesFlatMap heap.old.types T U content.now →
+        PutsKey F.allocator heap.old.window.bytes heap.new.window.bytes heap.old.types
+        (object_at cell T) U keys vs key blocks
+        (flat_asks heap.old.window.bytes heap.old.types cell U) (key_place keys key) result) }
 {
     match search(heap, content.entry, cell, key) {
         Ok(index) => Ok(content.entry.value_at(heap.start(cell), index)),
@@ -58,6 +79,13 @@ fn insert<F: Fit, A: Allocator>(
 ) -> Result<u32, Code>
     ensures window { KeepsHost heap.old.window heap.new.window }
     ensures types { heap.new.types ≡ heap.old.types }
+    ensures code { IsOkUnless result Code.BadAlloc }
+    ensures inserts { WhereMap Form.flat_map F.allocator heap.old.window.bytes heap.old.types cell
+        (λ T U keys vs blocks. NamesFlatMap heap.old.types T U content.now →
+        key_place keys key ≡ None → index ≡ keys_below keys key →
+        PutsKey F.allocator heap.old.window.bytes heap.new.window.bytes heap.old.types
+        (object_at cell T) U keys vs key blocks
+        (flat_asks heap.old.window.bytes heap.old.types cell U) None result) }
 {
     let at = heap.open_entry(content, cell, index)?;
     heap.store(at, key);
@@ -76,6 +104,10 @@ pub(crate) fn remove<F: Fit, A: Allocator>(
 ) -> bool
     ensures window { KeepsHost heap.old.window heap.new.window }
     ensures types { heap.new.types ≡ heap.old.types }
+    ensures removes { WhereMap Form.flat_map F.allocator heap.old.window.bytes heap.old.types cell
+        (λ T U keys vs blocks. NamesFlatMap heap.old.types T U content.now →
+        RemovesKey F.allocator heap.old.window.bytes heap.new.window.bytes heap.old.types
+        (object_at cell T) keys vs blocks (key_place keys key) result) }
 {
     let Ok(index) = search(heap, content.entry, cell, key) else {
         return false;
@@ -93,7 +125,10 @@ fn key_of<F: Fit, A: Allocator>(
     entry: Entry,
     cell: u32,
     index: u32,
-) -> Option<i64> {
+) -> Option<i64>
+    ensures { WhereMap Form.flat_map F.allocator heap.now.window.bytes heap.now.types cell
+        (λ T U keys vs blocks. IsEntryOf heap.now.types 8 U entry → result ≡ slice_get keys index) }
+{
     if index < heap.count(cell) {
         Some(heap.load(entry.at(heap.start(cell), index)))
     } else {
@@ -106,7 +141,10 @@ pub(crate) fn first_key<F: Fit, A: Allocator>(
     heap: &Heap<F, A>,
     entry: Entry,
     cell: u32,
-) -> Option<i64> {
+) -> Option<i64>
+    ensures { WhereMap Form.flat_map F.allocator heap.now.window.bytes heap.now.types cell
+        (λ T U keys vs blocks. IsEntryOf heap.now.types 8 U entry → result ≡ first_of keys) }
+{
     key_of(heap, entry, cell, 0)
 }
 
@@ -116,7 +154,10 @@ pub(crate) fn next_key<F: Fit, A: Allocator>(
     entry: Entry,
     cell: u32,
     after: i64,
-) -> Option<i64> {
+) -> Option<i64>
+    ensures { WhereMap Form.flat_map F.allocator heap.now.window.bytes heap.now.types cell
+        (λ T U keys vs blocks. IsEntryOf heap.now.types 8 U entry → result ≡ first_of (keys_above keys after)) }
+{
     let index = match search(heap, entry, cell, after) {
         Ok(index) => index.saturating_add(1),
         Err(index) => index,

@@ -1,0 +1,300 @@
+-- A flat map that gets a key, or loses one, from what the steps of the calls leave.
+use Rattle.std.proofs.Common.{◌≡◌, ℕ, zero, suc, ◌+◌, ◌*◌, ◌%◌, ◌^◌, ◌<◌, ◌≤◌, inl, inr, ⊎_elim, ℤ, true, false, List, [], ◌∷◌, ◌++◌, length, Some, None, Result, Ok, refl, sym, ap, ◌∙◌, subst, arith}
+use Rattle.std.specs.Prelude.{insert, remove, int_lt, unwrap_or}
+use Rattle.std.proofs.Math.Nat.{zero-mul, mul-le-mul_right}
+use Rattle.std.proofs.lemmas.List.Sums.{count_by-le-length}
+use Rattle.seg_spec.specs.Bytes.{signed, signed_long, ChangesOnly, IsSame}
+use Rattle.seg_spec.specs.Types.{Form, Table, form_at, size}
+use Rattle.seg_spec.specs.Value.{Value, Values, nil, cons, Map, IsAscending, Selector, change_nth, default_of, put}
+use Rattle.seg_spec.specs.Heap.{live}
+use Rattle.seg_spec.specs.Block.{IsInside, block_of}
+use Rattle.seg_spec.specs.Reads.{Place, count_at, named, start, Holds, Leads}
+use Rattle.seg_spec.specs.Apart.{Separate, ComesApart}
+use Rattle.seg_spec.specs.Cells.{IsWithin}
+use Rattle.seg_spec.specs.Sound.{times}
+use Rattle.seg_spec.specs.Items.{key_place, keys_below, insert_nth, remove_nth, without_entry}
+use Rattle.seg_spec.specs.Roots.{ChangesPlace}
+use Rattle.seg_spec.specs.Owning.{Stands}
+use Rattle.seg_spec.specs.Demand.{Ask, after_gives}
+use Rattle.seg_spec.specs.Spending.{PlaceBlocks}
+use Rattle.seg_spec.specs.Growing.{Succeeds}
+use Rattle.seg_spec.proofs.BytesLaws.{number-slice}
+use Rattle.seg_spec.proofs.Frame.{cell-target, cell-count}
+use Rattle.seg_spec.proofs.SliceLaws.{IsSame-part}
+use Rattle.seg_spec.proofs.TypesLaws.{size_large}
+use Rattle.seg_spec.proofs.CellSteps.{ChangesOnly-wider, size_aligned}
+use Rattle.seg_spec.proofs.LiveLaws.{times-same, times-append}
+use Rattle.seg_spec.proofs.Paths.{middle}
+use Rattle.seg_spec.proofs.OneReading.{Holds-one}
+use Rattle.seg_value.specs.Contents.{IsEntryOf}
+use Rattle.seg_value.specs.Entries.{OpensEntry, flat_asks, flat_value}
+use Rattle.seg_value.specs.Places.{object_at, place_of}
+use Rattle.seg_value.specs.declared.place.Place as code
+use Rattle.seg_value.specs.declared.entry.Entry.{Entry}
+use Rattle.seg_map.specs.Maps.{value_of, AddsKey, PutsKey, TakesKey, RemovesKey}
+use Rattle.seg_map.proofs.KeyLaws.{parted_missing, inserted_place, inserted_ascends, place_below}
+use Rattle.seg_map.proofs.FlatMaps.{HasBuffer, has_buffer, entry_small, its, holds_each, length_is, value_leads, ascending, key_leads, held_leads, held_opened, held_opens, held_part}
+use Rattle.seg_map.proofs.PartCleared as part
+
+-- ---- a key comes
+
+changes_twice : (a b c : List ℕ) (at n : ℕ) → ChangesOnly a b at n → ChangesOnly b c at n → ChangesOnly a c at n
+changes_twice a b c at n x y = record { length_kept = y.length_kept ∙ x.length_kept; others = λ p m apart. y.others p m apart ∙ x.others p m apart }
+
+module _ (allocator : ℕ) (old opened stored new : List ℕ) (table : Table) (place : Place) (U : ℕ) (keys : List ℤ) (vs : Values) (blocks : List ℕ) (f : form_at table place.type ≡ Some (Form.flat_map U))
+    (s : Stands allocator old table place (Map keys vs) blocks) (entry : Entry) (e : IsEntryOf table 8 U entry) (key : ℤ) (index at : ℕ) (asks : List Ask) (others : List ℕ)
+    (missing : key_place keys key ≡ None) (index_is : index ≡ keys_below keys key)
+    (at_is : at ≡ start opened place.at + index * (8 + size table U)) (within : IsWithin opened at (8 + size table U)) (apart : Separate at (8 + size table U) place.at (size table place.type))
+    (becomes : (written : List ℕ) (w : Value) → ChangesOnly opened written at (8 + size table U) → IsAscending (insert keys index (signed_long written at)) →
+    Holds written table (value_of U (start opened place.at + index * (8 + size table U) + 8)) w [] →
+    Succeeds allocator old written table place (Map (insert keys index (signed_long written at)) (insert_nth vs index w)) asks [] blocks others) where
+  eight : 8 ≤ size table place.type
+  eight = size_large table s.is_table place.type
+
+  module _ (value : Place) (changes : ChangesOnly opened stored at 8) (key_is : signed_long stored at ≡ key) (value_at : value.at ≡ at + 8) (value_type : value.type ≡ U)
+      (filled : ChangesOnly stored new value.at (size table value.type)) (holds_it : Holds new table value (default_of table value.type) []) where
+    all_changes : ChangesOnly opened new at (8 + size table U)
+    all_changes = changes_twice opened stored new at (8 + size table U) (ChangesOnly-wider opened stored at 8 at (8 + size table U) (omega arith) (omega arith) changes)
+        (let sizes : size table value.type ≡ size table U = ap (size table) value_type in ChangesOnly-wider stored new value.at (size table value.type) at (8 + size table U) (omega arith) (omega arith) filled)
+
+    new_key : signed_long new at ≡ key
+    new_key = ap signed (number-slice 8 stored new at at (filled.others at 8 (inl (omega arith)))) ∙ key_is
+
+    value_is : value ≡ value_of U (start opened place.at + index * (8 + size table U) + 8)
+    value_is = same value (value_at ∙ ap (λ p. p + 8) at_is) value_type
+      where
+        same : (p : Place) {a b : ℕ} → p.at ≡ a → p.type ≡ b → p ≡ record { at = a; type = b }
+        same p x y = rw (sym x, sym y) refl
+
+    ascends : IsAscending (insert keys index (signed_long new at))
+    ascends = rw new_key (inserted_ascends keys key index (parted_missing keys key index (ascending allocator old table place U keys vs blocks f s) missing index_is) (ascending allocator old table place U keys vs blocks f s))
+
+    fresh : Holds new table (value_of U (start opened place.at + index * (8 + size table U) + 8)) (default_of table U) []
+    fresh = subst (λ p. Holds new table p (default_of table U) []) value_is (subst (λ t. Holds new table value (default_of table t) []) value_type holds_it)
+
+    came_at : Succeeds allocator old new table place (Map (insert keys index key) (insert_nth vs index (default_of table U))) asks [] blocks others
+    came_at =
+        let c = becomes new (default_of table U) all_changes ascends fresh in
+        subst (λ x. Succeeds allocator old new table place (Map (insert keys index x) (insert_nth vs index (default_of table U))) asks [] blocks others) new_key c
+
+    start_same : start new place.at ≡ start opened place.at
+    start_same =
+        let same : IsSame opened new place.at 8 = all_changes.others place.at 8 (⊎_elim (λ l. inr l) (λ l. let k = eight in inl (omega arith)) apart) in
+        ap (λ t. unwrap_or t 0) (cell-target opened new place.at same)
+
+    leads : Leads new table place (Selector.key key ∷ []) (value_of U (start new place.at + index * (8 + size table U) + 8))
+    leads =
+        held_leads new table place U (insert keys index key) (insert_nth vs index (default_of table U)) others f came_at.changes.holds_it key index
+        (inserted_place keys key index (parted_missing keys key index (ascending allocator old table place U keys vs blocks f s) missing index_is))
+
+    pub added : (p : ℕ) → p ≡ at + 8 → AddsKey allocator old new table place U keys vs key blocks asks p
+    added p p_is = record {
+      others = others;
+      succeeds = subst (λ i. Succeeds allocator old new table place (Map (insert keys i key) (insert_nth vs i (default_of table U))) asks [] blocks others) index_is came_at;
+      stands_at =
+          let same : p ≡ start new place.at + index * (8 + size table U) + 8 = p_is ∙ ap (λ q. q + 8) at_is ∙ ap (λ q. q + index * (8 + size table U) + 8) (sym start_same) in
+          subst (λ q. Leads new table place (Selector.key key ∷ []) (value_of U q)) (sym same) leads;
+    }
+
+pub index_fits : (allocator : ℕ) (bytes : List ℕ) (table : Table) (place : Place) (U : ℕ) (keys : List ℤ) (vs : Values) (blocks : List ℕ) → form_at table place.type ≡ Some (Form.flat_map U)
+    → Stands allocator bytes table place (Map keys vs) blocks → (key : ℤ) (index : ℕ) → index ≡ keys_below keys key → index ≤ count_at bytes place.at
+index_fits allocator bytes table place U keys vs blocks f s key index is =
+    let few = count_by-le-length (λ x. int_lt x key) keys in
+    let long = length_is allocator bytes table place U keys vs blocks f s in
+    omega arith
+
+-- the steps of the code
+module _ (allocator : ℕ) (old opened stored new : List ℕ) (table here : Table) (same : here ≡ table) (cell T U : ℕ) (keys : List ℤ) (vs : Values) (blocks : List ℕ)
+    (f : form_at table T ≡ Some (Form.flat_map U)) (s : Stands allocator old table (object_at cell T) (Map keys vs) blocks) (entry : Entry) (e : IsEntryOf table 8 U entry) (key passed : ℤ) (back : passed ≡ key)
+    (index at : ℕ) (missing : key_place keys key ≡ None) (index_is : index ≡ keys_below keys key) (o : OpensEntry allocator old opened table (object_at cell T) U keys vs blocks index at)
+    (changes : ChangesOnly opened stored at 8) (key_is : at + 8 ≤ length opened → signed_long stored at ≡ passed) where
+  value_at : (at + 0 * entry.size + entry.before) % 2 ^ 32 ≡ at + 8
+  value_at = let before = e.before_is in let fits = o.within.fits in let small = o.within.small in let none : 0 * entry.size ≡ 0 = zero-mul entry.size in omega arith
+
+  pub inserted : (value : code.Place) (p : ℕ) → Some value ≡ Some (record { at = (at + 0 * entry.size + entry.before) % 2 ^ 32; type_id = U })
+      → (IsWithin stored value.at (size here value.type_id) → ChangesOnly stored new value.at (size here value.type_id))
+      → (IsWithin stored value.at (size here value.type_id) → value.type_id < length here → Holds new here (place_of value) (default_of here value.type_id) [])
+      → p ≡ (at + 0 * entry.size + entry.before) % 2 ^ 32 → AddsKey allocator old new table (object_at cell T) U keys vs key blocks (flat_asks old table cell U) p
+  inserted value p value_is fills holds_it p_is =
+      let at_is : value.at ≡ at + 8 = ap (λ (v : code.Place). v.at) (known value (record { at = (at + 0 * entry.size + entry.before) % 2 ^ 32; type_id = U }) value_is) ∙ value_at in
+      let type_is : value.type_id ≡ U = ap (λ (v : code.Place). v.type_id) (known value (record { at = (at + 0 * entry.size + entry.before) % 2 ^ 32; type_id = U }) value_is) in
+      let sizes : size here value.type_id ≡ size table U = ap (λ t. size t value.type_id) same ∙ ap (size table) type_is in
+      let within : IsWithin stored value.at (size here value.type_id) = record { fits = omega (arith, o.within.fits, changes.length_kept); small = omega (arith, o.within.small, changes.length_kept) } in
+      let below : value.type_id < length here = let t = s.is_table.forms T (Form.flat_map U) f in let l = ap length same in omega arith in
+      let filled : ChangesOnly stored new value.at (size table value.type_id) = subst (λ t. ChangesOnly stored new value.at (size t value.type_id)) same (fills within) in
+      let held : Holds new table (place_of value) (default_of table value.type_id) [] = subst (λ t. Holds new t (place_of value) (default_of t value.type_id) []) same (holds_it within below) in
+      added allocator old opened stored new table (object_at cell T) U keys vs blocks f s entry e key index at (flat_asks old table cell U) o.others missing index_is o.at_is o.within o.apart o.becomes
+      (place_of value) changes (key_is (omega (arith, o.within.fits)) ∙ back) at_is type_is filled held p (p_is ∙ value_at)
+    where
+      known : (x y : code.Place) → Some x ≡ Some y → x ≡ y
+      known x y e = cc
+
+-- ---- a key goes
+
+removed_changed : (g : Value → Value) (vs : Values) (i : ℕ) → remove_nth (change_nth (Some i) g vs) i ≡ remove_nth vs i
+removed_changed g nil i = refl
+removed_changed g (cons v vs) zero = refl
+removed_changed g (cons v vs) (suc i) = ap (cons v) (removed_changed g vs i)
+
+module _ (allocator : ℕ) (old : List ℕ) (table : Table) (place : Place) (U : ℕ) (keys : List ℤ) (vs : Values) (blocks : List ℕ) (f : form_at table place.type ≡ Some (Form.flat_map U))
+    (s : Stands allocator old table place (Map keys vs) blocks) (key : ℤ) (i : ℕ) (there : key_place keys key ≡ Some i) where
+  abbrev each : ℕ
+  each = 8 + size table U
+
+  -- the place of the value
+  abbrev pub inner : Place
+  inner = value_of U (start old place.at + i * (8 + size table U) + 8)
+
+  below : i < count_at old place.at
+  below = subst (λ k. i < k) (length_is allocator old table place U keys vs blocks f s) (place_below keys key i there)
+
+  b : HasBuffer allocator old table place U keys vs blocks f s
+  b = has_buffer allocator old table place U keys vs blocks f s (let l = below in omega arith)
+
+  start_is : start old place.at ≡ b.p
+  start_is = rw b.names refl
+
+  pub led : Leads old table place (Selector.key key ∷ []) inner
+  led = key_leads allocator old table place U keys vs blocks f s key i there
+
+  -- the value, its blocks, and those that are left
+  abbrev pub c : ComesApart old table place (Selector.key key ∷ []) inner (Map keys vs) blocks
+  c = part.c allocator old table place (Map keys vs) blocks s inner (Selector.key key ∷ []) led
+
+  abbrev pub rest : List ℕ
+  rest = part.rest allocator old table place (Map keys vs) blocks s inner (Selector.key key ∷ []) led
+
+  inside : IsInside old (block_of b.p) inner.at (size table inner.type)
+  inside =
+      let e = start_is in
+      let whole : suc i * each ≤ count_at old place.at * each = mul-le-mul_right each below in
+      let more : suc i * each ≡ i * each + each = grind arith in
+      record { low = omega (arith, b.block.behind_header); high = omega (arith, b.block.room, b.block.behind_header, b.lies.size) }
+
+  aligned : inner.at % 8 ≡ 0
+  aligned =
+      let e = start_is in
+      let a = b.lies.aligned in
+      let low = b.block.behind_header in
+      let e8 = size_aligned table s.is_table U in
+      let entries8 = multiple i (8 + size table U) (omega arith) in
+      omega arith
+    where
+      multiple : (i m : ℕ) → m % 8 ≡ 0 → (i * m) % 8 ≡ 0
+      multiple zero m e = omega arith
+      multiple (suc i) m e = let rest = multiple i m e in let more : suc i * m ≡ m + i * m = grind arith in omega arith
+
+  -- the buffer is none of the blocks of the value
+  mine : 1 ≤ times (block_of b.p) rest
+  mine =
+      let h = block_of b.p in
+      let buffered = its allocator old table place U keys vs blocks f s in
+      let m = middle old table (holds_each allocator old table place U keys vs blocks f s) i inner (held_part old table place U keys vs blocks f s.holds_it i below) in
+      let same : c.its ≡ m.zs = (Holds-one old table c.holds_it m.holds_it).1 in
+      let one : times h (named old place.at) ≡ 1 = rw b.names (times-same h []) in
+      let all = ap (times h) buffered.blocks_are in
+      let both = times-append h (named old place.at) buffered.owned in
+      let inner_all = ap (times h) m.blocks_are in
+      let left = times-append h m.xs (m.zs ++ m.ys) in
+      let right = times-append h m.zs m.ys in
+      let its_are = ap (times h) same in
+      let few = part.blocks_once allocator old table place (Map keys vs) blocks s inner (Selector.key key ∷ []) led h in
+      let parts = part.counts allocator old table place (Map keys vs) blocks s inner (Selector.key key ∷ []) led h in
+      omega arith
+
+  pub inner_stands : Stands allocator old table inner c.value c.its
+  inner_stands = part.inner_stands allocator old table place (Map keys vs) blocks s inner (Selector.key key ∷ []) led (block_of b.p) inside mine aligned
+
+  -- the value is destroyed, and the gap closed
+  module _ (mid new : List ℕ) (w : Value) (change : ChangesPlace old mid table inner w [] (after_gives (live old) c.its) c.its []) where
+    abbrev pub changed : Values
+    changed = change_nth (Some i) (put [] w) vs
+
+    stands_mid : Stands allocator mid table place (Map keys changed) rest
+    stands_mid =
+        let k = part.stands_mid allocator old table place (Map keys vs) blocks s inner (Selector.key key ∷ []) led (block_of b.p) inside mine aligned mid w change in
+        subst (λ o. Stands allocator mid table place (Map keys (change_nth o (put [] w) vs)) rest) there k
+
+    cell_same : IsSame old mid place.at 8
+    cell_same =
+        let large = size_large table s.is_table place.type in
+        IsSame-part old mid place.at (size table place.type) place.at 8 (omega arith) (omega arith)
+        (part.place_same allocator old table place (Map keys vs) blocks s inner (Selector.key key ∷ []) led (block_of b.p) inside mine aligned mid w change)
+
+    start_kept : start mid place.at ≡ start old place.at
+    start_kept = ap (λ t. unwrap_or t 0) (cell-target old mid place.at cell_same)
+
+    pub closed : ((vs : Values) (blocks : List ℕ) → Stands allocator mid table place (Map keys vs) blocks → i < count_at mid place.at → PlaceBlocks mid table (value_of U (start mid place.at + i * (8 + size table U) + 8)) []
+        → ChangesPlace mid new table place (without_entry (keys, vs) i) blocks (live mid) blocks blocks) → TakesKey allocator old new table place keys vs blocks i
+    closed closes =
+        let value : Holds mid table (value_of U (start mid place.at + i * (8 + size table U) + 8)) w [] =
+        subst (λ a. Holds mid table (value_of U (a + i * (8 + size table U) + 8)) w []) (sym start_kept) change.holds_it in
+        let count = cell-count old mid place.at cell_same in
+        let last = closes changed rest stands_mid (let l = below in omega arith) (w, value) in
+        let last' : ChangesPlace mid new table place (without_entry (keys, vs) i) rest (live mid) rest rest =
+        subst (λ us. ChangesPlace mid new table place (Map (remove keys i) us) rest (live mid) rest rest) (removed_changed (put [] w) vs i) last in
+        record {
+          gives = c.its;
+          part = record {
+            form = Form.flat_map U;
+            form_is = f;
+            opened = held_opened old table place U keys vs blocks f s.holds_it;
+            opens = held_opens old table place U keys vs blocks f s.holds_it;
+            part = inner;
+            part_is = held_part old table place U keys vs blocks f s.holds_it i below;
+            value = c.value;
+            blocks = c.its;
+            holds = c.holds_it;
+            gives_are = refl;
+          };
+          others = rest;
+          succeeds = part.cleared allocator old table place (Map keys vs) blocks s inner (Selector.key key ∷ []) led (block_of b.p) inside mine aligned mid w change new (without_entry (keys, vs) i) last';
+        }
+
+-- ---- the calls
+
+module _ (allocator : ℕ) (old : List ℕ) (table : Table) (cell T U : ℕ) (keys : List ℤ) (vs : Values) (blocks : List ℕ) (f : form_at table T ≡ Some (Form.flat_map U))
+    (s : Stands allocator old table (object_at cell T) (Map keys vs) blocks) (key passed : ℤ) (back : passed ≡ key) where
+  pub put_found : (E : Type 0) (asks : List Ask) (entry : Entry) (i from p : ℕ) → IsEntryOf table 8 U entry → key_place keys passed ≡ Some i → from ≡ start old cell → p ≡ (from + i * entry.size + entry.before) % 2 ^ 32
+      → PutsKey {E = E} allocator old old table (object_at cell T) U keys vs key blocks asks (key_place keys key) (Ok p)
+  put_found E asks entry i from p e h from_is p_is =
+      let there : key_place keys key ≡ Some i = subst (λ k. key_place keys k ≡ Some i) back h in
+      subst (λ o. PutsKey {E = E} allocator old old table (object_at cell T) U keys vs key blocks asks o (Ok p)) (sym there)
+      (refl, value_leads allocator old table (object_at cell T) U keys vs blocks f s entry key i from p e from_is p_is there)
+
+  pub put_missing : (E : Type 0) (asks : List Ask) (new : List ℕ) (r : Result ℕ E) → key_place keys passed ≡ None → PutsKey {E = E} allocator old new table (object_at cell T) U keys vs passed blocks asks None r
+      → PutsKey {E = E} allocator old new table (object_at cell T) U keys vs key blocks asks (key_place keys key) r
+  put_missing E asks new r none puts =
+      let missing : key_place keys key ≡ None = subst (λ k. key_place keys k ≡ None) back none in
+      subst (λ o. PutsKey {E = E} allocator old new table (object_at cell T) U keys vs key blocks asks o r) (sym missing)
+      (subst (λ k. PutsKey {E = E} allocator old new table (object_at cell T) U keys vs k blocks asks None r) back puts)
+
+  pub remove_missing : key_place keys passed ≡ None → RemovesKey allocator old old table (object_at cell T) keys vs blocks (key_place keys key) false
+  remove_missing none =
+      let missing : key_place keys key ≡ None = subst (λ k. key_place keys k ≡ None) back none in
+      subst (λ o. RemovesKey allocator old old table (object_at cell T) keys vs blocks o false) (sym missing) (refl, refl)
+
+  pub remove_found : (mid new : List ℕ) (here : Table) → here ≡ table → (entry : Entry) (i from : ℕ) (value : code.Place) → IsEntryOf table 8 U entry → key_place keys passed ≡ Some i → from ≡ start old cell
+      → Some value ≡ Some (record { at = (from + i * entry.size + entry.before) % 2 ^ 32; type_id = U })
+      → ((v : Value) (bs : List ℕ) → Stands allocator old table (place_of value) v bs → ChangesPlace old mid table (place_of value) (default_of table value.type_id) [] (after_gives (live old) bs) bs [])
+      → ((us : Values) (bs : List ℕ) → Stands allocator mid here (object_at cell T) (Map keys us) bs → i < count_at mid cell → PlaceBlocks mid here (flat_value mid here cell U i) []
+      → ChangesPlace mid new here (object_at cell T) (without_entry (keys, us) i) bs (live mid) bs bs) → RemovesKey allocator old new table (object_at cell T) keys vs blocks (key_place keys key) true
+  remove_found mid new here same entry i from value e h from_is value_is clears closes =
+      let there : key_place keys key ≡ Some i = subst (λ k. key_place keys k ≡ Some i) back h in
+      let below : i < count_at old cell = subst (λ k. i < k) (length_is allocator old table (object_at cell T) U keys vs blocks f s) (place_below keys key i there) in
+      let small = entry_small allocator old table (object_at cell T) U keys vs blocks f s i below in
+      let plain : (start old cell + i * (8 + size table U) + 8) % 2 ^ 32 ≡ start old cell + i * (8 + size table U) + 8 = omega arith in
+      let at_is : (from + i * entry.size + entry.before) % 2 ^ 32 ≡ start old cell + i * (8 + size table U) + 8 = rw (from_is, e.size_is, e.before_is) plain in
+      let place_is : place_of value ≡ inner allocator old table (object_at cell T) U keys vs blocks f s key i there =
+      ap place_of (known value (record { at = (from + i * entry.size + entry.before) % 2 ^ 32; type_id = U }) value_is) ∙ ap (value_of U) at_is in
+      let stands = inner_stands allocator old table (object_at cell T) U keys vs blocks f s key i there in
+      let c' = c allocator old table (object_at cell T) U keys vs blocks f s key i there in
+      let change = clears c'.value c'.its (subst (λ p. Stands allocator old table p c'.value c'.its) (sym place_is) stands) in
+      let change' = subst (λ (p : Place). ChangesPlace old mid table p (default_of table p.type) [] (after_gives (live old) c'.its) c'.its []) place_is change in
+      let closes' = subst (λ t. (us : Values) (bs : List ℕ) → Stands allocator mid t (object_at cell T) (Map keys us) bs → i < count_at mid cell → PlaceBlocks mid t (flat_value mid t cell U i) []
+      → ChangesPlace mid new t (object_at cell T) (without_entry (keys, us) i) bs (live mid) bs bs) same closes in
+      subst (λ o. RemovesKey allocator old new table (object_at cell T) keys vs blocks o true) (sym there)
+      (refl, closed allocator old table (object_at cell T) U keys vs blocks f s key i there mid new (default_of table U) change' closes')
+    where
+      known : (x y : code.Place) → Some x ≡ Some y → x ≡ y
+      known x y e = cc

@@ -1,0 +1,285 @@
+-- Ascending keys, and where another one stands among them.
+use Rattle.std.proofs.Common.{◌≡◌, ℕ, zero, suc, ◌+◌, ◌<◌, ◌⊎◌, inl, inr, ℤ, ◌<ℤ◌, Bool, true, false, not, cond, T, List, [], ◌∷◌, ◌++◌, length, take, drop, Some, None, refl, sym, ap, ◌∙◌, subst, arith, zero-add, length-append, lt-ltb, le-ltb, ltb-true}
+use Rattle.std.specs.Prelude.{int_lt, filter, count_by, nat_lt, slice_get, insert}
+use Rattle.std.specs.List.{AllByRecursion, prefix_len}
+use Rattle.std.proofs.lemmas.List.Sums.{sum_by-cons}
+use Rattle.std.specs.Ordering.{int_cmp}
+use Rattle.std.specs.Cmp.{int_chain, int_ranked}
+use Rattle.std.specs.declared.cmp.Ordering.{Ordering}
+use Rattle.std.specs.declared.cmp.Ordering.TheVariants.{Less, Equal, Greater}
+use Rattle.std.specs.Int.Signed.{<ℤ_irrefl}
+use Rattle.seg_spec.specs.Value.{IsAscending, same_int}
+use Rattle.seg_spec.specs.Items.{key_place, keys_below}
+use Rattle.seg_map.specs.Maps.{first_of, keys_above}
+
+-- ---- two numbers
+
+is_so : (t : Bool) → T t → t ≡ true
+is_so true h = refl
+is_so false h = absurd h
+
+less_true : (a b : ℤ) → a <ℤ b → int_lt a b ≡ true
+less_true a b h = is_so (int_lt a b) h.lt
+
+not_true : (t : Bool) → (T t → ⊥) → t ≡ false
+not_true true f = absurd (f tt)
+not_true false f = refl
+
+not_self : (a : ℤ) → int_lt a a ≡ false
+not_self a = not_true (int_lt a a) (λ h. <ℤ_irrefl {a = a} (record { lt = h }))
+
+less_false : (a b : ℤ) → a <ℤ b → int_lt b a ≡ false
+less_false a b h = not_true (int_lt b a) (λ k. <ℤ_irrefl {a = a} (int_chain a b a h (record { lt = k })))
+
+same_self : (k : ℤ) → same_int k k ≡ true
+same_self k = rw (not_self k) refl
+
+other_below : (x k : ℤ) → x <ℤ k → same_int k x ≡ false
+other_below x k h = rw (less_false x k h, less_true x k h) refl
+
+other_above : (x k : ℤ) → k <ℤ x → same_int k x ≡ false
+other_above x k h = rw (less_true k x h) refl
+
+-- ---- keys below, and keys above
+
+abbrev pub AllBelow : ℤ → List ℤ → Type 0
+AllBelow k xs = AllByRecursion (λ x. x <ℤ k) xs
+
+abbrev pub AllAbove : ℤ → List ℤ → Type 0
+AllAbove k xs = AllByRecursion (λ x. k <ℤ x) xs
+
+above_less : (a b : ℤ) (xs : List ℤ) → a <ℤ b → AllAbove b xs → AllAbove a xs
+above_less a b [] h all = tt
+above_less a b (x ∷ xs) h all = (int_chain a b x h all.0, above_less a b xs h all.1)
+
+below_more : (a b : ℤ) (xs : List ℤ) → a <ℤ b → AllBelow a xs → AllBelow b xs
+below_more a b [] h all = tt
+below_more a b (x ∷ xs) h all = (int_chain x a b all.0 h, below_more a b xs h all.1)
+
+pub ascending_tail : (x : ℤ) (xs : List ℤ) → IsAscending (x ∷ xs) → IsAscending xs
+ascending_tail x [] a = tt
+ascending_tail x (y ∷ ys) a = a.1
+
+pub ascending_head : (x : ℤ) (xs : List ℤ) → IsAscending (x ∷ xs) → AllAbove x xs
+ascending_head x [] a = tt
+ascending_head x (y ∷ ys) a = (a.0, above_less x y ys a.0 (ascending_head y ys a.1))
+
+ascending_cons : (x : ℤ) (xs : List ℤ) → AllAbove x xs → IsAscending xs → IsAscending (x ∷ xs)
+ascending_cons x [] all a = tt
+ascending_cons x (y ∷ ys) all a = (all.0, a)
+
+above_append : (x : ℤ) (xs ys : List ℤ) → AllAbove x xs → AllAbove x ys → AllAbove x (xs ++ ys)
+above_append x [] ys a b = b
+above_append x (y ∷ xs) ys a b = (a.0, above_append x xs ys a.1 b)
+
+above_left : (x : ℤ) (xs ys : List ℤ) → AllAbove x (xs ++ ys) → AllAbove x xs
+above_left x [] ys a = tt
+above_left x (y ∷ xs) ys a = (a.0, above_left x xs ys a.1)
+
+above_right : (x : ℤ) (xs ys : List ℤ) → AllAbove x (xs ++ ys) → AllAbove x ys
+above_right x [] ys a = a
+above_right x (y ∷ xs) ys a = above_right x xs ys a.1
+
+pub ascending_right : (xs ys : List ℤ) → IsAscending (xs ++ ys) → IsAscending ys
+ascending_right [] ys a = a
+ascending_right (x ∷ xs) ys a = ascending_right xs ys (ascending_tail x (xs ++ ys) a)
+
+-- what stands before a key is below it
+pub ascending_before : (xs : List ℤ) (k : ℤ) (ys : List ℤ) → IsAscending (xs ++ k ∷ ys) → AllBelow k xs
+ascending_before [] k ys a = tt
+ascending_before (x ∷ xs) k ys a = ((above_right x xs (k ∷ ys) (ascending_head x (xs ++ k ∷ ys) a)).0, ascending_before xs k ys (ascending_tail x (xs ++ k ∷ ys) a))
+
+-- a key between those below it and those above it
+pub ascending_with : (xs : List ℤ) (k : ℤ) (ys : List ℤ) → IsAscending (xs ++ ys) → AllBelow k xs → AllAbove k ys → IsAscending (xs ++ k ∷ ys)
+ascending_with [] k ys a b c = ascending_cons k ys c a
+ascending_with (x ∷ xs) k ys a b c =
+    let h = ascending_head x (xs ++ ys) a in
+    ascending_cons x (xs ++ k ∷ ys) (above_append x xs (k ∷ ys) (above_left x xs ys h) (b.0, above_right x xs ys h)) (ascending_with xs k ys (ascending_tail x (xs ++ ys) a) b.1 c)
+
+pub ascending_without : (xs : List ℤ) (k : ℤ) (ys : List ℤ) → IsAscending (xs ++ k ∷ ys) → IsAscending (xs ++ ys)
+ascending_without [] k ys a = ascending_tail k ys a
+ascending_without (x ∷ xs) k ys a =
+    let h = ascending_head x (xs ++ k ∷ ys) a in
+    ascending_cons x (xs ++ ys) (above_append x xs ys (above_left x xs (k ∷ ys) h) (above_right x xs (k ∷ ys) h).1) (ascending_without xs k ys (ascending_tail x (xs ++ k ∷ ys) a))
+
+-- ---- a key among others
+
+-- the keys are those below k, then these, then those above k
+pub record Parted (keys : List ℤ) (k : ℤ) (i : ℕ) (these : List ℤ) : Type 0 where
+  pub below : List ℤ
+  pub above : List ℤ
+  pub keys_are : keys ≡ below ++ (these ++ above)
+  pub at_is : length below ≡ i
+  pub all_below : AllBelow k below
+  pub all_above : AllAbove k above
+
+one_more : (x : ℤ) (keys : List ℤ) (k : ℤ) (i : ℕ) (these : List ℤ) → x <ℤ k → Parted keys k i these → Parted (x ∷ keys) k (suc i) these
+one_more x keys k i these h p = record { below = x ∷ p.below; above = p.above; keys_are = ap (λ ks. x ∷ ks) p.keys_are; at_is = ap suc p.at_is; all_below = (h, p.all_below); all_above = p.all_above }
+
+-- what stands at a place is above what stands at the front
+front_below : (x : ℤ) (xs : List ℤ) (i : ℕ) (y : ℤ) → AllAbove x xs → slice_get xs i ≡ Some y → x <ℤ y
+front_below x [] i y all e = cc
+front_below x (z ∷ zs) zero y all e = let same : z ≡ y = cc in subst (λ w. x <ℤ w) same all.0
+front_below x (z ∷ zs) (suc i) y all e = front_below x zs i y all.1 e
+
+-- a key that is there
+pub parted_at : (keys : List ℤ) (k : ℤ) (i : ℕ) → IsAscending keys → slice_get keys i ≡ Some k → Parted keys k i (k ∷ [])
+parted_at [] k i a e = cc
+parted_at (x ∷ xs) k zero a e =
+    let same : x ≡ k = cc in
+    record { below = []; above = xs; keys_are = ap (λ y. y ∷ xs) same; at_is = refl; all_below = tt; all_above = subst (λ y. AllAbove y xs) same (ascending_head x xs a) }
+parted_at (x ∷ xs) k (suc i) a e = one_more x xs k i (k ∷ []) (front_below x xs i k (ascending_head x xs a) e) (parted_at xs k i (ascending_tail x xs a) e)
+
+-- a key that would stand before one above it, and after one below it
+pub parted_front : (keys : List ℤ) (k : ℤ) → IsAscending keys → ((y : ℤ) → slice_get keys 0 ≡ Some y → k <ℤ y) → Parted keys k 0 []
+parted_front [] k a f = record { below = []; above = []; keys_are = refl; at_is = refl; all_below = tt; all_above = tt }
+parted_front (x ∷ xs) k a f =
+    record { below = []; above = x ∷ xs; keys_are = refl; at_is = refl; all_below = tt; all_above = (f x refl, above_less k x xs (f x refl) (ascending_head x xs a)) }
+
+pub parted_after : (keys : List ℤ) (k : ℤ) (i : ℕ) (x : ℤ) → IsAscending keys → slice_get keys i ≡ Some x → x <ℤ k → ((y : ℤ) → slice_get keys (suc i) ≡ Some y → k <ℤ y) → Parted keys k (suc i) []
+parted_after [] k i x a e h f = cc
+parted_after (z ∷ zs) k zero x a e h f =
+    let same : z ≡ x = cc in
+    one_more z zs k 0 [] (subst (λ w. w <ℤ k) (sym same) h) (parted_front zs k (ascending_tail z zs a) f)
+parted_after (z ∷ zs) k (suc i) x a e h f =
+    one_more z zs k (suc i) [] (int_chain z x k (front_below z zs i x (ascending_head z zs a) e) h) (parted_after zs k i x (ascending_tail z zs a) e h f)
+
+-- ---- what the definitions say of such keys
+
+abbrev misses : ℤ → ℤ → Bool
+misses k x = not (same_int k x)
+
+missed_below : (xs ys : List ℤ) (k : ℤ) → AllBelow k xs → prefix_len (misses k) (xs ++ ys) ≡ length xs + prefix_len (misses k) ys
+missed_below [] ys k all = sym (zero-add (prefix_len (misses k) ys))
+missed_below (x ∷ xs) ys k all = rw (other_below x k all.0, missed_below xs ys k all.1) (omega arith)
+
+missed_above : (xs : List ℤ) (k : ℤ) → AllAbove k xs → prefix_len (misses k) xs ≡ length xs
+missed_above [] k all = refl
+missed_above (x ∷ xs) k all = rw (other_above x k all.0, missed_above xs k all.1) (omega arith)
+
+count_cons : (x : ℤ) (xs : List ℤ) (k : ℤ) → count_by (λ y. int_lt y k) (x ∷ xs) ≡ cond (int_lt x k) 1 0 + count_by (λ y. int_lt y k) xs
+count_cons x xs k = sum_by-cons (λ y. cond (int_lt y k) 1 0) x xs
+
+counted_below : (xs ys : List ℤ) (k : ℤ) → AllBelow k xs → count_by (λ x. int_lt x k) (xs ++ ys) ≡ length xs + count_by (λ x. int_lt x k) ys
+counted_below [] ys k all = sym (zero-add (count_by (λ x. int_lt x k) ys))
+counted_below (x ∷ xs) ys k all =
+    count_cons x (xs ++ ys) k ∙ ap (λ b. cond b 1 0 + count_by (λ y. int_lt y k) (xs ++ ys)) (less_true x k all.0) ∙ (let e = counted_below xs ys k all.1 in omega arith)
+
+counted_above : (xs : List ℤ) (k : ℤ) → AllAbove k xs → count_by (λ x. int_lt x k) xs ≡ 0
+counted_above [] k all = refl
+counted_above (x ∷ xs) k all =
+    count_cons x xs k ∙ ap (λ b. cond b 1 0 + count_by (λ y. int_lt y k) xs) (less_false k x all.0) ∙ (let e = counted_above xs k all.1 in omega arith)
+
+filtered_below : (xs ys : List ℤ) (k : ℤ) → AllBelow k xs → filter (λ x. int_lt k x) (xs ++ ys) ≡ filter (λ x. int_lt k x) ys
+filtered_below [] ys k all = refl
+filtered_below (x ∷ xs) ys k all = rw (less_false x k all.0) (filtered_below xs ys k all.1)
+
+filtered_above : (xs : List ℤ) (k : ℤ) → AllAbove k xs → filter (λ x. int_lt k x) xs ≡ xs
+filtered_above [] k all = refl
+filtered_above (x ∷ xs) k all = rw (less_true k x all.0, filtered_above xs k all.1) refl
+
+get_append : {X : Type 0} (xs ys : List X) (i : ℕ) → slice_get (xs ++ ys) (length xs + i) ≡ slice_get ys i
+get_append [] ys i = rw (zero-add i) refl
+get_append (x ∷ xs) ys i = let e : suc (length xs) + i ≡ suc (length xs + i) = omega arith in rw e (get_append xs ys i)
+
+nat_lt_true : (a b : ℕ) → a < b → nat_lt a b ≡ true
+nat_lt_true a b h = lt-ltb a b h
+
+nat_lt_false : (a : ℕ) → nat_lt a a ≡ false
+nat_lt_false a = le-ltb a a (omega arith)
+
+module _ (keys : List ℤ) (k : ℤ) (i : ℕ) where
+  module _ (p : Parted keys k i (k ∷ [])) where
+    pub found_place : key_place keys k ≡ Some i
+    found_place =
+        let len : prefix_len (misses k) (p.below ++ k ∷ p.above) ≡ i = missed_below p.below (k ∷ p.above) k p.all_below ∙ rw (same_self k) (omega (arith, p.at_is)) in
+        let long = length-append p.below (k ∷ p.above) in
+        let l : nat_lt i (length (p.below ++ k ∷ p.above)) ≡ true = nat_lt_true i (length (p.below ++ k ∷ p.above)) (omega (arith, p.at_is)) in
+        rw (p.keys_are, len, l) refl
+
+    pub found_next : first_of (keys_above keys k) ≡ slice_get keys (suc i)
+    found_next =
+        let rest : filter (λ x. int_lt k x) (p.below ++ k ∷ p.above) ≡ p.above = filtered_below p.below (k ∷ p.above) k p.all_below ∙ rw (not_self k) (filtered_above p.above k p.all_above) in
+        let at : slice_get (p.below ++ k ∷ p.above) (length p.below + 1) ≡ slice_get p.above 0 = get_append p.below (k ∷ p.above) 1 in
+        let e : length p.below + 1 ≡ suc i = omega (arith, p.at_is) in
+        rw (p.keys_are, rest) (sym at ∙ ap (slice_get (p.below ++ k ∷ p.above)) e)
+
+  module _ (p : Parted keys k i []) where
+    pub missing_place : key_place keys k ≡ None
+    missing_place =
+        let len : prefix_len (misses k) (p.below ++ p.above) ≡ length (p.below ++ p.above) = missed_below p.below p.above k p.all_below ∙ rw (missed_above p.above k p.all_above) (sym (length-append p.below p.above)) in
+        let l : nat_lt (length (p.below ++ p.above)) (length (p.below ++ p.above)) ≡ false = nat_lt_false (length (p.below ++ p.above)) in
+        rw (p.keys_are, len, l) refl
+
+    pub missing_below : keys_below keys k ≡ i
+    missing_below = rw p.keys_are (counted_below p.below p.above k p.all_below ∙ rw (counted_above p.above k p.all_above) (omega (arith, p.at_is)))
+
+    pub missing_next : first_of (keys_above keys k) ≡ slice_get keys i
+    missing_next =
+        let rest : filter (λ x. int_lt k x) (p.below ++ p.above) ≡ p.above = filtered_below p.below p.above k p.all_below ∙ filtered_above p.above k p.all_above in
+        let at : slice_get (p.below ++ p.above) (length p.below + 0) ≡ slice_get p.above 0 = get_append p.below p.above 0 in
+        let e : length p.below + 0 ≡ i = omega (arith, p.at_is) in
+        rw (p.keys_are, rest) (sym at ∙ ap (slice_get (p.below ++ p.above)) e)
+
+-- a key that is there stands below the end
+pub place_below : (keys : List ℤ) (k : ℤ) (i : ℕ) → key_place keys k ≡ Some i → i < length keys
+place_below keys k i e = go (nat_lt (prefix_len (misses k) keys) (length keys)) refl e
+  where
+    go : (b : Bool) → nat_lt (prefix_len (misses k) keys) (length keys) ≡ b → cond b (Some (prefix_len (misses k) keys)) None ≡ Some i → i < length keys
+    go true f g = let same : prefix_len (misses k) keys ≡ i = cc in subst (λ j. j < length keys) same (ltb-true _ _ f)
+    go false f g = cc
+
+-- ---- each key is among others, or would stand between them
+
+abbrev pub PartedAt : List ℤ → ℤ → Type 0
+PartedAt keys k = ((i : ℕ) × Parted keys k i (k ∷ [])) ⊎ ((i : ℕ) × Parted keys k i [])
+
+pub parted : (keys : List ℤ) (k : ℤ) → IsAscending keys → PartedAt keys k
+parted [] k a = inr (0, parted_front [] k a (λ y e. cc))
+parted (x ∷ xs) k a = by (parted xs k (ascending_tail x xs a)) (int_cmp x k) refl
+  where
+    more : x <ℤ k → PartedAt xs k → PartedAt (x ∷ xs) k
+    more h (inl p) = inl (suc p.0, one_more x xs k p.0 (k ∷ []) h p.1)
+    more h (inr p) = inr (suc p.0, one_more x xs k p.0 [] h p.1)
+
+    by : PartedAt xs k → (r : Ordering) → r ≡ int_cmp x k → PartedAt (x ∷ xs) k
+    by rest Less e = more (int_ranked x k Less e) rest
+    by rest Equal e = inl (0, parted_at (x ∷ xs) k 0 a (ap Some (int_ranked x k Equal e)))
+    by rest Greater e = inr (0, parted_front (x ∷ xs) k a (λ y f. let same : x ≡ y = cc in subst (λ z. k <ℤ z) same (int_ranked x k Greater e)))
+
+pub parted_found : (keys : List ℤ) (k : ℤ) (i : ℕ) → IsAscending keys → key_place keys k ≡ Some i → Parted keys k i (k ∷ [])
+parted_found keys k i a e = by (parted keys k a)
+  where
+    by : PartedAt keys k → Parted keys k i (k ∷ [])
+    by (inl p) = let there = found_place keys k p.0 p.1 in let same : p.0 ≡ i = cc in subst (λ j. Parted keys k j (k ∷ [])) same p.1
+    by (inr p) = let none = missing_place keys k p.0 p.1 in cc
+
+pub parted_missing : (keys : List ℤ) (k : ℤ) (i : ℕ) → IsAscending keys → key_place keys k ≡ None → i ≡ keys_below keys k → Parted keys k i []
+parted_missing keys k i a e is = by (parted keys k a)
+  where
+    by : PartedAt keys k → Parted keys k i []
+    by (inl p) = let there = found_place keys k p.0 p.1 in cc
+    by (inr p) = subst (λ j. Parted keys k j []) (sym (missing_below keys k p.0 p.1) ∙ sym is) p.1
+
+-- ---- a key comes
+
+take_front : (xs ys : List ℤ) → take (length xs) (xs ++ ys) ≡ xs
+take_front [] ys = refl
+take_front (x ∷ xs) ys = ap (λ zs. x ∷ zs) (take_front xs ys)
+
+drop_front : (xs ys : List ℤ) → drop (length xs) (xs ++ ys) ≡ ys
+drop_front [] ys = refl
+drop_front (x ∷ xs) ys = drop_front xs ys
+
+module _ (keys : List ℤ) (k : ℤ) (i : ℕ) (p : Parted keys k i []) where
+  pub inserted : insert keys i k ≡ p.below ++ k ∷ p.above
+  inserted = rw (p.keys_are, sym p.at_is) (rw (take_front p.below p.above, drop_front p.below p.above) refl)
+
+  abbrev both : Parted (insert keys i k) k i (k ∷ [])
+  both = record { below = p.below; above = p.above; keys_are = inserted; at_is = p.at_is; all_below = p.all_below; all_above = p.all_above }
+
+  pub inserted_place : key_place (insert keys i k) k ≡ Some i
+  inserted_place = found_place (insert keys i k) k i both
+
+  pub inserted_ascends : IsAscending keys → IsAscending (insert keys i k)
+  inserted_ascends a = rw inserted (ascending_with p.below k p.above (subst IsAscending p.keys_are a) p.all_below p.all_above)

@@ -1,0 +1,189 @@
+-- A value inside a place that gives up what it owns: the place holds the value changed, and all around is kept.
+use Rattle.std.proofs.Common.{◌≡◌, ◌≢◌, ℕ, ◌+◌, ◌*◌, ◌%◌, ◌≤◌, inl, inr, ⊎_elim, List, [], ◌∷◌, ◌++◌, length, refl, sym, ap, ◌∙◌, subst, arith}
+use Rattle.std.proofs.lemmas.Bool.{cases_eq}
+use Rattle.std.specs.List.{AllByRecursion}
+use Rattle.seg_spec.specs.Bytes.{word, IsSame}
+use Rattle.seg_spec.specs.Types.{Table, size}
+use Rattle.seg_spec.specs.Value.{Value, Selector, put}
+use Rattle.seg_spec.specs.Heap.{units_at, IsHeap, live, heap_start}
+use Rattle.seg_spec.specs.Block.{IsInside, KeepsBlock, payload_size}
+use Rattle.seg_spec.specs.Reads.{Place, Holds, Leads}
+use Rattle.seg_spec.specs.Apart.{Separate, RangeApart, BlocksApart, KeptAround, KeepsBlockAround, ComesApart}
+use Rattle.seg_spec.specs.Sound.{times, positions}
+use Rattle.seg_spec.specs.Roots.{ChangesPlace}
+use Rattle.seg_spec.specs.Owning.{Stands}
+use Rattle.seg_spec.specs.Demand.{after_gives}
+use Rattle.seg_spec.specs.Growing.{Succeeds}
+use Rattle.seg_spec.proofs.SliceLaws.{IsSame-part}
+use Rattle.seg_spec.proofs.Frame.{word-same}
+use Rattle.seg_spec.proofs.LiveLaws.{OneOrApart, times-same, times-other, times-append, there, each_there, LiesIn, live-lie, live-once, live-apart, apart_once}
+use Rattle.seg_spec.proofs.PutLaw.{comes_apart}
+use Rattle.seg_spec.proofs.Composing.{around_twice, around_kept}
+
+module _ (allocator : ℕ) (old : List ℕ) (table : Table) (place : Place) (v : Value) (blocks : List ℕ) (s : Stands allocator old table place v blocks)
+    (inner : Place) (path : List Selector) (leads : Leads old table place path inner) where
+  pub c : ComesApart old table place path inner v blocks
+  c = comes_apart old table s.is_table leads s.holds_it
+
+  abbrev pub rest : List ℕ
+  rest = c.left ++ c.right
+
+  pub counts : (h : ℕ) → times h blocks ≡ times h c.its + times h rest
+  counts h =
+      let a = ap (times h) c.blocks_are in
+      let b = times-append h c.left (c.its ++ c.right) in
+      let d = times-append h c.its c.right in
+      let e = times-append h c.left c.right in
+      omega arith
+
+  own_home : (h : ℕ) → times h (s.home ∷ []) + times h blocks ≤ times h (positions (live old))
+  own_home h = ⊎_elim
+      (λ (e : s.home ≡ h). let l : times h (s.home ∷ blocks) ≡ 1 + times h blocks = subst (λ x. times h (x ∷ blocks) ≡ 1 + times h blocks) (sym e) (times-same h blocks) in
+      let k : times h (s.home ∷ []) ≡ 1 + times h [] = subst (λ x. times h (x ∷ []) ≡ 1 + times h []) (sym e) (times-same h []) in omega (arith, s.owned h))
+      (λ ne. let l = times-other h s.home blocks ne in let k = times-other h s.home [] ne in omega (arith, s.owned h))
+      (cases_eq s.home h)
+
+  once : (h : ℕ) → times h (positions (live old)) ≤ 1
+  once h = live-once old allocator s.heap h
+
+  lies : (h : ℕ) → 1 ≤ times h (positions (live old)) → LiesIn old heap_start (length old) h
+  lies h some = there (LiesIn old heap_start (length old)) h (positions (live old)) (live-lie old allocator s.heap) some
+
+  pair : (g h : ℕ) → 1 ≤ times g (positions (live old)) → 1 ≤ times h (positions (live old)) → OneOrApart old g h
+  pair g h some more = there (OneOrApart old g) h (positions (live old)) (there (λ t. AllByRecursion (OneOrApart old t) (positions (live old))) g (positions (live old)) (live-apart old allocator s.heap) some) more
+
+  pub blocks_once : (h : ℕ) → times h blocks ≤ 1
+  blocks_once h = omega (arith, own_home h, once h)
+
+  home_once : times s.home (s.home ∷ []) ≡ 1
+  home_once = times-same s.home []
+
+  home_live : 1 ≤ times s.home (positions (live old))
+  home_live = omega (arith, own_home s.home, home_once)
+
+  home_apart : times s.home blocks ≡ 0
+  home_apart = omega (arith, own_home s.home, home_once, once s.home)
+
+  rest_live : (h : ℕ) → 1 ≤ times h rest → 1 ≤ times h (positions (live old))
+  rest_live h some = omega (arith, own_home h, counts h)
+
+  rest_other : (h : ℕ) → 1 ≤ times h rest → h ≢ s.home
+  rest_other h some e =
+      let mine : 1 ≤ times s.home rest = subst (λ x. 1 ≤ times x rest) e some in
+      omega (arith, counts s.home, home_apart)
+
+  rest_kept : (h : ℕ) → 1 ≤ times h rest → times h c.its ≡ 0
+  rest_kept h some = omega (arith, own_home h, once h, counts h)
+
+  -- ---- where the value lies
+
+  module _ (block : ℕ) (inside : IsInside old block inner.at (size table inner.type)) (mine : 1 ≤ times block rest) (aligned : inner.at % 8 ≡ 0) where
+    pub inner_stands : Stands allocator old table inner c.value c.its
+    inner_stands = record {
+      heap = s.heap;
+      allocator_is = s.allocator_is;
+      is_table = s.is_table;
+      ownable = s.ownable;
+      holds_it = c.holds_it;
+      aligned = aligned;
+      home = block;
+      inside = inside;
+      owned = λ h. ⊎_elim
+          (λ (e : block ≡ h). let l : times h (block ∷ c.its) ≡ 1 + times h c.its = subst (λ x. times h (x ∷ c.its) ≡ 1 + times h c.its) (sym e) (times-same h c.its) in
+          let some : 1 ≤ times h rest = subst (λ x. 1 ≤ times x rest) e mine in omega (arith, own_home h, counts h))
+          (λ ne. let l = times-other h block c.its ne in omega (arith, own_home h, counts h))
+          (cases_eq block h);
+    }
+
+    module _ (mid : List ℕ) (w : Value) (change : ChangesPlace old mid table inner w [] (after_gives (live old) c.its) c.its []) where
+      home_around : KeepsBlockAround old mid inner.at (size table inner.type) s.home
+      home_around = change.kept s.home home_live (omega (arith, counts s.home, home_apart))
+
+      place_around : KeptAround old mid inner.at (size table inner.type) place.at (size table place.type)
+      place_around g m low high apart =
+          let l = lies s.home home_live in
+          home_around.payload g m (omega (arith, s.inside.low)) (omega (arith, s.inside.high, l.size)) apart
+
+      rest_around : AllByRecursion (KeepsBlockAround old mid inner.at (size table inner.type)) rest
+      rest_around = each_there (KeepsBlockAround old mid inner.at (size table inner.type)) rest (λ h some. change.kept h (rest_live h some) (rest_kept h some))
+
+      place_beside : RangeApart old place.at (size table place.type) rest
+      place_beside = each_there (λ h. Separate place.at (size table place.type) h (16 * units_at old h)) rest (λ h some. go h (rest_other h some) (pair s.home h home_live (rest_live h some)))
+        where
+          go : (h : ℕ) → h ≢ s.home → OneOrApart old s.home h → Separate place.at (size table place.type) h (16 * units_at old h)
+          go h ne (inl e) = absurd (ne e)
+          go h ne (inr (inl l)) = inl (omega (arith, s.inside.high))
+          go h ne (inr (inr l)) = inr (omega (arith, s.inside.low))
+
+      -- the place itself is kept
+      pub place_same : IsSame old mid place.at (size table place.type)
+      place_same = place_around place.at (size table place.type) (omega arith) (omega arith)
+          (⊎_elim (λ l. inl (omega (arith, inside.low))) (λ l. inr (omega (arith, inside.high))) (there (λ h. Separate place.at (size table place.type) h (16 * units_at old h)) block rest place_beside mine))
+
+      rest_apart : BlocksApart old rest
+      rest_apart = apart_once old rest
+          (each_there (λ t. AllByRecursion (OneOrApart old t) rest) rest (λ g some. each_there (OneOrApart old g) rest (λ h more. pair g h (rest_live g some) (rest_live h more))))
+          (λ h. omega (arith, own_home h, once h, counts h))
+
+      pub holds_mid : Holds mid table place (put path w v) rest
+      holds_mid = c.becomes mid w [] place_around rest_around place_beside rest_apart change.holds_it
+
+      allocator_mid : word mid 16 ≡ word old 16
+      allocator_mid = word-same old mid 16 (IsSame-part old mid 0 24 16 4 (omega arith) (omega arith) change.front_kept)
+
+      live_mid : (h : ℕ) → times h (positions (live mid)) + times h c.its ≡ times h (positions (live old))
+      live_mid h = let l = change.live_are h in let z : times h [] ≡ 0 = refl in omega arith
+
+      pub stands_mid : Stands allocator mid table place (put path w v) rest
+      stands_mid = record {
+        heap = subst (λ n. IsHeap n mid) s.allocator_is change.heap;
+        allocator_is = allocator_mid ∙ s.allocator_is;
+        is_table = s.is_table;
+        ownable = change.ownable;
+        holds_it = holds_mid;
+        aligned = s.aligned;
+        home = s.home;
+        inside = let room = home_around.header.room in let two = (lies s.home home_live).size in record { low = s.inside.low; high = omega (arith, s.inside.high) };
+        owned = λ h. ⊎_elim
+            (λ (e : s.home ≡ h). let l : times h (s.home ∷ rest) ≡ 1 + times h rest = subst (λ x. times h (x ∷ rest) ≡ 1 + times h rest) (sym e) (times-same h rest) in
+            let k : times h (s.home ∷ []) ≡ 1 + times h [] = subst (λ x. times h (x ∷ []) ≡ 1 + times h []) (sym e) (times-same h []) in omega (arith, own_home h, counts h, live_mid h))
+            (λ ne. let l = times-other h s.home rest ne in omega (arith, own_home h, counts h, live_mid h))
+            (cases_eq s.home h);
+      }
+
+      -- a block that the place doesn't own is kept whole
+      kept_mid : (h : ℕ) → 1 ≤ times h (positions (live old)) → times h blocks ≡ 0 → KeepsBlock old mid h
+      kept_mid h some none =
+          let k = change.kept h some (omega (arith, counts h)) in
+          record {
+            live = k.header.live;
+            has_tag = k.header.has_tag;
+            room = k.header.room;
+            payload = k.payload (h + 16) (payload_size old h) (omega arith) (omega arith) (go (pair block h (rest_live block mine) some));
+          }
+        where
+          go : OneOrApart old block h → Separate (h + 16) (payload_size old h) inner.at (size table inner.type)
+          go (inl e) = let zero_rest : times block rest ≡ 0 = subst (λ x. times x rest ≡ 0) e (omega (arith, counts h)) in absurd (omega arith)
+          go (inr (inl before)) = inr (omega (arith, inside.high))
+          go (inr (inr behind)) = let l = lies h some in inl (omega (arith, inside.low, l.size))
+
+      -- then the place comes to hold another value, with the blocks that are left
+      module _ (new : List ℕ) (u : Value) (last : ChangesPlace mid new table place u rest (live mid) rest rest) where
+        pub cleared : Succeeds allocator old new table place u [] c.its blocks rest
+        cleared = record {
+          left = after_gives (live old) c.its;
+          left_is = refl;
+          changes = record {
+            length_kept = last.length_kept ∙ change.length_kept;
+            front_kept = last.front_kept ∙ change.front_kept;
+            back_kept = last.back_kept ∙ change.back_kept;
+            heap = subst (λ n. IsHeap n new) allocator_mid last.heap;
+            ownable = last.ownable;
+            holds_it = last.holds_it;
+            live_is = last.live_is ∙ change.live_is;
+            live_are = λ h. let l = last.live_are h in omega (arith, counts h, live_mid h);
+            kept = λ h some none. around_twice old mid new place.at (size table place.type) h
+                (around_kept old mid place.at (size table place.type) h (omega (arith, (lies h some).size)) (kept_mid h some none))
+                (last.kept h (omega (arith, live_mid h, counts h)) (omega (arith, counts h)));
+          };
+        }
