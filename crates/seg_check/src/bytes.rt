@@ -1,4 +1,4 @@
-use seg_block::{TAG, UNIT};
+use seg_block::{LINK, TAG, UNIT, UNITS_BEFORE};
 use seg_ptr::Window;
 use std::alloc::Allocator;
 
@@ -36,24 +36,37 @@ impl<'a> Bytes<'a> {
         }
     }
 
-    /// The units of the block at a position.
-    pub(crate) fn units(self, block: u32) -> u32 {
-        self.get32(block) % LIVE
-    }
-
-    /// Whether the block at a position is live.
-    pub(crate) fn is_live(self, block: u32) -> bool {
-        self.get32(block) >= LIVE
-    }
-
-    /// The word of a header at a distance from its start.
-    pub(crate) fn header_word(self, block: u32, from: u32) -> u32 {
-        self.get32(block.wrapping_add(from))
+    /// The header of the block at a position. Where it doesn't lie in the image, its words are 0.
+    pub(crate) fn header(self, block: u32) -> BlockHeader {
+        let at = block as usize;
+        let header = Bytes {
+            bytes: self.bytes.get(at..at + UNIT as usize).unwrap_or(&[]),
+        };
+        let size = header.get32(0);
+        BlockHeader {
+            units: size % LIVE,
+            is_live: size >= LIVE,
+            units_before: header.get32(UNITS_BEFORE as u32),
+            tag: header.get32(TAG as u32),
+            link: header.get32(LINK as u32),
+        }
     }
 
     /// Whether the live block at a position has this tag and so many bytes of payload.
     pub(crate) fn has_payload(self, block: u32, tag: u32, size: u64) -> bool {
-        let bytes = u64::from(UNIT) * u64::from(self.units(block));
-        self.header_word(block, TAG as u32) == tag && bytes >= size.saturating_add(u64::from(UNIT))
+        let header = self.header(block);
+        let bytes = u64::from(UNIT) * u64::from(header.units);
+        header.tag == tag && bytes >= size.saturating_add(u64::from(UNIT))
     }
+}
+
+/// The header of a block, each of its words read once.
+#[derive(Clone, Copy)]
+pub(crate) struct BlockHeader {
+    pub(crate) units: u32,
+    pub(crate) is_live: bool,
+    pub(crate) units_before: u32,
+    pub(crate) tag: u32,
+    /// The distance in the pointer to the next free block.
+    pub(crate) link: u32,
 }

@@ -38,14 +38,15 @@ impl<A: Allocator> Claims<A> {
         })
     }
 
-    /// A block begins at this position, which was not added before.
+    /// A block begins at this position, which was not added before. There are fewer blocks than units, so that no count
+    /// of them wraps.
     pub(crate) fn add(&mut self, block: u32, is_live: bool) {
         if is_live {
             self.set_mark(block, Mark::Live);
-            self.unclaimed = self.unclaimed.saturating_add(1);
+            self.unclaimed = self.unclaimed.wrapping_add(1);
         } else {
             self.set_mark(block, Mark::Free);
-            self.free = self.free.saturating_add(1);
+            self.free = self.free.wrapping_add(1);
         }
     }
 
@@ -109,7 +110,7 @@ impl<A: Allocator> Claims<A> {
         match self.marks[unit] {
             Mark::Live => {
                 self.marks[unit] = Mark::Claimed;
-                self.unclaimed = self.unclaimed.saturating_sub(1);
+                self.unclaimed = self.unclaimed.wrapping_sub(1);
                 Ok(start)
             }
             Mark::Claimed => Err(ContentFault::DoubleOwner(block)),

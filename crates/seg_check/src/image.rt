@@ -5,6 +5,7 @@ use crate::claims::Claims;
 use crate::fault::ContentFault;
 use crate::free_list::FreeList;
 use crate::marks::Turn;
+use seg_block::Tag;
 use seg_layout::TypeTable;
 use seg_ptr::{Window, header};
 use seg_value::{Content, Entry, Held};
@@ -31,9 +32,17 @@ impl<A: Allocator> Image<'_, A> {
         }
     }
 
+    /// How a cell claims the blocks of its content.
+    pub(crate) fn owner(&self, content: &Content) -> Owner<'_> {
+        Owner {
+            bytes: self.bytes,
+            tag: content.tag,
+            entry_size: content.entry.size,
+            has_turns: self.has_turns(content.entry),
+        }
+    }
+
     /// Claims the block that a pointer names, which has room for so many entries, and returns where its payload begins.
-    // Inlined, since a list claims each of its nodes with the same content.
-    #[inline(always)]
     pub(crate) fn claim_entries<B: Allocator>(
         &self,
         claims: &mut Claims<B>,
@@ -43,24 +52,44 @@ impl<A: Allocator> Image<'_, A> {
     ) -> Result<u32, ContentFault>
         ensures taken { claims.new.taken ≡ claims.old.taken }
     {
-        let size = u64::from(count) * u64::from(content.entry.size);
-        let start = claims.claim(self.bytes, pointer, content.tag, size)?;
-        self.await_turn(claims, content.entry, Turn { start, count })?;
-        Ok(start)
+        self.owner(content).claim(claims, pointer, count)
     }
 
-    /// Lets a claimed block wait for its turn, where its entries may name blocks.
-    pub(crate) fn await_turn<B: Allocator>(
-        &self,
+    /// Whether entries may name blocks.
+    pub(crate) fn has_turns(&self, entry: Entry) -> bool {
+        match entry.held {
+            Held::Value(item) => self.types.has_pointers(item),
+            Held::Bytes | Held::Pointer => false,
+        }
+    }
+}
+
+/// How a cell claims the blocks that it names: its own copy of what each claim reads, since a list claims each of its nodes.
+#[derive(Clone, Copy)]
+pub(crate) struct Owner<'a> {
+    bytes: Bytes<'a>,
+    tag: Tag,
+    entry_size: u32,
+    /// Whether the entries may name blocks, so that they wait for their turn.
+    has_turns: bool,
+}
+
+impl Owner<'_> {
+    /// Claims the block that a pointer names, which has room for so many entries, and returns where its payload begins.
+    #[inline(always)]
+    pub(crate) fn claim<B: Allocator>(
+        self,
         claims: &mut Claims<B>,
-        entry: Entry,
-        turn: Turn,
-    ) -> Result<(), ContentFault>
+        pointer: u32,
+        count: u32,
+    ) -> Result<u32, ContentFault>
         ensures taken { claims.new.taken ≡ claims.old.taken }
     {
-        match entry.held {
-            Held::Value(item) if self.types.has_pointers(item) => claims.await_turn(turn),
-            Held::Value(_) | Held::Bytes | Held::Pointer => Ok(()),
+        let size = u64::from(count) * u64::from(self.entry_size);
+        let start = claims.claim(self.bytes, pointer, self.tag, size)?;
+        if self.has_turns {
+            claims.await_turn(Turn { start, count })?;
         }
+        Ok(start)
     }
 }

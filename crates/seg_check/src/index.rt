@@ -113,10 +113,12 @@ impl<'w, A: Allocator> Image<'w, A> {
         let type_id = entry.type_id(self.w).ok_or(ContentFault::BadPointer(at))?;
         let size = entry.values_len(self.types.size(type_id)) as u64 + u64::from(entry.name_len);
         let start = claims.claim(self.bytes, at, named_tag(type_id), size)?;
-        let turn = Turn {
-            start,
-            count: u32::from(entry.count),
-        };
-        self.await_turn(claims, Content::object(self.types, type_id).entry, turn)
+        if self.has_turns(Content::object(self.types, type_id).entry) {
+            claims.await_turn(Turn {
+                start,
+                count: u32::from(entry.count),
+            })?;
+        }
+        Ok(())
     }
 }

@@ -1,5 +1,6 @@
 ghost use Rattle.std.specs.Prelude.{◌≡◌};
 
+use crate::bytes::Bytes;
 use crate::claims::Claims;
 use crate::fault::ContentFault;
 use crate::image::Image;
@@ -22,24 +23,25 @@ impl<A: Allocator> Image<'_, A> {
         let Some(count) = self.counted_blocks(cell)? else {
             return Ok(());
         };
-        let first = self.claim_entries(claims, cell, content, 1)?;
+        let (bytes, owner) = (self.bytes, self.owner(content));
+        let first = owner.claim(claims, cell, 1)?;
         let mut last = first;
         let mut is_linked = true;
         for _ in 1..count {
-            let next = self.claim_entries(claims, last, content, 1)?;
-            is_linked = is_linked && self.is_previous(last, next);
+            let next = owner.claim(claims, last, 1)?;
+            is_linked = is_linked && is_previous(bytes, last, next);
             last = next;
         }
-        let is_closed = self.bytes.target(last) == Some(first) && self.is_previous(last, first);
+        let is_closed = bytes.target(last) == Some(first) && is_previous(bytes, last, first);
         if is_linked && is_closed {
             Ok(())
         } else {
             Err(ContentFault::BadValue(cell))
         }
     }
+}
 
-    /// Whether a node is the one before another, as that one says.
-    fn is_previous(&self, node: u32, next: u32) -> bool {
-        self.bytes.target(next.wrapping_add(PREVIOUS)) == Some(node)
-    }
+/// Whether a node is the one before another, as that one says.
+fn is_previous(bytes: Bytes, node: u32, next: u32) -> bool {
+    bytes.target(next.wrapping_add(PREVIOUS)) == Some(node)
 }

@@ -1,8 +1,8 @@
-use crate::bytes::Bytes;
+use crate::bytes::BlockHeader;
 use crate::claims::Claims;
 use crate::free_list::FreeList;
 use crate::image::Image;
-use seg_block::{HEAP_START, Kind, LINK, TAG, Tag, UNIT, UNITS_BEFORE};
+use seg_block::{HEAP_START, Kind, Tag, UNIT};
 use seg_layout::{MAX_TYPES, Type, TypeTable};
 use std::alloc::Allocator;
 
@@ -11,6 +11,18 @@ const NULL: u32 = 1;
 
 /// One more than the greatest number of a kind.
 const KINDS: usize = 7;
+
+/// More than any word has that spells the tag of a type: the kind's number is the lowest byte, the type the next one.
+const TAG_WORDS: usize = 256 * MAX_TYPES;
+
+/// What the first block comes after.
+const BEFORE_ALL: BlockHeader = BlockHeader {
+    units: 0,
+    is_live: true,
+    units_before: 0,
+    tag: 0,
+    link: NULL,
+};
 
 impl<A: Allocator> Image<'_, A> {
     /// The blocks, one after the other to the end of the image: each with at least two units, the units of the one
@@ -25,11 +37,11 @@ impl<A: Allocator> Image<'_, A> {
         let mut free_list = FreeList::new();
         let end = self.w.len();
         let mut at = HEAP_START;
-        let mut before = Header::BEFORE_ALL;
+        let mut before = BEFORE_ALL;
         while at < end {
-            let header = Header::read(bytes, at);
+            let header = bytes.header(at);
             let units = header.units;
-            if units < 2 || units > (end - at) / UNIT || !header.follows(before, &tags) {
+            if units < 2 || units > (end - at) / UNIT || !tags.follows(header, before) {
                 return Err(at);
             }
             claims.add(at, header.is_live);
@@ -43,83 +55,39 @@ impl<A: Allocator> Image<'_, A> {
     }
 }
 
-/// The header of a block, each of its words read once.
-#[derive(Clone, Copy)]
-struct Header {
-    units: u32,
-    is_live: bool,
-    units_before: u32,
-    tag: u32,
-    link: u32,
-}
-
-impl Header {
-    /// What the first block comes after.
-    const BEFORE_ALL: Header = Header {
-        units: 0,
-        is_live: true,
-        units_before: 0,
-        tag: 0,
-        link: NULL,
-    };
-
-    fn read(bytes: Bytes, block: u32) -> Header {
-        Header {
-            units: bytes.units(block),
-            is_live: bytes.is_live(block),
-            units_before: bytes.header_word(block, UNITS_BEFORE as u32),
-            tag: bytes.header_word(block, TAG as u32),
-            link: bytes.header_word(block, LINK as u32),
-        }
-    }
-
-    /// Whether the header is right after this one, its size aside.
-    fn follows(self, before: Header, tags: &LiveTags) -> bool {
-        self.units_before == before.units
-            && if self.is_live {
-                self.link == NULL && tags.have(self.tag)
-            } else {
-                self.tag == 0 && before.is_live
-            }
-    }
-}
-
 /// The tags that the live blocks of an image may have, worked out once.
 #[derive(Drop)]
 struct LiveTags {
-    /// For each number of a kind and each type, whether their tag is one.
-    of_kinds: [[bool; MAX_TYPES]; KINDS],
+    /// For each word that spells a tag, whether it is one of them.
+    are_right: [bool; TAG_WORDS],
 }
 
 impl LiveTags {
     fn of(types: &TypeTable) -> LiveTags {
-        let mut of_kinds = [[false; MAX_TYPES]; KINDS];
-        for kind in 0..KINDS {
-            of_kinds[kind] = types_of_kind(types, kind as u8);
+        let mut are_right = [false; TAG_WORDS];
+        for index in 0..KINDS * MAX_TYPES {
+            let word = index / MAX_TYPES + 256 * (index % MAX_TYPES);
+            if let Some(tag) = Tag::read(word as u32) {
+                are_right[word] = is_live_tag(types, tag);
+            }
         }
-        LiveTags { of_kinds }
+        LiveTags { are_right }
     }
 
-    /// Whether the tag that a word spells is one of them.
+    /// Whether a word spells one of them.
     fn have(&self, word: u32) -> bool {
-        let (kind, type_id) = (word % 256, word / 256);
-        match self.of_kinds.get(kind as usize) {
-            Some(types) => types.get(type_id as usize) == Some(&true),
-            None => false,
-        }
+        self.are_right.get(word as usize) == Some(&true)
     }
-}
 
-/// For each type, whether a live block may have the tag of this kind for it.
-fn types_of_kind(types: &TypeTable, kind: u8) -> [bool; MAX_TYPES] {
-    let mut are_right = [false; MAX_TYPES];
-    for type_id in 0..MAX_TYPES {
-        are_right[type_id] = match Tag::read(u32::from(kind) + 256 * type_id as u32) {
-            Some(tag) => is_live_tag(types, tag),
-            None => false,
-        };
+    /// Whether a header is right after another one, its size aside.
+    fn follows(&self, header: BlockHeader, before: BlockHeader) -> bool {
+        header.units_before == before.units
+            && if header.is_live {
+                header.link == NULL && self.have(header.tag)
+            } else {
+                header.tag == 0 && before.is_live
+            }
     }
-    are_right
 }
 
 /// Whether a live block may have this tag.
