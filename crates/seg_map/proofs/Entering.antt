@@ -98,7 +98,7 @@ module _ (allocator : ℕ) (old mid new : List ℕ) (table : Table) (T U node : 
 
   inside : IsInside mid (block_of node) (node + 16) 8
   inside =
-      let back = g.is_block.behind_header in
+      let back = g.is_block.after_header in
       let room = g.is_block.room in
       let two = lies.size in
       record { low = omega arith; high = omega arith }
@@ -154,7 +154,7 @@ module _ (allocator : ℕ) (old mid new : List ℕ) (table : Table) (T U node : 
   block_then : IsBlock new node (tag_of Kind.node T) (24 + size table U)
   block_then =
       let k = header_then mid new allocator g.heap ranges writable stored.length_kept beside (block_of node) own_live in
-      record { behind_header = g.is_block.behind_header; live = k.live ∙ g.is_block.live; has_tag = k.has_tag ∙ g.is_block.has_tag; room = let a = k.room in let b = g.is_block.room in omega arith }
+      record { after_header = g.is_block.after_header; live = k.live ∙ g.is_block.live; has_tag = k.has_tag ∙ g.is_block.has_tag; room = let a = k.room in let b = g.is_block.room in omega arith }
 
   pub entered : Entered allocator old new table T U node key
   entered = record {

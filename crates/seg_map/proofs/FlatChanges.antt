@@ -5,7 +5,7 @@ use Rattle.std.proofs.Math.Nat.{zero-mul, mul-le-mul_right}
 use Rattle.std.proofs.lemmas.List.Sums.{count_by-le-length}
 use Rattle.seg_spec.specs.Bytes.{signed, signed_long, ChangesOnly, IsSame}
 use Rattle.seg_spec.specs.Types.{Form, Table, form_at, size}
-use Rattle.seg_spec.specs.Value.{Value, Values, nil, cons, Map, IsAscending, Selector, change_nth, default_of, put}
+use Rattle.seg_spec.specs.Value.{Value, Values, nil, cons, Map, IsAscending, Selector, change_nth, default_of, with_value_at}
 use Rattle.seg_spec.specs.Heap.{live}
 use Rattle.seg_spec.specs.Block.{IsInside, block_of}
 use Rattle.seg_spec.specs.Reads.{Place, count_at, named, start, Holds, Leads}
@@ -169,13 +169,13 @@ module _ (allocator : ℕ) (old : List ℕ) (table : Table) (place : Place) (U :
       let e = start_is in
       let whole : suc i * each ≤ count_at old place.at * each = mul-le-mul_right each below in
       let more : suc i * each ≡ i * each + each = grind arith in
-      record { low = omega (arith, b.block.behind_header); high = omega (arith, b.block.room, b.block.behind_header, b.lies.size) }
+      record { low = omega (arith, b.block.after_header); high = omega (arith, b.block.room, b.block.after_header, b.lies.size) }
 
   aligned : inner.at % 8 ≡ 0
   aligned =
       let e = start_is in
       let a = b.lies.aligned in
-      let low = b.block.behind_header in
+      let low = b.block.after_header in
       let e8 = size_aligned table s.is_table U in
       let entries8 = multiple i (8 + size table U) (omega arith) in
       omega arith
@@ -208,12 +208,12 @@ module _ (allocator : ℕ) (old : List ℕ) (table : Table) (place : Place) (U :
   -- the value is destroyed, and the gap closed
   module _ (mid new : List ℕ) (w : Value) (change : ChangesPlace old mid table inner w [] (after_gives (live old) c.its) c.its []) where
     abbrev pub changed : Values
-    changed = change_nth (Some i) (put [] w) vs
+    changed = change_nth (Some i) (with_value_at [] w) vs
 
     stands_mid : Stands allocator mid table place (Map keys changed) rest
     stands_mid =
         let k = part.stands_mid allocator old table place (Map keys vs) blocks s inner (Selector.key key ∷ []) led (block_of b.p) inside mine aligned mid w change in
-        subst (λ o. Stands allocator mid table place (Map keys (change_nth o (put [] w) vs)) rest) there k
+        subst (λ o. Stands allocator mid table place (Map keys (change_nth o (with_value_at [] w) vs)) rest) there k
 
     cell_same : IsSame old mid place.at 8
     cell_same =
@@ -232,7 +232,7 @@ module _ (allocator : ℕ) (old : List ℕ) (table : Table) (place : Place) (U :
         let count = cell-count old mid place.at cell_same in
         let last = closes changed rest stands_mid (let l = below in omega arith) (w, value) in
         let last' : ChangesPlace mid new table place (without_entry (keys, vs) i) rest (live mid) rest rest =
-        subst (λ us. ChangesPlace mid new table place (Map (remove keys i) us) rest (live mid) rest rest) (removed_changed (put [] w) vs i) last in
+        subst (λ us. ChangesPlace mid new table place (Map (remove keys i) us) rest (live mid) rest rest) (removed_changed (with_value_at [] w) vs i) last in
         record {
           gives = c.its;
           part = record {

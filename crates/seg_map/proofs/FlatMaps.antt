@@ -168,7 +168,7 @@ module _ (allocator : ℕ) (bytes : List ℕ) (table : Table) (place : Place) (U
       let e : start bytes place.at ≡ b.p = rw b.names refl in
       let whole : suc i * each ≤ n * each = mul-le-mul_right each h in
       let more : suc i * each ≡ i * each + each = grind arith in
-      omega (arith, b.block.room, b.block.behind_header, b.lies.high, b.lies.size)
+      omega (arith, b.block.room, b.block.after_header, b.lies.high, b.lies.size)
 
   pub entry_small : (i : ℕ) → i < n → start bytes place.at + i * each + each < 2 ^ 32
   entry_small i h = omega (arith, entry_fits i h, s.heap.small)

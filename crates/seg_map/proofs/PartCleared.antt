@@ -4,7 +4,7 @@ use Rattle.std.proofs.lemmas.Bool.{cases_eq}
 use Rattle.std.specs.List.{AllByRecursion}
 use Rattle.seg_spec.specs.Bytes.{word, IsSame}
 use Rattle.seg_spec.specs.Types.{Table, size}
-use Rattle.seg_spec.specs.Value.{Value, Selector, put}
+use Rattle.seg_spec.specs.Value.{Value, Selector, with_value_at}
 use Rattle.seg_spec.specs.Heap.{units_at, IsHeap, live, heap_start}
 use Rattle.seg_spec.specs.Block.{IsInside, KeepsBlock, payload_size}
 use Rattle.seg_spec.specs.Reads.{Place, Holds, Leads}
@@ -125,7 +125,7 @@ module _ (allocator : ℕ) (old : List ℕ) (table : Table) (place : Place) (v :
           (each_there (λ t. AllByRecursion (OneOrApart old t) rest) rest (λ g some. each_there (OneOrApart old g) rest (λ h more. pair g h (rest_live g some) (rest_live h more))))
           (λ h. omega (arith, own_home h, once h, counts h))
 
-      pub holds_mid : Holds mid table place (put path w v) rest
+      pub holds_mid : Holds mid table place (with_value_at path w v) rest
       holds_mid = c.becomes mid w [] place_around rest_around place_beside rest_apart change.holds_it
 
       allocator_mid : word mid 16 ≡ word old 16
@@ -134,7 +134,7 @@ module _ (allocator : ℕ) (old : List ℕ) (table : Table) (place : Place) (v :
       live_mid : (h : ℕ) → times h (positions (live mid)) + times h c.its ≡ times h (positions (live old))
       live_mid h = let l = change.live_are h in let z : times h [] ≡ 0 = refl in omega arith
 
-      pub stands_mid : Stands allocator mid table place (put path w v) rest
+      pub stands_mid : Stands allocator mid table place (with_value_at path w v) rest
       stands_mid = record {
         heap = subst (λ n. IsHeap n mid) s.allocator_is change.heap;
         allocator_is = allocator_mid ∙ s.allocator_is;
@@ -165,7 +165,7 @@ module _ (allocator : ℕ) (old : List ℕ) (table : Table) (place : Place) (v :
           go : OneOrApart old block h → Separate (h + 16) (payload_size old h) inner.at (size table inner.type)
           go (inl e) = let zero_rest : times block rest ≡ 0 = subst (λ x. times x rest ≡ 0) e (omega (arith, counts h)) in absurd (omega arith)
           go (inr (inl before)) = inr (omega (arith, inside.high))
-          go (inr (inr behind)) = let l = lies h some in inl (omega (arith, inside.low, l.size))
+          go (inr (inr following)) = let l = lies h some in inl (omega (arith, inside.low, l.size))
 
       -- then the place comes to hold another value, with the blocks that are left
       module _ (new : List ℕ) (u : Value) (last : ChangesPlace mid new table place u rest (live mid) rest rest) where

@@ -28,7 +28,7 @@ written cell home touched = record { at = cell; n = 8; block = home } ∷ map wo
 
 -- a node whose tree words may be written: they lie in a live block, which isn't the cell's
 pub record IsTouched (bytes : List ℕ) (home q : ℕ) : Type 0 where
-  pub behind_header : 16 ≤ q
+  pub after_header : 16 ≤ q
   pub is_live : 1 ≤ times (block_of q) (positions (live bytes))
   pub other : block_of q ≢ home
 
@@ -73,7 +73,7 @@ module _ (allocator : ℕ) (bytes : List ℕ) (heap : IsHeap allocator bytes) (c
   nodes_apart : (qs : List ℕ) → AllByRecursion (IsTouched bytes home) qs → BlocksApart bytes (map block_of qs) → NodesApart qs
   nodes_apart [] t a = tt
   nodes_apart (x ∷ xs) t a = (
-    each_both _ _ _ (λ y u sep. words_apart x y t.0.behind_header u.behind_header (lies_there (block_of x) t.0.is_live).size (lies_there (block_of y) u.is_live).size sep) xs t.1 (each_of_map _ block_of xs a.0),
+    each_both _ _ _ (λ y u sep. words_apart x y t.0.after_header u.after_header (lies_there (block_of x) t.0.is_live).size (lies_there (block_of y) u.is_live).size sep) xs t.1 (each_of_map _ block_of xs a.0),
     nodes_apart xs t.1 a.1,
   )
 
@@ -82,14 +82,14 @@ module _ (allocator : ℕ) (bytes : List ℕ) (heap : IsHeap allocator bytes) (c
   stand_apart = record {
     small = heap.small;
     word_fits = let h = home_in.high in let l = (lies_there home home_live).high in omega arith;
-    nodes_fit = each_weaker _ _ (λ x t. let l = lies_there (block_of x) t.is_live in let back = t.behind_header in let two = l.size in let end = l.high in omega arith) ns each;
+    nodes_fit = each_weaker _ _ (λ x t. let l = lies_there (block_of x) t.is_live in let back = t.after_header in let two = l.size in let end = l.high in omega arith) ns each;
     word_apart = each_both _ _ _ (λ x t sep. cell_off x t sep) ns each (each_of_map _ block_of ns blocks_apart.0);
     nodes_apart = nodes_apart ns each blocks_apart.1;
   }
     where
       cell_off : (x : ℕ) → IsTouched bytes home x → Separate home (16 * units_at bytes home) (block_of x) (16 * units_at bytes (block_of x)) → Separate cell 4 x 16
-      cell_off x t (inl l) = inl (let h = home_in.high in let back = t.behind_header in omega arith)
-      cell_off x t (inr l) = inr (let h = home_in.low in let back = t.behind_header in let two = (lies_there (block_of x) t.is_live).size in omega arith)
+      cell_off x t (inl l) = inl (let h = home_in.high in let back = t.after_header in omega arith)
+      cell_off x t (inr l) = inr (let h = home_in.low in let back = t.after_header in let two = (lies_there (block_of x) t.is_live).size in omega arith)
 
 -- ---- the tree after a change
 
@@ -126,7 +126,7 @@ module _ (allocator : ℕ) (mid three new : List ℕ) (cell home n : ℕ) (touch
   node_writable q t =
       let i = lies (block_of q) t.is_live in
       let two = i.size in
-      let low = t.behind_header in
+      let low = t.after_header in
       record { inside = record { low = omega arith; high = omega arith }; is_live = t.is_live }
 
   writable : AllByRecursion (IsWritable mid) (written cell home touched)
@@ -139,8 +139,8 @@ module _ (allocator : ℕ) (mid three new : List ℕ) (cell home n : ℕ) (touch
   cell_apart q t = go (apart home (block_of q) home_live t.is_live t.other)
     where
       go : Separate home (16 * units_at mid home) (block_of q) (16 * units_at mid (block_of q)) → Separate q 16 cell 8
-      go (inl a) = inr (let high = home_in.high in let low = t.behind_header in omega arith)
-      go (inr a) = inl (let low = home_in.low in let two = (lies (block_of q) t.is_live).size in let back = t.behind_header in omega arith)
+      go (inl a) = inr (let high = home_in.high in let low = t.after_header in omega arith)
+      go (inr a) = inl (let low = home_in.low in let two = (lies (block_of q) t.is_live).size in let back = t.after_header in omega arith)
 
   count_off : (q : ℕ) → IsTouched mid home q → (q + 16 ≤ cell + 4) ⊎ (cell + 4 + 4 ≤ q)
   count_off q t = go (cell_apart q t)
@@ -178,7 +178,7 @@ module _ (allocator : ℕ) (mid three new : List ℕ) (cell home n : ℕ) (touch
     around = λ h some none. around_then mid new allocator heap (written cell home touched) writable long beside h some cell 8
         ((λ e. (omega arith, omega arith)), each_map (λ r. r.block ≡ h → (cell ≤ r.at) × (r.at + r.n ≤ cell + 8)) words_of touched (each_weaker _ _ (λ q ne e. absurd (ne e)) touched (not_among h touched none)));
     content = λ q p m back some ne low high. part_same mid new allocator heap (written cell home touched) writable long beside (block_of q) some p m (omega arith) high
-        ((λ e. absurd (ne (sym e))), each_map (λ r. r.block ≡ block_of q → Separate p m r.at r.n) words_of touched (each_weaker _ _ (λ x t e. own q p m x back t.behind_header low e) touched each));
+        ((λ e. absurd (ne (sym e))), each_map (λ r. r.block ≡ block_of q → Separate p m r.at r.n) words_of touched (each_weaker _ _ (λ x t e. own q p m x back t.after_header low e) touched each));
     tree = l.shape;
     is_tree = rw target_is (IsTree-same three new (target three cell) l.shape nodes_same l.tree.is_tree);
     red_black = l.tree.red_black;

@@ -136,7 +136,7 @@ module _ (allocator : ℕ) (bytes : List ℕ) (table : Table) (place : Place) (U
 
   -- a node is the payload of a live block
   pub record IsNode (p : ℕ) : Type 0 where
-    pub behind_header : 16 ≤ p
+    pub after_header : 16 ≤ p
     pub owned : 1 ≤ times (block_of p) blocks
     pub is_live : 1 ≤ times (block_of p) (positions (live bytes))
     pub end : block_of p + 16 * units_at bytes (block_of p) ≤ length bytes
@@ -148,8 +148,8 @@ module _ (allocator : ℕ) (bytes : List ℕ) (table : Table) (place : Place) (U
       let l = there (LiesIn bytes heap_start (length bytes)) (block_of p) (positions (live bytes)) (live-lie bytes allocator s.heap) is_live in
       let size = l.size in
       let room = b.room in
-      let low = b.behind_header in
-      record { behind_header = b.behind_header; owned = mine; is_live = is_live; end = l.high; room = omega arith }
+      let low = b.after_header in
+      record { after_header = b.after_header; owned = mine; is_live = is_live; end = l.high; room = omega arith }
 
   each_node : (ns : List ℕ) → AreNodes bytes (tag_of Kind.node place.type) (24 + size table U) ns → ((h : ℕ) → 1 ≤ times h (map block_of ns) → 1 ≤ times h blocks) → AllByRecursion IsNode ns
   each_node [] a o = tt

@@ -239,7 +239,7 @@ module _ (allocator : ℕ) (old : List ℕ) (table : Table) (place : Place) (U :
         mid_block =
             let r = room in
             let b = buffer_kept in
-            record { behind_header = g.low; live = b.header.live ∙ g.block_is.live; has_tag = b.header.has_tag ∙ g.block_is.has_tag; room = omega (arith, b.header.room) }
+            record { after_header = g.low; live = b.header.live ∙ g.block_is.live; has_tag = b.header.has_tag ∙ g.block_is.has_tag; room = omega (arith, b.header.room) }
 
         room_now : NamesRoom new place.at (tag_of Kind.buffer place.type) (size table U)
         room_now =

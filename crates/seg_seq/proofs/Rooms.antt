@@ -25,7 +25,7 @@ block_again old new p tag n m header fits b =
     let h = block_of p in
     let first = word-same old new h (IsSame-part old new h 16 h 4 (omega arith) (omega arith) header) in
     let third = word-same old new (h + 8) (IsSame-part old new h 16 (h + 8) 4 (omega arith) (omega arith) header) in
-    record { behind_header = b.behind_header; live = rw first b.live; has_tag = third ∙ b.has_tag; room = rw first fits }
+    record { after_header = b.after_header; live = rw first b.live; has_tag = third ∙ b.has_tag; room = rw first fits }
 
 module _ (allocator : ℕ) (bytes : List ℕ) (table : Table) (place : Place) (form : Form) (v : Value) (blocks : List ℕ) (f : form_at table place.type ≡ Some form) (b : has_buffer (Some form) ≡ true)
     (s : Stands allocator bytes table place v blocks) where
@@ -52,12 +52,12 @@ module _ (allocator : ℕ) (bytes : List ℕ) (table : Table) (place : Place) (f
       let is_live = owned_live allocator bytes table place v blocks s (block_of p) mine in
       let l = there (LiesIn bytes heap_start (length bytes)) (block_of p) (positions (live bytes)) (live-lie bytes allocator s.heap) is_live in
       record {
-        low = room.behind_header;
+        low = room.after_header;
         block_is = room;
         mine = mine;
         is_live = is_live;
         lies = l;
-        high = omega (arith, l.high, l.size, room.behind_header);
+        high = omega (arith, l.high, l.size, room.after_header);
         other = owned_other allocator bytes table place v blocks s (block_of p) mine;
       }
 

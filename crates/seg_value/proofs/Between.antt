@@ -67,7 +67,7 @@ module _ (allocator : ℕ) (old : List ℕ) (table : Table) (place : Place) (U :
   blocks_are = rw named_is at its.blocks_are
 
   own_block : block_of p + 16 ≡ p
-  own_block = omega (arith, the_block.behind_header)
+  own_block = omega (arith, the_block.after_header)
 
   mine : 1 ≤ times (block_of p) blocks
   mine = rw blocks_are (omega (arith, times-same (block_of p) owned))
@@ -235,7 +235,7 @@ module _ (allocator : ℕ) (old : List ℕ) (table : Table) (place : Place) (U :
     -- the buffer, as it was moved
     payload_moved : payload_size old (block_of p) ≤ payload_size moved (block_of p)
     payload_moved =
-        let whole : IsBlock old p tag (payload_size old (block_of p)) = record { behind_header = the_block.behind_header; live = the_block.live; has_tag = the_block.has_tag; room = omega arith } in
+        let whole : IsBlock old p tag (payload_size old (block_of p)) = record { after_header = the_block.after_header; live = the_block.live; has_tag = the_block.has_tag; room = omega arith } in
         let then = wrote_block allocator old moved table (block_of p) to (k * each) s.heap moves inside g_live p tag (payload_size old (block_of p)) (sym own_block) whole in
         then.room
 
@@ -247,7 +247,7 @@ module _ (allocator : ℕ) (old : List ℕ) (table : Table) (place : Place) (U :
 
     new_block : (n : ℕ) → n ≤ payload_size old (block_of p) → IsBlock new p (tag_of Kind.buffer place.type) n
     new_block n fits =
-        let whole : IsBlock old p tag n = record { behind_header = the_block.behind_header; live = the_block.live; has_tag = the_block.has_tag; room = fits } in
+        let whole : IsBlock old p tag n = record { after_header = the_block.after_header; live = the_block.live; has_tag = the_block.has_tag; room = fits } in
         let then = wrote_block allocator old moved table (block_of p) to (k * each) s.heap moves inside g_live p tag n (sym own_block) whole in
         IsBlock-kept moved new p tag n (new_other (block_of p) g_live g_other) then
 

@@ -49,7 +49,7 @@ module _ (allocator : ℕ) (old new : List ℕ) (table : Table) (g at m : ℕ) (
       let room = rw own at b.room in
       let units = k.units_kept in
       record {
-        behind_header = b.behind_header;
+        after_header = b.after_header;
         live = rw (own, first) was;
         has_tag = rw own (word-same old new (g + 8) (k.outside (g + 8) 4 (omega arith) (omega arith)) ∙ tagged);
         room = rw own (omega arith);

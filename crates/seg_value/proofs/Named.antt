@@ -39,7 +39,7 @@ module _ (allocator : ℕ) (old : List ℕ) (table : Table) (s : FindsNames allo
   name_block = rw named_is at s.room
 
   own_block : block_of p + 16 ≡ p
-  own_block = omega (arith, name_block.behind_header)
+  own_block = omega (arith, name_block.after_header)
 
   pub name_live : 1 ≤ times (block_of p) (positions (live old))
   name_live = s.is_live (block_of p) (rw names_one (omega (arith, times-same (block_of p) [])))
@@ -117,7 +117,7 @@ module _ (allocator : ℕ) (old : List ℕ) (table : Table) (s : FindsNames allo
           ap (λ b. count_at b index_cell) new_is ∙ number-set_same 4 moved (index_cell + 4) c (omega arith) (omega arith);
       block = λ n l. IsBlock-kept moved new p tag n (new_kept (block_of p) name_live)
           (wrote_block allocator old moved table (block_of p) to (k * 8) s.heap shifts.changes inside name_live p tag n (sym own_block)
-          (record { behind_header = name_block.behind_header; live = name_block.live; has_tag = name_block.has_tag; room = l }));
+          (record { after_header = name_block.after_header; live = name_block.live; has_tag = name_block.has_tag; room = l }));
       before = λ q m l h. let b = name_low in IsSame-trans old moved new q m (shifts.changes.others q m (inl h)) (counts.others q m (inr (omega arith)));
       entries = λ i l apart.
           let b = name_low in

@@ -1,6 +1,6 @@
 -- Blocks that wait to be destroyed, as the program's steps find and leave them.
 --     AddsWaiting old new first next beside xs   blocks joined those that wait, and xs go with them
---     Opens old new first next p xs              of xs, which go with a block, all others wait now
+--     OpensPending old new first next p xs       of xs, which go with a block, all others wait now
 --     links_of shape p                           the words of a node that name further ones
 use Rattle.std.specs.Prelude.{ℕ, ◌+◌, List, [], ◌∷◌, ◌++◌, Option}
 use Rattle.seg_spec.specs.Types.{IsTable}
@@ -26,8 +26,8 @@ pub record IsOpened (allocator : ℕ) (old new : Stored) (next : Option ℕ) (p 
   pub xs_are : SameBlocks xs (block_of p ∷ rest)
   pub adds : Adds allocator old.window.bytes new.window.bytes old.types next rest ys
 
-abbrev pub Opens : Stored → Stored → Option ℕ → Option ℕ → ℕ → List ℕ → Type 0
-Opens old new first next p xs =
+abbrev pub OpensPending : Stored → Stored → Option ℕ → Option ℕ → ℕ → List ℕ → Type 0
+OpensPending old new first next p xs =
     (allocator : ℕ) (ys : List ℕ) → IsTable old.types →
     Pends allocator old.window.bytes old.types first ys →
     AreLive old.window.bytes (xs ++ ys) →

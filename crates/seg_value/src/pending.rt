@@ -13,7 +13,7 @@ ghost use Rattle.seg_block.specs.Blocks.{IsSized};
 ghost use Rattle.seg_layout.specs.Forms.{has_cells};
 ghost use Rattle.seg_value.specs.Contents.{IsEntryOf, ContentOf};
 ghost use Rattle.seg_value.specs.Places.{place_of, object_at};
-ghost use Rattle.seg_value.specs.Waiting.{AddsWaiting, Opens, links_of};
+ghost use Rattle.seg_value.specs.Waiting.{AddsWaiting, OpensPending, links_of};
 
 use crate::content::{Content, Shape};
 use crate::entry::{Entry, Held};
@@ -112,7 +112,7 @@ impl Pending {
         ensures window { KeepsHost heap.old.window heap.new.window }
         ensures types { heap.new.types ≡ heap.old.types }
         ensures opened { (xs : List ℕ) → GoesWith heap.old.window.bytes heap.old.types payload xs →
-            Opens heap.old heap.new self.old.first self.new.first payload xs }
+            OpensPending heap.old heap.new self.old.first self.new.first payload xs }
     {
         let Some(tag) = Tag::read(tag_word(heap.window(), block_of(payload))) else {
             return;
