@@ -19,3 +19,5 @@ pub mod Inside
 pub mod Between
 pub mod Header
 pub mod Named
+pub mod Indexed
+pub mod IndexGrows

@@ -18,7 +18,7 @@ ghost use Rattle.seg_block.specs.Blocks.{IsSized};
 ghost use Rattle.seg_block.specs.Tags.{word_of};
 ghost use Rattle.seg_value.specs.Buffers.{NamesBuffer, HasSizedBuffer};
 ghost use Rattle.seg_value.specs.Contents.{IsContent, GivesBlock};
-ghost use Rattle.seg_value.specs.Names.{index_cell, FindsNames, EmptiesIndex};
+ghost use Rattle.seg_value.specs.Names.{index_cell, FindsNames, FindsIndex, MakesIndexRoom, MovesIndex, EmptiesIndex};
 ghost use Rattle.seg_value.specs.Places.{place_of, object_at as place_at};
 
 use crate::content::{Content, Shape};
@@ -106,6 +106,10 @@ impl<F: Fit, A: Allocator> Heap<F, A> {
             (limit * content.now.entry.size))
             (λ code. Refuses F.allocator self.old.window.bytes self.new.window.bytes
             (buffer_asks self.old.window.bytes cell content.now.entry.size limit)) }
+        ensures reserves_index { FindsIndex F.allocator self.old.window.bytes self.old.types content.now cell →
+            limit * content.now.entry.size < 2 ^ 32 →
+            MakesIndexRoom F.allocator self.old.window.bytes self.new.window.bytes self.old.types
+            limit result }
     {
         if u64::from(limit) * u64::from(content.entry.size) <= u64::from(self.room(cell)) {
             return Ok(());
@@ -153,6 +157,11 @@ impl<F: Fit, A: Allocator> Heap<F, A> {
             (limit * content.now.entry.size))
             (λ code. Refuses F.allocator self.old.window.bytes self.new.window.bytes
             (buffer_asks self.old.window.bytes cell content.now.entry.size limit)) }
+        ensures enlarges_index { FindsIndex F.allocator self.old.window.bytes self.old.types content.now cell →
+            limit * content.now.entry.size < 2 ^ 32 →
+            16 * units_named self.old.window.bytes cell - 16 < limit * content.now.entry.size →
+            MakesIndexRoom F.allocator self.old.window.bytes self.new.window.bytes self.old.types
+            limit result }
     {
         let entry = content.entry;
         let kept = self.count(cell);
@@ -179,6 +188,11 @@ impl<F: Fit, A: Allocator> Heap<F, A> {
             count_at before cell * content.now.entry.size + 16 ≤ 16 * u →
             MovesBuffer F.allocator before self.old.window.bytes self.new.window.bytes self.old.types
             (place_at cell T) v blocks u }
+        ensures moves_index { (u : ℕ) (before : List ℕ) →
+            FindsIndex F.allocator before self.old.types content.now cell →
+            Takes F.allocator before self.old.window.bytes u (Some block) → 2 ≤ u →
+            count_at before cell * content.now.entry.size + 16 ≤ 16 * u →
+            MovesIndex before self.old.window.bytes self.new.window.bytes self.old.types u }
     {
         let new = self.tagged(content, block);
         let Some(old) = self.window.target(cell as usize) else {

@@ -12,6 +12,9 @@ pub const KEY: u32 = 8;
 /// The bytes of a list's node before its value: the pointers to the next and to the previous node.
 pub const LIST_LINKS: u32 = 8;
 
+/// Where the pointer to the previous node stands in a list's node.
+pub const PREVIOUS: u32 = 4;
+
 /// The bytes of an entry of the flat index.
 const NAME_ENTRY: u32 = 8;
 

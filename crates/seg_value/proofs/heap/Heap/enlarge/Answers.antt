@@ -5,6 +5,8 @@ use Rattle.seg_spec.specs.Window.{Placement}
 use Rattle.seg_value.specs.Places.{object_at}
 use Rattle.seg_value.specs.Stored.{Stored}
 use Rattle.seg_value.proofs.Buffers.{of_form, asks_once, wanted_is, Enlarged, enlarged, moved_to_new}
+use Rattle.seg_value.specs.Names.{ReservesIndex}
+use Rattle.seg_value.proofs.IndexGrows as index
 use Rattle.seg_value.proofs.heap.Heap.enlarge.Goals as goal
 
 bytes_of : (p q : Placement) → p ≡ q → p.bytes ≡ q.bytes
@@ -63,3 +65,55 @@ returns-in-Some-New-clause-enlarges g c = λ T v blocks names s small much.
     subst (λ xs. Reserves code old c.move_buffer.new.self.window.bytes table (object_at c.args.cell T) v blocks xs (c.args.limit * content.entry.size)) (sym asks)
     (moved_to_new code old table c.args.cell T v blocks content of s c.args.limit small much c.request.new.w.bytes c.move_buffer.new.self.window.bytes c.in-Some-New.block given
     (λ u takes two fits. moves T u old v blocks names s takes two fits))
+
+pub returns-in-None-clause-enlarges_index : goal.returns-in-None-clause-enlarges_index
+returns-in-None-clause-enlarges_index g c = λ finds small much.
+    let code = g.F.Fit.allocator in
+    let old = c.args.self.now.window.bytes in
+    let table = c.args.self.now.types in
+    let here = bytes_of c.self.inside.window c.args.self.now.window (ap (λ (x : Stored). x.window) c.self.view_is) in
+    let little = rw finds.0.size_is at small in
+    let more = rw (finds.1, finds.0.size_is) at much in
+    let wanted = index.index_wanted code old table finds.2 c.args.limit little more c.count-kept.result c.preferred.result c.need-wanted.result
+    (rw finds.1 at c.count-kept.ensures) c.preferred.ensures.doubled (rw finds.0.size_is at c.need-wanted.ensures.exact) in
+    let r = index.index_enlarged code old table finds.2 c.args.limit little more c.request.new.w.bytes c.request.result c.buffer_of-block.result c.need-wanted.result c.need.result
+    (rw finds.1 at c.buffer_of-block.ensures) wanted ((rw finds.0.size_is at c.need.ensures.exact) little) (rw here at c.request.ensures.same) (rw here at c.request.ensures.new) in
+    let asks = index.index_asks_once code old table finds.2 c.args.limit more in
+    subst (λ xs. Refuses code old c.request.new.w.bytes xs) (sym asks) (subst (index.Enlarged code old table finds.2 c.args.limit little more c.request.new.w.bytes) c.in-None.is r)
+
+pub returns-in-Some-Same-clause-enlarges_index : goal.returns-in-Some-Same-clause-enlarges_index
+returns-in-Some-Same-clause-enlarges_index g c = λ finds small much.
+    let code = g.F.Fit.allocator in
+    let old = c.args.self.now.window.bytes in
+    let table = c.args.self.now.types in
+    let here = bytes_of c.self.inside.window c.args.self.now.window (ap (λ (x : Stored). x.window) c.self.view_is) in
+    let little = rw finds.0.size_is at small in
+    let more = rw (finds.1, finds.0.size_is) at much in
+    let wanted = index.index_wanted code old table finds.2 c.args.limit little more c.count-kept.result c.preferred.result c.need-wanted.result
+    (rw finds.1 at c.count-kept.ensures) c.preferred.ensures.doubled (rw finds.0.size_is at c.need-wanted.ensures.exact) in
+    let r = index.index_enlarged code old table finds.2 c.args.limit little more c.request.new.w.bytes c.request.result c.buffer_of-block.result c.need-wanted.result c.need.result
+    (rw finds.1 at c.buffer_of-block.ensures) wanted ((rw finds.0.size_is at c.need.ensures.exact) little) (rw here at c.request.ensures.same) (rw here at c.request.ensures.new) in
+    let asks = index.index_asks_once code old table finds.2 c.args.limit more in
+    let is = c.in-Some-Same.is ∙ ap (λ x. Some x) c.in-Some-Same.field-0-is in
+    subst (λ xs. ReservesIndex code old c.request.new.w.bytes table xs (c.args.limit * 8)) (sym asks) (subst (index.Enlarged code old table finds.2 c.args.limit little more c.request.new.w.bytes) is r)
+
+pub returns-in-Some-New-clause-enlarges_index : goal.returns-in-Some-New-clause-enlarges_index
+returns-in-Some-New-clause-enlarges_index g c = λ finds small much.
+    let code = g.F.Fit.allocator in
+    let old = c.args.self.now.window.bytes in
+    let table = c.args.self.now.types in
+    let here = bytes_of c.self.inside.window c.args.self.now.window (ap (λ (x : Stored). x.window) c.self.view_is) in
+    let little = rw finds.0.size_is at small in
+    let more = rw (finds.1, finds.0.size_is) at much in
+    let wanted = index.index_wanted code old table finds.2 c.args.limit little more c.count-kept.result c.preferred.result c.need-wanted.result
+    (rw finds.1 at c.count-kept.ensures) c.preferred.ensures.doubled (rw finds.0.size_is at c.need-wanted.ensures.exact) in
+    let r = index.index_enlarged code old table finds.2 c.args.limit little more c.request.new.w.bytes c.request.result c.buffer_of-block.result c.need-wanted.result c.need.result
+    (rw finds.1 at c.buffer_of-block.ensures) wanted ((rw finds.0.size_is at c.need.ensures.exact) little) (rw here at c.request.ensures.same) (rw here at c.request.ensures.new) in
+    let asks = index.index_asks_once code old table finds.2 c.args.limit more in
+    let is = c.in-Some-New.is ∙ ap (λ x. Some x) c.in-Some-New.field-0-is in
+    let given = subst (index.Enlarged code old table finds.2 c.args.limit little more c.request.new.w.bytes) is r in
+    let types_here = ap (λ (x : Stored). x.types) c.self.view_is in
+    let moves = rw types_here at c.move_buffer.ensures.moves_index in
+    subst (λ xs. ReservesIndex code old c.move_buffer.new.self.window.bytes table xs (c.args.limit * 8)) (sym asks)
+    (index.index_moved_to code old table finds.2 c.args.limit little more c.request.new.w.bytes c.move_buffer.new.self.window.bytes c.in-Some-New.block given
+    (λ u takes two fits. moves u old finds takes two (rw (finds.1, finds.0.size_is) fits)))
