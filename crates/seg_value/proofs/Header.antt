@@ -16,7 +16,7 @@ above : (ts : List Tile) (from to : ℕ) → Fill from ts to → AllByRecursion 
 above [] from to f = tt
 above (t ∷ ts) from to f = (omega (arith, f.0), each_weaker _ _ (λ s a. omega (arith, a)) ts (above ts (from + 16 * t.units) to f.2))
 
-ends_after : (ts : List Tile) (from to : ℕ) → Fill from ts to → from ≤ to
+pub ends_after : (ts : List Tile) (from to : ℕ) → Fill from ts to → from ≤ to
 ends_after [] from to f = omega (arith, f)
 ends_after (t ∷ ts) from to f = let r = ends_after ts (from + 16 * t.units) to f.2 in omega arith
 

@@ -22,6 +22,7 @@ use Rattle.seg_block.specs.declared.grant.Grant.{Grant}
 use Rattle.seg_block.specs.declared.grant.Grant.TheVariants.{Same, New}
 use Rattle.seg_value.specs.Buffers.{HasSizedBuffer}
 use Rattle.seg_value.specs.Names.{index_cell, FindsNames, ChangesIndex, ReservesIndex, MovesIndex}
+use Rattle.seg_value.proofs.NoSpace.{too_large, grants_none}
 use Rattle.seg_value.proofs.Named.{name_block, name_live, name_room}
 use Rattle.seg_value.proofs.Indexed.{grown_index, grown_names, grown_target, grown_index_units}
 
@@ -100,14 +101,20 @@ module _ (allocator : ℕ) (old : List ℕ) (table : Table) (s : FindsNames allo
         go None f = let u : units_named old index_cell ≡ 0 = rw f refl in omega arith
         go (Some p) f = let u : units_named old index_cell ≡ units_at old (block_of p) = rw f refl in omega arith
 
-    module _ (small : limit * 8 < 2 ^ 32) (much : 16 * units_named old index_cell - 16 < limit * 8) where
-      pub index_wanted : (kept entries wanted : ℕ) → kept ≡ count_at old index_cell → (kept < 2 ^ 31 → entries ≡ max 4 (max (2 * kept) limit)) → (entries * 8 < 2 ^ 32 → wanted ≡ need (entries * 8))
+    module _ (much : 16 * units_named old index_cell - 16 < limit * 8) where
+      pub index_wanted : (kept entries wanted : ℕ) → limit * 8 < 2 ^ 32 → kept ≡ count_at old index_cell → (kept < 2 ^ 31 → entries ≡ max 4 (max (2 * kept) limit)) → (entries * 8 < 2 ^ 32 → wanted ≡ need (entries * 8))
           → wanted ≡ need (max 4 (max (2 * count_at old index_cell) limit) * 8)
-      index_wanted kept entries wanted kept_is entries_by wanted_by =
+      index_wanted kept entries wanted small kept_is entries_by wanted_by =
           let few = names_fit in
           let entries_are : entries ≡ max 4 (max (2 * count_at old index_cell) limit) = entries_by (omega arith) ∙ ap (λ k. max 4 (max (2 * k) limit)) kept_is in
           let fits : max 4 (max (2 * count_at old index_cell) limit) * 8 < 2 ^ 32 = omega arith in
           wanted_by (rw entries_are fits) ∙ ap (λ k. need (k * 8)) entries_are
+
+      pub index_wanted_large : (kept entries wanted : ℕ) → 2 ^ 32 ≤ limit * 8 → kept ≡ count_at old index_cell → (kept < 2 ^ 31 → entries ≡ max 4 (max (2 * kept) limit)) → (2 ^ 32 ≤ entries * 8 → wanted ≡ need (2 ^ 32 - 1)) → wanted ≡ need (2 ^ 32 - 1)
+      index_wanted_large kept entries wanted large kept_is entries_by wanted_by =
+          let few = names_fit in
+          let e = entries_by (omega arith) in
+          wanted_by (omega arith)
 
       pub record NewFor (mid : List ℕ) (g : ℕ) : Type 0 where
         pub units : ℕ
@@ -198,6 +205,29 @@ module _ (allocator : ℕ) (old : List ℕ) (table : Table) (s : FindsNames allo
             go None e = without_block e
             go (Some p) e = with_block p e
 
+      -- more than any segment has room for
+      pub index_enlarged_large : (mid : List ℕ) (r : Option Grant) (old_block : Option ℕ) (wanted least : ℕ) → old_block ≡ option_map block_of (target old index_cell) → 2 ^ 32 ≤ limit * 8 → wanted ≡ need (2 ^ 32 - 1) → least ≡ need (2 ^ 32 - 1)
+          → ((at x : ℕ) → old_block ≡ Some at → IsHeap allocator old → IsLiveBlock old at x → Grants allocator old mid at x wanted least r) → (old_block ≡ None → IsHeap allocator old → GrantsNew allocator old mid wanted least r) → Enlarged mid r
+      index_enlarged_large mid r old_block wanted least block_is large wanted_by least_by at_block no_block = go (target old index_cell) refl
+        where
+          none : after_ask allocator (live old) (length old) (record { old = option_map block_of (target old index_cell); preferred = wanted; limit = least }) ≡ None
+          none = grants_none allocator old s.heap (record { old = option_map block_of (target old index_cell); preferred = wanted; limit = least }) (omega arith) (omega arith)
+
+          no_space : (r ≡ None) × (mid ≡ old) → Enlarged mid r
+          no_space k = subst (Enlarged mid) (sym k.0) (record { no_room = too_large allocator old s.heap the_ask (omega arith) least_first; same = k.1 })
+
+          go : (o : Option ℕ) → target old index_cell ≡ o → Enlarged mid r
+          go None e =
+              let g = no_block (block_is ∙ ap (option_map block_of) e) s.heap in
+              let n : after_request allocator (live old) (length old) wanted least ≡ None = rw e at none in
+              no_space (rw n at g.grants)
+          go (Some p) e =
+              let b = index_block p e in
+              let g = at_block (block_of p) b.units (block_is ∙ ap (option_map block_of) e) s.heap b.among in
+              let one = units_found (live old) (block_of p) b.units b.among (λ d among at_is. sym (each_contained (StatesSpan old (length old)) (live old) d (live_stated old allocator s.heap) among).units_is ∙ ap (units_at old) at_is ∙ b.units_is) in
+              let n : after_request_at allocator (live old) (length old) (block_of p) b.units wanted least ≡ None = rw (e, one) at none in
+              no_space (rw n at g.grants)
+
       fewer : count_at old index_cell * 8 < limit * 8
       fewer = go (target old index_cell) refl
         where
@@ -225,8 +255,6 @@ module _ (allocator : ℕ) (old : List ℕ) (table : Table) (s : FindsNames allo
             room = less_room new index_cell (16 * n.units - 16) (limit * 8) (omega arith) m.room;
           }
 
-  -- one entry more is no more than a request can say
-  pub one_name_more : (each kept len : ℕ) → each ≡ 8 → kept ≡ count_at old index_cell → len ≡ min (kept + 1) 4294967295 → (len ≡ kept + 1) × (len * each < 2 ^ 32)
-  one_name_more each kept len each_is kept_is len_is =
-      let few = names_fit in
-      (omega arith, rw each_is (omega arith))
+  -- one entry more is still counted
+  pub one_name_more : (kept len : ℕ) → kept ≡ count_at old index_cell → len ≡ min (kept + 1) 4294967295 → len ≡ kept + 1
+  one_name_more kept len kept_is len_is = let few = names_fit in omega arith

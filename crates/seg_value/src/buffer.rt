@@ -16,7 +16,7 @@ ghost use Rattle.seg_spec.specs.Value.{Value};
 ghost use Rattle.seg_spec.specs.Window.{with_bytes, KeepsHost};
 ghost use Rattle.seg_block.specs.Blocks.{IsSized};
 ghost use Rattle.seg_block.specs.Tags.{word_of};
-ghost use Rattle.seg_value.specs.Buffers.{NamesBuffer, HasSizedBuffer};
+ghost use Rattle.seg_value.specs.Buffers.{NamesBuffer, HasSizedBuffer, MakesRoom};
 ghost use Rattle.seg_value.specs.Contents.{IsContent, GivesBlock};
 ghost use Rattle.seg_value.specs.Names.{index_cell, FindsNames, FindsIndex, MakesIndexRoom, MovesIndex, EmptiesIndex};
 ghost use Rattle.seg_value.specs.Places.{place_of, object_at as place_at};
@@ -98,16 +98,9 @@ impl<F: Fit, A: Allocator> Heap<F, A> {
         ensures reserves { (T : ℕ) (v : Value) (blocks : List ℕ) →
             NamesBuffer self.old.types T content.now →
             Stands F.allocator self.old.window.bytes self.old.types (place_at cell T) v blocks →
-            limit * content.now.entry.size < 2 ^ 32 →
-            MatchResult result
-            (λ done. Reserves F.allocator self.old.window.bytes self.new.window.bytes self.old.types
-            (place_at cell T) v blocks
-            (buffer_asks self.old.window.bytes cell content.now.entry.size limit)
-            (limit * content.now.entry.size))
-            (λ code. Refuses F.allocator self.old.window.bytes self.new.window.bytes
-            (buffer_asks self.old.window.bytes cell content.now.entry.size limit)) }
+            MakesRoom F.allocator self.old.window.bytes self.new.window.bytes self.old.types
+            (place_at cell T) v blocks content.now.entry.size limit result }
         ensures reserves_index { FindsIndex F.allocator self.old.window.bytes self.old.types content.now cell →
-            limit * content.now.entry.size < 2 ^ 32 →
             MakesIndexRoom F.allocator self.old.window.bytes self.new.window.bytes self.old.types
             limit result }
     {
@@ -148,17 +141,10 @@ impl<F: Fit, A: Allocator> Heap<F, A> {
         ensures enlarges { (T : ℕ) (v : Value) (blocks : List ℕ) →
             NamesBuffer self.old.types T content.now →
             Stands F.allocator self.old.window.bytes self.old.types (place_at cell T) v blocks →
-            limit * content.now.entry.size < 2 ^ 32 →
             16 * units_named self.old.window.bytes cell - 16 < limit * content.now.entry.size →
-            MatchResult result
-            (λ done. Reserves F.allocator self.old.window.bytes self.new.window.bytes self.old.types
-            (place_at cell T) v blocks
-            (buffer_asks self.old.window.bytes cell content.now.entry.size limit)
-            (limit * content.now.entry.size))
-            (λ code. Refuses F.allocator self.old.window.bytes self.new.window.bytes
-            (buffer_asks self.old.window.bytes cell content.now.entry.size limit)) }
+            MakesRoom F.allocator self.old.window.bytes self.new.window.bytes self.old.types
+            (place_at cell T) v blocks content.now.entry.size limit result }
         ensures enlarges_index { FindsIndex F.allocator self.old.window.bytes self.old.types content.now cell →
-            limit * content.now.entry.size < 2 ^ 32 →
             16 * units_named self.old.window.bytes cell - 16 < limit * content.now.entry.size →
             MakesIndexRoom F.allocator self.old.window.bytes self.new.window.bytes self.old.types
             limit result }

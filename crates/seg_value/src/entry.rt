@@ -1,4 +1,4 @@
-ghost use Rattle.std.specs.Prelude.{◌≡◌, ℕ, ◌+◌, ◌*◌, ◌%◌, ◌^◌, ◌<◌, ◌≤◌, Some, IfSome};
+ghost use Rattle.std.specs.Prelude.{◌≡◌, ℕ, ◌+◌, ◌-◌, ◌*◌, ◌%◌, ◌^◌, ◌<◌, ◌≤◌, Some, IfSome};
 ghost use Rattle.seg_spec.specs.Demand.{need};
 ghost use Rattle.seg_spec.specs.Types.{IsTable};
 
@@ -118,6 +118,7 @@ impl Entry {
     pub fn need(self, entries: u32) -> u32
         ensures some { 2 ≤ result }
         ensures exact { entries * self.size < 2 ^ 32 → result ≡ need (entries * self.size) }
+        ensures capped { 2 ^ 32 ≤ entries * self.size → result ≡ need (2 ^ 32 - 1) }
     {
         need(entries.saturating_mul(self.size))
     }
