@@ -598,13 +598,10 @@ module _ (allocator : ℕ) (old : List ℕ) (table : Table) (place : Place) (U :
           let room = (the_block allocator old table place U keys vs blocks s f p e).room in
           omega (arith, each_room allocator old table place U keys vs blocks s f p e (count_at old place.at) room, s.heap.small)
 
-  -- one entry more is no more than a request can say
-  pub one_more : (each kept len : ℕ) → each ≡ 8 + size table U → kept ≡ count_at old place.at → len ≡ min (kept + 1) 4294967295 → (len ≡ kept + 1) × (len * each < 2 ^ 32)
-  one_more each kept len each_is kept_is len_is =
+  -- one entry more is still counted
+  pub one_more : (kept len : ℕ) → kept ≡ count_at old place.at → len ≡ min (kept + 1) 4294967295 → len ≡ kept + 1
+  one_more kept len kept_is len_is =
       let few = count_fits in
-      let small = s.is_table.sizes U in
       let least : 1 ≤ 8 + size table U = omega arith in
       let m = mul-le-mul_left (count_at old place.at) least in
-      let len_by : len ≡ count_at old place.at + 1 = omega arith in
-      let all : (count_at old place.at + 1) * (8 + size table U) ≡ count_at old place.at * (8 + size table U) + (8 + size table U) = grind arith in
-      (omega arith, rw (len_by, each_is) (omega arith))
+      omega arith

@@ -43,6 +43,7 @@ use Rattle.seg_value.specs.declared.content.Shape.TheVariants as shape
 use Rattle.seg_value.specs.declared.entry.Held.TheVariants as held
 use Rattle.seg_value.specs.Contents.{IsEntryOf, IsContent, ContentOf}
 use Rattle.seg_value.specs.Places.{object_at}
+use Rattle.seg_value.proofs.NoSpace.{too_large, grants_none}
 use Rattle.seg_value.specs.Buffers.{NamesBuffer, HasSizedBuffer}
 
 -- ---- the entries of a buffer, by the form of its type
@@ -305,20 +306,30 @@ two_units : (n : ℕ) → 2 ≤ need n
 two_units n = omega arith
 
 module _ (allocator : ℕ) (old : List ℕ) (table : Table) (cell T : ℕ) (v : Value) (blocks : List ℕ) (content : Content) (of : OfForm table T content) (s : Stands allocator old table (object_at cell T) v blocks)
-    (limit : ℕ) (small : limit * content.entry.size < 2 ^ 32) (much : 16 * units_named old cell - 16 < limit * content.entry.size) where
+    (limit : ℕ) (much : 16 * units_named old cell - 16 < limit * content.entry.size) where
   abbrev ask : Ask
   ask = growth (option_map block_of (target old cell)) content.entry.size (count_at old cell) limit
 
   -- the units that the code asks for first
-  pub wanted_is : (kept entries wanted : ℕ) → kept ≡ count_at old cell → (kept < 2 ^ 31 → entries ≡ max 4 (max (2 * kept) limit)) → (entries * content.entry.size < 2 ^ 32 → wanted ≡ need (entries * content.entry.size))
+  pub wanted_is : (kept entries wanted : ℕ) → limit * content.entry.size < 2 ^ 32 → kept ≡ count_at old cell → (kept < 2 ^ 31 → entries ≡ max 4 (max (2 * kept) limit)) → (entries * content.entry.size < 2 ^ 32 → wanted ≡ need (entries * content.entry.size))
       → wanted ≡ need (max 4 (max (2 * count_at old cell) limit) * content.entry.size)
-  wanted_is kept entries wanted kept_is entries_by wanted_by =
+  wanted_is kept entries wanted small kept_is entries_by wanted_by =
       let few = count_small allocator old table cell T v blocks content of s in
       let entries_are : entries ≡ max 4 (max (2 * count_at old cell) limit) = entries_by (omega arith) ∙ ap (λ k. max 4 (max (2 * k) limit)) kept_is in
       let limit_small : limit * item_size table of.form < 2 ^ 32 = rw of.size_is at small in
       let fits : max 4 (max (2 * count_at old cell) limit) * content.entry.size < 2 ^ 32 = rw of.size_is (preferred_small allocator old table cell T v blocks content of s limit limit_small) in
       let fits_too : entries * content.entry.size < 2 ^ 32 = rw entries_are fits in
       wanted_by fits_too ∙ ap (λ k. need (k * content.entry.size)) entries_are
+
+  -- or as many as any number of bytes takes
+  pub wanted_large : (kept entries wanted : ℕ) → 2 ^ 32 ≤ limit * content.entry.size → kept ≡ count_at old cell → (kept < 2 ^ 31 → entries ≡ max 4 (max (2 * kept) limit)) → (2 ^ 32 ≤ entries * content.entry.size → wanted ≡ need (2 ^ 32 - 1))
+      → wanted ≡ need (2 ^ 32 - 1)
+  wanted_large kept entries wanted large kept_is entries_by wanted_by =
+      let few = count_small allocator old table cell T v blocks content of s in
+      let e = entries_by (omega arith) in
+      let more : limit ≤ entries = omega arith in
+      let m = mul-le-mul_right content.entry.size more in
+      wanted_by (omega arith)
 
   -- a new block of no fewer units than the least
   pub record NewFor (mid : List ℕ) (g : ℕ) : Type 0 where
@@ -421,6 +432,29 @@ module _ (allocator : ℕ) (old : List ℕ) (table : Table) (cell T : ℕ) (v : 
         go : (o : Option ℕ) → target old cell ≡ o → Enlarged mid r
         go None e = without_block e
         go (Some p) e = with_block p e
+
+  -- more than any segment has room for
+  pub enlarged_large : (mid : List ℕ) (r : Option Grant) (old_block : Option ℕ) (wanted least : ℕ) → old_block ≡ option_map block_of (target old cell) → 2 ^ 32 ≤ limit * content.entry.size → wanted ≡ need (2 ^ 32 - 1) → least ≡ need (2 ^ 32 - 1)
+      → ((at x : ℕ) → old_block ≡ Some at → IsHeap allocator old → IsLiveBlock old at x → Grants allocator old mid at x wanted least r) → (old_block ≡ None → IsHeap allocator old → GrantsNew allocator old mid wanted least r) → Enlarged mid r
+  enlarged_large mid r old_block wanted least block_is large wanted_by least_by at_block no_block = go (target old cell) refl
+    where
+      none : after_ask allocator (live old) (length old) (record { old = option_map block_of (target old cell); preferred = wanted; limit = least }) ≡ None
+      none = grants_none allocator old s.heap (record { old = option_map block_of (target old cell); preferred = wanted; limit = least }) (omega arith) (omega arith)
+
+      no_space : (r ≡ None) × (mid ≡ old) → Enlarged mid r
+      no_space k = subst (Enlarged mid) (sym k.0) (record { no_room = too_large allocator old s.heap ask (omega arith) least_first; same = k.1 })
+
+      go : (o : Option ℕ) → target old cell ≡ o → Enlarged mid r
+      go None e =
+          let g = no_block (block_is ∙ ap (option_map block_of) e) s.heap in
+          let n : after_request allocator (live old) (length old) wanted least ≡ None = rw e at none in
+          no_space (rw n at g.grants)
+      go (Some p) e =
+          let b = named_block allocator old table cell T v blocks content of s p e in
+          let g = at_block (block_of p) b.units (block_is ∙ ap (option_map block_of) e) s.heap b.among in
+          let one = units_found (live old) (block_of p) b.units b.among (λ d among at_is. sym (each_contained (StatesSpan old (length old)) (live old) d (live_stated old allocator s.heap) among).units_is ∙ ap (units_at old) at_is ∙ b.units_is) in
+          let n : after_request_at allocator (live old) (length old) (block_of p) b.units wanted least ≡ None = rw (e, one) at none in
+          no_space (rw n at g.grants)
 
   -- the entries that are there are fewer
   fewer : count_at old cell * content.entry.size < limit * content.entry.size

@@ -101,7 +101,7 @@ no_parts_inside old table place (Form.flat_map U) opened b none o = rw none at (
 
 -- ---- blocks with another size for one of them
 
-resized_here : (at n : ℕ) (bs : List Span) (b : Span) → Contains bs b → b.at ≡ at → Contains (resized at n bs) (span at n)
+pub resized_here : (at n : ℕ) (bs : List Span) (b : Span) → Contains bs b → b.at ≡ at → Contains (resized at n bs) (span at n)
 resized_here at n [] b c e = absurd (omega (arith, c.1))
 resized_here at n (d ∷ bs) b c e = go (cases_eq d.at at) c.0 c.1 c.2 (λ k. resized_here at n bs b k e)
   where
@@ -113,7 +113,7 @@ resized_here at n (d ∷ bs) b c e = go (cases_eq d.at at) c.0 c.1 c.2 (λ k. re
         let r = rest (i, omega arith, f) in
         rw off (suc r.0, omega (arith, r.1), r.2)
 
-resized_other : (at n : ℕ) (bs : List Span) (b : Span) → Contains bs b → b.at ≢ at → Contains (resized at n bs) b
+pub resized_other : (at n : ℕ) (bs : List Span) (b : Span) → Contains bs b → b.at ≢ at → Contains (resized at n bs) b
 resized_other at n [] b c ne = absurd (omega (arith, c.1))
 resized_other at n (d ∷ bs) b c ne = go (cases_eq d.at at) c.0 c.1 c.2 (λ k. resized_other at n bs b k ne)
   where

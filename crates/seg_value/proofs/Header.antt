@@ -1,12 +1,11 @@
 -- A write before the heap: all blocks stay.
-use Rattle.std.proofs.Common.{◌≡◌, ℕ, ◌+◌, ◌*◌, ◌≤◌, inl, inr, List, [], ◌∷◌, ◌++◌, length, true, refl, sym, subst, arith}
+use Rattle.std.proofs.Common.{◌≡◌, ℕ, ◌+◌, ◌*◌, ◌≤◌, inl, inr, List, [], ◌∷◌, length, true, refl, sym, subst, arith}
 use Rattle.std.specs.List.{AllByRecursion}
 use Rattle.seg_spec.specs.Bytes.{IsSame, ChangesOnly}
 use Rattle.seg_spec.specs.Types.{Table}
-use Rattle.seg_spec.specs.Heap.{Tile, units_at, tiles, Fill, gaps, live, IsHeap, heap_start, free_of, KeepsTiles}
+use Rattle.seg_spec.specs.Heap.{Tile, tiles, Fill, gaps, live, IsHeap, heap_start, free_of, KeepsTiles}
 use Rattle.seg_spec.specs.Block.{IsOwnable, KeepsBlock, payload_size}
 use Rattle.seg_spec.specs.Sound.{times, positions}
-use Rattle.seg_spec.proofs.SliceLaws.{IsSame-part}
 use Rattle.seg_spec.proofs.Frame.{each_weaker, word-same}
 use Rattle.seg_spec.proofs.TileLaws.{gaps_between-live_of}
 use Rattle.seg_spec.proofs.HeapFrame.{IsHeap-kept, live-kept, IsOwnable-kept}
@@ -17,7 +16,7 @@ above : (ts : List Tile) (from to : ℕ) → Fill from ts to → AllByRecursion 
 above [] from to f = tt
 above (t ∷ ts) from to f = (omega (arith, f.0), each_weaker _ _ (λ s a. omega (arith, a)) ts (above ts (from + 16 * t.units) to f.2))
 
-ends_after : (ts : List Tile) (from to : ℕ) → Fill from ts to → from ≤ to
+pub ends_after : (ts : List Tile) (from to : ℕ) → Fill from ts to → from ≤ to
 ends_after [] from to f = omega (arith, f)
 ends_after (t ∷ ts) from to f = let r = ends_after ts (from + 16 * t.units) to f.2 in omega arith
 

@@ -19,3 +19,6 @@ pub mod Inside
 pub mod Between
 pub mod Header
 pub mod Named
+pub mod Indexed
+pub mod IndexGrows
+pub mod NoSpace

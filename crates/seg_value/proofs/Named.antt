@@ -1,31 +1,33 @@
 -- The buffer of the flat index: its entries as they move, and as one comes or goes.
-use Rattle.std.proofs.Common.{◌≡◌, ◌≢◌, ℕ, ◌+◌, ◌-◌, ◌*◌, ◌%◌, ◌^◌, ◌<◌, ◌≤◌, ◌⊎◌, inl, inr, min, List, [], ◌∷◌, length, Option, Some, None, unwrap_or, option_to_list, option_map, refl, sym, ap, ◌∙◌, subst, arith, add-zero}
+use Rattle.std.proofs.Common.{◌≡◌, ◌≢◌, ℕ, ◌+◌, ◌-◌, ◌*◌, ◌%◌, ◌^◌, ◌<◌, ◌≤◌, ◌⊎◌, inl, inr, min, MatchOption, List, [], ◌∷◌, length, Option, Some, None, unwrap_or, option_to_list, option_map, refl, sym, ap, ◌∙◌, subst, arith, add-zero}
 use Rattle.std.specs.Prelude.{Contains}
+use Rattle.std.proofs.lemmas.Bool.{cases_eq}
 use Rattle.std.specs.List.{AllByRecursion}
-use Rattle.seg_spec.specs.Bytes.{word, slice, set_word, IsSame, ChangesOnly}
+use Rattle.seg_spec.specs.Bytes.{set_word, IsSame, ChangesOnly}
 use Rattle.seg_spec.specs.Pointer.{target, set_pointer, distance}
 use Rattle.seg_spec.specs.Types.{Table}
-use Rattle.seg_spec.specs.Heap.{Span, Gives, IsLive, span, units_at, IsHeap, live, heap_start}
+use Rattle.seg_spec.specs.Heap.{Span, Gives, IsLive, IsHeap, live, heap_start}
 use Rattle.seg_spec.specs.Block.{Kind, tag_of, block_of, IsBlock, IsInside, IsOwnable, KeepsBlock, payload_size}
-use Rattle.seg_spec.specs.Reads.{named, start, count_at, NamesRoom}
+use Rattle.seg_spec.specs.Reads.{named, start, count_at}
 use Rattle.seg_spec.specs.Demand.{after_gives}
+use Rattle.seg_spec.specs.Spending.{entry_asks}
 use Rattle.seg_spec.specs.Cells.{IsWithin}
 use Rattle.seg_spec.specs.Sound.{times, positions}
 use Rattle.seg_spec.proofs.BytesLaws.{number-set_same, number-set_other}
 use Rattle.seg_spec.proofs.SliceLaws.{IsSame-part, IsSame-trans}
 use Rattle.seg_spec.proofs.PointerLaws.{target-set_same}
 use Rattle.seg_spec.proofs.Giving.{found}
-use Rattle.seg_spec.proofs.Frame.{cell-target, cell-count, target-same, IsBlock-kept}
+use Rattle.seg_spec.proofs.Frame.{word-same, cell-target, cell-count, target-same, IsBlock-kept}
 use Rattle.seg_spec.proofs.Writing.{set_number-changes}
 use Rattle.seg_spec.proofs.Composing.{kept_twice}
-use Rattle.seg_spec.proofs.LiveLaws.{times-append, times-same, times-other, there, LiesIn, live-lie}
+use Rattle.seg_spec.proofs.LiveLaws.{live-once, times-append, times-same, times-other, there, LiesIn, live-lie}
 use Rattle.seg_spec.proofs.WriteInside.{low_kept}
-use Rattle.seg_value.specs.Names.{index_cell, name_entry, FindsNames, ChangesIndex, IsSameEntry, ClosesName, EmptiesIndex}
+use Rattle.seg_value.specs.Names.{index_cell, FindsNames, ChangesIndex, IsSameEntry, KeepsNames, ReservesIndex, AddsName, OpensName, ClosesName, EmptiesIndex}
 use Rattle.seg_value.specs.Pointers.{MovesPointers}
 use Rattle.seg_value.proofs.Inside.{given_counts, given_linked, given_ownable, given_front, wrote_heap, wrote_live, wrote_ownable, wrote_other, wrote_block}
 use Rattle.seg_value.proofs.Header.{header_fits, header_heap, header_live, header_ownable, header_kept}
 
-same_entry : (old new : List ℕ) (q : ℕ) → IsSame old new q 8 → IsSameEntry old new q q
+pub same_entry : (old new : List ℕ) (q : ℕ) → IsSame old new q 8 → IsSameEntry old new q q
 same_entry old new q s = (target-same old new q (IsSame-part old new q 8 q 4 (omega arith) (omega arith) s), IsSame-part old new q 8 (q + 4) 4 (omega arith) (omega arith) s)
 
 module _ (allocator : ℕ) (old : List ℕ) (table : Table) (s : FindsNames allocator old table) (p : ℕ) (named_is : target old index_cell ≡ Some p) where
@@ -173,9 +175,9 @@ module _ (allocator : ℕ) (old : List ℕ) (table : Table) (s : FindsNames allo
           let start_old : start old index_cell ≡ p = ap (λ o. unwrap_or o 0) named_is in
           let even = name_even in
           rw (from_is, to_is) at (m.entries j (omega arith) (λ t.
-              let t' : target old (p + (i + 1) * 8) ≡ Some (p + i * 8 + 1) = rw (from_is, to_is) at t in
-              let a = s.aligned (i + 1) (p + i * 8 + 1) (omega (arith, counted)) (rw start_old t') in
-              omega arith))
+          let t' : target old (p + (i + 1) * 8) ≡ Some (p + i * 8 + 1) = rw (from_is, to_is) at t in
+          let a = s.aligned (i + 1) (p + i * 8 + 1) (omega (arith, counted)) (rw start_old t') in
+          omega arith))
 
 module _ (allocator : ℕ) (old : List ℕ) (table : Table) (s : FindsNames allocator old table) where
   -- a buffer is there where entries are
@@ -279,3 +281,170 @@ module _ (allocator : ℕ) (old : List ℕ) (table : Table) (s : FindsNames allo
         not_it h away e =
             let one : times (block_of p) (block_of p ∷ []) ≡ 0 = subst (λ x. times x (block_of p ∷ []) ≡ 0) e away in
             omega (arith, times-same (block_of p) [])
+
+-- ---- one call on the index after the other
+
+named_once : (bytes : List ℕ) (h : ℕ) → times h (named bytes index_cell) ≤ 1
+named_once bytes h = go (target bytes index_cell)
+  where
+    go : (o : Option ℕ) → times h (option_to_list (option_map block_of o)) ≤ 1
+    go None = omega arith
+    go (Some p) = one (cases_eq (block_of p) h)
+      where
+        one : (block_of p ≡ h) ⊎ (block_of p ≢ h) → times h (block_of p ∷ []) ≤ 1
+        one (inl e) = subst (λ x. times x (block_of p ∷ []) ≤ 1) e (omega (arith, times-same (block_of p) []))
+        one (inr other) = omega (arith, times-other h (block_of p) [] other)
+
+pub finds_after : (allocator : ℕ) (old mid : List ℕ) (table : Table) (left : List Span) → FindsNames allocator old table → ChangesIndex old mid table left → KeepsNames old mid → FindsNames allocator mid table
+finds_after allocator old mid table left s c k = record {
+  heap = subst (λ a. IsHeap a mid) s.allocator_is c.heap;
+  allocator_is = word-same old mid 16 (IsSame-part old mid 0 24 16 4 (omega arith) (omega arith) c.front_kept) ∙ s.allocator_is;
+  ownable = c.ownable;
+  room = c.room;
+  is_live = λ h some. there_now h some (cases_zero (times h (named old index_cell)));
+  aligned = λ i t l e. let below : i < count_at old index_cell = omega (arith, k.counted) in s.aligned i t below (sym (k.entries i below).0 ∙ e);
+}
+  where
+    cases_zero : (n : ℕ) → (n ≡ 0) ⊎ (1 ≤ n)
+    cases_zero n = cases_one (cases_eq n 0)
+      where
+        cases_one : (n ≡ 0) ⊎ (n ≢ 0) → (n ≡ 0) ⊎ (1 ≤ n)
+        cases_one (inl e) = inl e
+        cases_one (inr ne) = inr (omega arith)
+
+    there_now : (h : ℕ) → 1 ≤ times h (named mid index_cell) → (times h (named old index_cell) ≡ 0) ⊎ (1 ≤ times h (named old index_cell)) → 1 ≤ times h (positions (live mid))
+    there_now h some (inl none) = omega (arith, c.live_are h)
+    there_now h some (inr one) = omega (arith, c.live_are h, s.is_live h one, named_once old h)
+
+pub index_twice : (allocator : ℕ) (a b c : List ℕ) (table : Table) (left more : List Span) → FindsNames allocator a table → FindsNames allocator b table → ChangesIndex a b table left → ChangesIndex b c table more → ChangesIndex a c table more
+index_twice allocator a b c table left more s t x y = record {
+  length_kept = y.length_kept ∙ x.length_kept;
+  front_kept = IsSame-trans a b c 0 24 x.front_kept y.front_kept;
+  middle_kept = IsSame-trans a b c 28 4 x.middle_kept y.middle_kept;
+  back_kept = IsSame-trans a b c 40 664 x.back_kept y.back_kept;
+  heap = subst (λ k. IsHeap k c) (t.allocator_is ∙ sym s.allocator_is) y.heap;
+  ownable = y.ownable;
+  live_is = y.live_is;
+  live_are = λ h. omega (arith, x.live_are h, y.live_are h);
+  kept = λ h some none. kept_twice a b c h (x.kept h some none) (y.kept h (omega (arith, x.live_are h)) (omega (arith, x.live_are h, live-once b allocator t.heap h)));
+  room = y.room;
+}
+
+-- ---- one comes
+
+module _ (allocator : ℕ) (mid : List ℕ) (table : Table) (s : FindsNames allocator mid table) (p : ℕ) (named_is : target mid index_cell ≡ Some p) (index k : ℕ) (counted : count_at mid index_cell ≡ index + k)
+    (room : (index + (1 + k)) * 8 ≤ payload_size mid (block_of p)) (moved new : List ℕ) (shifts : MovesPointers mid moved 8 0 (p + index * 8) (p + index * 8 + 8) k) (new_is : new ≡ set_word moved (index_cell + 4) (index + (1 + k))) where
+  then : Shifted allocator mid table s p named_is new k (p + index * 8) (p + index * 8 + 8) (index + (1 + k))
+  then =
+      let in_heap = name_room allocator mid table s p named_is ((index + (1 + k)) * 8) room in
+      let small = s.heap.small in
+      names_shifted allocator mid table s p named_is k (p + index * 8) (p + index * 8 + 8) (index + (1 + k)) moved new shifts new_is (omega arith) (omega arith) (omega arith)
+
+  p_is : block_of p + 16 ≡ p
+  p_is = let b = name_block allocator mid table s p named_is in omega (arith, b.after_header)
+
+  p_there : 1 ≤ times (block_of p) (positions (live new))
+  p_there = subst (λ bs. 1 ≤ times (block_of p) (positions bs)) (sym then.live_is) (name_live allocator mid table s p named_is)
+
+  spot_inside : IsInside new (block_of p) (p + index * 8) 8
+  spot_inside =
+      let whole = then.block (payload_size mid (block_of p)) (omega arith) in
+      let o = p_is in
+      record { low = omega arith; high = omega (arith, whole.room) }
+
+  pub spot_within : IsWithin new (p + index * 8) 8
+  spot_within =
+      let in_heap = name_room allocator mid table s p named_is ((index + (1 + k)) * 8) room in
+      record { fits = omega (arith, then.length_kept); small = then.heap.small }
+
+  module _ (written : List ℕ) (writes : ChangesOnly new written (p + index * 8) 8) where
+    header_same : (q m : ℕ) → q + m ≤ heap_start → IsSame new written q m
+    header_same q m l = low_kept new written (p + index * 8) 8 writes allocator then.heap (block_of p) spot_inside p_there q m l
+
+    still : (h : ℕ) → 1 ≤ times h (positions (live mid)) → 1 ≤ times h (positions (live new))
+    still h some = subst (λ bs. 1 ≤ times h (positions bs)) (sym then.live_is) some
+
+    names_then : target written index_cell ≡ Some p
+    names_then = target-same new written index_cell (header_same index_cell 4 (omega arith)) ∙ then.named_then
+
+    counts_then : count_at written index_cell ≡ index + (1 + k)
+    counts_then = cell-count new written index_cell (header_same index_cell 8 (omega arith)) ∙ then.counted
+
+    pub name_added : AddsName mid written table (live mid) index (p + index * 8)
+    name_added =
+        let start_old : start mid index_cell ≡ p = ap (λ o. unwrap_or o 0) named_is in
+        let start_new : start written index_cell ≡ p = ap (λ o. unwrap_or o 0) names_then in
+        record {
+          changes = index_changes allocator mid table s p named_is written (index + (1 + k)) (writes.length_kept ∙ then.length_kept) (IsSame-trans mid new written 0 24 then.front_kept (header_same 0 24 (omega arith)))
+              (IsSame-trans mid new written 28 4 then.middle_kept (header_same 28 4 (omega arith))) (IsSame-trans mid new written 40 664 then.back_kept (header_same 40 664 (omega arith)))
+              (wrote_heap allocator new written table (block_of p) (p + index * 8) 8 then.heap writes spot_inside p_there)
+              (wrote_live allocator new written table (block_of p) (p + index * 8) 8 then.heap writes spot_inside p_there ∙ then.live_is)
+              (wrote_ownable allocator new written table (block_of p) (p + index * 8) 8 then.heap writes spot_inside p_there then.ownable)
+              (λ h some other. kept_twice mid new written h (then.kept h some other) (wrote_other allocator new written table (block_of p) (p + index * 8) 8 then.heap writes spot_inside p_there h (still h some) other))
+              names_then counts_then (wrote_block allocator new written table (block_of p) (p + index * 8) 8 then.heap writes spot_inside p_there p (tag_of Kind.index_buffer 0) ((index + (1 + k)) * 8) (sym p_is) (then.block ((index + (1 + k)) * 8) room));
+          at_is = rw start_new refl;
+          counted = omega (arith, counted, counts_then);
+          before = λ i below. rw (start_old, start_new) (same_entry mid written (p + i * 8) (IsSame-trans mid new written (p + i * 8) 8 (then.before (p + i * 8) 8 (omega arith) (omega arith)) (writes.others (p + i * 8) 8 (inl (omega arith)))));
+          after = λ i low below. rw (start_old, start_new) (next i (i - index) low (omega (arith, counted)) (omega arith));
+        }
+      where
+        next : (i j : ℕ) → index ≤ i → i < index + k → i ≡ index + j → IsSameEntry mid written (p + i * 8) (p + (i + 1) * 8)
+        next i j low below e =
+            let from_is : p + index * 8 + j * 8 ≡ p + i * 8 = omega arith in
+            let to_is : p + index * 8 + 8 + j * 8 ≡ p + (i + 1) * 8 = omega arith in
+            let start_old : start mid index_cell ≡ p = ap (λ o. unwrap_or o 0) named_is in
+            let even = name_even allocator mid table s p named_is in
+            let m = rw (from_is, to_is) at (then.entries j (omega arith) (λ t.
+            let t' : target mid (p + i * 8) ≡ Some (p + (i + 1) * 8 + 1) = rw (from_is, to_is) at t in
+            let a = s.aligned i (p + (i + 1) * 8 + 1) (omega (arith, counted)) (rw start_old t') in
+            omega arith)) in
+            let w = same_entry new written (p + (i + 1) * 8) (writes.others (p + (i + 1) * 8) 8 (inr (omega arith))) in
+            (w.0 ∙ m.0, w.1 ∙ m.1)
+
+module _ (allocator : ℕ) (old : List ℕ) (table : Table) (s : FindsNames allocator old table) where
+  pub name_opened_by : (mid : List ℕ) (index each before at next kept len k step begin : ℕ) (moved new : List ℕ) → ReservesIndex allocator old mid table (entry_asks 0 old) ((count_at old index_cell + 1) * 8)
+      → index ≤ count_at old index_cell → each ≡ 8 → before ≡ 0 → kept ≡ count_at old index_cell → len ≡ kept + 1 → begin ≡ start mid index_cell → k ≡ kept - index → step ≡ min (index + 1) 4294967295
+      → at ≡ (begin + index * each) % 2 ^ 32 → next ≡ (begin + step * each) % 2 ^ 32
+      → (before + 4 ≤ each → IsWithin mid at (k * each) → IsWithin mid next (k * each) → MovesPointers mid moved each before at next k) → new ≡ set_word moved (index_cell + 4) len → OpensName allocator old new table index at
+  name_opened_by mid index each before at next kept len k step begin moved new r below each_is before_is kept_is len_is begin_is k_is step_is at_by next_by shifts new_is = go (target mid index_cell) refl
+    where
+      t : FindsNames allocator mid table
+      t = finds_after allocator old mid table r.left s r.changes r.names
+
+      has_room : (o : Option ℕ) → target mid index_cell ≡ o → MatchOption o ((count_at old index_cell + 1) * 8 ≡ 0) (λ p. (count_at old index_cell + 1) * 8 ≤ payload_size mid (block_of p))
+      has_room o e = subst (λ x. MatchOption x ((count_at old index_cell + 1) * 8 ≡ 0) (λ p. (count_at old index_cell + 1) * 8 ≤ payload_size mid (block_of p))) e r.room
+
+      go : (o : Option ℕ) → target mid index_cell ≡ o → OpensName allocator old new table index at
+      go None e = let none : (count_at old index_cell + 1) * 8 ≡ 0 = has_room None e in absurd (omega arith)
+      go (Some p) e =
+          let begins : begin ≡ p = begin_is ∙ ap (λ o. unwrap_or o 0) e in
+          let counts : count_at old index_cell + 1 ≡ index + (1 + k) = omega arith in
+          let counted : count_at mid index_cell ≡ index + k = omega (arith, r.names.counted) in
+          let room : (index + (1 + k)) * 8 ≤ payload_size mid (block_of p) = rw counts at (has_room (Some p) e) in
+          let fits = name_room allocator mid table t p e ((index + (1 + k)) * 8) room in
+          let low = t.heap.small in
+          let even = name_even allocator mid table t p e in
+          let step_by : step ≡ index + 1 = omega arith in
+          let at_is : at ≡ p + index * 8 = rw (begins, each_is) at at_by ∙ omega arith in
+          let next_is : next ≡ p + index * 8 + 8 = rw (begins, each_is, step_by) at next_by ∙ omega arith in
+          let next_in : IsWithin mid next (k * each) = rw (next_is, each_is) (record { fits = omega arith; small = low }) in
+          let at_in : IsWithin mid at (k * each) = rw (at_is, each_is) (record { fits = omega arith; small = low }) in
+          let shifted = rw (at_is, next_is, each_is, before_is) at (shifts (omega arith) at_in next_in) in
+          let len_by : len ≡ index + (1 + k) = omega arith in
+          let set : new ≡ set_word moved (index_cell + 4) (index + (1 + k)) = rw len_by at new_is in
+          record {
+            left = r.left;
+            left_is = r.left_is;
+            aligned = rw at_is (omega arith);
+            within = rw at_is (spot_within allocator mid table t p e index k counted room moved new shifted set);
+            becomes = λ written writes. added p at_is (r.changes.live_is) written (name_added allocator mid table t p e index k counted room moved new shifted set written (rw at_is at writes));
+          }
+        where
+          added : (p : ℕ) → at ≡ p + index * 8 → live mid ≡ r.left → (written : List ℕ) → AddsName mid written table (live mid) index (p + index * 8) → AddsName old written table r.left index at
+          added p at_is left_is written a = record {
+            changes = subst (λ bs. ChangesIndex old written table bs) left_is (index_twice allocator old mid written table r.left (live mid) s t r.changes a.changes);
+            at_is = a.at_is ∙ sym at_is;
+            counted = omega (arith, a.counted, r.names.counted);
+            before = λ i l. let f = r.names.entries i (omega arith) in let n = a.before i l in (n.0 ∙ f.0, n.1 ∙ f.1);
+            after = λ i low l. let f = r.names.entries i l in let n = a.after i low (omega (arith, r.names.counted)) in (n.0 ∙ f.0, n.1 ∙ f.1);
+          }

@@ -3,26 +3,40 @@
 --     IsIndexBuffer content               entries of 8 bytes that begin with a pointer
 --     name_entry bytes i                  the position of an entry
 --     FindsNames allocator bytes table    the heap is in order, and the cell names a buffer of entries
+--     FindsIndex allocator bytes table content cell    the call is on the index, with its content
 --     ChangesIndex old new table spans    nothing changed but the cell and its buffer
 --     IsSameEntry old new from to         an entry is what another one was
+--     KeepsNames old new                  each entry is what it was
+--     ReservesIndex ..                    the buffer has room for so many bytes
+--     MakesIndexRoom ..                   it comes to have it, or is refused
+--     MovesIndex ..                       the buffer moved to a block that was taken before
+--     OpensName ..                        there is room for an entry at an index
+--     AddsName ..                         an entry was written there
 --     ClosesName old new table index      the entry at an index is gone
 --     EmptiesIndex old new table          the buffer is gone
-use Rattle.std.specs.Prelude.{◌≡◌, ℕ, ◌+◌, ◌*◌, ◌%◌, ◌<◌, ◌≤◌, List, length, Some, None}
+use Rattle.std.specs.Prelude.{◌≡◌, ℕ, ◌+◌, ◌*◌, ◌%◌, ◌<◌, ◌≤◌, ◌-◌, List, [], length, Some, None, Result, MatchResult}
 use Rattle.std.specs.List.{AllByRecursion}
-use Rattle.seg_spec.specs.Bytes.{word, IsSame, slice}
-pub use Rattle.seg_spec.specs.Header.{index_cell}
+use Rattle.seg_spec.specs.Bytes.{word, IsSame, ChangesOnly, slice}
 use Rattle.seg_spec.specs.Pointer.{target}
 use Rattle.seg_spec.specs.Types.{Table}
 use Rattle.seg_spec.specs.Heap.{Span, IsHeap, live}
 use Rattle.seg_spec.specs.Block as block
 use Rattle.seg_spec.specs.Block.{tag_of, IsOwnable, KeepsBlock}
-use Rattle.seg_spec.specs.Demand.{after_gives}
+use Rattle.seg_spec.specs.Demand.{Ask, after_gives}
+use Rattle.seg_spec.specs.Cells.{IsWithin}
+use Rattle.seg_spec.specs.Growing.{HasRoomFor}
+use Rattle.seg_spec.specs.Calls.{Refuses}
+use Rattle.seg_spec.specs.Spending.{buffer_asks, entry_asks, spent}
 use Rattle.seg_spec.specs.Reads.{count_at, named, start, NamesRoom}
 use Rattle.seg_spec.specs.Sound.{times, positions}
 use Rattle.seg_block.specs.Tags.{word_of}
 use Rattle.seg_value.specs.declared.content.Content.{Content}
 use Rattle.seg_value.specs.declared.content.Shape.TheVariants as shape
 use Rattle.seg_value.specs.declared.entry.Held.TheVariants as held
+
+-- where the index's cell stands
+abbrev pub index_cell : ℕ
+index_cell = 32
 
 -- a buffer of entries of 8 bytes, each with a pointer to an object that it doesn't own
 pub record IsIndexBuffer (content : Content) : Type 0 where
@@ -48,6 +62,11 @@ pub record FindsNames (allocator : ℕ) (bytes : List ℕ) (table : Table) : Typ
   pub aligned : (i t : ℕ) → i < count_at bytes index_cell →
       target bytes (name_entry bytes i) ≡ Some t → t % 8 ≡ 0
 
+-- a call on the index, with its cell and the content of its buffer
+abbrev pub FindsIndex : ℕ → List ℕ → Table → Content → ℕ → Type 0
+FindsIndex allocator bytes table content cell =
+    IsIndexBuffer content × (cell ≡ index_cell) × FindsNames allocator bytes table
+
 -- only the index's cell and its buffer changed; the live blocks are these now, and all others are kept
 pub record ChangesIndex (old new : List ℕ) (table : Table) (spans : List Span) : Type 0 where
   pub length_kept : length new ≡ length old
@@ -68,6 +87,54 @@ pub record ChangesIndex (old new : List ℕ) (table : Table) (spans : List Span)
 abbrev pub IsSameEntry : List ℕ → List ℕ → ℕ → ℕ → Type 0
 IsSameEntry old new from to =
     (target new to ≡ target old from) × (slice new (to + 4) 4 ≡ slice old (from + 4) 4)
+
+-- each entry is what it was, wherever the buffer stands now
+pub record KeepsNames (old new : List ℕ) : Type 0 where
+  pub counted : count_at new index_cell ≡ count_at old index_cell
+  pub entries : (i : ℕ) → i < count_at old index_cell →
+      IsSameEntry old new (name_entry old i) (name_entry new i)
+
+-- the requests were granted, and the buffer has room for n bytes now
+pub record ReservesIndex (allocator : ℕ) (old new : List ℕ) (table : Table) (asks : List Ask)
+    (n : ℕ) : Type 0 where
+  pub left : List Span
+  pub left_is : spent allocator (live old) (length old) asks [] ≡ Some left
+  pub changes : ChangesIndex old new table left
+  pub names : KeepsNames old new
+  pub room : HasRoomFor new index_cell n
+
+-- the buffer comes to have room for so many entries, or that is refused
+abbrev pub MakesIndexRoom : {X Y : Type 0} → ℕ → List ℕ → List ℕ → Table → ℕ → Result X Y → Type 0
+MakesIndexRoom allocator old new table limit result = MatchResult result
+    (λ done. ReservesIndex allocator old new table (buffer_asks old index_cell 8 limit) (limit * 8))
+    (λ code. Refuses allocator old new (buffer_asks old index_cell 8 limit))
+
+-- the buffer moved to a block of u units that was taken before, and the old one was given back
+pub record MovesIndex (old taken new : List ℕ) (table : Table) (u : ℕ) : Type 0 where
+  pub changes : ChangesIndex old new table (after_gives (live taken) (named old index_cell))
+  pub names : KeepsNames old new
+  pub room : HasRoomFor new index_cell (16 * u - 16)
+
+-- an entry stands at a position that is the one of an index, before those that stood from there on
+pub record AddsName (old new : List ℕ) (table : Table) (left : List Span) (index at : ℕ)
+    : Type 0 where
+  pub changes : ChangesIndex old new table left
+  pub at_is : name_entry new index ≡ at
+  pub counted : count_at new index_cell ≡ count_at old index_cell + 1
+  pub before : (i : ℕ) → i < index →
+      IsSameEntry old new (name_entry old i) (name_entry new i)
+  pub after : (i : ℕ) → index ≤ i → i < count_at old index_cell →
+      IsSameEntry old new (name_entry old i) (name_entry new (i + 1))
+
+-- the requests were granted, and there is room for an entry at an index, whatever is written there
+pub record OpensName (allocator : ℕ) (old new : List ℕ) (table : Table) (index at : ℕ)
+    : Type 0 where
+  pub left : List Span
+  pub left_is : spent allocator (live old) (length old) (entry_asks 0 old) [] ≡ Some left
+  pub aligned : at % 8 ≡ 0
+  pub within : IsWithin new at 8
+  pub becomes : (written : List ℕ) → ChangesOnly new written at 8 →
+      AddsName old written table left index at
 
 -- the entry at an index is gone, and those after it stand one before
 pub record ClosesName (old new : List ℕ) (table : Table) (index : ℕ) : Type 0 where

@@ -16,9 +16,9 @@ ghost use Rattle.seg_spec.specs.Value.{Value};
 ghost use Rattle.seg_spec.specs.Window.{with_bytes, KeepsHost};
 ghost use Rattle.seg_block.specs.Blocks.{IsSized};
 ghost use Rattle.seg_block.specs.Tags.{word_of};
-ghost use Rattle.seg_value.specs.Buffers.{NamesBuffer, HasSizedBuffer};
+ghost use Rattle.seg_value.specs.Buffers.{NamesBuffer, HasSizedBuffer, MakesRoom};
 ghost use Rattle.seg_value.specs.Contents.{IsContent, GivesBlock};
-ghost use Rattle.seg_value.specs.Names.{index_cell, FindsNames, EmptiesIndex};
+ghost use Rattle.seg_value.specs.Names.{index_cell, FindsNames, FindsIndex, MakesIndexRoom, MovesIndex, EmptiesIndex};
 ghost use Rattle.seg_value.specs.Places.{place_of, object_at as place_at};
 
 use crate::content::{Content, Shape};
@@ -98,14 +98,11 @@ impl<F: Fit, A: Allocator> Heap<F, A> {
         ensures reserves { (T : ℕ) (v : Value) (blocks : List ℕ) →
             NamesBuffer self.old.types T content.now →
             Stands F.allocator self.old.window.bytes self.old.types (place_at cell T) v blocks →
-            limit * content.now.entry.size < 2 ^ 32 →
-            MatchResult result
-            (λ done. Reserves F.allocator self.old.window.bytes self.new.window.bytes self.old.types
-            (place_at cell T) v blocks
-            (buffer_asks self.old.window.bytes cell content.now.entry.size limit)
-            (limit * content.now.entry.size))
-            (λ code. Refuses F.allocator self.old.window.bytes self.new.window.bytes
-            (buffer_asks self.old.window.bytes cell content.now.entry.size limit)) }
+            MakesRoom F.allocator self.old.window.bytes self.new.window.bytes self.old.types
+            (place_at cell T) v blocks content.now.entry.size limit result }
+        ensures reserves_index { FindsIndex F.allocator self.old.window.bytes self.old.types content.now cell →
+            MakesIndexRoom F.allocator self.old.window.bytes self.new.window.bytes self.old.types
+            limit result }
     {
         if u64::from(limit) * u64::from(content.entry.size) <= u64::from(self.room(cell)) {
             return Ok(());
@@ -144,15 +141,13 @@ impl<F: Fit, A: Allocator> Heap<F, A> {
         ensures enlarges { (T : ℕ) (v : Value) (blocks : List ℕ) →
             NamesBuffer self.old.types T content.now →
             Stands F.allocator self.old.window.bytes self.old.types (place_at cell T) v blocks →
-            limit * content.now.entry.size < 2 ^ 32 →
             16 * units_named self.old.window.bytes cell - 16 < limit * content.now.entry.size →
-            MatchResult result
-            (λ done. Reserves F.allocator self.old.window.bytes self.new.window.bytes self.old.types
-            (place_at cell T) v blocks
-            (buffer_asks self.old.window.bytes cell content.now.entry.size limit)
-            (limit * content.now.entry.size))
-            (λ code. Refuses F.allocator self.old.window.bytes self.new.window.bytes
-            (buffer_asks self.old.window.bytes cell content.now.entry.size limit)) }
+            MakesRoom F.allocator self.old.window.bytes self.new.window.bytes self.old.types
+            (place_at cell T) v blocks content.now.entry.size limit result }
+        ensures enlarges_index { FindsIndex F.allocator self.old.window.bytes self.old.types content.now cell →
+            16 * units_named self.old.window.bytes cell - 16 < limit * content.now.entry.size →
+            MakesIndexRoom F.allocator self.old.window.bytes self.new.window.bytes self.old.types
+            limit result }
     {
         let entry = content.entry;
         let kept = self.count(cell);
@@ -179,6 +174,11 @@ impl<F: Fit, A: Allocator> Heap<F, A> {
             count_at before cell * content.now.entry.size + 16 ≤ 16 * u →
             MovesBuffer F.allocator before self.old.window.bytes self.new.window.bytes self.old.types
             (place_at cell T) v blocks u }
+        ensures moves_index { (u : ℕ) (before : List ℕ) →
+            FindsIndex F.allocator before self.old.types content.now cell →
+            Takes F.allocator before self.old.window.bytes u (Some block) → 2 ≤ u →
+            count_at before cell * content.now.entry.size + 16 ≤ 16 * u →
+            MovesIndex before self.old.window.bytes self.new.window.bytes self.old.types u }
     {
         let new = self.tagged(content, block);
         let Some(old) = self.window.target(cell as usize) else {

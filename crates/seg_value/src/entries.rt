@@ -5,11 +5,11 @@ ghost use Rattle.seg_spec.specs.Items.{without_entry};
 ghost use Rattle.seg_spec.specs.Owning.{Stands};
 ghost use Rattle.seg_spec.specs.Reads.{count_at};
 ghost use Rattle.seg_spec.specs.Roots.{ChangesPlace};
-ghost use Rattle.seg_spec.specs.Spending.{PlaceBlocks};
+ghost use Rattle.seg_spec.specs.Spending.{entry_asks, PlaceBlocks};
 ghost use Rattle.seg_spec.specs.Value.{Values, Map};
 ghost use Rattle.seg_spec.specs.Window.{KeepsHost};
 ghost use Rattle.seg_value.specs.Entries.{NamesFlatMap, OpensEntry, flat_asks, flat_value};
-ghost use Rattle.seg_value.specs.Names.{index_cell, IsIndexBuffer, FindsNames, ClosesName};
+ghost use Rattle.seg_value.specs.Names.{FindsIndex, OpensName, ClosesName};
 ghost use Rattle.seg_value.specs.Places.{object_at as place_at};
 
 use crate::content::Content;
@@ -37,6 +37,12 @@ impl<F: Fit, A: Allocator> Heap<F, A> {
             (place_at cell T) U keys vs blocks index)
             (λ code. Refuses F.allocator self.old.window.bytes self.new.window.bytes
             (flat_asks self.old.window.bytes self.old.types cell U)) }
+        ensures opens_name { FindsIndex F.allocator self.old.window.bytes self.old.types content.now cell →
+            index ≤ count_at self.old.window.bytes cell →
+            MatchResult result
+            (OpensName F.allocator self.old.window.bytes self.new.window.bytes self.old.types index)
+            (λ code. Refuses F.allocator self.old.window.bytes self.new.window.bytes
+            (entry_asks 0 self.old.window.bytes)) }
     {
         let entry = content.entry;
         let kept = self.count(cell);
@@ -65,8 +71,7 @@ impl<F: Fit, A: Allocator> Heap<F, A> {
             ChangesPlace self.old.window.bytes self.new.window.bytes self.old.types
             (place_at cell T) (without_entry (keys, vs) index) blocks (live self.old.window.bytes)
             blocks blocks }
-        ensures closes_name { IsIndexBuffer content.now → cell ≡ index_cell →
-            FindsNames F.allocator self.old.window.bytes self.old.types →
+        ensures closes_name { FindsIndex F.allocator self.old.window.bytes self.old.types content.now cell →
             index < count_at self.old.window.bytes cell →
             ClosesName self.old.window.bytes self.new.window.bytes self.old.types index }
     {

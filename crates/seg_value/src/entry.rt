@@ -1,4 +1,4 @@
-ghost use Rattle.std.specs.Prelude.{◌≡◌, ℕ, ◌+◌, ◌*◌, ◌%◌, ◌^◌, ◌<◌, ◌≤◌, Some, IfSome};
+ghost use Rattle.std.specs.Prelude.{◌≡◌, ℕ, ◌+◌, ◌-◌, ◌*◌, ◌%◌, ◌^◌, ◌<◌, ◌≤◌, Some, IfSome};
 ghost use Rattle.seg_spec.specs.Demand.{need};
 ghost use Rattle.seg_spec.specs.Types.{IsTable};
 
@@ -11,6 +11,9 @@ pub const KEY: u32 = 8;
 
 /// The bytes of a list's node before its value: the pointers to the next and to the previous node.
 pub const LIST_LINKS: u32 = 8;
+
+/// Where the pointer to the previous node stands in a list's node.
+pub const PREVIOUS: u32 = 4;
 
 /// The bytes of an entry of the flat index.
 const NAME_ENTRY: u32 = 8;
@@ -115,6 +118,7 @@ impl Entry {
     pub fn need(self, entries: u32) -> u32
         ensures some { 2 ≤ result }
         ensures exact { entries * self.size < 2 ^ 32 → result ≡ need (entries * self.size) }
+        ensures capped { 2 ^ 32 ≤ entries * self.size → result ≡ need (2 ^ 32 - 1) }
     {
         need(entries.saturating_mul(self.size))
     }

@@ -18,7 +18,7 @@ mod search;
 
 pub use cell::{count, load, start};
 pub use content::{Content, Shape};
-pub use entry::{Entry, Held, KEY, LIST_LINKS};
+pub use entry::{Entry, Held, KEY, LIST_LINKS, PREVIOUS};
 pub use heap::Heap;
 pub use place::Place;
 pub use search::binary_search;

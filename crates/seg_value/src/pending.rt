@@ -16,7 +16,7 @@ ghost use Rattle.seg_value.specs.Places.{place_of, object_at};
 ghost use Rattle.seg_value.specs.Waiting.{AddsWaiting, OpensPending, links_of};
 
 use crate::content::{Content, Shape};
-use crate::entry::{Entry, Held};
+use crate::entry::{Entry, Held, PREVIOUS};
 use crate::heap::Heap;
 use crate::place::Place;
 use seg_block::{Fit, LINK, Tag, UNIT, block_of, link, tag_word};
@@ -297,7 +297,7 @@ impl<F: Fit, A: Allocator> Heap<F, A> {
         ensures opened { (last : ℕ) → target self.old.window.bytes (first + 4) ≡ Some last →
             self.new.window.bytes ≡ set_pointer self.old.window.bytes last None }
     {
-        if let Some(last) = self.window.target(first as usize + 4) {
+        if let Some(last) = self.window.target(first as usize + PREVIOUS as usize) {
             self.window.point(last as usize, None);
         }
     }

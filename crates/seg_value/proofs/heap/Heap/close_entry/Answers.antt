@@ -18,10 +18,12 @@ returns-clause-closes g c = λ T U keys vs blocks names s below nothing.
     (rw c.count.ensures at c.saturating_sub-last.ensures) c.saturating_sub.ensures c.saturating_add.ensures c.at-at.ensures c.at-next.ensures (c.shift_entries.ensures.shifted U 8 names.1.entry_is) new_is nothing
 
 pub returns-clause-closes_name : goal.returns-clause-closes_name
-returns-clause-closes_name g c = λ is cell_is s below.
+returns-clause-closes_name g c = λ finds below.
+    let is = finds.0 in
+    let cell_is = finds.1 in
     let old = c.args.self.now.window.bytes in
     let moved = c.shift_entries.new.self.window in
     let new_is = bytes_of c.set_count.new.self.window (with_bytes moved (set_word moved.bytes (c.args.cell + 4) c.saturating_sub-last.result)) c.set_count.ensures.window in
-    name_closed_by g.F.Fit.allocator old c.args.self.now.types s c.args.index c.args.content.now.entry.size c.args.content.now.entry.before c.at-at.result c.at-next.result
+    name_closed_by g.F.Fit.allocator old c.args.self.now.types finds.2 c.args.index c.args.content.now.entry.size c.args.content.now.entry.before c.at-at.result c.at-next.result
     c.saturating_sub-last.result c.saturating_sub.result c.saturating_add.result c.start-start.result moved.bytes c.set_count.new.self.window.bytes (rw cell_is at below) is.size_is is.before_is (rw cell_is at c.start-start.ensures)
     (rw (c.count.ensures, cell_is) at c.saturating_sub-last.ensures) c.saturating_sub.ensures c.saturating_add.ensures c.at-at.ensures c.at-next.ensures (c.shift_entries.ensures.pointers is.held_is) (rw cell_is at new_is)
