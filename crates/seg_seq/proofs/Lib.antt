@@ -1,0 +1,2 @@
+pub mod Joins
+pub mod Inserting
