@@ -64,21 +64,28 @@ changes_joined old mid x y places a b c =
 
 -- ---- the count of a ring
 
+-- the places of nodes are kept where only the cell is written
+pub nodes_kept : (mid : List ℕ) (cell at d : ℕ) (others : List ℕ) → AreSpread mid (cell ∷ others) → cell ≤ at → at ≤ cell + 4 → AllByRecursion (λ p. IsSame mid (set_word mid at d) p 8) others
+nodes_kept mid cell at d others s low high = each_there (λ p. IsSame mid (set_word mid at d) p 8) others (λ h some.
+    let f = there (λ p. (p % 8 ≡ 0) × (p + 8 ≤ length mid)) h others s.fit.1 some in
+    let aligned = f.0 in
+    let even = s.fit.0.0 in
+    let ne = not_among cell h others (first_once cell others s.once) some in
+    (set_number-changes 4 mid at d).others h 8 (⊎_elim (λ l. inl (omega arith)) (λ l. inr (omega arith)) (cases_lt h cell)))
+
+pub ring_recounted : (mid : List ℕ) (cell k : ℕ) (others : List ℕ) → AreSpread mid (cell ∷ others) → IsRing mid (target mid cell) others → IsRing (set_word mid (cell + 4) k) (target (set_word mid (cell + 4) k) cell) others
+ring_recounted mid cell k others s r =
+    let even = s.fit.0.0 in
+    let same : target (set_word mid (cell + 4) k) cell ≡ target mid cell = target_other mid (cell + 4) k cell (omega arith) (omega arith) (λ f. omega arith) in
+    rw same (IsRing-same mid (set_word mid (cell + 4) k) (target mid cell) others (nodes_kept mid cell (cell + 4) k others s (omega arith) (omega arith)) r)
+
 pub ring_counted : (mid : List ℕ) (cell k : ℕ) (others : List ℕ) → AreSpread mid (cell ∷ others) → IsRing mid (target mid cell) others → k ≡ length others → HasRing (set_word mid (cell + 4) k) cell others
 ring_counted mid cell k others s r e =
-    let new = set_word mid (cell + 4) k in
     let small = s.small in
     let few = s.few in
-    let fit = s.fit.0 in
-    let even = fit.0 in
-    let end = fit.1 in
-    let same : target (set_word mid (cell + 4) k) cell ≡ target mid cell = target_other mid (cell + 4) k cell (omega arith) (omega arith) (λ f. omega arith) in
+    let end = s.fit.0.1 in
     record {
-      ring = rw same (IsRing-same mid (set_word mid (cell + 4) k) (target mid cell) others (each_there (λ p. IsSame mid (set_word mid (cell + 4) k) p 8) others (λ h some.
-          let f = there (λ p. (p % 8 ≡ 0) × (p + 8 ≤ length mid)) h others s.fit.1 some in
-          let aligned = f.0 in
-          let ne = not_among cell h others (first_once cell others s.once) some in
-          (set_number-changes 4 mid (cell + 4) k).others h 8 (⊎_elim (λ l. inl (omega arith)) (λ l. inr (omega arith)) (cases_lt h cell)))) r);
+      ring = ring_recounted mid cell k others s r;
       counted = sym (number-set_same 4 mid (cell + 4) k (omega arith) (omega arith) ∙ e);
     }
 
