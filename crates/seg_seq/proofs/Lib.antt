@@ -1,3 +1,6 @@
 pub mod Joins
 pub mod Inserting
 pub mod Removing
+pub mod Walking
+pub mod Spread
+pub mod Homes
