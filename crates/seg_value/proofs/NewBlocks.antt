@@ -6,10 +6,19 @@ use Rattle.seg_spec.specs.Value.{default_of}
 use Rattle.seg_spec.specs.Heap.{Span, IsHeap, live, with_block, granted, after_take, Takes}
 use Rattle.seg_spec.specs.Reads.{Holds}
 use Rattle.seg_spec.specs.Demand.{need, after_asks, block_for}
-use Rattle.seg_spec.proofs.NewBlock.{block_fits, was_free, new_heap, all_kept, is_block, new_length, new_front, new_back, new_link, taken_units}
+use Rattle.seg_spec.specs.Sound.{times, positions}
+use Rattle.seg_spec.proofs.LiveLaws.{times-same, times-with_block}
+use Rattle.seg_spec.proofs.NewBlock.{took, new_live, block_fits, was_free, new_heap, all_kept, is_block, new_length, new_front, new_back, new_link, taken_units}
 use Rattle.seg_spec.specs.Cells.{IsWithin}
 use Rattle.seg_spec.proofs.BytesLaws.{length-set_number}
 use Rattle.seg_value.specs.Contents.{GivesBlock}
+
+module _ (allocator u h tag : ℕ) (old taken new : List ℕ) (heap : IsHeap allocator old) (t : Takes allocator old taken u (Some h)) (at n : ℕ) (low : h + 16 ≤ at) (high : at + n ≤ h + 16 * u)
+    (changes : ChangesOnly (set_word taken (h + 8) tag) new at n) where
+  now_live : times h (positions (live new)) ≡ 1
+  now_live = let got = took allocator old taken u h t in
+      ap (λ bs. times h (positions bs)) (new_live allocator u h tag old taken new heap t at n low high changes ∙ got.live_are) ∙ times-with_block h (record { at = h; units = got.units }) (live old)
+      ∙ times-same h (positions (live old)) ∙ ap (λ x. 1 + x) (was_free allocator u h tag old taken new heap t)
 
 need_room : (n : ℕ) → n + 16 ≤ 16 * need n
 need_room n = omega arith
@@ -40,6 +49,7 @@ gives_block allocator h tag before U old taken new table heap t fits small chang
       value = filled;
       granted_is = asks_granted allocator old new (before + size table U) h (taken_units allocator (need (before + size table U)) h tag old taken new heap t (h + 16 + before) (size table U) low high changes);
       was_free = rw own (was_free allocator (need (before + size table U)) h tag old taken new heap t);
+      now_live = rw own (now_live allocator (need (before + size table U)) h tag old taken new heap t (h + 16 + before) (size table U) low high changes);
       kept = λ k some. let r = all_kept allocator (need (before + size table U)) h tag old taken new heap t (h + 16 + before) (size table U) low high changes k some in (r.whole.kept, r.link_kept);
     }
 

@@ -98,5 +98,6 @@ pub record GivesBlock (allocator : ℕ) (old new : List ℕ) (table : Table) (ta
       after_asks allocator (live old) (length old) (block_for (before + size table U) ∷ [])
       ≡ Some (live new)
   pub was_free : times (block.block_of payload) (positions (live old)) ≡ 0
+  pub now_live : times (block.block_of payload) (positions (live new)) ≡ 1
   pub kept : (h : ℕ) → 1 ≤ times h (positions (live old)) →
       block.KeepsBlock old new h × (link_at new h ≡ link_at old h)
