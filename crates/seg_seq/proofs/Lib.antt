@@ -4,3 +4,6 @@ pub mod Removing
 pub mod Walking
 pub mod Spread
 pub mod Homes
+pub mod Listed
+pub mod Taken
+pub mod Adding

@@ -1,5 +1,14 @@
-ghost use Rattle.std.specs.Prelude.{◌≡◌};
+ghost use Rattle.std.specs.Prelude.{◌≡◌, ℕ, ◌+◌, ◌-◌, ◌%◌, ◌^◌, List, [], ◌∷◌, Some, MatchResult, IsOkUnless};
+ghost use Rattle.seg_spec.specs.Calls.{Refuses};
+ghost use Rattle.seg_spec.specs.Demand.{block_for};
+ghost use Rattle.seg_spec.specs.Owning.{Stands};
+ghost use Rattle.seg_spec.specs.Reads.{Leads};
+ghost use Rattle.seg_spec.specs.Types.{size};
+ghost use Rattle.seg_spec.specs.Value.{Values, Seq, Selector, nil, cons, count, append, default_of};
+ghost use Rattle.seg_spec.specs.Items.{remove_nth};
 ghost use Rattle.seg_spec.specs.Window.{KeepsHost};
+ghost use Rattle.seg_value.specs.Places.{object_at};
+ghost use Rattle.seg_seq.specs.Lists.{IsList, AddsItem, RemovesItem};
 
 use crate::ring::{Way, insert, neighbour, remove};
 use seg_block::Fit;
@@ -8,12 +17,16 @@ use seg_value::{Content, Heap, LIST_LINKS, Place, Shape};
 use std::alloc::Allocator;
 
 /// The node that holds an item.
-fn node_of(item: u32) -> u32 {
+fn node_of(item: u32) -> u32
+    ensures { result ≡ (item + (2 ^ 32 - 8)) % 2 ^ 32 }
+{
     item.wrapping_sub(LIST_LINKS)
 }
 
 /// The item that a node holds.
-pub(crate) fn item_of(node: u32) -> u32 {
+pub(crate) fn item_of(node: u32) -> u32
+    ensures { result ≡ (node + 8) % 2 ^ 32 }
+{
     node.wrapping_add(LIST_LINKS)
 }
 
@@ -57,6 +70,16 @@ pub(crate) fn push_node<F: Fit, A: Allocator>(
 ) -> Result<u32, Code>
     ensures window { KeepsHost heap.old.window heap.new.window }
     ensures types { heap.new.types ≡ heap.old.types }
+    ensures code { IsOkUnless result Code.BadAlloc }
+    ensures pushed { (T U : ℕ) (vs : Values) (blocks : List ℕ) →
+        IsList heap.old.types T U content.now →
+        Stands F.allocator heap.old.window.bytes heap.old.types (object_at cell T) (Seq vs) blocks →
+        MatchResult result
+        (λ at. AddsItem F.allocator heap.old.window.bytes heap.new.window.bytes heap.old.types
+        (object_at cell T) U (append vs (cons (default_of heap.old.types U) nil)) blocks
+        (count vs) at (λ i. Some i))
+        (λ code. Refuses F.allocator heap.old.window.bytes heap.new.window.bytes
+        (block_for (8 + size heap.old.types U) ∷ [])) }
 {
     let node = heap.new_block(content)?;
     insert(heap, cell, node);

@@ -3,6 +3,8 @@ use Rattle.seg_spec.specs.Window.{Placement}
 use Rattle.seg_seq.specs.Rings.{around}
 use Rattle.seg_seq.proofs.Walking.{walked, around_none}
 use Rattle.seg_seq.proofs.Homes.{are_spread}
+use Rattle.seg_seq.proofs.Listed.{ListOf}
+use Rattle.seg_seq.proofs.Adding.{item_added}
 use Rattle.seg_seq.specs.Lists.{IsList}
 use Rattle.seg_seq.proofs.ring.walk.Goals as goal
 
