@@ -7,3 +7,5 @@ pub mod Homes
 pub mod Listed
 pub mod Taken
 pub mod Adding
+pub mod Dropping
+pub mod Removed

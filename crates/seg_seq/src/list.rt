@@ -106,6 +106,13 @@ pub(crate) fn remove_node<F: Fit, A: Allocator>(
 )
     ensures window { KeepsHost heap.old.window heap.new.window }
     ensures types { heap.new.types ≡ heap.old.types }
+    ensures removed { (T U j : ℕ) (vs : Values) (blocks : List ℕ) →
+        IsList heap.old.types T U content.now →
+        Stands F.allocator heap.old.window.bytes heap.old.types (object_at cell T) (Seq vs) blocks →
+        Leads heap.old.window.bytes heap.old.types (object_at cell T) (Selector.item j ∷ [])
+        (object_at (node + 8) U) →
+        RemovesItem F.allocator heap.old.window.bytes heap.new.window.bytes heap.old.types
+        (object_at cell T) (remove_nth vs j) blocks j }
 {
     remove(heap, cell, node);
     if let Some(item) = content.entry.value(node, 0) {

@@ -2,10 +2,6 @@ use Rattle.std.proofs.Common.{◌≡◌, ℕ, ◌+◌, ◌≤◌, length, get_or
 use Rattle.seg_spec.specs.Window.{Placement}
 use Rattle.seg_seq.specs.Rings.{around}
 use Rattle.seg_seq.proofs.Walking.{walked, around_none}
-use Rattle.seg_seq.proofs.Homes.{are_spread}
-use Rattle.seg_seq.proofs.Listed.{ListOf}
-use Rattle.seg_seq.proofs.Adding.{item_added}
-use Rattle.seg_seq.specs.Lists.{IsList}
 use Rattle.seg_seq.proofs.ring.walk.Goals as goal
 
 pub loop-init : goal.loop-init
