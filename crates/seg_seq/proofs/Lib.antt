@@ -9,3 +9,4 @@ pub mod Taken
 pub mod Adding
 pub mod Dropping
 pub mod Removed
+pub mod Fronts

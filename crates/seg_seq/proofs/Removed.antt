@@ -21,20 +21,20 @@ use Rattle.seg_seq.proofs.Dropping.{SplitAt, split_at, remove_nth-append, droppe
 
 -- ---- lists of nodes
 
-record NodeSplit (nodes : List ℕ) (j node : ℕ) : Type 0 where
-  before : List ℕ
-  after : List ℕ
-  nodes_are : nodes ≡ before ++ node ∷ after
-  at_is : length before ≡ j
+pub record NodeSplit (nodes : List ℕ) (j node : ℕ) : Type 0 where
+  pub before : List ℕ
+  pub after : List ℕ
+  pub nodes_are : nodes ≡ before ++ node ∷ after
+  pub at_is : length before ≡ j
 
-node_split : (nodes : List ℕ) (j node : ℕ) → slice_get nodes j ≡ Some node → NodeSplit nodes j node
+pub node_split : (nodes : List ℕ) (j node : ℕ) → slice_get nodes j ≡ Some node → NodeSplit nodes j node
 node_split [] j node e = cc
 node_split (x ∷ xs) zero node e = record { before = []; after = xs; nodes_are = let same : x ≡ node = cc in ap (λ q. q ∷ xs) same; at_is = refl }
 node_split (x ∷ xs) (suc j) node e =
     let r = node_split xs j node e in
     record { before = x ∷ r.before; after = r.after; nodes_are = ap (λ zs. x ∷ zs) r.nodes_are; at_is = ap suc r.at_is }
 
-index_back : (xs zs : List ℕ) (i p : ℕ) → i < length xs → slice_get (xs ++ zs) i ≡ Some p → slice_get xs i ≡ Some p
+pub index_back : (xs zs : List ℕ) (i p : ℕ) → i < length xs → slice_get (xs ++ zs) i ≡ Some p → slice_get xs i ≡ Some p
 index_back [] zs i p h e = absurd (omega arith)
 index_back (x ∷ xs) zs zero p h e = e
 index_back (x ∷ xs) zs (suc i) p h e = index_back xs zs i p (omega arith) e
@@ -44,7 +44,7 @@ mapped_at [] i p e = cc
 mapped_at (x ∷ xs) zero p e = let same : x ≡ p = cc in ap (λ q. Some (block_of q)) same
 mapped_at (x ∷ xs) (suc i) p e = mapped_at xs i p e
 
-leads_nowhere : (bytes : List ℕ) (table : Table) (place inner : Place) → Leads bytes table place [] inner → place ≡ inner
+pub leads_nowhere : (bytes : List ℕ) (table : Table) (place inner : Place) → Leads bytes table place [] inner → place ≡ inner
 leads_nowhere bytes table place inner here = refl
 
 -- ---- the index that an item has then

@@ -1,10 +1,11 @@
 -- What calls on lists find and leave.
 --     IsList table T U content         the type is a list of values of this type, with these nodes
+--     IsNoList table T                 the type is no list
 --     MovesItems old new table list to      each path from an item leads where it led, from the index that the item has now
 --     without_index j i                the index that item i has without item j
 --     AddsItem ..                      a list with one item more: a default, in a node of its own
 --     RemovesItem ..                   a list without one of its items
-use Rattle.std.specs.Prelude.{◌≡◌, ℕ, ◌+◌, ◌-◌, ◌==◌, nat_lt, if◌then◌else◌, List, [], ◌∷◌, Option, Some, None}
+use Rattle.std.specs.Prelude.{◌≡◌, ◌≢◌, ℕ, ◌+◌, ◌-◌, ◌==◌, nat_lt, if◌then◌else◌, List, [], ◌∷◌, Option, Some, None}
 use Rattle.std.specs.Option.{IfSome}
 use Rattle.seg_spec.specs.Types.{Form, Table, form_at, size}
 use Rattle.seg_spec.specs.Value.{Values, Seq, Selector}
@@ -21,6 +22,10 @@ use Rattle.seg_value.specs.declared.content.Shape.TheVariants as shape
 pub record IsList (table : Table) (T U : ℕ) (content : Content) : Type 0 where
   pub form_is : form_at table T ≡ Some (Form.list U)
   pub content_is : IsContent table shape.Ring (tag_of Kind.node T) 8 U content
+
+-- the type is no list
+abbrev pub IsNoList : Table → ℕ → Type 0
+IsNoList table T = (U : ℕ) → form_at table T ≢ Some (Form.list U)
 
 -- each path from an item leads where it led, but from the index that the item has now, if it is there
 abbrev pub MovesItems : List ℕ → List ℕ → Table → Place → (ℕ → Option ℕ) → Type 0

@@ -1,14 +1,17 @@
-ghost use Rattle.std.specs.Prelude.{◌≡◌, ℕ, ◌+◌, ◌-◌, ◌%◌, ◌^◌, List, [], ◌∷◌, Some, MatchResult, IsOkUnless};
+ghost use Rattle.std.specs.Prelude.{◌≡◌, ℕ, ◌+◌, ◌-◌, ◌%◌, ◌^◌, suc, List, [], ◌∷◌, Some, Err, IsOk, MatchResult, IsOkUnless};
 ghost use Rattle.seg_spec.specs.Calls.{Refuses};
 ghost use Rattle.seg_spec.specs.Demand.{block_for};
 ghost use Rattle.seg_spec.specs.Owning.{Stands};
+ghost use Rattle.seg_spec.specs.Reads as reads;
 ghost use Rattle.seg_spec.specs.Reads.{Leads};
-ghost use Rattle.seg_spec.specs.Types.{size};
-ghost use Rattle.seg_spec.specs.Value.{Values, Seq, Selector, nil, cons, count, append, default_of};
+ghost use Rattle.seg_spec.specs.Types.{Form, form_at, size};
+ghost use Rattle.seg_spec.specs.Value.{Value, Values, Seq, Selector, nil, cons, count, append, default_of};
 ghost use Rattle.seg_spec.specs.Items.{remove_nth};
 ghost use Rattle.seg_spec.specs.Window.{KeepsHost};
-ghost use Rattle.seg_value.specs.Places.{object_at};
-ghost use Rattle.seg_seq.specs.Lists.{IsList, AddsItem, RemovesItem};
+ghost use Rattle.seg_value.specs.Places.{place_of, object_at};
+ghost use Rattle.seg_seq.specs.Rings.{around};
+ghost use Rattle.seg_seq.specs.declared.ring.Way.TheVariants as way;
+ghost use Rattle.seg_seq.specs.Lists.{IsList, IsNoList, AddsItem, RemovesItem};
 
 use crate::ring::{Way, insert, neighbour, remove};
 use seg_block::Fit;
@@ -31,17 +34,35 @@ pub(crate) fn item_of(node: u32) -> u32
 }
 
 /// The item after an item of a list: the first one after the last.
-pub fn next<F: Fit, A: Allocator>(heap: &Heap<F, A>, item: u32) -> u32 {
+pub fn next<F: Fit, A: Allocator>(heap: &Heap<F, A>, item: u32) -> u32
+    ensures { (allocator U i : ℕ) (list : reads.Place) (vs : Values) (blocks : List ℕ) →
+        form_at heap.now.types list.type ≡ Some (Form.list U) →
+        Stands allocator heap.now.window.bytes heap.now.types list (Seq vs) blocks →
+        Leads heap.now.window.bytes heap.now.types list (Selector.item i ∷ []) (object_at item U) →
+        Leads heap.now.window.bytes heap.now.types list
+        (Selector.item (around way.Forward (count vs) i 1) ∷ []) (object_at result U) }
+{
     item_of(neighbour(heap, node_of(item), Way::Forward))
 }
 
 /// The item before an item of a list: the last one before the first.
-pub fn prev<F: Fit, A: Allocator>(heap: &Heap<F, A>, item: u32) -> u32 {
+pub fn prev<F: Fit, A: Allocator>(heap: &Heap<F, A>, item: u32) -> u32
+    ensures { (allocator U i : ℕ) (list : reads.Place) (vs : Values) (blocks : List ℕ) →
+        form_at heap.now.types list.type ≡ Some (Form.list U) →
+        Stands allocator heap.now.window.bytes heap.now.types list (Seq vs) blocks →
+        Leads heap.now.window.bytes heap.now.types list (Selector.item i ∷ []) (object_at item U) →
+        Leads heap.now.window.bytes heap.now.types list
+        (Selector.item (around way.Backward (count vs) i 1) ∷ []) (object_at result U) }
+{
     item_of(neighbour(heap, node_of(item), Way::Backward))
 }
 
 /// What the cell of a list names. `OtherType` where the place is no list.
-fn list_content<F: Fit, A: Allocator>(heap: &Heap<F, A>, list: Place) -> Result<Content, Code> {
+fn list_content<F: Fit, A: Allocator>(heap: &Heap<F, A>, list: Place) -> Result<Content, Code>
+    ensures { MatchResult result
+        (λ content. (U : ℕ) × IsList heap.now.types list.type_id U content)
+        (λ code. (code ≡ Code.OtherType) × IsNoList heap.now.types list.type_id) }
+{
     let content = heap.content(list.type_id).ok_or(Code::OtherType)?;
     match content.shape {
         Shape::Ring => Ok(content),
@@ -54,6 +75,17 @@ fn list_content<F: Fit, A: Allocator>(heap: &Heap<F, A>, list: Place) -> Result<
 pub fn push_front<F: Fit, A: Allocator>(heap: &mut Heap<F, A>, list: Place) -> Result<u32, Code>
     ensures window { KeepsHost heap.old.window heap.new.window }
     ensures types { heap.new.types ≡ heap.old.types }
+    ensures other { IsNoList heap.old.types list.type_id →
+        (result ≡ Err Code.OtherType) × (heap.new.window ≡ heap.old.window) }
+    ensures pushed { (U : ℕ) (vs : Values) (blocks : List ℕ) →
+        form_at heap.old.types list.type_id ≡ Some (Form.list U) →
+        Stands F.allocator heap.old.window.bytes heap.old.types (place_of list) (Seq vs) blocks →
+        MatchResult result
+        (λ at. AddsItem F.allocator heap.old.window.bytes heap.new.window.bytes heap.old.types
+        (place_of list) U (cons (default_of heap.old.types U) vs) blocks 0 at (λ i. Some (suc i)))
+        (λ code. (code ≡ Code.BadAlloc) ×
+        Refuses F.allocator heap.old.window.bytes heap.new.window.bytes
+        (block_for (8 + size heap.old.types U) ∷ [])) }
 {
     let content = list_content(heap, list)?;
     let item = push_node(heap, &content, list.at)?;
@@ -90,6 +122,19 @@ pub(crate) fn push_node<F: Fit, A: Allocator>(
 pub fn pop_front<F: Fit, A: Allocator>(heap: &mut Heap<F, A>, list: Place) -> Result<(), Code>
     ensures window { KeepsHost heap.old.window heap.new.window }
     ensures types { heap.new.types ≡ heap.old.types }
+    ensures other { IsNoList heap.old.types list.type_id →
+        (result ≡ Err Code.OtherType) × (heap.new.window ≡ heap.old.window) }
+    ensures empty { (allocator U : ℕ) (blocks : List ℕ) →
+        form_at heap.old.types list.type_id ≡ Some (Form.list U) →
+        Stands allocator heap.old.window.bytes heap.old.types (place_of list) (Seq nil) blocks →
+        (result ≡ Err Code.Null) × (heap.new.window ≡ heap.old.window) }
+    ensures popped { (U : ℕ) (v : Value) (vs : Values) (blocks : List ℕ) →
+        form_at heap.old.types list.type_id ≡ Some (Form.list U) →
+        Stands F.allocator heap.old.window.bytes heap.old.types (place_of list) (Seq (cons v vs))
+        blocks →
+        IsOk result ×
+        RemovesItem F.allocator heap.old.window.bytes heap.new.window.bytes heap.old.types
+        (place_of list) vs blocks 0 }
 {
     let content = list_content(heap, list)?;
     let first = heap.window().target(list.at as usize).ok_or(Code::Null)?;
