@@ -77,14 +77,15 @@ pub fn push_front<F: Fit, A: Allocator>(heap: &mut Heap<F, A>, list: Place) -> R
     ensures types { heap.new.types ≡ heap.old.types }
     ensures other { IsNoList heap.old.types list.type_id →
         (result ≡ Err Code.OtherType) × (heap.new.window ≡ heap.old.window) }
+    ensures code { (U : ℕ) → form_at heap.old.types list.type_id ≡ Some (Form.list U) →
+        IsOkUnless result Code.BadAlloc }
     ensures pushed { (U : ℕ) (vs : Values) (blocks : List ℕ) →
         form_at heap.old.types list.type_id ≡ Some (Form.list U) →
         Stands F.allocator heap.old.window.bytes heap.old.types (place_of list) (Seq vs) blocks →
         MatchResult result
         (λ at. AddsItem F.allocator heap.old.window.bytes heap.new.window.bytes heap.old.types
         (place_of list) U (cons (default_of heap.old.types U) vs) blocks 0 at (λ i. Some (suc i)))
-        (λ code. (code ≡ Code.BadAlloc) ×
-        Refuses F.allocator heap.old.window.bytes heap.new.window.bytes
+        (λ code. Refuses F.allocator heap.old.window.bytes heap.new.window.bytes
         (block_for (8 + size heap.old.types U) ∷ [])) }
 {
     let content = list_content(heap, list)?;
