@@ -1,31 +1,28 @@
 -- A list with one node more.
 use Rattle.std.proofs.Common.{◌≡◌, ◌≢◌, ℕ, ◌+◌, ◌*◌, ◌%◌, ◌^◌, ◌<◌, ◌≤◌, ◌⊎◌, inl, inr, ⊎_elim, List, [], ◌∷◌, ◌++◌, length, map, Option, Some, refl, sym, ap, ◌∙◌, subst, arith, append-nil}
-use Rattle.std.specs.Prelude.{slice_get}
 use Rattle.std.specs.List.{AllByRecursion}
 use Rattle.std.proofs.lemmas.Bool.{cases_eq}
-use Rattle.seg_spec.specs.Bytes.{word, IsSame}
+use Rattle.seg_spec.specs.Bytes.{IsSame}
 use Rattle.seg_spec.specs.Types.{Form, Table, form_at, size}
-use Rattle.seg_spec.specs.Value.{Value, Values, nil, cons, count, append, default_of, Seq, Selector}
+use Rattle.seg_spec.specs.Value.{Values, nil, cons, count, append, default_of, Seq}
 use Rattle.seg_spec.specs.Heap.{live, IsHeap, units_at}
 use Rattle.seg_spec.specs.Block.{Kind, tag_of, block_of, IsBlock, IsInside, KeepsBlock}
-use Rattle.seg_spec.specs.Reads.{Place, AreNodes, Holds, HoldsEach, holds_none, Leads, here}
+use Rattle.seg_spec.specs.Reads.{Place, HoldsEach, holds_none, here}
 use Rattle.seg_spec.specs.Apart.{KeepsBlockAround}
 use Rattle.seg_spec.specs.Sound.{times, positions}
 use Rattle.seg_spec.specs.Roots.{ChangesPlace}
 use Rattle.seg_spec.specs.Owning.{Stands}
-use Rattle.seg_spec.specs.Growing.{Succeeds}
-use Rattle.seg_spec.specs.Demand.{block_for}
 use Rattle.seg_spec.proofs.Frame.{SamePlace, each_map, each_weaker, Holds-kept, HoldsEach-kept}
-use Rattle.seg_spec.proofs.Composing.{kept_twice, around_twice, around_kept}
-use Rattle.seg_spec.proofs.LiveLaws.{times-same, times-other, times-more, times-append, there, each_there, LiesIn, live-lie, live-once}
+use Rattle.seg_spec.proofs.Composing.{around_twice, around_kept}
+use Rattle.seg_spec.proofs.LiveLaws.{times-same, times-more, times-append, there, each_there, LiesIn, live-lie, live-once}
 use Rattle.seg_spec.proofs.TypesLaws.{size-form}
 use Rattle.seg_spec.proofs.Leading.{Leads-kept, Leads-each}
 use Rattle.seg_spec.proofs.Paths.{each_joined, count_is}
 use Rattle.seg_value.specs.Contents.{GivesBlock}
-use Rattle.seg_seq.specs.Rings.{AreSpread, ChangesAt, HasRing, Relinks}
+use Rattle.seg_seq.specs.Rings.{AreSpread, HasRing, Relinks}
 use Rattle.seg_seq.specs.Lists.{MovesItems, AddsItem}
 use Rattle.seg_seq.proofs.Spread.{heap_same, live_same, ownable_same, low_same, block_there}
-use Rattle.seg_seq.proofs.Homes.{times_mapped, are_spread, are_home, node_live, other_kept, home_kept, value_kept}
+use Rattle.seg_seq.proofs.Homes.{are_spread, are_home, node_live, other_kept, home_kept, value_kept}
 use Rattle.seg_seq.proofs.Listed.{values_in, value_in, values_append, mapped_append, value_at_index, ListOf, list_of, holds_list, leads_on, item_leads, index_front, index_middle}
 use Rattle.seg_seq.proofs.Taken.{taken_counts, taken_spent, taken_stands, taken_home}
 

@@ -1,15 +1,15 @@
 -- A list without one of its nodes.
-use Rattle.std.proofs.Common.{◌≡◌, ◌≢◌, ℕ, zero, suc, ◌+◌, ◌-◌, ◌*◌, ◌%◌, ◌^◌, ◌<◌, ◌≤◌, ◌⊎◌, inl, inr, ⊎_elim, List, [], ◌∷◌, ◌++◌, length, map, Option, Some, None, refl, sym, ap, ◌∙◌, subst, arith, append-nil, append_assoc}
+use Rattle.std.proofs.Common.{◌≡◌, ◌≢◌, ℕ, suc, ◌+◌, ◌%◌, ◌≤◌, ◌⊎◌, inl, inr, List, [], ◌∷◌, ◌++◌, length, map, Some, refl, sym, ap, ◌∙◌, subst, arith, append_assoc}
 use Rattle.std.specs.Prelude.{slice_get}
 use Rattle.std.specs.List.{AllByRecursion}
-use Rattle.std.proofs.lemmas.Bool.{cases_eq, cases_lt}
+use Rattle.std.proofs.lemmas.Bool.{cases_eq}
 use Rattle.seg_spec.specs.Bytes.{word, IsSame}
 use Rattle.seg_spec.specs.Types.{Form, Table, form_at, size}
 use Rattle.seg_spec.specs.Value.{Value, Values, nil, cons, count, append, default_of, Seq, Selector}
 use Rattle.seg_spec.specs.Items.{remove_nth}
 use Rattle.seg_spec.specs.Heap.{live, IsHeap, IsLive, Gives, heap_start, units_at}
 use Rattle.seg_spec.specs.Block.{Kind, tag_of, block_of, IsBlock, IsInside, IsOwnable, KeepsBlock, payload_size}
-use Rattle.seg_spec.specs.Reads.{Place, AreNodes, Holds, HoldsEach, holds_none, holds_more, Leads, here}
+use Rattle.seg_spec.specs.Reads.{Place, AreNodes, Holds, HoldsEach, holds_none, holds_more, Leads}
 use Rattle.seg_spec.specs.Apart.{Separate, KeepsBlockAround}
 use Rattle.seg_spec.specs.Sound.{times, positions}
 use Rattle.seg_spec.specs.Roots.{ChangesPlace}
@@ -19,7 +19,7 @@ use Rattle.seg_spec.specs.Pointer.{target}
 use Rattle.seg_spec.proofs.Frame.{SamePlace, each_map, each_weaker, Holds-kept, HoldsEach-kept, IsBlock-kept, IsRing-same, cell-target, cell-count, payload-same, word-same}
 use Rattle.seg_spec.proofs.SliceLaws.{IsSame-part}
 use Rattle.seg_spec.proofs.Composing.{kept_twice, around_twice, around_kept}
-use Rattle.seg_spec.proofs.LiveLaws.{times-same, times-other, times-more, times-append, times-without, there, each_there, LiesIn, live-lie, live-apart, live-once, OneOrApart}
+use Rattle.seg_spec.proofs.LiveLaws.{times-same, times-more, times-append, times-without, there, each_there, LiesIn, live-lie, live-apart, live-once, OneOrApart}
 use Rattle.seg_spec.proofs.TypesLaws.{size-form}
 use Rattle.seg_spec.proofs.Leading.{Leads-each}
 use Rattle.seg_spec.proofs.Giving.{given_kept}
@@ -28,7 +28,7 @@ use Rattle.seg_spec.proofs.Destruction.{gives_more}
 use Rattle.seg_spec.proofs.GiveOrder.{in_any_order}
 use Rattle.seg_spec.proofs.Standing.{ownable_linked, each_live_at, live_at}
 use Rattle.seg_value.proofs.Turns.{is_live}
-use Rattle.seg_seq.specs.Rings.{AreSpread, ChangesAt, HasRing, Relinks}
+use Rattle.seg_seq.specs.Rings.{AreSpread, Relinks}
 use Rattle.seg_seq.proofs.Spread.{HasHome, heap_same, live_same, ownable_same, low_same, block_there}
 use Rattle.seg_seq.proofs.Homes.{times_mapped, are_spread, are_home, node_live, other_kept, home_kept, value_kept}
 use Rattle.seg_seq.proofs.Listed.{values_in, value_in, values_append, mapped_append, value_at_index, ListOf, holds_list}
@@ -303,9 +303,9 @@ module _ (allocator : ℕ) (old : List ℕ) (table : Table) (list : Place) (U no
             let n = owned_count h in
             let m = all_count h in
             whole_new h (omega arith) (λ e.
-                let t = times-same b (map block_of rest) in
-                let z : times h (b ∷ map block_of rest) ≡ 1 + times h (map block_of rest) = subst (λ k. times k (b ∷ map block_of rest) ≡ 1 + times k (map block_of rest)) (sym e) t in
-                absurd (omega arith)) (let q = times-more h b (map block_of rest) in omega arith)
+            let t = times-same b (map block_of rest) in
+            let z : times h (b ∷ map block_of rest) ≡ 1 + times h (map block_of rest) = subst (λ k. times k (b ∷ map block_of rest) ≡ 1 + times k (map block_of rest)) (sym e) t in
+            absurd (omega arith)) (let q = times-more h b (map block_of rest) in omega arith)
 
         home_now : KeepsBlock one new s.home
         home_now = kept_now s.home (let t = times-same s.home others in omega arith)

@@ -1,32 +1,31 @@
 -- The first item of a list, and the items around one.
-use Rattle.std.proofs.Common.{◌≡◌, ◌≢◌, ℕ, zero, suc, ◌+◌, ◌-◌, ◌%◌, ◌^◌, ◌<◌, ◌≤◌, ◌⊎◌, inl, inr, List, [], ◌∷◌, ◌++◌, length, map, get_or, Option, Some, None, refl, sym, ap, ◌∙◌, subst, arith, append-nil, length-append}
+use Rattle.std.proofs.Common.{◌≡◌, ℕ, zero, suc, ◌+◌, ◌-◌, ◌%◌, ◌^◌, ◌<◌, ◌≤◌, inr, List, [], ◌∷◌, ◌++◌, length, map, get_or, Option, Some, None, refl, sym, ap, ◌∙◌, subst, arith, length-append}
 use Rattle.std.specs.Prelude.{slice_get}
 use Rattle.std.specs.List.{AllByRecursion}
 use Rattle.seg_spec.specs.Bytes.{ChangesOnly, IsSame}
 use Rattle.seg_spec.specs.Pointer.{target, distance, set_pointer}
 use Rattle.seg_spec.specs.Types.{Form, Table, form_at, size}
-use Rattle.seg_spec.specs.Value.{Value, Values, nil, cons, count, append, default_of, Seq, Selector}
+use Rattle.seg_spec.specs.Value.{Value, Values, nil, cons, count, append, Seq, Selector}
 use Rattle.seg_spec.specs.Heap.{live, IsHeap}
 use Rattle.seg_spec.specs.Block.{Kind, tag_of, block_of, IsBlock, IsInside, KeepsBlock}
 use Rattle.seg_spec.specs.Reads.{Place, AreNodes, HoldsEach, holds_more, holds_none, Leads, here, start, count_at}
-use Rattle.seg_spec.specs.Shapes.{IsRing, IsLinked}
+use Rattle.seg_spec.specs.Shapes.{IsRing}
 use Rattle.seg_spec.specs.Sound.{times, positions}
 use Rattle.seg_spec.specs.Roots.{ChangesPlace}
 use Rattle.seg_spec.specs.Owning.{Stands}
-use Rattle.seg_spec.specs.Growing.{Succeeds}
 use Rattle.seg_spec.proofs.BytesLaws.{number-set_other}
 use Rattle.seg_spec.proofs.Frame.{SamePlace, each_weaker, each_left, each_right, IsBlock-kept, IsRing-same, Holds-kept, HoldsEach-kept, nodes-same, inner-same, shorter}
 use Rattle.seg_spec.proofs.Composing.{around_twice}
-use Rattle.seg_spec.proofs.LiveLaws.{times-same, times-more, times-append, there}
+use Rattle.seg_spec.proofs.LiveLaws.{times-same, times-append, there}
 use Rattle.seg_spec.proofs.TypesLaws.{size-form}
 use Rattle.seg_spec.proofs.CellSteps.{ChangesOnly-wider}
 use Rattle.seg_spec.proofs.Writing.{set_number-changes}
-use Rattle.seg_spec.proofs.PlaceSteps.{place_within, blocks_then, live_then, changes_place}
+use Rattle.seg_spec.proofs.PlaceSteps.{place_within, blocks_then, changes_place}
 use Rattle.seg_spec.proofs.Standing.{stands_after}
 use Rattle.seg_spec.proofs.Leading.{Leads-each}
 use Rattle.seg_spec.proofs.Paths.{count_is}
-use Rattle.seg_seq.specs.Rings.{AreSpread, HasRing, link_of, around}
-use Rattle.seg_seq.specs.Lists.{MovesItems, AddsItem}
+use Rattle.seg_seq.specs.Rings.{AreSpread, link_of, around}
+use Rattle.seg_seq.specs.Lists.{AddsItem}
 use Rattle.seg_seq.specs.declared.ring.Way.{Way}
 use Rattle.seg_seq.proofs.Joins.{names, linked_split}
 use Rattle.seg_seq.proofs.Removing.{ring_first}
@@ -34,7 +33,7 @@ use Rattle.seg_seq.proofs.Walking.{neighbour_named, around_less}
 use Rattle.seg_seq.proofs.Homes.{are_spread}
 use Rattle.seg_seq.proofs.Listed.{values_in, value_in, value_at_index, ListOf, list_of, holds_list, leads_on, item_leads}
 use Rattle.seg_seq.proofs.Dropping.{SplitAt, split_at}
-use Rattle.seg_seq.proofs.Removed.{NodeSplit, node_split, index_back, leads_nowhere}
+use Rattle.seg_seq.proofs.Removed.{node_split, index_back, leads_nowhere}
 
 -- ---- a list that stands
 

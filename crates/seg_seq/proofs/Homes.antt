@@ -1,9 +1,9 @@
 -- The cell of a list and its nodes lie in live blocks, apart from each other.
-use Rattle.std.proofs.Common.{◌≡◌, ◌≢◌, ℕ, suc, ◌+◌, ◌-◌, ◌*◌, ◌%◌, ◌^◌, ◌<◌, ◌≤◌, ◌⊎◌, inl, inr, ⊎_elim, true, false, cond, List, [], ◌∷◌, ◌++◌, length, map, refl, sym, ap, ◌∙◌, subst, arith}
+use Rattle.std.proofs.Common.{◌≡◌, ◌≢◌, ℕ, suc, ◌+◌, ◌*◌, ◌%◌, ◌≤◌, ◌⊎◌, inl, inr, ⊎_elim, true, false, cond, List, [], ◌∷◌, length, map, refl, sym, ap, subst, arith}
 use Rattle.std.specs.List.{AllByRecursion}
 use Rattle.std.proofs.lemmas.Bool.{cases_eq, cases_lt}
 use Rattle.seg_spec.specs.Bytes.{IsSame}
-use Rattle.seg_spec.specs.Heap.{Span, Tile, span_of, tiles, live_of, live, Fill, IsHeap, heap_start, units_at}
+use Rattle.seg_spec.specs.Heap.{Span, Tile, span_of, tiles, live_of, live, Fill, IsHeap, heap_start}
 use Rattle.seg_spec.specs.Block.{IsInside, KeepsBlock, block_of, payload_size}
 use Rattle.seg_spec.specs.Apart.{Separate, KeepsBlockAround}
 use Rattle.seg_spec.specs.Sound.{times, positions}

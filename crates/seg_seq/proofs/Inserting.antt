@@ -1,8 +1,8 @@
 -- A ring with one node more.
-use Rattle.std.proofs.Common.{◌≡◌, ◌≢◌, ℕ, ◌+◌, ◌-◌, ◌%◌, ◌^◌, ◌<◌, ◌≤◌, ◌⊎◌, inl, inr, ⊎_elim, min, List, [], ◌∷◌, ◌++◌, length, Option, Some, None, refl, sym, ap, ◌∙◌, subst, arith, length-append}
+use Rattle.std.proofs.Common.{◌≡◌, ◌≢◌, ℕ, ◌+◌, ◌%◌, ◌^◌, ◌≤◌, inl, inr, ⊎_elim, min, List, [], ◌∷◌, ◌++◌, length, Some, None, refl, sym, ap, ◌∙◌, subst, arith, length-append}
 use Rattle.std.specs.List.{AllByRecursion}
 use Rattle.std.proofs.lemmas.Bool.{cases_lt}
-use Rattle.seg_spec.specs.Bytes.{word, set_word, IsSame}
+use Rattle.seg_spec.specs.Bytes.{set_word, IsSame}
 use Rattle.seg_spec.specs.Pointer.{target, distance, set_pointer}
 use Rattle.seg_spec.specs.Apart.{Separate}
 use Rattle.seg_spec.specs.Reads.{count_at, start}
@@ -10,11 +10,11 @@ use Rattle.seg_spec.specs.Shapes.{AreLinked, IsLinked, IsRing}
 use Rattle.seg_spec.specs.Sound.{times}
 use Rattle.seg_spec.proofs.BytesLaws.{length-set_number, number-set_same}
 use Rattle.seg_spec.proofs.Frame.{IsRing-same, each_weaker}
-use Rattle.seg_spec.proofs.LiveLaws.{times-same, times-other, times-more, times-append, there, each_there}
+use Rattle.seg_spec.proofs.LiveLaws.{times-same, times-more, times-append, there, each_there}
 use Rattle.seg_spec.proofs.RingOwed.{last_of, last_named}
 use Rattle.seg_spec.proofs.Writing.{set_number-changes}
 use Rattle.seg_seq.specs.Rings.{joined, AreSpread, ChangesAt, HasRing, Relinks}
-use Rattle.seg_seq.proofs.Joins.{AreAligned, word_other, target_other, names, joined_next, joined_second, joined_others, joined_length, joined_linked, linked_to, linked_beside, linked_append, last_among}
+use Rattle.seg_seq.proofs.Joins.{AreAligned, word_other, target_other, names, joined_next, joined_second, joined_length, joined_linked, linked_to, linked_beside, linked_append, last_among}
 
 -- ---- places that are spread
 

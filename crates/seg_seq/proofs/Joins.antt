@@ -1,16 +1,15 @@
 -- Nodes that are joined, and the rings that come of it.
-use Rattle.std.proofs.Common.{◌≡◌, ◌≢◌, ℕ, ◌+◌, ◌-◌, ◌%◌, ◌^◌, ◌<◌, ◌≤◌, ◌⊎◌, inl, inr, ⊎_elim, List, [], ◌∷◌, ◌++◌, length, Option, Some, None, refl, sym, ap, ◌∙◌, subst, arith}
+use Rattle.std.proofs.Common.{◌≡◌, ◌≢◌, ℕ, ◌+◌, ◌%◌, ◌^◌, ◌<◌, ◌≤◌, ◌⊎◌, inl, inr, ⊎_elim, List, [], ◌∷◌, ◌++◌, length, Some, refl, sym, ◌∙◌, subst, arith}
 use Rattle.std.specs.List.{AllByRecursion}
-use Rattle.std.proofs.lemmas.Bool.{cases_lt, cases_eq}
+use Rattle.std.proofs.lemmas.Bool.{cases_lt}
 use Rattle.seg_spec.specs.Bytes.{word, set_word, IsSame}
 use Rattle.seg_spec.specs.Pointer.{target, distance, set_pointer}
 use Rattle.seg_spec.specs.Apart.{Separate}
-use Rattle.seg_spec.specs.Reads.{count_at}
-use Rattle.seg_spec.specs.Shapes.{AreLinked, IsLinked, IsRing}
+use Rattle.seg_spec.specs.Shapes.{AreLinked, IsLinked}
 use Rattle.seg_spec.specs.Sound.{times}
-use Rattle.seg_spec.proofs.BytesLaws.{length-set_number, number-set_other, number-set_same}
+use Rattle.seg_spec.proofs.BytesLaws.{length-set_number, number-set_other}
 use Rattle.seg_spec.proofs.PointerLaws.{target-set_same, target-same as word_target}
-use Rattle.seg_spec.proofs.LiveLaws.{times-same, times-other, times-more, times-append}
+use Rattle.seg_spec.proofs.LiveLaws.{times-same, times-more}
 use Rattle.seg_spec.proofs.RingOwed.{last_of}
 use Rattle.seg_spec.proofs.Writing.{set_number-changes}
 use Rattle.seg_seq.specs.Rings.{joined}

@@ -1,16 +1,13 @@
 -- A list as its nodes and the values in them, and paths from its items.
-use Rattle.std.proofs.Common.{◌≡◌, ◌≢◌, ℕ, zero, suc, ◌+◌, ◌*◌, ◌%◌, ◌^◌, ◌<◌, ◌≤◌, List, [], ◌∷◌, ◌++◌, length, map, Option, Some, None, refl, sym, ap, ◌∙◌, subst, arith, append-nil, append_assoc}
+use Rattle.std.proofs.Common.{◌≡◌, ℕ, zero, suc, ◌+◌, List, [], ◌∷◌, ◌++◌, length, map, Some, refl, sym, ap, ◌∙◌, subst, arith}
 use Rattle.std.specs.Prelude.{slice_get}
-use Rattle.std.specs.Option.{IfSome}
-use Rattle.std.specs.List.{AllByRecursion}
-use Rattle.seg_spec.specs.Types.{Form, Table, form_at, IsTable, size}
-use Rattle.seg_spec.specs.Value.{Value, Values, Label, node, nil, cons, count, append, Seq, Selector, index_of}
-use Rattle.seg_spec.specs.Block.{Kind, tag_of, block_of, KeepsBlock}
-use Rattle.seg_spec.specs.Reads.{Place, Opened, places_of, AreNodes, OpensRing, Opens, Holds, holds, HoldsEach, holds_none, holds_more, Leads, here, into}
+use Rattle.seg_spec.specs.Types.{Form, Table, form_at, size}
+use Rattle.seg_spec.specs.Value.{Values, Label, node, Seq, Selector, index_of}
+use Rattle.seg_spec.specs.Block.{Kind, tag_of, block_of}
+use Rattle.seg_spec.specs.Reads.{Place, Opened, places_of, AreNodes, OpensRing, Opens, Holds, holds, HoldsEach, Leads, into}
 use Rattle.seg_spec.proofs.CellOwed.{same_form}
 use Rattle.seg_spec.proofs.OneReading.{Opens-one}
 use Rattle.seg_seq.specs.Rings.{HasRing}
-use Rattle.seg_seq.specs.Lists.{MovesItems}
 
 -- where the values of nodes stand
 abbrev pub values_in : ℕ → List ℕ → List Place

@@ -1,14 +1,14 @@
 -- A list without one of its items, and where paths from the others lead.
-use Rattle.std.proofs.Common.{◌≡◌, ◌≢◌, ℕ, zero, suc, ◌+◌, ◌-◌, ◌%◌, ◌^◌, ◌<◌, ◌≤◌, ◌⊎◌, inl, inr, ⊎_elim, true, false, eqb, ltb, cond, List, [], ◌∷◌, ◌++◌, length, map, Option, Some, None, refl, sym, ap, ◌∙◌, subst, arith}
+use Rattle.std.proofs.Common.{◌≡◌, ℕ, zero, suc, ◌+◌, ◌-◌, ◌%◌, ◌^◌, ◌<◌, ◌≤◌, ⊎_elim, true, false, eqb, ltb, cond, List, [], ◌∷◌, ◌++◌, length, map, Option, Some, None, refl, sym, ap, ◌∙◌, subst, arith}
 use Rattle.std.specs.Prelude.{slice_get, option_to_list}
 use Rattle.std.specs.Option.{IfSome}
 use Rattle.std.proofs.lemmas.Bool.{cases_eq, cases_lt}
 use Rattle.std.proofs.lemmas.Bool.Decides.{nat_tests}
 use Rattle.seg_spec.specs.Types.{Form, Table, form_at, size}
-use Rattle.seg_spec.specs.Value.{Value, Values, cons, count, append, default_of, Seq, Selector}
+use Rattle.seg_spec.specs.Value.{Value, Values, count, append, default_of, Seq, Selector}
 use Rattle.seg_spec.specs.Items.{remove_nth}
 use Rattle.seg_spec.specs.Heap.{live, IsHeap, IsLive, Gives}
-use Rattle.seg_spec.specs.Block.{Kind, tag_of, block_of, IsBlock}
+use Rattle.seg_spec.specs.Block.{Kind, tag_of, block_of}
 use Rattle.seg_spec.specs.Reads.{Place, AreNodes, HoldsEach, Leads, here}
 use Rattle.seg_spec.specs.Roots.{ChangesPlace}
 use Rattle.seg_spec.specs.Owning.{Stands}
@@ -132,17 +132,17 @@ module _ (allocator : ℕ) (old one two new : List ℕ) (table : Table) (list : 
         let at = parts.at_is in
         ⊎_elim
         (λ before. if_some (λ k. Leads new table list (Selector.item k ∷ path) inner) (without_index j i) i (stays_before j i before)
-            (let found = index_back xs (node ∷ ys) i n.node (omega arith) e in
-            leads_on new table list U f ws left_blocks m i n.node path inner (node_then i n.node (index_front xs ys i n.node found))
-            (lefts_lead allocator old table list U node xs ys f vs blocks l.owned s are_nodes blocks_are values one r two c new g i n.node path inner found n.rest)))
+        (let found = index_back xs (node ∷ ys) i n.node (omega arith) e in
+        leads_on new table list U f ws left_blocks m i n.node path inner (node_then i n.node (index_front xs ys i n.node found))
+        (lefts_lead allocator old table list U node xs ys f vs blocks l.owned s are_nodes blocks_are values one r two c new g i n.node path inner found n.rest)))
         (λ not_before. ⊎_elim
-            (λ same. if_none (λ k. Leads new table list (Selector.item k ∷ path) inner) (without_index j i) (gone j i same))
-            (λ other. if_some (λ k. Leads new table list (Selector.item k ∷ path) inner) (without_index j i) (i - 1) (comes_before j i (omega arith))
-                (let k = i - 1 - j in
-                let found : slice_get ys k ≡ Some n.node = sym (index_after xs (node ∷ ys) i (suc k) (omega arith)) ∙ e in
-                leads_on new table list U f ws left_blocks m (i - 1) n.node path inner (node_then (i - 1) n.node (index_after xs ys (i - 1) k (omega arith) ∙ found))
-                (rights_lead allocator old table list U node xs ys f vs blocks l.owned s are_nodes blocks_are values one r two c new g k n.node path inner found n.rest)))
-            (cases_eq i j))
+        (λ same. if_none (λ k. Leads new table list (Selector.item k ∷ path) inner) (without_index j i) (gone j i same))
+        (λ other. if_some (λ k. Leads new table list (Selector.item k ∷ path) inner) (without_index j i) (i - 1) (comes_before j i (omega arith))
+        (let k = i - 1 - j in
+        let found : slice_get ys k ≡ Some n.node = sym (index_after xs (node ∷ ys) i (suc k) (omega arith)) ∙ e in
+        leads_on new table list U f ws left_blocks m (i - 1) n.node path inner (node_then (i - 1) n.node (index_after xs ys (i - 1) k (omega arith) ∙ found))
+        (rights_lead allocator old table list U node xs ys f vs blocks l.owned s are_nodes blocks_are values one r two c new g k n.node path inner found n.rest)))
+        (cases_eq i j))
         (cases_lt i j)
 
     values_are : remove_nth vs j ≡ ws

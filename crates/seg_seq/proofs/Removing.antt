@@ -3,16 +3,15 @@ use Rattle.std.proofs.Common.{◌≡◌, ◌≢◌, ℕ, suc, ◌+◌, ◌-◌, 
 use Rattle.std.specs.Option.{option_eq}
 use Rattle.std.specs.Prelude.{unwrap_or}
 use Rattle.std.proofs.lemmas.Bool.Decides.{nat_tests}
-use Rattle.std.specs.List.{AllByRecursion}
-use Rattle.seg_spec.specs.Bytes.{word, set_word, IsSame}
+use Rattle.seg_spec.specs.Bytes.{set_word}
 use Rattle.seg_spec.specs.Pointer.{target, distance, set_pointer}
 use Rattle.seg_spec.specs.Reads.{count_at, start}
-use Rattle.seg_spec.specs.Shapes.{AreLinked, IsLinked, IsRing}
+use Rattle.seg_spec.specs.Shapes.{IsLinked, IsRing}
 use Rattle.seg_spec.specs.Sound.{times}
 use Rattle.seg_spec.proofs.BytesLaws.{length-set_number, number-set_same}
 use Rattle.seg_spec.proofs.PointerLaws.{target-set_same}
 use Rattle.seg_spec.proofs.Frame.{IsRing-same, each_left, each_right}
-use Rattle.seg_spec.proofs.LiveLaws.{times-same, times-other, times-more, times-append, there}
+use Rattle.seg_spec.proofs.LiveLaws.{times-same, times-more, times-append, there}
 use Rattle.seg_spec.proofs.RingOwed.{last_of, last_named}
 use Rattle.seg_seq.specs.Rings.{joined, AreSpread, ChangesAt, HasRing, Relinks}
 use Rattle.seg_seq.proofs.Joins.{word_other, target_other, names, joined_next, joined_second, joined_length, linked_to, linked_beside, linked_append, linked_split, last_among, chain_end}

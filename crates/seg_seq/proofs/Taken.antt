@@ -1,17 +1,16 @@
 -- A list before its new node is linked: the block is live beside those before.
-use Rattle.std.proofs.Common.{◌≡◌, ◌≢◌, ℕ, ◌+◌, ◌*◌, ◌%◌, ◌^◌, ◌<◌, ◌≤◌, ◌⊎◌, inl, inr, true, List, [], ◌∷◌, ◌++◌, length, Option, Some, None, refl, sym, ap, ◌∙◌, subst, arith}
-use Rattle.std.specs.List.{AllByRecursion}
+use Rattle.std.proofs.Common.{◌≡◌, ◌≢◌, ℕ, ◌+◌, ◌≤◌, ◌⊎◌, inl, inr, List, [], ◌∷◌, length, Option, Some, None, refl, sym, ap, ◌∙◌, subst, arith}
 use Rattle.std.proofs.lemmas.Bool.{cases_eq}
 use Rattle.seg_spec.specs.Types.{Form, Table, form_at, size}
 use Rattle.seg_spec.specs.Value.{Value}
-use Rattle.seg_spec.specs.Heap.{Span, live, with_block, granted, pick, gaps_of, after_take, fresh}
+use Rattle.seg_spec.specs.Heap.{Span, live, with_block, granted, pick, gaps_of, after_take}
 use Rattle.seg_spec.specs.Block.{Kind, tag_of, block_of, IsOwnable, KeepsBlock}
 use Rattle.seg_spec.specs.Reads.{Place}
 use Rattle.seg_spec.specs.Sound.{times, positions}
 use Rattle.seg_spec.specs.Owning.{Stands}
-use Rattle.seg_spec.specs.Demand.{need, block_for, after_ask, after_asks}
+use Rattle.seg_spec.specs.Demand.{need, block_for, after_asks}
 use Rattle.seg_spec.specs.Spending.{spent}
-use Rattle.seg_spec.proofs.LiveLaws.{times-same, times-other, times-with_block}
+use Rattle.seg_spec.proofs.LiveLaws.{times-other, times-with_block}
 use Rattle.seg_spec.proofs.Requested.{spent_fresh}
 use Rattle.seg_spec.proofs.Standing.{each_live_at, live_at, stands_still}
 use Rattle.seg_value.specs.Contents.{GivesBlock}

@@ -1,13 +1,12 @@
 -- The neighbours in a ring, and the node so many steps away.
-use Rattle.std.proofs.Common.{◌≡◌, ◌≢◌, ℕ, zero, suc, ◌+◌, ◌-◌, ◌%◌, ◌^◌, ◌<◌, ◌≤◌, ◌⊎◌, inl, inr, ⊎_elim, true, false, leb, ltb, cond, List, [], ◌∷◌, length, get_or, Option, Some, None, refl, sym, ap, ◌∙◌, subst, arith}
-use Rattle.std.specs.Prelude.{unwrap_or, nat_le, nat_lt}
+use Rattle.std.proofs.Common.{◌≡◌, ℕ, zero, suc, ◌+◌, ◌-◌, ◌%◌, ◌^◌, ◌<◌, ◌≤◌, ⊎_elim, true, false, leb, ltb, cond, List, [], ◌∷◌, length, get_or, Some, refl, sym, ap, ◌∙◌, subst, arith}
+use Rattle.std.specs.Prelude.{unwrap_or}
 use Rattle.std.specs.List.{AllByRecursion}
-use Rattle.std.proofs.lemmas.Bool.{cases_lt, cases_eq}
+use Rattle.std.proofs.lemmas.Bool.{cases_lt}
 use Rattle.std.proofs.lemmas.Bool.Decides.{nat_tests}
 use Rattle.seg_spec.specs.Pointer.{target}
 use Rattle.seg_spec.specs.Reads.{start}
 use Rattle.seg_spec.specs.Shapes.{IsLinked, IsRing}
-use Rattle.seg_spec.specs.Sound.{times}
 use Rattle.seg_spec.proofs.RingOwed.{last_of, last_named}
 use Rattle.seg_seq.specs.Rings.{AreSpread, HasRing, link_of, around}
 use Rattle.seg_seq.specs.declared.ring.Way.{Way}
@@ -60,14 +59,14 @@ around_less way.Backward n i k h l = ⊎_elim (λ f. let e = around_under n i k 
 pub around_more : (w : Way) (n i k : ℕ) → i < n → k + 1 ≤ n → around w n (around w n i k) 1 ≡ around w n i (k + 1)
 around_more way.Forward n i k h l = ⊎_elim
     (λ f. let e = around_on n i k f in ⊎_elim
-        (λ g. rw e (around_on n (i + k) 1 (omega arith) ∙ sym (around_on n i (k + 1) (omega arith) ∙ (omega arith))))
-        (λ g. rw e (around_over n (i + k) 1 (omega arith) ∙ sym (around_over n i (k + 1) (omega arith) ∙ (omega arith)))) (cases_lt (i + k + 1) n))
+    (λ g. rw e (around_on n (i + k) 1 (omega arith) ∙ sym (around_on n i (k + 1) (omega arith) ∙ (omega arith))))
+    (λ g. rw e (around_over n (i + k) 1 (omega arith) ∙ sym (around_over n i (k + 1) (omega arith) ∙ (omega arith)))) (cases_lt (i + k + 1) n))
     (λ f. let e = around_over n i k f in rw e (around_on n (i + k - n) 1 (omega arith) ∙ sym (around_over n i (k + 1) (omega arith) ∙ (omega arith)))) (cases_lt (i + k) n)
 around_more way.Backward n i k h l = ⊎_elim
     (λ f. let e = around_under n i k f in rw e (around_back n (i + n - k) 1 (omega arith) ∙ sym (around_under n i (k + 1) (omega arith) ∙ (omega arith))))
     (λ f. let e = around_back n i k f in ⊎_elim
-        (λ g. rw e (around_under n (i - k) 1 (omega arith) ∙ sym (around_under n i (k + 1) (omega arith) ∙ (omega arith))))
-        (λ g. rw e (around_back n (i - k) 1 (omega arith) ∙ sym (around_back n i (k + 1) (omega arith) ∙ (omega arith)))) (cases_lt i (k + 1))) (cases_lt i k)
+    (λ g. rw e (around_under n (i - k) 1 (omega arith) ∙ sym (around_under n i (k + 1) (omega arith) ∙ (omega arith))))
+    (λ g. rw e (around_back n (i - k) 1 (omega arith) ∙ sym (around_back n i (k + 1) (omega arith) ∙ (omega arith)))) (cases_lt i (k + 1))) (cases_lt i k)
 
 pub around_none : (w : Way) (n i : ℕ) → i < n → around w n i 0 ≡ i
 around_none way.Forward n i h = around_on n i 0 (omega arith) ∙ (omega arith)

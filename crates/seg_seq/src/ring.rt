@@ -10,6 +10,9 @@ use seg_ptr::Window;
 use seg_value::Heap;
 use std::alloc::Allocator;
 
+/// Where a node points to the previous one, in bytes from its start.
+const PREVIOUS: u32 = 4;
+
 /// A way round the ring.
 #[derive(Debug, Clone, Copy, PartialEq, Eq)]
 pub(crate) enum Way {
@@ -23,7 +26,7 @@ pub(crate) fn neighbour<F: Fit, A: Allocator>(heap: &Heap<F, A>, node: u32, way:
 {
     match way {
         Way::Forward => heap.start(node),
-        Way::Backward => heap.start(node.wrapping_add(4)),
+        Way::Backward => heap.start(node.wrapping_add(PREVIOUS)),
     }
 }
 
@@ -61,7 +64,7 @@ fn join<A: Allocator>(w: &mut Window<A>, node: u32, next: u32)
     ensures { w.new ≡ with_bytes w.old (joined w.old.bytes node next) }
 {
     w.point(node as usize, Some(next));
-    w.point(next as usize + 4, Some(node));
+    w.point(next as usize + PREVIOUS as usize, Some(node));
 }
 
 /// Puts a new node between the last and the first one. It is the last one, unless the cell's pointer is set to it.

@@ -1,8 +1,8 @@
-use Rattle.std.proofs.Common.{◌≡◌, ℕ, ◌+◌, ◌≤◌, Some, None, [], ◌∷◌, refl, sym, ap, ◌∙◌, subst, arith}
+use Rattle.std.proofs.Common.{◌≡◌, ℕ, ◌+◌, Some, None, [], ◌∷◌, refl, sym, ap, ◌∙◌, subst, arith}
 use Rattle.seg_spec.specs.Pointer.{target}
 use Rattle.seg_spec.specs.Reads.{Leads}
 use Rattle.seg_spec.specs.Types.{Form}
-use Rattle.seg_spec.specs.Value.{Values, cons, nil, Selector}
+use Rattle.seg_spec.specs.Value.{cons, nil, Selector}
 use Rattle.seg_spec.specs.Window.{Placement}
 use Rattle.seg_value.specs.Places.{place_of, object_at}
 use Rattle.seg_seq.specs.Lists.{IsList}

@@ -1,4 +1,4 @@
-use Rattle.std.proofs.Common.{◌≡◌, ℕ, ◌+◌, ◌*◌, ◌%◌, ◌^◌, Some, None, refl, sym, ap, ◌∙◌, arith}
+use Rattle.std.proofs.Common.{◌≡◌, ◌+◌, ◌*◌, ◌%◌, ◌^◌, Some, sym, ap, ◌∙◌, arith}
 use Rattle.seg_value.specs.Places.{place_of, object_at}
 use Rattle.seg_value.specs.Stored.{Stored}
 use Rattle.seg_value.specs.declared.place.Place.{Place}

@@ -1,4 +1,4 @@
-use Rattle.std.proofs.Common.{◌≡◌, ℕ, ◌-◌, ◌≤◌, length, get_or, ap, ◌∙◌, arith}
+use Rattle.std.proofs.Common.{◌≡◌, ◌-◌, length, get_or, ap, ◌∙◌, arith}
 use Rattle.seg_seq.proofs.Walking.{starts, forward_is, backward_is}
 use Rattle.seg_seq.proofs.ring.node_at.Goals as goal
 

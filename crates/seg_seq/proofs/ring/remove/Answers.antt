@@ -1,6 +1,5 @@
-use Rattle.std.proofs.Common.{◌≡◌, ℕ, ◌+◌, ◌-◌, ◌%◌, ◌^◌, refl, sym, ap, ◌∙◌, subst, Some, None, ◌∷◌, ◌++◌, eqb, arith}
+use Rattle.std.proofs.Common.{◌≡◌, ◌+◌, ◌-◌, ◌%◌, ◌^◌, refl, ap, ◌∙◌, Some, None, eqb, arith}
 use Rattle.std.specs.Option.{option_eq}
-use Rattle.seg_spec.specs.Bytes.{set_word}
 use Rattle.seg_spec.specs.Pointer.{target, set_pointer}
 use Rattle.seg_spec.specs.Reads.{count_at, start}
 use Rattle.seg_spec.specs.Window.{Placement}

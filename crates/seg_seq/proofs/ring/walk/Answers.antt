@@ -1,4 +1,4 @@
-use Rattle.std.proofs.Common.{◌≡◌, ℕ, ◌+◌, ◌≤◌, length, get_or, sym, ap, ◌∙◌, arith}
+use Rattle.std.proofs.Common.{◌≡◌, length, get_or, sym, ap, ◌∙◌, arith}
 use Rattle.seg_spec.specs.Window.{Placement}
 use Rattle.seg_seq.specs.Rings.{around}
 use Rattle.seg_seq.proofs.Walking.{walked, around_none}
