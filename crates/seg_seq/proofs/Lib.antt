@@ -9,3 +9,15 @@ mod ItemAdded
 mod ItemCalls
 mod ItemRemoved
 mod Found
+pub mod Joins
+pub mod Inserting
+pub mod Removing
+pub mod Walking
+pub mod Spread
+pub mod Homes
+pub mod Listed
+pub mod Taken
+pub mod Adding
+pub mod Dropping
+pub mod Removed
+pub mod Fronts

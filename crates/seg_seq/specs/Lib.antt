@@ -1,1 +1,3 @@
 pub mod Sequences
+pub mod Rings
+pub mod Lists

@@ -1,5 +1,17 @@
-ghost use Rattle.std.specs.Prelude.{◌≡◌};
+ghost use Rattle.std.specs.Prelude.{◌≡◌, ℕ, ◌+◌, ◌-◌, ◌%◌, ◌^◌, suc, List, [], ◌∷◌, Some, Err, IsOk, MatchResult, IsOkUnless};
+ghost use Rattle.seg_spec.specs.Calls.{Refuses};
+ghost use Rattle.seg_spec.specs.Demand.{block_for};
+ghost use Rattle.seg_spec.specs.Owning.{Stands};
+ghost use Rattle.seg_spec.specs.Reads as reads;
+ghost use Rattle.seg_spec.specs.Reads.{Leads};
+ghost use Rattle.seg_spec.specs.Types.{Form, form_at, size};
+ghost use Rattle.seg_spec.specs.Value.{Value, Values, Seq, Selector, nil, cons, count, append, default_of};
+ghost use Rattle.seg_spec.specs.Items.{remove_nth};
 ghost use Rattle.seg_spec.specs.Window.{KeepsHost};
+ghost use Rattle.seg_value.specs.Places.{place_of, object_at};
+ghost use Rattle.seg_seq.specs.Rings.{around};
+ghost use Rattle.seg_seq.specs.declared.ring.Way.TheVariants as way;
+ghost use Rattle.seg_seq.specs.Lists.{IsList, IsNoList, AddsItem, RemovesItem};
 
 use crate::ring::{Way, insert, neighbour, remove};
 use seg_block::Fit;
@@ -8,27 +20,49 @@ use seg_value::{Content, Heap, LIST_LINKS, Place, Shape};
 use std::alloc::Allocator;
 
 /// The node that holds an item.
-fn node_of(item: u32) -> u32 {
+fn node_of(item: u32) -> u32
+    ensures { result ≡ (item + (2 ^ 32 - 8)) % 2 ^ 32 }
+{
     item.wrapping_sub(LIST_LINKS)
 }
 
 /// The item that a node holds.
-pub(crate) fn item_of(node: u32) -> u32 {
+pub(crate) fn item_of(node: u32) -> u32
+    ensures { result ≡ (node + 8) % 2 ^ 32 }
+{
     node.wrapping_add(LIST_LINKS)
 }
 
 /// The item after an item of a list: the first one after the last.
-pub fn next<F: Fit, A: Allocator>(heap: &Heap<F, A>, item: u32) -> u32 {
+pub fn next<F: Fit, A: Allocator>(heap: &Heap<F, A>, item: u32) -> u32
+    ensures { (allocator U i : ℕ) (list : reads.Place) (vs : Values) (blocks : List ℕ) →
+        form_at heap.now.types list.type ≡ Some (Form.list U) →
+        Stands allocator heap.now.window.bytes heap.now.types list (Seq vs) blocks →
+        Leads heap.now.window.bytes heap.now.types list (Selector.item i ∷ []) (object_at item U) →
+        Leads heap.now.window.bytes heap.now.types list
+        (Selector.item (around way.Forward (count vs) i 1) ∷ []) (object_at result U) }
+{
     item_of(neighbour(heap, node_of(item), Way::Forward))
 }
 
 /// The item before an item of a list: the last one before the first.
-pub fn prev<F: Fit, A: Allocator>(heap: &Heap<F, A>, item: u32) -> u32 {
+pub fn prev<F: Fit, A: Allocator>(heap: &Heap<F, A>, item: u32) -> u32
+    ensures { (allocator U i : ℕ) (list : reads.Place) (vs : Values) (blocks : List ℕ) →
+        form_at heap.now.types list.type ≡ Some (Form.list U) →
+        Stands allocator heap.now.window.bytes heap.now.types list (Seq vs) blocks →
+        Leads heap.now.window.bytes heap.now.types list (Selector.item i ∷ []) (object_at item U) →
+        Leads heap.now.window.bytes heap.now.types list
+        (Selector.item (around way.Backward (count vs) i 1) ∷ []) (object_at result U) }
+{
     item_of(neighbour(heap, node_of(item), Way::Backward))
 }
 
 /// What the cell of a list names. `OtherType` where the place is no list.
-fn list_content<F: Fit, A: Allocator>(heap: &Heap<F, A>, list: Place) -> Result<Content, Code> {
+fn list_content<F: Fit, A: Allocator>(heap: &Heap<F, A>, list: Place) -> Result<Content, Code>
+    ensures { MatchResult result
+        (λ content. (U : ℕ) × IsList heap.now.types list.type_id U content)
+        (λ code. (code ≡ Code.OtherType) × IsNoList heap.now.types list.type_id) }
+{
     let content = heap.content(list.type_id).ok_or(Code::OtherType)?;
     match content.shape {
         Shape::Ring => Ok(content),
@@ -41,6 +75,18 @@ fn list_content<F: Fit, A: Allocator>(heap: &Heap<F, A>, list: Place) -> Result<
 pub fn push_front<F: Fit, A: Allocator>(heap: &mut Heap<F, A>, list: Place) -> Result<u32, Code>
     ensures window { KeepsHost heap.old.window heap.new.window }
     ensures types { heap.new.types ≡ heap.old.types }
+    ensures other { IsNoList heap.old.types list.type_id →
+        (result ≡ Err Code.OtherType) × (heap.new.window ≡ heap.old.window) }
+    ensures code { (U : ℕ) → form_at heap.old.types list.type_id ≡ Some (Form.list U) →
+        IsOkUnless result Code.BadAlloc }
+    ensures pushed { (U : ℕ) (vs : Values) (blocks : List ℕ) →
+        form_at heap.old.types list.type_id ≡ Some (Form.list U) →
+        Stands F.allocator heap.old.window.bytes heap.old.types (place_of list) (Seq vs) blocks →
+        MatchResult result
+        (λ at. AddsItem F.allocator heap.old.window.bytes heap.new.window.bytes heap.old.types
+        (place_of list) U (cons (default_of heap.old.types U) vs) blocks 0 at (λ i. Some (suc i)))
+        (λ code. Refuses F.allocator heap.old.window.bytes heap.new.window.bytes
+        (block_for (8 + size heap.old.types U) ∷ [])) }
 {
     let content = list_content(heap, list)?;
     let item = push_node(heap, &content, list.at)?;
@@ -57,6 +103,16 @@ pub(crate) fn push_node<F: Fit, A: Allocator>(
 ) -> Result<u32, Code>
     ensures window { KeepsHost heap.old.window heap.new.window }
     ensures types { heap.new.types ≡ heap.old.types }
+    ensures code { IsOkUnless result Code.BadAlloc }
+    ensures pushed { (T U : ℕ) (vs : Values) (blocks : List ℕ) →
+        IsList heap.old.types T U content.now →
+        Stands F.allocator heap.old.window.bytes heap.old.types (object_at cell T) (Seq vs) blocks →
+        MatchResult result
+        (λ at. AddsItem F.allocator heap.old.window.bytes heap.new.window.bytes heap.old.types
+        (object_at cell T) U (append vs (cons (default_of heap.old.types U) nil)) blocks
+        (count vs) at (λ i. Some i))
+        (λ code. Refuses F.allocator heap.old.window.bytes heap.new.window.bytes
+        (block_for (8 + size heap.old.types U) ∷ [])) }
 {
     let node = heap.new_block(content)?;
     insert(heap, cell, node);
@@ -67,6 +123,19 @@ pub(crate) fn push_node<F: Fit, A: Allocator>(
 pub fn pop_front<F: Fit, A: Allocator>(heap: &mut Heap<F, A>, list: Place) -> Result<(), Code>
     ensures window { KeepsHost heap.old.window heap.new.window }
     ensures types { heap.new.types ≡ heap.old.types }
+    ensures other { IsNoList heap.old.types list.type_id →
+        (result ≡ Err Code.OtherType) × (heap.new.window ≡ heap.old.window) }
+    ensures empty { (allocator U : ℕ) (blocks : List ℕ) →
+        form_at heap.old.types list.type_id ≡ Some (Form.list U) →
+        Stands allocator heap.old.window.bytes heap.old.types (place_of list) (Seq nil) blocks →
+        (result ≡ Err Code.Null) × (heap.new.window ≡ heap.old.window) }
+    ensures popped { (U : ℕ) (v : Value) (vs : Values) (blocks : List ℕ) →
+        form_at heap.old.types list.type_id ≡ Some (Form.list U) →
+        Stands F.allocator heap.old.window.bytes heap.old.types (place_of list) (Seq (cons v vs))
+        blocks →
+        IsOk result ×
+        RemovesItem F.allocator heap.old.window.bytes heap.new.window.bytes heap.old.types
+        (place_of list) vs blocks 0 }
 {
     let content = list_content(heap, list)?;
     let first = heap.window().target(list.at as usize).ok_or(Code::Null)?;
@@ -83,6 +152,13 @@ pub(crate) fn remove_node<F: Fit, A: Allocator>(
 )
     ensures window { KeepsHost heap.old.window heap.new.window }
     ensures types { heap.new.types ≡ heap.old.types }
+    ensures removed { (T U j : ℕ) (vs : Values) (blocks : List ℕ) →
+        IsList heap.old.types T U content.now →
+        Stands F.allocator heap.old.window.bytes heap.old.types (object_at cell T) (Seq vs) blocks →
+        Leads heap.old.window.bytes heap.old.types (object_at cell T) (Selector.item j ∷ [])
+        (object_at (node + 8) U) →
+        RemovesItem F.allocator heap.old.window.bytes heap.new.window.bytes heap.old.types
+        (object_at cell T) (remove_nth vs j) blocks j }
 {
     remove(heap, cell, node);
     if let Some(item) = content.entry.value(node, 0) {

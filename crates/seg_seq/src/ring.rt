@@ -1,12 +1,17 @@
 //! The nodes of a list: a ring, in which each one names the next and the previous one. The list's cell names the first.
 
-ghost use Rattle.std.specs.Prelude.{◌≡◌};
-ghost use Rattle.seg_spec.specs.Window.{KeepsHost};
+ghost use Rattle.std.specs.Prelude.{◌≡◌, ℕ, ◌<◌, ◌≤◌, List, [], ◌∷◌, ◌++◌, length, slice_index};
+ghost use Rattle.seg_spec.specs.Reads.{start};
+ghost use Rattle.seg_spec.specs.Window.{with_bytes, KeepsHost};
+ghost use Rattle.seg_seq.specs.Rings.{joined, AreSpread, HasRing, Relinks, link_of, around};
 
 use seg_block::Fit;
 use seg_ptr::Window;
 use seg_value::Heap;
 use std::alloc::Allocator;
+
+/// Where a node points to the previous one, in bytes from its start.
+const PREVIOUS: u32 = 4;
 
 /// A way round the ring.
 #[derive(Debug, Clone, Copy, PartialEq, Eq)]
@@ -16,15 +21,22 @@ pub(crate) enum Way {
 }
 
 /// A node's neighbour.
-pub(crate) fn neighbour<F: Fit, A: Allocator>(heap: &Heap<F, A>, node: u32, way: Way) -> u32 {
+pub(crate) fn neighbour<F: Fit, A: Allocator>(heap: &Heap<F, A>, node: u32, way: Way) -> u32
+    ensures { result ≡ start heap.now.window.bytes (link_of way node) }
+{
     match way {
         Way::Forward => heap.start(node),
-        Way::Backward => heap.start(node.wrapping_add(4)),
+        Way::Backward => heap.start(node.wrapping_add(PREVIOUS)),
     }
 }
 
 /// The node so many steps from another.
-fn walk<F: Fit, A: Allocator>(heap: &Heap<F, A>, from: u32, way: Way, steps: u32) -> u32 {
+fn walk<F: Fit, A: Allocator>(heap: &Heap<F, A>, from: u32, way: Way, steps: u32) -> u32
+    ensures { (cell i : ℕ) (nodes : List ℕ) → HasRing heap.now.window.bytes cell nodes →
+        AreSpread heap.now.window.bytes (cell ∷ nodes) → i < length nodes →
+        from ≡ slice_index nodes i → steps ≤ length nodes →
+        result ≡ slice_index nodes (around way (length nodes) i steps) }
+{
     let mut node = from;
     for _ in 0..steps.min(heap.window().len()) {
         node = neighbour(heap, node, way);
@@ -33,7 +45,11 @@ fn walk<F: Fit, A: Allocator>(heap: &Heap<F, A>, from: u32, way: Way, steps: u32
 }
 
 /// The node of an item that a list has, from the nearer end.
-pub(crate) fn node_at<F: Fit, A: Allocator>(heap: &Heap<F, A>, cell: u32, index: u32) -> u32 {
+pub(crate) fn node_at<F: Fit, A: Allocator>(heap: &Heap<F, A>, cell: u32, index: u32) -> u32
+    ensures { (nodes : List ℕ) → HasRing heap.now.window.bytes cell nodes →
+        AreSpread heap.now.window.bytes (cell ∷ nodes) → index < length nodes →
+        result ≡ slice_index nodes index }
+{
     let first = heap.start(cell);
     let from_end = heap.count(cell).saturating_sub(index);
     if index <= from_end {
@@ -45,16 +61,20 @@ pub(crate) fn node_at<F: Fit, A: Allocator>(heap: &Heap<F, A>, cell: u32, index:
 
 /// Makes one node the next of another.
 fn join<A: Allocator>(w: &mut Window<A>, node: u32, next: u32)
-    ensures { KeepsHost w.old w.new }
+    ensures { w.new ≡ with_bytes w.old (joined w.old.bytes node next) }
 {
     w.point(node as usize, Some(next));
-    w.point(next as usize + 4, Some(node));
+    w.point(next as usize + PREVIOUS as usize, Some(node));
 }
 
 /// Puts a new node between the last and the first one. It is the last one, unless the cell's pointer is set to it.
 pub(crate) fn insert<F: Fit, A: Allocator>(heap: &mut Heap<F, A>, cell: u32, node: u32)
     ensures window { KeepsHost heap.old.window heap.new.window }
     ensures types { heap.new.types ≡ heap.old.types }
+    ensures inserted { (nodes : List ℕ) → HasRing heap.old.window.bytes cell nodes →
+        AreSpread heap.old.window.bytes (cell ∷ node ∷ nodes) →
+        Relinks heap.old.window.bytes heap.new.window.bytes cell
+        (node ∷ nodes) (nodes ++ node ∷ []) }
 {
     match heap.window().target(cell as usize) {
         None => {
@@ -75,6 +95,11 @@ pub(crate) fn insert<F: Fit, A: Allocator>(heap: &mut Heap<F, A>, cell: u32, nod
 pub(crate) fn remove<F: Fit, A: Allocator>(heap: &mut Heap<F, A>, cell: u32, node: u32)
     ensures window { KeepsHost heap.old.window heap.new.window }
     ensures types { heap.new.types ≡ heap.old.types }
+    ensures removed { (before after : List ℕ) →
+        HasRing heap.old.window.bytes cell (before ++ node ∷ after) →
+        AreSpread heap.old.window.bytes (cell ∷ before ++ node ∷ after) →
+        Relinks heap.old.window.bytes heap.new.window.bytes cell
+        (before ++ node ∷ after) (before ++ after) }
 {
     let nodes = heap.count(cell).saturating_sub(1);
     heap.set_count(cell, nodes);

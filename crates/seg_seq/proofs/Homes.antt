@@ -1,0 +1,182 @@
+-- The cell of a list and its nodes lie in live blocks, apart from each other.
+use Rattle.std.proofs.Common.{◌≡◌, ◌≢◌, ℕ, suc, ◌+◌, ◌*◌, ◌%◌, ◌≤◌, ◌⊎◌, inl, inr, ⊎_elim, true, false, cond, List, [], ◌∷◌, length, map, refl, sym, ap, subst, arith}
+use Rattle.std.specs.List.{AllByRecursion}
+use Rattle.std.proofs.lemmas.Bool.{cases_eq, cases_lt}
+use Rattle.seg_spec.specs.Bytes.{IsSame}
+use Rattle.seg_spec.specs.Heap.{Span, Tile, span_of, tiles, live_of, live, Fill, IsHeap, heap_start}
+use Rattle.seg_spec.specs.Block.{IsInside, KeepsBlock, block_of, payload_size}
+use Rattle.seg_spec.specs.Apart.{Separate, KeepsBlockAround}
+use Rattle.seg_spec.specs.Sound.{times, positions}
+use Rattle.seg_spec.proofs.LiveLaws.{times-same, times-other, times-more, there, each_there, LiesIn, live-lie, live-apart, live-once, OneOrApart}
+use Rattle.seg_seq.specs.Rings.{AreSpread, ChangesAt}
+use Rattle.seg_seq.proofs.Spread.{HasHome, part_same, block_same, header_same}
+
+-- ---- no more blocks than live ones
+
+record Left (x : ℕ) (ys : List ℕ) : Type 0 where
+  rest : List ℕ
+  shorter : suc (length rest) ≡ length ys
+  counts : (h : ℕ) → times h (x ∷ rest) ≡ times h ys
+
+left_of : (x : ℕ) (ys : List ℕ) → 1 ≤ times x ys → Left x ys
+left_of x [] some = absurd (omega arith)
+left_of x (y ∷ ys) some = go (cases_eq y x) (λ m. left_of x ys m)
+  where
+    go : (y ≡ x) ⊎ (y ≢ x) → (1 ≤ times x ys → Left x ys) → Left x (y ∷ ys)
+    go (inl e) rest = record { rest = ys; shorter = refl; counts = λ h. ap (λ z. times h (z ∷ ys)) (sym e) }
+    go (inr ne) rest =
+        let l = rest (omega (arith, times-other x y ys ne)) in
+        let short = l.shorter in
+        record { rest = y ∷ l.rest; shorter = omega arith; counts = λ h. let c = l.counts h in omega arith }
+
+pub no_longer : (xs ys : List ℕ) → ((h : ℕ) → times h xs ≤ times h ys) → length xs ≤ length ys
+no_longer [] ys f = omega arith
+no_longer (x ∷ xs) ys f =
+    let l = left_of x ys (let t = times-same x xs in let m = f x in omega arith) in
+    let short = l.shorter in
+    let rest = no_longer xs l.rest (λ h. let c = l.counts h in let m = f h in omega arith) in
+    omega arith
+
+few_in : (ts : List Tile) (from to : ℕ) → Fill from ts to → from + 32 * length (live_of ts) ≤ to
+few_in [] from to f = omega (arith, f)
+few_in (t ∷ ts) from to f =
+    let rest = few_in ts (from + 16 * t.units) to f.2 in
+    let two = f.1 in
+    elim t.live as (λ b. from + 32 * length (cond b (span_of t ∷ live_of ts) (live_of ts)) ≤ to) [ true ↦ omega arith | false ↦ omega arith ]
+
+few_live : (allocator : ℕ) (bytes : List ℕ) → IsHeap allocator bytes → 32 * length (live bytes) ≤ length bytes
+unfolding live
+few_live allocator bytes heap = let f = few_in (tiles bytes) heap_start (length bytes) heap.filled in omega arith
+
+length_positions : (bs : List Span) → length (positions bs) ≡ length bs
+length_positions [] = refl
+length_positions (b ∷ bs) = ap suc (length_positions bs)
+
+-- ---- nodes and their blocks
+
+pub times_mapped : (h : ℕ) (xs : List ℕ) → times h xs ≤ times (block_of h) (map block_of xs)
+times_mapped h [] = omega arith
+times_mapped h (x ∷ xs) =
+    let rest = times_mapped h xs in
+    ⊎_elim
+    (λ e. let a : times h (x ∷ xs) ≡ 1 + times h xs = subst (λ z. times h (z ∷ xs) ≡ 1 + times h xs) (sym e) (times-same h xs) in
+    let b : times (block_of h) (block_of x ∷ map block_of xs) ≡ 1 + times (block_of h) (map block_of xs) = subst
+    (λ z. times (block_of h) (block_of z ∷ map block_of xs) ≡ 1 + times (block_of h) (map block_of xs)) (sym e) (times-same (block_of h) (map block_of xs)) in
+    omega arith)
+    (λ ne. let a = times-other h x xs ne in let b = times-more (block_of h) (block_of x) (map block_of xs) in omega arith) (cases_eq x h)
+
+length_mapped : (xs : List ℕ) → length (map block_of xs) ≡ length xs
+length_mapped [] = refl
+length_mapped (x ∷ xs) = ap suc (length_mapped xs)
+
+module _ (allocator : ℕ) (bytes : List ℕ) (heap : IsHeap allocator bytes) (cell home : ℕ) (inside : IsInside bytes home cell 8) (even : cell % 8 ≡ 0) (nodes : List ℕ) (low : AllByRecursion (λ p. 16 ≤ p) nodes)
+    (owned : (h : ℕ) → times h (home ∷ map block_of nodes) ≤ times h (positions (live bytes))) where
+  lies : (h : ℕ) → 1 ≤ times h (positions (live bytes)) → LiesIn bytes heap_start (length bytes) h
+  lies h some = there (LiesIn bytes heap_start (length bytes)) h (positions (live bytes)) (live-lie bytes allocator heap) some
+
+  pub home_live : 1 ≤ times home (positions (live bytes))
+  home_live = let o = owned home in let t = times-same home (map block_of nodes) in omega arith
+
+  home_alone : times home (map block_of nodes) ≡ 0
+  home_alone = let o = owned home in let t = times-same home (map block_of nodes) in let once = live-once bytes allocator heap home in omega arith
+
+  pub node_live : (p : ℕ) → 1 ≤ times p nodes → 1 ≤ times (block_of p) (positions (live bytes))
+  node_live p some = let o = owned (block_of p) in let m = times_mapped p nodes in let k = times-more (block_of p) home (map block_of nodes) in omega arith
+
+  node_low : (p : ℕ) → 1 ≤ times p nodes → 16 ≤ p
+  node_low p some = there (λ q. 16 ≤ q) p nodes low some
+
+  pub node_inside : (p : ℕ) → 1 ≤ times p nodes → IsInside bytes (block_of p) p 8
+  node_inside p some = let l = lies (block_of p) (node_live p some) in let n = node_low p some in let two = l.size in record { low = omega arith; high = omega arith }
+
+  node_other : (p : ℕ) → 1 ≤ times p nodes → block_of p ≢ home
+  node_other p some e =
+      let m = times_mapped p nodes in
+      let none : times (block_of p) (map block_of nodes) ≡ 0 = subst (λ h. times h (map block_of nodes) ≡ 0) (sym e) home_alone in
+      absurd (omega arith)
+
+  -- a place lies in one live block
+  one_home : (h k p : ℕ) → 1 ≤ times h (positions (live bytes)) → 1 ≤ times k (positions (live bytes)) → IsInside bytes h p 8 → IsInside bytes k p 8 → h ≡ k
+  one_home h k p a b i j = go (there (OneOrApart bytes k) h (positions (live bytes)) (there (λ t. AllByRecursion (OneOrApart bytes t) (positions (live bytes))) k (positions (live bytes)) (live-apart bytes allocator heap) b) a)
+    where
+      go : OneOrApart bytes k h → h ≡ k
+      go (inl e) = e
+      go (inr (inl l)) = absurd (omega (arith, i.low, j.high))
+      go (inr (inr l)) = absurd (omega (arith, i.high, j.low))
+
+  -- the cell is none of the nodes
+  cell_other : (p : ℕ) → 1 ≤ times p nodes → p ≢ cell
+  cell_other p some e =
+      node_other p some (one_home (block_of p) home p (node_live p some) home_live (node_inside p some) (subst (λ q. IsInside bytes home q 8) (sym e) inside))
+
+  once : (h : ℕ) → times h nodes ≤ 1
+  once h = let m = times_mapped h nodes in let o = owned (block_of h) in let k = times-more (block_of h) home (map block_of nodes) in let l = live-once bytes allocator heap (block_of h) in omega arith
+
+  pub are_spread : AreSpread bytes (cell ∷ nodes)
+  are_spread = record {
+    small = heap.small;
+    few = let l = no_longer (home ∷ map block_of nodes) (positions (live bytes)) owned in
+        let m = length_mapped nodes in
+        let n = length_positions (live bytes) in
+        let f = few_live allocator bytes heap in
+        omega arith;
+    fit = (
+      (even, let l = lies home home_live in omega (arith, l.high, inside.high)),
+      each_there (λ p. (p % 8 ≡ 0) × (p + 8 ≤ length bytes)) nodes
+          (λ p some. let l = lies (block_of p) (node_live p some) in let i = node_inside p some in let n = node_low p some in let a = l.aligned in let h = l.high in let j = i.high in (omega arith, omega arith)),
+    );
+    once = λ h. ⊎_elim
+        (λ e. let t = times-same cell nodes in let z : times h (cell ∷ nodes) ≡ 1 + times h nodes = subst (λ k. times k (cell ∷ nodes) ≡ 1 + times k nodes) e t in
+        ⊎_elim (λ none. omega arith) (λ some. absurd (cell_other h some (sym e))) (cases_lt (times h nodes) 1))
+        (λ ne. let t = times-other h cell nodes ne in let o = once h in omega arith) (cases_eq cell h);
+  }
+
+  pub are_home : AllByRecursion (HasHome bytes) (cell ∷ nodes)
+  are_home = (
+    record { home = home; inside = inside; home_live = home_live },
+    each_there (HasHome bytes) nodes (λ p some. record { home = block_of p; inside = node_inside p some; home_live = node_live p some }),
+  )
+
+  -- ---- what is kept where only the cell and the links of the nodes change
+
+  module _ (new : List ℕ) (changes : ChangesAt bytes new (cell ∷ nodes)) where
+    -- another block
+    pub other_kept : (h : ℕ) → 1 ≤ times h (positions (live bytes)) → h ≢ home → times h (map block_of nodes) ≡ 0 → KeepsBlock bytes new h
+    other_kept h some ne none = block_same allocator bytes new (cell ∷ nodes) heap changes are_home h some away
+      where
+        away : (p : ℕ) → 1 ≤ times p (cell ∷ nodes) → IsInside bytes h p 8 → ⊥
+        away p is i = ⊎_elim
+            (λ e. ne (one_home h home p some home_live i (subst (λ q. IsInside bytes home q 8) e inside)))
+            (λ other.
+            let among : 1 ≤ times p nodes = let t = times-other p cell nodes other in omega arith in
+            let same = one_home h (block_of p) p some (node_live p among) i (node_inside p among) in
+            let m = times_mapped p nodes in
+            let z : times (block_of p) (map block_of nodes) ≡ 0 = subst (λ k. times k (map block_of nodes) ≡ 0) same none in
+            absurd (omega arith)) (cases_eq cell p)
+
+    -- the block around the cell
+    pub home_kept : KeepsBlockAround bytes new cell 8 home
+    home_kept =
+        let l = lies home home_live in
+        record {
+          solid = omega (arith, l.size);
+          header = header_same allocator bytes new (cell ∷ nodes) heap changes are_home home home_live;
+          payload = λ q m from to apart. part_same allocator bytes new (cell ∷ nodes) heap changes are_home home home_live q m (omega arith) (omega (arith, l.size)) (λ p is i. ⊎_elim
+              (λ e. subst (λ k. Separate q m k 8) e apart)
+              (λ other.
+              let among : 1 ≤ times p nodes = let t = times-other p cell nodes other in omega arith in
+              absurd (node_other p among (sym (one_home home (block_of p) p home_live (node_live p among) i (node_inside p among))))) (cases_eq cell p));
+        }
+
+    -- what a node holds
+    pub value_kept : (q n : ℕ) → 1 ≤ times q nodes → 8 + n ≤ payload_size bytes (block_of q) → IsSame bytes new (q + 8) n
+    value_kept q n some room =
+        let low_q = node_low q some in
+        let l = lies (block_of q) (node_live q some) in
+        part_same allocator bytes new (cell ∷ nodes) heap changes are_home (block_of q) (node_live q some) (q + 8) n (omega arith) (omega (arith, l.size)) (λ p is i. ⊎_elim
+        (λ e. absurd (node_other q some (one_home (block_of q) home p (node_live q some) home_live i (subst (λ k. IsInside bytes home k 8) e inside))))
+        (λ other.
+        let among : 1 ≤ times p nodes = let t = times-other p cell nodes other in omega arith in
+        let same = one_home (block_of q) (block_of p) p (node_live q some) (node_live p among) i (node_inside p among) in
+        let low_p = node_low p among in
+        inr (omega arith)) (cases_eq cell p))

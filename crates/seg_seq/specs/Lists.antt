@@ -1,0 +1,58 @@
+-- What calls on lists find and leave.
+--     IsList table T U content         the type is a list of values of this type, with these nodes
+--     IsNoList table T                 the type is no list
+--     MovesItems old new table list to      each path from an item leads where it led, from the index that the item has now
+--     without_index j i                the index that item i has without item j
+--     AddsItem ..                      a list with one item more: a default, in a node of its own
+--     RemovesItem ..                   a list without one of its items
+use Rattle.std.specs.Prelude.{◌≡◌, ◌≢◌, ℕ, ◌+◌, ◌-◌, ◌==◌, nat_lt, if◌then◌else◌, List, [], ◌∷◌, Option, Some, None}
+use Rattle.std.specs.Option.{IfSome}
+use Rattle.seg_spec.specs.Types.{Form, Table, form_at, size}
+use Rattle.seg_spec.specs.Value.{Values, Seq, Selector}
+use Rattle.seg_spec.specs.Block.{Kind, tag_of}
+use Rattle.seg_spec.specs.Reads.{Place, Leads}
+use Rattle.seg_spec.specs.Demand.{block_for}
+use Rattle.seg_spec.specs.Growing.{Succeeds}
+use Rattle.seg_spec.specs.Spending.{PartBlocks}
+use Rattle.seg_value.specs.Contents.{IsContent}
+use Rattle.seg_value.specs.declared.content.Content.{Content}
+use Rattle.seg_value.specs.declared.content.Shape.TheVariants as shape
+
+-- the cell of the type names the nodes of a list with values of a type
+pub record IsList (table : Table) (T U : ℕ) (content : Content) : Type 0 where
+  pub form_is : form_at table T ≡ Some (Form.list U)
+  pub content_is : IsContent table shape.Ring (tag_of Kind.node T) 8 U content
+
+-- the type is no list
+abbrev pub IsNoList : Table → ℕ → Type 0
+IsNoList table T = (U : ℕ) → form_at table T ≢ Some (Form.list U)
+
+-- each path from an item leads where it led, but from the index that the item has now, if it is there
+abbrev pub MovesItems : List ℕ → List ℕ → Table → Place → (ℕ → Option ℕ) → Type 0
+MovesItems old new table list to = (i : ℕ) (path : List Selector) (inner : Place) →
+    Leads old table list (Selector.item i ∷ path) inner →
+    IfSome (to i) (λ k. Leads new table list (Selector.item k ∷ path) inner)
+
+-- the index of item i where item j is gone
+abbrev pub without_index : ℕ → ℕ → Option ℕ
+without_index j i = if i == j then None else Some (if nat_lt i j then i else i - 1)
+
+-- the list has these items now: item i, which stands at a position, is new, in a node that was asked for, and the others
+-- stand where they stood
+pub record AddsItem (allocator : ℕ) (old new : List ℕ) (table : Table) (list : Place) (U : ℕ)
+    (items : Values) (blocks : List ℕ) (i at : ℕ) (to : ℕ → Option ℕ) : Type 0 where
+  pub others : List ℕ
+  pub succeeds : Succeeds allocator old new table list (Seq items)
+      (block_for (8 + size table U) ∷ []) [] blocks others
+  pub stands : Leads new table list (Selector.item i ∷ []) (record { at = at; type = U })
+  pub moves : MovesItems old new table list to
+
+-- the list has these items now: item j is gone, its node and what it owned were given back, and the others stand where
+-- they stood
+pub record RemovesItem (allocator : ℕ) (old new : List ℕ) (table : Table) (list : Place)
+    (items : Values) (blocks : List ℕ) (j : ℕ) : Type 0 where
+  pub gives : List ℕ
+  pub gives_are : PartBlocks old table list j gives
+  pub others : List ℕ
+  pub succeeds : Succeeds allocator old new table list (Seq items) [] gives blocks others
+  pub moves : MovesItems old new table list (without_index j)
