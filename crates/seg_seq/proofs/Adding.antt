@@ -55,7 +55,7 @@ module _ (allocator : ℕ) (old mid : List ℕ) (table : Table) (list : Place) (
   inside = rw eight at t.inside
 
   low : AllByRecursion (λ p. 16 ≤ p) all
-  low = (given.is_block.behind_header, each_weaker (λ p. IsBlock mid p (tag_of Kind.node list.type) (8 + size table U)) (λ p. 16 ≤ p) (λ p b. b.behind_header) nodes l.are_nodes)
+  low = (given.is_block.after_header, each_weaker (λ p. IsBlock mid p (tag_of Kind.node list.type) (8 + size table U)) (λ p. 16 ≤ p) (λ p b. b.after_header) nodes l.are_nodes)
 
   blocks_count : (h : ℕ) → times h blocks ≡ times h (map block_of nodes) + times h l.owned
   blocks_count h = ap (times h) l.blocks_are ∙ times-append h (map block_of nodes) l.owned

@@ -112,7 +112,7 @@ module _ (allocator : ℕ) (old : List ℕ) (table : Table) (list : Place) (U no
   inside = rw eight at s.inside
 
   low : AllByRecursion (λ q. 16 ≤ q) all
-  low = each_weaker (λ q. IsBlock old q (tag_of Kind.node list.type) (8 + size table U)) (λ q. 16 ≤ q) (λ q k. k.behind_header) all are_nodes
+  low = each_weaker (λ q. IsBlock old q (tag_of Kind.node list.type) (8 + size table U)) (λ q. 16 ≤ q) (λ q k. k.after_header) all are_nodes
 
   -- how often each block stands in the parts
   all_count : (h : ℕ) → times h (map block_of all) ≡ times h (b ∷ map block_of rest)
@@ -209,7 +209,7 @@ module _ (allocator : ℕ) (old : List ℕ) (table : Table) (list : Place) (U no
       holds_it = Holds-kept old one table s.is_table p.holds_it (value_same node node_some) (each_there (KeepsBlock old one) p.its (λ h some. owned_kept h (let c = owned_count h in omega arith)));
       aligned = let q = there (λ q. (q % 8 ≡ 0) × (q + 8 ≤ length old)) node all dropped_spread.fit.1 node_some in let e = q.0 in omega arith;
       home = b;
-      inside = let n = node_now node node_some in let lo = n.behind_header in let room = n.room in
+      inside = let n = node_now node node_some in let lo = n.after_header in let room = n.room in
           let two = (there (LiesIn one heap_start (length one)) b (positions (live one)) (live-lie one allocator one_heap) (let c = one_count b in let l = b_live in omega arith)).size in
           record { low = omega arith; high = omega arith };
       owned = λ h.
@@ -223,7 +223,7 @@ module _ (allocator : ℕ) (old : List ℕ) (table : Table) (list : Place) (U no
     pub item_inside : IsInside one b (node + 8) (size table U)
     item_inside =
         let n = node_now node node_some in
-        let lo = n.behind_header in
+        let lo = n.after_header in
         let room = n.room in
         let two = (there (LiesIn one heap_start (length one)) b (positions (live one)) (live-lie one allocator one_heap) (let c = one_count b in let l = b_live in omega arith)).size in
         record { low = omega arith; high = omega arith }
@@ -261,7 +261,7 @@ module _ (allocator : ℕ) (old : List ℕ) (table : Table) (list : Place) (U no
           apart : OneOrApart one b h → LiesIn one heap_start (length one) h → Separate (h + 16) (payload_size one h) (node + 8) (size table U)
           apart (inl e) l = absurd (ne e)
           apart (inr (inl before)) l = inr (omega (arith, item_inside.high))
-          apart (inr (inr behind)) l = inl (omega (arith, item_inside.low, l.size))
+          apart (inr (inr following)) l = inl (omega (arith, item_inside.low, l.size))
 
           whole_two : KeepsBlock one two h
           whole_two =

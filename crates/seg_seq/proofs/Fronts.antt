@@ -48,7 +48,7 @@ module _ (allocator : ℕ) (bytes : List ℕ) (table : Table) (list : Place) (U 
   its_spread =
       let inside : IsInside bytes s.home list.at 8 = rw eight at s.inside in
       are_spread allocator bytes s.heap list.at s.home inside s.aligned its_list.nodes
-      (each_weaker (λ p. IsBlock bytes p (tag_of Kind.node list.type) (8 + size table U)) (λ p. 16 ≤ p) (λ p b. b.behind_header) its_list.nodes its_list.are_nodes)
+      (each_weaker (λ p. IsBlock bytes p (tag_of Kind.node list.type) (8 + size table U)) (λ p. 16 ≤ p) (λ p b. b.after_header) its_list.nodes its_list.are_nodes)
       (λ h. let o = s.owned h in
       let b : times h blocks ≡ times h (map block_of its_list.nodes ++ its_list.owned) = ap (times h) its_list.blocks_are in
       let a = times-append h (map block_of its_list.nodes) its_list.owned in

@@ -169,7 +169,7 @@ unlinked_between bytes cell node x xs y ys s r =
     let a = its bytes cell node x xs (y ∷ ys) s r in
     let front = front_once bytes cell node x xs (y ∷ ys) s r in
     let no_y : times y (x ∷ xs) ≡ 0 = omega arith in
-    let no_y_behind : times y xs ≡ 0 = let m = times-more y x xs in omega arith in
+    let no_y_after : times y xs ≡ 0 = let m = times-more y x xs in omega arith in
     let no_more_y : times y ys ≡ 0 = omega arith in
     let k = last_among x xs in
     let at_last = c (last_of x xs) in
@@ -179,7 +179,7 @@ unlinked_between bytes cell node x xs y ys s r =
     let p = parts bytes cell node x xs (y ∷ ys) s r in
     let f = front_aligned bytes cell node x xs (y ∷ ys) s r in
     let b = back_aligned bytes cell node x xs (y ∷ ys) s r in
-    let l1 = linked_to bytes (last_of x xs) y a.0 that.0 s.small a.1 that.1 node x xs refl f front no_y_behind p.0 in
+    let l1 = linked_to bytes (last_of x xs) y a.0 that.0 s.small a.1 that.1 node x xs refl f front no_y_after p.0 in
     let l2 = linked_beside bytes (last_of x xs) y a.0 that.0 x y ys f.0 b.1 no_last no_more_y apart p.1.1 in
     let named = (first bytes cell node x xs (y ∷ ys) s r).0 in
     let ring = linked_append (joined bytes (last_of x xs) y) x xs y ys x l1 l2 in

@@ -150,4 +150,4 @@ module _ (allocator : ℕ) (old new : List ℕ) (places : List ℕ) (heap : IsHe
         let was_tag = rw e at b.has_tag in
         let was_room = rw e at b.room in
         let room = h.room in
-        record { behind_header = b.behind_header; live = rw e (h.live ∙ was_live); has_tag = rw e (h.has_tag ∙ was_tag); room = rw e (omega arith) }
+        record { after_header = b.after_header; live = rw e (h.live ∙ was_live); has_tag = rw e (h.has_tag ∙ was_tag); room = rw e (omega arith) }

@@ -17,6 +17,7 @@
 use Rattle.std.specs.Prelude.{◌≡◌, ℕ, ◌+◌, ◌*◌, ◌%◌, ◌<◌, ◌≤◌, ◌-◌, List, [], length, Some, None, Result, MatchResult}
 use Rattle.std.specs.List.{AllByRecursion}
 use Rattle.seg_spec.specs.Bytes.{word, IsSame, ChangesOnly, slice}
+pub use Rattle.seg_spec.specs.Header.{index_cell}
 use Rattle.seg_spec.specs.Pointer.{target}
 use Rattle.seg_spec.specs.Types.{Table}
 use Rattle.seg_spec.specs.Heap.{Span, IsHeap, live}
@@ -33,10 +34,6 @@ use Rattle.seg_block.specs.Tags.{word_of}
 use Rattle.seg_value.specs.declared.content.Content.{Content}
 use Rattle.seg_value.specs.declared.content.Shape.TheVariants as shape
 use Rattle.seg_value.specs.declared.entry.Held.TheVariants as held
-
--- where the index's cell stands
-abbrev pub index_cell : ℕ
-index_cell = 32
 
 -- a buffer of entries of 8 bytes, each with a pointer to an object that it doesn't own
 pub record IsIndexBuffer (content : Content) : Type 0 where
