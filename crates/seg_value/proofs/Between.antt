@@ -119,7 +119,8 @@ module _ (allocator : ℕ) (old : List ℕ) (table : Table) (place : Place) (U :
 
   -- ---- what a call leaves, after all its writes
 
-  pub finished : (fin : List ℕ) (n : ℕ) (more : List ℤ) (ws : Values) → IsHeap allocator fin → live fin ≡ live old → AllByRecursion (λ b. IsOwnable fin table b.at) (live fin) → Frames old fin place.at (size table place.type) (block_of p ∷ [])
+  pub finished : (fin : List ℕ) (n : ℕ) (more : List ℤ) (ws : Values) → IsHeap allocator fin → live fin ≡ live old
+      → AllByRecursion (λ b. IsOwnable fin table b.at) (live fin) → Frames old fin place.at (size table place.type) (block_of p ∷ [])
       → target fin place.at ≡ Some p → count_at fin place.at ≡ n → IsBlock fin p (tag_of Kind.buffer place.type) (n * (8 + size table U)) → Run fin table U p n more ws owned → IsAscending more
       → ChangesPlace old fin table place (Map more ws) blocks (live old) blocks blocks
   finished fin n more ws heap live_is ownable frames named_then counted block run ascending =
@@ -304,7 +305,8 @@ module _ (allocator : ℕ) (old : List ℕ) (table : Table) (place : Place) (U :
 
   -- ---- one goes
 
-  module _ (index k : ℕ) (counted : count_at old place.at ≡ index + (1 + k)) (moved new : List ℕ) (shifts : Shifts old moved table 8 U (8 + size table U) (p + index * (8 + size table U) + (8 + size table U)) (p + index * (8 + size table U)) k)
+  module _ (index k : ℕ) (counted : count_at old place.at ≡ index + (1 + k)) (moved new : List ℕ)
+      (shifts : Shifts old moved table 8 U (8 + size table U) (p + index * (8 + size table U) + (8 + size table U)) (p + index * (8 + size table U)) k)
       (new_is : new ≡ set_word moved (place.at + 4) (index + k)) (nothing : PlaceBlocks old table (record { at = p + index * (8 + size table U) + 8; type = U }) []) where
     q : ℕ
     q = p + index * (8 + size table U)
@@ -482,14 +484,16 @@ module _ (allocator : ℕ) (old : List ℕ) (table : Table) (place : Place) (U :
       unfolding key
       opened =
           let c = came in
-          let new_keys : insert keys index (signed_long written spot) ≡ c.k1 ++ (signed_long written spot ∷ c.k2) = ap (λ ks. insert ks index (signed_long written spot)) c.keys_are ∙ insert_key c.k1 c.k2 (signed_long written spot) index c.keys_count in
+          let new_keys : insert keys index (signed_long written spot) ≡ c.k1 ++ (signed_long written spot ∷ c.k2) = ap (λ ks. insert ks index (signed_long written spot)) c.keys_are
+          ∙ insert_key c.k1 c.k2 (signed_long written spot) index c.keys_count in
           let new_values : insert_nth vs index w ≡ append c.v1 (cons w c.v2) = ap (λ us. insert_nth us index w) c.values_are ∙ insert_between c.v1 c.v2 w index c.values_count in
           let ascend : IsAscending (c.k1 ++ (signed_long written spot ∷ c.k2)) = rw new_keys at ascending in
           let frames = frames_twice old new written place.at (size table place.type) (block_of p ∷ []) (block_of p ∷ []) then.frames
           (frames_beside allocator new written table (block_of p) spot each then.heap writes new_inside g_there place.at (size table place.type)) (λ h some none. none) in
           let block = wrote_block allocator new written table (block_of p) spot each then.heap writes new_inside g_there p tag ((index + (1 + k)) * each) (sym own_block) (then.block ((index + (1 + k)) * each) room) in
           let done = finished written (index + (1 + k)) (c.k1 ++ (signed_long written spot ∷ c.k2)) (append c.v1 (cons w c.v2)) (wrote_heap allocator new written table (block_of p) spot each then.heap writes new_inside g_there)
-          (wrote_live allocator new written table (block_of p) spot each then.heap writes new_inside g_there ∙ then.live_is) (wrote_ownable allocator new written table (block_of p) spot each then.heap writes new_inside g_there then.ownable) frames
+          (wrote_live allocator new written table (block_of p) spot each then.heap writes new_inside g_there ∙ then.live_is)
+          (wrote_ownable allocator new written table (block_of p) spot each then.heap writes new_inside g_there then.ownable) frames
           (cell-target new written place.at place_written ∙ then.named_then) (cell-count new written place.at place_written ∙ then.counted) block run ascend in
           rw (new_keys, new_values) done
 
@@ -498,7 +502,8 @@ module _ (allocator : ℕ) (old : List ℕ) (table : Table) (place : Place) (U :
   pub each_room : (n : ℕ) → n * each ≤ payload_size old (block_of p) → p + n * each ≤ length old
   each_room n l = let b = lies (block_of p) g_live in let o = own_block in omega (arith, b.high, b.size)
 
-pub few_keys : (bytes : List ℕ) (table : Table) (place : Place) (U : ℕ) (keys : List ℤ) (vs : Values) (blocks : List ℕ) → form_at table place.type ≡ Some (Form.flat_map U) → Holds bytes table place (Map keys vs) blocks → count_at bytes place.at ≡ length keys
+pub few_keys : (bytes : List ℕ) (table : Table) (place : Place) (U : ℕ) (keys : List ℤ) (vs : Values) (blocks : List ℕ)
+    → form_at table place.type ≡ Some (Form.flat_map U) → Holds bytes table place (Map keys vs) blocks → count_at bytes place.at ≡ length keys
 few_keys bytes table place U keys vs blocks f h =
     let b = buffered bytes table place (Form.flat_map U) (Map keys vs) blocks f refl h in
     let same = both keys (keys_at bytes (spaced (start bytes place.at) (8 + size table U) (count_at bytes place.at))) vs b.entries.0 b.entries.1 in
@@ -506,7 +511,8 @@ few_keys bytes table place U keys vs blocks f h =
 
 module _ (allocator : ℕ) (old : List ℕ) (table : Table) (place : Place) (U : ℕ) (keys : List ℤ) (vs : Values) (blocks : List ℕ) (s : Stands allocator old table place (Map keys vs) blocks)
     (f : form_at table place.type ≡ Some (Form.flat_map U)) where
-  pub closed_by : (index each at next last k step begin : ℕ) (moved new : List ℕ) → index < count_at old place.at → each ≡ 8 + size table U → begin ≡ start old place.at → last ≡ count_at old place.at - 1 → k ≡ last - index → step ≡ min (index + 1) 4294967295
+  pub closed_by : (index each at next last k step begin : ℕ) (moved new : List ℕ) → index < count_at old place.at → each ≡ 8 + size table U → begin ≡ start old place.at
+      → last ≡ count_at old place.at - 1 → k ≡ last - index → step ≡ min (index + 1) 4294967295
       → at ≡ (begin + index * each) % 2 ^ 32 → next ≡ (begin + step * each) % 2 ^ 32 → (IsWithin old next (k * each) → IsWithin old at (k * each) → Shifts old moved table 8 U each next at k) → new ≡ set_word moved (place.at + 4) last
       → PlaceBlocks old table (flat_value old table place.at U index) [] → ChangesPlace old new table place (without_entry (keys, vs) index) blocks (live old) blocks blocks
   closed_by index each at next last k step begin moved new below each_is begin_is last_is k_is step_is at_by next_by shifts new_is nothing = go (target old place.at) refl
@@ -534,7 +540,8 @@ module _ (allocator : ℕ) (old : List ℕ) (table : Table) (place : Place) (U :
           let last_by : last ≡ index + k = omega arith in
           closed allocator old table place U keys vs blocks s f p e index k counted moved new shifted (rw last_by at new_is) (rw start_is at nothing)
 
-  pub opened_by : (mid : List ℕ) (index each at next kept len k step begin : ℕ) (moved new : List ℕ) → Reserves allocator old mid table place (Map keys vs) blocks (flat_asks old table place.at U) ((count_at old place.at + 1) * (8 + size table U))
+  pub opened_by : (mid : List ℕ) (index each at next kept len k step begin : ℕ) (moved new : List ℕ)
+      → Reserves allocator old mid table place (Map keys vs) blocks (flat_asks old table place.at U) ((count_at old place.at + 1) * (8 + size table U))
       → index ≤ count_at old place.at → each ≡ 8 + size table U → kept ≡ count_at old place.at → len ≡ kept + 1 → begin ≡ start mid place.at → k ≡ kept - index → step ≡ min (index + 1) 4294967295
       → at ≡ (begin + index * each) % 2 ^ 32 → next ≡ (begin + step * each) % 2 ^ 32 → (IsWithin mid at (k * each) → IsWithin mid next (k * each) → Shifts mid moved table 8 U each at next k) → new ≡ set_word moved (place.at + 4) len
       → OpensEntry allocator old new table place U keys vs blocks index at

@@ -110,7 +110,8 @@ module _ (allocator : ℕ) (old : List ℕ) (table : Table) (s : FindsNames allo
           let fits : max 4 (max (2 * count_at old index_cell) limit) * 8 < 2 ^ 32 = omega arith in
           wanted_by (rw entries_are fits) ∙ ap (λ k. need (k * 8)) entries_are
 
-      pub index_wanted_large : (kept entries wanted : ℕ) → 2 ^ 32 ≤ limit * 8 → kept ≡ count_at old index_cell → (kept < 2 ^ 31 → entries ≡ max 4 (max (2 * kept) limit)) → (2 ^ 32 ≤ entries * 8 → wanted ≡ need (2 ^ 32 - 1)) → wanted ≡ need (2 ^ 32 - 1)
+      pub index_wanted_large : (kept entries wanted : ℕ) → 2 ^ 32 ≤ limit * 8 → kept ≡ count_at old index_cell → (kept < 2 ^ 31 → entries ≡ max 4 (max (2 * kept) limit))
+          → (2 ^ 32 ≤ entries * 8 → wanted ≡ need (2 ^ 32 - 1)) → wanted ≡ need (2 ^ 32 - 1)
       index_wanted_large kept entries wanted large kept_is entries_by wanted_by =
           let few = names_fit in
           let e = entries_by (omega arith) in
@@ -206,8 +207,10 @@ module _ (allocator : ℕ) (old : List ℕ) (table : Table) (s : FindsNames allo
             go (Some p) e = with_block p e
 
       -- more than any segment has room for
-      pub index_enlarged_large : (mid : List ℕ) (r : Option Grant) (old_block : Option ℕ) (wanted least : ℕ) → old_block ≡ option_map block_of (target old index_cell) → 2 ^ 32 ≤ limit * 8 → wanted ≡ need (2 ^ 32 - 1) → least ≡ need (2 ^ 32 - 1)
-          → ((at x : ℕ) → old_block ≡ Some at → IsHeap allocator old → IsLiveBlock old at x → Grants allocator old mid at x wanted least r) → (old_block ≡ None → IsHeap allocator old → GrantsNew allocator old mid wanted least r) → Enlarged mid r
+      pub index_enlarged_large : (mid : List ℕ) (r : Option Grant) (old_block : Option ℕ) (wanted least : ℕ) → old_block ≡ option_map block_of (target old index_cell)
+          → 2 ^ 32 ≤ limit * 8 → wanted ≡ need (2 ^ 32 - 1) → least ≡ need (2 ^ 32 - 1)
+          → ((at x : ℕ) → old_block ≡ Some at → IsHeap allocator old → IsLiveBlock old at x → Grants allocator old mid at x wanted least r)
+          → (old_block ≡ None → IsHeap allocator old → GrantsNew allocator old mid wanted least r) → Enlarged mid r
       index_enlarged_large mid r old_block wanted least block_is large wanted_by least_by at_block no_block = go (target old index_cell) refl
         where
           none : after_ask allocator (live old) (length old) (record { old = option_map block_of (target old index_cell); preferred = wanted; limit = least }) ≡ None
@@ -224,7 +227,8 @@ module _ (allocator : ℕ) (old : List ℕ) (table : Table) (s : FindsNames allo
           go (Some p) e =
               let b = index_block p e in
               let g = at_block (block_of p) b.units (block_is ∙ ap (option_map block_of) e) s.heap b.among in
-              let one = units_found (live old) (block_of p) b.units b.among (λ d among at_is. sym (each_contained (StatesSpan old (length old)) (live old) d (live_stated old allocator s.heap) among).units_is ∙ ap (units_at old) at_is ∙ b.units_is) in
+              let one = units_found (live old) (block_of p) b.units b.among (λ d among at_is. sym (each_contained (StatesSpan old (length old)) (live old) d (live_stated old allocator s.heap) among).units_is
+              ∙ ap (units_at old) at_is ∙ b.units_is) in
               let n : after_request_at allocator (live old) (length old) (block_of p) b.units wanted least ≡ None = rw (e, one) at none in
               no_space (rw n at g.grants)
 

@@ -48,7 +48,8 @@ names_kept old new same kept room = record { counted = cell-count old new index_
 
 -- ---- the buffer grows where it stands
 
-module _ (allocator : ℕ) (old : List ℕ) (table : Table) (s : FindsNames allocator old table) (new : List ℕ) (heap : IsHeap allocator new) (keeps : Keeps old new) (at x n : ℕ) (it : Contains (live old) (span at x)) (more : x ≤ n) (live_is : live new ≡ resized at n (live old)) where
+module _ (allocator : ℕ) (old : List ℕ) (table : Table) (s : FindsNames allocator old table) (new : List ℕ) (heap : IsHeap allocator new) (keeps : Keeps old new)
+    (at x n : ℕ) (it : Contains (live old) (span at x)) (more : x ≤ n) (live_is : live new ≡ resized at n (live old)) where
   states : (b : Span) → Contains (live old) b → StatesSpan old (length old) b
   states b c = each_contained (StatesSpan old (length old)) (live old) b (live_stated old allocator s.heap) c
 
@@ -253,7 +254,8 @@ module _ (allocator : ℕ) (before taken : List ℕ) (table : Table) (s : FindsN
         let in_marked = marked_there h some in
         let in_moved : 1 ≤ times h (positions (live moved)) = subst (λ bs. 1 ≤ times h (positions bs)) (sym moved_live) in_marked in
         kept_twice before tagged_index pointed_index h (marked_kept h some).whole.kept
-        (kept_twice tagged_index moved pointed_index h (wrote_other allocator tagged_index moved table g (g + 16) m marked_heap changes inside g_live h in_marked (not_new h some)) (header_kept allocator moved pointed_index index_cell 4 moved_heap points below past_root h in_moved))
+        (kept_twice tagged_index moved pointed_index h (wrote_other allocator tagged_index moved table g (g + 16) m marked_heap changes inside g_live h in_marked (not_new h some))
+        (header_kept allocator moved pointed_index index_cell 4 moved_heap points below past_root h in_moved))
 
     g_moved : 1 ≤ times g (positions (live moved))
     g_moved = subst (λ bs. 1 ≤ times g (positions bs)) (sym moved_live) g_live
@@ -357,7 +359,13 @@ module _ (allocator : ℕ) (before taken : List ℕ) (table : Table) (s : FindsN
                 heap = subst (λ a. IsHeap a new) (sym s.allocator_is) gives.heap;
                 ownable = given_ownable allocator pointed_index new table (block_of p) pointed_heap gives p_there pointed_ownable;
                 live_is = rw names (gives.given ∙ ap (λ bs. after_gives bs (block_of p ∷ [])) pointed_live);
-                live_are = λ h. rw (names, names_there) (omega (arith, given_counts allocator pointed_index new table (block_of p) pointed_heap gives p_there h, pointed_counts h, times-append h (g ∷ []) (positions (live before)), times-append h (block_of p ∷ []) (positions (live new))));
+                live_are = λ h. rw (names, names_there) (omega (
+                  arith,
+                  given_counts allocator pointed_index new table (block_of p) pointed_heap gives p_there h,
+                  pointed_counts h,
+                  times-append h (g ∷ []) (positions (live before)),
+                  times-append h (block_of p ∷ []) (positions (live new)),
+                ));
                 kept = λ h some away. kept_twice before pointed_index new h (pointed_kept h some)
                     (given_linked allocator pointed_index new table (block_of p) pointed_heap gives p_there h (omega (arith, pointed_counts h, times-append h (g ∷ []) (positions (live before)))) (not_it h (rw names at away))).whole.kept;
                 room = rw (names_then, counts_then) (IsBlock-kept pointed_index new (g + 16) tag (count_at before index_cell * 8) kept_there count_room);
@@ -387,7 +395,8 @@ moved_entry old moved from to k i shifts l apart =
     let first : target moved (to + i * 8) ≡ target old (from + i * 8) = rw (e1, e2) at (shifts.named i l (rw (e1, e2) apart)) in
     (first, shifts.beside i 4 4 l (omega arith) (inr (omega arith)))
 
-module _ (allocator : ℕ) (before taken marked : List ℕ) (table : Table) (s : FindsNames allocator before table) (u g payload : ℕ) (t : Takes allocator before taken u (Some g)) (two : 2 ≤ u) (enough : count_at before index_cell * 8 + 16 ≤ 16 * u)
+module _ (allocator : ℕ) (before taken marked : List ℕ) (table : Table) (s : FindsNames allocator before table) (u g payload : ℕ)
+    (t : Takes allocator before taken u (Some g)) (two : 2 ≤ u) (enough : count_at before index_cell * 8 + 16 ≤ 16 * u)
     (marked_is : marked ≡ set_word taken (g + 8) (tag_of Kind.index_buffer 0)) (payload_by : payload ≡ (g + 16) % 2 ^ 32) where
   payload_is : payload ≡ g + 16
   payload_is = let l = new_small allocator before taken table s u g t two in omega arith

@@ -132,8 +132,10 @@ module _ (allocator : ℕ) (old : List ℕ) (table : Table) (s : FindsNames allo
     }
 
   -- what changed, after all
-  pub index_changes : (new : List ℕ) (n : ℕ) → length new ≡ length old → IsSame old new 0 24 → IsSame old new 28 4 → IsSame old new 40 664 → IsHeap allocator new → live new ≡ live old → AllByRecursion (λ b. IsOwnable new table b.at) (live new)
-      → ((h : ℕ) → 1 ≤ times h (positions (live old)) → h ≢ block_of p → KeepsBlock old new h) → target new index_cell ≡ Some p → count_at new index_cell ≡ n → IsBlock new p (tag_of Kind.index_buffer 0) (n * 8) → ChangesIndex old new table (live old)
+  pub index_changes : (new : List ℕ) (n : ℕ) → length new ≡ length old → IsSame old new 0 24 → IsSame old new 28 4 → IsSame old new 40 664
+      → IsHeap allocator new → live new ≡ live old → AllByRecursion (λ b. IsOwnable new table b.at) (live new)
+      → ((h : ℕ) → 1 ≤ times h (positions (live old)) → h ≢ block_of p → KeepsBlock old new h) → target new index_cell ≡ Some p
+      → count_at new index_cell ≡ n → IsBlock new p (tag_of Kind.index_buffer 0) (n * 8) → ChangesIndex old new table (live old)
   index_changes new n long front middle back heap live_is ownable kept named_then counted block = record {
     length_kept = long;
     front_kept = front;
@@ -153,7 +155,8 @@ module _ (allocator : ℕ) (old : List ℕ) (table : Table) (s : FindsNames allo
           let one : times (block_of p) (block_of p ∷ []) ≡ 0 = subst (λ x. times x (block_of p ∷ []) ≡ 0) e none' in
           omega (arith, times-same (block_of p) [])
 
-  pub name_closed : (index k : ℕ) → count_at old index_cell ≡ index + (1 + k) → (moved new : List ℕ) → MovesPointers old moved 8 0 (p + index * 8 + 8) (p + index * 8) k → new ≡ set_word moved (index_cell + 4) (index + k) → ClosesName old new table index
+  pub name_closed : (index k : ℕ) → count_at old index_cell ≡ index + (1 + k) → (moved new : List ℕ) → MovesPointers old moved 8 0 (p + index * 8 + 8) (p + index * 8) k
+      → new ≡ set_word moved (index_cell + 4) (index + k) → ClosesName old new table index
   name_closed index k counted moved new shifts new_is =
       let room : (index + (1 + k)) * 8 ≤ payload_size old (block_of p) = rw counted at name_block.room in
       let in_heap = name_room ((index + (1 + k)) * 8) room in
@@ -268,7 +271,12 @@ module _ (allocator : ℕ) (old : List ℕ) (table : Table) (s : FindsNames allo
             heap = subst (λ a. IsHeap a new) (sym s.allocator_is) gives.heap;
             ownable = given_ownable allocator pointed new table (block_of p) unnamed_index_heap gives g_live (header_ownable allocator old pointed index_cell 4 s.heap points below past_root table s.ownable);
             live_is = rw names (gives.given ∙ ap (λ bs. after_gives bs (block_of p ∷ [])) pointed_live);
-            live_are = λ h. rw (names, names_then) (omega (arith, given_counts allocator pointed new table (block_of p) unnamed_index_heap gives g_live h, times-append h (block_of p ∷ []) (positions (live new)), ap (λ bs. times h (positions bs)) pointed_live));
+            live_are = λ h. rw (names, names_then) (omega (
+              arith,
+              given_counts allocator pointed new table (block_of p) unnamed_index_heap gives g_live h,
+              times-append h (block_of p ∷ []) (positions (live new)),
+              ap (λ bs. times h (positions bs)) pointed_live,
+            ));
             kept = λ h some away. kept_twice old pointed new h (header_kept allocator old pointed index_cell 4 s.heap points below past_root h some)
                 (given_linked allocator pointed new table (block_of p) unnamed_index_heap gives g_live h (subst (λ bs. 1 ≤ times h (positions bs)) (sym pointed_live) some) (not_it h (rw names at away))).whole.kept;
             room = rw names_then counts_then;
@@ -316,7 +324,8 @@ finds_after allocator old mid table left s c k = record {
     there_now h some (inl none) = omega (arith, c.live_are h)
     there_now h some (inr one) = omega (arith, c.live_are h, s.is_live h one, named_once old h)
 
-pub index_twice : (allocator : ℕ) (a b c : List ℕ) (table : Table) (left more : List Span) → FindsNames allocator a table → FindsNames allocator b table → ChangesIndex a b table left → ChangesIndex b c table more → ChangesIndex a c table more
+pub index_twice : (allocator : ℕ) (a b c : List ℕ) (table : Table) (left more : List Span)
+    → FindsNames allocator a table → FindsNames allocator b table → ChangesIndex a b table left → ChangesIndex b c table more → ChangesIndex a c table more
 index_twice allocator a b c table left more s t x y = record {
   length_kept = y.length_kept ∙ x.length_kept;
   front_kept = IsSame-trans a b c 0 24 x.front_kept y.front_kept;
@@ -381,10 +390,12 @@ module _ (allocator : ℕ) (mid : List ℕ) (table : Table) (s : FindsNames allo
               (wrote_live allocator new written table (block_of p) (p + index * 8) 8 then.heap writes spot_inside p_there ∙ then.live_is)
               (wrote_ownable allocator new written table (block_of p) (p + index * 8) 8 then.heap writes spot_inside p_there then.ownable)
               (λ h some other. kept_twice mid new written h (then.kept h some other) (wrote_other allocator new written table (block_of p) (p + index * 8) 8 then.heap writes spot_inside p_there h (still h some) other))
-              names_then counts_then (wrote_block allocator new written table (block_of p) (p + index * 8) 8 then.heap writes spot_inside p_there p (tag_of Kind.index_buffer 0) ((index + (1 + k)) * 8) (sym p_is) (then.block ((index + (1 + k)) * 8) room));
+              names_then counts_then (wrote_block allocator new written table (block_of p) (p + index * 8) 8 then.heap writes spot_inside p_there p (tag_of Kind.index_buffer 0) ((index + (1 + k)) * 8)
+              (sym p_is) (then.block ((index + (1 + k)) * 8) room));
           at_is = rw start_new refl;
           counted = omega (arith, counted, counts_then);
-          before = λ i below. rw (start_old, start_new) (same_entry mid written (p + i * 8) (IsSame-trans mid new written (p + i * 8) 8 (then.before (p + i * 8) 8 (omega arith) (omega arith)) (writes.others (p + i * 8) 8 (inl (omega arith)))));
+          before = λ i below. rw (start_old, start_new) (same_entry mid written (p + i * 8) (IsSame-trans mid new written (p + i * 8) 8 (then.before (p + i * 8) 8 (omega arith) (omega arith))
+              (writes.others (p + i * 8) 8 (inl (omega arith)))));
           after = λ i low below. rw (start_old, start_new) (next i (i - index) low (omega (arith, counted)) (omega arith));
         }
       where

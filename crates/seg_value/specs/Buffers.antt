@@ -28,8 +28,8 @@ HasSizedBuffer bytes cell = MatchOption (target bytes cell) ⊤
     (λ p. IsSized bytes (span (block_of p) (units_at bytes (block_of p))))
 
 -- the buffer of a place that holds a value comes to have room for so many entries of some bytes each, or that is refused
-abbrev pub MakesRoom : {X Y : Type 0} → ℕ → List ℕ → List ℕ → Table → Place → Value → List ℕ → ℕ → ℕ →
-    Result X Y → Type 0
+abbrev pub MakesRoom : {X Y : Type 0} → ℕ → List ℕ → List ℕ → Table → Place → Value →
+    List ℕ → ℕ → ℕ → Result X Y → Type 0
 MakesRoom allocator old new table place v blocks each limit result = MatchResult result
     (λ done. Reserves allocator old new table place v blocks
     (buffer_asks old place.at each limit) (limit * each))
