@@ -3,7 +3,6 @@ use Rattle.seg_spec.specs.Bytes.{set_word}
 use Rattle.seg_spec.specs.Value.{Seq}
 use Rattle.seg_spec.specs.Window.{Placement, with_bytes}
 use Rattle.seg_value.specs.Places.{object_at}
-use Rattle.seg_value.specs.Stored.{Stored}
 use Rattle.seg_value.specs.declared.place.Place.{Place}
 use Rattle.seg_seq.specs.Sequences.{PushesBack}
 use Rattle.seg_seq.proofs.ItemCalls.{vector_entry, one_place, asked_little, no_item_pushed, item_pushed}
