@@ -7,3 +7,4 @@ pub mod Entering
 pub mod Adding
 pub mod Putting
 pub mod Removing
+pub mod Taking
