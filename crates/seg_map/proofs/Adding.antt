@@ -11,7 +11,7 @@ use Rattle.std.specs.declared.cmp.Ordering.TheVariants.{Less, Equal, Greater}
 use Rattle.seg_spec.specs.Bytes.{word, set_word, signed_long, IsSame}
 use Rattle.seg_spec.specs.Pointer.{target}
 use Rattle.seg_spec.specs.Types.{Form, Table, form_at, size}
-use Rattle.seg_spec.specs.Value.{Value, Values, count, append, cons, Map, IsAscending, default_of}
+use Rattle.seg_spec.specs.Value.{Selector, Value, Values, count, append, cons, Map, IsAscending, default_of}
 use Rattle.seg_spec.specs.Heap.{units_at, live, heap_start, IsHeap}
 use Rattle.seg_spec.specs.Block.{Kind, tag_of, IsBlock, IsInside, KeepsBlock, block_of, payload_size}
 use Rattle.seg_spec.specs.Apart.{Separate, KeepsBlockAround, BlocksApart, RangeApart}
@@ -23,6 +23,7 @@ use Rattle.seg_spec.specs.Sound.{times, positions}
 use Rattle.seg_spec.specs.Owning.{Stands}
 use Rattle.seg_spec.specs.Roots.{ChangesPlace}
 use Rattle.seg_spec.specs.Growing.{Succeeds}
+use Rattle.seg_spec.specs.Shrinking.{KeepsPathsInside}
 use Rattle.seg_spec.specs.Demand.{block_for}
 use Rattle.seg_spec.proofs.SliceLaws.{IsSame-part, IsSame-trans}
 use Rattle.seg_spec.proofs.TypesLaws.{size-form}
@@ -37,11 +38,11 @@ use Rattle.seg_rbtree.specs.Changes.{NodesApart, StandApart, IsNew, with_node, L
 use Rattle.seg_rbtree.proofs.Orders.{each_with}
 use Rattle.seg_rbtree.proofs.Paths.{leads_same}
 use Rattle.seg_map.specs.Maps.{AddsKey, value_of}
-use Rattle.seg_map.proofs.KeyOrder.{ascend_of, Apart, apart_at, more_keys, place_of_more, comes_between, ascends_with, place_behind, equal_self}
+use Rattle.seg_map.proofs.KeyOrder.{ascend_of, Apart, apart_at, more_keys, place_of_more, comes_between, ascends_with, place_behind, equal_self, place_of, key_of_place, still_among}
 use Rattle.seg_map.proofs.TreeMaps.{key_at, AreLow, keys_low, IsTreeMap, its, IsNode, are_nodes, low, few_nodes, ascend, is_search_tree, keys_are}
 use Rattle.seg_map.proofs.TreeMaps as maps
 use Rattle.seg_map.proofs.Relinking.{IsTouched, Remade, remade, count_before, stand_apart as nodes_stand_apart}
-use Rattle.seg_map.proofs.Rebuilding.{value_places, places_joined, places_long, inserted_nth, Parts, parts, joined, map_of, map_leads}
+use Rattle.seg_map.proofs.Rebuilding.{value_places, places_joined, places_long, inserted_nth, Parts, parts, joined, map_of, map_leads, passes, paths_by}
 use Rattle.seg_map.proofs.Entering.{Entered}
 
 -- what adding a node at the end of a path does, in any total order that leads there
@@ -388,5 +389,20 @@ module _ (allocator : ℕ) (old mid : List ℕ) (table : Table) (place : Place) 
       adds_key = record {
         others = others;
         succeeds = record { left = live new; left_is = e.spent_is ∙ ap Some (sym made.live_is); changes = changes };
-        stands_at = map_leads new table place U made.tree f made.is_tree made.red_black long_now blocks_now (subst IsAscending more more_ascend) key (length front) node place_now.0 place_now.1;
+        stands_at = map_leads new table place U made.tree f made.is_tree made.red_black long_now blocks_now (subst IsAscending more more_ascend) key (length front) node place_now.0 place_now.1 Rattle.seg_spec.specs.Reads.here;
       }
+
+      -- each path that led somewhere leads there
+      path_kept : (t : Selector) (path : List Selector) (inner : Place) → Leads old table place (t ∷ path) inner → Leads new table place (t ∷ path) inner
+      path_kept t path inner way =
+          let p = passes old new table s.is_table place U keys vs blocks f m values_same owned_kept way in
+          let was : key_place (map (key_at mid) nodes) p.key ≡ Some p.i = ap (λ ks. key_place ks p.key) (sym keys_are_mid ∙ m.keys_are) ∙ p.place_is in
+          let equal = key_of_place (key_at mid) p.key nodes p.i p.node was p.node_is in
+          let j = still_among front node back p.i p.node (ap (λ ns. slice_get ns p.i) (sym between.nodes_are) ∙ p.node_is) in
+          let there_now = place_of (key_at mid) p.key (front ++ node ∷ back) p.node j.0 (ascend_of (key_at mid) (front ++ node ∷ back) (subst IsAscending (more ∙ keys_new) more_ascend)) j.1 equal in
+          subst (λ u. Leads new table place (u ∷ path) inner) (sym p.selector_is)
+          (map_leads new table place U made.tree f made.is_tree made.red_black long_now blocks_now (subst IsAscending more more_ascend) p.key j.0 p.node
+          (ap (λ ks. key_place ks p.key) keys_new ∙ there_now) (ap (λ ns. slice_get ns j.0) now_are ∙ j.1) p.goes)
+
+      pub keeps_paths : KeepsPathsInside old new table place
+      keeps_paths path inner way = paths_by old new table place path_kept path inner way
