@@ -11,7 +11,7 @@ use Rattle.std.specs.declared.cmp.Ordering.TheVariants.{Less, Equal, Greater}
 use Rattle.seg_spec.specs.Bytes.{word, set_word, signed_long, IsSame}
 use Rattle.seg_spec.specs.Pointer.{target}
 use Rattle.seg_spec.specs.Types.{Form, Table, form_at, size}
-use Rattle.seg_spec.specs.Value.{Value, Values, count, append, cons, Map, IsAscending, default_of}
+use Rattle.seg_spec.specs.Value.{Selector, Value, Values, count, append, cons, Map, IsAscending, default_of}
 use Rattle.seg_spec.specs.Heap.{units_at, live, heap_start, IsHeap}
 use Rattle.seg_spec.specs.Block.{Kind, tag_of, IsBlock, IsInside, KeepsBlock, block_of, payload_size}
 use Rattle.seg_spec.specs.Apart.{Separate, KeepsBlockAround, BlocksApart, RangeApart}
@@ -23,6 +23,7 @@ use Rattle.seg_spec.specs.Sound.{times, positions}
 use Rattle.seg_spec.specs.Owning.{Stands}
 use Rattle.seg_spec.specs.Roots.{ChangesPlace}
 use Rattle.seg_spec.specs.Growing.{Succeeds}
+use Rattle.seg_spec.specs.Shrinking.{KeepsPathsInside}
 use Rattle.seg_spec.specs.Demand.{block_for}
 use Rattle.seg_spec.proofs.SliceLaws.{IsSame-part, IsSame-trans}
 use Rattle.seg_spec.proofs.TypesLaws.{size-form}
@@ -37,11 +38,11 @@ use Rattle.seg_rbtree.specs.Changes.{NodesApart, StandApart, IsNew, with_node, L
 use Rattle.seg_rbtree.proofs.Orders.{each_with}
 use Rattle.seg_rbtree.proofs.Paths.{leads_same}
 use Rattle.seg_map.specs.Maps.{AddsKey, value_of}
-use Rattle.seg_map.proofs.KeyOrder.{ascend_of, Apart, apart_at, more_keys, place_of_more, comes_between, ascends_with, place_after, equal_self}
+use Rattle.seg_map.proofs.KeyOrder.{ascend_of, Apart, apart_at, more_keys, place_of_more, comes_between, ascends_with, place_behind, equal_self, place_of, key_of_place, still_among}
 use Rattle.seg_map.proofs.TreeMaps.{key_at, AreLow, keys_low, IsTreeMap, its, IsNode, are_nodes, low, few_nodes, ascend, is_search_tree, keys_are}
 use Rattle.seg_map.proofs.TreeMaps as maps
 use Rattle.seg_map.proofs.Relinking.{IsTouched, Remade, remade, count_before, stand_apart as nodes_stand_apart}
-use Rattle.seg_map.proofs.Rebuilding.{value_places, places_joined, places_long, inserted_nth, Parts, parts, joined, map_of, map_leads}
+use Rattle.seg_map.proofs.Rebuilding.{value_places, places_joined, places_long, inserted_nth, Parts, parts, joined, map_of, map_leads, passes, paths_by}
 use Rattle.seg_map.proofs.Entering.{Entered}
 
 -- what adding a node at the end of a path does, in any total order that leads there
@@ -114,7 +115,7 @@ module _ (allocator : ℕ) (old mid : List ℕ) (table : Table) (place : Place) 
       one x l h = let at : (x + 16) % 2 ^ 32 ≡ x + 16 = omega arith in signed_long-same old mid ((x + 16) % 2 ^ 32) (rw at (IsSame-part old mid x (24 + size table U) (x + 16) 8 (omega arith) (omega arith) h))
 
   node_low : node + 8192 < 2 ^ 32
-  node_low = let l = lies_mid (block_of node) own_live in let back = e.block.after_header in let small = e.heap.small in let high = l.high in let two = l.size in omega arith
+  node_low = let l = lies_mid (block_of node) own_live in let back = e.block.behind_header in let small = e.heap.small in let high = l.high in let two = l.size in omega arith
 
   pub key_mid : key_at mid node ≡ key
   key_mid = let at : (node + 16) % 2 ^ 32 ≡ node + 16 = let l = node_low in omega arith in ap (signed_long mid) at ∙ e.key_is
@@ -141,10 +142,10 @@ module _ (allocator : ℕ) (old mid : List ℕ) (table : Table) (place : Place) 
   -- ---- the nodes stand apart
 
   touched_old : (x : ℕ) → IsNode allocator old table place U keys vs blocks f s x → IsTouched mid s.home x
-  touched_old x n = record { after_header = n.after_header; is_live = mid_live (block_of x) n.is_live; other = owned_other allocator old table place (Map keys vs) blocks s (block_of x) n.owned }
+  touched_old x n = record { behind_header = n.behind_header; is_live = mid_live (block_of x) n.is_live; other = owned_other allocator old table place (Map keys vs) blocks s (block_of x) n.owned }
 
   each_touched : AllByRecursion (IsTouched mid s.home) (node ∷ nodes)
-  each_touched = (record { after_header = e.block.after_header; is_live = own_live; other = not_own s.home home_old }, each_weaker _ _ touched_old nodes each_node)
+  each_touched = (record { behind_header = e.block.behind_header; is_live = own_live; other = not_own s.home home_old }, each_weaker _ _ touched_old nodes each_node)
 
   once : (h : ℕ) → times h (s.home ∷ (block_of node ∷ map block_of nodes)) ≤ 1
   once h =
@@ -235,7 +236,7 @@ module _ (allocator : ℕ) (old mid : List ℕ) (table : Table) (place : Place) 
 
       -- what follows a node's tree words
       content_same : (x : ℕ) → IsTouched mid s.home x → IsBlock mid x (tag_of Kind.node place.type) (24 + size table U) → (p k : ℕ) → x + 16 ≤ p → p + k ≤ x + (24 + size table U) → IsSame mid new p k
-      content_same x t b p k a c = made.content x p k t.after_header t.is_live t.other a (let r = b.room in let two = (lies_mid (block_of x) t.is_live).size in let low = t.after_header in omega arith)
+      content_same x t b p k a c = made.content x p k t.behind_header t.is_live t.other a (let r = b.room in let two = (lies_mid (block_of x) t.is_live).size in let low = t.behind_header in omega arith)
 
       block_mid : AllByRecursion (λ x. IsBlock mid x (tag_of Kind.node place.type) (24 + size table U)) (node ∷ nodes)
       block_mid = (e.block, Rattle.seg_spec.proofs.Frame.nodes-kept old mid (tag_of Kind.node place.type) (24 + size table U) nodes (each_left _ (map block_of nodes) m.owned blocks_kept) m.opens.are_nodes)
@@ -243,7 +244,7 @@ module _ (allocator : ℕ) (old mid : List ℕ) (table : Table) (place : Place) 
       block_now : (x : ℕ) → IsTouched mid s.home x → IsBlock mid x (tag_of Kind.node place.type) (24 + size table U) → IsBlock new x (tag_of Kind.node place.type) (24 + size table U)
       block_now x t b =
           let k = (made.header (block_of x) t.is_live).0 in
-          record { after_header = b.after_header; live = k.live ∙ b.live; has_tag = k.has_tag ∙ b.has_tag; room = let r = b.room in let q = k.room in omega arith }
+          record { behind_header = b.behind_header; live = k.live ∙ b.live; has_tag = k.has_tag ∙ b.has_tag; room = let r = b.room in let q = k.room in omega arith }
 
       blocks_now : AreNodes new (tag_of Kind.node place.type) (24 + size table U) (nodes_of made.tree)
       blocks_now = subst (AreNodes new (tag_of Kind.node place.type) (24 + size table U)) (sym made.nodes_are)
@@ -253,7 +254,7 @@ module _ (allocator : ℕ) (old mid : List ℕ) (table : Table) (place : Place) 
       key_new x t b = signed_long-same mid new (x + 16) (content_same x t b (x + 16) 8 (omega arith) (omega arith))
 
       low_mid : (x : ℕ) → IsTouched mid s.home x → x + 8192 < 2 ^ 32
-      low_mid x t = let l = lies_mid (block_of x) t.is_live in let low = t.after_header in let small = e.heap.small in let high = l.high in let two = l.size in omega arith
+      low_mid x t = let l = lies_mid (block_of x) t.is_live in let low = t.behind_header in let small = e.heap.small in let high = l.high in let two = l.size in omega arith
 
       keys_step : (ns : List ℕ) → AllByRecursion (λ x. signed_long new (x + 16) ≡ signed_long mid (x + 16)) ns → keys_at new (map (λ p. p + 16) ns) ≡ keys_at mid (map (λ p. p + 16) ns)
       keys_step [] h = refl
@@ -376,7 +377,7 @@ module _ (allocator : ℕ) (old mid : List ℕ) (table : Table) (place : Place) 
 
       place_now : (key_place (keys_at new (map (λ p. p + 16) (nodes_of made.tree))) key ≡ Some (length front)) × (slice_get (nodes_of made.tree) (length front) ≡ Some node)
       place_now = (
-        ap (λ ks. key_place ks key) keys_new ∙ place_after (key_at mid) key front node back between.low (ap (λ k. int_cmp k key) key_mid ∙ equal_self key),
+        ap (λ ks. key_place ks key) keys_new ∙ place_behind (key_at mid) key front node back between.low (ap (λ k. int_cmp k key) key_mid ∙ equal_self key),
         ap (λ ns. slice_get ns (length front)) now_are ∙ there_it_is front,
       )
         where
@@ -388,5 +389,20 @@ module _ (allocator : ℕ) (old mid : List ℕ) (table : Table) (place : Place) 
       adds_key = record {
         others = others;
         succeeds = record { left = live new; left_is = e.spent_is ∙ ap Some (sym made.live_is); changes = changes };
-        stands_at = map_leads new table place U made.tree f made.is_tree made.red_black long_now blocks_now (subst IsAscending more more_ascend) key (length front) node place_now.0 place_now.1;
+        stands_at = map_leads new table place U made.tree f made.is_tree made.red_black long_now blocks_now (subst IsAscending more more_ascend) key (length front) node place_now.0 place_now.1 Rattle.seg_spec.specs.Reads.here;
       }
+
+      -- each path that led somewhere leads there
+      path_kept : (t : Selector) (path : List Selector) (inner : Place) → Leads old table place (t ∷ path) inner → Leads new table place (t ∷ path) inner
+      path_kept t path inner way =
+          let p = passes old new table s.is_table place U keys vs blocks f m values_same owned_kept way in
+          let was : key_place (map (key_at mid) nodes) p.key ≡ Some p.i = ap (λ ks. key_place ks p.key) (sym keys_are_mid ∙ m.keys_are) ∙ p.place_is in
+          let equal = key_of_place (key_at mid) p.key nodes p.i p.node was p.node_is in
+          let j = still_among front node back p.i p.node (ap (λ ns. slice_get ns p.i) (sym between.nodes_are) ∙ p.node_is) in
+          let there_now = place_of (key_at mid) p.key (front ++ node ∷ back) p.node j.0 (ascend_of (key_at mid) (front ++ node ∷ back) (subst IsAscending (more ∙ keys_new) more_ascend)) j.1 equal in
+          subst (λ u. Leads new table place (u ∷ path) inner) (sym p.selector_is)
+          (map_leads new table place U made.tree f made.is_tree made.red_black long_now blocks_now (subst IsAscending more more_ascend) p.key j.0 p.node
+          (ap (λ ks. key_place ks p.key) keys_new ∙ there_now) (ap (λ ns. slice_get ns j.0) now_are ∙ j.1) p.goes)
+
+      pub keeps_paths : KeepsPathsInside old new table place
+      keeps_paths path inner way = paths_by old new table place path_kept path inner way

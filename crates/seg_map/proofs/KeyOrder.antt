@@ -13,6 +13,7 @@ use Rattle.seg_spec.specs.Value.{IsAscending, same_int}
 use Rattle.seg_spec.specs.Items.{key_place, keys_below}
 use Rattle.seg_spec.specs.Search.{Ascend, first_where, reaches}
 use Rattle.seg_spec.proofs.Frame.{each_weaker, each_left, each_right}
+use Rattle.seg_spec.proofs.Leading.{each_at}
 use Rattle.seg_rbtree.specs.Changes.{IsNew, with_node, without_node}
 use Rattle.seg_rbtree.specs.Paths.{FindsEqual, IsEqualAmong}
 use Rattle.seg_rbtree.proofs.Orders.{ascend-parts}
@@ -336,3 +337,45 @@ module _ (f : ℕ → ℤ) where
 
   pub goes_between : (k : ℤ) (node : ℕ) (front back : List ℕ) → int_cmp (f node) k ≡ Equal → Before k front → without_node node (front ++ node ∷ back) ≡ front ++ back
   goes_between k node front back e h = goes_from node front back (differ_before k node front e h)
+
+  -- ---- the same node among others
+
+  -- in order a number stands where its node does
+  pub place_of : (k : ℤ) (nodes : List ℕ) (x j : ℕ) → Ascend by nodes → slice_get nodes j ≡ Some x → int_cmp (f x) k ≡ Equal → key_place (map f nodes) k ≡ Some j
+  place_of k [] x j a at e = cc
+  place_of k (y ∷ ys) x zero a at e = let same : y ≡ x = cc in here (same_int k) (f y) (map f ys) (equals k y (ap (λ z. int_cmp (f z) k) same ∙ e))
+  place_of k (y ∷ ys) x (suc j) a at e =
+      let below : int_cmp (f y) k ≡ Less = ap (int_cmp (f y)) (sym (same_of_equal (f x) k e)) ∙ each_at (λ z. by y z ≡ Less) ys j x a.0 at in
+      past (same_int k) (f y) (map f ys) (differs k y (λ same. let both : Less ≡ Equal = sym below ∙ same in cc)) ∙ ap (option_map suc) (place_of k ys x j a.1 at e)
+
+  some_same : (i j : ℕ) → Some i ≡ Some j → i ≡ j
+  some_same i j e = cc
+
+  pub key_of_place : (k : ℤ) (nodes : List ℕ) (i x : ℕ) → key_place (map f nodes) k ≡ Some i → slice_get nodes i ≡ Some x → int_cmp (f x) k ≡ Equal
+  key_of_place k [] i x e at = cc
+  key_of_place k (y ∷ ys) i x e at = go (int_cmp (f y) k) refl (λ j. key_of_place k ys j x)
+    where
+      later : (o : Option ℕ) → option_map suc o ≡ Some i → ((j : ℕ) → o ≡ Some j → slice_get ys j ≡ Some x → int_cmp (f x) k ≡ Equal) → int_cmp (f x) k ≡ Equal
+      later None d h = cc
+      later (Some j) d h = h j refl (subst (λ n. slice_get (y ∷ ys) n ≡ Some x) (sym (some_same (suc j) i d)) at)
+
+      go : (r : Ordering) → int_cmp (f y) k ≡ r → ((j : ℕ) → key_place (map f ys) k ≡ Some j → slice_get ys j ≡ Some x → int_cmp (f x) k ≡ Equal) → int_cmp (f x) k ≡ Equal
+      go Equal d h =
+          let first : zero ≡ i = some_same zero i (sym (here (same_int k) (f y) (map f ys) (equals k y d)) ∙ e) in
+          let it : Some y ≡ Some x = subst (λ n. slice_get (y ∷ ys) n ≡ Some x) (sym first) at in
+          ap (λ z. int_cmp (f z) k) (some_same x y (sym it)) ∙ d
+      go Less d h = later (key_place (map f ys) k) (sym (past (same_int k) (f y) (map f ys) (differs k y (λ same. let both : Less ≡ Equal = sym d ∙ same in cc))) ∙ e) h
+      go Greater d h = later (key_place (map f ys) k) (sym (past (same_int k) (f y) (map f ys) (differs k y (λ same. let both : Greater ≡ Equal = sym d ∙ same in cc))) ∙ e) h
+
+-- an element stands among more
+pub still_among : (front : List ℕ) (node : ℕ) (back : List ℕ) (i x : ℕ) → slice_get (front ++ back) i ≡ Some x → (j : ℕ) × (slice_get (front ++ node ∷ back) j ≡ Some x)
+still_among [] node back i x e = (suc i, e)
+still_among (y ∷ front) node back zero x e = (zero, e)
+still_among (y ∷ front) node back (suc i) x e = let r = still_among front node back i x e in (suc r.0, r.1)
+
+-- another one stands among the others
+pub left_among : (front : List ℕ) (node : ℕ) (back : List ℕ) (i x : ℕ) → slice_get (front ++ node ∷ back) i ≡ Some x → x ≢ node → (j : ℕ) × (slice_get (front ++ back) j ≡ Some x)
+left_among [] node back zero x e ne = absurd (ne (let same : node ≡ x = cc in sym same))
+left_among [] node back (suc i) x e ne = (i, e)
+left_among (y ∷ front) node back zero x e ne = (zero, e)
+left_among (y ∷ front) node back (suc i) x e ne = let r = left_among front node back i x e ne in (suc r.0, r.1)

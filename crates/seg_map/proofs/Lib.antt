@@ -11,3 +11,4 @@ pub mod KeyLaws
 pub mod FlatMaps
 pub mod PartCleared
 pub mod FlatChanges
+pub mod Taking

@@ -6,13 +6,13 @@ use Rattle.std.specs.List.{AllByRecursion}
 use Rattle.std.specs.Ordering.{int_cmp}
 use Rattle.seg_spec.specs.Bytes.{word, set_word, signed_long, IsSame}
 use Rattle.seg_spec.specs.Types.{Form, Table, form_at, size}
-use Rattle.seg_spec.specs.Value.{Value, Values, count, append, cons, Map, IsAscending, default_of}
+use Rattle.seg_spec.specs.Value.{Selector, Value, Values, count, append, cons, Map, IsAscending, default_of}
 use Rattle.seg_spec.specs.Heap.{Span, units_at, live, heap_start, IsHeap, IsLive, Gives}
 use Rattle.seg_spec.specs.Block.{Kind, tag_of, IsBlock, IsInside, KeepsBlock, IsOwnable, block_of, payload_size}
 use Rattle.seg_spec.specs.Apart.{Separate, KeepsBlockAround}
 use Rattle.seg_spec.specs.Shapes.{Tree, nodes_of}
-use Rattle.seg_spec.specs.Items.{without_entry, remove_nth}
-use Rattle.seg_spec.specs.Reads.{Place, Opened, count_at, keys_at, AreNodes, Opens, Holds, HoldsEach, holds_more}
+use Rattle.seg_spec.specs.Items.{key_place, without_entry, remove_nth}
+use Rattle.seg_spec.specs.Reads.{Place, Opened, count_at, keys_at, AreNodes, Opens, Holds, HoldsEach, holds_more, Leads}
 use Rattle.seg_spec.specs.Sound.{times, positions}
 use Rattle.seg_spec.specs.Owning.{Stands}
 use Rattle.seg_spec.specs.Roots.{ChangesPlace}
@@ -22,18 +22,20 @@ use Rattle.seg_spec.proofs.SliceLaws.{IsSame-part, IsSame-trans}
 use Rattle.seg_spec.proofs.TypesLaws.{size-form}
 use Rattle.seg_spec.proofs.Giving.{found}
 use Rattle.seg_spec.proofs.GiveOrder.{in_any_order}
-use Rattle.seg_spec.proofs.Composing.{around_twice, around_kept}
+use Rattle.seg_spec.proofs.Composing.{kept_twice, around_twice, around_kept}
 use Rattle.seg_spec.proofs.PlaceSteps.{home_live, owned_live, owned_other}
-use Rattle.seg_spec.proofs.Standing.{stands_still, left_stands, left_frames}
+use Rattle.seg_spec.proofs.Standing.{same_place, stands_still, left_kept, left_stands, left_frames}
+use Rattle.seg_spec.proofs.Leading.{Leads-kept}
 use Rattle.seg_spec.proofs.Frame.{each_map, each_weaker, each_both, each_left, each_right, word-same, signed_long-same, SamePlace, Holds-kept, HoldsEach-kept}
 use Rattle.seg_spec.proofs.LiveLaws.{times-append, times-same, times-other, times-more, times-without, there, each_there, LiesIn, live-lie, live-apart, live-once, OneOrApart}
 use Rattle.seg_rbtree.specs.Changes.{StandApart, without_node, Leaves}
 use Rattle.seg_rbtree.proofs.TakingOut.{each_without}
 use Rattle.seg_map.specs.Maps.{TakesKey, value_of}
-use Rattle.seg_map.proofs.KeyOrder.{Around, fewer_keys, goes_between, ascends_without}
+use Rattle.seg_map.proofs.KeyOrder.{Around, ascend_of, same_of_equal, fewer_keys, goes_between, ascends_without, place_of, key_of_place, left_among}
+use Rattle.seg_map.specs.Trees.{KeepsOtherKeys}
 use Rattle.seg_map.proofs.TreeMaps.{key_at, keys_low, IsTreeMap, its, nodes, IsNode, are_nodes, low, few_nodes, ascend, keys_are, mapped_at}
 use Rattle.seg_map.proofs.Relinking.{IsTouched, Remade, remade, count_before, stand_apart}
-use Rattle.seg_map.proofs.Rebuilding.{value_places, places_joined, places_long, removed_nth, Parts, parts, joined, map_of}
+use Rattle.seg_map.proofs.Rebuilding.{value_places, places_joined, places_long, removed_nth, Parts, parts, joined, map_of, map_leads, passes}
 
 -- the value after others, taken out
 pub record Cut (bytes : List ℕ) (table : Table) (before after : List Place) (part : Place) (vs : Values) (blocks : List ℕ) : Type 0 where
@@ -208,6 +210,9 @@ module _ (allocator : ℕ) (old : List ℕ) (table : Table) (place : Place) (U :
     now_are : nodes_of made.tree ≡ a.front ++ a.back
     now_are = made.nodes_are ∙ front_back
 
+    long_now : length (nodes_of made.tree) ≡ count_at mid place.at
+    long_now = ap length now_are ∙ sym n_long ∙ sym made.count_is
+
     live_mid : (h : ℕ) → times h (positions (live mid)) ≡ times h (positions (live old))
     live_mid h = ap (λ bs. times h (positions bs)) made.live_is
 
@@ -251,8 +256,11 @@ module _ (allocator : ℕ) (old : List ℕ) (table : Table) (place : Place) (U :
         let once_live = live-once old allocator s.heap h in
         (owned_live allocator old table place (Map keys vs) blocks s h mine, owned_other allocator old table place (Map keys vs) blocks s h mine, omega arith)
 
+    all_kept : AllByRecursion (KeepsBlock old mid) m.owned
+    all_kept = each_there (KeepsBlock old mid) m.owned (λ h some. let w = owned_away h some in made.whole h w.0 w.1 w.2)
+
     owned_kept : AllByRecursion (KeepsBlock old mid) (k.xs ++ (k.zs ++ k.ys))
-    owned_kept = subst (AllByRecursion (KeepsBlock old mid)) k.blocks_are (each_there (KeepsBlock old mid) m.owned (λ h some. let w = owned_away h some in made.whole h w.0 w.1 w.2))
+    owned_kept = subst (AllByRecursion (KeepsBlock old mid)) k.blocks_are all_kept
 
     value_same : (x : ℕ) → IsNode allocator old table place U keys vs blocks f s x → IsSame old mid (x + 24) (size table U)
     value_same x d = content_same x d (x + 24) (size table U) (omega arith) (omega arith)
@@ -289,7 +297,21 @@ module _ (allocator : ℕ) (old : List ℕ) (table : Table) (place : Place) (U :
         omega arith
 
     holds_less : Holds mid table place (without_entry (keys, vs) i) others
-    holds_less = map_of mid table place U made.tree (remove keys i) (remove_nth vs i) (k.xs ++ k.ys) f made.is_tree made.red_black (ap length now_are ∙ sym n_long ∙ sym made.count_is) blocks_now (keys_less ∙ sym keys_mid) still_ascend values_less
+    holds_less = map_of mid table place U made.tree (remove keys i) (remove_nth vs i) (k.xs ++ k.ys) f made.is_tree made.red_black long_now blocks_now (keys_less ∙ sym keys_mid) still_ascend values_less
+
+    -- a path through another key leads there still
+    path_mid : (other : ℤ) (path : List Selector) (inner : Place) → other ≢ key → Leads old table place (Selector.key other ∷ path) inner → Leads mid table place (Selector.key other ∷ path) inner
+    path_mid other path inner ne way =
+        let p = passes old mid table s.is_table place U keys vs blocks f m (values_same ns each_node) all_kept way in
+        let asked : other ≡ p.key = let e = p.selector_is in cc in
+        let keys_then = keys_low old ns (low allocator old table place U keys vs blocks f s) in
+        let equal = key_of_place (key_at old) p.key ns p.i p.node (ap (λ ks. key_place ks p.key) (sym keys_then) ∙ p.place_is) p.node_is in
+        let apart : p.node ≢ node = λ e. ne (asked ∙ sym (same_of_equal (key_at old p.node) p.key equal) ∙ ap (key_at old) e ∙ same_of_equal (key_at old node) key a.is) in
+        let j = left_among a.front node a.back p.i p.node (ap (λ xs. slice_get xs p.i) (sym a.nodes_are) ∙ p.node_is) apart in
+        let there_now = place_of (key_at old) p.key (a.front ++ a.back) p.node j.0 (ascend_of (key_at old) (a.front ++ a.back) (subst IsAscending keys_less still_ascend)) j.1 equal in
+        subst (λ u. Leads mid table place (u ∷ path) inner) (sym p.selector_is)
+        (map_leads mid table place U made.tree f made.is_tree made.red_black long_now blocks_now (subst IsAscending (keys_less ∙ sym keys_mid) still_ascend) p.key j.0 p.node
+        (ap (λ ks. key_place ks p.key) keys_mid ∙ there_now) (ap (λ xs. slice_get xs j.0) now_are ∙ j.1) p.goes)
 
     ownable_mid : AllByRecursion (λ b. IsOwnable mid table b.at) (live mid)
     ownable_mid = made.ownable table s.ownable
@@ -472,3 +494,18 @@ module _ (allocator : ℕ) (old : List ℕ) (table : Table) (place : Place) (U :
               };
             };
           }
+
+      block_kept : (h : ℕ) → 1 ≤ times h (s.home ∷ others) → KeepsBlock mid new h
+      block_kept h some =
+          let w = map_away h some in
+          let x = c.live_are h in
+          let one : 1 ≤ times h (positions (live cleared)) = let q = w.2 in let r = w.0 in omega arith in
+          kept_twice mid cleared new h (kept_cleared h w.0 w.1 w.2)
+          (left_kept allocator cleared table place (without_entry (keys, vs) i) others map_cleared new (block_of node) g node_cleared node_off h one (λ e. w.1 (sym e))).whole.kept
+
+      cell_kept : IsSame mid new place.at (size table place.type)
+      cell_kept = same_place allocator mid table place (without_entry (keys, vs) i) others map_stands new (subst (KeepsBlock mid new) (sym map_home) (block_kept s.home (omega (arith, times-same s.home others))))
+
+      pub keeps_others : KeepsOtherKeys old new table place key
+      keeps_others other path inner ne way =
+          Leads-kept mid new table s.is_table (path_mid other path inner ne way) holds_less cell_kept (each_there (KeepsBlock mid new) others (λ h some. block_kept h (omega (arith, times-more h s.home others))))
