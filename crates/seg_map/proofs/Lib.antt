@@ -2,3 +2,12 @@ pub mod KeyLaws
 pub mod FlatMaps
 pub mod PartCleared
 pub mod FlatChanges
+pub mod KeyOrder
+pub mod TreeMaps
+pub mod SeveralWrites
+pub mod Relinking
+pub mod Rebuilding
+pub mod Entering
+pub mod Adding
+pub mod Putting
+pub mod MapKinds

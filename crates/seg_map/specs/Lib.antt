@@ -1,1 +1,3 @@
 pub mod Maps
+pub mod Trees
+pub mod EitherMap

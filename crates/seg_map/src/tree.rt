@@ -1,6 +1,6 @@
 //! A map as a red-black tree of nodes: tree words, the key, the value. The pointer of the map's cell names the root.
 
-ghost use Rattle.std.specs.Prelude.{◌≡◌, ◌+◌, ◌%◌, ◌^◌, [], ◌∷◌, ⊤};
+ghost use Rattle.std.specs.Prelude.{◌≡◌, ◌+◌, ◌%◌, ◌^◌, [], ◌∷◌, ⊤, IsOkUnless};
 ghost use Rattle.std.specs.Ordering.{int_cmp};
 ghost use Rattle.std.specs.Cmp.{on_total, int_cmp_total};
 ghost use Rattle.std.proofs.Common.{arith, inl, inr, ⊎_elim};
@@ -9,8 +9,16 @@ ghost use Rattle.seg_spec.specs.Bytes.{signed, signed_long};
 ghost use Rattle.seg_spec.specs.Window.{KeepsHost};
 ghost use Rattle.seg_spec.proofs.BytesLaws.{number-slice};
 ghost use Rattle.seg_spec.proofs.OrderSteps.{steps_up};
+ghost use Rattle.seg_spec.specs.Types.{Form, size};
+ghost use Rattle.seg_spec.specs.Demand.{block_for};
+ghost use Rattle.seg_spec.specs.Items.{key_place};
 ghost use Rattle.seg_rbtree.specs.Parts.{part};
+ghost use Rattle.seg_rbtree.specs.Roots.{root_word};
 ghost use Rattle.seg_rbtree.proofs.Keys.{equal_to_one};
+ghost use Rattle.seg_value.specs.Contents.{IsEntryOf};
+ghost use Rattle.seg_value.specs.Places.{object_at};
+ghost use Rattle.seg_map.specs.Maps.{WhereMap, FindsValue, PutsKey, first_of, keys_above};
+ghost use Rattle.seg_map.specs.Trees.{VALUE, NamesTree};
 
 use seg_block::Fit;
 use seg_ptr::Window;
@@ -68,7 +76,9 @@ fn key_of<A: Allocator>(w: &Window<A>, node: u32) -> i64
     w.get64(key_place(node) as usize).cast_signed()
 }
 
-fn tree_of(cell: u32) -> Tree {
+fn tree_of(cell: u32) -> Tree
+    ensures { root_word result ≡ cell }
+{
     Tree::new(cell as usize)
 }
 
@@ -78,7 +88,11 @@ pub(crate) fn get<F: Fit, A: Allocator>(
     entry: Entry,
     cell: u32,
     key: i64,
-) -> Option<u32> {
+) -> Option<u32>
+    ensures { WhereMap Form.map F.allocator heap.now.window.bytes heap.now.types cell
+        (λ T U keys vs blocks. IsEntryOf heap.now.types VALUE U entry
+        → FindsValue heap.now.window.bytes heap.now.types (object_at cell T) U keys key result) }
+{
     let node = tree_of(cell).find(heap.window(), &ByKey, key)?;
     Some(entry.value_at(node, 0))
 }
@@ -92,6 +106,12 @@ pub(crate) fn put<F: Fit, A: Allocator>(
 ) -> Result<u32, Code>
     ensures window { KeepsHost heap.old.window heap.new.window }
     ensures types { heap.new.types ≡ heap.old.types }
+    ensures code { IsOkUnless result Code.BadAlloc }
+    ensures puts { WhereMap Form.map F.allocator heap.old.window.bytes heap.old.types cell
+        (λ T U keys vs blocks. NamesTree heap.old.types T U content.now
+        → PutsKey F.allocator heap.old.window.bytes heap.new.window.bytes heap.old.types
+        (object_at cell T) U keys vs key blocks (block_for (VALUE + size heap.old.types U) ∷ [])
+        (key_place keys key) result) }
 {
     let mut path = tree_of(cell).path_to_key(heap.window(), &ByKey, key);
     if let Some(node) = path.node(heap.window()) {
@@ -130,7 +150,10 @@ pub(crate) fn remove<F: Fit, A: Allocator>(
 }
 
 /// The least key.
-pub(crate) fn first_key<F: Fit, A: Allocator>(heap: &Heap<F, A>, cell: u32) -> Option<i64> {
+pub(crate) fn first_key<F: Fit, A: Allocator>(heap: &Heap<F, A>, cell: u32) -> Option<i64>
+    ensures { WhereMap Form.map F.allocator heap.now.window.bytes heap.now.types cell
+        (λ T U keys vs blocks. result ≡ first_of keys) }
+{
     let node = tree_of(cell).first(heap.window())?;
     Some(key_of(heap.window(), node))
 }
@@ -140,7 +163,10 @@ pub(crate) fn next_key<F: Fit, A: Allocator>(
     heap: &Heap<F, A>,
     cell: u32,
     after: i64,
-) -> Option<i64> {
+) -> Option<i64>
+    ensures { WhereMap Form.map F.allocator heap.now.window.bytes heap.now.types cell
+        (λ T U keys vs blocks. result ≡ first_of (keys_above keys after)) }
+{
     let node = tree_of(cell).next_after(heap.window(), &ByKey, after)?;
     Some(key_of(heap.window(), node))
 }
