@@ -40,7 +40,7 @@ use Rattle.seg_map.specs.Maps.{AddsKey, value_of}
 use Rattle.seg_map.proofs.KeyOrder.{ascend_of, Apart, apart_at, more_keys, place_of_more, comes_between, ascends_with, place_behind, equal_self}
 use Rattle.seg_map.proofs.TreeMaps.{key_at, AreLow, keys_low, IsTreeMap, its, IsNode, are_nodes, low, few_nodes, ascend, is_search_tree, keys_are}
 use Rattle.seg_map.proofs.TreeMaps as maps
-use Rattle.seg_map.proofs.Relinking.{IsTouched, Remade, remade, count_before}
+use Rattle.seg_map.proofs.Relinking.{IsTouched, Remade, remade, count_before, stand_apart as nodes_stand_apart}
 use Rattle.seg_map.proofs.Rebuilding.{value_places, places_joined, places_long, inserted_nth, Parts, parts, joined, map_of, map_leads}
 use Rattle.seg_map.proofs.Entering.{Entered}
 
@@ -155,20 +155,6 @@ module _ (allocator : ℕ) (old mid : List ℕ) (table : Table) (place : Place) 
       let l = live-once mid allocator e.heap h in
       omega arith
 
-  among_live : (h : ℕ) → 1 ≤ times h (s.home ∷ (block_of node ∷ map block_of nodes)) → 1 ≤ times h (positions (live mid))
-  among_live h some =
-      let c = e.counts h in
-      let o = s.owned h in
-      let b : times h blocks ≡ times h (map block_of nodes ++ m.owned) = ap (times h) m.blocks_are in
-      let n = times-append h (map block_of nodes) m.owned in
-      omega arith
-
-  apart_mid : BlocksApart mid (s.home ∷ (block_of node ∷ map block_of nodes))
-  apart_mid = apart_once mid (s.home ∷ (block_of node ∷ map block_of nodes))
-      (each_there _ (s.home ∷ (block_of node ∷ map block_of nodes)) (λ g some. each_there _ (s.home ∷ (block_of node ∷ map block_of nodes))
-      (λ h more. there (OneOrApart mid g) h (positions (live mid)) (there (λ t. AllByRecursion (OneOrApart mid t) (positions (live mid))) g (positions (live mid)) (live-apart mid allocator e.heap) (among_live g some)) (among_live h more))))
-      once
-
   home_mid : IsInside mid s.home place.at 8
   home_mid =
       let k = (e.kept s.home home_old).room in
@@ -178,29 +164,8 @@ module _ (allocator : ℕ) (old mid : List ℕ) (table : Table) (place : Place) 
       let two = (lies_old s.home home_old).size in
       record { low = low; high = omega arith }
 
-  words_apart : (h x y : ℕ) → 16 ≤ x → 16 ≤ y → 2 ≤ units_at mid (block_of x) → 2 ≤ units_at mid (block_of y) → Separate (block_of x) (16 * units_at mid (block_of x)) (block_of y) (16 * units_at mid (block_of y)) → Separate x 16 y 16
-  words_apart h x y a b c d (inl l) = inl (omega arith)
-  words_apart h x y a b c d (inr l) = inr (omega arith)
-
-  nodes_apart : (ns : List ℕ) → AllByRecursion (IsTouched mid s.home) ns → BlocksApart mid (map block_of ns) → NodesApart ns
-  nodes_apart [] t a = tt
-  nodes_apart (x ∷ xs) t a = (
-    each_both _ _ _ (λ y u sep. words_apart 0 x y t.0.behind_header u.behind_header (lies_mid (block_of x) t.0.is_live).size (lies_mid (block_of y) u.is_live).size sep) xs t.1 (each_of_map _ block_of xs a.0),
-    nodes_apart xs t.1 a.1,
-  )
-
   stand_apart : StandApart (length mid) place.at (node ∷ nodes)
-  stand_apart = record {
-    small = e.heap.small;
-    word_fits = let h = home_mid.high in let l = (lies_mid s.home (mid_live s.home home_old)).high in omega arith;
-    nodes_fit = each_weaker _ _ (λ x t. let l = lies_mid (block_of x) t.is_live in let back = t.behind_header in let two = l.size in let end = l.high in omega arith) (node ∷ nodes) each_touched;
-    word_apart = each_both _ _ _ (λ x t sep. cell_off x t sep) (node ∷ nodes) each_touched (each_of_map _ block_of (node ∷ nodes) apart_mid.0);
-    nodes_apart = nodes_apart (node ∷ nodes) each_touched apart_mid.1;
-  }
-    where
-      cell_off : (x : ℕ) → IsTouched mid s.home x → Separate s.home (16 * units_at mid s.home) (block_of x) (16 * units_at mid (block_of x)) → Separate place.at 4 x 16
-      cell_off x t (inl l) = inl (let h = home_mid.high in let back = t.behind_header in omega arith)
-      cell_off x t (inr l) = inr (let h = home_mid.low in let back = t.behind_header in let two = (lies_mid (block_of x) t.is_live).size in omega arith)
+  stand_apart = nodes_stand_apart allocator mid e.heap place.at s.home (node ∷ nodes) home_mid (mid_live s.home home_old) each_touched once
 
   few : length nodes + 1 < 2 ^ 32
   few = let n = few_nodes allocator old table place U keys vs blocks f s in let small = s.heap.small in omega arith

@@ -11,3 +11,5 @@ pub mod Entering
 pub mod Adding
 pub mod Putting
 pub mod MapKinds
+pub mod Removing
+pub mod Taking

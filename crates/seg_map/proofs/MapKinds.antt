@@ -1,5 +1,5 @@
 -- The kind of the maps of a type, from what the type's cells name.
-use Rattle.std.proofs.Common.{◌≡◌, ℕ, ◌+◌, true, false, IsOkUnless, Option, Some, None, Result, Ok, Err, ℤ, List, sym, ap, ◌∙◌, subst, refl, arith}
+use Rattle.std.proofs.Common.{◌≡◌, ℕ, ◌+◌, Bool, true, false, IsOkUnless, Option, Some, None, Result, Ok, Err, ℤ, List, sym, ap, ◌∙◌, subst, refl, arith}
 use Rattle.std.specs.Option.{ok_or}
 use Rattle.std.specs.Result.{result_ok}
 use Rattle.seg_spec.specs.Block.{tag_of, Kind as block}
@@ -12,9 +12,11 @@ use Rattle.seg_value.specs.declared.content.Shape.{Shape}
 use Rattle.seg_value.specs.declared.content.Shape.TheVariants as shape
 use Rattle.seg_raw.specs.declared.code.Code.TheVariants as code
 use Rattle.seg_map.specs.declared.map.Kind.TheVariants as kind
-use Rattle.seg_map.specs.EitherMap.{KindOf, IsMapOf, has_keys}
+use Rattle.seg_map.specs.EitherMap.{KindOf, IsMapOf, has_keys, key_asks}
 use Rattle.seg_map.specs.Trees.{NamesTree}
-use Rattle.seg_map.specs.Maps.{FindsValue}
+use Rattle.seg_map.specs.Maps.{FindsValue, PutsKey, RemovesKey}
+use Rattle.seg_spec.specs.Items.{key_place}
+use Rattle.seg_spec.specs.Value.{Values}
 use Rattle.seg_spec.specs.Reads.{Place}
 use Rattle.seg_map.specs.declared.map.Kind as map
 
@@ -148,3 +150,14 @@ pub found_by : (bytes : List ℕ) (table : Table) (place : Place) (U : ℕ) (key
     → FindsValue bytes table place U keys passed p → FindsValue bytes table place U keys key (result_ok r)
 found_by bytes table place U keys key passed same o p is r e r_is h =
     subst (FindsValue bytes table place U keys key) (sym (ok_again o r e r_is ∙ is)) (subst (λ k. FindsValue bytes table place U keys k p) same h)
+
+pub puts_by : (allocator : ℕ) (old new : List ℕ) (table : Table) (place : Place) (U : ℕ) (keys : List ℤ) (vs : Values) (blocks : List ℕ) (o : Option Form) (form : Form) → o ≡ Some form → (key passed : ℤ) → passed ≡ key
+    → (r : Result ℕ Code) → PutsKey allocator old new table place U keys vs passed blocks (key_asks old table place.at (Some form)) (key_place keys passed) r
+    → PutsKey allocator old new table place U keys vs key blocks (key_asks old table place.at o) (key_place keys key) r
+puts_by allocator old new table place U keys vs blocks o form is key passed same r h =
+    subst (λ f. PutsKey allocator old new table place U keys vs key blocks (key_asks old table place.at f) (key_place keys key) r) (sym is)
+    (subst (λ k. PutsKey allocator old new table place U keys vs k blocks (key_asks old table place.at (Some form)) (key_place keys k) r) same h)
+
+pub removes_by : (allocator : ℕ) (old new : List ℕ) (table : Table) (place : Place) (keys : List ℤ) (vs : Values) (blocks : List ℕ) (key passed : ℤ) → passed ≡ key → (gone : Bool)
+    → RemovesKey allocator old new table place keys vs blocks (key_place keys passed) gone → RemovesKey allocator old new table place keys vs blocks (key_place keys key) gone
+removes_by allocator old new table place keys vs blocks key passed same gone h = subst (λ k. RemovesKey allocator old new table place keys vs blocks (key_place keys k) gone) same h

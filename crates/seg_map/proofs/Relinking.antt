@@ -6,7 +6,7 @@ use Rattle.seg_spec.specs.Pointer.{target}
 use Rattle.seg_spec.specs.Types.{Table}
 use Rattle.seg_spec.specs.Heap.{units_at, link_at, live, IsHeap, heap_start}
 use Rattle.seg_spec.specs.Block.{IsInside, KeepsHeader, KeepsBlock, IsOwnable, block_of}
-use Rattle.seg_spec.specs.Apart.{Separate, KeepsBlockAround}
+use Rattle.seg_spec.specs.Apart.{Separate, BlocksApart, KeepsBlockAround}
 use Rattle.seg_spec.specs.Shapes.{Tree, nodes_of, IsTree, IsRedBlack}
 use Rattle.seg_spec.specs.Reads.{count_at}
 use Rattle.seg_spec.specs.Sound.{times, positions}
@@ -14,8 +14,8 @@ use Rattle.seg_spec.proofs.BytesLaws.{number-set_same}
 use Rattle.seg_spec.proofs.SliceLaws.{IsSame-part, IsSame-trans}
 use Rattle.seg_spec.proofs.Writing.{set_number-changes}
 use Rattle.seg_spec.proofs.Frame.{each_map, each_of_map, each_weaker, each_both, word-same, target-same, IsTree-same}
-use Rattle.seg_spec.proofs.LiveLaws.{LiesIn, there, each_there, live-lie, live-apart, OneOrApart}
-use Rattle.seg_rbtree.specs.Changes.{KeepsBeside, Leaves}
+use Rattle.seg_spec.proofs.LiveLaws.{LiesIn, there, each_there, live-lie, live-apart, OneOrApart, apart_once}
+use Rattle.seg_rbtree.specs.Changes.{NodesApart, StandApart, KeepsBeside, Leaves}
 use Rattle.seg_map.proofs.SeveralWrites.{Range, Beside, IsWritable, low_same, heap_same, live_same, ownable_same, header_then, link_same, part_same, whole_then, around_then}
 
 -- the tree words of a node
@@ -49,6 +49,49 @@ pub record Remade (allocator : ℕ) (mid new : List ℕ) (cell home n : ℕ) (to
   pub red_black : IsRedBlack tree
   pub nodes_are : nodes_of tree ≡ now
   pub count_is : count_at new cell ≡ n
+
+-- ---- nodes in blocks of their own
+
+module _ (allocator : ℕ) (bytes : List ℕ) (heap : IsHeap allocator bytes) (cell home : ℕ) (ns : List ℕ) (home_in : IsInside bytes home cell 8) (home_live : 1 ≤ times home (positions (live bytes)))
+    (each : AllByRecursion (IsTouched bytes home) ns) (once : (h : ℕ) → times h (home ∷ map block_of ns) ≤ 1) where
+  lies_there : (h : ℕ) → 1 ≤ times h (positions (live bytes)) → LiesIn bytes heap_start (length bytes) h
+  lies_there h some = there (LiesIn bytes heap_start (length bytes)) h (positions (live bytes)) (live-lie bytes allocator heap) some
+
+  among_live : (h : ℕ) → 1 ≤ times h (home ∷ map block_of ns) → 1 ≤ times h (positions (live bytes))
+  among_live h some = there (λ x. 1 ≤ times x (positions (live bytes))) h (home ∷ map block_of ns) (home_live, each_map (λ x. 1 ≤ times x (positions (live bytes))) block_of ns (each_weaker _ _ (λ q t. t.is_live) ns each)) some
+
+  blocks_apart : BlocksApart bytes (home ∷ map block_of ns)
+  blocks_apart = apart_once bytes (home ∷ map block_of ns)
+      (each_there _ (home ∷ map block_of ns) (λ g some. each_there _ (home ∷ map block_of ns)
+      (λ h more. there (OneOrApart bytes g) h (positions (live bytes)) (there (λ t. AllByRecursion (OneOrApart bytes t) (positions (live bytes))) g (positions (live bytes)) (live-apart bytes allocator heap) (among_live g some)) (among_live h more))))
+      once
+
+  words_apart : (x y : ℕ) → 16 ≤ x → 16 ≤ y → 2 ≤ units_at bytes (block_of x) → 2 ≤ units_at bytes (block_of y) → Separate (block_of x) (16 * units_at bytes (block_of x)) (block_of y) (16 * units_at bytes (block_of y)) → Separate x 16 y 16
+  words_apart x y a b c d (inl l) = inl (omega arith)
+  words_apart x y a b c d (inr l) = inr (omega arith)
+
+  nodes_apart : (qs : List ℕ) → AllByRecursion (IsTouched bytes home) qs → BlocksApart bytes (map block_of qs) → NodesApart qs
+  nodes_apart [] t a = tt
+  nodes_apart (x ∷ xs) t a = (
+    each_both _ _ _ (λ y u sep. words_apart x y t.0.behind_header u.behind_header (lies_there (block_of x) t.0.is_live).size (lies_there (block_of y) u.is_live).size sep) xs t.1 (each_of_map _ block_of xs a.0),
+    nodes_apart xs t.1 a.1,
+  )
+
+  -- their tree words and the cell's pointer share no byte
+  pub stand_apart : StandApart (length bytes) cell ns
+  stand_apart = record {
+    small = heap.small;
+    word_fits = let h = home_in.high in let l = (lies_there home home_live).high in omega arith;
+    nodes_fit = each_weaker _ _ (λ x t. let l = lies_there (block_of x) t.is_live in let back = t.behind_header in let two = l.size in let end = l.high in omega arith) ns each;
+    word_apart = each_both _ _ _ (λ x t sep. cell_off x t sep) ns each (each_of_map _ block_of ns blocks_apart.0);
+    nodes_apart = nodes_apart ns each blocks_apart.1;
+  }
+    where
+      cell_off : (x : ℕ) → IsTouched bytes home x → Separate home (16 * units_at bytes home) (block_of x) (16 * units_at bytes (block_of x)) → Separate cell 4 x 16
+      cell_off x t (inl l) = inl (let h = home_in.high in let back = t.behind_header in omega arith)
+      cell_off x t (inr l) = inr (let h = home_in.low in let back = t.behind_header in let two = (lies_there (block_of x) t.is_live).size in omega arith)
+
+-- ---- the tree after a change
 
 module _ (allocator : ℕ) (mid three new : List ℕ) (cell home n : ℕ) (touched now : List ℕ) (heap : IsHeap allocator mid) (l : Leaves mid three cell touched now) (new_is : new ≡ set_word three (cell + 4) n)
     (home_in : IsInside mid home cell 8) (home_live : 1 ≤ times home (positions (live mid))) (each : AllByRecursion (IsTouched mid home) touched) (among : (P : ℕ → Type 0) → AllByRecursion P touched → AllByRecursion P now) where

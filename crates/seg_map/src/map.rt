@@ -83,6 +83,11 @@ pub fn put<F: Fit, A: Allocator>(heap: &mut Heap<F, A>, map: Place, key: i64) ->
 pub fn remove<F: Fit, A: Allocator>(heap: &mut Heap<F, A>, map: Place, key: i64) -> bool
     ensures window { KeepsHost heap.old.window heap.new.window }
     ensures types { heap.new.types ≡ heap.old.types }
+    ensures other { has_keys (form_at heap.old.types map.type_id) ≡ false →
+        (result ≡ false) × (heap.new.window ≡ heap.old.window) }
+    ensures removes { WhereMaps F.allocator heap.old.window.bytes heap.old.types (place_of map)
+        (λ U keys vs blocks. RemovesKey F.allocator heap.old.window.bytes heap.new.window.bytes
+        heap.old.types (place_of map) keys vs blocks (key_place keys key) result) }
 {
     let Ok(kind) = Kind::of(heap, map) else {
         return false;

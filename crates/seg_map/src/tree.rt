@@ -17,7 +17,7 @@ ghost use Rattle.seg_rbtree.specs.Roots.{root_word};
 ghost use Rattle.seg_rbtree.proofs.Keys.{equal_to_one};
 ghost use Rattle.seg_value.specs.Contents.{IsEntryOf};
 ghost use Rattle.seg_value.specs.Places.{object_at};
-ghost use Rattle.seg_map.specs.Maps.{WhereMap, FindsValue, PutsKey, first_of, keys_above};
+ghost use Rattle.seg_map.specs.Maps.{WhereMap, FindsValue, PutsKey, RemovesKey, first_of, keys_above};
 ghost use Rattle.seg_map.specs.Trees.{VALUE, NamesTree};
 
 use seg_block::Fit;
@@ -134,6 +134,10 @@ pub(crate) fn remove<F: Fit, A: Allocator>(
 ) -> bool
     ensures window { KeepsHost heap.old.window heap.new.window }
     ensures types { heap.new.types ≡ heap.old.types }
+    ensures removes { WhereMap Form.map F.allocator heap.old.window.bytes heap.old.types cell
+        (λ T U keys vs blocks. NamesTree heap.old.types T U content.now
+        → RemovesKey F.allocator heap.old.window.bytes heap.new.window.bytes heap.old.types
+        (object_at cell T) keys vs blocks (key_place keys key) result) }
 {
     let mut path = tree_of(cell).path_to_key(heap.window(), &ByKey, key);
     let Some(node) = path.node(heap.window()) else {

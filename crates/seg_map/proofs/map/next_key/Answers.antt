@@ -20,7 +20,7 @@ returns g c =
         let a = as_flat table T (form_at table T) w.in-Flat.content U (subst (λ k. KindOf table T (form_at table T) (Ok k)) w.in-Flat.is c.in_ok-content.ensures) m in
         w.ok_or-is ∙ w.next_key.ensures T U keys vs blocks a.0 s a.1.entry_is ∙ ap (λ k. first_of (keys_above keys k)) (to_z-of_z w64 c.args.after c.ranges.after)
         | in-Tree w ↦
-        let a = as_tree table T (form_at table T) w.in-Tree.content U (subst (λ k. KindOf table T (form_at table T) (Ok k)) w.in-Tree.is c.in_ok-content.ensures) m in
+        let a = as_tree table T (form_at table T) w.in-Tree.field-0 U (subst (λ k. KindOf table T (form_at table T) (Ok k)) w.in-Tree.is c.in_ok-content.ensures) m in
         w.ok_or-is ∙ w.next_key-in-Tree.ensures T U keys vs blocks a.0 s ∙ ap (λ k. first_of (keys_above keys k)) (to_z-of_z w64 c.args.after c.ranges.after)
       ];
     }
