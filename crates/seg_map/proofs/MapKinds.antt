@@ -1,12 +1,11 @@
 -- The kind of the maps of a type, from what the type's cells name.
-use Rattle.std.proofs.Common.{◌≡◌, ℕ, ◌+◌, Bool, true, false, IsOkUnless, Option, Some, None, Result, Ok, Err, ℤ, List, sym, ap, ◌∙◌, subst, refl, arith}
+use Rattle.std.proofs.Common.{◌≡◌, ℕ, Bool, true, false, IsOkUnless, Option, Some, None, Result, Ok, Err, ℤ, List, sym, ap, ◌∙◌, subst, refl, arith}
 use Rattle.std.specs.Option.{ok_or}
 use Rattle.std.specs.Result.{result_ok}
 use Rattle.seg_spec.specs.Block.{tag_of, Kind as block}
-
 use Rattle.seg_raw.specs.declared.code.Code.{Code}
-use Rattle.seg_spec.specs.Types.{Form, Table, form_at}
-use Rattle.seg_value.specs.Contents.{ContentOf, IsContent, IsText}
+use Rattle.seg_spec.specs.Types.{Form, Table}
+use Rattle.seg_value.specs.Contents.{ContentOf, IsContent}
 use Rattle.seg_value.specs.declared.content.Content.{Content}
 use Rattle.seg_value.specs.declared.content.Shape.{Shape}
 use Rattle.seg_value.specs.declared.content.Shape.TheVariants as shape

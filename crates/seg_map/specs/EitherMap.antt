@@ -4,7 +4,7 @@
 --     WhereMaps allocator bytes table map claim     the claim holds of a place that is a map
 --     key_asks bytes table at form     the requests for one more key
 --     KindOf table T form result       the kind of the maps of a type
-use Rattle.std.specs.Prelude.{◌≡◌, ℕ, ◌+◌, ⊤, ℤ, Bool, true, false, List, [], ◌∷◌, Option, Some, None, Result, Ok, Err}
+use Rattle.std.specs.Prelude.{◌≡◌, ℕ, ◌+◌, ℤ, Bool, true, false, List, [], ◌∷◌, Option, Some, Result, Ok, Err}
 use Rattle.seg_spec.specs.Types.{Form, Table, form_at, size}
 use Rattle.seg_spec.specs.Value.{Values, Map}
 use Rattle.seg_spec.specs.Block.{Kind, tag_of}

@@ -1,4 +1,4 @@
-use Rattle.std.proofs.Common.{rules, ◌≡◌, Ok, Err, sym, ap, ◌∙◌, subst}
+use Rattle.std.proofs.Common.{rules, ◌≡◌, Ok, Err, ap, ◌∙◌, subst}
 use Rattle.seg_spec.specs.Types.{form_at}
 use Rattle.seg_raw.specs.declared.code.Code.TheVariants as code
 use Rattle.seg_map.specs.EitherMap.{KindOf}
@@ -15,11 +15,11 @@ returns g c =
       code = λ keys. only_code c.match-branch-2.ok_or c.ok_or.result code.Null c.ok_or.ensures.value;
       first = λ U keys vs blocks m s. ok_again c.match-branch-2.ok_or c.ok_or.result code.Null c.ok_or.ensures.value ∙ elim c.match-branch-2.branch [
         | in-Flat w ↦
-        let a = as_flat table T (form_at table T) w.in-Flat.content U (subst (λ k. KindOf table T (form_at table T) (Ok k)) w.in-Flat.is c.in_ok-content.ensures) m in
-        w.ok_or-is ∙ w.first_key.ensures T U keys vs blocks a.0 s a.1.entry_is
+            let a = as_flat table T (form_at table T) w.in-Flat.content U (subst (λ k. KindOf table T (form_at table T) (Ok k)) w.in-Flat.is c.in_ok-content.ensures) m in
+            w.ok_or-is ∙ w.first_key.ensures T U keys vs blocks a.0 s a.1.entry_is
         | in-Tree w ↦
-        let a = as_tree table T (form_at table T) w.in-Tree.field-0 U (subst (λ k. KindOf table T (form_at table T) (Ok k)) w.in-Tree.is c.in_ok-content.ensures) m in
-        w.ok_or-is ∙ w.first_key-in-Tree.ensures T U keys vs blocks a.0 s
+            let a = as_tree table T (form_at table T) w.in-Tree.field-0 U (subst (λ k. KindOf table T (form_at table T) (Ok k)) w.in-Tree.is c.in_ok-content.ensures) m in
+            w.ok_or-is ∙ w.first_key-in-Tree.ensures T U keys vs blocks a.0 s
       ];
     }
 

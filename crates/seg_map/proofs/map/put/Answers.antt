@@ -1,4 +1,4 @@
-use Rattle.std.proofs.Common.{◌≡◌, Ok, w64, subst}
+use Rattle.std.proofs.Common.{Ok, w64, subst}
 use Rattle.std.proofs.lemmas.Int.{to_z-of_z}
 use Rattle.seg_spec.specs.Types.{Form, form_at}
 use Rattle.seg_value.specs.Places.{place_of}
