@@ -6,6 +6,7 @@ pub mod Rebuilding
 pub mod Entering
 pub mod Adding
 pub mod Putting
+pub mod MapKinds
 pub mod Removing
 pub mod KeyLaws
 pub mod FlatMaps

@@ -1,2 +1,3 @@
 pub mod Maps
 pub mod Trees
+pub mod EitherMap

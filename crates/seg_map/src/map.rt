@@ -1,5 +1,11 @@
-ghost use Rattle.std.specs.Prelude.{◌≡◌};
+ghost use Rattle.std.specs.Prelude.{◌≡◌, true, false, Err, IsOkUnless};
+ghost use Rattle.std.specs.Result.{result_ok};
+ghost use Rattle.seg_spec.specs.Items.{key_place};
+ghost use Rattle.seg_spec.specs.Types.{form_at};
 ghost use Rattle.seg_spec.specs.Window.{KeepsHost};
+ghost use Rattle.seg_value.specs.Places.{place_of};
+ghost use Rattle.seg_map.specs.EitherMap.{has_keys, WhereMaps, key_asks};
+ghost use Rattle.seg_map.specs.Maps.{FindsValue, PutsKey, RemovesKey, first_of, keys_above};
 
 use crate::{flat, tree};
 use seg_block::Fit;
@@ -14,19 +20,37 @@ enum Kind {
 }
 
 impl Kind {
+    ghost use Rattle.seg_map.specs.EitherMap.{KindOf};
+
     /// The kind of the map at a place. `OtherType` where the place is no map.
-    fn of<F: Fit, A: Allocator>(heap: &Heap<F, A>, map: Place) -> Result<Kind, Code> {
+    fn of<F: Fit, A: Allocator>(heap: &Heap<F, A>, map: Place) -> Result<Kind, Code>
+        ensures { KindOf heap.now.types map.type_id (form_at heap.now.types map.type_id) result }
+    {
         let content = heap.content(map.type_id).ok_or(Code::OtherType)?;
         match content.shape {
-            Shape::Buffer if content.entry.before == KEY => Ok(Kind::Flat(content)),
+            Shape::Buffer => {
+                if content.entry.before == KEY {
+                    Ok(Kind::Flat(content))
+                } else {
+                    Err(Code::OtherType)
+                }
+            }
             Shape::Tree => Ok(Kind::Tree(content)),
-            Shape::Buffer | Shape::Ring | Shape::Object => Err(Code::OtherType),
+            Shape::Ring | Shape::Object => Err(Code::OtherType),
         }
     }
 }
 
 /// The position of a key's value. `OtherType` where the place is no map, `Absent` where the map doesn't have the key.
-pub fn get<F: Fit, A: Allocator>(heap: &Heap<F, A>, map: Place, key: i64) -> Result<u32, Code> {
+pub fn get<F: Fit, A: Allocator>(heap: &Heap<F, A>, map: Place, key: i64) -> Result<u32, Code>
+    ensures other { has_keys (form_at heap.now.types map.type_id) ≡ false →
+        result ≡ Err Code.OtherType }
+    ensures code { has_keys (form_at heap.now.types map.type_id) ≡ true →
+        IsOkUnless result Code.Absent }
+    ensures finds { WhereMaps F.allocator heap.now.window.bytes heap.now.types (place_of map)
+        (λ U keys vs blocks. FindsValue heap.now.window.bytes heap.now.types (place_of map)
+        U keys key (result_ok result)) }
+{
     match Kind::of(heap, map)? {
         Kind::Flat(content) => flat::get(heap, content.entry, map.at, key),
         Kind::Tree(content) => tree::get(heap, content.entry, map.at, key),
@@ -39,6 +63,15 @@ pub fn get<F: Fit, A: Allocator>(heap: &Heap<F, A>, map: Place, key: i64) -> Res
 pub fn put<F: Fit, A: Allocator>(heap: &mut Heap<F, A>, map: Place, key: i64) -> Result<u32, Code>
     ensures window { KeepsHost heap.old.window heap.new.window }
     ensures types { heap.new.types ≡ heap.old.types }
+    ensures other { has_keys (form_at heap.old.types map.type_id) ≡ false →
+        (result ≡ Err Code.OtherType) × (heap.new.window ≡ heap.old.window) }
+    ensures code { has_keys (form_at heap.old.types map.type_id) ≡ true →
+        IsOkUnless result Code.BadAlloc }
+    ensures puts { WhereMaps F.allocator heap.old.window.bytes heap.old.types (place_of map)
+        (λ U keys vs blocks. PutsKey F.allocator heap.old.window.bytes heap.new.window.bytes
+        heap.old.types (place_of map) U keys vs key blocks
+        (key_asks heap.old.window.bytes heap.old.types map.at
+        (form_at heap.old.types map.type_id)) (key_place keys key) result) }
 {
     match Kind::of(heap, map)? {
         Kind::Flat(content) => flat::put(heap, &content, map.at, key),
@@ -50,6 +83,11 @@ pub fn put<F: Fit, A: Allocator>(heap: &mut Heap<F, A>, map: Place, key: i64) ->
 pub fn remove<F: Fit, A: Allocator>(heap: &mut Heap<F, A>, map: Place, key: i64) -> bool
     ensures window { KeepsHost heap.old.window heap.new.window }
     ensures types { heap.new.types ≡ heap.old.types }
+    ensures other { has_keys (form_at heap.old.types map.type_id) ≡ false →
+        (result ≡ false) × (heap.new.window ≡ heap.old.window) }
+    ensures removes { WhereMaps F.allocator heap.old.window.bytes heap.old.types (place_of map)
+        (λ U keys vs blocks. RemovesKey F.allocator heap.old.window.bytes heap.new.window.bytes
+        heap.old.types (place_of map) keys vs blocks (key_place keys key) result) }
 {
     let Ok(kind) = Kind::of(heap, map) else {
         return false;
@@ -61,7 +99,14 @@ pub fn remove<F: Fit, A: Allocator>(heap: &mut Heap<F, A>, map: Place, key: i64)
 }
 
 /// The least key. `OtherType` where the place is no map, `Null` where the map is empty.
-pub fn first_key<F: Fit, A: Allocator>(heap: &Heap<F, A>, map: Place) -> Result<i64, Code> {
+pub fn first_key<F: Fit, A: Allocator>(heap: &Heap<F, A>, map: Place) -> Result<i64, Code>
+    ensures other { has_keys (form_at heap.now.types map.type_id) ≡ false →
+        result ≡ Err Code.OtherType }
+    ensures code { has_keys (form_at heap.now.types map.type_id) ≡ true →
+        IsOkUnless result Code.Null }
+    ensures first { WhereMaps F.allocator heap.now.window.bytes heap.now.types (place_of map)
+        (λ U keys vs blocks. result_ok result ≡ first_of keys) }
+{
     match Kind::of(heap, map)? {
         Kind::Flat(content) => flat::first_key(heap, content.entry, map.at),
         Kind::Tree(_) => tree::first_key(heap, map.at),
@@ -75,7 +120,14 @@ pub fn next_key<F: Fit, A: Allocator>(
     heap: &Heap<F, A>,
     map: Place,
     after: i64,
-) -> Result<i64, Code> {
+) -> Result<i64, Code>
+    ensures other { has_keys (form_at heap.now.types map.type_id) ≡ false →
+        result ≡ Err Code.OtherType }
+    ensures code { has_keys (form_at heap.now.types map.type_id) ≡ true →
+        IsOkUnless result Code.Null }
+    ensures next { WhereMaps F.allocator heap.now.window.bytes heap.now.types (place_of map)
+        (λ U keys vs blocks. result_ok result ≡ first_of (keys_above keys after)) }
+{
     match Kind::of(heap, map)? {
         Kind::Flat(content) => flat::next_key(heap, content.entry, map.at, after),
         Kind::Tree(_) => tree::next_key(heap, map.at, after),

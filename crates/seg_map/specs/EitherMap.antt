@@ -1,0 +1,56 @@
+-- Maps of either kind, as the calls on both find them.
+--     has_keys form                    values of this form are maps
+--     IsMapOf form U                   they are maps to values of type U
+--     WhereMaps allocator bytes table map claim     the claim holds of a place that is a map
+--     key_asks bytes table at form     the requests for one more key
+--     KindOf table T form result       the kind of the maps of a type
+use Rattle.std.specs.Prelude.{◌≡◌, ℕ, ◌+◌, ℤ, Bool, true, false, List, [], ◌∷◌, Option, Some, Result, Ok, Err}
+use Rattle.seg_spec.specs.Types.{Form, Table, form_at, size}
+use Rattle.seg_spec.specs.Value.{Values, Map}
+use Rattle.seg_spec.specs.Block.{Kind, tag_of}
+use Rattle.seg_spec.specs.Reads.{Place}
+use Rattle.seg_spec.specs.Owning.{Stands}
+use Rattle.seg_spec.specs.Demand.{Ask, block_for}
+use Rattle.seg_value.specs.Contents.{IsContent}
+use Rattle.seg_value.specs.Entries.{flat_asks}
+use Rattle.seg_value.specs.declared.content.Shape.TheVariants as shape
+use Rattle.seg_raw.specs.declared.code.Code.{Code}
+use Rattle.seg_raw.specs.declared.code.Code.TheVariants as code
+use Rattle.seg_map.specs.declared.map.Kind as map
+use Rattle.seg_map.specs.declared.map.Kind.TheVariants as kind
+use Rattle.seg_map.specs.Trees.{VALUE, NamesTree}
+
+-- values of this form are maps
+abbrev pub has_keys : Option Form → Bool
+has_keys (Some (Form.flat_map U)) = true
+has_keys (Some (Form.map U)) = true
+has_keys _ = false
+
+-- they are maps to values of type U
+abbrev pub IsMapOf : Option Form → ℕ → Type 0
+IsMapOf (Some (Form.flat_map V)) U = V ≡ U
+IsMapOf (Some (Form.map V)) U = V ≡ U
+IsMapOf _ U = ⊥
+
+-- the claim holds of the place, where calls find a map there: of the type of its values, its keys
+-- and values, and the blocks that it owns
+abbrev pub WhereMaps : ℕ → List ℕ → Table → Place → (ℕ → List ℤ → Values → List ℕ → Type 0) → Type 0
+WhereMaps allocator bytes table map claim =
+    (U : ℕ) (keys : List ℤ) (vs : Values) (blocks : List ℕ) → IsMapOf (form_at table map.type) U →
+    Stands allocator bytes table map (Map keys vs) blocks → claim U keys vs blocks
+
+-- what is asked of the heap for one more key of a map of this form
+abbrev pub key_asks : List ℕ → Table → ℕ → Option Form → List Ask
+key_asks bytes table at (Some (Form.flat_map U)) = flat_asks bytes table at U
+key_asks bytes table at (Some (Form.map U)) = block_for (VALUE + size table U) ∷ []
+key_asks bytes table at form = []
+
+-- the kind of the maps of a type: none where its values are no maps
+abbrev pub KindOf : Table → ℕ → Option Form → Result map.Kind Code → Type 0
+KindOf table T (Some (Form.flat_map U)) (Ok (kind.Flat content)) =
+    IsContent table shape.Buffer (tag_of Kind.buffer T) 8 U content
+KindOf table T (Some (Form.map U)) (Ok (kind.Tree content)) = NamesTree table T U content
+KindOf table T (Some (Form.flat_map U)) _ = ⊥
+KindOf table T (Some (Form.map U)) _ = ⊥
+KindOf table T form (Ok content) = ⊥
+KindOf table T form (Err error) = error ≡ code.OtherType
