@@ -1,12 +1,12 @@
+//! The commands on clients, all but `run`.
+
 ghost use Rattle.std.specs.Prelude.{◌≡◌, false};
 
 use crate::failure::Failure;
-use crate::files::Files;
-use crate::image::types_of;
-use crate::program::{MAX_FILE, MAX_IMAGE, print, read, write};
-use client_code::{assemble, parse, print as print_client};
-use client_verify::verify;
+use crate::program::print;
 use client_vm::Sink;
+use seg_bytes::{assembled, printed, steps};
+use seg_files::{Files, read_file, read_image, write_file};
 use std::alloc::Global;
 
 /// `verify FILE CLIENT`: prints the steps that the client takes at most on the image.
@@ -19,11 +19,10 @@ pub fn verify_file<'a, F: Files, O: Sink>(
 ) -> Result<(), Failure<'a>>
     requires works { O.has_failed out.old ≡ false }
 {
-    let image = read(alloc, files, image, MAX_IMAGE)?;
-    let file = read(alloc, files, client, MAX_FILE)?;
-    let types = types_of(alloc, image)?;
-    let bound = verify(parse(file.as_slice())?, &types)?.bound();
-    print(out, format!(in alloc; "steps {bound}\n")?.as_bytes())
+    let image = read_image(alloc, files, image)?;
+    let client = read_file(alloc, files, client)?;
+    let line = steps(alloc, image, client.as_slice())?;
+    print(out, line.as_bytes())
 }
 
 /// `asm TEXT OUT`: writes the client that a text spells.
@@ -33,9 +32,9 @@ pub fn assemble_file<'a, F: Files>(
     client: &'a str,
     files: &mut F,
 ) -> Result<(), Failure<'a>> {
-    let text = read(alloc, files, text, MAX_FILE)?;
-    let assembled = assemble(alloc, text.as_slice())?;
-    write(files, client, assembled.as_slice())
+    let text = read_file(alloc, files, text)?;
+    let assembled = assembled(alloc, text.as_slice())?;
+    Ok(write_file(files, client, assembled.as_slice())?)
 }
 
 /// `print CLIENT`: prints the client's canonical text.
@@ -47,7 +46,7 @@ pub fn print_file<'a, F: Files, O: Sink>(
 ) -> Result<(), Failure<'a>>
     requires works { O.has_failed out.old ≡ false }
 {
-    let file = read(alloc, files, client, MAX_FILE)?;
-    let text = print_client(alloc, &parse(file.as_slice())?)?;
+    let client = read_file(alloc, files, client)?;
+    let text = printed(alloc, client.as_slice())?;
     print(out, text.as_slice())
 }

@@ -1,8 +1,8 @@
-use crate::files::FileFault;
 use client_vm::Refused;
+use seg_files::FileFailure;
 use seg_raw::Fault;
 use seg_words::Misread;
-use std::alloc::{AllocError, AllocFailed};
+use std::alloc::AllocError;
 
 /// Why a command failed.
 #[derive(Drop)]
@@ -18,15 +18,7 @@ pub enum Failure<'a> {
 /// The name that stands for the standard output.
 pub const STANDARD_OUTPUT: &str = "-";
 
-impl<'a> Failure<'a> {
-    /// The failure to read or write a file.
-    pub fn of_file(name: &'a str, fault: FileFault) -> Failure<'a> {
-        match fault {
-            FileFault::Memory => Failure::from(Fault::Memory),
-            FileFault::Failed => Failure::File(name),
-        }
-    }
-
+impl Failure<'_> {
     /// The status that the program ends with.
     pub fn status(&self) -> u8 {
         match self {
@@ -55,9 +47,12 @@ impl From<AllocError> for Failure<'_> {
     }
 }
 
-impl<T: Drop> From<AllocFailed<T>> for Failure<'_> {
-    fn from(_: AllocFailed<T>) -> Self {
-        Failure::from(Fault::Memory)
+impl<'a> From<FileFailure<'a>> for Failure<'a> {
+    fn from(failure: FileFailure<'a>) -> Self {
+        match failure {
+            FileFailure::Memory => Failure::from(Fault::Memory),
+            FileFailure::File(name) => Failure::File(name),
+        }
     }
 }
 

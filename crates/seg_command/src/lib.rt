@@ -3,11 +3,8 @@
 
 mod clients;
 mod failure;
-mod files;
-mod image;
 mod images;
 mod program;
 mod run;
 
-pub use files::{FileFault, Files};
 pub use program::command;

@@ -1,9 +1,8 @@
 ghost use Rattle.std.specs.Prelude.{◌≡◌, false};
 
 use crate::failure::{Failure, STANDARD_OUTPUT};
-use crate::files::Files;
-use crate::program::{MAX_FILE, MAX_IMAGE, read, write};
-use client_vm::{Ended, Schedule, Sink, run_image};
+use client_vm::{Ended, Outcome, Refused, Schedule, Sink, run_image};
+use seg_files::{Files, read_file, read_files, read_image, write_file};
 use seg_words::Run;
 use std::alloc::Global;
 
@@ -17,44 +16,37 @@ pub fn run_files<'a, F: Files, O: Sink>(
 ) -> Result<(), Failure<'a>>
     requires works { O.has_failed out.old ≡ false }
 {
-    let image = read(alloc, files, run.image, MAX_IMAGE)?;
-    let clients = read_all(alloc, run.clients.as_slice(), files)?;
+    let image = read_image(alloc, files, run.image)?;
+    let clients = read_files(alloc, files, run.clients.as_slice())?;
     let input = match run.input {
-        Some(name) => read(alloc, files, name, MAX_FILE)?,
+        Some(name) => read_file(alloc, files, name)?,
         None => Vec::new(alloc),
     };
+    let outcome = outcome_of(alloc, run, image, clients.as_slice(), input.as_slice(), out)?;
+    let saved = write_file(files, run.out, outcome.image.as_slice());
+    match outcome.ended {
+        Ended::Done => Ok(saved?),
+        Ended::OutputFailed => Err(Failure::File(STANDARD_OUTPUT)),
+    }
+}
+
+/// Runs the clients on an image.
+fn outcome_of<O: Sink>(
+    alloc: Global,
+    run: &Run,
+    image: Vec<u8>,
+    clients: &[Vec<u8>],
+    input: &[u8],
+    out: &mut O,
+) -> Result<Outcome<Global>, Refused>
+    requires works { O.has_failed out.old ≡ false }
+{
     let clients: Vec<&[u8]> = clients
         .iter()
         .map(|client| client.as_slice())
         .collect(alloc)?;
     let schedule = schedule_of(run, image.len());
-    let outcome = run_image(
-        alloc,
-        image,
-        clients.as_slice(),
-        input.as_slice(),
-        &schedule,
-        out,
-    )?;
-    let saved = write(files, run.out, outcome.image.as_slice());
-    match outcome.ended {
-        Ended::Done => saved,
-        Ended::OutputFailed => Err(Failure::File(STANDARD_OUTPUT)),
-    }
-}
-
-/// The bytes of each file.
-fn read_all<'a, F: Files>(
-    alloc: Global,
-    names: &[&'a str],
-    files: &mut F,
-) -> Result<Vec<Vec<u8>>, Failure<'a>> {
-    let mut all = Vec::new(alloc);
-    for name in names {
-        let bytes = read(alloc, files, name, MAX_FILE)?;
-        all.push(bytes)?;
-    }
-    Ok(all)
+    run_image(alloc, image, clients.as_slice(), input, &schedule, out)
 }
 
 /// Where a segment of so many bytes lies: in a region that it ends, where the words say nothing else.

@@ -1,6 +1,6 @@
 use crate::command_line::command_line;
 use crate::misread::Misread;
-use crate::request::{Allocator, Index, NewImage, Request, Run};
+use crate::request::{Allocator, ImageTask, Index, NewImage, Request, Run};
 use clap::ArgMatches;
 use std::alloc::{AllocError, Global};
 use std::convert::AsStr;
@@ -17,37 +17,34 @@ pub fn read<'a, S: AsStr>(alloc: Global, words: &'a [S]) -> Result<Request<'a>, 
 fn request_of<'a>(alloc: Global, matches: &ArgMatches<'a>) -> Result<Request<'a>, AllocError> {
     match matches.subcommand() {
         Some(("run", arguments)) => Ok(Request::Run(run_of(alloc, arguments)?)),
-        Some((command, arguments)) => Ok(image_request(alloc, command, arguments)),
+        Some(("new", arguments)) => Ok(Request::New(new_of(arguments))),
+        Some((command, arguments)) => match task_of(command, arguments) {
+            Some(task) => Ok(Request::Image {
+                file: word(arguments, "FILE"),
+                task,
+            }),
+            None => Ok(client_request(alloc, command, arguments)),
+        },
         // the command line requires a command
         None => Ok(Request::Help(String::new(alloc))),
     }
 }
 
-/// What a command on one image asks for.
-fn image_request<'a>(alloc: Global, command: &str, arguments: &ArgMatches<'a>) -> Request<'a> {
+/// What a command asks of an image, if it is one on an image alone.
+fn task_of(command: &str, arguments: &ArgMatches) -> Option<ImageTask> {
     match command {
-        "new" => Request::New(new_of(arguments)),
-        "check" => Request::Check {
-            image: word(arguments, "FILE"),
-        },
-        "stat" => Request::Stat {
-            image: word(arguments, "FILE"),
-        },
-        "list" => Request::List {
-            image: word(arguments, "FILE"),
-        },
-        "grow" => Request::Grow {
-            image: word(arguments, "FILE"),
+        "check" => Some(ImageTask::Check),
+        "stat" => Some(ImageTask::Stat),
+        "list" => Some(ImageTask::List),
+        "grow" => Some(ImageTask::Grow {
             extra: number(arguments, "EXTRA"),
-        },
-        "shrink" => Request::Shrink {
-            image: word(arguments, "FILE"),
-        },
-        _ => client_request(alloc, command, arguments),
+        }),
+        "shrink" => Some(ImageTask::Shrink),
+        _ => None,
     }
 }
 
-/// What a command on one client asks for.
+/// What a command with a client asks for.
 fn client_request<'a>(alloc: Global, command: &str, arguments: &ArgMatches<'a>) -> Request<'a> {
     match command {
         "verify" => Request::Verify {

@@ -2,18 +2,25 @@
 #[derive(Drop)]
 pub enum Request<'a> {
     New(NewImage<'a>),
-    Check { image: &'a str },
-    Stat { image: &'a str },
-    List { image: &'a str },
-    /// So many bytes more.
-    Grow { image: &'a str, extra: u32 },
-    Shrink { image: &'a str },
+    /// Something of the image in a file.
+    Image { file: &'a str, task: ImageTask },
     Verify { image: &'a str, client: &'a str },
     Run(Run<'a>),
     Assemble { text: &'a str, client: &'a str },
     Print { client: &'a str },
     /// A text for the standard output.
     Help(String),
+}
+
+/// What is asked of an image.
+#[derive(Debug, Clone, Copy, PartialEq, Eq)]
+pub enum ImageTask {
+    Check,
+    Stat,
+    List,
+    /// So many bytes more.
+    Grow { extra: u32 },
+    Shrink,
 }
 
 /// How a segment keeps its free blocks: by sequential fit or by best fit.

@@ -4,11 +4,9 @@
 
 ghost use Rattle.std.specs.Prelude.{◌≡◌, false};
 
-mod host;
-
 use client_vm::{Sink, Through, write_all};
-use host::HostFiles;
 use seg_command::command;
+use seg_files::HostFiles;
 use std::process::ExitCode;
 use std::rt::Env;
 use std::{env, io};

@@ -1,5 +1,6 @@
 use client_vm::Through;
-use seg_command::{FileFault, Files, command};
+use seg_command::command;
+use seg_files::{FileFault, Files};
 use std::alloc::{AllocError, Global};
 use support_data::Limited;
 

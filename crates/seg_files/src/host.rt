@@ -1,4 +1,4 @@
-use seg_command::{FileFault, Files};
+use crate::files::{FileFault, Files};
 use std::alloc::Global;
 use std::fs::{self, File, Metadata, OpenOptions, Permissions};
 use std::io::{self, ErrorKind, Read, Write};

@@ -1,0 +1,84 @@
+use crate::files::{FileFault, Files};
+use std::alloc::Global;
+
+/// The most bytes of an image.
+const MAX_IMAGE: u64 = 1 << 30;
+
+/// The most bytes of a client, of a text and of the input.
+const MAX_FILE: u64 = 1 << 20;
+
+/// Why a file wasn't read or written.
+#[derive(Debug, Clone, Copy, PartialEq, Eq)]
+pub enum FileFailure<'a> {
+    /// A request for memory was refused.
+    Memory,
+    /// The file with this name couldn't be read or written, or it has more bytes than it may.
+    File(&'a str),
+}
+
+impl<'a> FileFailure<'a> {
+    fn of(name: &'a str, fault: FileFault) -> FileFailure<'a> {
+        match fault {
+            FileFault::Memory => FileFailure::Memory,
+            FileFault::Failed => FileFailure::File(name),
+        }
+    }
+}
+
+/// The bytes of an image.
+pub fn read_image<'a, F: Files>(
+    alloc: Global,
+    files: &mut F,
+    name: &'a str,
+) -> Result<Vec<u8>, FileFailure<'a>> {
+    read(alloc, files, name, MAX_IMAGE)
+}
+
+/// The bytes of a client, of a text or of the input.
+pub fn read_file<'a, F: Files>(
+    alloc: Global,
+    files: &mut F,
+    name: &'a str,
+) -> Result<Vec<u8>, FileFailure<'a>> {
+    read(alloc, files, name, MAX_FILE)
+}
+
+/// The bytes of each of some files, clients or texts.
+pub fn read_files<'a, F: Files>(
+    alloc: Global,
+    files: &mut F,
+    names: &[&'a str],
+) -> Result<Vec<Vec<u8>>, FileFailure<'a>> {
+    let mut all = Vec::new(alloc);
+    for name in names {
+        let bytes = read_file(alloc, files, name)?;
+        if all.push(bytes).is_err() {
+            return Err(FileFailure::Memory);
+        }
+    }
+    Ok(all)
+}
+
+/// Makes or replaces a file.
+pub fn write_file<'a, F: Files>(
+    files: &mut F,
+    name: &'a str,
+    bytes: &[u8],
+) -> Result<(), FileFailure<'a>> {
+    match files.write(name, bytes) {
+        Ok(()) => Ok(()),
+        Err(fault) => Err(FileFailure::of(name, fault)),
+    }
+}
+
+fn read<'a, F: Files>(
+    alloc: Global,
+    files: &mut F,
+    name: &'a str,
+    limit: u64,
+) -> Result<Vec<u8>, FileFailure<'a>> {
+    match files.read(alloc, name, limit) {
+        Ok(bytes) => Ok(bytes),
+        Err(fault) => Err(FileFailure::of(name, fault)),
+    }
+}
