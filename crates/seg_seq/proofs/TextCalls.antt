@@ -19,7 +19,7 @@ use Rattle.seg_value.specs.Contents.{ContentOf}
 use Rattle.seg_value.specs.Buffers.{NamesBuffer}
 use Rattle.seg_value.specs.declared.content.Content.{Content}
 use Rattle.seg_value.specs.declared.entry.Held.TheVariants.{Bytes}
-use Rattle.seg_seq.specs.Sequences.{HasText, LacksRoom, ComesToHold, AddsBytes, text_asks}
+use Rattle.seg_seq.specs.Sequences.{HasText, LacksRoom, ComesToHold, ExtendsText, text_asks}
 use Rattle.seg_seq.proofs.Rooms.{reaches, text_counts}
 use Rattle.seg_seq.proofs.TooMuch.{too_much}
 use Rattle.seg_seq.proofs.TextSteps.{names, room_made, text_written, byte_removed}
@@ -74,7 +74,7 @@ module _ (allocator : ℕ) (old : Stored) (place : Place) (xs blocks : List ℕ)
   -- room is made
   pub makes_room : (mid new : Stored) (size len at : ℕ) → size ≡ 1 → len ≡ min (kept + added) 4294967295 → kept ≤ length xs
       → Reserves allocator old.window.bytes mid.window.bytes old.types place (Text xs) blocks (buffer_asks old.window.bytes place.at size len) (len * size)
-      → new.window.bytes ≡ set_word mid.window.bytes (place.at + 4) len → at ≡ start mid.window.bytes place.at + kept → AddsBytes allocator old new place kept added xs blocks at len
+      → new.window.bytes ≡ set_word mid.window.bytes (place.at + 4) len → at ≡ start mid.window.bytes place.at + kept → ExtendsText allocator old new place kept added xs blocks at len
   makes_room mid new size len at one len_is few r new_is at_is =
       let u = stands_after allocator old.window.bytes mid.window.bytes old.types place (Text xs) (Text xs) blocks r.others r.succeeds.left t.stands r.succeeds.changes in
       let room : HasRoomFor mid.window.bytes place.at (len * 1) = rw one at r.room in
@@ -93,7 +93,7 @@ module _ (allocator : ℕ) (old : Stored) (place : Place) (xs blocks : List ℕ)
       }
 
   -- the bytes are written there
-  pub written_to : (mid new : Stored) (at len : ℕ) (bs : List ℕ) → added ≡ length bs → AddsBytes allocator old mid place kept added xs blocks at len → new.window.bytes ≡ put mid.window.bytes at bs
+  pub written_to : (mid new : Stored) (at len : ℕ) (bs : List ℕ) → added ≡ length bs → ExtendsText allocator old mid place kept added xs blocks at len → new.window.bytes ≡ put mid.window.bytes at bs
       → ComesToHold allocator old new place (Text (take kept xs ++ bs)) (text_asks old place (kept + length bs)) [] blocks
   written_to mid new at len bs n m new_is =
       let long : length m.ys ≡ kept + length bs = m.long ∙ ap (λ k. kept + k) n in

@@ -14,7 +14,7 @@
 --                                                         for one of an item more
 --     Rewrites allocator old new place n ys blocks result
 --         a string, whose buffer is to have n bytes, has this text now, or it lacked the room
---     AddsBytes allocator old new place kept n xs blocks at len
+--     ExtendsText allocator old new place kept n xs blocks at len
 --         a string keeps its first bytes, and has n more from a position on, whatever they are
 --     PushesBack allocator old new place U vs blocks p    a default item joined the others, and
 --                                                         stands at a position
@@ -110,7 +110,7 @@ Rewrites allocator old new place n ys blocks result = MatchResult result
     (LacksRoom allocator old new (text_asks old place n))
 
 -- the string keeps its first bytes, and has n more after them, whatever they are
-pub record AddsBytes (allocator : ℕ) (old new : Stored) (place : Place) (kept n : ℕ)
+pub record ExtendsText (allocator : ℕ) (old new : Stored) (place : Place) (kept n : ℕ)
     (xs blocks : List ℕ) (at len : ℕ) : Type 0 where
   pub ys : List ℕ
   pub prefix : take kept ys ≡ take kept xs

@@ -2,7 +2,7 @@ ghost use Rattle.std.specs.Prelude.{◌≡◌, ◌≢◌, ℕ, ◌+◌, ◌≤�
 ghost use Rattle.seg_spec.specs.Types.{Form, form_at};
 ghost use Rattle.seg_spec.specs.Window.{KeepsHost};
 ghost use Rattle.seg_value.specs.Places.{place_of};
-ghost use Rattle.seg_seq.specs.Sequences.{HasText, Declines, LacksRoom, Rewrites, AddsBytes, text_asks};
+ghost use Rattle.seg_seq.specs.Sequences.{HasText, Declines, LacksRoom, Rewrites, ExtendsText, text_asks};
 
 use seg_block::Fit;
 use seg_raw::Code;
@@ -124,7 +124,7 @@ fn make_room<F: Fit, A: Allocator>(
     ensures text { (xs blocks : List ℕ) →
         HasText F.allocator heap.old (place_of text) xs blocks → kept ≤ length xs →
         MatchResult result
-        (λ r. AddsBytes F.allocator heap.old heap.new (place_of text) kept added xs blocks
+        (λ r. ExtendsText F.allocator heap.old heap.new (place_of text) kept added xs blocks
         r.at r.len)
         (LacksRoom F.allocator heap.old heap.new
         (text_asks heap.old (place_of text) (kept + added))) }
