@@ -1,6 +1,5 @@
 -- A new node gets its place in the tree of a map: the map has one more key.
-use Rattle.std.proofs.Common.{◌≡◌, ◌≢◌, ℕ, suc, ◌+◌, ◌-◌, ◌*◌, ◌%◌, ◌^◌, ◌<◌, ◌≤◌, ◌⊎◌, inl, inr, ℤ, List, [], ◌∷◌, ◌++◌, length, map, Some, refl, sym, ap, ◌∙◌, subst, arith}
-use Rattle.std.proofs.lemmas.Bool.{cases_eq}
+use Rattle.std.proofs.Common.{◌≡◌, ◌≢◌, ℕ, ◌+◌, ◌%◌, ◌^◌, ◌<◌, ◌≤◌, ℤ, List, [], ◌∷◌, ◌++◌, length, map, Some, refl, sym, ap, ◌∙◌, subst, arith}
 use Rattle.std.proofs.lemmas.List.{length-append}
 use Rattle.std.specs.Prelude.{insert, slice_get}
 use Rattle.std.specs.List.{AllByRecursion}
@@ -8,21 +7,20 @@ use Rattle.std.specs.Ordering.{int_cmp, ordering_reverse}
 use Rattle.std.specs.Cmp.{IsTotalOrder, on_total, int_cmp_total}
 use Rattle.std.specs.declared.cmp.Ordering.{Ordering}
 use Rattle.std.specs.declared.cmp.Ordering.TheVariants.{Less, Equal, Greater}
-use Rattle.seg_spec.specs.Bytes.{word, set_word, signed_long, IsSame}
+use Rattle.seg_spec.specs.Bytes.{set_word, signed_long, IsSame}
 use Rattle.seg_spec.specs.Pointer.{target}
 use Rattle.seg_spec.specs.Types.{Form, Table, form_at, size}
-use Rattle.seg_spec.specs.Value.{Selector, Value, Values, count, append, cons, Map, IsAscending, default_of}
-use Rattle.seg_spec.specs.Heap.{units_at, live, heap_start, IsHeap}
-use Rattle.seg_spec.specs.Block.{Kind, tag_of, IsBlock, IsInside, KeepsBlock, block_of, payload_size}
-use Rattle.seg_spec.specs.Apart.{Separate, KeepsBlockAround, BlocksApart, RangeApart}
-use Rattle.seg_spec.specs.Shapes.{Tree, nodes_of, IsTree}
+use Rattle.seg_spec.specs.Value.{Selector, Values, count, append, cons, Map, IsAscending, default_of}
+use Rattle.seg_spec.specs.Heap.{live, heap_start, IsHeap}
+use Rattle.seg_spec.specs.Block.{Kind, tag_of, IsBlock, IsInside, KeepsBlock, block_of}
+use Rattle.seg_spec.specs.Apart.{KeepsBlockAround}
+use Rattle.seg_spec.specs.Shapes.{Tree, nodes_of}
 use Rattle.seg_spec.specs.Search.{Ascend, IsSearchTree}
 use Rattle.seg_spec.specs.Items.{key_place, keys_below, with_entry, insert_nth}
 use Rattle.seg_spec.specs.Reads.{Place, count_at, keys_at, AreNodes, Holds, HoldsEach, holds_more, Leads}
 use Rattle.seg_spec.specs.Sound.{times, positions}
 use Rattle.seg_spec.specs.Owning.{Stands}
 use Rattle.seg_spec.specs.Roots.{ChangesPlace}
-use Rattle.seg_spec.specs.Growing.{Succeeds}
 use Rattle.seg_spec.specs.Shrinking.{KeepsPathsInside}
 use Rattle.seg_spec.specs.Demand.{block_for}
 use Rattle.seg_spec.proofs.SliceLaws.{IsSame-part, IsSame-trans}
@@ -31,16 +29,15 @@ use Rattle.seg_spec.proofs.Composing.{kept_twice, around_twice, around_kept}
 use Rattle.seg_spec.proofs.PlaceSteps.{home_live, owned_live, owned_other}
 use Rattle.seg_spec.proofs.Standing.{same_place}
 use Rattle.seg_spec.proofs.Frame.{each_map, each_of_map, each_weaker, each_both, each_left, each_right, signed_long-same, cell-target, cell-count, nodes-same, shorter, IsTree-same, SamePlace, Holds-kept, HoldsEach-kept}
-use Rattle.seg_spec.proofs.LiveLaws.{times-append, times-same, times-other, times-more, there, each_there, not_there, LiesIn, live-lie, live-apart, live-once, OneOrApart, apart_once}
+use Rattle.seg_spec.proofs.LiveLaws.{times-append, times-same, times-other, times-more, there, each_there, LiesIn, live-lie, live-once}
 use Rattle.seg_rbtree.specs.declared.path.Path.{Path}
 use Rattle.seg_rbtree.specs.Ways.{LeadsTo}
-use Rattle.seg_rbtree.specs.Changes.{NodesApart, StandApart, IsNew, with_node, Leaves}
+use Rattle.seg_rbtree.specs.Changes.{StandApart, IsNew, with_node, Leaves}
 use Rattle.seg_rbtree.proofs.Orders.{each_with}
 use Rattle.seg_rbtree.proofs.Paths.{leads_same}
 use Rattle.seg_map.specs.Maps.{AddsKey, value_of}
 use Rattle.seg_map.proofs.KeyOrder.{ascend_of, Apart, apart_at, more_keys, place_of_more, comes_between, ascends_with, place_behind, equal_self, place_of, key_of_place, still_among}
-use Rattle.seg_map.proofs.TreeMaps.{key_at, AreLow, keys_low, IsTreeMap, its, IsNode, are_nodes, low, few_nodes, ascend, is_search_tree, keys_are}
-use Rattle.seg_map.proofs.TreeMaps as maps
+use Rattle.seg_map.proofs.TreeMaps.{key_at, keys_low, IsTreeMap, its, IsNode, are_nodes, low, few_nodes, is_search_tree, keys_are}
 use Rattle.seg_map.proofs.Relinking.{IsTouched, Remade, remade, count_before, stand_apart as nodes_stand_apart}
 use Rattle.seg_map.proofs.Rebuilding.{value_places, places_joined, places_long, inserted_nth, Parts, parts, joined, map_of, map_leads, passes, paths_by}
 use Rattle.seg_map.proofs.Entering.{Entered}

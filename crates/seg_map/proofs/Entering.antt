@@ -1,21 +1,21 @@
 -- A new node that waits for its place in a tree: its block was taken, and its key written.
-use Rattle.std.proofs.Common.{◌≡◌, ◌≢◌, ℕ, ◌+◌, ◌-◌, ◌*◌, ◌%◌, ◌^◌, ◌<◌, ◌≤◌, ◌⊎◌, inl, inr, ℤ, true, List, [], ◌∷◌, ◌++◌, length, Option, Some, None, option_map, option_and_then, refl, sym, ap, ◌∙◌, subst, arith}
+use Rattle.std.proofs.Common.{◌≡◌, ◌≢◌, ℕ, ◌+◌, ◌≤◌, ◌⊎◌, inl, inr, ℤ, List, [], ◌∷◌, length, Option, Some, None, option_map, option_and_then, refl, sym, ap, ◌∙◌, subst, arith}
 use Rattle.std.proofs.lemmas.Bool.{cases_eq}
 use Rattle.std.specs.List.{AllByRecursion}
 use Rattle.seg_spec.specs.Bytes.{signed_long, IsSame, ChangesOnly}
 use Rattle.seg_spec.specs.Types.{Form, Table, form_at, size}
 use Rattle.seg_spec.specs.Value.{default_of}
-use Rattle.seg_spec.specs.Heap.{Span, span, units_at, link_at, live, IsHeap, heap_start, granted, with_block, pick, gaps_of, after_take, after_request, Granted, same, fresh}
-use Rattle.seg_spec.specs.Block.{Kind, tag_of, IsBlock, IsInside, KeepsBlock, IsOwnable, block_of, payload_size}
+use Rattle.seg_spec.specs.Heap.{Span, link_at, live, IsHeap, heap_start, granted, with_block, pick, gaps_of, after_request, Granted, same, fresh}
+use Rattle.seg_spec.specs.Block.{Kind, tag_of, IsBlock, IsInside, KeepsBlock, IsOwnable, block_of}
 use Rattle.seg_spec.specs.Reads.{Holds}
 use Rattle.seg_spec.specs.Sound.{times, positions}
-use Rattle.seg_spec.specs.Demand.{Ask, need, block_for, after_ask, blocks_then, after_asks}
+use Rattle.seg_spec.specs.Demand.{Ask, need, block_for, blocks_then, after_asks}
 use Rattle.seg_spec.specs.Spending.{spent}
 use Rattle.seg_spec.proofs.SliceLaws.{IsSame-trans}
 use Rattle.seg_spec.proofs.Composing.{kept_twice}
 use Rattle.seg_spec.proofs.Requested.{GrantedNew, granted_new, spent_fresh}
 use Rattle.seg_spec.proofs.Frame.{Holds-kept}
-use Rattle.seg_spec.proofs.LiveLaws.{times-same, times-other, times-with_block, LiesIn, there, live-lie}
+use Rattle.seg_spec.proofs.LiveLaws.{times-other, times-with_block, LiesIn, there, live-lie}
 use Rattle.seg_spec.proofs.Standing.{each_live_at, live_at}
 use Rattle.seg_spec.specs.Types.{IsTable}
 use Rattle.seg_value.specs.Contents.{GivesBlock}

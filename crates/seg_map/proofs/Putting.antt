@@ -1,10 +1,9 @@
 -- What putting a key into a tree leaves, from what its steps leave.
-use Rattle.std.proofs.Common.{◌≡◌, ◌≢◌, ℕ, ◌+◌, ◌-◌, ◌*◌, ◌%◌, ◌^◌, ◌<◌, ◌≤◌, min, ℤ, List, [], ◌∷◌, ◌++◌, length, map, Option, Some, None, Ok, Err, MatchOption, refl, sym, ap, ◌∙◌, subst, arith}
-use Rattle.std.specs.Prelude.{slice_get, Result}
+use Rattle.std.proofs.Common.{◌≡◌, ◌≢◌, ℕ, ◌+◌, ◌*◌, ◌%◌, ◌^◌, ◌<◌, ◌≤◌, min, ℤ, List, [], ◌∷◌, ◌++◌, length, map, Option, Some, None, Ok, Err, refl, sym, ap, ◌∙◌, subst, arith}
+use Rattle.std.specs.Prelude.{slice_get}
 use Rattle.std.specs.List.{AllByRecursion}
 use Rattle.std.specs.Ordering.{int_cmp, ordering_reverse}
-use Rattle.std.specs.declared.cmp.Ordering.{Ordering}
-use Rattle.std.specs.declared.cmp.Ordering.TheVariants.{Less, Equal, Greater}
+use Rattle.std.specs.declared.cmp.Ordering.TheVariants.{Equal}
 use Rattle.seg_spec.specs.Bytes.{set_word, signed_long, ChangesOnly}
 use Rattle.seg_spec.specs.Types.{Form, Table, form_at, size}
 use Rattle.seg_spec.specs.Value.{Values, Map, Selector}
@@ -14,13 +13,12 @@ use Rattle.seg_spec.specs.Shapes.{Tree, nodes_of}
 use Rattle.seg_spec.specs.Search.{Ascend, IsSearchTree}
 use Rattle.seg_spec.specs.Items.{key_place}
 use Rattle.seg_spec.specs.Reads.{Place, count_at, Leads}
-use Rattle.seg_spec.specs.Sound.{times, positions}
+use Rattle.seg_spec.specs.Sound.{positions}
 use Rattle.seg_spec.specs.Owning.{Stands}
 use Rattle.seg_spec.specs.Demand.{Ask, block_for}
 use Rattle.seg_spec.specs.Calls.{Refuses}
 use Rattle.seg_spec.specs.Shrinking.{KeepsPathsInside}
 use Rattle.seg_spec.proofs.MoreTypes.{below_length}
-use Rattle.seg_spec.proofs.Frame.{each_weaker}
 use Rattle.seg_spec.proofs.LiveLaws.{there, LiesIn, live-lie}
 use Rattle.seg_spec.proofs.Leading.{each_at}
 use Rattle.seg_rbtree.specs.declared.path.Path.{Path}
@@ -29,7 +27,7 @@ use Rattle.seg_rbtree.specs.Paths.{FindsEqual, IsEqualAmong}
 use Rattle.seg_value.specs.Contents.{GivesBlock}
 use Rattle.seg_map.specs.Maps.{AddsKey, PutsKey, value_of}
 use Rattle.seg_map.proofs.KeyOrder.{AtPlace, Around, around_at, place_behind, no_place}
-use Rattle.seg_map.proofs.TreeMaps.{key_at, IsNode, its, nodes, are_nodes, low, few_nodes, keys_are, ascend, is_search_tree, leads_to}
+use Rattle.seg_map.proofs.TreeMaps.{key_at, its, nodes, low, few_nodes, keys_are, ascend, is_search_tree, leads_to}
 use Rattle.seg_map.proofs.Entering.{Entered, entered}
 use Rattle.seg_map.proofs.Adding.{AddsFrom, leaves, adds_key, keeps_paths}
 

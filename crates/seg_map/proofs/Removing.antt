@@ -1,5 +1,5 @@
 -- A node leaves the tree of a map, and is given back with what its value owns: the map has one key less.
-use Rattle.std.proofs.Common.{◌≡◌, ◌≢◌, ℕ, suc, ◌+◌, ◌-◌, ◌*◌, ◌%◌, ◌^◌, ◌<◌, ◌≤◌, ◌⊎◌, inl, inr, ℤ, List, [], ◌∷◌, ◌++◌, length, map, Some, refl, sym, ap, ◌∙◌, subst, arith}
+use Rattle.std.proofs.Common.{◌≡◌, ◌≢◌, ℕ, ◌+◌, ◌-◌, ◌^◌, ◌<◌, ◌≤◌, inl, inr, ℤ, List, [], ◌∷◌, ◌++◌, length, map, Some, refl, sym, ap, ◌∙◌, subst, arith}
 use Rattle.std.proofs.lemmas.List.{length-append}
 use Rattle.std.specs.Prelude.{remove, slice_get, Contains}
 use Rattle.std.specs.List.{AllByRecursion}
@@ -10,7 +10,7 @@ use Rattle.seg_spec.specs.Value.{Selector, Value, Values, count, append, cons, M
 use Rattle.seg_spec.specs.Heap.{Span, units_at, live, heap_start, IsHeap, IsLive, Gives}
 use Rattle.seg_spec.specs.Block.{Kind, tag_of, IsBlock, IsInside, KeepsBlock, IsOwnable, block_of, payload_size}
 use Rattle.seg_spec.specs.Apart.{Separate, KeepsBlockAround}
-use Rattle.seg_spec.specs.Shapes.{Tree, nodes_of}
+use Rattle.seg_spec.specs.Shapes.{nodes_of}
 use Rattle.seg_spec.specs.Items.{key_place, without_entry, remove_nth}
 use Rattle.seg_spec.specs.Reads.{Place, Opened, count_at, keys_at, AreNodes, Opens, Holds, HoldsEach, holds_more, Leads}
 use Rattle.seg_spec.specs.Sound.{times, positions}
@@ -18,7 +18,7 @@ use Rattle.seg_spec.specs.Owning.{Stands}
 use Rattle.seg_spec.specs.Roots.{ChangesPlace}
 use Rattle.seg_spec.specs.Demand.{after_gives}
 use Rattle.seg_spec.specs.Spending.{PartBlocks, node_at}
-use Rattle.seg_spec.proofs.SliceLaws.{IsSame-part, IsSame-trans}
+use Rattle.seg_spec.proofs.SliceLaws.{IsSame-trans}
 use Rattle.seg_spec.proofs.TypesLaws.{size-form}
 use Rattle.seg_spec.proofs.Giving.{found}
 use Rattle.seg_spec.proofs.GiveOrder.{in_any_order}
@@ -35,7 +35,7 @@ use Rattle.seg_map.proofs.KeyOrder.{Around, ascend_of, same_of_equal, fewer_keys
 use Rattle.seg_map.specs.Trees.{KeepsOtherKeys}
 use Rattle.seg_map.proofs.TreeMaps.{key_at, keys_low, IsTreeMap, its, nodes, IsNode, are_nodes, low, few_nodes, ascend, keys_are, mapped_at}
 use Rattle.seg_map.proofs.Relinking.{IsTouched, Remade, remade, count_before, stand_apart}
-use Rattle.seg_map.proofs.Rebuilding.{value_places, places_joined, places_long, removed_nth, Parts, parts, joined, map_of, map_leads, passes}
+use Rattle.seg_map.proofs.Rebuilding.{value_places, places_joined, places_long, removed_nth, parts, joined, map_of, map_leads, passes}
 
 -- the value after others, taken out
 pub record Cut (bytes : List ℕ) (table : Table) (before after : List Place) (part : Place) (vs : Values) (blocks : List ℕ) : Type 0 where

@@ -1,26 +1,24 @@
 -- A map as a tree, with its keys and values, as the calls on nodes see it.
-use Rattle.std.proofs.Common.{◌≡◌, ◌≢◌, ℕ, ◌+◌, ◌-◌, ◌*◌, ◌%◌, ◌^◌, ◌<◌, ◌≤◌, ℤ, Bool, true, List, [], ◌∷◌, ◌++◌, ◌⊎◌, inl, inr, zero, suc, false, cond, length, map, Option, Some, None, MatchOption, option_map, refl, sym, ap, ◌∙◌, subst, arith}
+use Rattle.std.proofs.Common.{◌≡◌, ◌≢◌, ℕ, ◌+◌, ◌*◌, ◌%◌, ◌^◌, ◌<◌, ◌≤◌, ℤ, true, List, [], ◌∷◌, ◌++◌, ◌⊎◌, inl, inr, zero, suc, false, cond, length, map, Option, Some, None, MatchOption, option_map, refl, sym, ap, ◌∙◌, subst, arith}
 use Rattle.std.specs.Prelude.{slice_get}
 use Rattle.std.proofs.lemmas.List.{length-append, length-map}
 use Rattle.std.proofs.lemmas.Bool.{cases_eq}
 use Rattle.std.specs.List.{AllByRecursion}
 use Rattle.std.specs.Ordering.{int_cmp, is_eq}
-use Rattle.std.specs.declared.cmp.Ordering.{Ordering}
-use Rattle.std.specs.declared.cmp.Ordering.TheVariants.{Less, Equal, Greater}
-use Rattle.seg_spec.specs.Bytes.{word, signed_long}
-use Rattle.seg_spec.specs.Pointer.{target}
+use Rattle.std.specs.declared.cmp.Ordering.TheVariants.{Greater}
+use Rattle.seg_spec.specs.Bytes.{signed_long}
 use Rattle.seg_spec.specs.Types.{Form, Table, form_at, size}
 use Rattle.seg_spec.specs.Value.{Label, Value, Values, Map, Selector, IsAscending}
 use Rattle.seg_spec.specs.Heap.{Span, Tile, span_of, tiles, Fill, live_of, live, heap_start, IsHeap, units_at}
 use Rattle.seg_spec.specs.Block.{IsBlock, Kind, tag_of, block_of}
-use Rattle.seg_spec.specs.Shapes.{Tree, nodes_of, IsTree, IsRedBlack}
+use Rattle.seg_spec.specs.Shapes.{Tree, nodes_of}
 use Rattle.seg_spec.specs.Search.{Ascend, IsSearchTree, first_where, reaches}
 use Rattle.seg_spec.specs.Items.{key_place}
-use Rattle.seg_spec.specs.Reads.{Place, Opened, count_at, keys_at, places_of, AreNodes, OpensTree, Opens, Holds, holds, HoldsEach, Leads, here, into}
+use Rattle.seg_spec.specs.Reads.{Place, Opened, keys_at, places_of, AreNodes, OpensTree, Opens, Holds, holds, HoldsEach, Leads, here, into}
 use Rattle.seg_spec.specs.Sound.{times, positions}
 use Rattle.seg_spec.specs.Owning.{Stands}
 use Rattle.seg_spec.proofs.Frame.{each_weaker}
-use Rattle.seg_spec.proofs.LiveLaws.{times-append, times-same, times-more, times-other, there, each_there, LiesIn, live-lie}
+use Rattle.seg_spec.proofs.LiveLaws.{times-append, times-same, times-more, times-other, there, LiesIn, live-lie}
 use Rattle.seg_spec.proofs.PlaceSteps.{owned_live}
 use Rattle.seg_spec.proofs.Leading.{each_at}
 use Rattle.seg_map.specs.Maps.{FindsValue, value_of, first_of, keys_above}

@@ -1,4 +1,4 @@
-use Rattle.std.proofs.Common.{◌≡◌, ℤ, List, Option, w64, of_z, to_z, SFits, ◌+◌, ◌%◌, ◌^◌, ap, ◌∙◌, sym, subst, Some, None}
+use Rattle.std.proofs.Common.{◌≡◌, ℤ, List, Option, w64, of_z, to_z, SFits, ◌+◌, ◌%◌, ◌^◌, ap, ◌∙◌, Some, None}
 use Rattle.std.proofs.lemmas.Int.{to_z-of_z}
 use Rattle.seg_spec.specs.Window.{Placement}
 use Rattle.seg_spec.specs.Bytes.{signed_long}
