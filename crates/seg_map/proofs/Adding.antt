@@ -52,7 +52,8 @@ reverse_equal Less e = cc
 reverse_equal Equal e = refl
 reverse_equal Greater e = cc
 
-module _ (allocator : ℕ) (old mid : List ℕ) (table : Table) (place : Place) (U : ℕ) (keys : List ℤ) (vs : Values) (blocks : List ℕ) (f : form_at table place.type ≡ Some (Form.map U)) (s : Stands allocator old table place (Map keys vs) blocks)
+module _ (allocator : ℕ) (old mid : List ℕ) (table : Table) (place : Place) (U : ℕ) (keys : List ℤ) (vs : Values) (blocks : List ℕ) (f : form_at table place.type ≡ Some (Form.map U)) (s : Stands allocator old table place
+    (Map keys vs) blocks)
     (key : ℤ) (node : ℕ) (e : Entered allocator old mid table place.type U node key) where
   abbrev m : IsTreeMap old table place U keys vs blocks
   m = its allocator old table place U keys vs blocks f s
@@ -187,7 +188,8 @@ module _ (allocator : ℕ) (old mid : List ℕ) (table : Table) (place : Place) 
 
     -- ---- the map then
 
-    module _ (three new : List ℕ) (n : ℕ) (l : Leaves mid three place.at (node ∷ nodes) (with_node order node nodes)) (new_is : new ≡ set_word three (place.at + 4) n) (n_is : count_at three place.at + 1 < 2 ^ 32 → n ≡ count_at three place.at + 1) where
+    module _ (three new : List ℕ) (n : ℕ) (l : Leaves mid three place.at (node ∷ nodes) (with_node order node nodes)) (new_is : new ≡ set_word three (place.at + 4) n) (n_is : count_at three place.at + 1 < 2 ^ 32
+        → n ≡ count_at three place.at + 1) where
       abbrev front : List ℕ
       front = between.front
 
@@ -207,7 +209,8 @@ module _ (allocator : ℕ) (old mid : List ℕ) (table : Table) (place : Place) 
       n_long = n_is (let c = counted_three in let k = few in omega arith) ∙ ap (λ k. k + 1) counted_three
 
       made : Remade allocator mid new place.at s.home n (node ∷ nodes) (with_node order node nodes)
-      made = remade allocator mid three new place.at s.home n (node ∷ nodes) (with_node order node nodes) e.heap l new_is home_mid home_live_mid each_touched (λ P p. each_with order node P nodes p.0 p.1) (let k = n_long in let i = few in omega arith)
+      made = remade allocator mid three new place.at s.home n (node ∷ nodes) (with_node order node nodes) e.heap l new_is home_mid home_live_mid each_touched (λ P p. each_with order node P nodes p.0 p.1)
+          (let k = n_long in let i = few in omega arith)
 
       low_keys : AllByRecursion (λ x. int_cmp (key_at mid x) (key_at mid node) ≡ Less) front
       low_keys = each_weaker _ _ (λ x h. ap (int_cmp (key_at mid x)) key_mid ∙ h) front between.low
@@ -291,7 +294,8 @@ module _ (allocator : ℕ) (old mid : List ℕ) (table : Table) (place : Place) 
       owned_kept = each_there (KeepsBlock old new) m.owned (λ h some. let a = owned_away h some in kept_twice old mid new h (e.kept h a.0) (made.whole h (mid_live h a.0) a.1 a.2))
 
       value_same : (x : ℕ) → IsSame old mid x (24 + size table U) → IsTouched mid s.home x → IsBlock mid x (tag_of Kind.node place.type) (24 + size table U) → IsSame old new (x + 24) (size table U)
-      value_same x h t b = IsSame-trans old mid new (x + 24) (size table U) (IsSame-part old mid x (24 + size table U) (x + 24) (size table U) (omega arith) (omega arith) h) (content_same x t b (x + 24) (size table U) (omega arith) (omega arith))
+      value_same x h t b = IsSame-trans old mid new (x + 24) (size table U) (IsSame-part old mid x (24 + size table U) (x + 24) (size table U) (omega arith) (omega arith) h) (content_same x t b (x + 24) (size table U) (omega arith)
+          (omega arith))
 
       values_by : (ns : List ℕ) → AllByRecursion (λ x. IsSame old mid x (24 + size table U)) ns → AllByRecursion (IsTouched mid s.home) ns → AllByRecursion (λ x. IsBlock mid x (tag_of Kind.node place.type) (24 + size table U)) ns
           → AllByRecursion (λ x. IsSame old new (x + 24) (size table U)) ns
@@ -313,7 +317,8 @@ module _ (allocator : ℕ) (old mid : List ℕ) (table : Table) (place : Place) 
 
       values_more : HoldsEach new table (value_places U (nodes_of made.tree)) (insert_nth vs (keys_below keys key) (default_of table U)) m.owned
       values_more =
-          let all : HoldsEach new table (value_places U front ++ value_places U (node ∷ back)) (append halves.left (cons (default_of table U) halves.right)) (halves.xs ++ halves.ys) = joined new table halves.lefts (holds_more default_new halves.rights) in
+          let all : HoldsEach new table (value_places U front ++ value_places U (node ∷ back)) (append halves.left (cons (default_of table U) halves.right)) (halves.xs ++ halves.ys) = joined new table halves.lefts
+          (holds_more default_new halves.rights) in
           let at : keys_below keys key ≡ count halves.left = ap (λ ks. keys_below ks key) keys_parts ∙ place_of_more (key_at mid) key front back between.low between.high ∙ sym (places_long U front) ∙ sym halves.count_is in
           let value : append halves.left (cons (default_of table U) halves.right) ≡ insert_nth vs (keys_below keys key) (default_of table U) =
           sym (ap (λ ws. insert_nth ws (keys_below keys key) (default_of table U)) halves.values_are ∙ inserted_nth halves.left halves.right (default_of table U) (keys_below keys key) at) in
@@ -325,7 +330,8 @@ module _ (allocator : ℕ) (old mid : List ℕ) (table : Table) (place : Place) 
       others = map block_of (nodes_of made.tree) ++ m.owned
 
       holds_more_keys : Holds new table place (with_entry (keys, vs) key (default_of table U)) others
-      holds_more_keys = map_of new table place U made.tree (insert keys (keys_below keys key) key) (insert_nth vs (keys_below keys key) (default_of table U)) m.owned f made.is_tree made.red_black long_now blocks_now more more_ascend values_more
+      holds_more_keys = map_of new table place U made.tree (insert keys (keys_below keys key) key) (insert_nth vs (keys_below keys key)
+          (default_of table U)) m.owned f made.is_tree made.red_black long_now blocks_now more more_ascend values_more
 
       -- ---- what the call leaves
 

@@ -314,7 +314,8 @@ module _ (f : ℕ → ℤ) where
   ascends_without node front back a = ascending_of (front ++ back) (ascend_less node front back a)
 
   removed_at : (xs front back : List ℤ) (k : ℤ) (n : ℕ) → xs ≡ front ++ k ∷ back → n ≡ length front → remove xs n ≡ front ++ back
-  removed_at xs front back k n e m = ap (λ ys. remove ys n) e ∙ ap (λ i. remove (front ++ k ∷ back) i) m ∙ ap (λ ys. ys ++ drop (suc (length front)) (front ++ k ∷ back)) (taken front (k ∷ back)) ∙ ap (λ ys. front ++ ys) (past_one front back)
+  removed_at xs front back k n e m = ap (λ ys. remove ys n) e ∙ ap (λ i. remove (front ++ k ∷ back) i) m ∙ ap (λ ys. ys ++ drop (suc (length front)) (front ++ k ∷ back)) (taken front (k ∷ back)) ∙ ap (λ ys. front ++ ys)
+      (past_one front back)
     where
       past_one : (front back : List ℤ) → drop (suc (length front)) (front ++ k ∷ back) ≡ back
       past_one [] back = refl

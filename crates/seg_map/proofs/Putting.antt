@@ -31,7 +31,8 @@ use Rattle.seg_map.proofs.TreeMaps.{key_at, its, nodes, low, few_nodes, keys_are
 use Rattle.seg_map.proofs.Entering.{Entered, entered}
 use Rattle.seg_map.proofs.Adding.{AddsFrom, leaves, adds_key, keeps_paths}
 
-module _ (allocator : ℕ) (old : List ℕ) (table : Table) (place : Place) (U : ℕ) (keys : List ℤ) (vs : Values) (blocks : List ℕ) (f : form_at table place.type ≡ Some (Form.map U)) (s : Stands allocator old table place (Map keys vs) blocks) (key : ℤ) where
+module _ (allocator : ℕ) (old : List ℕ) (table : Table) (place : Place) (U : ℕ) (keys : List ℤ) (vs : Values) (blocks : List ℕ) (f : form_at table place.type ≡ Some (Form.map U)) (s : Stands allocator old table place
+    (Map keys vs) blocks) (key : ℤ) where
   abbrev the_nodes : List ℕ
   the_nodes = nodes allocator old table place U keys vs blocks f s
 
@@ -113,7 +114,8 @@ module _ (allocator : ℕ) (old : List ℕ) (table : Table) (place : Place) (U :
     pub added_new : (mid with_key three new now : List ℕ) (node kp n count root : ℕ) (path : Path) → GivesBlock allocator old mid table (tag_of Kind.node place.type) 24 U node → kp ≡ (node + 16) % 2 ^ 32 → ChangesOnly mid with_key kp 8
         → (kp + 8 ≤ length mid → signed_long with_key kp ≡ key) → now ≡ old → root ≡ place.at → path.root ≡ root
         → ((tree : Tree) → IsSearchTree now root tree → LeadsTo (λ x. ordering_reverse (int_cmp (key_at now x) key)) tree path) → AddsFrom with_key three path.root path node
-        → new ≡ set_word three (place.at + 4) n → n ≡ min (count + 1) 4294967295 → count ≡ count_at three place.at → AddsKey allocator old new table place U keys vs key blocks (block_for (24 + size table U) ∷ []) (node + 24) × KeepsPathsInside old new table place
+        → new ≡ set_word three (place.at + 4) n → n ≡ min (count + 1) 4294967295 → count ≡ count_at three place.at
+        → AddsKey allocator old new table place U keys vs key blocks (block_for (24 + size table U) ∷ []) (node + 24) × KeepsPathsInside old new table place
     added_new mid with_key three new now node kp n count root path g kp_is stored key_is same root_is path_root leads added new_is n_is count_is =
         let lies = there (LiesIn mid heap_start (length mid)) (block_of node) (positions (live mid)) (live-lie mid allocator g.heap) (let one = g.now_live in omega arith) in
         let little = new_low mid node g in
@@ -130,7 +132,8 @@ module _ (allocator : ℕ) (old : List ℕ) (table : Table) (place : Place) (U :
         let n_by : count_at three place.at + 1 < 2 ^ 32 → n ≡ count_at three place.at + 1 = λ little. omega (arith, n_is, count_is) in
         (adds_key allocator old with_key table place U keys vs blocks f s key node e absent three new n l new_is n_by, keeps_paths allocator old with_key table place U keys vs blocks f s key node e absent three new n l new_is n_by)
 
-    pub puts_new : (E : Type 0) (p each before : ℕ) (mid with_key three new now : List ℕ) (node kp n count root : ℕ) (path : Path) → GivesBlock allocator old mid table (tag_of Kind.node place.type) 24 U node → kp ≡ (node + 16) % 2 ^ 32 → ChangesOnly mid with_key kp 8
+    pub puts_new : (E : Type 0) (p each before : ℕ) (mid with_key three new now : List ℕ) (node kp n count root : ℕ) (path : Path) → GivesBlock allocator old mid table (tag_of Kind.node place.type) 24 U node
+        → kp ≡ (node + 16) % 2 ^ 32 → ChangesOnly mid with_key kp 8
         → (kp + 8 ≤ length mid → signed_long with_key kp ≡ key) → now ≡ old → root ≡ place.at → path.root ≡ root
         → ((tree : Tree) → IsSearchTree now root tree → LeadsTo (λ x. ordering_reverse (int_cmp (key_at now x) key)) tree path) → AddsFrom with_key three path.root path node
         → new ≡ set_word three (place.at + 4) n → n ≡ min (count + 1) 4294967295 → count ≡ count_at three place.at → p ≡ (node + 0 * each + before) % 2 ^ 32 → before ≡ 24

@@ -63,7 +63,8 @@ module _ (allocator : ℕ) (bytes : List ℕ) (heap : IsHeap allocator bytes) (c
   blocks_apart : BlocksApart bytes (home ∷ map block_of ns)
   blocks_apart = apart_once bytes (home ∷ map block_of ns)
       (each_there _ (home ∷ map block_of ns) (λ g some. each_there _ (home ∷ map block_of ns)
-      (λ h more. there (OneOrApart bytes g) h (positions (live bytes)) (there (λ t. AllByRecursion (OneOrApart bytes t) (positions (live bytes))) g (positions (live bytes)) (live-apart bytes allocator heap) (among_live g some)) (among_live h more))))
+      (λ h more. there (OneOrApart bytes g) h (positions (live bytes)) (there (λ t. AllByRecursion (OneOrApart bytes t) (positions (live bytes))) g (positions (live bytes)) (live-apart bytes allocator heap) (among_live g some))
+      (among_live h more))))
       once
 
   words_apart : (x y : ℕ) → 16 ≤ x → 16 ≤ y → 2 ≤ units_at bytes (block_of x) → 2 ≤ units_at bytes (block_of y) → Separate (block_of x) (16 * units_at bytes (block_of x)) (block_of y) (16 * units_at bytes (block_of y)) → Separate x 16 y 16

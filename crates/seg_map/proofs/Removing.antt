@@ -225,7 +225,8 @@ module _ (allocator : ℕ) (old : List ℕ) (table : Table) (place : Place) (U :
         record { behind_header = b.behind_header; live = h.live ∙ b.live; has_tag = h.has_tag ∙ b.has_tag; room = let r = b.room in let q = h.room in omega arith }
 
     blocks_now : AreNodes mid (tag_of Kind.node place.type) (24 + size table U) (nodes_of made.tree)
-    blocks_now = subst (AreNodes mid (tag_of Kind.node place.type) (24 + size table U)) (sym made.nodes_are) (among (λ x. IsBlock mid x (tag_of Kind.node place.type) (24 + size table U)) (each_both _ _ _ block_now ns each_node m.opens.are_nodes))
+    blocks_now = subst (AreNodes mid (tag_of Kind.node place.type) (24 + size table U)) (sym made.nodes_are) (among (λ x. IsBlock mid x (tag_of Kind.node place.type) (24 + size table U))
+        (each_both _ _ _ block_now ns each_node m.opens.are_nodes))
 
     keys_step : (qs : List ℕ) → AllByRecursion (λ x. signed_long mid (x + 16) ≡ signed_long old (x + 16)) qs → keys_at mid (map (λ p. p + 16) qs) ≡ keys_at old (map (λ p. p + 16) qs)
     keys_step [] h = refl
@@ -242,7 +243,8 @@ module _ (allocator : ℕ) (old : List ℕ) (table : Table) (place : Place) (U :
     keys_less = ap (λ ks. remove ks i) (keys_are allocator old table place U keys vs blocks f s ∙ ap (map (key_at old)) a.nodes_are) ∙ fewer_keys (key_at old) node a.front a.back
 
     still_ascend : IsAscending (remove keys i)
-    still_ascend = subst IsAscending (sym keys_less) (ascends_without (key_at old) node a.front a.back (subst (Rattle.seg_spec.specs.Search.Ascend (λ x y. int_cmp (key_at old x) (key_at old y))) a.nodes_are (ascend allocator old table place U keys vs blocks f s)))
+    still_ascend = subst IsAscending (sym keys_less) (ascends_without (key_at old) node a.front a.back (subst (Rattle.seg_spec.specs.Search.Ascend (λ x y. int_cmp (key_at old x) (key_at old y))) a.nodes_are
+        (ascend allocator old table place U keys vs blocks f s)))
 
     -- ---- the values then
 
@@ -358,7 +360,8 @@ module _ (allocator : ℕ) (old : List ℕ) (table : Table) (place : Place) (U :
 
     -- ---- the value is cleared, and the node given back
 
-    module _ (cleared new : List ℕ) (c : ChangesPlace mid cleared table (value_of U (node + 24)) (default_of table U) [] (after_gives (live mid) k.zs) k.zs []) (gives : IsHeap allocator cleared → IsLive cleared (block_of node) → Gives allocator cleared new (block_of node)) where
+    module _ (cleared new : List ℕ) (c : ChangesPlace mid cleared table (value_of U (node + 24)) (default_of table U) [] (after_gives (live mid) k.zs) k.zs []) (gives : IsHeap allocator cleared → IsLive cleared (block_of node)
+        → Gives allocator cleared new (block_of node)) where
       mid_some : (h : ℕ) → 1 ≤ times h (positions (live old)) → 1 ≤ times h (positions (live mid))
       mid_some h some = let x = live_mid h in omega arith
 
@@ -380,7 +383,8 @@ module _ (allocator : ℕ) (old : List ℕ) (table : Table) (place : Place) (U :
           }
         where
           apart_blocks : (h : ℕ) → 1 ≤ times h (positions (live mid)) → h ≢ block_of node → OneOrApart mid (block_of node) h
-          apart_blocks h some ne = there (OneOrApart mid (block_of node)) h (positions (live mid)) (there (λ t. AllByRecursion (OneOrApart mid t) (positions (live mid))) (block_of node) (positions (live mid)) (live-apart mid allocator made.heap) node_mid) some
+          apart_blocks h some ne = there (OneOrApart mid (block_of node)) h (positions (live mid)) (there (λ t. AllByRecursion (OneOrApart mid t) (positions (live mid))) (block_of node) (positions (live mid))
+              (live-apart mid allocator made.heap) node_mid) some
 
           go : OneOrApart mid (block_of node) h → Separate (h + 16) (payload_size mid h) (node + 24) (size table U)
           go (inl e) = absurd (ne e)
@@ -466,7 +470,8 @@ module _ (allocator : ℕ) (old : List ℕ) (table : Table) (place : Place) (U :
           let off : times h (map block_of ns) ≡ 0 = let n = times-append h (map block_of ns) m.owned in let d : times h blocks ≡ times h (map block_of ns ++ m.owned) = ap (times h) m.blocks_are in omega arith in
           let step : KeepsBlock mid cleared h = kept_cleared h x ne (omega arith) in
           let still : 1 ≤ times h (positions (live cleared)) = let w = c.live_are h in omega arith in
-          let last = (left_frames allocator cleared table place (without_entry (keys, vs) i) others map_cleared new (block_of node) g node_cleared node_off (size table place.type)).kept h still (times-other h (block_of node) [] (λ e. ne (sym e))) in
+          let last = (left_frames allocator cleared table place (without_entry (keys, vs) i) others map_cleared new (block_of node) g node_cleared node_off (size table place.type)).kept h still (times-other h (block_of node) []
+          (λ e. ne (sym e))) in
           let first : KeepsBlockAround old mid place.at (size table place.type) h = rw cell_size (made.around h some off) in
           let two = (lies_mid h x).size in
           around_twice old mid new place.at (size table place.type) h first (around_twice mid cleared new place.at (size table place.type) h (around_kept mid cleared place.at (size table place.type) h (omega arith) step) last)

@@ -77,7 +77,8 @@ map_by bytes table place U keys vs blocks opened inside owned o hs v_is blocks_i
       blocks_are = blocks_is ∙ ap (λ bs. bs ++ owned) (ap (λ (r : Opened). r.blocks) o.opened_is);
     }
 
-pub tree_map : (bytes : List ℕ) (table : Table) (place : Place) (U : ℕ) (keys : List ℤ) (vs : Values) (blocks : List ℕ) → form_at table place.type ≡ Some (Form.map U) → Holds bytes table place (Map keys vs) blocks → IsTreeMap bytes table place U keys vs blocks
+pub tree_map : (bytes : List ℕ) (table : Table) (place : Place) (U : ℕ) (keys : List ℤ) (vs : Values) (blocks : List ℕ) → form_at table place.type ≡ Some (Form.map U) → Holds bytes table place (Map keys vs) blocks
+    → IsTreeMap bytes table place U keys vs blocks
 tree_map bytes table place U keys vs blocks f (holds form opened inside owned g o hs v_is blocks_is) =
     let same = same_form form (Form.map U) (sym g ∙ f) in
     let o' : Opens bytes table place (Form.map U) opened = subst (λ h. Opens bytes table place h opened) same o in
@@ -102,7 +103,8 @@ no_more : (xs ys : List ℕ) → ((h : ℕ) → times h xs ≤ times h ys) → l
 no_more [] ys o = omega arith
 no_more (x ∷ xs) ys o =
     let r = split_at x ys (omega (arith, o x, times-same x xs)) in
-    let rest = no_more xs (r.left ++ r.right) (λ h. let e : times h ys ≡ times h (r.left ++ x ∷ r.right) = ap (times h) r.is in let a = times-append h r.left (x ∷ r.right) in let b = times-append h r.left r.right in let c = o h in omega arith) in
+    let rest = no_more xs (r.left ++ r.right) (λ h. let e : times h ys ≡ times h (r.left ++ x ∷ r.right) = ap (times h) r.is in let a = times-append h r.left
+    (x ∷ r.right) in let b = times-append h r.left r.right in let c = o h in omega arith) in
     let long : length ys ≡ length (r.left ++ x ∷ r.right) = ap length r.is in
     omega (arith, length-append r.left (x ∷ r.right), length-append r.left r.right)
 
@@ -125,7 +127,8 @@ mapped_at g [] i x e = cc
 mapped_at g (y ∷ xs) zero x e = let same : y ≡ x = cc in ap (λ z. Some (g z)) same
 mapped_at g (y ∷ xs) (suc i) x e = mapped_at g xs i x e
 
-module _ (allocator : ℕ) (bytes : List ℕ) (table : Table) (place : Place) (U : ℕ) (keys : List ℤ) (vs : Values) (blocks : List ℕ) (f : form_at table place.type ≡ Some (Form.map U)) (s : Stands allocator bytes table place (Map keys vs) blocks) where
+module _ (allocator : ℕ) (bytes : List ℕ) (table : Table) (place : Place) (U : ℕ) (keys : List ℤ) (vs : Values) (blocks : List ℕ) (f : form_at table place.type ≡ Some (Form.map U)) (s : Stands allocator bytes table place
+    (Map keys vs) blocks) where
   pub its : IsTreeMap bytes table place U keys vs blocks
   its = tree_map bytes table place U keys vs blocks f s.holds_it
 
