@@ -1,6 +1,5 @@
 -- A new node gets its place in the tree of a map: the map has one more key.
-use Rattle.std.proofs.Common.{◌≡◌, ◌≢◌, ℕ, suc, ◌+◌, ◌-◌, ◌*◌, ◌%◌, ◌^◌, ◌<◌, ◌≤◌, ◌⊎◌, inl, inr, ℤ, List, [], ◌∷◌, ◌++◌, length, map, Some, refl, sym, ap, ◌∙◌, subst, arith}
-use Rattle.std.proofs.lemmas.Bool.{cases_eq}
+use Rattle.std.proofs.Common.{◌≡◌, ◌≢◌, ℕ, ◌+◌, ◌%◌, ◌^◌, ◌<◌, ◌≤◌, ℤ, List, [], ◌∷◌, ◌++◌, length, map, Some, refl, sym, ap, ◌∙◌, subst, arith}
 use Rattle.std.proofs.lemmas.List.{length-append}
 use Rattle.std.specs.Prelude.{insert, slice_get}
 use Rattle.std.specs.List.{AllByRecursion}
@@ -8,21 +7,20 @@ use Rattle.std.specs.Ordering.{int_cmp, ordering_reverse}
 use Rattle.std.specs.Cmp.{IsTotalOrder, on_total, int_cmp_total}
 use Rattle.std.specs.declared.cmp.Ordering.{Ordering}
 use Rattle.std.specs.declared.cmp.Ordering.TheVariants.{Less, Equal, Greater}
-use Rattle.seg_spec.specs.Bytes.{word, set_word, signed_long, IsSame}
+use Rattle.seg_spec.specs.Bytes.{set_word, signed_long, IsSame}
 use Rattle.seg_spec.specs.Pointer.{target}
 use Rattle.seg_spec.specs.Types.{Form, Table, form_at, size}
-use Rattle.seg_spec.specs.Value.{Selector, Value, Values, count, append, cons, Map, IsAscending, default_of}
-use Rattle.seg_spec.specs.Heap.{units_at, live, heap_start, IsHeap}
-use Rattle.seg_spec.specs.Block.{Kind, tag_of, IsBlock, IsInside, KeepsBlock, block_of, payload_size}
-use Rattle.seg_spec.specs.Apart.{Separate, KeepsBlockAround, BlocksApart, RangeApart}
-use Rattle.seg_spec.specs.Shapes.{Tree, nodes_of, IsTree}
+use Rattle.seg_spec.specs.Value.{Selector, Values, count, append, cons, Map, IsAscending, default_of}
+use Rattle.seg_spec.specs.Heap.{live, heap_start, IsHeap}
+use Rattle.seg_spec.specs.Block.{Kind, tag_of, IsBlock, IsInside, KeepsBlock, block_of}
+use Rattle.seg_spec.specs.Apart.{KeepsBlockAround}
+use Rattle.seg_spec.specs.Shapes.{Tree, nodes_of}
 use Rattle.seg_spec.specs.Search.{Ascend, IsSearchTree}
 use Rattle.seg_spec.specs.Items.{key_place, keys_below, with_entry, insert_nth}
 use Rattle.seg_spec.specs.Reads.{Place, count_at, keys_at, AreNodes, Holds, HoldsEach, holds_more, Leads}
 use Rattle.seg_spec.specs.Sound.{times, positions}
 use Rattle.seg_spec.specs.Owning.{Stands}
 use Rattle.seg_spec.specs.Roots.{ChangesPlace}
-use Rattle.seg_spec.specs.Growing.{Succeeds}
 use Rattle.seg_spec.specs.Shrinking.{KeepsPathsInside}
 use Rattle.seg_spec.specs.Demand.{block_for}
 use Rattle.seg_spec.proofs.SliceLaws.{IsSame-part, IsSame-trans}
@@ -31,16 +29,15 @@ use Rattle.seg_spec.proofs.Composing.{kept_twice, around_twice, around_kept}
 use Rattle.seg_spec.proofs.PlaceSteps.{home_live, owned_live, owned_other}
 use Rattle.seg_spec.proofs.Standing.{same_place}
 use Rattle.seg_spec.proofs.Frame.{each_map, each_of_map, each_weaker, each_both, each_left, each_right, signed_long-same, cell-target, cell-count, nodes-same, shorter, IsTree-same, SamePlace, Holds-kept, HoldsEach-kept}
-use Rattle.seg_spec.proofs.LiveLaws.{times-append, times-same, times-other, times-more, there, each_there, not_there, LiesIn, live-lie, live-apart, live-once, OneOrApart, apart_once}
+use Rattle.seg_spec.proofs.LiveLaws.{times-append, times-same, times-other, times-more, there, each_there, LiesIn, live-lie, live-once}
 use Rattle.seg_rbtree.specs.declared.path.Path.{Path}
 use Rattle.seg_rbtree.specs.Ways.{LeadsTo}
-use Rattle.seg_rbtree.specs.Changes.{NodesApart, StandApart, IsNew, with_node, Leaves}
+use Rattle.seg_rbtree.specs.Changes.{StandApart, IsNew, with_node, Leaves}
 use Rattle.seg_rbtree.proofs.Orders.{each_with}
 use Rattle.seg_rbtree.proofs.Paths.{leads_same}
 use Rattle.seg_map.specs.Maps.{AddsKey, value_of}
-use Rattle.seg_map.proofs.KeyOrder.{ascend_of, Apart, apart_at, more_keys, place_of_more, comes_between, ascends_with, place_after, equal_self, place_of, key_of_place, still_among}
-use Rattle.seg_map.proofs.TreeMaps.{key_at, AreLow, keys_low, IsTreeMap, its, IsNode, are_nodes, low, few_nodes, ascend, is_search_tree, keys_are}
-use Rattle.seg_map.proofs.TreeMaps as maps
+use Rattle.seg_map.proofs.KeyOrder.{ascend_of, Apart, apart_at, more_keys, place_of_more, comes_between, ascends_with, place_behind, equal_self, place_of, key_of_place, still_among}
+use Rattle.seg_map.proofs.TreeMaps.{key_at, keys_low, IsTreeMap, its, IsNode, are_nodes, low, few_nodes, is_search_tree, keys_are}
 use Rattle.seg_map.proofs.Relinking.{IsTouched, Remade, remade, count_before, stand_apart as nodes_stand_apart}
 use Rattle.seg_map.proofs.Rebuilding.{value_places, places_joined, places_long, inserted_nth, Parts, parts, joined, map_of, map_leads, passes, paths_by}
 use Rattle.seg_map.proofs.Entering.{Entered}
@@ -55,7 +52,8 @@ reverse_equal Less e = cc
 reverse_equal Equal e = refl
 reverse_equal Greater e = cc
 
-module _ (allocator : ℕ) (old mid : List ℕ) (table : Table) (place : Place) (U : ℕ) (keys : List ℤ) (vs : Values) (blocks : List ℕ) (f : form_at table place.type ≡ Some (Form.map U)) (s : Stands allocator old table place (Map keys vs) blocks)
+module _ (allocator : ℕ) (old mid : List ℕ) (table : Table) (place : Place) (U : ℕ) (keys : List ℤ) (vs : Values) (blocks : List ℕ) (f : form_at table place.type ≡ Some (Form.map U)) (s : Stands allocator old table place
+    (Map keys vs) blocks)
     (key : ℤ) (node : ℕ) (e : Entered allocator old mid table place.type U node key) where
   abbrev m : IsTreeMap old table place U keys vs blocks
   m = its allocator old table place U keys vs blocks f s
@@ -115,7 +113,7 @@ module _ (allocator : ℕ) (old mid : List ℕ) (table : Table) (place : Place) 
       one x l h = let at : (x + 16) % 2 ^ 32 ≡ x + 16 = omega arith in signed_long-same old mid ((x + 16) % 2 ^ 32) (rw at (IsSame-part old mid x (24 + size table U) (x + 16) 8 (omega arith) (omega arith) h))
 
   node_low : node + 8192 < 2 ^ 32
-  node_low = let l = lies_mid (block_of node) own_live in let back = e.block.after_header in let small = e.heap.small in let high = l.high in let two = l.size in omega arith
+  node_low = let l = lies_mid (block_of node) own_live in let back = e.block.behind_header in let small = e.heap.small in let high = l.high in let two = l.size in omega arith
 
   pub key_mid : key_at mid node ≡ key
   key_mid = let at : (node + 16) % 2 ^ 32 ≡ node + 16 = let l = node_low in omega arith in ap (signed_long mid) at ∙ e.key_is
@@ -142,10 +140,10 @@ module _ (allocator : ℕ) (old mid : List ℕ) (table : Table) (place : Place) 
   -- ---- the nodes stand apart
 
   touched_old : (x : ℕ) → IsNode allocator old table place U keys vs blocks f s x → IsTouched mid s.home x
-  touched_old x n = record { after_header = n.after_header; is_live = mid_live (block_of x) n.is_live; other = owned_other allocator old table place (Map keys vs) blocks s (block_of x) n.owned }
+  touched_old x n = record { behind_header = n.behind_header; is_live = mid_live (block_of x) n.is_live; other = owned_other allocator old table place (Map keys vs) blocks s (block_of x) n.owned }
 
   each_touched : AllByRecursion (IsTouched mid s.home) (node ∷ nodes)
-  each_touched = (record { after_header = e.block.after_header; is_live = own_live; other = not_own s.home home_old }, each_weaker _ _ touched_old nodes each_node)
+  each_touched = (record { behind_header = e.block.behind_header; is_live = own_live; other = not_own s.home home_old }, each_weaker _ _ touched_old nodes each_node)
 
   once : (h : ℕ) → times h (s.home ∷ (block_of node ∷ map block_of nodes)) ≤ 1
   once h =
@@ -190,7 +188,8 @@ module _ (allocator : ℕ) (old mid : List ℕ) (table : Table) (place : Place) 
 
     -- ---- the map then
 
-    module _ (three new : List ℕ) (n : ℕ) (l : Leaves mid three place.at (node ∷ nodes) (with_node order node nodes)) (new_is : new ≡ set_word three (place.at + 4) n) (n_is : count_at three place.at + 1 < 2 ^ 32 → n ≡ count_at three place.at + 1) where
+    module _ (three new : List ℕ) (n : ℕ) (l : Leaves mid three place.at (node ∷ nodes) (with_node order node nodes)) (new_is : new ≡ set_word three (place.at + 4) n) (n_is : count_at three place.at + 1 < 2 ^ 32
+        → n ≡ count_at three place.at + 1) where
       abbrev front : List ℕ
       front = between.front
 
@@ -210,7 +209,8 @@ module _ (allocator : ℕ) (old mid : List ℕ) (table : Table) (place : Place) 
       n_long = n_is (let c = counted_three in let k = few in omega arith) ∙ ap (λ k. k + 1) counted_three
 
       made : Remade allocator mid new place.at s.home n (node ∷ nodes) (with_node order node nodes)
-      made = remade allocator mid three new place.at s.home n (node ∷ nodes) (with_node order node nodes) e.heap l new_is home_mid home_live_mid each_touched (λ P p. each_with order node P nodes p.0 p.1) (let k = n_long in let i = few in omega arith)
+      made = remade allocator mid three new place.at s.home n (node ∷ nodes) (with_node order node nodes) e.heap l new_is home_mid home_live_mid each_touched (λ P p. each_with order node P nodes p.0 p.1)
+          (let k = n_long in let i = few in omega arith)
 
       low_keys : AllByRecursion (λ x. int_cmp (key_at mid x) (key_at mid node) ≡ Less) front
       low_keys = each_weaker _ _ (λ x h. ap (int_cmp (key_at mid x)) key_mid ∙ h) front between.low
@@ -236,7 +236,7 @@ module _ (allocator : ℕ) (old mid : List ℕ) (table : Table) (place : Place) 
 
       -- what follows a node's tree words
       content_same : (x : ℕ) → IsTouched mid s.home x → IsBlock mid x (tag_of Kind.node place.type) (24 + size table U) → (p k : ℕ) → x + 16 ≤ p → p + k ≤ x + (24 + size table U) → IsSame mid new p k
-      content_same x t b p k a c = made.content x p k t.after_header t.is_live t.other a (let r = b.room in let two = (lies_mid (block_of x) t.is_live).size in let low = t.after_header in omega arith)
+      content_same x t b p k a c = made.content x p k t.behind_header t.is_live t.other a (let r = b.room in let two = (lies_mid (block_of x) t.is_live).size in let low = t.behind_header in omega arith)
 
       block_mid : AllByRecursion (λ x. IsBlock mid x (tag_of Kind.node place.type) (24 + size table U)) (node ∷ nodes)
       block_mid = (e.block, Rattle.seg_spec.proofs.Frame.nodes-kept old mid (tag_of Kind.node place.type) (24 + size table U) nodes (each_left _ (map block_of nodes) m.owned blocks_kept) m.opens.are_nodes)
@@ -244,7 +244,7 @@ module _ (allocator : ℕ) (old mid : List ℕ) (table : Table) (place : Place) 
       block_now : (x : ℕ) → IsTouched mid s.home x → IsBlock mid x (tag_of Kind.node place.type) (24 + size table U) → IsBlock new x (tag_of Kind.node place.type) (24 + size table U)
       block_now x t b =
           let k = (made.header (block_of x) t.is_live).0 in
-          record { after_header = b.after_header; live = k.live ∙ b.live; has_tag = k.has_tag ∙ b.has_tag; room = let r = b.room in let q = k.room in omega arith }
+          record { behind_header = b.behind_header; live = k.live ∙ b.live; has_tag = k.has_tag ∙ b.has_tag; room = let r = b.room in let q = k.room in omega arith }
 
       blocks_now : AreNodes new (tag_of Kind.node place.type) (24 + size table U) (nodes_of made.tree)
       blocks_now = subst (AreNodes new (tag_of Kind.node place.type) (24 + size table U)) (sym made.nodes_are)
@@ -254,7 +254,7 @@ module _ (allocator : ℕ) (old mid : List ℕ) (table : Table) (place : Place) 
       key_new x t b = signed_long-same mid new (x + 16) (content_same x t b (x + 16) 8 (omega arith) (omega arith))
 
       low_mid : (x : ℕ) → IsTouched mid s.home x → x + 8192 < 2 ^ 32
-      low_mid x t = let l = lies_mid (block_of x) t.is_live in let low = t.after_header in let small = e.heap.small in let high = l.high in let two = l.size in omega arith
+      low_mid x t = let l = lies_mid (block_of x) t.is_live in let low = t.behind_header in let small = e.heap.small in let high = l.high in let two = l.size in omega arith
 
       keys_step : (ns : List ℕ) → AllByRecursion (λ x. signed_long new (x + 16) ≡ signed_long mid (x + 16)) ns → keys_at new (map (λ p. p + 16) ns) ≡ keys_at mid (map (λ p. p + 16) ns)
       keys_step [] h = refl
@@ -294,7 +294,8 @@ module _ (allocator : ℕ) (old mid : List ℕ) (table : Table) (place : Place) 
       owned_kept = each_there (KeepsBlock old new) m.owned (λ h some. let a = owned_away h some in kept_twice old mid new h (e.kept h a.0) (made.whole h (mid_live h a.0) a.1 a.2))
 
       value_same : (x : ℕ) → IsSame old mid x (24 + size table U) → IsTouched mid s.home x → IsBlock mid x (tag_of Kind.node place.type) (24 + size table U) → IsSame old new (x + 24) (size table U)
-      value_same x h t b = IsSame-trans old mid new (x + 24) (size table U) (IsSame-part old mid x (24 + size table U) (x + 24) (size table U) (omega arith) (omega arith) h) (content_same x t b (x + 24) (size table U) (omega arith) (omega arith))
+      value_same x h t b = IsSame-trans old mid new (x + 24) (size table U) (IsSame-part old mid x (24 + size table U) (x + 24) (size table U) (omega arith) (omega arith) h) (content_same x t b (x + 24) (size table U) (omega arith)
+          (omega arith))
 
       values_by : (ns : List ℕ) → AllByRecursion (λ x. IsSame old mid x (24 + size table U)) ns → AllByRecursion (IsTouched mid s.home) ns → AllByRecursion (λ x. IsBlock mid x (tag_of Kind.node place.type) (24 + size table U)) ns
           → AllByRecursion (λ x. IsSame old new (x + 24) (size table U)) ns
@@ -316,7 +317,8 @@ module _ (allocator : ℕ) (old mid : List ℕ) (table : Table) (place : Place) 
 
       values_more : HoldsEach new table (value_places U (nodes_of made.tree)) (insert_nth vs (keys_below keys key) (default_of table U)) m.owned
       values_more =
-          let all : HoldsEach new table (value_places U front ++ value_places U (node ∷ back)) (append halves.left (cons (default_of table U) halves.right)) (halves.xs ++ halves.ys) = joined new table halves.lefts (holds_more default_new halves.rights) in
+          let all : HoldsEach new table (value_places U front ++ value_places U (node ∷ back)) (append halves.left (cons (default_of table U) halves.right)) (halves.xs ++ halves.ys) = joined new table halves.lefts
+          (holds_more default_new halves.rights) in
           let at : keys_below keys key ≡ count halves.left = ap (λ ks. keys_below ks key) keys_parts ∙ place_of_more (key_at mid) key front back between.low between.high ∙ sym (places_long U front) ∙ sym halves.count_is in
           let value : append halves.left (cons (default_of table U) halves.right) ≡ insert_nth vs (keys_below keys key) (default_of table U) =
           sym (ap (λ ws. insert_nth ws (keys_below keys key) (default_of table U)) halves.values_are ∙ inserted_nth halves.left halves.right (default_of table U) (keys_below keys key) at) in
@@ -328,7 +330,8 @@ module _ (allocator : ℕ) (old mid : List ℕ) (table : Table) (place : Place) 
       others = map block_of (nodes_of made.tree) ++ m.owned
 
       holds_more_keys : Holds new table place (with_entry (keys, vs) key (default_of table U)) others
-      holds_more_keys = map_of new table place U made.tree (insert keys (keys_below keys key) key) (insert_nth vs (keys_below keys key) (default_of table U)) m.owned f made.is_tree made.red_black long_now blocks_now more more_ascend values_more
+      holds_more_keys = map_of new table place U made.tree (insert keys (keys_below keys key) key) (insert_nth vs (keys_below keys key)
+          (default_of table U)) m.owned f made.is_tree made.red_black long_now blocks_now more more_ascend values_more
 
       -- ---- what the call leaves
 
@@ -377,7 +380,7 @@ module _ (allocator : ℕ) (old mid : List ℕ) (table : Table) (place : Place) 
 
       place_now : (key_place (keys_at new (map (λ p. p + 16) (nodes_of made.tree))) key ≡ Some (length front)) × (slice_get (nodes_of made.tree) (length front) ≡ Some node)
       place_now = (
-        ap (λ ks. key_place ks key) keys_new ∙ place_after (key_at mid) key front node back between.low (ap (λ k. int_cmp k key) key_mid ∙ equal_self key),
+        ap (λ ks. key_place ks key) keys_new ∙ place_behind (key_at mid) key front node back between.low (ap (λ k. int_cmp k key) key_mid ∙ equal_self key),
         ap (λ ns. slice_get ns (length front)) now_are ∙ there_it_is front,
       )
         where

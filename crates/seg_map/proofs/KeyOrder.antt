@@ -1,6 +1,6 @@
 -- Nodes in ascending order of numbers: what a search finds among them, and one more or one less of them.
-use Rattle.std.proofs.Common.{◌≡◌, ◌≢◌, ℕ, zero, suc, ◌+◌, ◌<◌, ◌≤◌, Bool, true, false, cond, ltb, not, ◌&&◌, ℤ, ◌<ℤ◌, pos, List, [], ◌∷◌, ◌++◌, ◌⊎◌, inl, inr, length, map, take, drop, Option, Some, None, MatchOption, option_map, refl, sym, ap, ◌∙◌, subst, arith, zero-add}
-use Rattle.std.specs.Prelude.{int_lt, slice_get, filter, insert, remove, position, count_by, eqb}
+use Rattle.std.proofs.Common.{◌≡◌, ◌≢◌, ℕ, zero, suc, ◌+◌, Bool, true, false, cond, ltb, not, ◌&&◌, ℤ, ◌<ℤ◌, List, [], ◌∷◌, ◌++◌, ◌⊎◌, inl, inr, length, map, take, drop, Option, Some, None, MatchOption, option_map, refl, sym, ap, ◌∙◌, subst, arith, zero-add}
+use Rattle.std.specs.Prelude.{int_lt, slice_get, insert, remove, position, eqb}
 use Rattle.std.specs.List.{prefix_len}
 use Rattle.std.specs.List.{AllByRecursion}
 use Rattle.std.specs.Ordering.{int_cmp, is_eq, is_lt, ordering_reverse, MatchOrdering}
@@ -12,10 +12,10 @@ use Rattle.std.proofs.lemmas.List.Sums.{sum_by-cons}
 use Rattle.seg_spec.specs.Value.{IsAscending, same_int}
 use Rattle.seg_spec.specs.Items.{key_place, keys_below}
 use Rattle.seg_spec.specs.Search.{Ascend, first_where, reaches}
-use Rattle.seg_spec.proofs.Frame.{each_weaker, each_left, each_right}
+use Rattle.seg_spec.proofs.Frame.{each_weaker}
 use Rattle.seg_spec.proofs.Leading.{each_at}
-use Rattle.seg_rbtree.specs.Changes.{IsNew, with_node, without_node}
-use Rattle.seg_rbtree.specs.Paths.{FindsEqual, IsEqualAmong}
+use Rattle.seg_rbtree.specs.Changes.{with_node, without_node}
+use Rattle.seg_rbtree.specs.Paths.{IsEqualAmong}
 use Rattle.seg_rbtree.proofs.Orders.{ascend-parts}
 use Rattle.seg_map.specs.Maps.{first_of, keys_above}
 
@@ -314,7 +314,8 @@ module _ (f : ℕ → ℤ) where
   ascends_without node front back a = ascending_of (front ++ back) (ascend_less node front back a)
 
   removed_at : (xs front back : List ℤ) (k : ℤ) (n : ℕ) → xs ≡ front ++ k ∷ back → n ≡ length front → remove xs n ≡ front ++ back
-  removed_at xs front back k n e m = ap (λ ys. remove ys n) e ∙ ap (λ i. remove (front ++ k ∷ back) i) m ∙ ap (λ ys. ys ++ drop (suc (length front)) (front ++ k ∷ back)) (taken front (k ∷ back)) ∙ ap (λ ys. front ++ ys) (past_one front back)
+  removed_at xs front back k n e m = ap (λ ys. remove ys n) e ∙ ap (λ i. remove (front ++ k ∷ back) i) m ∙ ap (λ ys. ys ++ drop (suc (length front)) (front ++ k ∷ back)) (taken front (k ∷ back)) ∙ ap (λ ys. front ++ ys)
+      (past_one front back)
     where
       past_one : (front back : List ℤ) → drop (suc (length front)) (front ++ k ∷ back) ≡ back
       past_one [] back = refl

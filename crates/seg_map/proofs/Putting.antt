@@ -1,10 +1,9 @@
 -- What putting a key into a tree leaves, from what its steps leave.
-use Rattle.std.proofs.Common.{◌≡◌, ◌≢◌, ℕ, ◌+◌, ◌-◌, ◌*◌, ◌%◌, ◌^◌, ◌<◌, ◌≤◌, min, ℤ, List, [], ◌∷◌, ◌++◌, length, map, Option, Some, None, Ok, Err, MatchOption, refl, sym, ap, ◌∙◌, subst, arith}
-use Rattle.std.specs.Prelude.{slice_get, Result}
+use Rattle.std.proofs.Common.{◌≡◌, ◌≢◌, ℕ, ◌+◌, ◌*◌, ◌%◌, ◌^◌, ◌<◌, ◌≤◌, min, ℤ, List, [], ◌∷◌, ◌++◌, length, map, Option, Some, None, Ok, Err, refl, sym, ap, ◌∙◌, subst, arith}
+use Rattle.std.specs.Prelude.{slice_get}
 use Rattle.std.specs.List.{AllByRecursion}
 use Rattle.std.specs.Ordering.{int_cmp, ordering_reverse}
-use Rattle.std.specs.declared.cmp.Ordering.{Ordering}
-use Rattle.std.specs.declared.cmp.Ordering.TheVariants.{Less, Equal, Greater}
+use Rattle.std.specs.declared.cmp.Ordering.TheVariants.{Equal}
 use Rattle.seg_spec.specs.Bytes.{set_word, signed_long, ChangesOnly}
 use Rattle.seg_spec.specs.Types.{Form, Table, form_at, size}
 use Rattle.seg_spec.specs.Value.{Values, Map, Selector}
@@ -14,13 +13,12 @@ use Rattle.seg_spec.specs.Shapes.{Tree, nodes_of}
 use Rattle.seg_spec.specs.Search.{Ascend, IsSearchTree}
 use Rattle.seg_spec.specs.Items.{key_place}
 use Rattle.seg_spec.specs.Reads.{Place, count_at, Leads}
-use Rattle.seg_spec.specs.Sound.{times, positions}
+use Rattle.seg_spec.specs.Sound.{positions}
 use Rattle.seg_spec.specs.Owning.{Stands}
 use Rattle.seg_spec.specs.Demand.{Ask, block_for}
 use Rattle.seg_spec.specs.Calls.{Refuses}
 use Rattle.seg_spec.specs.Shrinking.{KeepsPathsInside}
 use Rattle.seg_spec.proofs.MoreTypes.{below_length}
-use Rattle.seg_spec.proofs.Frame.{each_weaker}
 use Rattle.seg_spec.proofs.LiveLaws.{there, LiesIn, live-lie}
 use Rattle.seg_spec.proofs.Leading.{each_at}
 use Rattle.seg_rbtree.specs.declared.path.Path.{Path}
@@ -28,12 +26,13 @@ use Rattle.seg_rbtree.specs.Ways.{LeadsTo}
 use Rattle.seg_rbtree.specs.Paths.{FindsEqual, IsEqualAmong}
 use Rattle.seg_value.specs.Contents.{GivesBlock}
 use Rattle.seg_map.specs.Maps.{AddsKey, PutsKey, value_of}
-use Rattle.seg_map.proofs.KeyOrder.{AtPlace, Around, around_at, place_after, no_place}
-use Rattle.seg_map.proofs.TreeMaps.{key_at, IsNode, its, nodes, are_nodes, low, few_nodes, keys_are, ascend, is_search_tree, leads_to}
+use Rattle.seg_map.proofs.KeyOrder.{AtPlace, Around, around_at, place_behind, no_place}
+use Rattle.seg_map.proofs.TreeMaps.{key_at, its, nodes, low, few_nodes, keys_are, ascend, is_search_tree, leads_to}
 use Rattle.seg_map.proofs.Entering.{Entered, entered}
 use Rattle.seg_map.proofs.Adding.{AddsFrom, leaves, adds_key, keeps_paths}
 
-module _ (allocator : ℕ) (old : List ℕ) (table : Table) (place : Place) (U : ℕ) (keys : List ℤ) (vs : Values) (blocks : List ℕ) (f : form_at table place.type ≡ Some (Form.map U)) (s : Stands allocator old table place (Map keys vs) blocks) (key : ℤ) where
+module _ (allocator : ℕ) (old : List ℕ) (table : Table) (place : Place) (U : ℕ) (keys : List ℤ) (vs : Values) (blocks : List ℕ) (f : form_at table place.type ≡ Some (Form.map U)) (s : Stands allocator old table place
+    (Map keys vs) blocks) (key : ℤ) where
   abbrev the_nodes : List ℕ
   the_nodes = nodes allocator old table place U keys vs blocks f s
 
@@ -77,7 +76,7 @@ module _ (allocator : ℕ) (old : List ℕ) (table : Table) (place : Place) (U :
 
   module _ (node : ℕ) (a : Around (key_at old) key the_nodes node) where
     pub key_there : key_place keys key ≡ Some (length a.front)
-    key_there = ap (λ ks. key_place ks key) (keys_are allocator old table place U keys vs blocks f s) ∙ ap (λ ns. key_place (map (key_at old) ns) key) a.nodes_are ∙ place_after (key_at old) key a.front node a.back a.low a.is
+    key_there = ap (λ ks. key_place ks key) (keys_are allocator old table place U keys vs blocks f s) ∙ ap (λ ns. key_place (map (key_at old) ns) key) a.nodes_are ∙ place_behind (key_at old) key a.front node a.back a.low a.is
 
     stands_there : (xs : List ℕ) → slice_get (xs ++ node ∷ a.back) (length xs) ≡ Some node
     stands_there [] = refl
@@ -86,7 +85,7 @@ module _ (allocator : ℕ) (old : List ℕ) (table : Table) (place : Place) (U :
     pub at_place : AtPlace (key_at old) key the_nodes node
     at_place = record {
       i = length a.front;
-      place_is = ap (λ ns. key_place (map (key_at old) ns) key) a.nodes_are ∙ place_after (key_at old) key a.front node a.back a.low a.is;
+      place_is = ap (λ ns. key_place (map (key_at old) ns) key) a.nodes_are ∙ place_behind (key_at old) key a.front node a.back a.low a.is;
       node_is = ap (λ ns. slice_get ns (length a.front)) a.nodes_are ∙ stands_there a.front;
     }
 
@@ -109,19 +108,20 @@ module _ (allocator : ℕ) (old : List ℕ) (table : Table) (place : Place) (U :
     new_low : (mid : List ℕ) (node : ℕ) → GivesBlock allocator old mid table (tag_of Kind.node place.type) 24 U node → node + 8192 < 2 ^ 32
     new_low mid node g =
         let lies = there (LiesIn mid heap_start (length mid)) (block_of node) (positions (live mid)) (live-lie mid allocator g.heap) (let one = g.now_live in omega arith) in
-        let back = g.is_block.after_header in let high = lies.high in let small = g.heap.small in let two = lies.size in omega arith
+        let back = g.is_block.behind_header in let high = lies.high in let small = g.heap.small in let two = lies.size in omega arith
 
     -- a new one: the map has its key, and each path leads where it led
     pub added_new : (mid with_key three new now : List ℕ) (node kp n count root : ℕ) (path : Path) → GivesBlock allocator old mid table (tag_of Kind.node place.type) 24 U node → kp ≡ (node + 16) % 2 ^ 32 → ChangesOnly mid with_key kp 8
         → (kp + 8 ≤ length mid → signed_long with_key kp ≡ key) → now ≡ old → root ≡ place.at → path.root ≡ root
         → ((tree : Tree) → IsSearchTree now root tree → LeadsTo (λ x. ordering_reverse (int_cmp (key_at now x) key)) tree path) → AddsFrom with_key three path.root path node
-        → new ≡ set_word three (place.at + 4) n → n ≡ min (count + 1) 4294967295 → count ≡ count_at three place.at → AddsKey allocator old new table place U keys vs key blocks (block_for (24 + size table U) ∷ []) (node + 24) × KeepsPathsInside old new table place
+        → new ≡ set_word three (place.at + 4) n → n ≡ min (count + 1) 4294967295 → count ≡ count_at three place.at
+        → AddsKey allocator old new table place U keys vs key blocks (block_for (24 + size table U) ∷ []) (node + 24) × KeepsPathsInside old new table place
     added_new mid with_key three new now node kp n count root path g kp_is stored key_is same root_is path_root leads added new_is n_is count_is =
         let lies = there (LiesIn mid heap_start (length mid)) (block_of node) (positions (live mid)) (live-lie mid allocator g.heap) (let one = g.now_live in omega arith) in
         let little = new_low mid node g in
         let at : kp ≡ node + 16 = omega arith in
         let stored' : ChangesOnly mid with_key (node + 16) 8 = subst (λ q. ChangesOnly mid with_key q 8) at stored in
-        let fits : kp + 8 ≤ length mid = let back = g.is_block.after_header in let high = lies.high in let room = g.is_block.room in let two = lies.size in omega arith in
+        let fits : kp + 8 ≤ length mid = let back = g.is_block.behind_header in let high = lies.high in let room = g.is_block.room in let two = lies.size in omega arith in
         let key' : signed_long with_key (node + 16) ≡ key = subst (λ q. signed_long with_key q ≡ key) at (key_is fits) in
         let start : heap_start ≤ length old = let k = few_nodes allocator old table place U keys vs blocks f s in omega arith in
         let e : Entered allocator old with_key table place.type U node key = entered allocator old mid with_key table place.type U node key s.is_table f s.ownable start g stored' key' in
@@ -132,7 +132,8 @@ module _ (allocator : ℕ) (old : List ℕ) (table : Table) (place : Place) (U :
         let n_by : count_at three place.at + 1 < 2 ^ 32 → n ≡ count_at three place.at + 1 = λ little. omega (arith, n_is, count_is) in
         (adds_key allocator old with_key table place U keys vs blocks f s key node e absent three new n l new_is n_by, keeps_paths allocator old with_key table place U keys vs blocks f s key node e absent three new n l new_is n_by)
 
-    pub puts_new : (E : Type 0) (p each before : ℕ) (mid with_key three new now : List ℕ) (node kp n count root : ℕ) (path : Path) → GivesBlock allocator old mid table (tag_of Kind.node place.type) 24 U node → kp ≡ (node + 16) % 2 ^ 32 → ChangesOnly mid with_key kp 8
+    pub puts_new : (E : Type 0) (p each before : ℕ) (mid with_key three new now : List ℕ) (node kp n count root : ℕ) (path : Path) → GivesBlock allocator old mid table (tag_of Kind.node place.type) 24 U node
+        → kp ≡ (node + 16) % 2 ^ 32 → ChangesOnly mid with_key kp 8
         → (kp + 8 ≤ length mid → signed_long with_key kp ≡ key) → now ≡ old → root ≡ place.at → path.root ≡ root
         → ((tree : Tree) → IsSearchTree now root tree → LeadsTo (λ x. ordering_reverse (int_cmp (key_at now x) key)) tree path) → AddsFrom with_key three path.root path node
         → new ≡ set_word three (place.at + 4) n → n ≡ min (count + 1) 4294967295 → count ≡ count_at three place.at → p ≡ (node + 0 * each + before) % 2 ^ 32 → before ≡ 24

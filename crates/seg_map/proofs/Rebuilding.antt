@@ -1,5 +1,5 @@
 -- The values of a map with one more or one less, and the map that a tree makes of them.
-use Rattle.std.proofs.Common.{◌≡◌, ℕ, zero, suc, ◌+◌, ℤ, List, [], ◌∷◌, ◌++◌, length, map, Some, refl, sym, ap, ◌∙◌, subst, arith, append_assoc}
+use Rattle.std.proofs.Common.{◌≡◌, ℕ, zero, suc, ◌+◌, ℤ, List, [], ◌∷◌, ◌++◌, length, map, Some, refl, sym, ap, ◌∙◌, subst, append_assoc}
 use Rattle.std.specs.List.{AllByRecursion}
 use Rattle.seg_spec.specs.Pointer.{target}
 use Rattle.seg_spec.specs.Types.{Form, Table, form_at, size, IsTable}
@@ -151,7 +151,8 @@ module _ (old new : List ℕ) (table : Table) (valid : IsTable table) (place : P
       }
 
 -- all paths from a place, by those that go on
-pub paths_by : (old new : List ℕ) (table : Table) (place : Place) → ((s : Selector) (path : List Selector) (inner : Place) → Leads old table place (s ∷ path) inner → Leads new table place (s ∷ path) inner) → (path : List Selector) (inner : Place)
+pub paths_by : (old new : List ℕ) (table : Table) (place : Place) → ((s : Selector) (path : List Selector) (inner : Place) → Leads old table place (s ∷ path) inner → Leads new table place (s ∷ path) inner)
+    → (path : List Selector) (inner : Place)
     → Leads old table place path inner → Leads new table place path inner
 paths_by old new table place h [] inner here = here
 paths_by old new table place h (s ∷ path) inner l = h s path inner l

@@ -1,5 +1,5 @@
 -- A node leaves the tree of a map, and is given back with what its value owns: the map has one key less.
-use Rattle.std.proofs.Common.{◌≡◌, ◌≢◌, ℕ, suc, ◌+◌, ◌-◌, ◌*◌, ◌%◌, ◌^◌, ◌<◌, ◌≤◌, ◌⊎◌, inl, inr, ℤ, List, [], ◌∷◌, ◌++◌, length, map, Some, refl, sym, ap, ◌∙◌, subst, arith}
+use Rattle.std.proofs.Common.{◌≡◌, ◌≢◌, ℕ, ◌+◌, ◌-◌, ◌^◌, ◌<◌, ◌≤◌, inl, inr, ℤ, List, [], ◌∷◌, ◌++◌, length, map, Some, refl, sym, ap, ◌∙◌, subst, arith}
 use Rattle.std.proofs.lemmas.List.{length-append}
 use Rattle.std.specs.Prelude.{remove, slice_get, Contains}
 use Rattle.std.specs.List.{AllByRecursion}
@@ -10,15 +10,15 @@ use Rattle.seg_spec.specs.Value.{Selector, Value, Values, count, append, cons, M
 use Rattle.seg_spec.specs.Heap.{Span, units_at, live, heap_start, IsHeap, IsLive, Gives}
 use Rattle.seg_spec.specs.Block.{Kind, tag_of, IsBlock, IsInside, KeepsBlock, IsOwnable, block_of, payload_size}
 use Rattle.seg_spec.specs.Apart.{Separate, KeepsBlockAround}
-use Rattle.seg_spec.specs.Shapes.{Tree, nodes_of}
+use Rattle.seg_spec.specs.Shapes.{nodes_of}
 use Rattle.seg_spec.specs.Items.{key_place, without_entry, remove_nth}
 use Rattle.seg_spec.specs.Reads.{Place, Opened, count_at, keys_at, AreNodes, Opens, Holds, HoldsEach, holds_more, Leads}
 use Rattle.seg_spec.specs.Sound.{times, positions}
 use Rattle.seg_spec.specs.Owning.{Stands}
 use Rattle.seg_spec.specs.Roots.{ChangesPlace}
 use Rattle.seg_spec.specs.Demand.{after_gives}
-use Rattle.seg_spec.specs.Spending.{PartBlocks, item_node}
-use Rattle.seg_spec.proofs.SliceLaws.{IsSame-part, IsSame-trans}
+use Rattle.seg_spec.specs.Spending.{PartBlocks, node_at}
+use Rattle.seg_spec.proofs.SliceLaws.{IsSame-trans}
 use Rattle.seg_spec.proofs.TypesLaws.{size-form}
 use Rattle.seg_spec.proofs.Giving.{found}
 use Rattle.seg_spec.proofs.GiveOrder.{in_any_order}
@@ -35,7 +35,7 @@ use Rattle.seg_map.proofs.KeyOrder.{Around, ascend_of, same_of_equal, fewer_keys
 use Rattle.seg_map.specs.Trees.{KeepsOtherKeys}
 use Rattle.seg_map.proofs.TreeMaps.{key_at, keys_low, IsTreeMap, its, nodes, IsNode, are_nodes, low, few_nodes, ascend, keys_are, mapped_at}
 use Rattle.seg_map.proofs.Relinking.{IsTouched, Remade, remade, count_before, stand_apart}
-use Rattle.seg_map.proofs.Rebuilding.{value_places, places_joined, places_long, removed_nth, Parts, parts, joined, map_of, map_leads, passes}
+use Rattle.seg_map.proofs.Rebuilding.{value_places, places_joined, places_long, removed_nth, parts, joined, map_of, map_leads, passes}
 
 -- the value after others, taken out
 pub record Cut (bytes : List ℕ) (table : Table) (before after : List Place) (part : Place) (vs : Values) (blocks : List ℕ) : Type 0 where
@@ -105,7 +105,7 @@ module _ (allocator : ℕ) (old : List ℕ) (table : Table) (place : Place) (U :
   each_node = are_nodes allocator old table place U keys vs blocks f s
 
   touched_by : (x : ℕ) → IsNode allocator old table place U keys vs blocks f s x → IsTouched old s.home x
-  touched_by x n = record { after_header = n.after_header; is_live = n.is_live; other = owned_other allocator old table place (Map keys vs) blocks s (block_of x) n.owned }
+  touched_by x n = record { behind_header = n.behind_header; is_live = n.is_live; other = owned_other allocator old table place (Map keys vs) blocks s (block_of x) n.owned }
 
   each_touched : AllByRecursion (IsTouched old s.home) ns
   each_touched = each_weaker _ _ touched_by ns each_node
@@ -164,7 +164,7 @@ module _ (allocator : ℕ) (old : List ℕ) (table : Table) (place : Place) (U :
       let r = times-append h k.xs k.ys in
       omega arith
 
-  gives_are : block_of node ∷ k.zs ≡ item_node (Form.map U) m.opened.blocks i ++ k.zs
+  gives_are : block_of node ∷ k.zs ≡ node_at (Form.map U) m.opened.blocks i ++ k.zs
   gives_are =
       let at : slice_get m.opened.blocks i ≡ Some (block_of node) = ap (λ (bs : List ℕ). slice_get bs i) (ap (λ (r : Opened). r.blocks) m.opens.opened_is ∙ ap (map block_of) a.nodes_are)
       ∙ mapped_at block_of (a.front ++ node ∷ a.back) i node (stands_there a.front) in
@@ -217,15 +217,16 @@ module _ (allocator : ℕ) (old : List ℕ) (table : Table) (place : Place) (U :
     live_mid h = ap (λ bs. times h (positions bs)) made.live_is
 
     content_same : (x : ℕ) → IsNode allocator old table place U keys vs blocks f s x → (p q : ℕ) → x + 16 ≤ p → p + q ≤ x + (24 + size table U) → IsSame old mid p q
-    content_same x d p q b c = let t = touched_by x d in made.content x p q t.after_header t.is_live t.other b (let r = d.room in omega arith)
+    content_same x d p q b c = let t = touched_by x d in made.content x p q t.behind_header t.is_live t.other b (let r = d.room in omega arith)
 
     block_now : (x : ℕ) → IsNode allocator old table place U keys vs blocks f s x → IsBlock old x (tag_of Kind.node place.type) (24 + size table U) → IsBlock mid x (tag_of Kind.node place.type) (24 + size table U)
     block_now x d b =
         let h = (made.header (block_of x) d.is_live).0 in
-        record { after_header = b.after_header; live = h.live ∙ b.live; has_tag = h.has_tag ∙ b.has_tag; room = let r = b.room in let q = h.room in omega arith }
+        record { behind_header = b.behind_header; live = h.live ∙ b.live; has_tag = h.has_tag ∙ b.has_tag; room = let r = b.room in let q = h.room in omega arith }
 
     blocks_now : AreNodes mid (tag_of Kind.node place.type) (24 + size table U) (nodes_of made.tree)
-    blocks_now = subst (AreNodes mid (tag_of Kind.node place.type) (24 + size table U)) (sym made.nodes_are) (among (λ x. IsBlock mid x (tag_of Kind.node place.type) (24 + size table U)) (each_both _ _ _ block_now ns each_node m.opens.are_nodes))
+    blocks_now = subst (AreNodes mid (tag_of Kind.node place.type) (24 + size table U)) (sym made.nodes_are) (among (λ x. IsBlock mid x (tag_of Kind.node place.type) (24 + size table U))
+        (each_both _ _ _ block_now ns each_node m.opens.are_nodes))
 
     keys_step : (qs : List ℕ) → AllByRecursion (λ x. signed_long mid (x + 16) ≡ signed_long old (x + 16)) qs → keys_at mid (map (λ p. p + 16) qs) ≡ keys_at old (map (λ p. p + 16) qs)
     keys_step [] h = refl
@@ -242,7 +243,8 @@ module _ (allocator : ℕ) (old : List ℕ) (table : Table) (place : Place) (U :
     keys_less = ap (λ ks. remove ks i) (keys_are allocator old table place U keys vs blocks f s ∙ ap (map (key_at old)) a.nodes_are) ∙ fewer_keys (key_at old) node a.front a.back
 
     still_ascend : IsAscending (remove keys i)
-    still_ascend = subst IsAscending (sym keys_less) (ascends_without (key_at old) node a.front a.back (subst (Rattle.seg_spec.specs.Search.Ascend (λ x y. int_cmp (key_at old x) (key_at old y))) a.nodes_are (ascend allocator old table place U keys vs blocks f s)))
+    still_ascend = subst IsAscending (sym keys_less) (ascends_without (key_at old) node a.front a.back (subst (Rattle.seg_spec.specs.Search.Ascend (λ x y. int_cmp (key_at old x) (key_at old y))) a.nodes_are
+        (ascend allocator old table place U keys vs blocks f s)))
 
     -- ---- the values then
 
@@ -341,7 +343,7 @@ module _ (allocator : ℕ) (old : List ℕ) (table : Table) (place : Place) (U :
     map_home = refl
 
     inside_node : IsInside mid (block_of node) (node + 24) (size table U)
-    inside_node = let back = its_node.after_header in let room = its_node.room in let h = (made.header (block_of node) node_live).0.room in let two = (lies (block_of node) node_live).size in record { low = omega arith; high = omega arith }
+    inside_node = let back = its_node.behind_header in let room = its_node.room in let h = (made.header (block_of node) node_live).0.room in let two = (lies (block_of node) node_live).size in record { low = omega arith; high = omega arith }
 
     pub value_stands : Stands allocator mid table (value_of U (node + 24)) k.value k.zs
     value_stands = record {
@@ -350,7 +352,7 @@ module _ (allocator : ℕ) (old : List ℕ) (table : Table) (place : Place) (U :
       is_table = s.is_table;
       ownable = ownable_mid;
       holds_it = value_mid;
-      aligned = let back = its_node.after_header in let even = (lies (block_of node) node_live).aligned in omega arith;
+      aligned = let back = its_node.behind_header in let even = (lies (block_of node) node_live).aligned in omega arith;
       home = block_of node;
       inside = inside_node;
       owned = λ h. let x = live_mid h in let o = s.owned h in let b = shares h in let p = times-more h s.home blocks in omega arith;
@@ -358,7 +360,8 @@ module _ (allocator : ℕ) (old : List ℕ) (table : Table) (place : Place) (U :
 
     -- ---- the value is cleared, and the node given back
 
-    module _ (cleared new : List ℕ) (c : ChangesPlace mid cleared table (value_of U (node + 24)) (default_of table U) [] (after_gives (live mid) k.zs) k.zs []) (gives : IsHeap allocator cleared → IsLive cleared (block_of node) → Gives allocator cleared new (block_of node)) where
+    module _ (cleared new : List ℕ) (c : ChangesPlace mid cleared table (value_of U (node + 24)) (default_of table U) [] (after_gives (live mid) k.zs) k.zs []) (gives : IsHeap allocator cleared → IsLive cleared (block_of node)
+        → Gives allocator cleared new (block_of node)) where
       mid_some : (h : ℕ) → 1 ≤ times h (positions (live old)) → 1 ≤ times h (positions (live mid))
       mid_some h some = let x = live_mid h in omega arith
 
@@ -380,7 +383,8 @@ module _ (allocator : ℕ) (old : List ℕ) (table : Table) (place : Place) (U :
           }
         where
           apart_blocks : (h : ℕ) → 1 ≤ times h (positions (live mid)) → h ≢ block_of node → OneOrApart mid (block_of node) h
-          apart_blocks h some ne = there (OneOrApart mid (block_of node)) h (positions (live mid)) (there (λ t. AllByRecursion (OneOrApart mid t) (positions (live mid))) (block_of node) (positions (live mid)) (live-apart mid allocator made.heap) node_mid) some
+          apart_blocks h some ne = there (OneOrApart mid (block_of node)) h (positions (live mid)) (there (λ t. AllByRecursion (OneOrApart mid t) (positions (live mid))) (block_of node) (positions (live mid))
+              (live-apart mid allocator made.heap) node_mid) some
 
           go : OneOrApart mid (block_of node) h → Separate (h + 16) (payload_size mid h) (node + 24) (size table U)
           go (inl e) = absurd (ne e)
@@ -466,7 +470,8 @@ module _ (allocator : ℕ) (old : List ℕ) (table : Table) (place : Place) (U :
           let off : times h (map block_of ns) ≡ 0 = let n = times-append h (map block_of ns) m.owned in let d : times h blocks ≡ times h (map block_of ns ++ m.owned) = ap (times h) m.blocks_are in omega arith in
           let step : KeepsBlock mid cleared h = kept_cleared h x ne (omega arith) in
           let still : 1 ≤ times h (positions (live cleared)) = let w = c.live_are h in omega arith in
-          let last = (left_frames allocator cleared table place (without_entry (keys, vs) i) others map_cleared new (block_of node) g node_cleared node_off (size table place.type)).kept h still (times-other h (block_of node) [] (λ e. ne (sym e))) in
+          let last = (left_frames allocator cleared table place (without_entry (keys, vs) i) others map_cleared new (block_of node) g node_cleared node_off (size table place.type)).kept h still (times-other h (block_of node) []
+          (λ e. ne (sym e))) in
           let first : KeepsBlockAround old mid place.at (size table place.type) h = rw cell_size (made.around h some off) in
           let two = (lies_mid h x).size in
           around_twice old mid new place.at (size table place.type) h first (around_twice mid cleared new place.at (size table place.type) h (around_kept mid cleared place.at (size table place.type) h (omega arith) step) last)

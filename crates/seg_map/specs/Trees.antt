@@ -1,7 +1,9 @@
 -- Maps as trees of nodes.
---     VALUE                            the bytes of a node before its value
---     NamesTree table T U content      the cell of a type T names a tree of nodes with values of type U
---     KeepsOtherKeys old new table map key     paths through other keys of a map lead where they led
+--     VALUE                           the bytes of a node before its value
+--     NamesTree table T U content     the cell of a type T names a tree of nodes, with values of
+--                                     type U
+--     KeepsOtherKeys old new table map key
+--                                     paths through other keys of a map lead where they led
 use Rattle.std.specs.Prelude.{◌≢◌, ℕ, ℤ, List, ◌∷◌}
 use Rattle.seg_spec.specs.Types.{Table}
 use Rattle.seg_spec.specs.Value.{Selector}
