@@ -10,3 +10,14 @@ pub mod Adding
 pub mod Dropping
 pub mod Removed
 pub mod Fronts
+mod Lasting
+mod Rooms
+mod Counting
+mod TextSteps
+mod TooMuch
+mod TextCalls
+mod Items
+mod ItemAdded
+mod ItemCalls
+mod ItemRemoved
+mod Found

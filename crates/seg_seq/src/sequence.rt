@@ -1,5 +1,11 @@
-ghost use Rattle.std.specs.Prelude.{◌≡◌};
+ghost use Rattle.std.specs.Prelude.{◌≡◌, ℕ, ◌+◌, ◌-◌, ◌<◌, ◌≤◌, ◌↔◌, List, [], length, take, Some, None, true, false, Err, IsTrue, MatchResult};
+ghost use Rattle.seg_spec.specs.Reads.{count_at};
+ghost use Rattle.seg_spec.specs.Types.{Form, form_at};
+ghost use Rattle.seg_spec.specs.Value.{Values, count, Text};
 ghost use Rattle.seg_spec.specs.Window.{KeepsHost};
+ghost use Rattle.seg_value.specs.Buffers.{NamesBuffer};
+ghost use Rattle.seg_value.specs.Places.{place_of, object_at};
+ghost use Rattle.seg_seq.specs.Sequences.{HasText, HasItems, item_type, is_countless, is_unordered, Declines, HasNone, ComesToHold, LacksRoom, push_asks, PushesBack, PopsBack, IsPast, ShowsByte, ShowsItem};
 
 use crate::list::{item_of, push_node, remove_node};
 use crate::ring::{Way, neighbour, node_at};
@@ -10,11 +16,22 @@ use std::alloc::Allocator;
 
 /// The position of an item of a vector or a list, or of a byte of a string. `OtherType` where the place has no items,
 /// `OutOfRange` where there are not so many.
-pub fn at<F: Fit, A: Allocator>(
-    heap: &Heap<F, A>,
-    sequence: Place,
-    index: u32,
-) -> Result<u32, Code> {
+pub fn at<F: Fit, A: Allocator>(heap: &Heap<F, A>, sequence: Place, index: u32) -> Result<u32, Code>
+    ensures text { (xs blocks : List ℕ) →
+        HasText F.allocator heap.now (place_of sequence) xs blocks →
+        MatchResult result
+        (ShowsByte heap.now (place_of sequence) xs index) (IsPast index (length xs)) }
+    ensures vector { (U : ℕ) (vs : Values) (blocks : List ℕ) →
+        HasItems F.allocator heap.now (place_of sequence) U vs blocks →
+        MatchResult result
+        (ShowsItem heap.now (place_of sequence) U index) (IsPast index (count vs)) }
+    ensures other { is_countless (form_at heap.now.types sequence.type_id) ≡ true →
+        result ≡ Err Code.OtherType }
+    ensures past { is_countless (form_at heap.now.types sequence.type_id) ≡ false →
+        count_at heap.now.window.bytes sequence.at ≤ index → result ≡ Err Code.OutOfRange }
+    ensures unordered { is_unordered (form_at heap.now.types sequence.type_id) ≡ true →
+        index < count_at heap.now.window.bytes sequence.at → result ≡ Err Code.OtherType }
+{
     let content = heap.content(sequence.type_id).ok_or(Code::OtherType)?;
     if index >= heap.count(sequence.at) {
         return Err(Code::OutOfRange);
@@ -27,7 +44,11 @@ pub fn at<F: Fit, A: Allocator>(
 }
 
 /// Whether the entries of a buffer are values alone: not the bytes of a string, nor with the keys of a flat map.
-fn is_vector(content: &Content) -> bool {
+fn is_vector(content: &Content) -> bool
+    ensures value { (U : ℕ) → content.now.entry.held ≡ Held.Value U →
+        IsTrue result ↔ (content.now.entry.before ≡ 0) }
+    ensures bytes { content.now.entry.held ≡ Held.Bytes → result ≡ false }
+{
     match content.entry.held {
         Held::Value(_) => content.entry.before == 0,
         Held::Bytes | Held::Pointer => false,
@@ -39,6 +60,13 @@ fn is_vector(content: &Content) -> bool {
 pub fn push_back<F: Fit, A: Allocator>(heap: &mut Heap<F, A>, sequence: Place) -> Result<u32, Code>
     ensures window { KeepsHost heap.old.window heap.new.window }
     ensures types { heap.new.types ≡ heap.old.types }
+    ensures vector { (U : ℕ) (vs : Values) (blocks : List ℕ) →
+        HasItems F.allocator heap.old (place_of sequence) U vs blocks →
+        MatchResult result
+        (PushesBack F.allocator heap.old heap.new (place_of sequence) U vs blocks)
+        (LacksRoom F.allocator heap.old heap.new (push_asks heap.old (place_of sequence) U)) }
+    ensures other { item_type (form_at heap.old.types sequence.type_id) ≡ None →
+        Declines Code.OtherType heap.old heap.new result }
 {
     let content = heap.content(sequence.type_id).ok_or(Code::OtherType)?;
     match content.shape {
@@ -56,6 +84,12 @@ fn push_entry<F: Fit, A: Allocator>(
 ) -> Result<u32, Code>
     ensures window { KeepsHost heap.old.window heap.new.window }
     ensures types { heap.new.types ≡ heap.old.types }
+    ensures vector { (T U : ℕ) (vs : Values) (blocks : List ℕ) →
+        NamesBuffer heap.old.types T content.now →
+        HasItems F.allocator heap.old (object_at cell T) U vs blocks →
+        MatchResult result
+        (PushesBack F.allocator heap.old heap.new (object_at cell T) U vs blocks)
+        (LacksRoom F.allocator heap.old heap.new (push_asks heap.old (object_at cell T) U)) }
 {
     let kept = heap.count(cell);
     let len = kept.saturating_add(1);
@@ -73,6 +107,25 @@ fn push_entry<F: Fit, A: Allocator>(
 pub fn pop_back<F: Fit, A: Allocator>(heap: &mut Heap<F, A>, sequence: Place) -> Result<(), Code>
     ensures window { KeepsHost heap.old.window heap.new.window }
     ensures types { heap.new.types ≡ heap.old.types }
+    ensures text { (xs blocks : List ℕ) →
+        HasText F.allocator heap.old (place_of sequence) xs blocks →
+        MatchResult result
+        (λ done. ComesToHold F.allocator heap.old heap.new (place_of sequence)
+        (Text (take (length xs - 1) xs)) [] [] blocks)
+        (HasNone heap.old heap.new (length xs)) }
+    ensures vector { (U : ℕ) (vs : Values) (blocks : List ℕ) →
+        HasItems F.allocator heap.old (place_of sequence) U vs blocks →
+        MatchResult result
+        (λ done. PopsBack F.allocator heap.old heap.new (place_of sequence) vs blocks)
+        (HasNone heap.old heap.new (count vs)) }
+    ensures none { is_countless (form_at heap.old.types sequence.type_id) ≡ false →
+        count_at heap.old.window.bytes sequence.at ≡ 0 →
+        Declines Code.Null heap.old heap.new result }
+    ensures other { is_countless (form_at heap.old.types sequence.type_id) ≡ true →
+        Declines Code.OtherType heap.old heap.new result }
+    ensures unordered { is_unordered (form_at heap.old.types sequence.type_id) ≡ true →
+        1 ≤ count_at heap.old.window.bytes sequence.at →
+        Declines Code.OtherType heap.old heap.new result }
 {
     let content = heap.content(sequence.type_id).ok_or(Code::OtherType)?;
     let last = heap.count(sequence.at).checked_sub(1).ok_or(Code::Null)?;
@@ -91,6 +144,14 @@ pub fn pop_back<F: Fit, A: Allocator>(heap: &mut Heap<F, A>, sequence: Place) ->
 fn pop_entry<F: Fit, A: Allocator>(heap: &mut Heap<F, A>, content: &Content, cell: u32, last: u32)
     ensures window { KeepsHost heap.old.window heap.new.window }
     ensures types { heap.new.types ≡ heap.old.types }
+    ensures text { (T : ℕ) (xs blocks : List ℕ) → NamesBuffer heap.old.types T content.now →
+        HasText F.allocator heap.old (object_at cell T) xs blocks → length xs ≡ last + 1 →
+        ComesToHold F.allocator heap.old heap.new (object_at cell T) (Text (take last xs)) [] []
+        blocks }
+    ensures vector { (T U : ℕ) (vs : Values) (blocks : List ℕ) →
+        NamesBuffer heap.old.types T content.now →
+        HasItems F.allocator heap.old (object_at cell T) U vs blocks → count vs ≡ last + 1 →
+        PopsBack F.allocator heap.old heap.new (object_at cell T) vs blocks }
 {
     if let Some(item) = content.entry.value(heap.start(cell), last) {
         heap.clear(item);

@@ -1,5 +1,8 @@
-ghost use Rattle.std.specs.Prelude.{◌≡◌};
+ghost use Rattle.std.specs.Prelude.{◌≡◌, ◌≢◌, ℕ, ◌+◌, ◌≤◌, List, [], ◌∷◌, ◌++◌, length, take, Some, ◌↔◌, IfOk, IsTrue, MatchResult};
+ghost use Rattle.seg_spec.specs.Types.{Form, form_at};
 ghost use Rattle.seg_spec.specs.Window.{KeepsHost};
+ghost use Rattle.seg_value.specs.Places.{place_of};
+ghost use Rattle.seg_seq.specs.Sequences.{HasText, Declines, LacksRoom, Rewrites, MakesRoom, text_asks};
 
 use seg_block::Fit;
 use seg_raw::Code;
@@ -15,6 +18,12 @@ pub fn append<F: Fit, A: Allocator>(
 ) -> Result<(), Code>
     ensures window { KeepsHost heap.old.window heap.new.window }
     ensures types { heap.new.types ≡ heap.old.types }
+    ensures text { (xs blocks : List ℕ) →
+        HasText F.allocator heap.old (place_of text) xs blocks →
+        Rewrites F.allocator heap.old heap.new (place_of text)
+        (length xs + length bytes.now) (xs ++ bytes.now) blocks result }
+    ensures other { form_at heap.old.types text.type_id ≢ Some Form.str →
+        Declines Code.OtherType heap.old heap.new result }
 {
     let kept = heap.count(text.at);
     write(heap, text, kept, bytes)
@@ -29,6 +38,12 @@ pub fn assign<F: Fit, A: Allocator>(
 ) -> Result<(), Code>
     ensures window { KeepsHost heap.old.window heap.new.window }
     ensures types { heap.new.types ≡ heap.old.types }
+    ensures text { (xs blocks : List ℕ) →
+        HasText F.allocator heap.old (place_of text) xs blocks →
+        Rewrites F.allocator heap.old heap.new (place_of text)
+        (length bytes.now) bytes.now blocks result }
+    ensures other { form_at heap.old.types text.type_id ≢ Some Form.str →
+        Declines Code.OtherType heap.old heap.new result }
 {
     write(heap, text, 0, bytes)
 }
@@ -42,6 +57,15 @@ pub fn push_byte<F: Fit, A: Allocator>(
 ) -> Result<u32, Code>
     ensures window { KeepsHost heap.old.window heap.new.window }
     ensures types { heap.new.types ≡ heap.old.types }
+    ensures text { (xs blocks : List ℕ) →
+        HasText F.allocator heap.old (place_of text) xs blocks →
+        Rewrites F.allocator heap.old heap.new (place_of text)
+        (length xs + 1) (xs ++ byte ∷ []) blocks result }
+    ensures length { (xs blocks : List ℕ) →
+        HasText F.allocator heap.old (place_of text) xs blocks →
+        IfOk result (λ n. n ≡ length xs + 1) }
+    ensures other { form_at heap.old.types text.type_id ≢ Some Form.str →
+        Declines Code.OtherType heap.old heap.new result }
 {
     let kept = heap.count(text.at);
     let added = make_room(heap, text, kept, 1)?;
@@ -58,6 +82,12 @@ fn write<F: Fit, A: Allocator>(
 ) -> Result<(), Code>
     ensures window { KeepsHost heap.old.window heap.new.window }
     ensures types { heap.new.types ≡ heap.old.types }
+    ensures text { (xs blocks : List ℕ) →
+        HasText F.allocator heap.old (place_of text) xs blocks → kept ≤ length xs →
+        Rewrites F.allocator heap.old heap.new (place_of text)
+        (kept + length bytes.now) (take kept xs ++ bytes.now) blocks result }
+    ensures other { form_at heap.old.types text.type_id ≢ Some Form.str →
+        Declines Code.OtherType heap.old heap.new result }
 {
     let added = make_room(heap, text, kept, bytes.len())?;
     heap.window_mut().copy_in(added.at, bytes);
@@ -72,7 +102,9 @@ struct Added {
 }
 
 /// Whether a cell names the bytes of a string.
-fn is_text(content: &Content) -> bool {
+fn is_text(content: &Content) -> bool
+    ensures { IsTrue result ↔ (content.now.entry.held ≡ Held.Bytes) }
+{
     match content.entry.held {
         Held::Bytes => true,
         Held::Value(_) | Held::Pointer => false,
@@ -89,6 +121,15 @@ fn make_room<F: Fit, A: Allocator>(
 ) -> Result<Added, Code>
     ensures window { KeepsHost heap.old.window heap.new.window }
     ensures types { heap.new.types ≡ heap.old.types }
+    ensures text { (xs blocks : List ℕ) →
+        HasText F.allocator heap.old (place_of text) xs blocks → kept ≤ length xs →
+        MatchResult result
+        (λ r. MakesRoom F.allocator heap.old heap.new (place_of text) kept added xs blocks
+        r.at r.len)
+        (LacksRoom F.allocator heap.old heap.new
+        (text_asks heap.old (place_of text) (kept + added))) }
+    ensures other { form_at heap.old.types text.type_id ≢ Some Form.str →
+        Declines Code.OtherType heap.old heap.new result }
 {
     let content = heap.content(text.type_id).ok_or(Code::OtherType)?;
     if !is_text(&content) {

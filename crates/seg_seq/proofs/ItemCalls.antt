@@ -1,0 +1,122 @@
+-- What the calls on vectors return, from what the calls below them return.
+use Rattle.std.proofs.Common.{◌≡◌, ℕ, ◌+◌, ◌-◌, ◌*◌, ◌%◌, ◌^◌, ◌<◌, min, List, [], length, Option, Some, refl, sym, ap, ◌∙◌, subst, arith}
+use Rattle.seg_spec.specs.Bytes.{set_word, ChangesOnly}
+use Rattle.seg_spec.specs.Types.{Form, Table, IsTable, form_at, size}
+use Rattle.seg_spec.specs.Value.{Value, Values, count, Seq, default_of}
+use Rattle.seg_spec.specs.Reads.{count_at, start, Holds}
+use Rattle.seg_spec.specs.Cells.{IsWithin}
+use Rattle.seg_spec.specs.Calls.{Refuses}
+use Rattle.seg_spec.specs.Growing.{Reserves}
+use Rattle.seg_spec.specs.Heap.{live}
+use Rattle.seg_spec.specs.Demand.{after_gives}
+use Rattle.seg_spec.specs.Owning.{Stands}
+use Rattle.seg_spec.specs.Roots.{ChangesPlace}
+use Rattle.seg_spec.specs.Spending.{buffer_asks}
+use Rattle.seg_raw.specs.declared.code.Code.TheVariants.{BadAlloc}
+use Rattle.seg_value.specs.Stored.{Stored}
+use Rattle.seg_value.specs.Places.{object_at}
+use Rattle.seg_value.specs.Contents.{IsEntryOf, ContentOf}
+use Rattle.seg_value.specs.Buffers.{NamesBuffer}
+use Rattle.seg_value.specs.declared.content.Content.{Content}
+use Rattle.seg_value.specs.declared.place.Place.{Place as Where}
+use Rattle.seg_seq.specs.Sequences.{HasItems, LacksRoom, PushesBack, PopsBack, push_asks}
+use Rattle.seg_seq.proofs.Rooms.{entries_fit}
+use Rattle.seg_seq.proofs.ItemRemoved.{some_buffer, last, others, item_stands as item_stands_there, its_blocks, item_removed}
+use Rattle.seg_seq.proofs.ItemAdded.{has_each, next_small, count_few, has_buffer_now, item_within, item_added, item_stands}
+
+-- the entries of a vector
+pub vector_entry : (table : Table) (T U : ℕ) (content : Content) → form_at table T ≡ Some (Form.vec U) → NamesBuffer table T content → IsEntryOf table 0 U content.entry
+vector_entry table T U content f n = let c = rw f at n.0 in c.entry_is
+
+pub names_vector : (table : Table) (T U : ℕ) (content : Content) (o : Option Content) → form_at table T ≡ Some (Form.vec U) → ContentOf table T (form_at table T) o → o ≡ Some content → NamesBuffer table T content
+names_vector table T U content o f c is =
+    let known : ContentOf table T (form_at table T) (Some content) = subst (ContentOf table T (form_at table T)) is c in
+    let entry = rw f at known in
+    (known, entry.shape_is)
+
+item_known : (table : Table) (T U : ℕ) → IsTable table → form_at table T ≡ Some (Form.vec U) → U < length table
+item_known table T U valid f = valid.forms T (Form.vec U) f
+
+-- the same position, computed modulo the word
+pub item_at : (first kept each before p n z at : ℕ) → first ≡ p → kept ≡ n → each ≡ z → before ≡ 0 → at ≡ (first + kept * each + before) % 2 ^ 32 → p + n * z < 2 ^ 32 → at ≡ p + n * z
+item_at first kept each before p n z at a b c d e l = let f : at ≡ (p + n * z + 0) % 2 ^ 32 = rw (a, b, c, d) at e in omega arith
+
+-- one option names one place
+pub one_place : (o : Option Where) (a b : Where) → o ≡ Some a → o ≡ Some b → a ≡ b
+one_place o a b e f = cc
+
+module _ (allocator : ℕ) (old : Stored) (cell T U : ℕ) (vs : Values) (blocks : List ℕ) (h : HasItems allocator old (object_at cell T) U vs blocks) (each kept len : ℕ) (each_is : each ≡ 0 + size old.types U)
+    (kept_is : kept ≡ count_at old.window.bytes cell) (len_is : len ≡ min (kept + 1) 4294967295) where
+  one_size : each ≡ size old.types U
+  one_size = omega arith
+
+  one_longer : len ≡ count_at old.window.bytes cell + 1
+  one_longer = let few = count_few allocator old.window.bytes old.types (object_at cell T) U vs blocks h.form_is h.stands in omega arith
+
+  pub asked_little : len * each < 2 ^ 32
+  asked_little = let l = next_small allocator old.window.bytes old.types (object_at cell T) U vs blocks h.form_is h.stands in rw (one_longer, one_size) l
+
+  pub no_item_pushed : (new : Stored) → Refuses allocator old.window.bytes new.window.bytes (buffer_asks old.window.bytes cell each len) → LacksRoom allocator old new (push_asks old (object_at cell T) U) BadAlloc
+  no_item_pushed new r = record { code_is = refl; refuses = rw (one_size, one_longer) at r }
+
+  module _ (mid counted new : Stored) (r : Reserves allocator old.window.bytes mid.window.bytes old.types (object_at cell T) (Seq vs) blocks (buffer_asks old.window.bytes cell each len) (len * each))
+      (counted_is : counted.window.bytes ≡ set_word mid.window.bytes (cell + 4) len) (same_types : counted.types ≡ old.types) (first before at V : ℕ) (first_is : first ≡ start mid.window.bytes cell) (before_is : before ≡ 0)
+      (at_is : at ≡ (first + kept * each + before) % 2 ^ 32) (V_is : V ≡ U) where
+    pub item_pushed : (IsWithin counted.window.bytes at (size counted.types V) → ChangesOnly counted.window.bytes new.window.bytes at (size counted.types V))
+        → (IsWithin counted.window.bytes at (size counted.types V) → V < length counted.types → Holds new.window.bytes counted.types (object_at at V) (default_of counted.types V) [])
+        → PushesBack allocator old new (object_at cell T) U vs blocks at
+    item_pushed changes default =
+        let r' : Reserves allocator old.window.bytes mid.window.bytes old.types (object_at cell T) (Seq vs) blocks (push_asks old (object_at cell T) U) ((count_at old.window.bytes cell + 1) * size old.types U) =
+        rw (one_size, one_longer) at r in
+        let c' : counted.window.bytes ≡ set_word mid.window.bytes (cell + 4) (count_at old.window.bytes cell + 1) = rw one_longer at counted_is in
+        let b = has_buffer_now allocator old.window.bytes mid.window.bytes old.types (object_at cell T) U vs blocks h.form_is h.stands (push_asks old (object_at cell T) U) r' counted.window.bytes c' in
+        let within = item_within allocator old.window.bytes mid.window.bytes old.types (object_at cell T) U vs blocks h.form_is h.stands (push_asks old (object_at cell T) U) r' counted.window.bytes c' b.0 b.1 in
+        let there : first ≡ b.0 = rw b.1 at first_is in
+        let place : at ≡ b.0 + count_at old.window.bytes cell * size old.types U = item_at first kept each before b.0 (count_at old.window.bytes cell) (size old.types U) at there kept_is one_size before_is at_is
+        (let f = within.fits in let m = within.small in omega arith) in
+        let changes' = rw (V_is, same_types, place) at changes in
+        let default' = rw (V_is, same_types, place) at default in
+        let known = item_known old.types T U h.stands.is_table h.form_is in
+        let done = changes' within in
+        let it = default' within known in
+        rw place (record {
+          holds_it = record {
+            others = r'.others;
+            succeeds = item_added allocator old.window.bytes mid.window.bytes old.types (object_at cell T) U vs blocks h.form_is h.stands (push_asks old (object_at cell T) U) r' counted.window.bytes c' b.0 b.1 new.window.bytes done it;
+          };
+          leads = item_stands allocator old.window.bytes mid.window.bytes old.types (object_at cell T) U vs blocks h.form_is h.stands (push_asks old (object_at cell T) U) r' counted.window.bytes c' b.0 b.1 new.window.bytes done it;
+        })
+
+-- ---- the last item goes
+
+module _ (allocator : ℕ) (old : Stored) (cell T U : ℕ) (vs : Values) (blocks : List ℕ) (h : HasItems allocator old (object_at cell T) U vs blocks) where
+  pub items_counted : count vs ≡ count_at old.window.bytes cell
+  items_counted = let e = has_each allocator old.window.bytes old.types (object_at cell T) U vs blocks h.form_is h.stands in e.counts
+
+  module _ (mid new : Stored) (each n first before at V : ℕ) (each_is : each ≡ 0 + size old.types U) (counts : count vs ≡ n + 1) (first_is : first ≡ start old.window.bytes cell) (before_is : before ≡ 0)
+      (at_is : at ≡ (first + n * each + before) % 2 ^ 32) (V_is : V ≡ U) (new_is : new.window.bytes ≡ set_word mid.window.bytes (cell + 4) n) where
+    pub item_popped : ((v : Value) (bs : List ℕ) → Stands allocator old.window.bytes old.types (object_at at V) v bs →
+        ChangesPlace old.window.bytes mid.window.bytes old.types (object_at at V) (default_of old.types V) [] (after_gives (live old.window.bytes) bs) bs [])
+        → PopsBack allocator old new (object_at cell T) vs blocks
+    item_popped cleared =
+        let more : count_at old.window.bytes cell ≡ n + 1 = sym items_counted ∙ counts in
+        let b = some_buffer allocator old.window.bytes old.types (object_at cell T) U vs blocks h.form_is h.stands n more in
+        let fits = entries_fit allocator old.window.bytes old.types (object_at cell T) (Form.vec U) (Seq vs) blocks h.form_is refl h.stands b.0 b.1 in
+        let m : (n + 1) * size old.types U ≡ n * size old.types U + size old.types U = grind arith in
+        let c : count_at old.window.bytes cell * size old.types U ≡ n * size old.types U + size old.types U = ap (λ k. k * size old.types U) more ∙ m in
+        let there : first ≡ b.0 = rw b.1 at first_is in
+        let place : at ≡ b.0 + n * size old.types U = item_at first n each before b.0 n (size old.types U) at there refl (let e : each ≡ size old.types U = omega arith in e) before_is at_is
+        (let tiny = h.stands.heap.small in omega arith) in
+        let last_is = last allocator old.window.bytes old.types (object_at cell T) U vs blocks h.form_is h.stands n more b.0 b.1 in
+        let cleared' = rw (V_is, place) at cleared in
+        let c' = cleared' last_is.value last_is.zs (item_stands_there allocator old.window.bytes old.types (object_at cell T) U vs blocks h.form_is h.stands n more b.0 b.1) in
+        let less : count vs - 1 ≡ n = omega arith in
+        record {
+          some = omega arith;
+          gives = last_is.zs;
+          its = rw less (its_blocks allocator old.window.bytes old.types (object_at cell T) U vs blocks h.form_is h.stands n more b.0 b.1);
+          holds_it = record {
+            others = others allocator old.window.bytes old.types (object_at cell T) U vs blocks h.form_is h.stands n more b.0 b.1;
+            succeeds = item_removed allocator old.window.bytes old.types (object_at cell T) U vs blocks h.form_is h.stands n more b.0 b.1 mid.window.bytes c' new.window.bytes new_is;
+          };
+        }

@@ -1,0 +1,33 @@
+use Rattle.std.proofs.Common.{rules, ◌≡◌, refl, arith, Some}
+use Rattle.seg_value.specs.Places.{place_of}
+use Rattle.seg_seq.proofs.TextCalls.{counted_all, names_text}
+use Rattle.seg_seq.proofs.ItemCalls.{items_counted, names_vector, vector_entry}
+use Rattle.seg_seq.proofs.Found.{shows_byte, shows_item}
+use Rattle.seg_seq.proofs.sequence.at.Goals as goal
+
+pub returns-then-index-count-clause-text : goal.returns-then-index-count-clause-text
+returns-then-index-count-clause-text g c = λ xs blocks t.
+    let all = counted_all g.F.Fit.allocator c.args.heap.now (place_of c.args.sequence) xs blocks t c.count.result c.count.ensures in
+    record { code_is = refl; past = omega (arith, c.if-index-count.true) }
+
+pub returns-then-index-count-clause-vector : goal.returns-then-index-count-clause-vector
+returns-then-index-count-clause-vector g c = λ U vs blocks h.
+    let all = items_counted g.F.Fit.allocator c.args.heap.now c.args.sequence.at c.args.sequence.type_id U vs blocks h in
+    record { code_is = refl; past = omega (arith, c.if-index-count.true, c.count.ensures) }
+
+pub returns-in-Buffer-clause-text : goal.returns-in-Buffer-clause-text
+returns-in-Buffer-clause-text g c = λ xs blocks t.
+    let heap = c.args.heap.now in
+    let has : c.content.result ≡ Some c.in_ok-content.content = search rules in
+    let names = names_text heap.types c.args.sequence.type_id c.in_ok-content.content c.content.result t.form_is c.content.ensures has in
+    shows_byte g.F.Fit.allocator heap (place_of c.args.sequence) xs blocks t c.args.index c.start.result c.in_ok-content.content.entry.size c.in_ok-content.content.entry.before c.value_at.result
+    (omega (arith, c.if-index-count.false, c.count.ensures)) c.start.ensures names.size_is names.before_is c.value_at.ensures
+
+pub returns-in-Buffer-clause-vector : goal.returns-in-Buffer-clause-vector
+returns-in-Buffer-clause-vector g c = λ U vs blocks h.
+    let heap = c.args.heap.now in
+    let has : c.content.result ≡ Some c.in_ok-content.content = search rules in
+    let names = names_vector heap.types c.args.sequence.type_id U c.in_ok-content.content c.content.result h.form_is c.content.ensures has in
+    let entry = vector_entry heap.types c.args.sequence.type_id U c.in_ok-content.content h.form_is names in
+    shows_item g.F.Fit.allocator heap c.args.sequence.at c.args.sequence.type_id U vs blocks h c.args.index c.start.result c.in_ok-content.content.entry.size c.in_ok-content.content.entry.before c.value_at.result
+    (omega (arith, c.if-index-count.false, c.count.ensures)) c.start.ensures entry.size_is entry.before_is c.value_at.ensures

@@ -1,0 +1,44 @@
+use Rattle.std.proofs.Common.{rules, ◌≡◌, ◌+◌, ◌-◌, ◌≤◌, length, refl, ◌∙◌, sym, arith, Some, Err}
+use Rattle.seg_raw.specs.declared.code.Code.TheVariants.{Null}
+use Rattle.seg_spec.specs.Value.{count}
+use Rattle.seg_value.specs.Places.{place_of}
+use Rattle.seg_seq.proofs.TextCalls.{counted_all, names_text}
+use Rattle.seg_seq.proofs.ItemCalls.{items_counted, names_vector}
+use Rattle.seg_seq.proofs.sequence.pop_back.Goals as goal
+
+pub returns-in_err-last-clause-text : goal.returns-in_err-last-clause-text
+returns-in_err-last-clause-text g c = λ xs blocks t.
+    let result : c.from_residual-in_err-last.result ≡ Err Null = search rules in
+    let none : c.count.result ≡ 0 = search rules in
+    let all = counted_all g.F.Fit.allocator c.args.heap.now (place_of c.args.sequence) xs blocks t c.count.result c.count.ensures in
+    rw result (record { code_is = refl; none = omega arith; same = refl })
+
+pub returns-in_err-last-clause-vector : goal.returns-in_err-last-clause-vector
+returns-in_err-last-clause-vector g c = λ U vs blocks h.
+    let result : c.from_residual-in_err-last.result ≡ Err Null = search rules in
+    let none : c.count.result ≡ 0 = search rules in
+    let all = items_counted g.F.Fit.allocator c.args.heap.now c.args.sequence.at c.args.sequence.type_id U vs blocks h in
+    rw result (record { code_is = refl; none = all ∙ sym c.count.ensures ∙ none; same = refl })
+
+pub returns-in-Buffer-clause-text : goal.returns-in-Buffer-clause-text
+returns-in-Buffer-clause-text g c = λ xs blocks t.
+    let old = c.args.heap.now in
+    let some : 1 ≤ c.count.result = search rules in
+    let last_is : c.in_ok-last.last ≡ c.count.result - 1 = search rules in
+    let has : c.content.result ≡ Some c.in_ok-content.content = search rules in
+    let all = counted_all g.F.Fit.allocator old (place_of c.args.sequence) xs blocks t c.count.result c.count.ensures in
+    let more : length xs ≡ c.in_ok-last.last + 1 = omega arith in
+    let less : c.in_ok-last.last ≡ length xs - 1 = omega arith in
+    let names = names_text old.types c.args.sequence.type_id c.in_ok-content.content c.content.result t.form_is c.content.ensures has in
+    rw less at (c.pop_entry.ensures.text c.args.sequence.type_id xs blocks names.names t more)
+
+pub returns-in-Buffer-clause-vector : goal.returns-in-Buffer-clause-vector
+returns-in-Buffer-clause-vector g c = λ U vs blocks h.
+    let old = c.args.heap.now in
+    let some : 1 ≤ c.count.result = search rules in
+    let last_is : c.in_ok-last.last ≡ c.count.result - 1 = search rules in
+    let has : c.content.result ≡ Some c.in_ok-content.content = search rules in
+    let all = items_counted g.F.Fit.allocator old c.args.sequence.at c.args.sequence.type_id U vs blocks h in
+    let more : count vs ≡ c.in_ok-last.last + 1 = omega (arith, c.count.ensures) in
+    let names = names_vector old.types c.args.sequence.type_id U c.in_ok-content.content c.content.result h.form_is c.content.ensures has in
+    c.pop_entry.ensures.vector c.args.sequence.type_id U vs blocks names h more

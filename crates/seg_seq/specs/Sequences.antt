@@ -1,0 +1,161 @@
+-- What calls on strings and vectors find and leave.
+--     HasText allocator heap place xs blocks      a string stands at a place, with this text
+--     HasItems allocator heap place U vs blocks   a vector stands at a place, with these items
+--     item_type form                              the type of the items of a vector or a list
+--     is_countless form, is_unordered form        values of this form have no count; they count
+--                                                 what has no order of its own
+--     Declines code old new result                the call returned a code, and nothing changed
+--     HasNone old new n code                      of n there was none to take, and nothing changed
+--     LacksRoom allocator old new asks code       one of the requests got nothing, and nothing
+--                                                 changed
+--     ComesToHold allocator old new place w asks gives blocks
+--         a place holds w, after requests that were granted; these blocks went back
+--     text_asks heap place n, push_asks heap place U      the requests for a buffer of n bytes, and
+--                                                         for one of an item more
+--     Rewrites allocator old new place n ys blocks result
+--         a string, whose buffer is to have n bytes, has this text now, or it lacked the room
+--     MakesRoom allocator old new place kept n xs blocks at len
+--         a string keeps its first bytes, and has n more from a position on, whatever they are
+--     PushesBack allocator old new place U vs blocks p    a default item joined the others, and
+--                                                         stands at a position
+--     PopsBack allocator old new place vs blocks          the last item went, with its blocks
+--     IsPast index n code                         of n there is none at the index
+--     ShowsByte heap place xs index p             the byte of a text at an index stands there
+--     ShowsItem heap place U index p              the item of a vector or a list at an index does
+use Rattle.std.specs.Prelude.{◌≡◌, ℕ, ◌+◌, ◌-◌, ◌<◌, ◌≤◌, Bool, true, false, List, [], ◌∷◌, length, take, slice_index, Option, Some, None, Result, Err, MatchResult}
+use Rattle.seg_spec.specs.Bytes.{byte}
+use Rattle.seg_spec.specs.Types.{Form, form_at, size}
+use Rattle.seg_spec.specs.Value.{Value, Values, nil, cons, Text, Seq, count, append, default_of, Selector}
+use Rattle.seg_spec.specs.Reads.{Place, count_at, start, Leads}
+use Rattle.seg_spec.specs.Calls.{Refuses}
+use Rattle.seg_spec.specs.Demand.{Ask}
+use Rattle.seg_spec.specs.Growing.{Succeeds}
+use Rattle.seg_spec.specs.Items.{without_last}
+use Rattle.seg_spec.specs.Owning.{Stands}
+use Rattle.seg_spec.specs.Spending.{buffer_asks, PartBlocks}
+use Rattle.seg_raw.specs.declared.code.Code.{Code}
+use Rattle.seg_raw.specs.declared.code.Code.TheVariants.{BadAlloc, Null, OutOfRange}
+use Rattle.seg_value.specs.Stored.{Stored}
+
+-- ---- what calls find
+
+-- a string stands at the place, with this text
+pub record HasText (allocator : ℕ) (heap : Stored) (place : Place) (xs blocks : List ℕ) :
+    Type 0 where
+  pub form_is : form_at heap.types place.type ≡ Some Form.str
+  pub stands : Stands allocator heap.window.bytes heap.types place (Text xs) blocks
+
+-- a vector stands at the place, with these items
+pub record HasItems (allocator : ℕ) (heap : Stored) (place : Place) (U : ℕ) (vs : Values)
+    (blocks : List ℕ) : Type 0 where
+  pub form_is : form_at heap.types place.type ≡ Some (Form.vec U)
+  pub stands : Stands allocator heap.window.bytes heap.types place (Seq vs) blocks
+
+-- the type of the items of a vector or a list
+abbrev pub item_type : Option Form → Option ℕ
+item_type (Some (Form.vec U)) = Some U
+item_type (Some (Form.list U)) = Some U
+item_type _ = None
+
+-- values of this form have no count
+abbrev pub is_countless : Option Form → Bool
+is_countless None = true
+is_countless (Some Form.i64) = true
+is_countless (Some (Form.struct Us)) = true
+is_countless _ = false
+
+-- values of this form count what has no order of its own
+abbrev pub is_unordered : Option Form → Bool
+is_unordered (Some (Form.map U)) = true
+is_unordered (Some (Form.own U)) = true
+is_unordered _ = false
+
+-- ---- what they leave
+
+-- the call returned a code, and nothing changed
+pub record Declines {A : Type 0} (code : Code) (old new : Stored) (result : Result A Code) :
+    Type 0 where
+  pub result_is : result ≡ Err code
+  pub same : new.window ≡ old.window
+
+-- of n there was none to take, and nothing changed
+pub record HasNone (old new : Stored) (n : ℕ) (code : Code) : Type 0 where
+  pub code_is : code ≡ Null
+  pub none : n ≡ 0
+  pub same : new.window ≡ old.window
+
+-- one of the requests got nothing, and nothing changed
+pub record LacksRoom (allocator : ℕ) (old new : Stored) (asks : List Ask) (code : Code) :
+    Type 0 where
+  pub code_is : code ≡ BadAlloc
+  pub refuses : Refuses allocator old.window.bytes new.window.bytes asks
+
+-- the place holds w now, and owns other blocks; the requests were granted, and these blocks
+-- went back
+pub record ComesToHold (allocator : ℕ) (old new : Stored) (place : Place) (w : Value)
+    (asks : List Ask) (gives blocks : List ℕ) : Type 0 where
+  pub others : List ℕ
+  pub succeeds : Succeeds allocator old.window.bytes new.window.bytes old.types place w
+      asks gives blocks others
+
+-- the requests for a buffer of n bytes
+abbrev pub text_asks : Stored → Place → ℕ → List Ask
+text_asks heap place n = buffer_asks heap.window.bytes place.at 1 n
+
+-- the string has the text ys now, for which its buffer was to have n bytes; or it lacked the room
+abbrev pub Rewrites : {A : Type 0} → ℕ → Stored → Stored → Place → ℕ → List ℕ → List ℕ →
+    Result A Code → Type 0
+Rewrites allocator old new place n ys blocks result = MatchResult result
+    (λ done. ComesToHold allocator old new place (Text ys) (text_asks old place n) [] blocks)
+    (LacksRoom allocator old new (text_asks old place n))
+
+-- the string keeps its first bytes, and has n more after them, whatever they are
+pub record MakesRoom (allocator : ℕ) (old new : Stored) (place : Place) (kept n : ℕ)
+    (xs blocks : List ℕ) (at len : ℕ) : Type 0 where
+  pub ys : List ℕ
+  pub prefix : take kept ys ≡ take kept xs
+  pub long : length ys ≡ kept + n
+  pub holds_it : ComesToHold allocator old new place (Text ys) (text_asks old place (kept + n)) []
+      blocks
+  pub len_is : len ≡ kept + n
+  pub at_is : at ≡ start new.window.bytes place.at + kept
+
+-- the requests for a buffer of one item more
+abbrev pub push_asks : Stored → Place → ℕ → List Ask
+push_asks heap place U = buffer_asks heap.window.bytes place.at (size heap.types U)
+    (count_at heap.window.bytes place.at + 1)
+
+-- a default item joined the others, and stands at the position p
+pub record PushesBack (allocator : ℕ) (old new : Stored) (place : Place) (U : ℕ) (vs : Values)
+    (blocks : List ℕ) (p : ℕ) : Type 0 where
+  pub holds_it : ComesToHold allocator old new place
+      (Seq (append vs (cons (default_of old.types U) nil))) (push_asks old place U) [] blocks
+  pub leads : Leads new.window.bytes old.types place (Selector.item (count vs) ∷ [])
+      (record { at = p; type = U })
+
+-- the last item went, with the blocks that it owned
+pub record PopsBack (allocator : ℕ) (old new : Stored) (place : Place) (vs : Values)
+    (blocks : List ℕ) : Type 0 where
+  pub some : 1 ≤ count vs
+  pub gives : List ℕ
+  pub its : PartBlocks old.window.bytes old.types place (count vs - 1) gives
+  pub holds_it : ComesToHold allocator old new place (Seq (without_last vs)) [] gives blocks
+
+-- ---- what they find
+
+-- of n there is none at the index
+pub record IsPast (index n : ℕ) (code : Code) : Type 0 where
+  pub code_is : code ≡ OutOfRange
+  pub past : n ≤ index
+
+-- the byte of a text at an index stands at the position p
+pub record ShowsByte (heap : Stored) (place : Place) (xs : List ℕ) (index p : ℕ) : Type 0 where
+  pub below : index < length xs
+  pub at_is : p ≡ start heap.window.bytes place.at + index
+  pub byte_is : byte heap.window.bytes p ≡ slice_index xs index
+
+-- the item at an index stands at the position p
+abbrev pub ShowsItem : Stored → Place → ℕ → ℕ → ℕ → Type 0
+ShowsItem heap place U index p =
+    Leads heap.window.bytes heap.types place (Selector.item index ∷ [])
+    (record { at = p; type = U })
