@@ -1,10 +1,13 @@
-ghost use Rattle.std.specs.Prelude.{◌≡◌, ℕ, ◌+◌, ◌-◌, ◌<◌, ◌≤◌, ◌↔◌, List, [], length, take, Some, None, true, false, Err, IsTrue, MatchResult};
+ghost use Rattle.std.specs.Prelude.{◌≡◌, ℕ, ◌+◌, ◌-◌, ◌<◌, ◌≤◌, ◌↔◌, List, [], ◌∷◌, length, take, Some, None, true, false, Err, IsTrue, MatchResult};
 ghost use Rattle.seg_spec.specs.Reads.{count_at};
-ghost use Rattle.seg_spec.specs.Types.{Form, form_at};
-ghost use Rattle.seg_spec.specs.Value.{Values, count, Text};
+ghost use Rattle.seg_spec.specs.Demand.{block_for};
+ghost use Rattle.seg_spec.specs.Items.{without_last};
+ghost use Rattle.seg_spec.specs.Types.{Form, form_at, size};
+ghost use Rattle.seg_spec.specs.Value.{Values, nil, cons, count, append, default_of, Text};
 ghost use Rattle.seg_spec.specs.Window.{KeepsHost};
 ghost use Rattle.seg_value.specs.Buffers.{NamesBuffer};
 ghost use Rattle.seg_value.specs.Places.{place_of, object_at};
+ghost use Rattle.seg_seq.specs.Lists.{HasList, AddsItem, RemovesItem};
 ghost use Rattle.seg_seq.specs.Sequences.{HasText, HasItems, item_type, is_countless, is_unordered, Declines, HasNone, ComesToHold, LacksRoom, push_asks, PushesBack, PopsBack, IsPast, ShowsByte, ShowsItem};
 
 use crate::list::{item_of, push_node, remove_node};
@@ -23,6 +26,10 @@ pub fn at<F: Fit, A: Allocator>(heap: &Heap<F, A>, sequence: Place, index: u32) 
         (ShowsByte heap.now (place_of sequence) xs index) (IsPast index (length xs)) }
     ensures vector { (U : ℕ) (vs : Values) (blocks : List ℕ) →
         HasItems F.allocator heap.now (place_of sequence) U vs blocks →
+        MatchResult result
+        (ShowsItem heap.now (place_of sequence) U index) (IsPast index (count vs)) }
+    ensures list { (U : ℕ) (vs : Values) (blocks : List ℕ) →
+        HasList F.allocator heap.now (place_of sequence) U vs blocks →
         MatchResult result
         (ShowsItem heap.now (place_of sequence) U index) (IsPast index (count vs)) }
     ensures other { is_countless (form_at heap.now.types sequence.type_id) ≡ true →
@@ -65,6 +72,13 @@ pub fn push_back<F: Fit, A: Allocator>(heap: &mut Heap<F, A>, sequence: Place) -
         MatchResult result
         (PushesBack F.allocator heap.old heap.new (place_of sequence) U vs blocks)
         (LacksRoom F.allocator heap.old heap.new (push_asks heap.old (place_of sequence) U)) }
+    ensures list { (U : ℕ) (vs : Values) (blocks : List ℕ) →
+        HasList F.allocator heap.old (place_of sequence) U vs blocks →
+        MatchResult result
+        (λ at. AddsItem F.allocator heap.old.window.bytes heap.new.window.bytes heap.old.types
+        (place_of sequence) U (append vs (cons (default_of heap.old.types U) nil)) blocks
+        (count vs) at (λ i. Some i))
+        (LacksRoom F.allocator heap.old heap.new (block_for (8 + size heap.old.types U) ∷ [])) }
     ensures other { item_type (form_at heap.old.types sequence.type_id) ≡ None →
         Declines Code.OtherType heap.old heap.new result }
 {
@@ -117,6 +131,13 @@ pub fn pop_back<F: Fit, A: Allocator>(heap: &mut Heap<F, A>, sequence: Place) ->
         HasItems F.allocator heap.old (place_of sequence) U vs blocks →
         MatchResult result
         (λ done. PopsBack F.allocator heap.old heap.new (place_of sequence) vs blocks)
+        (HasNone heap.old heap.new (count vs)) }
+    ensures list { (U : ℕ) (vs : Values) (blocks : List ℕ) →
+        HasList F.allocator heap.old (place_of sequence) U vs blocks →
+        MatchResult result
+        (λ done. (1 ≤ count vs) ×
+        RemovesItem F.allocator heap.old.window.bytes heap.new.window.bytes heap.old.types
+        (place_of sequence) (without_last vs) blocks (count vs - 1))
         (HasNone heap.old heap.new (count vs)) }
     ensures none { is_countless (form_at heap.old.types sequence.type_id) ≡ false →
         count_at heap.old.window.bytes sequence.at ≡ 0 →
