@@ -24,12 +24,16 @@ use Rattle.seg_spec.proofs.PlaceSteps.{place_within, blocks_then, changes_place}
 use Rattle.seg_spec.proofs.Standing.{stands_after}
 use Rattle.seg_spec.proofs.Leading.{Leads-each}
 use Rattle.seg_spec.proofs.Paths.{count_is}
-use Rattle.seg_seq.specs.Rings.{AreSpread, link_of, around}
-use Rattle.seg_seq.specs.Lists.{AddsItem}
+use Rattle.seg_seq.specs.Rings.{AreSpread, HasRing, link_of, around}
+use Rattle.seg_seq.specs.Lists.{IsList, AddsItem}
+use Rattle.seg_value.specs.Contents.{ContentOf}
+use Rattle.seg_value.specs.declared.content.Content.{Content}
 use Rattle.seg_seq.specs.declared.ring.Way.{Way}
 use Rattle.seg_seq.proofs.Joins.{names, linked_split}
 use Rattle.seg_seq.proofs.Removing.{ring_first}
-use Rattle.seg_seq.proofs.Walking.{neighbour_named, around_less}
+use Rattle.seg_seq.specs.declared.ring.Way.TheVariants as way
+use Rattle.seg_seq.proofs.Walking.{neighbour_named, around_less, starts, backward_is}
+use Rattle.seg_spec.specs.Items.{remove_nth, without_last}
 use Rattle.seg_seq.proofs.Homes.{are_spread}
 use Rattle.seg_seq.proofs.Listed.{values_in, value_in, value_at_index, ListOf, list_of, holds_list, leads_on, item_leads}
 use Rattle.seg_seq.proofs.Dropping.{SplitAt, split_at}
@@ -365,3 +369,46 @@ item_fronted allocator old mid table list U at node f vs v blocks s a node_is =
     no_elements : (zs : List ℕ) → length zs ≡ 0 → zs ≡ []
     no_elements [] e = refl
     no_elements (z ∷ zs) e = absurd (omega arith)
+
+-- ---- items by their indices
+
+module _ (allocator : ℕ) (bytes : List ℕ) (table : Table) (list : Place) (U : ℕ) (f : form_at table list.type ≡ Some (Form.list U)) (vs : Values) (blocks : List ℕ) (s : Stands allocator bytes table list (Seq vs) blocks) where
+  abbrev its : ListOf bytes table list U vs blocks
+  its = its_list allocator bytes table list U f vs blocks s
+
+  pub counted_items : count_at bytes list.at ≡ count vs
+  counted_items = sym its.ring.counted ∙ its_count allocator bytes table list U f vs blocks s
+
+  -- the item at an index, once its node was found
+  pub item_found : (index node at : ℕ) → index < count vs → ((nodes : List ℕ) → HasRing bytes list.at nodes → AreSpread bytes (list.at ∷ nodes) → index < length nodes → node ≡ get_or nodes index 0) → at ≡ (node + 8) % 2 ^ 32 →
+      Leads bytes table list (Selector.item index ∷ []) (record { at = at; type = U })
+  item_found index node at h found at_is =
+      let c = its_count allocator bytes table list U f vs blocks s in
+      stands_at allocator bytes table list U f vs blocks s index node at h (found its.nodes its.ring (its_spread allocator bytes table list U f vs blocks s) (omega arith)) at_is
+
+  -- the last item, whose node is before the first one
+  pub last_item : 1 ≤ count vs → (first node : ℕ) → first ≡ start bytes list.at → node ≡ start bytes (link_of way.Backward first) → Leads bytes table list (Selector.item (count vs - 1) ∷ []) (record { at = node + 8; type = U })
+  last_item some first node first_is node_is =
+      let spread = its_spread allocator bytes table list U f vs blocks s in
+      let c = its_count allocator bytes table list U f vs blocks s in
+      let n = length its.nodes in
+      let begin = first_is ∙ starts bytes list.at its.nodes its.ring spread (omega arith) in
+      let named = node_is ∙ ap (λ q. start bytes (link_of way.Backward q)) begin ∙ neighbour_named bytes list.at its.nodes its.ring spread way.Backward 0 (omega arith) in
+      let back : around way.Backward n 0 1 ≡ count vs - 1 = backward_is bytes list.at its.nodes its.ring spread (count vs - 1) 1 (omega arith) (omega arith) in
+      let is : node ≡ get_or its.nodes (count vs - 1) 0 = named ∙ ap (λ k. get_or its.nodes k 0) back in
+      let known = known_index allocator bytes table list U f vs blocks s its.nodes (count vs - 1) (omega arith) ∙ ap Some (sym is) in
+      let small = node_fits allocator bytes table list U f vs blocks s node (count vs - 1) known in
+      stands_at allocator bytes table list U f vs blocks s (count vs - 1) node (node + 8) (omega arith) is (omega arith)
+
+-- without the item at the last index
+pub remove_nth-last : (vs : Values) → 1 ≤ count vs → remove_nth vs (count vs - 1) ≡ without_last vs
+remove_nth-last nil h = absurd (omega arith)
+remove_nth-last (cons v nil) h = refl
+remove_nth-last (cons v (cons w ws)) h =
+    let rest = remove_nth-last (cons w ws) (omega arith) in
+    let at : suc (suc (count ws)) - 1 ≡ suc (suc (count ws) - 1) = omega arith in
+    ap (remove_nth (cons v (cons w ws))) at ∙ ap (cons v) rest
+
+-- what the cell of a list names
+pub names_list : (table : Table) (T U : ℕ) (content : Content) (found : Option Content) → form_at table T ≡ Some (Form.list U) → ContentOf table T (form_at table T) found → found ≡ Some content → IsList table T U content
+names_list table T U content found f of e = record { form_is = f; content_is = subst (λ o. ContentOf table T (Some (Form.list U)) o) e (subst (λ o. ContentOf table T o found) f of) }

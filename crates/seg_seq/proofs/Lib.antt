@@ -1,14 +1,3 @@
-mod Lasting
-mod Rooms
-mod Counting
-mod TextSteps
-mod TooMuch
-mod TextCalls
-mod Items
-mod ItemAdded
-mod ItemCalls
-mod ItemRemoved
-mod Found
 pub mod Joins
 pub mod Inserting
 pub mod Removing
@@ -21,3 +10,14 @@ pub mod Adding
 pub mod Dropping
 pub mod Removed
 pub mod Fronts
+mod Lasting
+mod Rooms
+mod Counting
+mod TextSteps
+mod TooMuch
+mod TextCalls
+mod Items
+mod ItemAdded
+mod ItemCalls
+mod ItemRemoved
+mod Found

@@ -1,3 +1,3 @@
-pub mod Sequences
 pub mod Rings
 pub mod Lists
+pub mod Sequences

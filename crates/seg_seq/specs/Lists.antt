@@ -1,5 +1,6 @@
 -- What calls on lists find and leave.
 --     IsList table T U content         the type is a list of values of this type, with these nodes
+--     HasList allocator heap list U vs blocks     a list stands at a place, with these items
 --     IsNoList table T                 the type is no list
 --     MovesItems old new table list to      each path from an item leads where it led, from the index that the item has now
 --     without_index j i                the index that item i has without item j
@@ -14,6 +15,8 @@ use Rattle.seg_spec.specs.Reads.{Place, Leads}
 use Rattle.seg_spec.specs.Demand.{block_for}
 use Rattle.seg_spec.specs.Growing.{Succeeds}
 use Rattle.seg_spec.specs.Spending.{PartBlocks}
+use Rattle.seg_spec.specs.Owning.{Stands}
+use Rattle.seg_value.specs.Stored.{Stored}
 use Rattle.seg_value.specs.Contents.{IsContent}
 use Rattle.seg_value.specs.declared.content.Content.{Content}
 use Rattle.seg_value.specs.declared.content.Shape.TheVariants as shape
@@ -22,6 +25,12 @@ use Rattle.seg_value.specs.declared.content.Shape.TheVariants as shape
 pub record IsList (table : Table) (T U : ℕ) (content : Content) : Type 0 where
   pub form_is : form_at table T ≡ Some (Form.list U)
   pub content_is : IsContent table shape.Ring (tag_of Kind.node T) 8 U content
+
+-- a list stands at the place, with these items
+pub record HasList (allocator : ℕ) (heap : Stored) (list : Place) (U : ℕ) (vs : Values)
+    (blocks : List ℕ) : Type 0 where
+  pub form_is : form_at heap.types list.type ≡ Some (Form.list U)
+  pub stands : Stands allocator heap.window.bytes heap.types list (Seq vs) blocks
 
 -- the type is no list
 abbrev pub IsNoList : Table → ℕ → Type 0

@@ -11,7 +11,7 @@ ghost use Rattle.seg_spec.specs.Window.{KeepsHost};
 ghost use Rattle.seg_value.specs.Places.{place_of, object_at};
 ghost use Rattle.seg_seq.specs.Rings.{around};
 ghost use Rattle.seg_seq.specs.declared.ring.Way.TheVariants as way;
-ghost use Rattle.seg_seq.specs.Lists.{IsList, IsNoList, AddsItem, RemovesItem};
+ghost use Rattle.seg_seq.specs.Lists.{IsList, HasList, IsNoList, AddsItem, RemovesItem};
 
 use crate::ring::{Way, insert, neighbour, remove};
 use seg_block::Fit;
@@ -36,8 +36,7 @@ pub(crate) fn item_of(node: u32) -> u32
 /// The item after an item of a list: the first one after the last.
 pub fn next<F: Fit, A: Allocator>(heap: &Heap<F, A>, item: u32) -> u32
     ensures { (allocator U i : ℕ) (list : reads.Place) (vs : Values) (blocks : List ℕ) →
-        form_at heap.now.types list.type ≡ Some (Form.list U) →
-        Stands allocator heap.now.window.bytes heap.now.types list (Seq vs) blocks →
+        HasList allocator heap.now list U vs blocks →
         Leads heap.now.window.bytes heap.now.types list (Selector.item i ∷ []) (object_at item U) →
         Leads heap.now.window.bytes heap.now.types list
         (Selector.item (around way.Forward (count vs) i 1) ∷ []) (object_at result U) }
@@ -48,8 +47,7 @@ pub fn next<F: Fit, A: Allocator>(heap: &Heap<F, A>, item: u32) -> u32
 /// The item before an item of a list: the last one before the first.
 pub fn prev<F: Fit, A: Allocator>(heap: &Heap<F, A>, item: u32) -> u32
     ensures { (allocator U i : ℕ) (list : reads.Place) (vs : Values) (blocks : List ℕ) →
-        form_at heap.now.types list.type ≡ Some (Form.list U) →
-        Stands allocator heap.now.window.bytes heap.now.types list (Seq vs) blocks →
+        HasList allocator heap.now list U vs blocks →
         Leads heap.now.window.bytes heap.now.types list (Selector.item i ∷ []) (object_at item U) →
         Leads heap.now.window.bytes heap.now.types list
         (Selector.item (around way.Backward (count vs) i 1) ∷ []) (object_at result U) }
@@ -80,8 +78,7 @@ pub fn push_front<F: Fit, A: Allocator>(heap: &mut Heap<F, A>, list: Place) -> R
     ensures code { (U : ℕ) → form_at heap.old.types list.type_id ≡ Some (Form.list U) →
         IsOkUnless result Code.BadAlloc }
     ensures pushed { (U : ℕ) (vs : Values) (blocks : List ℕ) →
-        form_at heap.old.types list.type_id ≡ Some (Form.list U) →
-        Stands F.allocator heap.old.window.bytes heap.old.types (place_of list) (Seq vs) blocks →
+        HasList F.allocator heap.old (place_of list) U vs blocks →
         MatchResult result
         (λ at. AddsItem F.allocator heap.old.window.bytes heap.new.window.bytes heap.old.types
         (place_of list) U (cons (default_of heap.old.types U) vs) blocks 0 at (λ i. Some (suc i)))
@@ -126,13 +123,10 @@ pub fn pop_front<F: Fit, A: Allocator>(heap: &mut Heap<F, A>, list: Place) -> Re
     ensures other { IsNoList heap.old.types list.type_id →
         (result ≡ Err Code.OtherType) × (heap.new.window ≡ heap.old.window) }
     ensures empty { (allocator U : ℕ) (blocks : List ℕ) →
-        form_at heap.old.types list.type_id ≡ Some (Form.list U) →
-        Stands allocator heap.old.window.bytes heap.old.types (place_of list) (Seq nil) blocks →
+        HasList allocator heap.old (place_of list) U nil blocks →
         (result ≡ Err Code.Null) × (heap.new.window ≡ heap.old.window) }
     ensures popped { (U : ℕ) (v : Value) (vs : Values) (blocks : List ℕ) →
-        form_at heap.old.types list.type_id ≡ Some (Form.list U) →
-        Stands F.allocator heap.old.window.bytes heap.old.types (place_of list) (Seq (cons v vs))
-        blocks →
+        HasList F.allocator heap.old (place_of list) U (cons v vs) blocks →
         IsOk result ×
         RemovesItem F.allocator heap.old.window.bytes heap.new.window.bytes heap.old.types
         (place_of list) vs blocks 0 }

@@ -1,10 +1,13 @@
-ghost use Rattle.std.specs.Prelude.{◌≡◌, ℕ, ◌+◌, ◌-◌, ◌*◌, ◌%◌, ◌^◌, ◌<◌, ◌≤◌, ◌↔◌, List, [], length, take, Some, None, true, false, Ok, Err, IsTrue, MatchResult};
-ghost use Rattle.seg_spec.specs.Reads.{count_at, start};
+ghost use Rattle.std.specs.Prelude.{◌≡◌, ℕ, ◌+◌, ◌-◌, ◌<◌, ◌≤◌, ◌↔◌, List, [], ◌∷◌, length, take, Some, None, true, false, Err, IsTrue, MatchResult};
+ghost use Rattle.seg_spec.specs.Reads.{count_at};
+ghost use Rattle.seg_spec.specs.Demand.{block_for};
+ghost use Rattle.seg_spec.specs.Items.{without_last};
 ghost use Rattle.seg_spec.specs.Types.{Form, form_at, size};
-ghost use Rattle.seg_spec.specs.Value.{Values, count, Text};
+ghost use Rattle.seg_spec.specs.Value.{Values, nil, cons, count, append, default_of, Text};
 ghost use Rattle.seg_spec.specs.Window.{KeepsHost};
 ghost use Rattle.seg_value.specs.Buffers.{NamesBuffer};
 ghost use Rattle.seg_value.specs.Places.{place_of, object_at};
+ghost use Rattle.seg_seq.specs.Lists.{HasList, AddsItem, RemovesItem};
 ghost use Rattle.seg_seq.specs.Sequences.{HasText, HasItems, item_type, is_countless, is_unordered, Declines, HasNone, ComesToHold, LacksRoom, push_asks, PushesBack, PopsBack, IsPast, ShowsByte, ShowsItem};
 
 use crate::list::{item_of, push_node, remove_node};
@@ -14,9 +17,8 @@ use seg_raw::Code;
 use seg_value::{Content, Heap, Held, Place, Shape};
 use std::alloc::Allocator;
 
-/// The position of an item of a vector or a list, of a byte of a string, or of the value at an index of a flat map.
-/// `OtherType` where the place counts nothing, `OutOfRange` where it counts no more, `OtherType` where what it counts has no
-/// index.
+/// The position of an item of a vector or a list, or of a byte of a string. `OtherType` where the place has no items,
+/// `OutOfRange` where there are not so many.
 pub fn at<F: Fit, A: Allocator>(heap: &Heap<F, A>, sequence: Place, index: u32) -> Result<u32, Code>
     ensures text { (xs blocks : List ℕ) →
         HasText F.allocator heap.now (place_of sequence) xs blocks →
@@ -26,11 +28,10 @@ pub fn at<F: Fit, A: Allocator>(heap: &Heap<F, A>, sequence: Place, index: u32) 
         HasItems F.allocator heap.now (place_of sequence) U vs blocks →
         MatchResult result
         (ShowsItem heap.now (place_of sequence) U index) (IsPast index (count vs)) }
-    ensures flat { (U : ℕ) →
-        form_at heap.now.types sequence.type_id ≡ Some (Form.flat_map U) →
-        index < count_at heap.now.window.bytes sequence.at →
-        result ≡ Ok ((start heap.now.window.bytes sequence.at
-        + index * (8 + size heap.now.types U) + 8) % 2 ^ 32) }
+    ensures list { (U : ℕ) (vs : Values) (blocks : List ℕ) →
+        HasList F.allocator heap.now (place_of sequence) U vs blocks →
+        MatchResult result
+        (ShowsItem heap.now (place_of sequence) U index) (IsPast index (count vs)) }
     ensures other { is_countless (form_at heap.now.types sequence.type_id) ≡ true →
         result ≡ Err Code.OtherType }
     ensures past { is_countless (form_at heap.now.types sequence.type_id) ≡ false →
@@ -71,6 +72,13 @@ pub fn push_back<F: Fit, A: Allocator>(heap: &mut Heap<F, A>, sequence: Place) -
         MatchResult result
         (PushesBack F.allocator heap.old heap.new (place_of sequence) U vs blocks)
         (LacksRoom F.allocator heap.old heap.new (push_asks heap.old (place_of sequence) U)) }
+    ensures list { (U : ℕ) (vs : Values) (blocks : List ℕ) →
+        HasList F.allocator heap.old (place_of sequence) U vs blocks →
+        MatchResult result
+        (λ at. AddsItem F.allocator heap.old.window.bytes heap.new.window.bytes heap.old.types
+        (place_of sequence) U (append vs (cons (default_of heap.old.types U) nil)) blocks
+        (count vs) at (λ i. Some i))
+        (LacksRoom F.allocator heap.old heap.new (block_for (8 + size heap.old.types U) ∷ [])) }
     ensures other { item_type (form_at heap.old.types sequence.type_id) ≡ None →
         Declines Code.OtherType heap.old heap.new result }
 {
@@ -108,8 +116,8 @@ fn push_entry<F: Fit, A: Allocator>(
     Ok(content.entry.value_at(start, kept))
 }
 
-/// Destroys the last item of a vector or a list, or drops the last byte of a string. `OtherType` where the place counts
-/// nothing, `Null` where it counts none, `OtherType` where what it counts has no order.
+/// Destroys the last item of a vector or a list, or drops the last byte of a string. `OtherType` where the place has no
+/// items, `Null` where there is no item.
 pub fn pop_back<F: Fit, A: Allocator>(heap: &mut Heap<F, A>, sequence: Place) -> Result<(), Code>
     ensures window { KeepsHost heap.old.window heap.new.window }
     ensures types { heap.new.types ≡ heap.old.types }
@@ -123,6 +131,13 @@ pub fn pop_back<F: Fit, A: Allocator>(heap: &mut Heap<F, A>, sequence: Place) ->
         HasItems F.allocator heap.old (place_of sequence) U vs blocks →
         MatchResult result
         (λ done. PopsBack F.allocator heap.old heap.new (place_of sequence) vs blocks)
+        (HasNone heap.old heap.new (count vs)) }
+    ensures list { (U : ℕ) (vs : Values) (blocks : List ℕ) →
+        HasList F.allocator heap.old (place_of sequence) U vs blocks →
+        MatchResult result
+        (λ done. (1 ≤ count vs) ×
+        RemovesItem F.allocator heap.old.window.bytes heap.new.window.bytes heap.old.types
+        (place_of sequence) (without_last vs) blocks (count vs - 1))
         (HasNone heap.old heap.new (count vs)) }
     ensures none { is_countless (form_at heap.old.types sequence.type_id) ≡ false →
         count_at heap.old.window.bytes sequence.at ≡ 0 →

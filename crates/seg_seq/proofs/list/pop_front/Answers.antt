@@ -13,21 +13,27 @@ one_item : (V U : ℕ) → Some (Form.list V) ≡ Some (Form.list U) → V ≡ U
 one_item V U e = cc
 
 pub returns-in_err-first-clause-popped : goal.returns-in_err-first-clause-popped
-returns-in_err-first-clause-popped g c = λ U v vs blocks f s.
+returns-in_err-first-clause-popped g c = λ U v vs blocks h.
+    let f = h.form_is in
+    let s = h.stands in
     let first = first_item g.F.Fit.allocator c.args.heap.now.window.bytes c.args.heap.now.types (place_of c.args.list) U f (cons v vs) blocks s (omega arith) in
     let read = c.target.ensures ∙ ap (λ (p : Placement). target p.bytes c.args.list.at) c.window.ensures in
     let none : None ≡ Some first.0 = sym c.in_err-first.ensures.ok_part ∙ read ∙ first.1 in
     absurd (cc)
 
 pub returns-clause-empty : goal.returns-clause-empty
-returns-clause-empty g c = λ allocator U blocks f s.
+returns-clause-empty g c = λ allocator U blocks h.
+    let f = h.form_is in
+    let s = h.stands in
     let nothing = nothing_named allocator c.args.heap.now.window.bytes c.args.heap.now.types (place_of c.args.list) U f nil blocks s refl in
     let read = c.target.ensures ∙ ap (λ (p : Placement). target p.bytes c.args.list.at) c.window.ensures in
     let some : Some c.in_ok-first.first ≡ None = sym c.in_ok-first.ensures.ok_part ∙ read ∙ nothing in
     absurd (cc)
 
 pub returns-clause-popped : goal.returns-clause-popped
-returns-clause-popped g c = λ U v vs blocks f s.
+returns-clause-popped g c = λ U v vs blocks h.
+    let f = h.form_is in
+    let s = h.stands in
     let old = c.args.heap.now.window.bytes in
     let table = c.args.heap.now.types in
     let list = place_of c.args.list in

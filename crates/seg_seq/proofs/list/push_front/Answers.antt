@@ -21,13 +21,17 @@ one_item : (V U : ℕ) → Some (Form.list V) ≡ Some (Form.list U) → V ≡ U
 one_item V U e = cc
 
 pub returns-in_err-item-clause-pushed : goal.returns-in_err-item-clause-pushed
-returns-in_err-item-clause-pushed g c = λ U vs blocks f s.
+returns-in_err-item-clause-pushed g c = λ U vs blocks h.
+    let f = h.form_is in
+    let s = h.stands in
     let found = c.in_ok-content.ensures in
     let is = subst (λ V. IsList c.args.heap.now.types c.args.list.type_id V c.in_ok-content.content) (one_item found.0 U (sym found.1.form_is ∙ f)) found.1 in
     refused_so _ c.from_residual-in_err-item.result c.from_residual-in_err-item.ensures.0 (c.in_err-item.ensures.pushed c.args.list.type_id U vs blocks is s)
 
 pub returns-clause-pushed : goal.returns-clause-pushed
-returns-clause-pushed g c = λ U vs blocks f s.
+returns-clause-pushed g c = λ U vs blocks h.
+    let f = h.form_is in
+    let s = h.stands in
     let found = c.in_ok-content.ensures in
     let is = subst (λ V. IsList c.args.heap.now.types c.args.list.type_id V c.in_ok-content.content) (one_item found.0 U (sym found.1.form_is ∙ f)) found.1 in
     let added = c.in_ok-item.ensures.pushed c.args.list.type_id U vs blocks is s in

@@ -3,6 +3,7 @@ use Rattle.seg_value.specs.Places.{place_of}
 use Rattle.seg_seq.proofs.TextCalls.{counted_all, names_text}
 use Rattle.seg_seq.proofs.ItemCalls.{items_counted, names_vector, vector_entry}
 use Rattle.seg_seq.proofs.Found.{shows_byte, shows_item}
+use Rattle.seg_seq.proofs.Fronts.{counted_items, item_found}
 use Rattle.seg_seq.proofs.sequence.at.Goals as goal
 
 pub returns-then-index-count-clause-text : goal.returns-then-index-count-clause-text
@@ -31,3 +32,15 @@ returns-in-Buffer-clause-vector g c = λ U vs blocks h.
     let entry = vector_entry heap.types c.args.sequence.type_id U c.in_ok-content.content h.form_is names in
     shows_item g.F.Fit.allocator heap c.args.sequence.at c.args.sequence.type_id U vs blocks h c.args.index c.start.result c.in_ok-content.content.entry.size c.in_ok-content.content.entry.before c.value_at.result
     (omega (arith, c.if-index-count.false, c.count.ensures)) c.start.ensures entry.size_is entry.before_is c.value_at.ensures
+
+pub returns-then-index-count-clause-list : goal.returns-then-index-count-clause-list
+returns-then-index-count-clause-list g c = λ U vs blocks h.
+    let all = counted_items g.F.Fit.allocator c.args.heap.now.window.bytes c.args.heap.now.types (place_of c.args.sequence) U h.form_is vs blocks h.stands in
+    record { code_is = refl; past = omega (arith, c.if-index-count.true, c.count.ensures) }
+
+pub returns-in-Ring-clause-list : goal.returns-in-Ring-clause-list
+returns-in-Ring-clause-list g c = λ U vs blocks h.
+    let bytes = c.args.heap.now.window.bytes in
+    let all = counted_items g.F.Fit.allocator bytes c.args.heap.now.types (place_of c.args.sequence) U h.form_is vs blocks h.stands in
+    item_found g.F.Fit.allocator bytes c.args.heap.now.types (place_of c.args.sequence) U h.form_is vs blocks h.stands c.args.index c.node_at.result c.item_of.result
+    (omega (arith, c.if-index-count.false, c.count.ensures)) c.node_at.ensures c.item_of.ensures

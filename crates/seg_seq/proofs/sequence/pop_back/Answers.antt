@@ -4,6 +4,9 @@ use Rattle.seg_spec.specs.Value.{count}
 use Rattle.seg_value.specs.Places.{place_of}
 use Rattle.seg_seq.proofs.TextCalls.{counted_all, names_text}
 use Rattle.seg_seq.proofs.ItemCalls.{items_counted, names_vector}
+use Rattle.std.proofs.Common.{subst}
+use Rattle.seg_seq.specs.Lists.{RemovesItem}
+use Rattle.seg_seq.proofs.Fronts.{counted_items, names_list, last_item, remove_nth-last}
 use Rattle.seg_seq.proofs.sequence.pop_back.Goals as goal
 
 pub returns-in_err-last-clause-text : goal.returns-in_err-last-clause-text
@@ -42,3 +45,18 @@ returns-in-Buffer-clause-vector g c = λ U vs blocks h.
     let more : count vs ≡ c.in_ok-last.last + 1 = omega (arith, c.count.ensures) in
     let names = names_vector old.types c.args.sequence.type_id U c.in_ok-content.content c.content.result h.form_is c.content.ensures has in
     c.pop_entry.ensures.vector c.args.sequence.type_id U vs blocks names h more
+
+pub returns-in-Ring-clause-list : goal.returns-in-Ring-clause-list
+returns-in-Ring-clause-list g c = λ U vs blocks h.
+    let code = g.F.Fit.allocator in
+    let old = c.args.heap.now.window.bytes in
+    let table = c.args.heap.now.types in
+    let list = place_of c.args.sequence in
+    let some : 1 ≤ c.count.result = search rules in
+    let has : c.content.result ≡ Some c.in_ok-content.content = search rules in
+    let all = counted_items code old table list U h.form_is vs blocks h.stands in
+    let many : 1 ≤ count vs = omega (arith, c.count.ensures) in
+    let is = names_list table c.args.sequence.type_id U c.in_ok-content.content c.content.result h.form_is c.content.ensures has in
+    let lead = last_item code old table list U h.form_is vs blocks h.stands many c.start.result c.neighbour-node.result c.start.ensures c.neighbour-node.ensures in
+    let removed = c.remove_node.ensures.removed c.args.sequence.type_id U (count vs - 1) vs blocks is h.stands lead in
+    (many, subst (λ ws. RemovesItem code old c.remove_node.new.heap.window.bytes table list ws blocks (count vs - 1)) (remove_nth-last vs many) removed)
