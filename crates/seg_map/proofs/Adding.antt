@@ -36,7 +36,7 @@ use Rattle.seg_rbtree.specs.Changes.{StandApart, IsNew, with_node, Leaves}
 use Rattle.seg_rbtree.proofs.Orders.{each_with}
 use Rattle.seg_rbtree.proofs.Paths.{leads_same}
 use Rattle.seg_map.specs.Maps.{AddsKey, value_of}
-use Rattle.seg_map.proofs.KeyOrder.{ascend_of, Apart, apart_at, more_keys, place_of_more, comes_between, ascends_with, place_behind, equal_self, place_of, key_of_place, still_among}
+use Rattle.seg_map.proofs.KeyOrder.{ascend_of, Apart, apart_at, more_keys, place_of_more, comes_between, ascends_with, place_after, equal_self, place_of, key_of_place, still_among}
 use Rattle.seg_map.proofs.TreeMaps.{key_at, keys_low, IsTreeMap, its, IsNode, are_nodes, low, few_nodes, is_search_tree, keys_are}
 use Rattle.seg_map.proofs.Relinking.{IsTouched, Remade, remade, count_before, stand_apart as nodes_stand_apart}
 use Rattle.seg_map.proofs.Rebuilding.{value_places, places_joined, places_long, inserted_nth, Parts, parts, joined, map_of, map_leads, passes, paths_by}
@@ -113,7 +113,7 @@ module _ (allocator : ℕ) (old mid : List ℕ) (table : Table) (place : Place) 
       one x l h = let at : (x + 16) % 2 ^ 32 ≡ x + 16 = omega arith in signed_long-same old mid ((x + 16) % 2 ^ 32) (rw at (IsSame-part old mid x (24 + size table U) (x + 16) 8 (omega arith) (omega arith) h))
 
   node_low : node + 8192 < 2 ^ 32
-  node_low = let l = lies_mid (block_of node) own_live in let back = e.block.behind_header in let small = e.heap.small in let high = l.high in let two = l.size in omega arith
+  node_low = let l = lies_mid (block_of node) own_live in let back = e.block.after_header in let small = e.heap.small in let high = l.high in let two = l.size in omega arith
 
   pub key_mid : key_at mid node ≡ key
   key_mid = let at : (node + 16) % 2 ^ 32 ≡ node + 16 = let l = node_low in omega arith in ap (signed_long mid) at ∙ e.key_is
@@ -140,10 +140,10 @@ module _ (allocator : ℕ) (old mid : List ℕ) (table : Table) (place : Place) 
   -- ---- the nodes stand apart
 
   touched_old : (x : ℕ) → IsNode allocator old table place U keys vs blocks f s x → IsTouched mid s.home x
-  touched_old x n = record { behind_header = n.behind_header; is_live = mid_live (block_of x) n.is_live; other = owned_other allocator old table place (Map keys vs) blocks s (block_of x) n.owned }
+  touched_old x n = record { after_header = n.after_header; is_live = mid_live (block_of x) n.is_live; other = owned_other allocator old table place (Map keys vs) blocks s (block_of x) n.owned }
 
   each_touched : AllByRecursion (IsTouched mid s.home) (node ∷ nodes)
-  each_touched = (record { behind_header = e.block.behind_header; is_live = own_live; other = not_own s.home home_old }, each_weaker _ _ touched_old nodes each_node)
+  each_touched = (record { after_header = e.block.after_header; is_live = own_live; other = not_own s.home home_old }, each_weaker _ _ touched_old nodes each_node)
 
   once : (h : ℕ) → times h (s.home ∷ (block_of node ∷ map block_of nodes)) ≤ 1
   once h =
@@ -236,7 +236,7 @@ module _ (allocator : ℕ) (old mid : List ℕ) (table : Table) (place : Place) 
 
       -- what follows a node's tree words
       content_same : (x : ℕ) → IsTouched mid s.home x → IsBlock mid x (tag_of Kind.node place.type) (24 + size table U) → (p k : ℕ) → x + 16 ≤ p → p + k ≤ x + (24 + size table U) → IsSame mid new p k
-      content_same x t b p k a c = made.content x p k t.behind_header t.is_live t.other a (let r = b.room in let two = (lies_mid (block_of x) t.is_live).size in let low = t.behind_header in omega arith)
+      content_same x t b p k a c = made.content x p k t.after_header t.is_live t.other a (let r = b.room in let two = (lies_mid (block_of x) t.is_live).size in let low = t.after_header in omega arith)
 
       block_mid : AllByRecursion (λ x. IsBlock mid x (tag_of Kind.node place.type) (24 + size table U)) (node ∷ nodes)
       block_mid = (e.block, Rattle.seg_spec.proofs.Frame.nodes-kept old mid (tag_of Kind.node place.type) (24 + size table U) nodes (each_left _ (map block_of nodes) m.owned blocks_kept) m.opens.are_nodes)
@@ -244,7 +244,7 @@ module _ (allocator : ℕ) (old mid : List ℕ) (table : Table) (place : Place) 
       block_now : (x : ℕ) → IsTouched mid s.home x → IsBlock mid x (tag_of Kind.node place.type) (24 + size table U) → IsBlock new x (tag_of Kind.node place.type) (24 + size table U)
       block_now x t b =
           let k = (made.header (block_of x) t.is_live).0 in
-          record { behind_header = b.behind_header; live = k.live ∙ b.live; has_tag = k.has_tag ∙ b.has_tag; room = let r = b.room in let q = k.room in omega arith }
+          record { after_header = b.after_header; live = k.live ∙ b.live; has_tag = k.has_tag ∙ b.has_tag; room = let r = b.room in let q = k.room in omega arith }
 
       blocks_now : AreNodes new (tag_of Kind.node place.type) (24 + size table U) (nodes_of made.tree)
       blocks_now = subst (AreNodes new (tag_of Kind.node place.type) (24 + size table U)) (sym made.nodes_are)
@@ -254,7 +254,7 @@ module _ (allocator : ℕ) (old mid : List ℕ) (table : Table) (place : Place) 
       key_new x t b = signed_long-same mid new (x + 16) (content_same x t b (x + 16) 8 (omega arith) (omega arith))
 
       low_mid : (x : ℕ) → IsTouched mid s.home x → x + 8192 < 2 ^ 32
-      low_mid x t = let l = lies_mid (block_of x) t.is_live in let low = t.behind_header in let small = e.heap.small in let high = l.high in let two = l.size in omega arith
+      low_mid x t = let l = lies_mid (block_of x) t.is_live in let low = t.after_header in let small = e.heap.small in let high = l.high in let two = l.size in omega arith
 
       keys_step : (ns : List ℕ) → AllByRecursion (λ x. signed_long new (x + 16) ≡ signed_long mid (x + 16)) ns → keys_at new (map (λ p. p + 16) ns) ≡ keys_at mid (map (λ p. p + 16) ns)
       keys_step [] h = refl
@@ -380,7 +380,7 @@ module _ (allocator : ℕ) (old mid : List ℕ) (table : Table) (place : Place) 
 
       place_now : (key_place (keys_at new (map (λ p. p + 16) (nodes_of made.tree))) key ≡ Some (length front)) × (slice_get (nodes_of made.tree) (length front) ≡ Some node)
       place_now = (
-        ap (λ ks. key_place ks key) keys_new ∙ place_behind (key_at mid) key front node back between.low (ap (λ k. int_cmp k key) key_mid ∙ equal_self key),
+        ap (λ ks. key_place ks key) keys_new ∙ place_after (key_at mid) key front node back between.low (ap (λ k. int_cmp k key) key_mid ∙ equal_self key),
         ap (λ ns. slice_get ns (length front)) now_are ∙ there_it_is front,
       )
         where

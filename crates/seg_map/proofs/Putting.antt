@@ -26,7 +26,7 @@ use Rattle.seg_rbtree.specs.Ways.{LeadsTo}
 use Rattle.seg_rbtree.specs.Paths.{FindsEqual, IsEqualAmong}
 use Rattle.seg_value.specs.Contents.{GivesBlock}
 use Rattle.seg_map.specs.Maps.{AddsKey, PutsKey, value_of}
-use Rattle.seg_map.proofs.KeyOrder.{AtPlace, Around, around_at, place_behind, no_place}
+use Rattle.seg_map.proofs.KeyOrder.{AtPlace, Around, around_at, place_after, no_place}
 use Rattle.seg_map.proofs.TreeMaps.{key_at, its, nodes, low, few_nodes, keys_are, ascend, is_search_tree, leads_to}
 use Rattle.seg_map.proofs.Entering.{Entered, entered}
 use Rattle.seg_map.proofs.Adding.{AddsFrom, leaves, adds_key, keeps_paths}
@@ -76,7 +76,7 @@ module _ (allocator : ℕ) (old : List ℕ) (table : Table) (place : Place) (U :
 
   module _ (node : ℕ) (a : Around (key_at old) key the_nodes node) where
     pub key_there : key_place keys key ≡ Some (length a.front)
-    key_there = ap (λ ks. key_place ks key) (keys_are allocator old table place U keys vs blocks f s) ∙ ap (λ ns. key_place (map (key_at old) ns) key) a.nodes_are ∙ place_behind (key_at old) key a.front node a.back a.low a.is
+    key_there = ap (λ ks. key_place ks key) (keys_are allocator old table place U keys vs blocks f s) ∙ ap (λ ns. key_place (map (key_at old) ns) key) a.nodes_are ∙ place_after (key_at old) key a.front node a.back a.low a.is
 
     stands_there : (xs : List ℕ) → slice_get (xs ++ node ∷ a.back) (length xs) ≡ Some node
     stands_there [] = refl
@@ -85,7 +85,7 @@ module _ (allocator : ℕ) (old : List ℕ) (table : Table) (place : Place) (U :
     pub at_place : AtPlace (key_at old) key the_nodes node
     at_place = record {
       i = length a.front;
-      place_is = ap (λ ns. key_place (map (key_at old) ns) key) a.nodes_are ∙ place_behind (key_at old) key a.front node a.back a.low a.is;
+      place_is = ap (λ ns. key_place (map (key_at old) ns) key) a.nodes_are ∙ place_after (key_at old) key a.front node a.back a.low a.is;
       node_is = ap (λ ns. slice_get ns (length a.front)) a.nodes_are ∙ stands_there a.front;
     }
 
@@ -108,7 +108,7 @@ module _ (allocator : ℕ) (old : List ℕ) (table : Table) (place : Place) (U :
     new_low : (mid : List ℕ) (node : ℕ) → GivesBlock allocator old mid table (tag_of Kind.node place.type) 24 U node → node + 8192 < 2 ^ 32
     new_low mid node g =
         let lies = there (LiesIn mid heap_start (length mid)) (block_of node) (positions (live mid)) (live-lie mid allocator g.heap) (let one = g.now_live in omega arith) in
-        let back = g.is_block.behind_header in let high = lies.high in let small = g.heap.small in let two = lies.size in omega arith
+        let back = g.is_block.after_header in let high = lies.high in let small = g.heap.small in let two = lies.size in omega arith
 
     -- a new one: the map has its key, and each path leads where it led
     pub added_new : (mid with_key three new now : List ℕ) (node kp n count root : ℕ) (path : Path) → GivesBlock allocator old mid table (tag_of Kind.node place.type) 24 U node → kp ≡ (node + 16) % 2 ^ 32 → ChangesOnly mid with_key kp 8
@@ -121,7 +121,7 @@ module _ (allocator : ℕ) (old : List ℕ) (table : Table) (place : Place) (U :
         let little = new_low mid node g in
         let at : kp ≡ node + 16 = omega arith in
         let stored' : ChangesOnly mid with_key (node + 16) 8 = subst (λ q. ChangesOnly mid with_key q 8) at stored in
-        let fits : kp + 8 ≤ length mid = let back = g.is_block.behind_header in let high = lies.high in let room = g.is_block.room in let two = lies.size in omega arith in
+        let fits : kp + 8 ≤ length mid = let back = g.is_block.after_header in let high = lies.high in let room = g.is_block.room in let two = lies.size in omega arith in
         let key' : signed_long with_key (node + 16) ≡ key = subst (λ q. signed_long with_key q ≡ key) at (key_is fits) in
         let start : heap_start ≤ length old = let k = few_nodes allocator old table place U keys vs blocks f s in omega arith in
         let e : Entered allocator old with_key table place.type U node key = entered allocator old mid with_key table place.type U node key s.is_table f s.ownable start g stored' key' in

@@ -3,7 +3,7 @@
 ghost use Rattle.std.specs.Prelude.{◌≡◌, ℕ, ◌<◌, ◌≤◌, List, [], ◌∷◌, ◌++◌, length, slice_index};
 ghost use Rattle.seg_spec.specs.Reads.{start};
 ghost use Rattle.seg_spec.specs.Window.{with_bytes, KeepsHost};
-ghost use Rattle.seg_seq.specs.Rings.{joined, AreSpread, HasRing, Relinks, link_of, around};
+ghost use Rattle.seg_seq.specs.Rings.{linked_both, AreSpread, HasRing, Relinks, link_of, around};
 
 use seg_block::Fit;
 use seg_ptr::Window;
