@@ -181,8 +181,8 @@ module _ (allocator : ℕ) (old mid : List ℕ) (table : Table) (place : Place) 
 
       all_items : HoldsEach new table (items table p U (n + 1)) (append vs (cons (default_of table U) nil)) e.owned
       all_items =
-          let coupled = each_joined new table old_items default holds_none in
-          let j = subst (λ ps. HoldsEach new table ps (append vs (cons (default_of table U) nil)) (e.owned ++ [])) (sym (one_more table U p n)) coupled in
+          let joined = each_joined new table old_items default holds_none in
+          let j = subst (λ ps. HoldsEach new table ps (append vs (cons (default_of table U) nil)) (e.owned ++ [])) (sym (one_more table U p n)) joined in
           subst (HoldsEach new table (items table p U (n + 1)) (append vs (cons (default_of table U) nil))) (append-nil e.owned) j
 
       now_there : start new place.at ≡ p

@@ -61,7 +61,7 @@ pub(crate) fn node_at<F: Fit, A: Allocator>(heap: &Heap<F, A>, cell: u32, index:
 
 /// Makes one node the next of another.
 fn join<A: Allocator>(w: &mut Window<A>, node: u32, next: u32)
-    ensures { w.new ≡ with_bytes w.old (coupled w.old.bytes node next) }
+    ensures { w.new ≡ with_bytes w.old (linked_both w.old.bytes node next) }
 {
     w.point(node as usize, Some(next));
     w.point(next as usize + PREVIOUS as usize, Some(node));
