@@ -18,8 +18,7 @@ returns-in_err-reserve-clause-vector g c = λ T U vs blocks n h.
     let old = c.args.heap.now in
     let content = c.args.content.now in
     let entry = vector_entry old.types T U content h.form_is n in
-    let small = asked_little g.F.Fit.allocator old c.args.cell T U vs blocks h content.entry.size c.count-kept.result c.saturating_add-len.result entry.size_is c.count-kept.ensures c.saturating_add-len.ensures in
-    let refuses = c.in_err-reserve.ensures.reserves T (Seq vs) blocks n h.stands small in
+    let refuses = c.in_err-reserve.ensures.reserves T (Seq vs) blocks n h.stands in
     rw result
     (rw c.in_err-reserve.ensures.code (no_item_pushed g.F.Fit.allocator old c.args.cell T U vs blocks h content.entry.size c.count-kept.result c.saturating_add-len.result entry.size_is c.count-kept.ensures c.saturating_add-len.ensures
     c.reserve.new.self refuses))
@@ -31,8 +30,7 @@ returns-clause-vector g c = λ T U vs blocks n h.
     let counted = c.set_count.new.self in
     let content = c.args.content.now in
     let entry = vector_entry old.types T U content h.form_is n in
-    let small = asked_little g.F.Fit.allocator old c.args.cell T U vs blocks h content.entry.size c.count-kept.result c.saturating_add-len.result entry.size_is c.count-kept.ensures c.saturating_add-len.ensures in
-    let reserves = c.in_ok-reserve.ensures.reserves T (Seq vs) blocks n h.stands small in
+    let reserves = c.in_ok-reserve.ensures.reserves T (Seq vs) blocks n h.stands in
     let written = bytes_of counted.window (with_bytes mid.window (set_word mid.window.bytes (c.args.cell + 4) c.saturating_add-len.result)) c.set_count.ensures.window in
     let same_types = c.set_count.ensures.types ∙ c.reserve.ensures.types in
     let is = c.value.ensures.value U entry.held_is in

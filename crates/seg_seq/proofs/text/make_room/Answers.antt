@@ -25,8 +25,7 @@ returns-in_err-reserve-clause-text g c = λ xs blocks t few.
     let some : c.content.result ≡ Some c.in_ok-content.content = search rules in
     let old = c.args.heap.now in
     let names = names_text old.types c.args.text.type_id c.in_ok-content.content c.content.result t.form_is c.content.ensures some in
-    let small : c.saturating_add-len.result * c.in_ok-content.content.entry.size < 2 ^ 32 = rw names.size_is (omega (arith, c.saturating_add-len.ensures)) in
-    let refuses = c.in_err-reserve.ensures.reserves c.args.text.type_id (Text xs) blocks names.names t.stands small in
+    let refuses = c.in_err-reserve.ensures.reserves c.args.text.type_id (Text xs) blocks names.names t.stands in
     rw result (rw c.in_err-reserve.ensures.code (no_room_made g.F.Fit.allocator old (place_of c.args.text) xs blocks t c.args.kept c.args.added c.reserve.new.self c.in_ok-content.content.entry.size c.saturating_add-len.result
     names.size_is (rw added at c.saturating_add-len.ensures) refuses))
 
@@ -38,8 +37,7 @@ returns-clause-text g c = λ xs blocks t few.
     let mid = c.reserve.new.self in
     let new = c.set_count.new.self in
     let names = names_text old.types c.args.text.type_id c.in_ok-content.content c.content.result t.form_is c.content.ensures some in
-    let small : c.saturating_add-len.result * c.in_ok-content.content.entry.size < 2 ^ 32 = rw names.size_is (omega (arith, c.saturating_add-len.ensures)) in
-    let reserves = c.in_ok-reserve.ensures.reserves c.args.text.type_id (Text xs) blocks names.names t.stands small in
+    let reserves = c.in_ok-reserve.ensures.reserves c.args.text.type_id (Text xs) blocks names.names t.stands in
     let counted = bytes_of new.window (with_bytes mid.window (set_word mid.window.bytes (c.args.text.at + 4) c.saturating_add-len.result)) c.set_count.ensures.window in
     makes_room g.F.Fit.allocator old (place_of c.args.text) xs blocks t c.args.kept c.args.added mid new c.in_ok-content.content.entry.size c.saturating_add-len.result (c.start.result + c.args.kept)
     names.size_is (rw added at c.saturating_add-len.ensures) few reserves counted (ap (λ x. x + c.args.kept) c.start.ensures)
