@@ -164,15 +164,15 @@ module _ (allocator : ℕ) (old : List ℕ) (table : Table) (place : Place) (U :
       let r = times-append h k.xs k.ys in
       omega arith
 
+  stands_there : (xs : List ℕ) → slice_get (xs ++ node ∷ a.back) (length xs) ≡ Some node
+  stands_there [] = refl
+  stands_there (x ∷ xs) = stands_there xs
+
   gives_are : block_of node ∷ k.zs ≡ node_at (Form.map U) m.opened.blocks i ++ k.zs
   gives_are =
       let at : slice_get m.opened.blocks i ≡ Some (block_of node) = ap (λ (bs : List ℕ). slice_get bs i) (ap (λ (r : Opened). r.blocks) m.opens.opened_is ∙ ap (map block_of) a.nodes_are)
       ∙ mapped_at block_of (a.front ++ node ∷ a.back) i node (stands_there a.front) in
       rw at refl
-    where
-      stands_there : (xs : List ℕ) → slice_get (xs ++ node ∷ a.back) (length xs) ≡ Some node
-      stands_there [] = refl
-      stands_there (x ∷ xs) = stands_there xs
 
   part_gives : PartBlocks old table place i (block_of node ∷ k.zs)
   part_gives =
@@ -190,10 +190,6 @@ module _ (allocator : ℕ) (old : List ℕ) (table : Table) (place : Place) (U :
         holds = k.holds_it;
         gives_are = gives_are;
       }
-    where
-      stands_there : (xs : List ℕ) → slice_get (xs ++ node ∷ a.back) (length xs) ≡ Some node
-      stands_there [] = refl
-      stands_there (x ∷ xs) = stands_there xs
 
   -- ---- the tree without the node
 
