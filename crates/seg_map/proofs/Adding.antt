@@ -1,6 +1,5 @@
 -- A new node gets its place in the tree of a map: the map has one more key.
-use Rattle.std.proofs.Common.{◌≡◌, ◌≢◌, ℕ, suc, ◌+◌, ◌-◌, ◌*◌, ◌%◌, ◌^◌, ◌<◌, ◌≤◌, ◌⊎◌, inl, inr, ℤ, List, [], ◌∷◌, ◌++◌, length, map, Some, refl, sym, ap, ◌∙◌, subst, arith}
-use Rattle.std.proofs.lemmas.Bool.{cases_eq}
+use Rattle.std.proofs.Common.{◌≡◌, ◌≢◌, ℕ, ◌+◌, ◌%◌, ◌^◌, ◌<◌, ◌≤◌, ℤ, List, [], ◌∷◌, ◌++◌, length, map, Some, refl, sym, ap, ◌∙◌, subst, arith}
 use Rattle.std.proofs.lemmas.List.{length-append}
 use Rattle.std.specs.Prelude.{insert, slice_get}
 use Rattle.std.specs.List.{AllByRecursion}
@@ -8,21 +7,21 @@ use Rattle.std.specs.Ordering.{int_cmp, ordering_reverse}
 use Rattle.std.specs.Cmp.{IsTotalOrder, on_total, int_cmp_total}
 use Rattle.std.specs.declared.cmp.Ordering.{Ordering}
 use Rattle.std.specs.declared.cmp.Ordering.TheVariants.{Less, Equal, Greater}
-use Rattle.seg_spec.specs.Bytes.{word, set_word, signed_long, IsSame}
+use Rattle.seg_spec.specs.Bytes.{set_word, signed_long, IsSame}
 use Rattle.seg_spec.specs.Pointer.{target}
 use Rattle.seg_spec.specs.Types.{Form, Table, form_at, size}
-use Rattle.seg_spec.specs.Value.{Value, Values, count, append, cons, Map, IsAscending, default_of}
-use Rattle.seg_spec.specs.Heap.{units_at, live, heap_start, IsHeap}
-use Rattle.seg_spec.specs.Block.{Kind, tag_of, IsBlock, IsInside, KeepsBlock, block_of, payload_size}
-use Rattle.seg_spec.specs.Apart.{Separate, KeepsBlockAround, BlocksApart, RangeApart}
-use Rattle.seg_spec.specs.Shapes.{Tree, nodes_of, IsTree}
+use Rattle.seg_spec.specs.Value.{Selector, Values, count, append, cons, Map, IsAscending, default_of}
+use Rattle.seg_spec.specs.Heap.{live, heap_start, IsHeap}
+use Rattle.seg_spec.specs.Block.{Kind, tag_of, IsBlock, IsInside, KeepsBlock, block_of}
+use Rattle.seg_spec.specs.Apart.{KeepsBlockAround}
+use Rattle.seg_spec.specs.Shapes.{Tree, nodes_of}
 use Rattle.seg_spec.specs.Search.{Ascend, IsSearchTree}
 use Rattle.seg_spec.specs.Items.{key_place, keys_below, with_entry, insert_nth}
 use Rattle.seg_spec.specs.Reads.{Place, count_at, keys_at, AreNodes, Holds, HoldsEach, holds_more, Leads}
 use Rattle.seg_spec.specs.Sound.{times, positions}
 use Rattle.seg_spec.specs.Owning.{Stands}
 use Rattle.seg_spec.specs.Roots.{ChangesPlace}
-use Rattle.seg_spec.specs.Growing.{Succeeds}
+use Rattle.seg_spec.specs.Shrinking.{KeepsPathsInside}
 use Rattle.seg_spec.specs.Demand.{block_for}
 use Rattle.seg_spec.proofs.SliceLaws.{IsSame-part, IsSame-trans}
 use Rattle.seg_spec.proofs.TypesLaws.{size-form}
@@ -30,18 +29,17 @@ use Rattle.seg_spec.proofs.Composing.{kept_twice, around_twice, around_kept}
 use Rattle.seg_spec.proofs.PlaceSteps.{home_live, owned_live, owned_other}
 use Rattle.seg_spec.proofs.Standing.{same_place}
 use Rattle.seg_spec.proofs.Frame.{each_map, each_of_map, each_weaker, each_both, each_left, each_right, signed_long-same, cell-target, cell-count, nodes-same, shorter, IsTree-same, SamePlace, Holds-kept, HoldsEach-kept}
-use Rattle.seg_spec.proofs.LiveLaws.{times-append, times-same, times-other, times-more, there, each_there, not_there, LiesIn, live-lie, live-apart, live-once, OneOrApart, apart_once}
+use Rattle.seg_spec.proofs.LiveLaws.{times-append, times-same, times-other, times-more, there, each_there, LiesIn, live-lie, live-once}
 use Rattle.seg_rbtree.specs.declared.path.Path.{Path}
 use Rattle.seg_rbtree.specs.Ways.{LeadsTo}
-use Rattle.seg_rbtree.specs.Changes.{NodesApart, StandApart, IsNew, with_node, Leaves}
+use Rattle.seg_rbtree.specs.Changes.{StandApart, IsNew, with_node, Leaves}
 use Rattle.seg_rbtree.proofs.Orders.{each_with}
 use Rattle.seg_rbtree.proofs.Paths.{leads_same}
 use Rattle.seg_map.specs.Maps.{AddsKey, value_of}
-use Rattle.seg_map.proofs.KeyOrder.{ascend_of, Apart, apart_at, more_keys, place_of_more, comes_between, ascends_with, place_behind, equal_self}
-use Rattle.seg_map.proofs.TreeMaps.{key_at, AreLow, keys_low, IsTreeMap, its, IsNode, are_nodes, low, few_nodes, ascend, is_search_tree, keys_are}
-use Rattle.seg_map.proofs.TreeMaps as maps
+use Rattle.seg_map.proofs.KeyOrder.{ascend_of, Apart, apart_at, more_keys, place_of_more, comes_between, ascends_with, place_behind, equal_self, place_of, key_of_place, still_among}
+use Rattle.seg_map.proofs.TreeMaps.{key_at, keys_low, IsTreeMap, its, IsNode, are_nodes, low, few_nodes, is_search_tree, keys_are}
 use Rattle.seg_map.proofs.Relinking.{IsTouched, Remade, remade, count_before, stand_apart as nodes_stand_apart}
-use Rattle.seg_map.proofs.Rebuilding.{value_places, places_joined, places_long, inserted_nth, Parts, parts, joined, map_of, map_leads}
+use Rattle.seg_map.proofs.Rebuilding.{value_places, places_joined, places_long, inserted_nth, Parts, parts, joined, map_of, map_leads, passes, paths_by}
 use Rattle.seg_map.proofs.Entering.{Entered}
 
 -- what adding a node at the end of a path does, in any total order that leads there
@@ -54,7 +52,8 @@ reverse_equal Less e = cc
 reverse_equal Equal e = refl
 reverse_equal Greater e = cc
 
-module _ (allocator : ℕ) (old mid : List ℕ) (table : Table) (place : Place) (U : ℕ) (keys : List ℤ) (vs : Values) (blocks : List ℕ) (f : form_at table place.type ≡ Some (Form.map U)) (s : Stands allocator old table place (Map keys vs) blocks)
+module _ (allocator : ℕ) (old mid : List ℕ) (table : Table) (place : Place) (U : ℕ) (keys : List ℤ) (vs : Values) (blocks : List ℕ) (f : form_at table place.type ≡ Some (Form.map U)) (s : Stands allocator old table place
+    (Map keys vs) blocks)
     (key : ℤ) (node : ℕ) (e : Entered allocator old mid table place.type U node key) where
   abbrev m : IsTreeMap old table place U keys vs blocks
   m = its allocator old table place U keys vs blocks f s
@@ -189,7 +188,8 @@ module _ (allocator : ℕ) (old mid : List ℕ) (table : Table) (place : Place) 
 
     -- ---- the map then
 
-    module _ (three new : List ℕ) (n : ℕ) (l : Leaves mid three place.at (node ∷ nodes) (with_node order node nodes)) (new_is : new ≡ set_word three (place.at + 4) n) (n_is : count_at three place.at + 1 < 2 ^ 32 → n ≡ count_at three place.at + 1) where
+    module _ (three new : List ℕ) (n : ℕ) (l : Leaves mid three place.at (node ∷ nodes) (with_node order node nodes)) (new_is : new ≡ set_word three (place.at + 4) n) (n_is : count_at three place.at + 1 < 2 ^ 32
+        → n ≡ count_at three place.at + 1) where
       abbrev front : List ℕ
       front = between.front
 
@@ -209,7 +209,8 @@ module _ (allocator : ℕ) (old mid : List ℕ) (table : Table) (place : Place) 
       n_long = n_is (let c = counted_three in let k = few in omega arith) ∙ ap (λ k. k + 1) counted_three
 
       made : Remade allocator mid new place.at s.home n (node ∷ nodes) (with_node order node nodes)
-      made = remade allocator mid three new place.at s.home n (node ∷ nodes) (with_node order node nodes) e.heap l new_is home_mid home_live_mid each_touched (λ P p. each_with order node P nodes p.0 p.1) (let k = n_long in let i = few in omega arith)
+      made = remade allocator mid three new place.at s.home n (node ∷ nodes) (with_node order node nodes) e.heap l new_is home_mid home_live_mid each_touched (λ P p. each_with order node P nodes p.0 p.1)
+          (let k = n_long in let i = few in omega arith)
 
       low_keys : AllByRecursion (λ x. int_cmp (key_at mid x) (key_at mid node) ≡ Less) front
       low_keys = each_weaker _ _ (λ x h. ap (int_cmp (key_at mid x)) key_mid ∙ h) front between.low
@@ -293,7 +294,8 @@ module _ (allocator : ℕ) (old mid : List ℕ) (table : Table) (place : Place) 
       owned_kept = each_there (KeepsBlock old new) m.owned (λ h some. let a = owned_away h some in kept_twice old mid new h (e.kept h a.0) (made.whole h (mid_live h a.0) a.1 a.2))
 
       value_same : (x : ℕ) → IsSame old mid x (24 + size table U) → IsTouched mid s.home x → IsBlock mid x (tag_of Kind.node place.type) (24 + size table U) → IsSame old new (x + 24) (size table U)
-      value_same x h t b = IsSame-trans old mid new (x + 24) (size table U) (IsSame-part old mid x (24 + size table U) (x + 24) (size table U) (omega arith) (omega arith) h) (content_same x t b (x + 24) (size table U) (omega arith) (omega arith))
+      value_same x h t b = IsSame-trans old mid new (x + 24) (size table U) (IsSame-part old mid x (24 + size table U) (x + 24) (size table U) (omega arith) (omega arith) h) (content_same x t b (x + 24) (size table U) (omega arith)
+          (omega arith))
 
       values_by : (ns : List ℕ) → AllByRecursion (λ x. IsSame old mid x (24 + size table U)) ns → AllByRecursion (IsTouched mid s.home) ns → AllByRecursion (λ x. IsBlock mid x (tag_of Kind.node place.type) (24 + size table U)) ns
           → AllByRecursion (λ x. IsSame old new (x + 24) (size table U)) ns
@@ -315,7 +317,8 @@ module _ (allocator : ℕ) (old mid : List ℕ) (table : Table) (place : Place) 
 
       values_more : HoldsEach new table (value_places U (nodes_of made.tree)) (insert_nth vs (keys_below keys key) (default_of table U)) m.owned
       values_more =
-          let all : HoldsEach new table (value_places U front ++ value_places U (node ∷ back)) (append halves.left (cons (default_of table U) halves.right)) (halves.xs ++ halves.ys) = joined new table halves.lefts (holds_more default_new halves.rights) in
+          let all : HoldsEach new table (value_places U front ++ value_places U (node ∷ back)) (append halves.left (cons (default_of table U) halves.right)) (halves.xs ++ halves.ys) = joined new table halves.lefts
+          (holds_more default_new halves.rights) in
           let at : keys_below keys key ≡ count halves.left = ap (λ ks. keys_below ks key) keys_parts ∙ place_of_more (key_at mid) key front back between.low between.high ∙ sym (places_long U front) ∙ sym halves.count_is in
           let value : append halves.left (cons (default_of table U) halves.right) ≡ insert_nth vs (keys_below keys key) (default_of table U) =
           sym (ap (λ ws. insert_nth ws (keys_below keys key) (default_of table U)) halves.values_are ∙ inserted_nth halves.left halves.right (default_of table U) (keys_below keys key) at) in
@@ -327,7 +330,8 @@ module _ (allocator : ℕ) (old mid : List ℕ) (table : Table) (place : Place) 
       others = map block_of (nodes_of made.tree) ++ m.owned
 
       holds_more_keys : Holds new table place (with_entry (keys, vs) key (default_of table U)) others
-      holds_more_keys = map_of new table place U made.tree (insert keys (keys_below keys key) key) (insert_nth vs (keys_below keys key) (default_of table U)) m.owned f made.is_tree made.red_black long_now blocks_now more more_ascend values_more
+      holds_more_keys = map_of new table place U made.tree (insert keys (keys_below keys key) key) (insert_nth vs (keys_below keys key)
+          (default_of table U)) m.owned f made.is_tree made.red_black long_now blocks_now more more_ascend values_more
 
       -- ---- what the call leaves
 
@@ -388,5 +392,20 @@ module _ (allocator : ℕ) (old mid : List ℕ) (table : Table) (place : Place) 
       adds_key = record {
         others = others;
         succeeds = record { left = live new; left_is = e.spent_is ∙ ap Some (sym made.live_is); changes = changes };
-        stands_at = map_leads new table place U made.tree f made.is_tree made.red_black long_now blocks_now (subst IsAscending more more_ascend) key (length front) node place_now.0 place_now.1;
+        stands_at = map_leads new table place U made.tree f made.is_tree made.red_black long_now blocks_now (subst IsAscending more more_ascend) key (length front) node place_now.0 place_now.1 Rattle.seg_spec.specs.Reads.here;
       }
+
+      -- each path that led somewhere leads there
+      path_kept : (t : Selector) (path : List Selector) (inner : Place) → Leads old table place (t ∷ path) inner → Leads new table place (t ∷ path) inner
+      path_kept t path inner way =
+          let p = passes old new table s.is_table place U keys vs blocks f m values_same owned_kept way in
+          let was : key_place (map (key_at mid) nodes) p.key ≡ Some p.i = ap (λ ks. key_place ks p.key) (sym keys_are_mid ∙ m.keys_are) ∙ p.place_is in
+          let equal = key_of_place (key_at mid) p.key nodes p.i p.node was p.node_is in
+          let j = still_among front node back p.i p.node (ap (λ ns. slice_get ns p.i) (sym between.nodes_are) ∙ p.node_is) in
+          let there_now = place_of (key_at mid) p.key (front ++ node ∷ back) p.node j.0 (ascend_of (key_at mid) (front ++ node ∷ back) (subst IsAscending (more ∙ keys_new) more_ascend)) j.1 equal in
+          subst (λ u. Leads new table place (u ∷ path) inner) (sym p.selector_is)
+          (map_leads new table place U made.tree f made.is_tree made.red_black long_now blocks_now (subst IsAscending more more_ascend) p.key j.0 p.node
+          (ap (λ ks. key_place ks p.key) keys_new ∙ there_now) (ap (λ ns. slice_get ns j.0) now_are ∙ j.1) p.goes)
+
+      pub keeps_paths : KeepsPathsInside old new table place
+      keeps_paths path inner way = paths_by old new table place path_kept path inner way

@@ -1,21 +1,21 @@
 -- A new node that waits for its place in a tree: its block was taken, and its key written.
-use Rattle.std.proofs.Common.{◌≡◌, ◌≢◌, ℕ, ◌+◌, ◌-◌, ◌*◌, ◌%◌, ◌^◌, ◌<◌, ◌≤◌, ◌⊎◌, inl, inr, ℤ, true, List, [], ◌∷◌, ◌++◌, length, Option, Some, None, option_map, option_and_then, refl, sym, ap, ◌∙◌, subst, arith}
+use Rattle.std.proofs.Common.{◌≡◌, ◌≢◌, ℕ, ◌+◌, ◌≤◌, ◌⊎◌, inl, inr, ℤ, List, [], ◌∷◌, length, Option, Some, None, option_map, option_and_then, refl, sym, ap, ◌∙◌, subst, arith}
 use Rattle.std.proofs.lemmas.Bool.{cases_eq}
 use Rattle.std.specs.List.{AllByRecursion}
 use Rattle.seg_spec.specs.Bytes.{signed_long, IsSame, ChangesOnly}
 use Rattle.seg_spec.specs.Types.{Form, Table, form_at, size}
 use Rattle.seg_spec.specs.Value.{default_of}
-use Rattle.seg_spec.specs.Heap.{Span, span, units_at, link_at, live, IsHeap, heap_start, granted, with_block, pick, gaps_of, after_take, after_request, Granted, same, fresh}
-use Rattle.seg_spec.specs.Block.{Kind, tag_of, IsBlock, IsInside, KeepsBlock, IsOwnable, block_of, payload_size}
+use Rattle.seg_spec.specs.Heap.{Span, link_at, live, IsHeap, heap_start, granted, with_block, pick, gaps_of, after_request, Granted, same, fresh}
+use Rattle.seg_spec.specs.Block.{Kind, tag_of, IsBlock, IsInside, KeepsBlock, IsOwnable, block_of}
 use Rattle.seg_spec.specs.Reads.{Holds}
 use Rattle.seg_spec.specs.Sound.{times, positions}
-use Rattle.seg_spec.specs.Demand.{Ask, need, block_for, after_ask, blocks_then, after_asks}
+use Rattle.seg_spec.specs.Demand.{Ask, need, block_for, blocks_then, after_asks}
 use Rattle.seg_spec.specs.Spending.{spent}
 use Rattle.seg_spec.proofs.SliceLaws.{IsSame-trans}
 use Rattle.seg_spec.proofs.Composing.{kept_twice}
 use Rattle.seg_spec.proofs.Requested.{GrantedNew, granted_new, spent_fresh}
 use Rattle.seg_spec.proofs.Frame.{Holds-kept}
-use Rattle.seg_spec.proofs.LiveLaws.{times-same, times-other, times-with_block, LiesIn, there, live-lie}
+use Rattle.seg_spec.proofs.LiveLaws.{times-other, times-with_block, LiesIn, there, live-lie}
 use Rattle.seg_spec.proofs.Standing.{each_live_at, live_at}
 use Rattle.seg_spec.specs.Types.{IsTable}
 use Rattle.seg_value.specs.Contents.{GivesBlock}
@@ -31,7 +31,8 @@ pub record OneMore (old : List Span) (asked : Ask) (allocator end : ℕ) (new : 
 pair_is : (a b : ℕ × List Span) → Some a ≡ Some b → a ≡ b
 pair_is a b e = cc
 
-taken_counts : (bs new : List Span) (u g : ℕ) (o : Option Span) → option_map {U = ℕ × List Span} (λ (x : Span). (x.at, with_block (record { at = x.at; units = granted x.units u }) bs)) o ≡ Some (g, new) → (h : ℕ) → times h (positions new) ≡ times h (g ∷ positions bs)
+taken_counts : (bs new : List Span) (u g : ℕ) (o : Option Span) → option_map {U = ℕ × List Span} (λ (x : Span). (x.at, with_block (record { at = x.at; units = granted x.units u }) bs)) o ≡ Some (g, new) → (h : ℕ) → times h
+    (positions new) ≡ times h (g ∷ positions bs)
 taken_counts bs new u g None e h = cc
 taken_counts bs new u g (Some x) e h =
     let both = pair_is (x.at, with_block (record { at = x.at; units = granted x.units u }) bs) (g, new) e in
@@ -39,7 +40,8 @@ taken_counts bs new u g (Some x) e h =
     let is : with_block (record { at = x.at; units = granted x.units u }) bs ≡ new = ap (λ (r : ℕ × List Span). r.1) both in
     ap (λ cs. times h (positions cs)) (sym is) ∙ times-with_block h (record { at = x.at; units = granted x.units u }) bs ∙ ap (λ a. times h (a ∷ positions bs)) at_is
 
-one_by : (allocator end u : ℕ) (bs new : List Span) (r : Granted) → after_request allocator bs end u u ≡ Some r → GrantedNew allocator bs end u r → blocks_then r ≡ new → OneMore bs (record { old = None; preferred = u; limit = u }) allocator end new
+one_by : (allocator end u : ℕ) (bs new : List Span) (r : Granted) → after_request allocator bs end u u ≡ Some r → GrantedNew allocator bs end u r → blocks_then r ≡ new
+    → OneMore bs (record { old = None; preferred = u; limit = u }) allocator end new
 one_by allocator end u bs new (same after) e k is = absurd k
 one_by allocator end u bs new (fresh g after) e k is = record {
   at = g;
@@ -47,7 +49,8 @@ one_by allocator end u bs new (fresh g after) e k is = record {
   spent_is = λ none. spent_fresh allocator bs after end g (record { old = None; preferred = u; limit = u }) e ∙ ap Some is;
 }
 
-then_one : (allocator end u : ℕ) (bs new : List Span) (o : Option Granted) → after_request allocator bs end u u ≡ o → option_and_then (λ g. after_asks allocator (blocks_then g) end []) o ≡ Some new → OneMore bs (record { old = None; preferred = u; limit = u }) allocator end new
+then_one : (allocator end u : ℕ) (bs new : List Span) (o : Option Granted) → after_request allocator bs end u u ≡ o → option_and_then (λ g. after_asks allocator (blocks_then g) end []) o ≡ Some new
+    → OneMore bs (record { old = None; preferred = u; limit = u }) allocator end new
 then_one allocator end u bs new None e k = cc
 then_one allocator end u bs new (Some r) e k = one_by allocator end u bs new r e (granted_new allocator bs end u u r (omega arith) e) (let f : Some (blocks_then r) ≡ Some new = k in cc)
 
@@ -71,7 +74,8 @@ pub record Entered (allocator : ℕ) (old new : List ℕ) (table : Table) (T U n
   pub key_is : signed_long new (node + 16) ≡ key
   pub spent_is : spent allocator (live old) (length old) (block_for (24 + size table U) ∷ []) [] ≡ Some (live new)
 
-module _ (allocator : ℕ) (old mid new : List ℕ) (table : Table) (T U node : ℕ) (key : ℤ) (valid : IsTable table) (f : form_at table T ≡ Some (Form.map U)) (ownable : AllByRecursion (λ b. IsOwnable old table b.at) (live old)) (start : heap_start ≤ length old)
+module _ (allocator : ℕ) (old mid new : List ℕ) (table : Table) (T U node : ℕ) (key : ℤ) (valid : IsTable table) (f : form_at table T ≡ Some (Form.map U)) (ownable : AllByRecursion (λ b. IsOwnable old table b.at) (live old))
+    (start : heap_start ≤ length old)
     (g : GivesBlock allocator old mid table (tag_of Kind.node T) 24 U node)
     (stored : ChangesOnly mid new (node + 16) 8) (key_is : signed_long new (node + 16) ≡ key) where
   more : OneMore (live old) (block_for (24 + size table U)) allocator (length old) (live mid)
@@ -149,7 +153,8 @@ module _ (allocator : ℕ) (old mid new : List ℕ) (table : Table) (T U node : 
     where
       go : (block_of node ≡ h) ⊎ (block_of node ≢ h) → IsOwnable new table h
       go (inl e) = subst (IsOwnable new table) e own_ownable
-      go (inr ne) = old_ownable h (let c = mid_counts h in let l : times h (positions (live new)) ≡ times h (positions (live mid)) = ap (λ bs. times h (positions bs)) live_is in let o = times-other h (block_of node) (positions (live old)) ne in omega arith)
+      go (inr ne) = old_ownable h (let c = mid_counts h in let l : times h (positions (live new)) ≡ times h (positions (live mid)) = ap (λ bs. times h (positions bs)) live_is in let o = times-other h (block_of node) (positions
+          (live old)) ne in omega arith)
 
   block_then : IsBlock new node (tag_of Kind.node T) (24 + size table U)
   block_then =

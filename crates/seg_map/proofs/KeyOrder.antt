@@ -1,6 +1,6 @@
 -- Nodes in ascending order of numbers: what a search finds among them, and one more or one less of them.
-use Rattle.std.proofs.Common.{◌≡◌, ◌≢◌, ℕ, zero, suc, ◌+◌, ◌<◌, ◌≤◌, Bool, true, false, cond, ltb, not, ◌&&◌, ℤ, ◌<ℤ◌, pos, List, [], ◌∷◌, ◌++◌, ◌⊎◌, inl, inr, length, map, take, drop, Option, Some, None, MatchOption, option_map, refl, sym, ap, ◌∙◌, subst, arith, zero-add}
-use Rattle.std.specs.Prelude.{int_lt, slice_get, filter, insert, remove, position, count_by, eqb}
+use Rattle.std.proofs.Common.{◌≡◌, ◌≢◌, ℕ, zero, suc, ◌+◌, Bool, true, false, cond, ltb, not, ◌&&◌, ℤ, ◌<ℤ◌, List, [], ◌∷◌, ◌++◌, ◌⊎◌, inl, inr, length, map, take, drop, Option, Some, None, MatchOption, option_map, refl, sym, ap, ◌∙◌, subst, arith, zero-add}
+use Rattle.std.specs.Prelude.{int_lt, slice_get, insert, remove, position, eqb}
 use Rattle.std.specs.List.{prefix_len}
 use Rattle.std.specs.List.{AllByRecursion}
 use Rattle.std.specs.Ordering.{int_cmp, is_eq, is_lt, ordering_reverse, MatchOrdering}
@@ -12,9 +12,10 @@ use Rattle.std.proofs.lemmas.List.Sums.{sum_by-cons}
 use Rattle.seg_spec.specs.Value.{IsAscending, same_int}
 use Rattle.seg_spec.specs.Items.{key_place, keys_below}
 use Rattle.seg_spec.specs.Search.{Ascend, first_where, reaches}
-use Rattle.seg_spec.proofs.Frame.{each_weaker, each_left, each_right}
-use Rattle.seg_rbtree.specs.Changes.{IsNew, with_node, without_node}
-use Rattle.seg_rbtree.specs.Paths.{FindsEqual, IsEqualAmong}
+use Rattle.seg_spec.proofs.Frame.{each_weaker}
+use Rattle.seg_spec.proofs.Leading.{each_at}
+use Rattle.seg_rbtree.specs.Changes.{with_node, without_node}
+use Rattle.seg_rbtree.specs.Paths.{IsEqualAmong}
 use Rattle.seg_rbtree.proofs.Orders.{ascend-parts}
 use Rattle.seg_map.specs.Maps.{first_of, keys_above}
 
@@ -66,8 +67,8 @@ module _ (f : ℕ → ℤ) where
   abbrev pub Before : ℤ → List ℕ → Type 0
   Before k nodes = AllByRecursion (λ x. int_cmp (f x) k ≡ Less) nodes
 
-  abbrev pub Behind : ℤ → List ℕ → Type 0
-  Behind k nodes = AllByRecursion (λ x. int_cmp (f x) k ≡ Greater) nodes
+  abbrev pub After : ℤ → List ℕ → Type 0
+  After k nodes = AllByRecursion (λ x. int_cmp (f x) k ≡ Greater) nodes
 
   -- ---- in order
 
@@ -98,14 +99,14 @@ module _ (f : ℕ → ℤ) where
     pub back : List ℕ
     pub nodes_are : nodes ≡ front ++ back
     pub low : Before k front
-    pub high : Behind k back
+    pub high : After k back
 
   by_compare : (r : Ordering) → r ≢ Equal → (r ≡ Less) ⊎ (r ≡ Greater)
   by_compare Less ne = inl refl
   by_compare Equal ne = absurd (ne refl)
   by_compare Greater ne = inr refl
 
-  above_all : (k : ℤ) (x : ℕ) (xs : List ℕ) → int_cmp (f x) k ≡ Greater → AllByRecursion (λ y. by x y ≡ Less) xs → Behind k xs
+  above_all : (k : ℤ) (x : ℕ) (xs : List ℕ) → int_cmp (f x) k ≡ Greater → AllByRecursion (λ y. by x y ≡ Less) xs → After k xs
   above_all k x xs e h = each_weaker _ _ (λ y l. int_cmp_total.antisymm (f y) k ∙ ap ordering_reverse (int_cmp_total.trans k (f x) (f y) (less_of_greater (f x) k e) l)) xs h
 
   pub apart_at : (k : ℤ) (nodes : List ℕ) → Ascend by nodes → AllByRecursion (λ x. int_cmp (f x) k ≢ Equal) nodes → Apart k nodes
@@ -123,7 +124,7 @@ module _ (f : ℕ → ℤ) where
     pub nodes_are : nodes ≡ front ++ node ∷ back
     pub low : Before k front
     pub is : int_cmp (f node) k ≡ Equal
-    pub high : Behind k back
+    pub high : After k back
 
   pub around_at : (k : ℤ) (nodes : List ℕ) (node : ℕ) → Ascend by nodes → IsEqualAmong (λ x. int_cmp (f x) k) nodes node → Around k nodes node
   around_at k nodes node a e =
@@ -260,35 +261,35 @@ module _ (f : ℕ → ℤ) where
   map_long [] = refl
   map_long (x ∷ xs) = ap suc (map_long xs)
 
-  behind_tests : (k : ℤ) (back : List ℕ) → Behind k back → AllByRecursion (λ x. int_lt (f x) k ≡ false) back
-  behind_tests k back h = each_weaker _ _ (λ x e. (greater_tests (f x) k e).0) back h
+  after_tests : (k : ℤ) (back : List ℕ) → After k back → AllByRecursion (λ x. int_lt (f x) k ≡ false) back
+  after_tests k back h = each_weaker _ _ (λ x e. (greater_tests (f x) k e).0) back h
 
   inserted_at : (xs front back : List ℤ) (k : ℤ) (n : ℕ) → xs ≡ front ++ back → n ≡ length front → insert xs n k ≡ front ++ k ∷ back
   inserted_at xs front back k n e m = ap (λ ys. insert ys n k) e ∙ ap (λ i. insert (front ++ back) i k) m ∙ ap (λ ys. ys ++ k ∷ drop (length front) (front ++ back)) (taken front back) ∙ ap (λ ys. front ++ k ∷ ys) (dropped front back)
 
   -- the numbers with one more
-  pub more_keys : (k : ℤ) (node : ℕ) (front back : List ℕ) → f node ≡ k → Before k front → Behind k back
+  pub more_keys : (k : ℤ) (node : ℕ) (front back : List ℕ) → f node ≡ k → Before k front → After k back
       → insert (map f (front ++ back)) (keys_below (map f (front ++ back)) k) k ≡ map f (front ++ node ∷ back)
   more_keys k node front back e low high =
-      inserted_at (map f (front ++ back)) (map f front) (map f back) k (keys_below (map f (front ++ back)) k) (map_parts front back) (below_front k front back low (behind_tests k back high) ∙ sym (map_long front))
+      inserted_at (map f (front ++ back)) (map f front) (map f back) k (keys_below (map f (front ++ back)) k) (map_parts front back) (below_front k front back low (after_tests k back high) ∙ sym (map_long front))
       ∙ ap (λ n. map f front ++ n ∷ map f back) (sym e) ∙ sym (map_parts front (node ∷ back))
 
-  pub place_of_more : (k : ℤ) (front back : List ℕ) → Before k front → Behind k back → keys_below (map f (front ++ back)) k ≡ length front
-  place_of_more k front back low high = below_front k front back low (behind_tests k back high)
+  pub place_of_more : (k : ℤ) (front back : List ℕ) → Before k front → After k back → keys_below (map f (front ++ back)) k ≡ length front
+  place_of_more k front back low high = below_front k front back low (after_tests k back high)
 
   -- where a node comes among the others
-  comes_here : (node : ℕ) (back : List ℕ) → Behind (f node) back → with_node by node back ≡ node ∷ back
+  comes_here : (node : ℕ) (back : List ℕ) → After (f node) back → with_node by node back ≡ node ∷ back
   comes_here node [] h = refl
   comes_here node (x ∷ xs) h = let e : is_lt (int_cmp (f node) (f x)) ≡ true = ap is_lt (less_of_greater (f x) (f node) h.0) in rw e refl
 
-  pub comes_between : (node : ℕ) (front back : List ℕ) → Before (f node) front → Behind (f node) back → with_node by node (front ++ back) ≡ front ++ node ∷ back
+  pub comes_between : (node : ℕ) (front back : List ℕ) → Before (f node) front → After (f node) back → with_node by node (front ++ back) ≡ front ++ node ∷ back
   comes_between node [] back low high = comes_here node back high
   comes_between node (x ∷ front) back low high =
       let rest = comes_between node front back low.1 high in
       let e : is_lt (int_cmp (f node) (f x)) ≡ false = ap is_lt (int_cmp_total.antisymm (f node) (f x) ∙ ap ordering_reverse low.0) in
       rw e (ap (λ ys. x ∷ ys) rest)
 
-  ascend_before : (node : ℕ) (front back : List ℕ) → Ascend by (front ++ back) → Before (f node) front → Behind (f node) back → Ascend by (front ++ node ∷ back)
+  ascend_before : (node : ℕ) (front back : List ℕ) → Ascend by (front ++ back) → Before (f node) front → After (f node) back → Ascend by (front ++ node ∷ back)
   ascend_before node [] back a low high = (each_weaker _ _ (λ x e. less_of_greater (f x) (f node) e) back high, a)
   ascend_before node (x ∷ front) back a low high =
       (each_joined_with x node front back low.0 a.0, ascend_before node front back a.1 low.1 high)
@@ -298,7 +299,7 @@ module _ (f : ℕ → ℤ) where
       each_joined_with x node (y ∷ front) back e h = (h.0, each_joined_with x node front back e h.1)
 
   -- the numbers still ascend
-  pub ascends_with : (node : ℕ) (front back : List ℕ) → Ascend by (front ++ back) → Before (f node) front → Behind (f node) back → IsAscending (map f (front ++ node ∷ back))
+  pub ascends_with : (node : ℕ) (front back : List ℕ) → Ascend by (front ++ back) → Before (f node) front → After (f node) back → IsAscending (map f (front ++ node ∷ back))
   ascends_with node front back a low high = ascending_of (front ++ node ∷ back) (ascend_before node front back a low high)
 
   ascend_less : (node : ℕ) (front back : List ℕ) → Ascend by (front ++ node ∷ back) → Ascend by (front ++ back)
@@ -313,7 +314,8 @@ module _ (f : ℕ → ℤ) where
   ascends_without node front back a = ascending_of (front ++ back) (ascend_less node front back a)
 
   removed_at : (xs front back : List ℤ) (k : ℤ) (n : ℕ) → xs ≡ front ++ k ∷ back → n ≡ length front → remove xs n ≡ front ++ back
-  removed_at xs front back k n e m = ap (λ ys. remove ys n) e ∙ ap (λ i. remove (front ++ k ∷ back) i) m ∙ ap (λ ys. ys ++ drop (suc (length front)) (front ++ k ∷ back)) (taken front (k ∷ back)) ∙ ap (λ ys. front ++ ys) (past_one front back)
+  removed_at xs front back k n e m = ap (λ ys. remove ys n) e ∙ ap (λ i. remove (front ++ k ∷ back) i) m ∙ ap (λ ys. ys ++ drop (suc (length front)) (front ++ k ∷ back)) (taken front (k ∷ back)) ∙ ap (λ ys. front ++ ys)
+      (past_one front back)
     where
       past_one : (front back : List ℤ) → drop (suc (length front)) (front ++ k ∷ back) ≡ back
       past_one [] back = refl
@@ -336,3 +338,45 @@ module _ (f : ℕ → ℤ) where
 
   pub goes_between : (k : ℤ) (node : ℕ) (front back : List ℕ) → int_cmp (f node) k ≡ Equal → Before k front → without_node node (front ++ node ∷ back) ≡ front ++ back
   goes_between k node front back e h = goes_from node front back (differ_before k node front e h)
+
+  -- ---- the same node among others
+
+  -- in order a number stands where its node does
+  pub place_of : (k : ℤ) (nodes : List ℕ) (x j : ℕ) → Ascend by nodes → slice_get nodes j ≡ Some x → int_cmp (f x) k ≡ Equal → key_place (map f nodes) k ≡ Some j
+  place_of k [] x j a at e = cc
+  place_of k (y ∷ ys) x zero a at e = let same : y ≡ x = cc in here (same_int k) (f y) (map f ys) (equals k y (ap (λ z. int_cmp (f z) k) same ∙ e))
+  place_of k (y ∷ ys) x (suc j) a at e =
+      let below : int_cmp (f y) k ≡ Less = ap (int_cmp (f y)) (sym (same_of_equal (f x) k e)) ∙ each_at (λ z. by y z ≡ Less) ys j x a.0 at in
+      past (same_int k) (f y) (map f ys) (differs k y (λ same. let both : Less ≡ Equal = sym below ∙ same in cc)) ∙ ap (option_map suc) (place_of k ys x j a.1 at e)
+
+  some_same : (i j : ℕ) → Some i ≡ Some j → i ≡ j
+  some_same i j e = cc
+
+  pub key_of_place : (k : ℤ) (nodes : List ℕ) (i x : ℕ) → key_place (map f nodes) k ≡ Some i → slice_get nodes i ≡ Some x → int_cmp (f x) k ≡ Equal
+  key_of_place k [] i x e at = cc
+  key_of_place k (y ∷ ys) i x e at = go (int_cmp (f y) k) refl (λ j. key_of_place k ys j x)
+    where
+      later : (o : Option ℕ) → option_map suc o ≡ Some i → ((j : ℕ) → o ≡ Some j → slice_get ys j ≡ Some x → int_cmp (f x) k ≡ Equal) → int_cmp (f x) k ≡ Equal
+      later None d h = cc
+      later (Some j) d h = h j refl (subst (λ n. slice_get (y ∷ ys) n ≡ Some x) (sym (some_same (suc j) i d)) at)
+
+      go : (r : Ordering) → int_cmp (f y) k ≡ r → ((j : ℕ) → key_place (map f ys) k ≡ Some j → slice_get ys j ≡ Some x → int_cmp (f x) k ≡ Equal) → int_cmp (f x) k ≡ Equal
+      go Equal d h =
+          let first : zero ≡ i = some_same zero i (sym (here (same_int k) (f y) (map f ys) (equals k y d)) ∙ e) in
+          let it : Some y ≡ Some x = subst (λ n. slice_get (y ∷ ys) n ≡ Some x) (sym first) at in
+          ap (λ z. int_cmp (f z) k) (some_same x y (sym it)) ∙ d
+      go Less d h = later (key_place (map f ys) k) (sym (past (same_int k) (f y) (map f ys) (differs k y (λ same. let both : Less ≡ Equal = sym d ∙ same in cc))) ∙ e) h
+      go Greater d h = later (key_place (map f ys) k) (sym (past (same_int k) (f y) (map f ys) (differs k y (λ same. let both : Greater ≡ Equal = sym d ∙ same in cc))) ∙ e) h
+
+-- an element stands among more
+pub still_among : (front : List ℕ) (node : ℕ) (back : List ℕ) (i x : ℕ) → slice_get (front ++ back) i ≡ Some x → (j : ℕ) × (slice_get (front ++ node ∷ back) j ≡ Some x)
+still_among [] node back i x e = (suc i, e)
+still_among (y ∷ front) node back zero x e = (zero, e)
+still_among (y ∷ front) node back (suc i) x e = let r = still_among front node back i x e in (suc r.0, r.1)
+
+-- another one stands among the others
+pub left_among : (front : List ℕ) (node : ℕ) (back : List ℕ) (i x : ℕ) → slice_get (front ++ node ∷ back) i ≡ Some x → x ≢ node → (j : ℕ) × (slice_get (front ++ back) j ≡ Some x)
+left_among [] node back zero x e ne = absurd (ne (let same : node ≡ x = cc in sym same))
+left_among [] node back (suc i) x e ne = (i, e)
+left_among (y ∷ front) node back zero x e ne = (zero, e)
+left_among (y ∷ front) node back (suc i) x e ne = let r = left_among front node back i x e ne in (suc r.0, r.1)

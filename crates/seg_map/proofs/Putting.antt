@@ -1,10 +1,9 @@
 -- What putting a key into a tree leaves, from what its steps leave.
-use Rattle.std.proofs.Common.{◌≡◌, ◌≢◌, ℕ, ◌+◌, ◌-◌, ◌*◌, ◌%◌, ◌^◌, ◌<◌, ◌≤◌, min, ℤ, List, [], ◌∷◌, ◌++◌, length, map, Option, Some, None, Ok, Err, MatchOption, refl, sym, ap, ◌∙◌, subst, arith}
-use Rattle.std.specs.Prelude.{slice_get, Result}
+use Rattle.std.proofs.Common.{◌≡◌, ◌≢◌, ℕ, ◌+◌, ◌*◌, ◌%◌, ◌^◌, ◌<◌, ◌≤◌, min, ℤ, List, [], ◌∷◌, ◌++◌, length, map, Option, Some, None, Ok, Err, refl, sym, ap, ◌∙◌, subst, arith}
+use Rattle.std.specs.Prelude.{slice_get}
 use Rattle.std.specs.List.{AllByRecursion}
 use Rattle.std.specs.Ordering.{int_cmp, ordering_reverse}
-use Rattle.std.specs.declared.cmp.Ordering.{Ordering}
-use Rattle.std.specs.declared.cmp.Ordering.TheVariants.{Less, Equal, Greater}
+use Rattle.std.specs.declared.cmp.Ordering.TheVariants.{Equal}
 use Rattle.seg_spec.specs.Bytes.{set_word, signed_long, ChangesOnly}
 use Rattle.seg_spec.specs.Types.{Form, Table, form_at, size}
 use Rattle.seg_spec.specs.Value.{Values, Map, Selector}
@@ -14,25 +13,26 @@ use Rattle.seg_spec.specs.Shapes.{Tree, nodes_of}
 use Rattle.seg_spec.specs.Search.{Ascend, IsSearchTree}
 use Rattle.seg_spec.specs.Items.{key_place}
 use Rattle.seg_spec.specs.Reads.{Place, count_at, Leads}
-use Rattle.seg_spec.specs.Sound.{times, positions}
+use Rattle.seg_spec.specs.Sound.{positions}
 use Rattle.seg_spec.specs.Owning.{Stands}
 use Rattle.seg_spec.specs.Demand.{Ask, block_for}
 use Rattle.seg_spec.specs.Calls.{Refuses}
+use Rattle.seg_spec.specs.Shrinking.{KeepsPathsInside}
 use Rattle.seg_spec.proofs.MoreTypes.{below_length}
-use Rattle.seg_spec.proofs.Frame.{each_weaker}
 use Rattle.seg_spec.proofs.LiveLaws.{there, LiesIn, live-lie}
 use Rattle.seg_spec.proofs.Leading.{each_at}
 use Rattle.seg_rbtree.specs.declared.path.Path.{Path}
 use Rattle.seg_rbtree.specs.Ways.{LeadsTo}
 use Rattle.seg_rbtree.specs.Paths.{FindsEqual, IsEqualAmong}
 use Rattle.seg_value.specs.Contents.{GivesBlock}
-use Rattle.seg_map.specs.Maps.{PutsKey, value_of}
+use Rattle.seg_map.specs.Maps.{AddsKey, PutsKey, value_of}
 use Rattle.seg_map.proofs.KeyOrder.{AtPlace, Around, around_at, place_behind, no_place}
-use Rattle.seg_map.proofs.TreeMaps.{key_at, IsNode, its, nodes, are_nodes, low, few_nodes, keys_are, ascend, is_search_tree, leads_to}
+use Rattle.seg_map.proofs.TreeMaps.{key_at, its, nodes, low, few_nodes, keys_are, ascend, is_search_tree, leads_to}
 use Rattle.seg_map.proofs.Entering.{Entered, entered}
-use Rattle.seg_map.proofs.Adding.{AddsFrom, leaves, adds_key}
+use Rattle.seg_map.proofs.Adding.{AddsFrom, leaves, adds_key, keeps_paths}
 
-module _ (allocator : ℕ) (old : List ℕ) (table : Table) (place : Place) (U : ℕ) (keys : List ℤ) (vs : Values) (blocks : List ℕ) (f : form_at table place.type ≡ Some (Form.map U)) (s : Stands allocator old table place (Map keys vs) blocks) (key : ℤ) where
+module _ (allocator : ℕ) (old : List ℕ) (table : Table) (place : Place) (U : ℕ) (keys : List ℤ) (vs : Values) (blocks : List ℕ) (f : form_at table place.type ≡ Some (Form.map U)) (s : Stands allocator old table place
+    (Map keys vs) blocks) (key : ℤ) where
   abbrev the_nodes : List ℕ
   the_nodes = nodes allocator old table place U keys vs blocks f s
 
@@ -104,15 +104,21 @@ module _ (allocator : ℕ) (old : List ℕ) (table : Table) (place : Place) (U :
     pub puts_refused : {E : Type 0} (new : List ℕ) (asks : List Ask) (code : E) → Refuses allocator old new asks → PutsKey allocator old new table place U keys vs key blocks asks (key_place keys key) (Err code)
     puts_refused new asks code r = rw (no_key absent) r
 
-    -- a new one
-    pub puts_new : (E : Type 0) (mid with_key three new now : List ℕ) (node kp n count p each before root : ℕ) (path : Path) → GivesBlock allocator old mid table (tag_of Kind.node place.type) 24 U node → kp ≡ (node + 16) % 2 ^ 32 → ChangesOnly mid with_key kp 8
+    -- a new node stands where positions don't wrap
+    new_low : (mid : List ℕ) (node : ℕ) → GivesBlock allocator old mid table (tag_of Kind.node place.type) 24 U node → node + 8192 < 2 ^ 32
+    new_low mid node g =
+        let lies = there (LiesIn mid heap_start (length mid)) (block_of node) (positions (live mid)) (live-lie mid allocator g.heap) (let one = g.now_live in omega arith) in
+        let back = g.is_block.behind_header in let high = lies.high in let small = g.heap.small in let two = lies.size in omega arith
+
+    -- a new one: the map has its key, and each path leads where it led
+    pub added_new : (mid with_key three new now : List ℕ) (node kp n count root : ℕ) (path : Path) → GivesBlock allocator old mid table (tag_of Kind.node place.type) 24 U node → kp ≡ (node + 16) % 2 ^ 32 → ChangesOnly mid with_key kp 8
         → (kp + 8 ≤ length mid → signed_long with_key kp ≡ key) → now ≡ old → root ≡ place.at → path.root ≡ root
         → ((tree : Tree) → IsSearchTree now root tree → LeadsTo (λ x. ordering_reverse (int_cmp (key_at now x) key)) tree path) → AddsFrom with_key three path.root path node
-        → new ≡ set_word three (place.at + 4) n → n ≡ min (count + 1) 4294967295 → count ≡ count_at three place.at → p ≡ (node + 0 * each + before) % 2 ^ 32 → before ≡ 24
-        → PutsKey {E = E} allocator old new table place U keys vs key blocks (block_for (24 + size table U) ∷ []) (key_place keys key) (Ok p)
-    puts_new E mid with_key three new now node kp n count p each before root path g kp_is stored key_is same root_is path_root leads added new_is n_is count_is p_is before_is =
+        → new ≡ set_word three (place.at + 4) n → n ≡ min (count + 1) 4294967295 → count ≡ count_at three place.at
+        → AddsKey allocator old new table place U keys vs key blocks (block_for (24 + size table U) ∷ []) (node + 24) × KeepsPathsInside old new table place
+    added_new mid with_key three new now node kp n count root path g kp_is stored key_is same root_is path_root leads added new_is n_is count_is =
         let lies = there (LiesIn mid heap_start (length mid)) (block_of node) (positions (live mid)) (live-lie mid allocator g.heap) (let one = g.now_live in omega arith) in
-        let low : node + 8192 < 2 ^ 32 = let back = g.is_block.behind_header in let high = lies.high in let small = g.heap.small in let two = lies.size in omega arith in
+        let little = new_low mid node g in
         let at : kp ≡ node + 16 = omega arith in
         let stored' : ChangesOnly mid with_key (node + 16) 8 = subst (λ q. ChangesOnly mid with_key q 8) at stored in
         let fits : kp + 8 ≤ length mid = let back = g.is_block.behind_header in let high = lies.high in let room = g.is_block.room in let two = lies.size in omega arith in
@@ -123,5 +129,16 @@ module _ (allocator : ℕ) (old : List ℕ) (table : Table) (place : Place) (U :
         let leads' : leads_at old place.at = subst (λ r. leads_at old r) root_is (subst (λ bs. leads_at bs root) same leads) in
         let added' : AddsFrom with_key three place.at path node = subst (λ r. AddsFrom with_key three r path node) (path_root ∙ root_is) added in
         let l = leaves allocator old with_key table place U keys vs blocks f s key node e absent three path leads' added' in
+        let n_by : count_at three place.at + 1 < 2 ^ 32 → n ≡ count_at three place.at + 1 = λ little. omega (arith, n_is, count_is) in
+        (adds_key allocator old with_key table place U keys vs blocks f s key node e absent three new n l new_is n_by, keeps_paths allocator old with_key table place U keys vs blocks f s key node e absent three new n l new_is n_by)
+
+    pub puts_new : (E : Type 0) (p each before : ℕ) (mid with_key three new now : List ℕ) (node kp n count root : ℕ) (path : Path) → GivesBlock allocator old mid table (tag_of Kind.node place.type) 24 U node
+        → kp ≡ (node + 16) % 2 ^ 32 → ChangesOnly mid with_key kp 8
+        → (kp + 8 ≤ length mid → signed_long with_key kp ≡ key) → now ≡ old → root ≡ place.at → path.root ≡ root
+        → ((tree : Tree) → IsSearchTree now root tree → LeadsTo (λ x. ordering_reverse (int_cmp (key_at now x) key)) tree path) → AddsFrom with_key three path.root path node
+        → new ≡ set_word three (place.at + 4) n → n ≡ min (count + 1) 4294967295 → count ≡ count_at three place.at → p ≡ (node + 0 * each + before) % 2 ^ 32 → before ≡ 24
+        → PutsKey {E = E} allocator old new table place U keys vs key blocks (block_for (24 + size table U) ∷ []) (key_place keys key) (Ok p)
+    puts_new E p each before mid with_key three new now node kp n count root path g kp_is stored key_is same root_is path_root leads added new_is n_is count_is p_is before_is =
+        let little = new_low mid node g in
         let p' : p ≡ node + 24 = omega arith in
-        rw (no_key absent) (rw p' (adds_key allocator old with_key table place U keys vs blocks f s key node e absent three new n l new_is (λ little. omega (arith, n_is, count_is))))
+        rw (no_key absent) (rw p' (added_new mid with_key three new now node kp n count root path g kp_is stored key_is same root_is path_root leads added new_is n_is count_is).0)

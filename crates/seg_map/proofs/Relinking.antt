@@ -1,7 +1,7 @@
 -- A tree whose words and whose cell's count were written: what hangs there then, and what is kept.
-use Rattle.std.proofs.Common.{◌≡◌, ◌≢◌, ℕ, ◌+◌, ◌-◌, ◌*◌, ◌%◌, ◌^◌, ◌<◌, ◌≤◌, ◌⊎◌, inl, inr, List, [], ◌∷◌, ◌++◌, length, map, refl, sym, ap, ◌∙◌, subst, arith}
+use Rattle.std.proofs.Common.{◌≡◌, ◌≢◌, ℕ, ◌+◌, ◌-◌, ◌*◌, ◌^◌, ◌<◌, ◌≤◌, ◌⊎◌, inl, inr, List, [], ◌∷◌, length, map, sym, ap, ◌∙◌, subst, arith}
 use Rattle.std.specs.List.{AllByRecursion}
-use Rattle.seg_spec.specs.Bytes.{word, set_word, IsSame, ChangesOnly}
+use Rattle.seg_spec.specs.Bytes.{set_word, IsSame, ChangesOnly}
 use Rattle.seg_spec.specs.Pointer.{target}
 use Rattle.seg_spec.specs.Types.{Table}
 use Rattle.seg_spec.specs.Heap.{units_at, link_at, live, IsHeap, heap_start}
@@ -11,11 +11,11 @@ use Rattle.seg_spec.specs.Shapes.{Tree, nodes_of, IsTree, IsRedBlack}
 use Rattle.seg_spec.specs.Reads.{count_at}
 use Rattle.seg_spec.specs.Sound.{times, positions}
 use Rattle.seg_spec.proofs.BytesLaws.{number-set_same}
-use Rattle.seg_spec.proofs.SliceLaws.{IsSame-part, IsSame-trans}
+use Rattle.seg_spec.proofs.SliceLaws.{IsSame-trans}
 use Rattle.seg_spec.proofs.Writing.{set_number-changes}
 use Rattle.seg_spec.proofs.Frame.{each_map, each_of_map, each_weaker, each_both, word-same, target-same, IsTree-same}
 use Rattle.seg_spec.proofs.LiveLaws.{LiesIn, there, each_there, live-lie, live-apart, OneOrApart, apart_once}
-use Rattle.seg_rbtree.specs.Changes.{NodesApart, StandApart, KeepsBeside, Leaves}
+use Rattle.seg_rbtree.specs.Changes.{NodesApart, StandApart, Leaves}
 use Rattle.seg_map.proofs.SeveralWrites.{Range, Beside, IsWritable, low_same, heap_same, live_same, ownable_same, header_then, link_same, part_same, whole_then, around_then}
 
 -- the tree words of a node
@@ -63,7 +63,8 @@ module _ (allocator : ℕ) (bytes : List ℕ) (heap : IsHeap allocator bytes) (c
   blocks_apart : BlocksApart bytes (home ∷ map block_of ns)
   blocks_apart = apart_once bytes (home ∷ map block_of ns)
       (each_there _ (home ∷ map block_of ns) (λ g some. each_there _ (home ∷ map block_of ns)
-      (λ h more. there (OneOrApart bytes g) h (positions (live bytes)) (there (λ t. AllByRecursion (OneOrApart bytes t) (positions (live bytes))) g (positions (live bytes)) (live-apart bytes allocator heap) (among_live g some)) (among_live h more))))
+      (λ h more. there (OneOrApart bytes g) h (positions (live bytes)) (there (λ t. AllByRecursion (OneOrApart bytes t) (positions (live bytes))) g (positions (live bytes)) (live-apart bytes allocator heap) (among_live g some))
+      (among_live h more))))
       once
 
   words_apart : (x y : ℕ) → 16 ≤ x → 16 ≤ y → 2 ≤ units_at bytes (block_of x) → 2 ≤ units_at bytes (block_of y) → Separate (block_of x) (16 * units_at bytes (block_of x)) (block_of y) (16 * units_at bytes (block_of y)) → Separate x 16 y 16

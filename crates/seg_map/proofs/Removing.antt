@@ -1,39 +1,41 @@
 -- A node leaves the tree of a map, and is given back with what its value owns: the map has one key less.
-use Rattle.std.proofs.Common.{◌≡◌, ◌≢◌, ℕ, suc, ◌+◌, ◌-◌, ◌*◌, ◌%◌, ◌^◌, ◌<◌, ◌≤◌, ◌⊎◌, inl, inr, ℤ, List, [], ◌∷◌, ◌++◌, length, map, Some, refl, sym, ap, ◌∙◌, subst, arith}
+use Rattle.std.proofs.Common.{◌≡◌, ◌≢◌, ℕ, ◌+◌, ◌-◌, ◌^◌, ◌<◌, ◌≤◌, inl, inr, ℤ, List, [], ◌∷◌, ◌++◌, length, map, Some, refl, sym, ap, ◌∙◌, subst, arith}
 use Rattle.std.proofs.lemmas.List.{length-append}
 use Rattle.std.specs.Prelude.{remove, slice_get, Contains}
 use Rattle.std.specs.List.{AllByRecursion}
 use Rattle.std.specs.Ordering.{int_cmp}
 use Rattle.seg_spec.specs.Bytes.{word, set_word, signed_long, IsSame}
 use Rattle.seg_spec.specs.Types.{Form, Table, form_at, size}
-use Rattle.seg_spec.specs.Value.{Value, Values, count, append, cons, Map, IsAscending, default_of}
+use Rattle.seg_spec.specs.Value.{Selector, Value, Values, count, append, cons, Map, IsAscending, default_of}
 use Rattle.seg_spec.specs.Heap.{Span, units_at, live, heap_start, IsHeap, IsLive, Gives}
 use Rattle.seg_spec.specs.Block.{Kind, tag_of, IsBlock, IsInside, KeepsBlock, IsOwnable, block_of, payload_size}
 use Rattle.seg_spec.specs.Apart.{Separate, KeepsBlockAround}
-use Rattle.seg_spec.specs.Shapes.{Tree, nodes_of}
-use Rattle.seg_spec.specs.Items.{without_entry, remove_nth}
-use Rattle.seg_spec.specs.Reads.{Place, Opened, count_at, keys_at, AreNodes, Opens, Holds, HoldsEach, holds_more}
+use Rattle.seg_spec.specs.Shapes.{nodes_of}
+use Rattle.seg_spec.specs.Items.{key_place, without_entry, remove_nth}
+use Rattle.seg_spec.specs.Reads.{Place, Opened, count_at, keys_at, AreNodes, Opens, Holds, HoldsEach, holds_more, Leads}
 use Rattle.seg_spec.specs.Sound.{times, positions}
 use Rattle.seg_spec.specs.Owning.{Stands}
 use Rattle.seg_spec.specs.Roots.{ChangesPlace}
 use Rattle.seg_spec.specs.Demand.{after_gives}
 use Rattle.seg_spec.specs.Spending.{PartBlocks, node_at}
-use Rattle.seg_spec.proofs.SliceLaws.{IsSame-part, IsSame-trans}
+use Rattle.seg_spec.proofs.SliceLaws.{IsSame-trans}
 use Rattle.seg_spec.proofs.TypesLaws.{size-form}
 use Rattle.seg_spec.proofs.Giving.{found}
 use Rattle.seg_spec.proofs.GiveOrder.{in_any_order}
-use Rattle.seg_spec.proofs.Composing.{around_twice, around_kept}
+use Rattle.seg_spec.proofs.Composing.{kept_twice, around_twice, around_kept}
 use Rattle.seg_spec.proofs.PlaceSteps.{home_live, owned_live, owned_other}
-use Rattle.seg_spec.proofs.Standing.{stands_still, left_stands, left_frames}
+use Rattle.seg_spec.proofs.Standing.{same_place, stands_still, left_kept, left_stands, left_frames}
+use Rattle.seg_spec.proofs.Leading.{Leads-kept}
 use Rattle.seg_spec.proofs.Frame.{each_map, each_weaker, each_both, each_left, each_right, word-same, signed_long-same, SamePlace, Holds-kept, HoldsEach-kept}
 use Rattle.seg_spec.proofs.LiveLaws.{times-append, times-same, times-other, times-more, times-without, there, each_there, LiesIn, live-lie, live-apart, live-once, OneOrApart}
 use Rattle.seg_rbtree.specs.Changes.{StandApart, without_node, Leaves}
 use Rattle.seg_rbtree.proofs.TakingOut.{each_without}
 use Rattle.seg_map.specs.Maps.{TakesKey, value_of}
-use Rattle.seg_map.proofs.KeyOrder.{Around, fewer_keys, goes_between, ascends_without}
+use Rattle.seg_map.proofs.KeyOrder.{Around, ascend_of, same_of_equal, fewer_keys, goes_between, ascends_without, place_of, key_of_place, left_among}
+use Rattle.seg_map.specs.Trees.{KeepsOtherKeys}
 use Rattle.seg_map.proofs.TreeMaps.{key_at, keys_low, IsTreeMap, its, nodes, IsNode, are_nodes, low, few_nodes, ascend, keys_are, mapped_at}
 use Rattle.seg_map.proofs.Relinking.{IsTouched, Remade, remade, count_before, stand_apart}
-use Rattle.seg_map.proofs.Rebuilding.{value_places, places_joined, places_long, removed_nth, Parts, parts, joined, map_of}
+use Rattle.seg_map.proofs.Rebuilding.{value_places, places_joined, places_long, removed_nth, parts, joined, map_of, map_leads, passes}
 
 -- the value after others, taken out
 pub record Cut (bytes : List ℕ) (table : Table) (before after : List Place) (part : Place) (vs : Values) (blocks : List ℕ) : Type 0 where
@@ -162,15 +164,15 @@ module _ (allocator : ℕ) (old : List ℕ) (table : Table) (place : Place) (U :
       let r = times-append h k.xs k.ys in
       omega arith
 
+  stands_there : (xs : List ℕ) → slice_get (xs ++ node ∷ a.back) (length xs) ≡ Some node
+  stands_there [] = refl
+  stands_there (x ∷ xs) = stands_there xs
+
   gives_are : block_of node ∷ k.zs ≡ node_at (Form.map U) m.opened.blocks i ++ k.zs
   gives_are =
       let at : slice_get m.opened.blocks i ≡ Some (block_of node) = ap (λ (bs : List ℕ). slice_get bs i) (ap (λ (r : Opened). r.blocks) m.opens.opened_is ∙ ap (map block_of) a.nodes_are)
       ∙ mapped_at block_of (a.front ++ node ∷ a.back) i node (stands_there a.front) in
       rw at refl
-    where
-      stands_there : (xs : List ℕ) → slice_get (xs ++ node ∷ a.back) (length xs) ≡ Some node
-      stands_there [] = refl
-      stands_there (x ∷ xs) = stands_there xs
 
   part_gives : PartBlocks old table place i (block_of node ∷ k.zs)
   part_gives =
@@ -188,10 +190,6 @@ module _ (allocator : ℕ) (old : List ℕ) (table : Table) (place : Place) (U :
         holds = k.holds_it;
         gives_are = gives_are;
       }
-    where
-      stands_there : (xs : List ℕ) → slice_get (xs ++ node ∷ a.back) (length xs) ≡ Some node
-      stands_there [] = refl
-      stands_there (x ∷ xs) = stands_there xs
 
   -- ---- the tree without the node
 
@@ -208,6 +206,9 @@ module _ (allocator : ℕ) (old : List ℕ) (table : Table) (place : Place) (U :
     now_are : nodes_of made.tree ≡ a.front ++ a.back
     now_are = made.nodes_are ∙ front_back
 
+    long_now : length (nodes_of made.tree) ≡ count_at mid place.at
+    long_now = ap length now_are ∙ sym n_long ∙ sym made.count_is
+
     live_mid : (h : ℕ) → times h (positions (live mid)) ≡ times h (positions (live old))
     live_mid h = ap (λ bs. times h (positions bs)) made.live_is
 
@@ -220,7 +221,8 @@ module _ (allocator : ℕ) (old : List ℕ) (table : Table) (place : Place) (U :
         record { behind_header = b.behind_header; live = h.live ∙ b.live; has_tag = h.has_tag ∙ b.has_tag; room = let r = b.room in let q = h.room in omega arith }
 
     blocks_now : AreNodes mid (tag_of Kind.node place.type) (24 + size table U) (nodes_of made.tree)
-    blocks_now = subst (AreNodes mid (tag_of Kind.node place.type) (24 + size table U)) (sym made.nodes_are) (among (λ x. IsBlock mid x (tag_of Kind.node place.type) (24 + size table U)) (each_both _ _ _ block_now ns each_node m.opens.are_nodes))
+    blocks_now = subst (AreNodes mid (tag_of Kind.node place.type) (24 + size table U)) (sym made.nodes_are) (among (λ x. IsBlock mid x (tag_of Kind.node place.type) (24 + size table U))
+        (each_both _ _ _ block_now ns each_node m.opens.are_nodes))
 
     keys_step : (qs : List ℕ) → AllByRecursion (λ x. signed_long mid (x + 16) ≡ signed_long old (x + 16)) qs → keys_at mid (map (λ p. p + 16) qs) ≡ keys_at old (map (λ p. p + 16) qs)
     keys_step [] h = refl
@@ -237,7 +239,8 @@ module _ (allocator : ℕ) (old : List ℕ) (table : Table) (place : Place) (U :
     keys_less = ap (λ ks. remove ks i) (keys_are allocator old table place U keys vs blocks f s ∙ ap (map (key_at old)) a.nodes_are) ∙ fewer_keys (key_at old) node a.front a.back
 
     still_ascend : IsAscending (remove keys i)
-    still_ascend = subst IsAscending (sym keys_less) (ascends_without (key_at old) node a.front a.back (subst (Rattle.seg_spec.specs.Search.Ascend (λ x y. int_cmp (key_at old x) (key_at old y))) a.nodes_are (ascend allocator old table place U keys vs blocks f s)))
+    still_ascend = subst IsAscending (sym keys_less) (ascends_without (key_at old) node a.front a.back (subst (Rattle.seg_spec.specs.Search.Ascend (λ x y. int_cmp (key_at old x) (key_at old y))) a.nodes_are
+        (ascend allocator old table place U keys vs blocks f s)))
 
     -- ---- the values then
 
@@ -251,8 +254,11 @@ module _ (allocator : ℕ) (old : List ℕ) (table : Table) (place : Place) (U :
         let once_live = live-once old allocator s.heap h in
         (owned_live allocator old table place (Map keys vs) blocks s h mine, owned_other allocator old table place (Map keys vs) blocks s h mine, omega arith)
 
+    all_kept : AllByRecursion (KeepsBlock old mid) m.owned
+    all_kept = each_there (KeepsBlock old mid) m.owned (λ h some. let w = owned_away h some in made.whole h w.0 w.1 w.2)
+
     owned_kept : AllByRecursion (KeepsBlock old mid) (k.xs ++ (k.zs ++ k.ys))
-    owned_kept = subst (AllByRecursion (KeepsBlock old mid)) k.blocks_are (each_there (KeepsBlock old mid) m.owned (λ h some. let w = owned_away h some in made.whole h w.0 w.1 w.2))
+    owned_kept = subst (AllByRecursion (KeepsBlock old mid)) k.blocks_are all_kept
 
     value_same : (x : ℕ) → IsNode allocator old table place U keys vs blocks f s x → IsSame old mid (x + 24) (size table U)
     value_same x d = content_same x d (x + 24) (size table U) (omega arith) (omega arith)
@@ -289,7 +295,21 @@ module _ (allocator : ℕ) (old : List ℕ) (table : Table) (place : Place) (U :
         omega arith
 
     holds_less : Holds mid table place (without_entry (keys, vs) i) others
-    holds_less = map_of mid table place U made.tree (remove keys i) (remove_nth vs i) (k.xs ++ k.ys) f made.is_tree made.red_black (ap length now_are ∙ sym n_long ∙ sym made.count_is) blocks_now (keys_less ∙ sym keys_mid) still_ascend values_less
+    holds_less = map_of mid table place U made.tree (remove keys i) (remove_nth vs i) (k.xs ++ k.ys) f made.is_tree made.red_black long_now blocks_now (keys_less ∙ sym keys_mid) still_ascend values_less
+
+    -- a path through another key leads there still
+    path_mid : (other : ℤ) (path : List Selector) (inner : Place) → other ≢ key → Leads old table place (Selector.key other ∷ path) inner → Leads mid table place (Selector.key other ∷ path) inner
+    path_mid other path inner ne way =
+        let p = passes old mid table s.is_table place U keys vs blocks f m (values_same ns each_node) all_kept way in
+        let asked : other ≡ p.key = let e = p.selector_is in cc in
+        let keys_then = keys_low old ns (low allocator old table place U keys vs blocks f s) in
+        let equal = key_of_place (key_at old) p.key ns p.i p.node (ap (λ ks. key_place ks p.key) (sym keys_then) ∙ p.place_is) p.node_is in
+        let apart : p.node ≢ node = λ e. ne (asked ∙ sym (same_of_equal (key_at old p.node) p.key equal) ∙ ap (key_at old) e ∙ same_of_equal (key_at old node) key a.is) in
+        let j = left_among a.front node a.back p.i p.node (ap (λ xs. slice_get xs p.i) (sym a.nodes_are) ∙ p.node_is) apart in
+        let there_now = place_of (key_at old) p.key (a.front ++ a.back) p.node j.0 (ascend_of (key_at old) (a.front ++ a.back) (subst IsAscending keys_less still_ascend)) j.1 equal in
+        subst (λ u. Leads mid table place (u ∷ path) inner) (sym p.selector_is)
+        (map_leads mid table place U made.tree f made.is_tree made.red_black long_now blocks_now (subst IsAscending (keys_less ∙ sym keys_mid) still_ascend) p.key j.0 p.node
+        (ap (λ ks. key_place ks p.key) keys_mid ∙ there_now) (ap (λ xs. slice_get xs j.0) now_are ∙ j.1) p.goes)
 
     ownable_mid : AllByRecursion (λ b. IsOwnable mid table b.at) (live mid)
     ownable_mid = made.ownable table s.ownable
@@ -336,7 +356,8 @@ module _ (allocator : ℕ) (old : List ℕ) (table : Table) (place : Place) (U :
 
     -- ---- the value is cleared, and the node given back
 
-    module _ (cleared new : List ℕ) (c : ChangesPlace mid cleared table (value_of U (node + 24)) (default_of table U) [] (after_gives (live mid) k.zs) k.zs []) (gives : IsHeap allocator cleared → IsLive cleared (block_of node) → Gives allocator cleared new (block_of node)) where
+    module _ (cleared new : List ℕ) (c : ChangesPlace mid cleared table (value_of U (node + 24)) (default_of table U) [] (after_gives (live mid) k.zs) k.zs []) (gives : IsHeap allocator cleared → IsLive cleared (block_of node)
+        → Gives allocator cleared new (block_of node)) where
       mid_some : (h : ℕ) → 1 ≤ times h (positions (live old)) → 1 ≤ times h (positions (live mid))
       mid_some h some = let x = live_mid h in omega arith
 
@@ -358,7 +379,8 @@ module _ (allocator : ℕ) (old : List ℕ) (table : Table) (place : Place) (U :
           }
         where
           apart_blocks : (h : ℕ) → 1 ≤ times h (positions (live mid)) → h ≢ block_of node → OneOrApart mid (block_of node) h
-          apart_blocks h some ne = there (OneOrApart mid (block_of node)) h (positions (live mid)) (there (λ t. AllByRecursion (OneOrApart mid t) (positions (live mid))) (block_of node) (positions (live mid)) (live-apart mid allocator made.heap) node_mid) some
+          apart_blocks h some ne = there (OneOrApart mid (block_of node)) h (positions (live mid)) (there (λ t. AllByRecursion (OneOrApart mid t) (positions (live mid))) (block_of node) (positions (live mid))
+              (live-apart mid allocator made.heap) node_mid) some
 
           go : OneOrApart mid (block_of node) h → Separate (h + 16) (payload_size mid h) (node + 24) (size table U)
           go (inl e) = absurd (ne e)
@@ -444,7 +466,8 @@ module _ (allocator : ℕ) (old : List ℕ) (table : Table) (place : Place) (U :
           let off : times h (map block_of ns) ≡ 0 = let n = times-append h (map block_of ns) m.owned in let d : times h blocks ≡ times h (map block_of ns ++ m.owned) = ap (times h) m.blocks_are in omega arith in
           let step : KeepsBlock mid cleared h = kept_cleared h x ne (omega arith) in
           let still : 1 ≤ times h (positions (live cleared)) = let w = c.live_are h in omega arith in
-          let last = (left_frames allocator cleared table place (without_entry (keys, vs) i) others map_cleared new (block_of node) g node_cleared node_off (size table place.type)).kept h still (times-other h (block_of node) [] (λ e. ne (sym e))) in
+          let last = (left_frames allocator cleared table place (without_entry (keys, vs) i) others map_cleared new (block_of node) g node_cleared node_off (size table place.type)).kept h still (times-other h (block_of node) []
+          (λ e. ne (sym e))) in
           let first : KeepsBlockAround old mid place.at (size table place.type) h = rw cell_size (made.around h some off) in
           let two = (lies_mid h x).size in
           around_twice old mid new place.at (size table place.type) h first (around_twice mid cleared new place.at (size table place.type) h (around_kept mid cleared place.at (size table place.type) h (omega arith) step) last)
@@ -472,3 +495,18 @@ module _ (allocator : ℕ) (old : List ℕ) (table : Table) (place : Place) (U :
               };
             };
           }
+
+      block_kept : (h : ℕ) → 1 ≤ times h (s.home ∷ others) → KeepsBlock mid new h
+      block_kept h some =
+          let w = map_away h some in
+          let x = c.live_are h in
+          let one : 1 ≤ times h (positions (live cleared)) = let q = w.2 in let r = w.0 in omega arith in
+          kept_twice mid cleared new h (kept_cleared h w.0 w.1 w.2)
+          (left_kept allocator cleared table place (without_entry (keys, vs) i) others map_cleared new (block_of node) g node_cleared node_off h one (λ e. w.1 (sym e))).whole.kept
+
+      cell_kept : IsSame mid new place.at (size table place.type)
+      cell_kept = same_place allocator mid table place (without_entry (keys, vs) i) others map_stands new (subst (KeepsBlock mid new) (sym map_home) (block_kept s.home (omega (arith, times-same s.home others))))
+
+      pub keeps_others : KeepsOtherKeys old new table place key
+      keeps_others other path inner ne way =
+          Leads-kept mid new table s.is_table (path_mid other path inner ne way) holds_less cell_kept (each_there (KeepsBlock mid new) others (λ h some. block_kept h (omega (arith, times-more h s.home others))))

@@ -1,11 +1,11 @@
 -- What writes inside the payloads of several live blocks keep: the heap, and all beside the bytes written.
-use Rattle.std.proofs.Common.{◌≡◌, ◌≢◌, ℕ, ◌+◌, ◌-◌, ◌*◌, ◌%◌, ◌≤◌, ◌⊎◌, inl, inr, true, false, List, [], ◌∷◌, length, refl, sym, ap, ◌∙◌, subst, arith}
+use Rattle.std.proofs.Common.{◌≡◌, ◌≢◌, ℕ, ◌+◌, ◌*◌, ◌≤◌, ◌⊎◌, inl, inr, true, false, List, [], ◌∷◌, length, refl, sym, ◌∙◌, subst, arith}
 use Rattle.std.proofs.lemmas.Bool.{false≢true}
 use Rattle.std.specs.Prelude.{⊤}
 use Rattle.std.specs.List.{AllByRecursion}
 use Rattle.seg_spec.specs.Bytes.{word, IsSame}
 use Rattle.seg_spec.specs.Types.{Table}
-use Rattle.seg_spec.specs.Heap.{Tile, units_at, is_live_at, tag_at, link_at, tiles, live, gaps, free_of, IsHeap, heap_start, KeepsTiles}
+use Rattle.seg_spec.specs.Heap.{Tile, units_at, link_at, tiles, live, gaps, free_of, IsHeap, heap_start, KeepsTiles}
 use Rattle.seg_spec.specs.Block.{IsInside, KeepsHeader, KeepsBlock, IsOwnable, payload_size}
 use Rattle.seg_spec.specs.Apart.{Separate, KeepsBlockAround}
 use Rattle.seg_spec.specs.Sound.{times, positions}
@@ -36,7 +36,6 @@ all_so (x ∷ xs) = (tt, all_so xs)
 
 module _ (old new : List ℕ) (allocator : ℕ) (heap : IsHeap allocator old) (ranges : List Range) (writable : AllByRecursion (IsWritable old) ranges)
     (length_kept : length new ≡ length old) (beside : (p m : ℕ) → Beside p m ranges → IsSame old new p m) where
-
   spots_for : (rs : List Range) → AllByRecursion (IsWritable old) rs → AllByRecursion (λ t. AllByRecursion (λ r. Spot old r.block t) rs) (tiles old)
   unfolding live
   spots_for [] w = all_so (tiles old)
@@ -81,7 +80,7 @@ module _ (old new : List ℕ) (allocator : ℕ) (heap : IsHeap allocator old) (r
     root_kept = low_same 24 4 (omega arith);
     headers_kept = each_weaker _ _ (λ t s. beside t.at 16 (headers_beside t ranges writable s)) (tiles old) (spots_for ranges writable);
     free_kept = subst (λ gs. AllByRecursion (λ g. IsSame old new (g.at + 16) 16) gs) (sym gaps_free)
-    (each_free_tile _ (tiles old) (each_weaker _ _ (λ t s free. beside (t.at + 16) 16 (free_beside t ranges free writable s)) (tiles old) (spots_for ranges writable)));
+        (each_free_tile _ (tiles old) (each_weaker _ _ (λ t s free. beside (t.at + 16) 16 (free_beside t ranges free writable s)) (tiles old) (spots_for ranges writable)));
   }
 
   pub heap_same : IsHeap allocator new

@@ -1,11 +1,11 @@
 -- What removing a key from a tree leaves, from what its steps leave.
-use Rattle.std.proofs.Common.{◌≡◌, ◌≢◌, ℕ, ◌+◌, ◌-◌, ◌*◌, ◌%◌, ◌^◌, ◌<◌, ◌≤◌, Bool, true, false, ℤ, List, [], ◌∷◌, length, Some, refl, sym, ap, ◌∙◌, subst, arith}
+use Rattle.std.proofs.Common.{◌≡◌, ◌≢◌, ℕ, ◌+◌, ◌-◌, ◌*◌, ◌%◌, ◌^◌, true, false, ℤ, List, [], length, Some, refl, ap, ◌∙◌, subst, arith}
 use Rattle.std.specs.List.{AllByRecursion}
 use Rattle.std.specs.Ordering.{int_cmp, ordering_reverse}
 use Rattle.std.specs.declared.cmp.Ordering.{Ordering}
-use Rattle.std.specs.declared.cmp.Ordering.TheVariants.{Less, Equal, Greater}
+use Rattle.std.specs.declared.cmp.Ordering.TheVariants.{Equal}
 use Rattle.seg_spec.specs.Bytes.{set_word}
-use Rattle.seg_spec.specs.Types.{Form, Table, form_at, size}
+use Rattle.seg_spec.specs.Types.{Form, Table, form_at}
 use Rattle.seg_spec.specs.Value.{Value, Values, Map, default_of}
 use Rattle.seg_spec.specs.Heap.{live, IsHeap, IsLive, Gives}
 use Rattle.seg_spec.specs.Block.{block_of}
@@ -20,18 +20,20 @@ use Rattle.seg_rbtree.specs.declared.path.Path.{Path}
 use Rattle.seg_rbtree.specs.Ways.{LeadsTo}
 use Rattle.seg_rbtree.specs.Paths.{node_at}
 use Rattle.seg_rbtree.specs.Changes.{StandApart, without_node, Leaves}
-use Rattle.seg_map.specs.Maps.{RemovesKey, value_of}
+use Rattle.seg_map.specs.Maps.{TakesKey, RemovesKey, value_of}
+use Rattle.seg_map.specs.Trees.{KeepsOtherKeys}
 use Rattle.seg_map.proofs.KeyOrder.{Around}
 use Rattle.seg_map.proofs.TreeMaps.{key_at, its, nodes, is_search_tree}
 use Rattle.seg_map.proofs.Putting.{no_key, key_there, node_low}
-use Rattle.seg_map.proofs.Removing.{nodes_apart, k, value_stands, takes_key}
+use Rattle.seg_map.proofs.Removing.{nodes_apart, k, value_stands, takes_key, keeps_others}
 
 -- what taking out the node at the end of a path does
 abbrev pub TakesFrom : List ℕ → List ℕ → ℕ → Path → Type 0
 TakesFrom old new root path = (turn : ℕ → Ordering) (node : ℕ) (shape : Tree) → IsSearchTree old root shape → LeadsTo turn shape path → node_at old path ≡ Some node → StandApart (length old) root (nodes_of shape)
     → Leaves old new root (nodes_of shape) (without_node node (nodes_of shape))
 
-module _ (allocator : ℕ) (old : List ℕ) (table : Table) (place : Place) (U : ℕ) (keys : List ℤ) (vs : Values) (blocks : List ℕ) (f : form_at table place.type ≡ Some (Form.map U)) (s : Stands allocator old table place (Map keys vs) blocks) (key : ℤ) where
+module _ (allocator : ℕ) (old : List ℕ) (table : Table) (place : Place) (U : ℕ) (keys : List ℤ) (vs : Values) (blocks : List ℕ) (f : form_at table place.type ≡ Some (Form.map U)) (s : Stands allocator old table place
+    (Map keys vs) blocks) (key : ℤ) where
   abbrev the_nodes : List ℕ
   the_nodes = nodes allocator old table place U keys vs blocks f s
 
@@ -42,23 +44,28 @@ module _ (allocator : ℕ) (old : List ℕ) (table : Table) (place : Place) (U :
   pub removes_none : AllByRecursion (λ x. int_cmp (key_at old x) key ≢ Equal) the_nodes → RemovesKey allocator old old table place keys vs blocks (key_place keys key) false
   removes_none absent = rw (no_key allocator old table place U keys vs blocks f s key absent) (refl, refl)
 
-  -- one that is
-  pub removes_one : (node : ℕ) (a : Around (key_at old) key the_nodes node) (three mid cleared new now before_it : List ℕ) (here : Table) (n count each before root at type : ℕ) (path : Path) → now ≡ old → before_it ≡ old → root ≡ place.at → path.root ≡ root
-      → ((tree : Tree) → IsSearchTree now root tree → LeadsTo (λ x. ordering_reverse (int_cmp (key_at now x) key)) tree path) → node_at now path ≡ Some node → TakesFrom before_it three path.root path
-      → mid ≡ set_word three (place.at + 4) n → n ≡ count - 1 → count ≡ count_at three place.at → here ≡ table → at ≡ (node + 0 * each + before) % 2 ^ 32 → before ≡ 24 → type ≡ U
-      → ((v : Value) (zs : List ℕ) → Stands allocator mid here (value_of type at) v zs → ChangesPlace mid cleared here (value_of type at) (default_of here type) [] (after_gives (live mid) zs) zs [])
-      → (IsHeap allocator cleared → IsLive cleared (block_of node) → Gives allocator cleared new (block_of node)) → RemovesKey allocator old new table place keys vs blocks (key_place keys key) true
-  removes_one node a three mid cleared new now before_it here n count each before root at type path same same_too root_is path_root leads node_is taken mid_is n_is count_is here_is at_is before_is type_is clears gives =
-      let leads_at : List ℕ → ℕ → Type 0 = λ bs r. (tree : Tree) → IsSearchTree bs r tree → LeadsTo (λ x. ordering_reverse (int_cmp (key_at bs x) key)) tree path in
-      let leads' : leads_at old place.at = subst (λ r. leads_at old r) root_is (subst (λ bs. leads_at bs root) same leads) in
-      let taken' : TakesFrom old three place.at path = subst (λ r. TakesFrom old three r path) (path_root ∙ root_is) (subst (λ bs. TakesFrom bs three path.root path) same_too taken) in
-      let search = is_search_tree allocator old table place U keys vs blocks f s in
-      let there_is : node_at old path ≡ Some node = subst (λ bs. node_at bs path ≡ Some node) same node_is in
-      let l = taken' (λ x. ordering_reverse (int_cmp (key_at old x) key)) node shape search (leads' shape search) there_is (nodes_apart allocator old table place U keys vs blocks f s key node a) in
-      let position : at ≡ node + 24 = let low = node_low allocator old table place U keys vs blocks f s key node a in omega arith in
-      let Clears : Table → ℕ → ℕ → Type 0 = λ t T p. (v : Value) (zs : List ℕ) → Stands allocator mid t (value_of T p) v zs → ChangesPlace mid cleared t (value_of T p) (default_of t T) [] (after_gives (live mid) zs) zs [] in
-      let clears' : Clears table U (node + 24) = subst (λ p. Clears table U p) position (subst (λ T. Clears table T at) type_is (subst (λ t. Clears t type at) here_is clears)) in
-      let less : n ≡ count_at three place.at - 1 = n_is ∙ ap (λ c. c - 1) count_is in
-      let c = clears' (k allocator old table place U keys vs blocks f s key node a).value (k allocator old table place U keys vs blocks f s key node a).zs
-          (value_stands allocator old table place U keys vs blocks f s key node a three mid n l mid_is less) in
-      rw (key_there allocator old table place U keys vs blocks f s key node a) (refl, takes_key allocator old table place U keys vs blocks f s key node a three mid n l mid_is less cleared new c gives)
+  module _ (node : ℕ) (a : Around (key_at old) key the_nodes node) where
+    -- one that is: it goes, and each path through another key leads where it led
+    pub taken_out : (three mid cleared new now before_it : List ℕ) (here : Table) (n count each before root at type : ℕ) (path : Path) → now ≡ old → before_it ≡ old → root ≡ place.at → path.root ≡ root
+        → ((tree : Tree) → IsSearchTree now root tree → LeadsTo (λ x. ordering_reverse (int_cmp (key_at now x) key)) tree path) → node_at now path ≡ Some node → TakesFrom before_it three path.root path
+        → mid ≡ set_word three (place.at + 4) n → n ≡ count - 1 → count ≡ count_at three place.at → here ≡ table → at ≡ (node + 0 * each + before) % 2 ^ 32 → before ≡ 24 → type ≡ U
+        → ((v : Value) (zs : List ℕ) → Stands allocator mid here (value_of type at) v zs → ChangesPlace mid cleared here (value_of type at) (default_of here type) [] (after_gives (live mid) zs) zs [])
+        → (IsHeap allocator cleared → IsLive cleared (block_of node) → Gives allocator cleared new (block_of node))
+        → TakesKey allocator old new table place keys vs blocks (length a.front) × KeepsOtherKeys old new table place key
+    taken_out three mid cleared new now before_it here n count each before root at type path same same_too root_is path_root leads node_is taken mid_is n_is count_is here_is at_is before_is type_is clears gives =
+        let leads_at : List ℕ → ℕ → Type 0 = λ bs r. (tree : Tree) → IsSearchTree bs r tree → LeadsTo (λ x. ordering_reverse (int_cmp (key_at bs x) key)) tree path in
+        let leads' : leads_at old place.at = subst (λ r. leads_at old r) root_is (subst (λ bs. leads_at bs root) same leads) in
+        let taken' : TakesFrom old three place.at path = subst (λ r. TakesFrom old three r path) (path_root ∙ root_is) (subst (λ bs. TakesFrom bs three path.root path) same_too taken) in
+        let search = is_search_tree allocator old table place U keys vs blocks f s in
+        let there_is : node_at old path ≡ Some node = subst (λ bs. node_at bs path ≡ Some node) same node_is in
+        let l = taken' (λ x. ordering_reverse (int_cmp (key_at old x) key)) node shape search (leads' shape search) there_is (nodes_apart allocator old table place U keys vs blocks f s key node a) in
+        let position : at ≡ node + 24 = let low = node_low allocator old table place U keys vs blocks f s key node a in omega arith in
+        let Clears : Table → ℕ → ℕ → Type 0 = λ t T p. (v : Value) (zs : List ℕ) → Stands allocator mid t (value_of T p) v zs → ChangesPlace mid cleared t (value_of T p) (default_of t T) [] (after_gives (live mid) zs) zs [] in
+        let clears' : Clears table U (node + 24) = subst (λ p. Clears table U p) position (subst (λ T. Clears table T at) type_is (subst (λ t. Clears t type at) here_is clears)) in
+        let less : n ≡ count_at three place.at - 1 = n_is ∙ ap (λ c. c - 1) count_is in
+        let c = clears' (k allocator old table place U keys vs blocks f s key node a).value (k allocator old table place U keys vs blocks f s key node a).zs
+        (value_stands allocator old table place U keys vs blocks f s key node a three mid n l mid_is less) in
+        (takes_key allocator old table place U keys vs blocks f s key node a three mid n l mid_is less cleared new c gives, keeps_others allocator old table place U keys vs blocks f s key node a three mid n l mid_is less cleared new c gives)
+
+    pub removes_one : (new : List ℕ) → TakesKey allocator old new table place keys vs blocks (length a.front) → RemovesKey allocator old new table place keys vs blocks (key_place keys key) true
+    removes_one new t = rw (key_there allocator old table place U keys vs blocks f s key node a) (refl, t)

@@ -1,26 +1,24 @@
 -- A map as a tree, with its keys and values, as the calls on nodes see it.
-use Rattle.std.proofs.Common.{◌≡◌, ◌≢◌, ℕ, ◌+◌, ◌-◌, ◌*◌, ◌%◌, ◌^◌, ◌<◌, ◌≤◌, ℤ, Bool, true, List, [], ◌∷◌, ◌++◌, ◌⊎◌, inl, inr, zero, suc, false, cond, length, map, Option, Some, None, MatchOption, option_map, refl, sym, ap, ◌∙◌, subst, arith}
+use Rattle.std.proofs.Common.{◌≡◌, ◌≢◌, ℕ, ◌+◌, ◌*◌, ◌%◌, ◌^◌, ◌<◌, ◌≤◌, ℤ, true, List, [], ◌∷◌, ◌++◌, ◌⊎◌, inl, inr, zero, suc, false, cond, length, map, Option, Some, None, MatchOption, option_map, refl, sym, ap, ◌∙◌, subst, arith}
 use Rattle.std.specs.Prelude.{slice_get}
 use Rattle.std.proofs.lemmas.List.{length-append, length-map}
 use Rattle.std.proofs.lemmas.Bool.{cases_eq}
 use Rattle.std.specs.List.{AllByRecursion}
 use Rattle.std.specs.Ordering.{int_cmp, is_eq}
-use Rattle.std.specs.declared.cmp.Ordering.{Ordering}
-use Rattle.std.specs.declared.cmp.Ordering.TheVariants.{Less, Equal, Greater}
-use Rattle.seg_spec.specs.Bytes.{word, signed_long}
-use Rattle.seg_spec.specs.Pointer.{target}
+use Rattle.std.specs.declared.cmp.Ordering.TheVariants.{Greater}
+use Rattle.seg_spec.specs.Bytes.{signed_long}
 use Rattle.seg_spec.specs.Types.{Form, Table, form_at, size}
 use Rattle.seg_spec.specs.Value.{Label, Value, Values, Map, Selector, IsAscending}
 use Rattle.seg_spec.specs.Heap.{Span, Tile, span_of, tiles, Fill, live_of, live, heap_start, IsHeap, units_at}
 use Rattle.seg_spec.specs.Block.{IsBlock, Kind, tag_of, block_of}
-use Rattle.seg_spec.specs.Shapes.{Tree, nodes_of, IsTree, IsRedBlack}
+use Rattle.seg_spec.specs.Shapes.{Tree, nodes_of}
 use Rattle.seg_spec.specs.Search.{Ascend, IsSearchTree, first_where, reaches}
 use Rattle.seg_spec.specs.Items.{key_place}
-use Rattle.seg_spec.specs.Reads.{Place, Opened, count_at, keys_at, places_of, AreNodes, OpensTree, Opens, Holds, holds, HoldsEach, Leads, here, into}
+use Rattle.seg_spec.specs.Reads.{Place, Opened, keys_at, places_of, AreNodes, OpensTree, Opens, Holds, holds, HoldsEach, Leads, here, into}
 use Rattle.seg_spec.specs.Sound.{times, positions}
 use Rattle.seg_spec.specs.Owning.{Stands}
 use Rattle.seg_spec.proofs.Frame.{each_weaker}
-use Rattle.seg_spec.proofs.LiveLaws.{times-append, times-same, times-more, times-other, there, each_there, LiesIn, live-lie}
+use Rattle.seg_spec.proofs.LiveLaws.{times-append, times-same, times-more, times-other, there, LiesIn, live-lie}
 use Rattle.seg_spec.proofs.PlaceSteps.{owned_live}
 use Rattle.seg_spec.proofs.Leading.{each_at}
 use Rattle.seg_map.specs.Maps.{FindsValue, value_of, first_of, keys_above}
@@ -51,7 +49,7 @@ pub record IsTreeMap (bytes : List ℕ) (table : Table) (place : Place) (U : ℕ
   pub each : HoldsEach bytes table (places_of U (map (λ p. p + 24) (nodes_of opens.tree))) vs owned
   pub blocks_are : blocks ≡ map block_of (nodes_of opens.tree) ++ owned
 
-same_form : (f g : Form) → Some f ≡ Some g → f ≡ g
+pub same_form : (f g : Form) → Some f ≡ Some g → f ≡ g
 same_form f g e = cc
 
 values_of : Value → Values
@@ -79,7 +77,8 @@ map_by bytes table place U keys vs blocks opened inside owned o hs v_is blocks_i
       blocks_are = blocks_is ∙ ap (λ bs. bs ++ owned) (ap (λ (r : Opened). r.blocks) o.opened_is);
     }
 
-pub tree_map : (bytes : List ℕ) (table : Table) (place : Place) (U : ℕ) (keys : List ℤ) (vs : Values) (blocks : List ℕ) → form_at table place.type ≡ Some (Form.map U) → Holds bytes table place (Map keys vs) blocks → IsTreeMap bytes table place U keys vs blocks
+pub tree_map : (bytes : List ℕ) (table : Table) (place : Place) (U : ℕ) (keys : List ℤ) (vs : Values) (blocks : List ℕ) → form_at table place.type ≡ Some (Form.map U) → Holds bytes table place (Map keys vs) blocks
+    → IsTreeMap bytes table place U keys vs blocks
 tree_map bytes table place U keys vs blocks f (holds form opened inside owned g o hs v_is blocks_is) =
     let same = same_form form (Form.map U) (sym g ∙ f) in
     let o' : Opens bytes table place (Form.map U) opened = subst (λ h. Opens bytes table place h opened) same o in
@@ -104,7 +103,8 @@ no_more : (xs ys : List ℕ) → ((h : ℕ) → times h xs ≤ times h ys) → l
 no_more [] ys o = omega arith
 no_more (x ∷ xs) ys o =
     let r = split_at x ys (omega (arith, o x, times-same x xs)) in
-    let rest = no_more xs (r.left ++ r.right) (λ h. let e : times h ys ≡ times h (r.left ++ x ∷ r.right) = ap (times h) r.is in let a = times-append h r.left (x ∷ r.right) in let b = times-append h r.left r.right in let c = o h in omega arith) in
+    let rest = no_more xs (r.left ++ r.right) (λ h. let e : times h ys ≡ times h (r.left ++ x ∷ r.right) = ap (times h) r.is in let a = times-append h r.left
+    (x ∷ r.right) in let b = times-append h r.left r.right in let c = o h in omega arith) in
     let long : length ys ≡ length (r.left ++ x ∷ r.right) = ap length r.is in
     omega (arith, length-append r.left (x ∷ r.right), length-append r.left r.right)
 
@@ -127,7 +127,8 @@ mapped_at g [] i x e = cc
 mapped_at g (y ∷ xs) zero x e = let same : y ≡ x = cc in ap (λ z. Some (g z)) same
 mapped_at g (y ∷ xs) (suc i) x e = mapped_at g xs i x e
 
-module _ (allocator : ℕ) (bytes : List ℕ) (table : Table) (place : Place) (U : ℕ) (keys : List ℤ) (vs : Values) (blocks : List ℕ) (f : form_at table place.type ≡ Some (Form.map U)) (s : Stands allocator bytes table place (Map keys vs) blocks) where
+module _ (allocator : ℕ) (bytes : List ℕ) (table : Table) (place : Place) (U : ℕ) (keys : List ℤ) (vs : Values) (blocks : List ℕ) (f : form_at table place.type ≡ Some (Form.map U)) (s : Stands allocator bytes table place
+    (Map keys vs) blocks) where
   pub its : IsTreeMap bytes table place U keys vs blocks
   its = tree_map bytes table place U keys vs blocks f s.holds_it
 

@@ -1,12 +1,14 @@
 -- Calls on maps of both kinds.
---     first_of keys                 the first of keys, if there is one
---     keys_above keys after         those above another, in their order
---     value_of U at                 the place of a value of type U
---     WhereMap form allocator bytes table cell claim     the claim holds of each map of this form at a cell
---     FindsValue bytes table map U keys key found     where the value of a key stands: nowhere exactly where
---                                                     the map doesn't have the key
---     AddsKey, PutsKey              a key came to a map; what putting a key leaves
---     TakesKey, RemovesKey          a key went from a map; what removing a key leaves
+--     first_of keys               the first of keys, if there is one
+--     keys_above keys after       those above another, in their order
+--     value_of U at               the place of a value of type U
+--     WhereMap form allocator bytes table cell claim
+--                                 the claim holds of each map of this form at a cell
+--     FindsValue bytes table map U keys key found
+--                                 where the value of a key stands: nowhere exactly where the map
+--                                 doesn't have the key
+--     AddsKey, PutsKey            a key came to a map; what putting a key leaves
+--     TakesKey, RemovesKey        a key went from a map; what removing a key leaves
 use Rattle.std.specs.Prelude.{◌≡◌, ℕ, Bool, true, false, ℤ, int_lt, List, [], ◌∷◌, filter, slice_get, Option, Some, None, MatchOption, Result, MatchResult}
 use Rattle.seg_spec.specs.Types.{Form, Table, form_at}
 use Rattle.seg_spec.specs.Value.{Values, Map, Selector, default_of}

@@ -1,8 +1,13 @@
 -- Maps as trees of nodes.
---     VALUE                            the bytes of a node before its value
---     NamesTree table T U content      the cell of a type T names a tree of nodes with values of type U
-use Rattle.std.specs.Prelude.{ℕ}
+--     VALUE                           the bytes of a node before its value
+--     NamesTree table T U content     the cell of a type T names a tree of nodes, with values of
+--                                     type U
+--     KeepsOtherKeys old new table map key
+--                                     paths through other keys of a map lead where they led
+use Rattle.std.specs.Prelude.{◌≢◌, ℕ, ℤ, List, ◌∷◌}
 use Rattle.seg_spec.specs.Types.{Table}
+use Rattle.seg_spec.specs.Value.{Selector}
+use Rattle.seg_spec.specs.Reads.{Place, Leads}
 use Rattle.seg_spec.specs.Block.{Kind, tag_of}
 use Rattle.seg_value.specs.Contents.{IsContent}
 use Rattle.seg_value.specs.declared.content.Content.{Content}
@@ -15,3 +20,10 @@ VALUE = 24
 -- the cell of the type T names a tree of nodes, each with a value of the type U
 abbrev pub NamesTree : Table → ℕ → ℕ → Content → Type 0
 NamesTree table T U content = IsContent table shape.Tree (tag_of Kind.node T) VALUE U content
+
+-- each path through another key of a map leads where it led
+abbrev pub KeepsOtherKeys : List ℕ → List ℕ → Table → Place → ℤ → Type 0
+KeepsOtherKeys old new table map key =
+    (other : ℤ) (path : List Selector) (inner : Place) → other ≢ key
+    → Leads old table map (Selector.key other ∷ path) inner
+    → Leads new table map (Selector.key other ∷ path) inner

@@ -7,6 +7,7 @@ ghost use Rattle.std.proofs.Common.{arith, inl, inr, ⊎_elim};
 ghost use Rattle.std.proofs.lemmas.Bool.{cases_lt};
 ghost use Rattle.seg_spec.specs.Bytes.{signed, signed_long};
 ghost use Rattle.seg_spec.specs.Window.{KeepsHost};
+ghost use Rattle.seg_spec.specs.Shrinking.{KeepsPathsInside};
 ghost use Rattle.seg_spec.proofs.BytesLaws.{number-slice};
 ghost use Rattle.seg_spec.proofs.OrderSteps.{steps_up};
 ghost use Rattle.seg_spec.specs.Types.{Form, size};
@@ -18,7 +19,7 @@ ghost use Rattle.seg_rbtree.proofs.Keys.{equal_to_one};
 ghost use Rattle.seg_value.specs.Contents.{IsEntryOf};
 ghost use Rattle.seg_value.specs.Places.{object_at};
 ghost use Rattle.seg_map.specs.Maps.{WhereMap, FindsValue, PutsKey, RemovesKey, first_of, keys_above};
-ghost use Rattle.seg_map.specs.Trees.{VALUE, NamesTree};
+ghost use Rattle.seg_map.specs.Trees.{VALUE, NamesTree, KeepsOtherKeys};
 
 use seg_block::Fit;
 use seg_ptr::Window;
@@ -112,6 +113,10 @@ pub(crate) fn put<F: Fit, A: Allocator>(
         → PutsKey F.allocator heap.old.window.bytes heap.new.window.bytes heap.old.types
         (object_at cell T) U keys vs key blocks (block_for (VALUE + size heap.old.types U) ∷ [])
         (key_place keys key) result) }
+    ensures keeps { WhereMap Form.map F.allocator heap.old.window.bytes heap.old.types cell
+        (λ T U keys vs blocks. NamesTree heap.old.types T U content.now
+        → KeepsPathsInside heap.old.window.bytes heap.new.window.bytes heap.old.types
+        (object_at cell T)) }
 {
     let mut path = tree_of(cell).path_to_key(heap.window(), &ByKey, key);
     if let Some(node) = path.node(heap.window()) {
@@ -138,6 +143,10 @@ pub(crate) fn remove<F: Fit, A: Allocator>(
         (λ T U keys vs blocks. NamesTree heap.old.types T U content.now
         → RemovesKey F.allocator heap.old.window.bytes heap.new.window.bytes heap.old.types
         (object_at cell T) keys vs blocks (key_place keys key) result) }
+    ensures keeps { WhereMap Form.map F.allocator heap.old.window.bytes heap.old.types cell
+        (λ T U keys vs blocks. NamesTree heap.old.types T U content.now
+        → KeepsOtherKeys heap.old.window.bytes heap.new.window.bytes heap.old.types
+        (object_at cell T) key) }
 {
     let mut path = tree_of(cell).path_to_key(heap.window(), &ByKey, key);
     let Some(node) = path.node(heap.window()) else {

@@ -1,4 +1,4 @@
-use Rattle.std.proofs.Common.{◌≡◌, w64, ◌+◌, ◌%◌, ◌^◌, ap, ◌∙◌, sym, subst, Some, None}
+use Rattle.std.proofs.Common.{w64, ◌+◌, ◌%◌, ◌^◌, ap, ◌∙◌, Some, None}
 use Rattle.std.proofs.lemmas.Int.{to_z-of_z}
 use Rattle.seg_spec.specs.Window.{Placement}
 use Rattle.seg_spec.specs.Bytes.{signed_long}

@@ -1,4 +1,4 @@
-use Rattle.std.proofs.Common.{◌≡◌, ℤ, List, Option, w64, of_z, to_z, SFits, ◌+◌, ◌%◌, ◌^◌, ap, ◌∙◌, sym, subst, Some, None}
+use Rattle.std.proofs.Common.{◌≡◌, ℤ, List, Option, w64, of_z, to_z, SFits, ◌+◌, ◌%◌, ◌^◌, ap, ◌∙◌, Some, None}
 use Rattle.std.proofs.lemmas.Int.{to_z-of_z}
 use Rattle.seg_spec.specs.Window.{Placement}
 use Rattle.seg_spec.specs.Bytes.{signed_long}
@@ -19,5 +19,6 @@ pub returns : goal.returns
 returns g c = λ T U keys vs blocks f s.
     let key_is = c.key_of.ensures ∙ ap (λ (p : Placement). signed_long p.bytes ((c.in_ok-node.node + 16) % 2 ^ 32)) c.window-2.ensures in
     ap Some (to_z-of_z w64 c.key_of.result (record { sfits = c.key_of.type_inv }) ∙ key_is)
-    ∙ back c.args.after c.ranges.after keys (Some (signed_long c.args.heap.now.window.bytes ((c.in_ok-node.node + 16) % 2 ^ 32))) (next_is g.F.Fit.allocator c.args.heap.now.window.bytes c.args.heap.now.types (object_at c.args.cell T) U keys vs blocks f s
+    ∙ back c.args.after c.ranges.after keys (Some (signed_long c.args.heap.now.window.bytes ((c.in_ok-node.node + 16) % 2 ^ 32))) (next_is g.F.Fit.allocator c.args.heap.now.window.bytes c.args.heap.now.types
+    (object_at c.args.cell T) U keys vs blocks f s
     c.window.result.now.bytes c.tree_of.result.root (ap (λ (p : Placement). p.bytes) c.window.ensures) c.tree_of.ensures (to_z w64 (of_z w64 c.args.after)) (Some c.in_ok-node.node) (c.in_ok-node.ensures tt))
