@@ -117,7 +117,8 @@ module _ (bytes : List ℕ) (table : Table) (place : Place) (U : ℕ) (keys : Li
 
 -- ---- where calls find it
 
-module _ (allocator : ℕ) (bytes : List ℕ) (table : Table) (place : Place) (U : ℕ) (keys : List ℤ) (vs : Values) (blocks : List ℕ) (f : form_at table place.type ≡ Some (Form.flat_map U)) (s : Stands allocator bytes table place (Map keys vs) blocks) where
+module _ (allocator : ℕ) (bytes : List ℕ) (table : Table) (place : Place) (U : ℕ) (keys : List ℤ) (vs : Values) (blocks : List ℕ) (f : form_at table place.type ≡ Some (Form.flat_map U))
+    (s : Stands allocator bytes table place (Map keys vs) blocks) where
   abbrev pub each : ℕ
   each = 8 + size table U
 

@@ -67,8 +67,8 @@ module _ (f : ℕ → ℤ) where
   abbrev pub Before : ℤ → List ℕ → Type 0
   Before k nodes = AllByRecursion (λ x. int_cmp (f x) k ≡ Less) nodes
 
-  abbrev pub Following : ℤ → List ℕ → Type 0
-  Following k nodes = AllByRecursion (λ x. int_cmp (f x) k ≡ Greater) nodes
+  abbrev pub After : ℤ → List ℕ → Type 0
+  After k nodes = AllByRecursion (λ x. int_cmp (f x) k ≡ Greater) nodes
 
   -- ---- in order
 
@@ -99,14 +99,14 @@ module _ (f : ℕ → ℤ) where
     pub back : List ℕ
     pub nodes_are : nodes ≡ front ++ back
     pub low : Before k front
-    pub high : Following k back
+    pub high : After k back
 
   by_compare : (r : Ordering) → r ≢ Equal → (r ≡ Less) ⊎ (r ≡ Greater)
   by_compare Less ne = inl refl
   by_compare Equal ne = absurd (ne refl)
   by_compare Greater ne = inr refl
 
-  above_all : (k : ℤ) (x : ℕ) (xs : List ℕ) → int_cmp (f x) k ≡ Greater → AllByRecursion (λ y. by x y ≡ Less) xs → Following k xs
+  above_all : (k : ℤ) (x : ℕ) (xs : List ℕ) → int_cmp (f x) k ≡ Greater → AllByRecursion (λ y. by x y ≡ Less) xs → After k xs
   above_all k x xs e h = each_weaker _ _ (λ y l. int_cmp_total.antisymm (f y) k ∙ ap ordering_reverse (int_cmp_total.trans k (f x) (f y) (less_of_greater (f x) k e) l)) xs h
 
   pub apart_at : (k : ℤ) (nodes : List ℕ) → Ascend by nodes → AllByRecursion (λ x. int_cmp (f x) k ≢ Equal) nodes → Apart k nodes
@@ -124,7 +124,7 @@ module _ (f : ℕ → ℤ) where
     pub nodes_are : nodes ≡ front ++ node ∷ back
     pub low : Before k front
     pub is : int_cmp (f node) k ≡ Equal
-    pub high : Following k back
+    pub high : After k back
 
   pub around_at : (k : ℤ) (nodes : List ℕ) (node : ℕ) → Ascend by nodes → IsEqualAmong (λ x. int_cmp (f x) k) nodes node → Around k nodes node
   around_at k nodes node a e =
@@ -136,7 +136,7 @@ module _ (f : ℕ → ℤ) where
         nodes_are = e.nodes_are;
         low = each_weaker _ _ (λ x l. ap (int_cmp (f x)) (sym same) ∙ l) e.front p.before;
         is = e.equals;
-        high = each_weaker _ _ (λ x l. ap (int_cmp (f x)) (sym same) ∙ int_cmp_total.antisymm (f x) (f node) ∙ ap ordering_reverse l) e.back p.following;
+        high = each_weaker _ _ (λ x l. ap (int_cmp (f x)) (sym same) ∙ int_cmp_total.antisymm (f x) (f node) ∙ ap ordering_reverse l) e.back p.behind;
       }
 
   -- ---- the place of a key
@@ -174,9 +174,9 @@ module _ (f : ℕ → ℤ) where
   no_place k [] h = refl
   no_place k (x ∷ xs) h = past (same_int k) (f x) (map f xs) (differs k x h.0) ∙ ap (option_map suc) (no_place k xs h.1)
 
-  pub place_after : (k : ℤ) (front : List ℕ) (node : ℕ) (back : List ℕ) → Before k front → int_cmp (f node) k ≡ Equal → key_place (map f (front ++ node ∷ back)) k ≡ Some (length front)
-  place_after k [] node back h e = here (same_int k) (f node) (map f back) (equals k node e)
-  place_after k (x ∷ front) node back h e = past (same_int k) (f x) (map f (front ++ node ∷ back)) (differs k x (λ same. let both : Less ≡ Equal = sym h.0 ∙ same in cc)) ∙ ap (option_map suc) (place_after k front node back h.1 e)
+  pub place_behind : (k : ℤ) (front : List ℕ) (node : ℕ) (back : List ℕ) → Before k front → int_cmp (f node) k ≡ Equal → key_place (map f (front ++ node ∷ back)) k ≡ Some (length front)
+  place_behind k [] node back h e = here (same_int k) (f node) (map f back) (equals k node e)
+  place_behind k (x ∷ front) node back h e = past (same_int k) (f x) (map f (front ++ node ∷ back)) (differs k x (λ same. let both : Less ≡ Equal = sym h.0 ∙ same in cc)) ∙ ap (option_map suc) (place_behind k front node back h.1 e)
 
   -- ---- what a search finds
 
@@ -261,35 +261,35 @@ module _ (f : ℕ → ℤ) where
   map_long [] = refl
   map_long (x ∷ xs) = ap suc (map_long xs)
 
-  after_tests : (k : ℤ) (back : List ℕ) → Following k back → AllByRecursion (λ x. int_lt (f x) k ≡ false) back
+  after_tests : (k : ℤ) (back : List ℕ) → After k back → AllByRecursion (λ x. int_lt (f x) k ≡ false) back
   after_tests k back h = each_weaker _ _ (λ x e. (greater_tests (f x) k e).0) back h
 
   inserted_at : (xs front back : List ℤ) (k : ℤ) (n : ℕ) → xs ≡ front ++ back → n ≡ length front → insert xs n k ≡ front ++ k ∷ back
   inserted_at xs front back k n e m = ap (λ ys. insert ys n k) e ∙ ap (λ i. insert (front ++ back) i k) m ∙ ap (λ ys. ys ++ k ∷ drop (length front) (front ++ back)) (taken front back) ∙ ap (λ ys. front ++ k ∷ ys) (dropped front back)
 
   -- the numbers with one more
-  pub more_keys : (k : ℤ) (node : ℕ) (front back : List ℕ) → f node ≡ k → Before k front → Following k back
+  pub more_keys : (k : ℤ) (node : ℕ) (front back : List ℕ) → f node ≡ k → Before k front → After k back
       → insert (map f (front ++ back)) (keys_below (map f (front ++ back)) k) k ≡ map f (front ++ node ∷ back)
   more_keys k node front back e low high =
       inserted_at (map f (front ++ back)) (map f front) (map f back) k (keys_below (map f (front ++ back)) k) (map_parts front back) (below_front k front back low (after_tests k back high) ∙ sym (map_long front))
       ∙ ap (λ n. map f front ++ n ∷ map f back) (sym e) ∙ sym (map_parts front (node ∷ back))
 
-  pub place_of_more : (k : ℤ) (front back : List ℕ) → Before k front → Following k back → keys_below (map f (front ++ back)) k ≡ length front
+  pub place_of_more : (k : ℤ) (front back : List ℕ) → Before k front → After k back → keys_below (map f (front ++ back)) k ≡ length front
   place_of_more k front back low high = below_front k front back low (after_tests k back high)
 
   -- where a node comes among the others
-  comes_here : (node : ℕ) (back : List ℕ) → Following (f node) back → with_node by node back ≡ node ∷ back
+  comes_here : (node : ℕ) (back : List ℕ) → After (f node) back → with_node by node back ≡ node ∷ back
   comes_here node [] h = refl
   comes_here node (x ∷ xs) h = let e : is_lt (int_cmp (f node) (f x)) ≡ true = ap is_lt (less_of_greater (f x) (f node) h.0) in rw e refl
 
-  pub comes_between : (node : ℕ) (front back : List ℕ) → Before (f node) front → Following (f node) back → with_node by node (front ++ back) ≡ front ++ node ∷ back
+  pub comes_between : (node : ℕ) (front back : List ℕ) → Before (f node) front → After (f node) back → with_node by node (front ++ back) ≡ front ++ node ∷ back
   comes_between node [] back low high = comes_here node back high
   comes_between node (x ∷ front) back low high =
       let rest = comes_between node front back low.1 high in
       let e : is_lt (int_cmp (f node) (f x)) ≡ false = ap is_lt (int_cmp_total.antisymm (f node) (f x) ∙ ap ordering_reverse low.0) in
       rw e (ap (λ ys. x ∷ ys) rest)
 
-  ascend_before : (node : ℕ) (front back : List ℕ) → Ascend by (front ++ back) → Before (f node) front → Following (f node) back → Ascend by (front ++ node ∷ back)
+  ascend_before : (node : ℕ) (front back : List ℕ) → Ascend by (front ++ back) → Before (f node) front → After (f node) back → Ascend by (front ++ node ∷ back)
   ascend_before node [] back a low high = (each_weaker _ _ (λ x e. less_of_greater (f x) (f node) e) back high, a)
   ascend_before node (x ∷ front) back a low high =
       (each_joined_with x node front back low.0 a.0, ascend_before node front back a.1 low.1 high)
@@ -299,7 +299,7 @@ module _ (f : ℕ → ℤ) where
       each_joined_with x node (y ∷ front) back e h = (h.0, each_joined_with x node front back e h.1)
 
   -- the numbers still ascend
-  pub ascends_with : (node : ℕ) (front back : List ℕ) → Ascend by (front ++ back) → Before (f node) front → Following (f node) back → IsAscending (map f (front ++ node ∷ back))
+  pub ascends_with : (node : ℕ) (front back : List ℕ) → Ascend by (front ++ back) → Before (f node) front → After (f node) back → IsAscending (map f (front ++ node ∷ back))
   ascends_with node front back a low high = ascending_of (front ++ node ∷ back) (ascend_before node front back a low high)
 
   ascend_less : (node : ℕ) (front back : List ℕ) → Ascend by (front ++ node ∷ back) → Ascend by (front ++ back)

@@ -13,7 +13,7 @@ use Rattle.seg_map.specs.Maps.{value_of}
 use Rattle.seg_spec.proofs.Frame.{SamePlace}
 use Rattle.seg_spec.proofs.OneReading.{Opens-one}
 use Rattle.seg_spec.proofs.Leading.{Leads-each}
-use Rattle.seg_map.proofs.TreeMaps.{IsTreeMap, mapped_at}
+use Rattle.seg_map.proofs.TreeMaps.{IsTreeMap, same_form, mapped_at}
 
 -- where the values of nodes stand
 abbrev pub value_places : ℕ → List ℕ → List Place
@@ -112,9 +112,6 @@ key_by keys (Selector.key k) i e = (k, refl, e)
 key_by keys (Selector.item n) i e = cc
 key_by keys (Selector.field n) i e = cc
 key_by keys Selector.content i e = cc
-
-same_form : (f g : Form) → Some f ≡ Some g → f ≡ g
-same_form f g e = cc
 
 module _ (old new : List ℕ) (table : Table) (valid : IsTable table) (place : Place) (U : ℕ) (keys : List ℤ) (vs : Values) (blocks : List ℕ) (f : form_at table place.type ≡ Some (Form.map U)) (m : IsTreeMap old table place U keys vs blocks)
     (same : AllByRecursion (SamePlace old new table) (value_places U (nodes_of m.opens.tree))) (kept : AllByRecursion (KeepsBlock old new) m.owned) where

@@ -49,7 +49,7 @@ pub record IsTreeMap (bytes : List ℕ) (table : Table) (place : Place) (U : ℕ
   pub each : HoldsEach bytes table (places_of U (map (λ p. p + 24) (nodes_of opens.tree))) vs owned
   pub blocks_are : blocks ≡ map block_of (nodes_of opens.tree) ++ owned
 
-same_form : (f g : Form) → Some f ≡ Some g → f ≡ g
+pub same_form : (f g : Form) → Some f ≡ Some g → f ≡ g
 same_form f g e = cc
 
 values_of : Value → Values

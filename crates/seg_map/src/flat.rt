@@ -156,7 +156,8 @@ pub(crate) fn next_key<F: Fit, A: Allocator>(
     after: i64,
 ) -> Option<i64>
     ensures { WhereMap Form.flat_map F.allocator heap.now.window.bytes heap.now.types cell
-        (λ T U keys vs blocks. IsEntryOf heap.now.types 8 U entry → result ≡ first_of (keys_above keys after)) }
+        (λ T U keys vs blocks. IsEntryOf heap.now.types 8 U entry →
+        result ≡ first_of (keys_above keys after)) }
 {
     let index = match search(heap, entry, cell, after) {
         Ok(index) => index.saturating_add(1),
