@@ -136,7 +136,7 @@ module _ (f : ℕ → ℤ) where
         nodes_are = e.nodes_are;
         low = each_weaker _ _ (λ x l. ap (int_cmp (f x)) (sym same) ∙ l) e.front p.before;
         is = e.equals;
-        high = each_weaker _ _ (λ x l. ap (int_cmp (f x)) (sym same) ∙ int_cmp_total.antisymm (f x) (f node) ∙ ap ordering_reverse l) e.back p.behind;
+        high = each_weaker _ _ (λ x l. ap (int_cmp (f x)) (sym same) ∙ int_cmp_total.antisymm (f x) (f node) ∙ ap ordering_reverse l) e.back p.following;
       }
 
   -- ---- the place of a key
@@ -174,9 +174,9 @@ module _ (f : ℕ → ℤ) where
   no_place k [] h = refl
   no_place k (x ∷ xs) h = past (same_int k) (f x) (map f xs) (differs k x h.0) ∙ ap (option_map suc) (no_place k xs h.1)
 
-  pub place_behind : (k : ℤ) (front : List ℕ) (node : ℕ) (back : List ℕ) → Before k front → int_cmp (f node) k ≡ Equal → key_place (map f (front ++ node ∷ back)) k ≡ Some (length front)
-  place_behind k [] node back h e = here (same_int k) (f node) (map f back) (equals k node e)
-  place_behind k (x ∷ front) node back h e = past (same_int k) (f x) (map f (front ++ node ∷ back)) (differs k x (λ same. let both : Less ≡ Equal = sym h.0 ∙ same in cc)) ∙ ap (option_map suc) (place_behind k front node back h.1 e)
+  pub place_after : (k : ℤ) (front : List ℕ) (node : ℕ) (back : List ℕ) → Before k front → int_cmp (f node) k ≡ Equal → key_place (map f (front ++ node ∷ back)) k ≡ Some (length front)
+  place_after k [] node back h e = here (same_int k) (f node) (map f back) (equals k node e)
+  place_after k (x ∷ front) node back h e = past (same_int k) (f x) (map f (front ++ node ∷ back)) (differs k x (λ same. let both : Less ≡ Equal = sym h.0 ∙ same in cc)) ∙ ap (option_map suc) (place_after k front node back h.1 e)
 
   -- ---- what a search finds
 

@@ -17,7 +17,7 @@ use Rattle.seg_spec.specs.Sound.{times, positions}
 use Rattle.seg_spec.specs.Owning.{Stands}
 use Rattle.seg_spec.specs.Roots.{ChangesPlace}
 use Rattle.seg_spec.specs.Demand.{after_gives}
-use Rattle.seg_spec.specs.Spending.{PartBlocks, node_at}
+use Rattle.seg_spec.specs.Spending.{PartBlocks, item_node}
 use Rattle.seg_spec.proofs.SliceLaws.{IsSame-trans}
 use Rattle.seg_spec.proofs.TypesLaws.{size-form}
 use Rattle.seg_spec.proofs.Giving.{found}
@@ -105,7 +105,7 @@ module _ (allocator : ℕ) (old : List ℕ) (table : Table) (place : Place) (U :
   each_node = are_nodes allocator old table place U keys vs blocks f s
 
   touched_by : (x : ℕ) → IsNode allocator old table place U keys vs blocks f s x → IsTouched old s.home x
-  touched_by x n = record { behind_header = n.behind_header; is_live = n.is_live; other = owned_other allocator old table place (Map keys vs) blocks s (block_of x) n.owned }
+  touched_by x n = record { after_header = n.after_header; is_live = n.is_live; other = owned_other allocator old table place (Map keys vs) blocks s (block_of x) n.owned }
 
   each_touched : AllByRecursion (IsTouched old s.home) ns
   each_touched = each_weaker _ _ touched_by ns each_node
@@ -168,7 +168,7 @@ module _ (allocator : ℕ) (old : List ℕ) (table : Table) (place : Place) (U :
   stands_there [] = refl
   stands_there (x ∷ xs) = stands_there xs
 
-  gives_are : block_of node ∷ k.zs ≡ node_at (Form.map U) m.opened.blocks i ++ k.zs
+  gives_are : block_of node ∷ k.zs ≡ item_node (Form.map U) m.opened.blocks i ++ k.zs
   gives_are =
       let at : slice_get m.opened.blocks i ≡ Some (block_of node) = ap (λ (bs : List ℕ). slice_get bs i) (ap (λ (r : Opened). r.blocks) m.opens.opened_is ∙ ap (map block_of) a.nodes_are)
       ∙ mapped_at block_of (a.front ++ node ∷ a.back) i node (stands_there a.front) in
@@ -213,12 +213,12 @@ module _ (allocator : ℕ) (old : List ℕ) (table : Table) (place : Place) (U :
     live_mid h = ap (λ bs. times h (positions bs)) made.live_is
 
     content_same : (x : ℕ) → IsNode allocator old table place U keys vs blocks f s x → (p q : ℕ) → x + 16 ≤ p → p + q ≤ x + (24 + size table U) → IsSame old mid p q
-    content_same x d p q b c = let t = touched_by x d in made.content x p q t.behind_header t.is_live t.other b (let r = d.room in omega arith)
+    content_same x d p q b c = let t = touched_by x d in made.content x p q t.after_header t.is_live t.other b (let r = d.room in omega arith)
 
     block_now : (x : ℕ) → IsNode allocator old table place U keys vs blocks f s x → IsBlock old x (tag_of Kind.node place.type) (24 + size table U) → IsBlock mid x (tag_of Kind.node place.type) (24 + size table U)
     block_now x d b =
         let h = (made.header (block_of x) d.is_live).0 in
-        record { behind_header = b.behind_header; live = h.live ∙ b.live; has_tag = h.has_tag ∙ b.has_tag; room = let r = b.room in let q = h.room in omega arith }
+        record { after_header = b.after_header; live = h.live ∙ b.live; has_tag = h.has_tag ∙ b.has_tag; room = let r = b.room in let q = h.room in omega arith }
 
     blocks_now : AreNodes mid (tag_of Kind.node place.type) (24 + size table U) (nodes_of made.tree)
     blocks_now = subst (AreNodes mid (tag_of Kind.node place.type) (24 + size table U)) (sym made.nodes_are) (among (λ x. IsBlock mid x (tag_of Kind.node place.type) (24 + size table U))
@@ -339,7 +339,7 @@ module _ (allocator : ℕ) (old : List ℕ) (table : Table) (place : Place) (U :
     map_home = refl
 
     inside_node : IsInside mid (block_of node) (node + 24) (size table U)
-    inside_node = let back = its_node.behind_header in let room = its_node.room in let h = (made.header (block_of node) node_live).0.room in let two = (lies (block_of node) node_live).size in record { low = omega arith; high = omega arith }
+    inside_node = let back = its_node.after_header in let room = its_node.room in let h = (made.header (block_of node) node_live).0.room in let two = (lies (block_of node) node_live).size in record { low = omega arith; high = omega arith }
 
     pub value_stands : Stands allocator mid table (value_of U (node + 24)) k.value k.zs
     value_stands = record {
@@ -348,7 +348,7 @@ module _ (allocator : ℕ) (old : List ℕ) (table : Table) (place : Place) (U :
       is_table = s.is_table;
       ownable = ownable_mid;
       holds_it = value_mid;
-      aligned = let back = its_node.behind_header in let even = (lies (block_of node) node_live).aligned in omega arith;
+      aligned = let back = its_node.after_header in let even = (lies (block_of node) node_live).aligned in omega arith;
       home = block_of node;
       inside = inside_node;
       owned = λ h. let x = live_mid h in let o = s.owned h in let b = shares h in let p = times-more h s.home blocks in omega arith;
