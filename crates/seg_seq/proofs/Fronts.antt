@@ -312,8 +312,8 @@ module _ (allocator : ℕ) (mid : List ℕ) (table : Table) (list : Place) (U no
   first_stands = leads_on new table list U f (cons v vs) turned l_new 0 node [] (value_in U node) refl here
 
 -- a list with one item more at its end, which the cell names then
-pub item_fronted : (allocator : ℕ) (old mid : List ℕ) (table : Table) (list : Place) (U at node : ℕ) (f : form_at table list.type ≡ Some (Form.list U)) (vs : Values) (v : Value) (blocks : List ℕ) (s : Stands allocator old table list (Seq vs) blocks)
-    (a : AddsItem allocator old mid table list U (append vs (cons v nil)) blocks (count vs) at (λ i. Some i)) → node ≡ (at + (2 ^ 32 - 8)) % 2 ^ 32 →
+pub item_fronted : (allocator : ℕ) (old mid : List ℕ) (table : Table) (list : Place) (U at node : ℕ) (f : form_at table list.type ≡ Some (Form.list U)) (vs : Values) (v : Value) (blocks : List ℕ)
+    (s : Stands allocator old table list (Seq vs) blocks) (a : AddsItem allocator old mid table list U (append vs (cons v nil)) blocks (count vs) at (λ i. Some i)) → node ≡ (at + (2 ^ 32 - 8)) % 2 ^ 32 →
     AddsItem allocator old (set_pointer mid list.at (Some node)) table list U (cons v vs) blocks 0 at (λ i. Some (suc i))
 item_fronted allocator old mid table list U at node f vs v blocks s a node_is =
     let t = stands_after allocator old mid table list (Seq vs) (Seq (append vs (cons v nil))) blocks a.others a.succeeds.left s a.succeeds.changes in

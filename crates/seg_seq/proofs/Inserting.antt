@@ -13,7 +13,7 @@ use Rattle.seg_spec.proofs.Frame.{IsRing-same, each_weaker}
 use Rattle.seg_spec.proofs.LiveLaws.{times-same, times-more, times-append, there, each_there}
 use Rattle.seg_spec.proofs.RingOwed.{last_of, last_named}
 use Rattle.seg_spec.proofs.Writing.{set_number-changes}
-use Rattle.seg_seq.specs.Rings.{linked_both, AreSpread, ChangesAt, HasRing, Relinks}
+use Rattle.seg_seq.specs.Rings.{coupled, AreSpread, ChangesAt, HasRing, Relinks}
 use Rattle.seg_seq.proofs.Joins.{AreAligned, word_other, target_other, names, joined_next, joined_second, joined_length, joined_linked, linked_to, linked_beside, linked_append, last_among}
 
 -- ---- places that are spread
@@ -57,7 +57,7 @@ changes_word old mid p at d places some low high c = record {
       (⊎_elim (λ l. inl (omega arith)) (λ r. inr (omega arith)) (there (λ z. Separate q m z 8) p places apart some)) ∙ c.others q m apart;
 }
 
-pub changes_joined : (old mid : List ℕ) (x y : ℕ) (places : List ℕ) → 1 ≤ times x places → 1 ≤ times y places → ChangesAt old mid places → ChangesAt old (linked_both mid x y) places
+pub changes_joined : (old mid : List ℕ) (x y : ℕ) (places : List ℕ) → 1 ≤ times x places → 1 ≤ times y places → ChangesAt old mid places → ChangesAt old (coupled mid x y) places
 changes_joined old mid x y places a b c =
     changes_word old (set_pointer mid x (Some y)) y (y + 4) (distance (y + 4) (Some x)) places b (omega arith) (omega arith)
     (changes_word old mid x x (distance x (Some y)) places a (omega arith) (omega arith) c)
@@ -89,7 +89,7 @@ ring_counted mid cell k others s r e =
       counted = sym (number-set_same 4 mid (cell + 4) k (omega arith) (omega arith) ∙ e);
     }
 
--- the joined nodes, before the cell counts them
+-- the coupled nodes, before the cell counts them
 pub record Inserted (old mid : List ℕ) (cell node : ℕ) (nodes : List ℕ) : Type 0 where
   pub changes : ChangesAt old mid (cell ∷ node ∷ nodes)
   pub ring : IsRing mid (target mid cell) (nodes ++ node ∷ [])
@@ -115,10 +115,10 @@ inserted_counted old mid cell node nodes s r i =
 -- ---- the first node
 
 pub inserted_first : (old : List ℕ) (cell node : ℕ) (nodes : List ℕ) → AreSpread old (cell ∷ node ∷ nodes) → HasRing old cell nodes → target old cell ≡ None →
-    Inserted old (set_pointer (linked_both old node node) cell (Some node)) cell node nodes
+    Inserted old (set_pointer (coupled old node node) cell (Some node)) cell node nodes
 inserted_first old cell node (x ∷ ys) s r e = let no : IsRing old None (x ∷ ys) = subst (λ t. IsRing old t (x ∷ ys)) e r.ring in absurd no
 inserted_first old cell node [] s r e =
-    let mid = linked_both old node node in
+    let mid = coupled old node node in
     let small = s.small in
     let at = s.fit.0 in
     let even = at.0 in
@@ -150,10 +150,10 @@ module _ (old : List ℕ) (cell node x : ℕ) (ys : List ℕ) (s : AreSpread old
   last = last_of x ys
 
   abbrev mid : List ℕ
-  mid = linked_both old (last_of x ys) node
+  mid = coupled old (last_of x ys) node
 
   abbrev new : List ℕ
-  new = linked_both (linked_both old (last_of x ys) node) node x
+  new = coupled (coupled old (last_of x ys) node) node x
 
   once_nodes : (h : ℕ) → times h (x ∷ ys) ≤ 1
   once_nodes = rest_once node (x ∷ ys) (rest_once cell (node ∷ x ∷ ys) s.once)
@@ -208,7 +208,7 @@ module _ (old : List ℕ) (cell node x : ℕ) (ys : List ℕ) (s : AreSpread old
   more_nodes : (q : ℕ) → 1 ≤ times q (x ∷ ys) → 1 ≤ times q (cell ∷ node ∷ x ∷ ys)
   more_nodes q some = more_places q (let m = times-more q node (x ∷ ys) in omega arith)
 
-  pub inserted_last : Inserted old (linked_both (linked_both old (last_of x ys) node) node x) cell node (x ∷ ys)
+  pub inserted_last : Inserted old (coupled (coupled old (last_of x ys) node) node x) cell node (x ∷ ys)
   inserted_last = record {
     changes = changes_joined old mid node x (cell ∷ node ∷ x ∷ ys) (more_places node node_some) (more_nodes x x_some)
         (changes_joined old old last node (cell ∷ node ∷ x ∷ ys) (more_nodes last last_some) (more_places node node_some) (changes_none old (cell ∷ node ∷ x ∷ ys)));
@@ -219,7 +219,7 @@ module _ (old : List ℕ) (cell node x : ℕ) (ys : List ℕ) (s : AreSpread old
 
 -- the same with what the code reads
 pub inserted_more : (old : List ℕ) (cell node first at last : ℕ) (nodes : List ℕ) → AreSpread old (cell ∷ node ∷ nodes) → HasRing old cell nodes → target old cell ≡ Some first → at ≡ (first + 4) % 2 ^ 32 →
-    last ≡ start old at → Inserted old (linked_both (linked_both old last node) node first) cell node nodes
+    last ≡ start old at → Inserted old (coupled (coupled old last node) node first) cell node nodes
 inserted_more old cell node first at last [] s r e at_is last_is = let no : IsRing old (Some first) [] = subst (λ t. IsRing old t []) e r.ring in absurd no
 inserted_more old cell node first at last (x ∷ ys) s r e at_is last_is =
     let ring : IsRing old (Some first) (x ∷ ys) = subst (λ t. IsRing old t (x ∷ ys)) e r.ring in

@@ -1,4 +1,4 @@
--- Nodes that are joined, and the rings that come of it.
+-- Nodes that are coupled, and the rings that come of it.
 use Rattle.std.proofs.Common.{◌≡◌, ◌≢◌, ℕ, ◌+◌, ◌%◌, ◌^◌, ◌<◌, ◌≤◌, ◌⊎◌, inl, inr, ⊎_elim, List, [], ◌∷◌, ◌++◌, length, Some, refl, sym, ◌∙◌, subst, arith}
 use Rattle.std.specs.List.{AllByRecursion}
 use Rattle.std.proofs.lemmas.Bool.{cases_lt}
@@ -12,7 +12,7 @@ use Rattle.seg_spec.proofs.PointerLaws.{target-set_same, target-same as word_tar
 use Rattle.seg_spec.proofs.LiveLaws.{times-same, times-more}
 use Rattle.seg_spec.proofs.RingOwed.{last_of}
 use Rattle.seg_spec.proofs.Writing.{set_number-changes}
-use Rattle.seg_seq.specs.Rings.{linked_both}
+use Rattle.seg_seq.specs.Rings.{coupled}
 
 -- ---- single words
 
@@ -28,36 +28,36 @@ target_other bytes at d q ha hq ne = word_target bytes (set_word bytes at d) q (
 pub names : (bytes : List ℕ) (at to : ℕ) → length bytes ≤ 2 ^ 30 → at + 4 ≤ length bytes → at % 4 ≡ 0 → to % 4 ≡ 0 → to < 2 ^ 32 → target (set_pointer bytes at (Some to)) at ≡ Some to
 names bytes at to small fits ha ht low = target-set_same bytes at (Some to) fits (omega arith) (λ t e. let same : to ≡ t = cc in (omega arith, λ odd. omega arith))
 
--- ---- two nodes that are joined
+-- ---- two nodes that are coupled
 
 module _ (bytes : List ℕ) (x y : ℕ) (hx : x % 8 ≡ 0) (hy : y % 8 ≡ 0) where
   first : List ℕ
   first = set_pointer bytes x (Some y)
 
-  pub joined_next : (u : ℕ) → u % 8 ≡ 0 → u ≢ x → target (linked_both bytes x y) u ≡ target bytes u
+  pub joined_next : (u : ℕ) → u % 8 ≡ 0 → u ≢ x → target (coupled bytes x y) u ≡ target bytes u
   unfolding first
   joined_next u hu ne =
       target_other first (y + 4) (distance (y + 4) (Some x)) u (omega arith) (omega arith) (λ e. omega arith)
       ∙ target_other bytes x (distance x (Some y)) u (omega arith) (omega arith) (λ e. ne (sym e))
 
-  pub joined_second : (v : ℕ) → v % 8 ≡ 0 → v ≢ y → word (linked_both bytes x y) (v + 4) ≡ word bytes (v + 4)
+  pub joined_second : (v : ℕ) → v % 8 ≡ 0 → v ≢ y → word (coupled bytes x y) (v + 4) ≡ word bytes (v + 4)
   unfolding first
   joined_second v hv ne =
       word_other first (y + 4) (distance (y + 4) (Some x)) (v + 4) (omega arith) (omega arith) (λ e. ne (omega arith))
       ∙ word_other bytes x (distance x (Some y)) (v + 4) (omega arith) (omega arith) (λ e. omega arith)
 
-  pub joined_previous : (v : ℕ) → v % 8 ≡ 0 → v ≢ y → target (linked_both bytes x y) (v + 4) ≡ target bytes (v + 4)
-  joined_previous v hv ne = word_target bytes (linked_both bytes x y) (v + 4) (joined_second v hv ne)
+  pub joined_previous : (v : ℕ) → v % 8 ≡ 0 → v ≢ y → target (coupled bytes x y) (v + 4) ≡ target bytes (v + 4)
+  joined_previous v hv ne = word_target bytes (coupled bytes x y) (v + 4) (joined_second v hv ne)
 
-  pub joined_length : length (linked_both bytes x y) ≡ length bytes
+  pub joined_length : length (coupled bytes x y) ≡ length bytes
   joined_length = length-set_number 4 (set_pointer bytes x (Some y)) (y + 4) (distance (y + 4) (Some x)) ∙ length-set_number 4 bytes x (distance x (Some y))
 
-  pub joined_others : (q m : ℕ) → Separate q m x 8 → Separate q m y 8 → IsSame bytes (linked_both bytes x y) q m
+  pub joined_others : (q m : ℕ) → Separate q m x 8 → Separate q m y 8 → IsSame bytes (coupled bytes x y) q m
   joined_others q m a b =
       (set_number-changes 4 (set_pointer bytes x (Some y)) (y + 4) (distance (y + 4) (Some x))).others q m (⊎_elim (λ l. inl (omega arith)) (λ r. inr (omega arith)) b)
       ∙ (set_number-changes 4 bytes x (distance x (Some y))).others q m (⊎_elim (λ l. inl (omega arith)) (λ r. inr (omega arith)) a)
 
-  pub joined_linked : length bytes ≤ 2 ^ 30 → x + 8 ≤ length bytes → y + 8 ≤ length bytes → AreLinked (linked_both bytes x y) x y
+  pub joined_linked : length bytes ≤ 2 ^ 30 → x + 8 ≤ length bytes → y + 8 ≤ length bytes → AreLinked (coupled bytes x y) x y
   unfolding first
   joined_linked small fx fy =
       let long = length-set_number 4 bytes x (distance x (Some y)) in
@@ -99,21 +99,21 @@ absent_rest : (a x : ℕ) (xs : List ℕ) → times a (x ∷ xs) ≡ 0 → times
 absent_rest a x xs none = let m = times-more a x xs in omega arith
 
 module _ (bytes : List ℕ) (a b : ℕ) (ha : a % 8 ≡ 0) (hb : b % 8 ≡ 0) where
-  kept : (u v : ℕ) → u % 8 ≡ 0 → v % 8 ≡ 0 → u ≢ a → v ≢ b → AreLinked bytes u v → AreLinked (linked_both bytes a b) u v
+  kept : (u v : ℕ) → u % 8 ≡ 0 → v % 8 ≡ 0 → u ≢ a → v ≢ b → AreLinked bytes u v → AreLinked (coupled bytes a b) u v
   kept u v hu hv n m l = record { next = joined_next bytes a b ha hb u hu n ∙ l.next; previous = joined_previous bytes a b ha hb v hv m ∙ l.previous }
 
-  -- a chain beside the two nodes that are joined
-  pub linked_beside : (z x : ℕ) (ys : List ℕ) → z % 8 ≡ 0 → AreAligned (x ∷ ys) → times a (x ∷ ys) ≡ 0 → times b ys ≡ 0 → z ≢ b → IsLinked bytes z x ys → IsLinked (linked_both bytes a b) z x ys
+  -- a chain beside the two nodes that are coupled
+  pub linked_beside : (z x : ℕ) (ys : List ℕ) → z % 8 ≡ 0 → AreAligned (x ∷ ys) → times a (x ∷ ys) ≡ 0 → times b ys ≡ 0 → z ≢ b → IsLinked bytes z x ys → IsLinked (coupled bytes a b) z x ys
   linked_beside z x [] hz hs na nb ne l = kept x z hs.0 hz (absent_other a x [] na) ne l
   linked_beside z x (y ∷ ys) hz hs na nb ne l = (
     kept x y hs.0 hs.1.0 (absent_other a x (y ∷ ys) na) (absent_other b y ys nb) l.0,
     linked_beside z y ys hz hs.1 (absent_rest a x (y ∷ ys) na) (absent_rest b y ys nb) ne l.1,
   )
 
-  -- a chain whose last node is joined to another one
+  -- a chain whose last node is coupled to another one
   pub linked_to : length bytes ≤ 2 ^ 30 → a + 8 ≤ length bytes → b + 8 ≤ length bytes → (z x : ℕ) (ys : List ℕ) → a ≡ last_of x ys → AreAligned (x ∷ ys) → ((h : ℕ) → times h (x ∷ ys) ≤ 1) → times b ys ≡ 0 →
-      IsLinked bytes z x ys → IsLinked (linked_both bytes a b) b x ys
-  linked_to small fa fb z x [] e hs once nb l = subst (λ k. AreLinked (linked_both bytes a b) k b) e (joined_linked bytes a b ha hb small fa fb)
+      IsLinked bytes z x ys → IsLinked (coupled bytes a b) b x ys
+  linked_to small fa fb z x [] e hs once nb l = subst (λ k. AreLinked (coupled bytes a b) k b) e (joined_linked bytes a b ha hb small fa fb)
   linked_to small fa fb z x (y ∷ ys) e hs once nb l = (
     kept x y hs.0 hs.1.0 other (absent_other b y ys nb) l.0,
     linked_to small fa fb z y ys e hs.1 (λ h. let o = once h in let m = times-more h x (y ∷ ys) in omega arith) (absent_rest b y ys nb) l.1,

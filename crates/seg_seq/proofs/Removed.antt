@@ -110,7 +110,8 @@ module _ (allocator : ℕ) (old one two new : List ℕ) (table : Table) (list : 
     c = cleared values.value values.its (item_stands allocator old table list U node xs ys f vs blocks l.owned s are_nodes blocks_are values one r)
 
     g : Gives allocator two new (block_of node)
-    g = given (two_heap allocator old table list U node xs ys f vs blocks l.owned s are_nodes blocks_are values one r two c) (node_live_still allocator old table list U node xs ys f vs blocks l.owned s are_nodes blocks_are values one r two c)
+    g = given (two_heap allocator old table list U node xs ys f vs blocks l.owned s are_nodes blocks_are values one r two c)
+        (node_live_still allocator old table list U node xs ys f vs blocks l.owned s are_nodes blocks_are values one r two c)
 
     abbrev ws : Values
     ws = append values.left values.right

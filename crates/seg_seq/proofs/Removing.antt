@@ -13,7 +13,7 @@ use Rattle.seg_spec.proofs.PointerLaws.{target-set_same}
 use Rattle.seg_spec.proofs.Frame.{IsRing-same, each_left, each_right}
 use Rattle.seg_spec.proofs.LiveLaws.{times-same, times-more, times-append, there}
 use Rattle.seg_spec.proofs.RingOwed.{last_of, last_named}
-use Rattle.seg_seq.specs.Rings.{linked_both, AreSpread, ChangesAt, HasRing, Relinks}
+use Rattle.seg_seq.specs.Rings.{coupled, AreSpread, ChangesAt, HasRing, Relinks}
 use Rattle.seg_seq.proofs.Joins.{word_other, target_other, names, joined_next, joined_second, joined_length, linked_to, linked_beside, linked_append, linked_split, last_among, chain_end}
 use Rattle.seg_seq.proofs.Inserting.{spread_part, aligned_of, first_once, rest_once, not_among, changes_none, changes_word, changes_joined, nodes_kept, ring_recounted}
 
@@ -30,10 +30,10 @@ pub record Unlinked (bytes : List ℕ) (cell node : ℕ) (before after : List �
   pub previous_is : target bytes (node + 4) ≡ Some previous
   pub next_among : 1 ≤ times next (before ++ node ∷ after)
   pub previous_among : 1 ≤ times previous (before ++ node ∷ after)
-  pub cell_kept : target (linked_both bytes previous next) cell ≡ target bytes cell
-  pub count_kept : count_at (linked_both bytes previous next) cell ≡ count_at bytes cell
-  pub ring : ((target bytes cell ≡ Some node) × IsRing (linked_both bytes previous next) (Some next) (before ++ after))
-      ⊎ ((target bytes cell ≢ Some node) × IsRing (linked_both bytes previous next) (target bytes cell) (before ++ after))
+  pub cell_kept : target (coupled bytes previous next) cell ≡ target bytes cell
+  pub count_kept : count_at (coupled bytes previous next) cell ≡ count_at bytes cell
+  pub ring : ((target bytes cell ≡ Some node) × IsRing (coupled bytes previous next) (Some next) (before ++ after))
+      ⊎ ((target bytes cell ≢ Some node) × IsRing (coupled bytes previous next) (target bytes cell) (before ++ after))
 
 module _ (bytes : List ℕ) (cell node : ℕ) (nodes : List ℕ) (s : AreSpread bytes (cell ∷ nodes)) where
   fits : (q : ℕ) → 1 ≤ times q nodes → (q % 8 ≡ 0) × (q + 8 ≤ length bytes)
@@ -46,10 +46,10 @@ module _ (bytes : List ℕ) (cell node : ℕ) (nodes : List ℕ) (s : AreSpread 
   once = rest_once cell nodes s.once
 
   module _ (previous next : ℕ) (some_previous : 1 ≤ times previous nodes) (some_next : 1 ≤ times next nodes) where
-    cell_names : target (linked_both bytes previous next) cell ≡ target bytes cell
+    cell_names : target (coupled bytes previous next) cell ≡ target bytes cell
     cell_names = joined_next bytes previous next (fits previous some_previous).0 (fits next some_next).0 cell s.fit.0.0 (cell_other previous some_previous)
 
-    cell_counts : count_at (linked_both bytes previous next) cell ≡ count_at bytes cell
+    cell_counts : count_at (coupled bytes previous next) cell ≡ count_at bytes cell
     cell_counts = joined_second bytes previous next (fits previous some_previous).0 (fits next some_next).0 cell s.fit.0.0 (cell_other next some_next)
 
 -- the first node of several
@@ -182,7 +182,7 @@ unlinked_between bytes cell node x xs y ys s r =
     let l1 = linked_to bytes (last_of x xs) y a.0 that.0 s.small a.1 that.1 node x xs refl f front no_y_after p.0 in
     let l2 = linked_beside bytes (last_of x xs) y a.0 that.0 x y ys f.0 b.1 no_last no_more_y apart p.1.1 in
     let named = (first bytes cell node x xs (y ∷ ys) s r).0 in
-    let ring = linked_append (linked_both bytes (last_of x xs) y) x xs y ys x l1 l2 in
+    let ring = linked_append (coupled bytes (last_of x xs) y) x xs y ys x l1 l2 in
     record {
       next = y;
       previous = last_of x xs;
@@ -286,7 +286,7 @@ module _ (old : List ℕ) (cell node : ℕ) (before after : List ℕ) (r : HasRi
             omega arith
 
     abbrev two : List ℕ
-    two = linked_both one u.previous u.next
+    two = coupled one u.previous u.next
 
     more : (q : ℕ) → 1 ≤ times q (before ++ node ∷ after) → 1 ≤ times q (cell ∷ before ++ node ∷ after)
     more q h = let m = times-more q cell (before ++ node ∷ after) in omega arith
@@ -328,24 +328,24 @@ module _ (old : List ℕ) (cell node : ℕ) (before after : List ℕ) (r : HasRi
     by_other (inr n) ne = record { changes = two_changes; ring = record { ring = rw u.cell_kept n.1; counted = sym (u.count_kept ∙ one_counts ∙ count_one) } }
 
     pub removed_first : (next previous at : ℕ) → at ≡ (node + 4) % 2 ^ 32 → next ≡ start (set_word old (cell + 4) k) node → previous ≡ start (set_word old (cell + 4) k) at → (b : Bool) →
-        b ≡ option_eq eqb (target (linked_both (set_word old (cell + 4) k) previous next) cell) (Some node) → b ≡ true →
-        Relinks old (set_pointer (linked_both (set_word old (cell + 4) k) previous next) cell (Some next)) cell (before ++ node ∷ after) (before ++ after)
+        b ≡ option_eq eqb (target (coupled (set_word old (cell + 4) k) previous next) cell) (Some node) → b ≡ true →
+        Relinks old (set_pointer (coupled (set_word old (cell + 4) k) previous next) cell (Some next)) cell (before ++ node ∷ after) (before ++ after)
     removed_first next previous at at_is next_is previous_is b b_is on =
         let e = next_same next next_is in
         let f = previous_same previous at at_is previous_is in
-        let named = option_test (target (linked_both one previous next) cell) node b b_is on in
-        let now = subst (λ n. target (linked_both one u.previous n) cell ≡ Some node) e (subst (λ p. target (linked_both one p next) cell ≡ Some node) f named) in
+        let named = option_test (target (coupled one previous next) cell) node b b_is on in
+        let now = subst (λ n. target (coupled one u.previous n) cell ≡ Some node) e (subst (λ p. target (coupled one p next) cell ≡ Some node) f named) in
         let r : Relinks old (set_pointer two cell (Some u.next)) cell (before ++ node ∷ after) (before ++ after) = by_first u.ring (sym u.cell_kept ∙ now) in
-        subst (λ n. Relinks old (set_pointer (linked_both one previous n) cell (Some n)) cell (before ++ node ∷ after) (before ++ after)) (sym e)
-        (subst (λ p. Relinks old (set_pointer (linked_both one p u.next) cell (Some u.next)) cell (before ++ node ∷ after) (before ++ after)) (sym f) r)
+        subst (λ n. Relinks old (set_pointer (coupled one previous n) cell (Some n)) cell (before ++ node ∷ after) (before ++ after)) (sym e)
+        (subst (λ p. Relinks old (set_pointer (coupled one p u.next) cell (Some u.next)) cell (before ++ node ∷ after) (before ++ after)) (sym f) r)
 
     pub removed_other : (next previous at : ℕ) → at ≡ (node + 4) % 2 ^ 32 → next ≡ start (set_word old (cell + 4) k) node → previous ≡ start (set_word old (cell + 4) k) at → (b : Bool) →
-        b ≡ option_eq eqb (target (linked_both (set_word old (cell + 4) k) previous next) cell) (Some node) → b ≡ false →
-        Relinks old (linked_both (set_word old (cell + 4) k) previous next) cell (before ++ node ∷ after) (before ++ after)
+        b ≡ option_eq eqb (target (coupled (set_word old (cell + 4) k) previous next) cell) (Some node) → b ≡ false →
+        Relinks old (coupled (set_word old (cell + 4) k) previous next) cell (before ++ node ∷ after) (before ++ after)
     removed_other next previous at at_is next_is previous_is b b_is off =
         let e = next_same next next_is in
         let f = previous_same previous at at_is previous_is in
-        let named = option_test_false node (target (linked_both one previous next) cell) b b_is off in
-        let both : linked_both one u.previous u.next ≡ linked_both one previous next = ap (λ p. linked_both one p u.next) (sym f) ∙ ap (linked_both one previous) (sym e) in
+        let named = option_test_false node (target (coupled one previous next) cell) b b_is off in
+        let both : coupled one u.previous u.next ≡ coupled one previous next = ap (λ p. coupled one p u.next) (sym f) ∙ ap (coupled one previous) (sym e) in
         let r : Relinks old two cell (before ++ node ∷ after) (before ++ after) = by_other u.ring (λ t. named (ap (λ m. target m cell) (sym both) ∙ u.cell_kept ∙ t)) in
         subst (λ m. Relinks old m cell (before ++ node ∷ after) (before ++ after)) both r

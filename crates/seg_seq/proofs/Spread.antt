@@ -69,11 +69,15 @@ module _ (allocator : ℕ) (old new : List ℕ) (places : List ℕ) (heap : IsHe
       turn (p ∷ ps) f = pair (tiles old) p ps (f p (omega (arith, Rattle.seg_spec.proofs.LiveLaws.times-same p ps))) (turn ps (λ q some. f q (omega (arith, Rattle.seg_spec.proofs.LiveLaws.times-more q p ps))))
 
   headers : AllByRecursion (λ t. AllByRecursion (Apart t.at 16) places) (tiles old)
-  headers = each_place (λ t p. Separate t.at 16 p 8) (λ p some. let w = there (HasHome old) p places homes some in each_weaker (Spot old w.home) (λ t. Separate t.at 16 p 8) (λ t s. header_apart t w.home p s w.inside) (tiles old) (all_spots w.home w.home_live))
+  headers = each_place (λ t p. Separate t.at 16 p 8) (λ p some.
+      let w = there (HasHome old) p places homes some in
+      each_weaker (Spot old w.home) (λ t. Separate t.at 16 p 8) (λ t s. header_apart t w.home p s w.inside) (tiles old) (all_spots w.home w.home_live))
 
   frees : AllByRecursion (λ t. AllByRecursion (λ p. t.live ≡ false → Separate (t.at + 16) 16 p 8) places) (tiles old)
   frees = each_place (λ t p. t.live ≡ false → Separate (t.at + 16) 16 p 8)
-      (λ p some. let w = there (HasHome old) p places homes some in each_weaker (Spot old w.home) (λ t. t.live ≡ false → Separate (t.at + 16) 16 p 8) (λ t s free. free_apart t w.home p s w.inside free) (tiles old) (all_spots w.home w.home_live))
+      (λ p some.
+      let w = there (HasHome old) p places homes some in
+      each_weaker (Spot old w.home) (λ t. t.live ≡ false → Separate (t.at + 16) 16 p 8) (λ t s free. free_apart t w.home p s w.inside free) (tiles old) (all_spots w.home w.home_live))
 
   gaps_free : gaps old ≡ free_of (tiles old)
   unfolding live

@@ -1,5 +1,5 @@
 -- Rings of nodes under the cell of a list, as the steps on them find and leave them.
---     linked_both bytes x y               the bytes once y is the node after x
+--     coupled bytes x y                   the bytes once y is the node after x
 --     AreSpread bytes places              8 bytes stand at each of these places, none of them twice
 --     ChangesAt old new places            nothing changed but the 8 bytes at each of these places
 --     HasRing bytes cell nodes            the cell names and counts these nodes
@@ -18,8 +18,8 @@ use Rattle.seg_seq.specs.declared.ring.Way.{Way}
 use Rattle.seg_seq.specs.declared.ring.Way.TheVariants as way
 
 -- x names y as the next node, and y names x as the previous one
-abbrev pub linked_both : List ℕ → ℕ → ℕ → List ℕ
-linked_both bytes x y = set_pointer (set_pointer bytes x (Some y)) (y + 4) (Some x)
+abbrev pub coupled : List ℕ → ℕ → ℕ → List ℕ
+coupled bytes x y = set_pointer (set_pointer bytes x (Some y)) (y + 4) (Some x)
 
 -- 8 bytes of a cell or of a node's links stand at each of these places, which are a segment's
 pub record AreSpread (bytes : List ℕ) (places : List ℕ) : Type 0 where

@@ -3,7 +3,7 @@
 ghost use Rattle.std.specs.Prelude.{◌≡◌, ℕ, ◌<◌, ◌≤◌, List, [], ◌∷◌, ◌++◌, length, slice_index};
 ghost use Rattle.seg_spec.specs.Reads.{start};
 ghost use Rattle.seg_spec.specs.Window.{with_bytes, KeepsHost};
-ghost use Rattle.seg_seq.specs.Rings.{linked_both, AreSpread, HasRing, Relinks, link_of, around};
+ghost use Rattle.seg_seq.specs.Rings.{coupled, AreSpread, HasRing, Relinks, link_of, around};
 
 use seg_block::Fit;
 use seg_ptr::Window;
@@ -61,7 +61,7 @@ pub(crate) fn node_at<F: Fit, A: Allocator>(heap: &Heap<F, A>, cell: u32, index:
 
 /// Makes one node the next of another.
 fn join<A: Allocator>(w: &mut Window<A>, node: u32, next: u32)
-    ensures { w.new ≡ with_bytes w.old (linked_both w.old.bytes node next) }
+    ensures { w.new ≡ with_bytes w.old (coupled w.old.bytes node next) }
 {
     w.point(node as usize, Some(next));
     w.point(next as usize + PREVIOUS as usize, Some(node));

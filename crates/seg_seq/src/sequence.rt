@@ -1,7 +1,7 @@
-ghost use Rattle.std.specs.Prelude.{◌≡◌, ℕ, ◌+◌, ◌-◌, ◌<◌, ◌≤◌, ◌↔◌, List, [], ◌∷◌, length, take, Some, None, true, false, Err, IsTrue, MatchResult};
-ghost use Rattle.seg_spec.specs.Reads.{count_at};
+ghost use Rattle.std.specs.Prelude.{◌≡◌, ℕ, ◌+◌, ◌-◌, ◌*◌, ◌%◌, ◌^◌, ◌<◌, ◌≤◌, ◌↔◌, List, [], ◌∷◌, length, take, Some, None, true, false, Ok, Err, IsTrue, MatchResult};
 ghost use Rattle.seg_spec.specs.Demand.{block_for};
 ghost use Rattle.seg_spec.specs.Items.{without_last};
+ghost use Rattle.seg_spec.specs.Reads.{count_at, start};
 ghost use Rattle.seg_spec.specs.Types.{Form, form_at, size};
 ghost use Rattle.seg_spec.specs.Value.{Values, nil, cons, count, append, default_of, Text};
 ghost use Rattle.seg_spec.specs.Window.{KeepsHost};
@@ -17,8 +17,9 @@ use seg_raw::Code;
 use seg_value::{Content, Heap, Held, Place, Shape};
 use std::alloc::Allocator;
 
-/// The position of an item of a vector or a list, or of a byte of a string. `OtherType` where the place has no items,
-/// `OutOfRange` where there are not so many.
+/// The position of an item of a vector or a list, of a byte of a string, or of the value at an index of a flat map.
+/// `OtherType` where the place counts nothing, `OutOfRange` where it counts no more, `OtherType` where what it counts has no
+/// index.
 pub fn at<F: Fit, A: Allocator>(heap: &Heap<F, A>, sequence: Place, index: u32) -> Result<u32, Code>
     ensures text { (xs blocks : List ℕ) →
         HasText F.allocator heap.now (place_of sequence) xs blocks →
@@ -32,6 +33,11 @@ pub fn at<F: Fit, A: Allocator>(heap: &Heap<F, A>, sequence: Place, index: u32) 
         HasList F.allocator heap.now (place_of sequence) U vs blocks →
         MatchResult result
         (ShowsItem heap.now (place_of sequence) U index) (IsPast index (count vs)) }
+    ensures flat { (U : ℕ) →
+        form_at heap.now.types sequence.type_id ≡ Some (Form.flat_map U) →
+        index < count_at heap.now.window.bytes sequence.at →
+        result ≡ Ok ((start heap.now.window.bytes sequence.at
+        + index * (8 + size heap.now.types U) + 8) % 2 ^ 32) }
     ensures other { is_countless (form_at heap.now.types sequence.type_id) ≡ true →
         result ≡ Err Code.OtherType }
     ensures past { is_countless (form_at heap.now.types sequence.type_id) ≡ false →
@@ -116,8 +122,8 @@ fn push_entry<F: Fit, A: Allocator>(
     Ok(content.entry.value_at(start, kept))
 }
 
-/// Destroys the last item of a vector or a list, or drops the last byte of a string. `OtherType` where the place has no
-/// items, `Null` where there is no item.
+/// Destroys the last item of a vector or a list, or drops the last byte of a string. `OtherType` where the place counts
+/// nothing, `Null` where it counts none, `OtherType` where what it counts has no order.
 pub fn pop_back<F: Fit, A: Allocator>(heap: &mut Heap<F, A>, sequence: Place) -> Result<(), Code>
     ensures window { KeepsHost heap.old.window heap.new.window }
     ensures types { heap.new.types ≡ heap.old.types }

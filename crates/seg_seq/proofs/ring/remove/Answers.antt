@@ -3,7 +3,7 @@ use Rattle.std.specs.Option.{option_eq}
 use Rattle.seg_spec.specs.Pointer.{target, set_pointer}
 use Rattle.seg_spec.specs.Reads.{count_at, start}
 use Rattle.seg_spec.specs.Window.{Placement}
-use Rattle.seg_seq.specs.Rings.{linked_both}
+use Rattle.seg_seq.specs.Rings.{coupled}
 use Rattle.seg_seq.proofs.Removing.{removed_only, removed_first, removed_other}
 use Rattle.seg_seq.proofs.ring.remove.Goals as goal
 
@@ -32,7 +32,7 @@ returns-then-eq-clause-removed g c = λ before after r s.
     let first = ap bytes c.set_count.ensures.window in
     let next_is = c.neighbour-next.ensures ∙ ap (λ b. start b node) first in
     let previous_is = c.neighbour-prev.ensures ∙ ap (λ b. start b ((node + 4) % 2 ^ 32)) first in
-    let then = ap bytes c.join.ensures ∙ ap (λ (p : Placement). linked_both p.bytes previous next) c.window_mut-w.ensures.value ∙ ap (λ b. linked_both b previous next) first in
+    let then = ap bytes c.join.ensures ∙ ap (λ (p : Placement). coupled p.bytes previous next) c.window_mut-w.ensures.value ∙ ap (λ b. coupled b previous next) first in
     let test = c.eq.ensures ∙ ap (λ t. option_eq eqb t (Some node)) c.target.ensures ∙ ap (λ b. option_eq eqb (target b cell) (Some node)) then in
     let is = ap bytes c.point-then-eq.ensures ∙ ap (λ b. set_pointer b cell (Some next)) then in
     rw is (removed_first old cell node before after r s k k_is c.if-nodes-eq0.false next previous ((node + 4) % 2 ^ 32) refl next_is previous_is c.eq.result test c.if-eq.true)
@@ -50,6 +50,6 @@ returns-else-eq-clause-removed g c = λ before after r s.
     let first = ap bytes c.set_count.ensures.window in
     let next_is = c.neighbour-next.ensures ∙ ap (λ b. start b node) first in
     let previous_is = c.neighbour-prev.ensures ∙ ap (λ b. start b ((node + 4) % 2 ^ 32)) first in
-    let then = ap bytes c.join.ensures ∙ ap (λ (p : Placement). linked_both p.bytes previous next) c.window_mut-w.ensures.value ∙ ap (λ b. linked_both b previous next) first in
+    let then = ap bytes c.join.ensures ∙ ap (λ (p : Placement). coupled p.bytes previous next) c.window_mut-w.ensures.value ∙ ap (λ b. coupled b previous next) first in
     let test = c.eq.ensures ∙ ap (λ t. option_eq eqb t (Some node)) c.target.ensures ∙ ap (λ b. option_eq eqb (target b cell) (Some node)) then in
     rw then (removed_other old cell node before after r s k k_is c.if-nodes-eq0.false next previous ((node + 4) % 2 ^ 32) refl next_is previous_is c.eq.result test c.if-eq.false)
