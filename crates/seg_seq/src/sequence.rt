@@ -1,7 +1,7 @@
 ghost use Rattle.std.specs.Prelude.{◌≡◌, ℕ, ◌+◌, ◌-◌, ◌*◌, ◌%◌, ◌^◌, ◌<◌, ◌≤◌, ◌↔◌, List, [], ◌∷◌, length, take, Some, None, true, false, Ok, Err, IsTrue, MatchResult};
+ghost use Rattle.seg_spec.specs.Reads.{count_at, start};
 ghost use Rattle.seg_spec.specs.Demand.{block_for};
 ghost use Rattle.seg_spec.specs.Items.{without_last};
-ghost use Rattle.seg_spec.specs.Reads.{count_at, start};
 ghost use Rattle.seg_spec.specs.Types.{Form, form_at, size};
 ghost use Rattle.seg_spec.specs.Value.{Values, nil, cons, count, append, default_of, Text};
 ghost use Rattle.seg_spec.specs.Window.{KeepsHost};
