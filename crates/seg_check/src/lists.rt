@@ -4,11 +4,8 @@ use crate::bytes::Bytes;
 use crate::claims::Claims;
 use crate::fault::ContentFault;
 use crate::image::Image;
-use seg_value::{Content, LIST_LINKS};
+use seg_value::{Content, PREVIOUS};
 use std::alloc::Allocator;
-
-/// From a node to its pointer to the node before it, in bytes. The one to the next node comes first.
-const PREVIOUS: u32 = LIST_LINKS / 2;
 
 impl<A: Allocator> Image<'_, A> {
     /// A list: its nodes along next, and then whether they are a ring, in which each is the one before the next.

@@ -1,4 +1,4 @@
--- What calls on strings and vectors find and leave.
+-- What calls on sequences find and leave.
 --     HasText allocator heap place xs blocks      a string stands at a place, with this text
 --     HasItems allocator heap place U vs blocks   a vector stands at a place, with these items
 --     item_type form                              the type of the items of a vector or a list

@@ -7,11 +7,8 @@ ghost use Rattle.seg_seq.specs.Rings.{coupled, AreSpread, HasRing, Relinks, link
 
 use seg_block::Fit;
 use seg_ptr::Window;
-use seg_value::Heap;
+use seg_value::{Heap, PREVIOUS};
 use std::alloc::Allocator;
-
-/// Where a node points to the previous one, in bytes from its start.
-const PREVIOUS: u32 = 4;
 
 /// A way round the ring.
 #[derive(Debug, Clone, Copy, PartialEq, Eq)]
