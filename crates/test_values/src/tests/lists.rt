@@ -68,7 +68,11 @@ fn item<F: Fit>(s: &Segment<F>, index: u32) -> u32 {
 /// The item at an index and the one after it, round the ring, are neighbours.
 fn check_neighbours<F: Fit>(rt: &impl Abort, s: &Segment<F>, index: u32, n: usize) {
     let following = index.wrapping_add(1);
-    let after = if following as usize == n { 0 } else { following };
+    let after = if following as usize == n {
+        0
+    } else {
+        following
+    };
     assert_eq!(rt; next(&s.heap, item(s, index)), item(s, after));
     assert_eq!(rt; prev(&s.heap, item(s, after)), item(s, index));
 }
