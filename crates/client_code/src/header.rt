@@ -67,7 +67,8 @@ fn append_word<A: Allocator>(file: &mut Vec<u8, A>, word: u32) -> Result<(), All
 impl Header {
     /// The header of a file, or the position of the first field that is wrong or cut.
     pub fn read(file: &[u8]) -> Result<Header, Fault>
-        ensures found { IfOk result (λ h. IsFileHeader file.now h.types h.constants h.instructions) }
+        ensures found { IfOk result
+            (λ h. IsFileHeader file.now h.types h.constants h.instructions) }
         ensures wrong { IfErr result (λ fault. (t c i : ℕ) → t ≤ MOST_TYPES → c ≤ MOST_CONSTANTS →
             i ≤ MOST_INSTRUCTIONS → IsFileHeader file.now t c i → ⊥) }
         ensures fault { IfErr result (λ fault. (place : ℕ) × (fault ≡ Fault.BadCode place)

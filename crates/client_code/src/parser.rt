@@ -125,7 +125,8 @@ fn check_code(
 pub fn parse(file: &[u8]) -> Result<Client<'_>, Fault>
     ensures file { IfOk result (λ client. bytes_of client ≡ file.now) }
     ensures found { IfOk result (λ client. (tree : syntax.Client) × SpellsClient file.now tree) }
-    ensures wrong { IfErr result (λ fault. (tree : syntax.Client) → SpellsClient file.now tree → ⊥) }
+    ensures wrong { IfErr result (λ fault. (tree : syntax.Client) → SpellsClient file.now tree →
+        ⊥) }
     ensures fault { IfErr result (λ fault. (place : ℕ) × (fault ≡ Fault.BadCode place)) }
 {
     let header = Header::read(file)?;

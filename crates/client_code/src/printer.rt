@@ -80,7 +80,8 @@ fn print_code<A: Allocator>(text: &mut String<A>, client: &Client) -> Result<(),
 
 fn print_at<A: Allocator>(text: &mut String<A>, client: &Client, i: u32) -> Result<(), AllocError>
     ensures { OnOk result ((tree : syntax.Client) (instruction : syntax.Instruction) →
-        SpellsClient (bytes_of client.now) tree → slice_get (listing tree.code) i ≡ Some instruction →
+        SpellsClient (bytes_of client.now) tree →
+        slice_get (listing tree.code) i ≡ Some instruction →
         text.new.bytes.items ≡ text.old.bytes.items ++ ended_line (instruction_item instruction)) }
 {
     match client.instruction(i) {

@@ -141,7 +141,8 @@ impl<'a> Verifier<'a> {
     fn push(&mut self, part: Part)
         ensures types { self.new.types.now ≡ self.old.types.now }
         ensures inside { progress_of self.new
-            ≡ inside (registers_of self.old.registers) (open_part part (at_most (self.old.steps + 1)))
+            ≡ inside (registers_of self.old.registers)
+            (open_part part (at_most (self.old.steps + 1)))
             (progress_of self.old).parts }
     {
         let steps = self.steps.saturating_add(1);

@@ -40,7 +40,8 @@ pub trait Fit {
     fn allocate<A: Allocator>(w: &mut Window<A>, need: u32) -> Option<u32>
         requires { 2 ≤ need }
         ensures host { KeepsHost w.old w.new }
-        ensures takes { IsHeap allocator w.old.bytes → Takes allocator w.old.bytes w.new.bytes need result };
+        ensures takes { IsHeap allocator w.old.bytes →
+            Takes allocator w.old.bytes w.new.bytes need result };
 
     /// Gives a live block back. It joins the gaps beside it.
     fn free<A: Allocator>(w: &mut Window<A>, block: u32)
@@ -56,7 +57,8 @@ pub trait Fit {
         requires rest { (units ≡ block.units) ⊎ IsCut (block.units + room) units }
         ensures host { KeepsHost w.old w.new }
         ensures same { units ≡ block.units → w.new ≡ w.old }
-        ensures resized { IsHeap allocator w.old.bytes → IsLiveBlock w.old.bytes block.at block.units
+        ensures resized { IsHeap allocator w.old.bytes →
+            IsLiveBlock w.old.bytes block.at block.units
             → room ≡ room_after w.old.bytes block.at block.units
             → IsResized allocator w.old.bytes w.new.bytes block.at units };
 
@@ -78,7 +80,8 @@ pub trait Fit {
         ensures host { KeepsHost w.old w.new }
         ensures cuts { smallest ≤ length w.old.bytes → IsHeap allocator w.old.bytes
             → Cuts allocator w.old.bytes w.new.bytes result }
-        ensures unchanged { smallest < length w.old.bytes → IsHeap allocator w.old.bytes → result ≡ 0
+        ensures unchanged { smallest < length w.old.bytes → IsHeap allocator w.old.bytes →
+            result ≡ 0
             → w.new ≡ with_bytes w.old (set_word w.old.bytes SIZE (length w.old.bytes / UNIT)) };
 
     /// Gives a live block `need` units where it stands, or one more. False where the gap right after it is too small.

@@ -20,7 +20,8 @@ pub fn open<F: Fit, A: Allocator, B: Allocator>(
     ensures opened { IfOk result (λ segment. segment.window ≡ window) }
     ensures types { IfOk result (λ segment. IsTable segment.types × HasTable window.bytes 64 segment.types) }
     ensures header { OnOk result (HasHeader window.bytes × (word window.bytes 16 ≡ F.allocator)) }
-    ensures fault { IfErr result (λ refused. FitsFrontForOpening F.allocator window.bytes refused.0) }
+    ensures fault { IfErr result
+        (λ refused. FitsFrontForOpening F.allocator window.bytes refused.0) }
     ensures refused { IfErr result (λ refused. refused.1 ≡ window) }
 {
     match check(alloc, &window) {

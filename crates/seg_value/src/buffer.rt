@@ -100,7 +100,8 @@ impl<F: Fit, A: Allocator> Heap<F, A> {
             Stands F.allocator self.old.window.bytes self.old.types (place_at cell T) v blocks →
             MakesRoom F.allocator self.old.window.bytes self.new.window.bytes self.old.types
             (place_at cell T) v blocks content.now.entry.size limit result }
-        ensures reserves_index { FindsIndex F.allocator self.old.window.bytes self.old.types content.now cell →
+        ensures reserves_index { FindsIndex F.allocator self.old.window.bytes
+            self.old.types content.now cell →
             MakesIndexRoom F.allocator self.old.window.bytes self.new.window.bytes self.old.types
             limit result }
     {
@@ -144,7 +145,8 @@ impl<F: Fit, A: Allocator> Heap<F, A> {
             16 * units_named self.old.window.bytes cell - 16 < limit * content.now.entry.size →
             MakesRoom F.allocator self.old.window.bytes self.new.window.bytes self.old.types
             (place_at cell T) v blocks content.now.entry.size limit result }
-        ensures enlarges_index { FindsIndex F.allocator self.old.window.bytes self.old.types content.now cell →
+        ensures enlarges_index { FindsIndex F.allocator self.old.window.bytes
+            self.old.types content.now cell →
             16 * units_named self.old.window.bytes cell - 16 < limit * content.now.entry.size →
             MakesIndexRoom F.allocator self.old.window.bytes self.new.window.bytes self.old.types
             limit result }

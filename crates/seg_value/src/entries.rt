@@ -37,7 +37,8 @@ impl<F: Fit, A: Allocator> Heap<F, A> {
             (place_at cell T) U keys vs blocks index)
             (λ code. Refuses F.allocator self.old.window.bytes self.new.window.bytes
             (flat_asks self.old.window.bytes self.old.types cell U)) }
-        ensures opens_name { FindsIndex F.allocator self.old.window.bytes self.old.types content.now cell →
+        ensures opens_name { FindsIndex F.allocator self.old.window.bytes
+            self.old.types content.now cell →
             index ≤ count_at self.old.window.bytes cell →
             MatchResult result
             (OpensName F.allocator self.old.window.bytes self.new.window.bytes self.old.types index)
@@ -71,7 +72,8 @@ impl<F: Fit, A: Allocator> Heap<F, A> {
             ChangesPlace self.old.window.bytes self.new.window.bytes self.old.types
             (place_at cell T) (without_entry (keys, vs) index) blocks (live self.old.window.bytes)
             blocks blocks }
-        ensures closes_name { FindsIndex F.allocator self.old.window.bytes self.old.types content.now cell →
+        ensures closes_name { FindsIndex F.allocator self.old.window.bytes
+            self.old.types content.now cell →
             index < count_at self.old.window.bytes cell →
             ClosesName self.old.window.bytes self.new.window.bytes self.old.types index }
     {
