@@ -3,7 +3,9 @@
 
 `rt` builds libraries one after the other, and lets no other `rt` work on what one stands on. So here each library is built in a
 copy of the crates, over the libraries that it stands on, as soon as those are there; several are built at a time. `rt` then finds
-them where it would have put them, and has the program left. What is built and hasn't changed isn't built again."""
+them where it would have put them, and has the program left. What is built and hasn't changed isn't built again. A library holds
+what others may cite of it, as the gate's do, and not its proofs."""
+import os
 import shutil
 import subprocess
 import sys
@@ -38,6 +40,13 @@ def height(name, lists):
     return max((1 + height(it, lists) for it, listed in lists.items() if name in listed), default=0)
 
 
+def jobs(name, lists):
+    """How many jobs a crate's check gets: all processors where hardly another crate can be built beside it."""
+    program = [*below(PROGRAM, lists), PROGRAM]
+    beside = [it for it in program if it != name and it not in below(name, lists) and name not in below(it, lists)]
+    return ["--jobs", str(os.cpu_count())] if len(beside) <= 3 else []
+
+
 def library(root, name):
     return root / "crates" / name / "out" / "rlib"
 
@@ -60,7 +69,7 @@ def build(name, lists, room):
     # What most others wait for goes first.
     less = 2 * (max(height(it, lists) for it in below(PROGRAM, lists)) - height(name, lists))
     ran = subprocess.run(
-        ["nice", "-n", str(min(less, 19)), "rt", "lib"],
+        ["nice", "-n", str(min(less, 19)), "rt", "lib", "--statements", *jobs(name, lists)],
         cwd=here / "crates" / name,
         stdout=subprocess.PIPE,
         stderr=subprocess.STDOUT,
@@ -91,9 +100,11 @@ def build_libraries(lists):
 
 
 def main():
-    if not build_libraries(read_crates()):
+    lists = read_crates()
+    if not build_libraries(lists):
         return 1
-    return subprocess.run(["rt", "run", "--", "--help"], cwd=ROOT / "crates" / PROGRAM, stdout=subprocess.DEVNULL).returncode
+    words = ["rt", "run", *jobs(PROGRAM, lists), "--", "--help"]
+    return subprocess.run(words, cwd=ROOT / "crates" / PROGRAM, stdout=subprocess.DEVNULL).returncode
 
 
 if __name__ == "__main__":
