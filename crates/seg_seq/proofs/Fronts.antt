@@ -25,9 +25,7 @@ use Rattle.seg_spec.proofs.Standing.{stands_after}
 use Rattle.seg_spec.proofs.Leading.{Leads-each}
 use Rattle.seg_spec.proofs.Paths.{count_is}
 use Rattle.seg_seq.specs.Rings.{AreSpread, HasRing, link_of, around}
-use Rattle.seg_seq.specs.Lists.{IsList, AddsItem}
-use Rattle.seg_value.specs.Contents.{ContentOf}
-use Rattle.seg_value.specs.declared.content.Content.{Content}
+use Rattle.seg_seq.specs.Lists.{AddsItem}
 use Rattle.seg_seq.specs.declared.ring.Way.{Way}
 use Rattle.seg_seq.proofs.Joins.{names, linked_split}
 use Rattle.seg_seq.proofs.Removing.{ring_first}
@@ -408,7 +406,3 @@ remove_nth-last (cons v (cons w ws)) h =
     let rest = remove_nth-last (cons w ws) (omega arith) in
     let at : suc (suc (count ws)) - 1 ≡ suc (suc (count ws) - 1) = omega arith in
     ap (remove_nth (cons v (cons w ws))) at ∙ ap (cons v) rest
-
--- what the cell of a list names
-pub names_list : (table : Table) (T U : ℕ) (content : Content) (found : Option Content) → form_at table T ≡ Some (Form.list U) → ContentOf table T (form_at table T) found → found ≡ Some content → IsList table T U content
-names_list table T U content found f of e = record { form_is = f; content_is = subst (λ o. ContentOf table T (Some (Form.list U)) o) e (subst (λ o. ContentOf table T o found) f of) }

@@ -1,5 +1,5 @@
 -- What the calls on vectors return, from what the calls below them return.
-use Rattle.std.proofs.Common.{◌≡◌, ℕ, ◌+◌, ◌-◌, ◌*◌, ◌%◌, ◌^◌, ◌<◌, min, List, [], length, Option, Some, refl, sym, ap, ◌∙◌, subst, arith}
+use Rattle.std.proofs.Common.{◌≡◌, ℕ, ◌+◌, ◌-◌, ◌*◌, ◌%◌, ◌^◌, ◌<◌, min, List, [], length, Option, Some, refl, sym, ap, ◌∙◌, arith}
 use Rattle.seg_spec.specs.Bytes.{set_word, ChangesOnly}
 use Rattle.seg_spec.specs.Types.{Form, Table, IsTable, form_at, size}
 use Rattle.seg_spec.specs.Value.{Value, Values, count, Seq, default_of}
@@ -15,24 +15,18 @@ use Rattle.seg_spec.specs.Spending.{buffer_asks}
 use Rattle.seg_raw.specs.declared.code.Code.TheVariants.{BadAlloc}
 use Rattle.seg_value.specs.Stored.{Stored}
 use Rattle.seg_value.specs.Places.{object_at}
-use Rattle.seg_value.specs.Contents.{IsEntryOf, ContentOf}
+use Rattle.seg_value.specs.Contents.{IsEntryOf}
 use Rattle.seg_value.specs.Buffers.{NamesBuffer}
 use Rattle.seg_value.specs.declared.content.Content.{Content}
 use Rattle.seg_value.specs.declared.place.Place.{Place as Where}
 use Rattle.seg_seq.specs.Sequences.{HasItems, LacksRoom, PushesBack, PopsBack, push_asks}
 use Rattle.seg_seq.proofs.Rooms.{entries_fit}
 use Rattle.seg_seq.proofs.ItemRemoved.{some_buffer, last, others, item_stands as item_stands_there, its_blocks, item_removed}
-use Rattle.seg_seq.proofs.ItemAdded.{has_each, next_small, count_few, has_buffer_now, item_within, item_added, item_stands}
+use Rattle.seg_seq.proofs.ItemAdded.{has_each, count_few, has_buffer_now, item_within, item_added, item_stands}
 
 -- the entries of a vector
 pub vector_entry : (table : Table) (T U : ℕ) (content : Content) → form_at table T ≡ Some (Form.vec U) → NamesBuffer table T content → IsEntryOf table 0 U content.entry
 vector_entry table T U content f n = let c = rw f at n.0 in c.entry_is
-
-pub names_vector : (table : Table) (T U : ℕ) (content : Content) (o : Option Content) → form_at table T ≡ Some (Form.vec U) → ContentOf table T (form_at table T) o → o ≡ Some content → NamesBuffer table T content
-names_vector table T U content o f c is =
-    let known : ContentOf table T (form_at table T) (Some content) = subst (ContentOf table T (form_at table T)) is c in
-    let entry = rw f at known in
-    (known, entry.shape_is)
 
 item_known : (table : Table) (T U : ℕ) → IsTable table → form_at table T ≡ Some (Form.vec U) → U < length table
 item_known table T U valid f = valid.forms T (Form.vec U) f
@@ -52,9 +46,6 @@ module _ (allocator : ℕ) (old : Stored) (cell T U : ℕ) (vs : Values) (blocks
 
   one_longer : len ≡ count_at old.window.bytes cell + 1
   one_longer = let few = count_few allocator old.window.bytes old.types (object_at cell T) U vs blocks h.form_is h.stands in omega arith
-
-  pub asked_little : len * each < 2 ^ 32
-  asked_little = let l = next_small allocator old.window.bytes old.types (object_at cell T) U vs blocks h.form_is h.stands in rw (one_longer, one_size) l
 
   pub no_item_pushed : (new : Stored) → Refuses allocator old.window.bytes new.window.bytes (buffer_asks old.window.bytes cell each len) → LacksRoom allocator old new (push_asks old (object_at cell T) U) BadAlloc
   no_item_pushed new r = record { code_is = refl; refuses = rw (one_size, one_longer) at r }

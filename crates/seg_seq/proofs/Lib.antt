@@ -10,6 +10,8 @@ pub mod Adding
 pub mod Dropping
 pub mod Removed
 pub mod Fronts
+mod SequenceKinds
+mod Results
 mod Lasting
 mod Rooms
 mod Counting

@@ -1,5 +1,5 @@
 -- What the calls on strings return, from what the calls below them return.
-use Rattle.std.proofs.Common.{◌≡◌, ℕ, ◌+◌, ◌*◌, ◌%◌, ◌^◌, ◌<◌, ◌≤◌, ◌⊎◌, inl, inr, min, List, [], ◌∷◌, ◌++◌, length, take, Option, Some, None, refl, sym, ap, ◌∙◌, subst, arith}
+use Rattle.std.proofs.Common.{◌≡◌, ℕ, ◌+◌, ◌*◌, ◌%◌, ◌^◌, ◌<◌, ◌≤◌, ◌⊎◌, inl, inr, min, List, [], ◌∷◌, ◌++◌, length, take, Option, Some, None, refl, sym, ap, ◌∙◌, arith}
 use Rattle.std.specs.Prelude.{Result, Ok, Err}
 use Rattle.std.proofs.lemmas.Bool.{cases_lt}
 use Rattle.std.proofs.lemmas.List.{take_all}
@@ -15,7 +15,6 @@ use Rattle.seg_spec.specs.Owning.{Stands}
 use Rattle.seg_spec.proofs.Standing.{stands_after}
 use Rattle.seg_raw.specs.declared.code.Code.TheVariants.{BadAlloc}
 use Rattle.seg_value.specs.Stored.{Stored}
-use Rattle.seg_value.specs.Contents.{ContentOf}
 use Rattle.seg_value.specs.Buffers.{NamesBuffer}
 use Rattle.seg_value.specs.declared.content.Content.{Content}
 use Rattle.seg_value.specs.declared.entry.Held.TheVariants.{Bytes}
@@ -23,18 +22,6 @@ use Rattle.seg_seq.specs.Sequences.{HasText, LacksRoom, ComesToHold, ExtendsText
 use Rattle.seg_seq.proofs.Rooms.{reaches, text_counts}
 use Rattle.seg_seq.proofs.TooMuch.{too_much}
 use Rattle.seg_seq.proofs.TextSteps.{names, room_made, text_written, byte_removed}
-
--- what the cell of a string names
-pub record NamesText (table : Table) (T : ℕ) (content : Content) : Type 0 where
-  pub names : NamesBuffer table T content
-  pub size_is : content.entry.size ≡ 1
-  pub before_is : content.entry.before ≡ 0
-
-pub names_text : (table : Table) (T : ℕ) (content : Content) (o : Option Content) → form_at table T ≡ Some Form.str → ContentOf table T (form_at table T) o → o ≡ Some content → NamesText table T content
-names_text table T content o f c is =
-    let known : ContentOf table T (form_at table T) (Some content) = subst (ContentOf table T (form_at table T)) is c in
-    let text = rw f at known in
-    record { names = (known, text.shape_is); size_is = text.size_is; before_is = text.before_is }
 
 -- no buffer has so much room
 no_such_room : (allocator : ℕ) (mid : List ℕ) (table : Table) (place : Place) (xs blocks : List ℕ) (n : ℕ)

@@ -2,8 +2,6 @@
 --     HasText allocator heap place xs blocks      a string stands at a place, with this text
 --     HasItems allocator heap place U vs blocks   a vector stands at a place, with these items
 --     item_type form                              the type of the items of a vector or a list
---     is_countless form, is_unordered form        values of this form have no count; they count
---                                                 what has no order of its own
 --     Declines code old new result                the call returned a code, and nothing changed
 --     HasNone old new n code                      of n there was none to take, and nothing changed
 --     LacksRoom allocator old new asks code       one of the requests got nothing, and nothing
@@ -22,7 +20,7 @@
 --     IsPast index n code                         of n there is none at the index
 --     ShowsByte heap place xs index p             the byte of a text at an index stands there
 --     ShowsItem heap place U index p              the item of a vector or a list at an index does
-use Rattle.std.specs.Prelude.{◌≡◌, ℕ, ◌+◌, ◌-◌, ◌<◌, ◌≤◌, Bool, true, false, List, [], ◌∷◌, length, take, slice_index, Option, Some, None, Result, Err, MatchResult}
+use Rattle.std.specs.Prelude.{◌≡◌, ℕ, ◌+◌, ◌-◌, ◌<◌, ◌≤◌, List, [], ◌∷◌, length, take, slice_index, Option, Some, None, Result, Err, MatchResult}
 use Rattle.seg_spec.specs.Bytes.{byte}
 use Rattle.seg_spec.specs.Types.{Form, form_at, size}
 use Rattle.seg_spec.specs.Value.{Value, Values, nil, cons, Text, Seq, count, append, default_of, Selector}
@@ -56,19 +54,6 @@ abbrev pub item_type : Option Form → Option ℕ
 item_type (Some (Form.vec U)) = Some U
 item_type (Some (Form.list U)) = Some U
 item_type _ = None
-
--- values of this form have no count
-abbrev pub is_countless : Option Form → Bool
-is_countless None = true
-is_countless (Some Form.i64) = true
-is_countless (Some (Form.struct Us)) = true
-is_countless _ = false
-
--- values of this form count what has no order of its own
-abbrev pub is_unordered : Option Form → Bool
-is_unordered (Some (Form.map U)) = true
-is_unordered (Some (Form.own U)) = true
-is_unordered _ = false
 
 -- ---- what they leave
 

@@ -2,6 +2,7 @@
 //! isn't for is refused as OtherType.
 #![tactic(auto)]
 
+mod kind;
 mod list;
 mod ring;
 mod sequence;

@@ -13,10 +13,11 @@ ghost use Rattle.seg_seq.specs.Rings.{around};
 ghost use Rattle.seg_seq.specs.declared.ring.Way.TheVariants as way;
 ghost use Rattle.seg_seq.specs.Lists.{IsList, HasList, IsNoList, AddsItem, RemovesItem};
 
+use crate::kind::Kind;
 use crate::ring::{Way, insert, neighbour, remove};
 use seg_block::Fit;
 use seg_raw::Code;
-use seg_value::{Content, Heap, LIST_LINKS, Place, Shape};
+use seg_value::{Content, Heap, LIST_LINKS, Place};
 use std::alloc::Allocator;
 
 /// The node that holds an item.
@@ -55,19 +56,6 @@ pub fn prev<F: Fit, A: Allocator>(heap: &Heap<F, A>, item: u32) -> u32
     item_of(neighbour(heap, node_of(item), Way::Backward))
 }
 
-/// What the cell of a list names. `OtherType` where the place is no list.
-fn list_content<F: Fit, A: Allocator>(heap: &Heap<F, A>, list: Place) -> Result<Content, Code>
-    ensures { MatchResult result
-        (λ content. (U : ℕ) × IsList heap.now.types list.type_id U content)
-        (λ code. (code ≡ Code.OtherType) × IsNoList heap.now.types list.type_id) }
-{
-    let content = heap.content(list.type_id).ok_or(Code::OtherType)?;
-    match content.shape {
-        Shape::Ring => Ok(content),
-        Shape::Buffer | Shape::Tree | Shape::Object => Err(Code::OtherType),
-    }
-}
-
 /// Adds a default item before the others of a list, and returns its position. `OtherType` where the place is no list,
 /// `BadAlloc` where there is no room for the item; then nothing changes.
 pub fn push_front<F: Fit, A: Allocator>(heap: &mut Heap<F, A>, list: Place) -> Result<u32, Code>
@@ -85,7 +73,9 @@ pub fn push_front<F: Fit, A: Allocator>(heap: &mut Heap<F, A>, list: Place) -> R
         (λ code. Refuses F.allocator heap.old.window.bytes heap.new.window.bytes
         (block_for (8 + size heap.old.types U) ∷ [])) }
 {
-    let content = list_content(heap, list)?;
+    let Kind::List(content) = Kind::of(heap, list)? else {
+        return Err(Code::OtherType);
+    };
     let item = push_node(heap, &content, list.at)?;
     heap.window_mut()
         .point(list.at as usize, Some(node_of(item)));
@@ -131,7 +121,9 @@ pub fn pop_front<F: Fit, A: Allocator>(heap: &mut Heap<F, A>, list: Place) -> Re
         RemovesItem F.allocator heap.old.window.bytes heap.new.window.bytes heap.old.types
         (place_of list) vs blocks 0 }
 {
-    let content = list_content(heap, list)?;
+    let Kind::List(content) = Kind::of(heap, list)? else {
+        return Err(Code::OtherType);
+    };
     let first = heap.window().target(list.at as usize).ok_or(Code::Null)?;
     remove_node(heap, &content, list.at, first);
     Ok(())

@@ -1,25 +1,26 @@
-ghost use Rattle.std.specs.Prelude.{◌≡◌, ℕ, ◌+◌, ◌-◌, ◌*◌, ◌%◌, ◌^◌, ◌<◌, ◌≤◌, ◌↔◌, List, [], ◌∷◌, length, take, Some, None, true, false, Ok, Err, IsTrue, MatchResult};
-ghost use Rattle.seg_spec.specs.Reads.{count_at, start};
+ghost use Rattle.std.specs.Prelude.{◌≡◌, ℕ, ◌+◌, ◌-◌, ◌<◌, ◌≤◌, List, [], ◌∷◌, length, take, Some, None, true, false, Err, MatchResult};
+ghost use Rattle.seg_spec.specs.Reads.{count_at};
 ghost use Rattle.seg_spec.specs.Demand.{block_for};
 ghost use Rattle.seg_spec.specs.Items.{without_last};
-ghost use Rattle.seg_spec.specs.Types.{Form, form_at, size};
+ghost use Rattle.seg_spec.specs.Types.{form_at, size};
 ghost use Rattle.seg_spec.specs.Value.{Values, nil, cons, count, append, default_of, Text};
 ghost use Rattle.seg_spec.specs.Window.{KeepsHost};
 ghost use Rattle.seg_value.specs.Buffers.{NamesBuffer};
 ghost use Rattle.seg_value.specs.Places.{place_of, object_at};
+ghost use Rattle.seg_seq.specs.Kinds.{is_sequence};
 ghost use Rattle.seg_seq.specs.Lists.{HasList, AddsItem, RemovesItem};
-ghost use Rattle.seg_seq.specs.Sequences.{HasText, HasItems, item_type, is_countless, is_unordered, Declines, HasNone, ComesToHold, LacksRoom, push_asks, PushesBack, PopsBack, IsPast, ShowsByte, ShowsItem};
+ghost use Rattle.seg_seq.specs.Sequences.{HasText, HasItems, item_type, Declines, HasNone, ComesToHold, LacksRoom, push_asks, PushesBack, PopsBack, IsPast, ShowsByte, ShowsItem};
 
+use crate::kind::Kind;
 use crate::list::{item_of, push_node, remove_node};
 use crate::ring::{Way, neighbour, node_at};
 use seg_block::Fit;
 use seg_raw::Code;
-use seg_value::{Content, Heap, Held, Place, Shape};
+use seg_value::{Content, Heap, Place};
 use std::alloc::Allocator;
 
-/// The position of an item of a vector or a list, of a byte of a string, or of the value at an index of a flat map.
-/// `OtherType` where the place counts nothing, `OutOfRange` where it counts no more, `OtherType` where what it counts has no
-/// index.
+/// The position of an item of a vector or a list, or of a byte of a string. `OtherType` where the place is none of them,
+/// `OutOfRange` where it has no such item.
 pub fn at<F: Fit, A: Allocator>(heap: &Heap<F, A>, sequence: Place, index: u32) -> Result<u32, Code>
     ensures text { (xs blocks : List ℕ) →
         HasText F.allocator heap.now (place_of sequence) xs blocks →
@@ -33,38 +34,21 @@ pub fn at<F: Fit, A: Allocator>(heap: &Heap<F, A>, sequence: Place, index: u32) 
         HasList F.allocator heap.now (place_of sequence) U vs blocks →
         MatchResult result
         (ShowsItem heap.now (place_of sequence) U index) (IsPast index (count vs)) }
-    ensures flat { (U : ℕ) →
-        form_at heap.now.types sequence.type_id ≡ Some (Form.flat_map U) →
-        index < count_at heap.now.window.bytes sequence.at →
-        result ≡ Ok ((start heap.now.window.bytes sequence.at
-        + index * (8 + size heap.now.types U) + 8) % 2 ^ 32) }
-    ensures other { is_countless (form_at heap.now.types sequence.type_id) ≡ true →
+    ensures other { is_sequence (form_at heap.now.types sequence.type_id) ≡ false →
         result ≡ Err Code.OtherType }
-    ensures past { is_countless (form_at heap.now.types sequence.type_id) ≡ false →
-        count_at heap.now.window.bytes sequence.at ≤ index → result ≡ Err Code.OutOfRange }
-    ensures unordered { is_unordered (form_at heap.now.types sequence.type_id) ≡ true →
-        index < count_at heap.now.window.bytes sequence.at → result ≡ Err Code.OtherType }
+    ensures counted { is_sequence (form_at heap.now.types sequence.type_id) ≡ true →
+        MatchResult result (λ at. index < count_at heap.now.window.bytes sequence.at)
+        (IsPast index (count_at heap.now.window.bytes sequence.at)) }
 {
-    let content = heap.content(sequence.type_id).ok_or(Code::OtherType)?;
+    let kind = Kind::of(heap, sequence)?;
     if index >= heap.count(sequence.at) {
         return Err(Code::OutOfRange);
     }
-    match content.shape {
-        Shape::Buffer => Ok(content.entry.value_at(heap.start(sequence.at), index)),
-        Shape::Ring => Ok(item_of(node_at(heap, sequence.at, index))),
-        Shape::Tree | Shape::Object => Err(Code::OtherType),
-    }
-}
-
-/// Whether the entries of a buffer are values alone: not the bytes of a string, nor with the keys of a flat map.
-fn is_vector(content: &Content) -> bool
-    ensures value { (U : ℕ) → content.now.entry.held ≡ Held.Value U →
-        IsTrue result ↔ (content.now.entry.before ≡ 0) }
-    ensures bytes { content.now.entry.held ≡ Held.Bytes → result ≡ false }
-{
-    match content.entry.held {
-        Held::Value(_) => content.entry.before == 0,
-        Held::Bytes | Held::Pointer => false,
+    match kind {
+        Kind::Text(content) | Kind::Vector(content) => {
+            Ok(content.entry.value_at(heap.start(sequence.at), index))
+        }
+        Kind::List(_) => Ok(item_of(node_at(heap, sequence.at, index))),
     }
 }
 
@@ -88,11 +72,10 @@ pub fn push_back<F: Fit, A: Allocator>(heap: &mut Heap<F, A>, sequence: Place) -
     ensures other { item_type (form_at heap.old.types sequence.type_id) ≡ None →
         Declines Code.OtherType heap.old heap.new result }
 {
-    let content = heap.content(sequence.type_id).ok_or(Code::OtherType)?;
-    match content.shape {
-        Shape::Buffer if is_vector(&content) => push_entry(heap, &content, sequence.at),
-        Shape::Ring => push_node(heap, &content, sequence.at),
-        Shape::Buffer | Shape::Tree | Shape::Object => Err(Code::OtherType),
+    match Kind::of(heap, sequence)? {
+        Kind::Text(_) => Err(Code::OtherType),
+        Kind::Vector(content) => push_entry(heap, &content, sequence.at),
+        Kind::List(content) => push_node(heap, &content, sequence.at),
     }
 }
 
@@ -122,8 +105,8 @@ fn push_entry<F: Fit, A: Allocator>(
     Ok(content.entry.value_at(start, kept))
 }
 
-/// Destroys the last item of a vector or a list, or drops the last byte of a string. `OtherType` where the place counts
-/// nothing, `Null` where it counts none, `OtherType` where what it counts has no order.
+/// Destroys the last item of a vector or a list, or drops the last byte of a string. `OtherType` where the place is none of
+/// them, `Null` where it is empty.
 pub fn pop_back<F: Fit, A: Allocator>(heap: &mut Heap<F, A>, sequence: Place) -> Result<(), Code>
     ensures window { KeepsHost heap.old.window heap.new.window }
     ensures types { heap.new.types ≡ heap.old.types }
@@ -145,24 +128,22 @@ pub fn pop_back<F: Fit, A: Allocator>(heap: &mut Heap<F, A>, sequence: Place) ->
         RemovesItem F.allocator heap.old.window.bytes heap.new.window.bytes heap.old.types
         (place_of sequence) (without_last vs) blocks (count vs - 1))
         (HasNone heap.old heap.new (count vs)) }
-    ensures none { is_countless (form_at heap.old.types sequence.type_id) ≡ false →
-        count_at heap.old.window.bytes sequence.at ≡ 0 →
-        Declines Code.Null heap.old heap.new result }
-    ensures other { is_countless (form_at heap.old.types sequence.type_id) ≡ true →
+    ensures other { is_sequence (form_at heap.old.types sequence.type_id) ≡ false →
         Declines Code.OtherType heap.old heap.new result }
-    ensures unordered { is_unordered (form_at heap.old.types sequence.type_id) ≡ true →
-        1 ≤ count_at heap.old.window.bytes sequence.at →
-        Declines Code.OtherType heap.old heap.new result }
+    ensures counted { is_sequence (form_at heap.old.types sequence.type_id) ≡ true →
+        MatchResult result (λ done. 1 ≤ count_at heap.old.window.bytes sequence.at)
+        (HasNone heap.old heap.new (count_at heap.old.window.bytes sequence.at)) }
 {
-    let content = heap.content(sequence.type_id).ok_or(Code::OtherType)?;
+    let kind = Kind::of(heap, sequence)?;
     let last = heap.count(sequence.at).checked_sub(1).ok_or(Code::Null)?;
-    match content.shape {
-        Shape::Buffer => pop_entry(heap, &content, sequence.at, last),
-        Shape::Ring => {
+    match kind {
+        Kind::Text(content) | Kind::Vector(content) => {
+            pop_entry(heap, &content, sequence.at, last);
+        }
+        Kind::List(content) => {
             let node = neighbour(heap, heap.start(sequence.at), Way::Backward);
             remove_node(heap, &content, sequence.at, node);
         }
-        Shape::Tree | Shape::Object => return Err(Code::OtherType),
     }
     Ok(())
 }

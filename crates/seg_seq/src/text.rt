@@ -1,12 +1,13 @@
-ghost use Rattle.std.specs.Prelude.{◌≡◌, ◌≢◌, ℕ, ◌+◌, ◌≤◌, List, [], ◌∷◌, ◌++◌, length, take, Some, ◌↔◌, IfOk, IsTrue, MatchResult};
+ghost use Rattle.std.specs.Prelude.{◌≡◌, ◌≢◌, ℕ, ◌+◌, ◌≤◌, List, [], ◌∷◌, ◌++◌, length, take, Some, IfOk, MatchResult};
 ghost use Rattle.seg_spec.specs.Types.{Form, form_at};
 ghost use Rattle.seg_spec.specs.Window.{KeepsHost};
 ghost use Rattle.seg_value.specs.Places.{place_of};
 ghost use Rattle.seg_seq.specs.Sequences.{HasText, Declines, LacksRoom, Rewrites, ExtendsText, text_asks};
 
+use crate::kind::Kind;
 use seg_block::Fit;
 use seg_raw::Code;
-use seg_value::{Content, Heap, Held, Place};
+use seg_value::{Heap, Place};
 use std::alloc::Allocator;
 
 /// Adds bytes to a string. `OtherType` where the place is no string, `BadAlloc` where there is no room for them; then
@@ -101,16 +102,6 @@ struct Added {
     len: u32,
 }
 
-/// Whether a cell names the bytes of a string.
-fn is_text(content: &Content) -> bool
-    ensures { IsTrue result ↔ (content.now.entry.held ≡ Held.Bytes) }
-{
-    match content.entry.held {
-        Held::Bytes => true,
-        Held::Value(_) | Held::Pointer => false,
-    }
-}
-
 /// Makes a string one of its first `kept` bytes and `added` more, which the caller writes.
 #[inline(always)]
 fn make_room<F: Fit, A: Allocator>(
@@ -131,10 +122,9 @@ fn make_room<F: Fit, A: Allocator>(
     ensures other { form_at heap.old.types text.type_id ≢ Some Form.str →
         Declines Code.OtherType heap.old heap.new result }
 {
-    let content = heap.content(text.type_id).ok_or(Code::OtherType)?;
-    if !is_text(&content) {
+    let Kind::Text(content) = Kind::of(heap, text)? else {
         return Err(Code::OtherType);
-    }
+    };
     let added = u32::try_from(added).map_err(|_| Code::BadAlloc)?;
     let len = kept.saturating_add(added);
     heap.reserve(&content, text.at, len)?;

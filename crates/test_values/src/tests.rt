@@ -6,6 +6,7 @@ mod lists;
 mod maps;
 mod owners;
 mod picture;
+mod refused;
 mod strings;
 mod support;
 mod trial;

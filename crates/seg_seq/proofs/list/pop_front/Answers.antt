@@ -1,16 +1,12 @@
-use Rattle.std.proofs.Common.{◌≡◌, ℕ, ◌+◌, Some, None, [], ◌∷◌, refl, sym, ap, ◌∙◌, subst, arith}
+use Rattle.std.proofs.Common.{◌≡◌, ◌+◌, Some, None, [], ◌∷◌, refl, sym, ap, ◌∙◌, subst, arith}
 use Rattle.seg_spec.specs.Pointer.{target}
 use Rattle.seg_spec.specs.Reads.{Leads}
-use Rattle.seg_spec.specs.Types.{Form}
 use Rattle.seg_spec.specs.Value.{cons, nil, Selector}
 use Rattle.seg_spec.specs.Window.{Placement}
 use Rattle.seg_value.specs.Places.{place_of, object_at}
-use Rattle.seg_seq.specs.Lists.{IsList}
 use Rattle.seg_seq.proofs.Fronts.{nothing_named, first_item}
+use Rattle.seg_seq.proofs.SequenceKinds.{names_list}
 use Rattle.seg_seq.proofs.list.pop_front.Goals as goal
-
-one_item : (V U : ℕ) → Some (Form.list V) ≡ Some (Form.list U) → V ≡ U
-one_item V U e = cc
 
 pub returns-in_err-first-clause-popped : goal.returns-in_err-first-clause-popped
 returns-in_err-first-clause-popped g c = λ U v vs blocks h.
@@ -37,8 +33,7 @@ returns-clause-popped g c = λ U v vs blocks h.
     let old = c.args.heap.now.window.bytes in
     let table = c.args.heap.now.types in
     let list = place_of c.args.list in
-    let found = c.in_ok-content.ensures in
-    let is = subst (λ V. IsList table c.args.list.type_id V c.in_ok-content.content) (one_item found.0 U (sym found.1.form_is ∙ f)) found.1 in
+    let is = names_list table c.args.list.type_id c.in-List.content c.in_ok-content.field-0 c.in-List.is c.in_ok-content.ensures U f in
     let first = first_item g.F.Fit.allocator old table list U f (cons v vs) blocks s (omega arith) in
     let read = c.target.ensures ∙ ap (λ (p : Placement). target p.bytes c.args.list.at) c.window.ensures in
     let both : Some first.0 ≡ Some c.in_ok-first.first = sym first.1 ∙ sym read ∙ c.in_ok-first.ensures.ok_part in

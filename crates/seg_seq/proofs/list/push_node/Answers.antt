@@ -1,20 +1,12 @@
-use Rattle.std.proofs.Common.{ℕ, arith}
-use Rattle.std.proofs.lemmas.Bool.{false≢true}
-use Rattle.std.specs.Result.{IsErr, MatchResult}
-use Rattle.std.specs.declared.result.Result.{Result}
-use Rattle.std.specs.declared.result.Result.TheVariants.{Ok, Err}
-use Rattle.seg_raw.specs.declared.code.Code.{Code}
+use Rattle.std.proofs.Common.{arith}
 use Rattle.seg_spec.specs.Types.{Form}
 use Rattle.seg_spec.specs.Block.{Kind, tag_of}
 use Rattle.seg_spec.proofs.MoreTypes.{below_length}
 use Rattle.seg_value.specs.Places.{object_at}
 use Rattle.seg_value.specs.declared.content.Shape.TheVariants as shape
 use Rattle.seg_seq.proofs.Adding.{item_pushed}
+use Rattle.seg_seq.proofs.Results.{refused_so}
 use Rattle.seg_seq.proofs.list.push_node.Goals as goal
-
-refused_so : (P : ℕ → Type 0) {Q : Type 0} (r : Result ℕ Code) → IsErr r → Q → MatchResult r P (λ code. Q)
-refused_so P (Ok x) e q = absurd (false≢true e)
-refused_so P (Err code) e q = q
 
 pub returns-in_err-node-clause-pushed : goal.returns-in_err-node-clause-pushed
 returns-in_err-node-clause-pushed g c = λ T U vs blocks is s.

@@ -1,9 +1,10 @@
-use Rattle.std.proofs.Common.{rules, ◌≡◌, refl, arith, Some}
+use Rattle.std.proofs.Common.{refl, arith}
 use Rattle.seg_value.specs.Places.{place_of}
-use Rattle.seg_seq.proofs.TextCalls.{counted_all, names_text}
-use Rattle.seg_seq.proofs.ItemCalls.{items_counted, names_vector, vector_entry}
+use Rattle.seg_seq.proofs.TextCalls.{counted_all}
+use Rattle.seg_seq.proofs.ItemCalls.{items_counted, vector_entry}
 use Rattle.seg_seq.proofs.Found.{shows_byte, shows_item}
 use Rattle.seg_seq.proofs.Fronts.{counted_items, item_found}
+use Rattle.seg_seq.proofs.SequenceKinds.{buffer_text, buffer_vector}
 use Rattle.seg_seq.proofs.sequence.at.Goals as goal
 
 pub returns-then-index-count-clause-text : goal.returns-then-index-count-clause-text
@@ -16,21 +17,19 @@ returns-then-index-count-clause-vector g c = λ U vs blocks h.
     let all = items_counted g.F.Fit.allocator c.args.heap.now c.args.sequence.at c.args.sequence.type_id U vs blocks h in
     record { code_is = refl; past = omega (arith, c.if-index-count.true, c.count.ensures) }
 
-pub returns-in-Buffer-clause-text : goal.returns-in-Buffer-clause-text
-returns-in-Buffer-clause-text g c = λ xs blocks t.
+pub returns-in-Text-clause-text : goal.returns-in-Text-clause-text
+returns-in-Text-clause-text g c = λ xs blocks t.
     let heap = c.args.heap.now in
-    let has : c.content.result ≡ Some c.in_ok-content.content = search rules in
-    let names = names_text heap.types c.args.sequence.type_id c.in_ok-content.content c.content.result t.form_is c.content.ensures has in
-    shows_byte g.F.Fit.allocator heap (place_of c.args.sequence) xs blocks t c.args.index c.start.result c.in_ok-content.content.entry.size c.in_ok-content.content.entry.before c.value_at.result
+    let names = buffer_text heap.types c.args.sequence.type_id c.in-Text.content c.in_ok-kind.kind c.in-Text.is c.in_ok-kind.ensures t.form_is in
+    shows_byte g.F.Fit.allocator heap (place_of c.args.sequence) xs blocks t c.args.index c.start.result c.in-Text.content.entry.size c.in-Text.content.entry.before c.value_at.result
     (omega (arith, c.if-index-count.false, c.count.ensures)) c.start.ensures names.size_is names.before_is c.value_at.ensures
 
-pub returns-in-Buffer-clause-vector : goal.returns-in-Buffer-clause-vector
-returns-in-Buffer-clause-vector g c = λ U vs blocks h.
+pub returns-in-Text-clause-vector : goal.returns-in-Text-clause-vector
+returns-in-Text-clause-vector g c = λ U vs blocks h.
     let heap = c.args.heap.now in
-    let has : c.content.result ≡ Some c.in_ok-content.content = search rules in
-    let names = names_vector heap.types c.args.sequence.type_id U c.in_ok-content.content c.content.result h.form_is c.content.ensures has in
-    let entry = vector_entry heap.types c.args.sequence.type_id U c.in_ok-content.content h.form_is names in
-    shows_item g.F.Fit.allocator heap c.args.sequence.at c.args.sequence.type_id U vs blocks h c.args.index c.start.result c.in_ok-content.content.entry.size c.in_ok-content.content.entry.before c.value_at.result
+    let names = buffer_vector heap.types c.args.sequence.type_id c.in-Text.content c.in_ok-kind.kind c.in-Text.is c.in_ok-kind.ensures U h.form_is in
+    let entry = vector_entry heap.types c.args.sequence.type_id U c.in-Text.content h.form_is names in
+    shows_item g.F.Fit.allocator heap c.args.sequence.at c.args.sequence.type_id U vs blocks h c.args.index c.start.result c.in-Text.content.entry.size c.in-Text.content.entry.before c.value_at.result
     (omega (arith, c.if-index-count.false, c.count.ensures)) c.start.ensures entry.size_is entry.before_is c.value_at.ensures
 
 pub returns-then-index-count-clause-list : goal.returns-then-index-count-clause-list
@@ -38,8 +37,8 @@ returns-then-index-count-clause-list g c = λ U vs blocks h.
     let all = counted_items g.F.Fit.allocator c.args.heap.now.window.bytes c.args.heap.now.types (place_of c.args.sequence) U h.form_is vs blocks h.stands in
     record { code_is = refl; past = omega (arith, c.if-index-count.true, c.count.ensures) }
 
-pub returns-in-Ring-clause-list : goal.returns-in-Ring-clause-list
-returns-in-Ring-clause-list g c = λ U vs blocks h.
+pub returns-in-List-clause-list : goal.returns-in-List-clause-list
+returns-in-List-clause-list g c = λ U vs blocks h.
     let bytes = c.args.heap.now.window.bytes in
     let all = counted_items g.F.Fit.allocator bytes c.args.heap.now.types (place_of c.args.sequence) U h.form_is vs blocks h.stands in
     item_found g.F.Fit.allocator bytes c.args.heap.now.types (place_of c.args.sequence) U h.form_is vs blocks h.stands c.args.index c.node_at.result c.item_of.result

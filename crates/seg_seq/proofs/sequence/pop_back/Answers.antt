@@ -1,12 +1,13 @@
-use Rattle.std.proofs.Common.{rules, ◌≡◌, ◌+◌, ◌-◌, ◌≤◌, length, refl, ◌∙◌, sym, arith, Some, Err}
+use Rattle.std.proofs.Common.{rules, ◌≡◌, ◌+◌, ◌-◌, ◌≤◌, length, refl, ◌∙◌, sym, arith, Err}
 use Rattle.seg_raw.specs.declared.code.Code.TheVariants.{Null}
 use Rattle.seg_spec.specs.Value.{count}
 use Rattle.seg_value.specs.Places.{place_of}
-use Rattle.seg_seq.proofs.TextCalls.{counted_all, names_text}
-use Rattle.seg_seq.proofs.ItemCalls.{items_counted, names_vector}
+use Rattle.seg_seq.proofs.TextCalls.{counted_all}
+use Rattle.seg_seq.proofs.ItemCalls.{items_counted}
 use Rattle.std.proofs.Common.{subst}
 use Rattle.seg_seq.specs.Lists.{RemovesItem}
-use Rattle.seg_seq.proofs.Fronts.{counted_items, names_list, last_item, remove_nth-last}
+use Rattle.seg_seq.proofs.Fronts.{counted_items, last_item, remove_nth-last}
+use Rattle.seg_seq.proofs.SequenceKinds.{buffer_text, buffer_vector, names_list}
 use Rattle.seg_seq.proofs.sequence.pop_back.Goals as goal
 
 pub returns-in_err-last-clause-text : goal.returns-in_err-last-clause-text
@@ -23,40 +24,37 @@ returns-in_err-last-clause-vector g c = λ U vs blocks h.
     let all = items_counted g.F.Fit.allocator c.args.heap.now c.args.sequence.at c.args.sequence.type_id U vs blocks h in
     rw result (record { code_is = refl; none = all ∙ sym c.count.ensures ∙ none; same = refl })
 
-pub returns-in-Buffer-clause-text : goal.returns-in-Buffer-clause-text
-returns-in-Buffer-clause-text g c = λ xs blocks t.
+pub returns-in-Text-clause-text : goal.returns-in-Text-clause-text
+returns-in-Text-clause-text g c = λ xs blocks t.
     let old = c.args.heap.now in
     let some : 1 ≤ c.count.result = search rules in
     let last_is : c.in_ok-last.last ≡ c.count.result - 1 = search rules in
-    let has : c.content.result ≡ Some c.in_ok-content.content = search rules in
     let all = counted_all g.F.Fit.allocator old (place_of c.args.sequence) xs blocks t c.count.result c.count.ensures in
     let more : length xs ≡ c.in_ok-last.last + 1 = omega arith in
     let less : c.in_ok-last.last ≡ length xs - 1 = omega arith in
-    let names = names_text old.types c.args.sequence.type_id c.in_ok-content.content c.content.result t.form_is c.content.ensures has in
+    let names = buffer_text old.types c.args.sequence.type_id c.in-Text.content c.in_ok-kind.kind c.in-Text.is c.in_ok-kind.ensures t.form_is in
     rw less at (c.pop_entry.ensures.text c.args.sequence.type_id xs blocks names.names t more)
 
-pub returns-in-Buffer-clause-vector : goal.returns-in-Buffer-clause-vector
-returns-in-Buffer-clause-vector g c = λ U vs blocks h.
+pub returns-in-Text-clause-vector : goal.returns-in-Text-clause-vector
+returns-in-Text-clause-vector g c = λ U vs blocks h.
     let old = c.args.heap.now in
     let some : 1 ≤ c.count.result = search rules in
     let last_is : c.in_ok-last.last ≡ c.count.result - 1 = search rules in
-    let has : c.content.result ≡ Some c.in_ok-content.content = search rules in
     let all = items_counted g.F.Fit.allocator old c.args.sequence.at c.args.sequence.type_id U vs blocks h in
     let more : count vs ≡ c.in_ok-last.last + 1 = omega (arith, c.count.ensures) in
-    let names = names_vector old.types c.args.sequence.type_id U c.in_ok-content.content c.content.result h.form_is c.content.ensures has in
+    let names = buffer_vector old.types c.args.sequence.type_id c.in-Text.content c.in_ok-kind.kind c.in-Text.is c.in_ok-kind.ensures U h.form_is in
     c.pop_entry.ensures.vector c.args.sequence.type_id U vs blocks names h more
 
-pub returns-in-Ring-clause-list : goal.returns-in-Ring-clause-list
-returns-in-Ring-clause-list g c = λ U vs blocks h.
+pub returns-in-List-clause-list : goal.returns-in-List-clause-list
+returns-in-List-clause-list g c = λ U vs blocks h.
     let code = g.F.Fit.allocator in
     let old = c.args.heap.now.window.bytes in
     let table = c.args.heap.now.types in
     let list = place_of c.args.sequence in
     let some : 1 ≤ c.count.result = search rules in
-    let has : c.content.result ≡ Some c.in_ok-content.content = search rules in
     let all = counted_items code old table list U h.form_is vs blocks h.stands in
     let many : 1 ≤ count vs = omega (arith, c.count.ensures) in
-    let is = names_list table c.args.sequence.type_id U c.in_ok-content.content c.content.result h.form_is c.content.ensures has in
+    let is = names_list table c.args.sequence.type_id c.in-List.content c.in_ok-kind.kind c.in-List.is c.in_ok-kind.ensures U h.form_is in
     let lead = last_item code old table list U h.form_is vs blocks h.stands many c.start.result c.neighbour-node.result c.start.ensures c.neighbour-node.ensures in
     let removed = c.remove_node.ensures.removed c.args.sequence.type_id U (count vs - 1) vs blocks is h.stands lead in
     (many, subst (λ ws. RemovesItem code old c.remove_node.new.heap.window.bytes table list ws blocks (count vs - 1)) (remove_nth-last vs many) removed)

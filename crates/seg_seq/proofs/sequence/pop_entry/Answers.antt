@@ -1,16 +1,14 @@
 use Rattle.std.proofs.Common.{◌≡◌, ◌+◌, ◌*◌, ◌%◌, ◌^◌, ap, ◌∙◌, sym}
 use Rattle.seg_spec.specs.Bytes.{set_word}
-use Rattle.seg_spec.specs.Window.{Placement, with_bytes}
+use Rattle.seg_spec.specs.Window.{with_bytes}
 use Rattle.seg_value.specs.Places.{object_at}
 use Rattle.seg_value.specs.Stored.{Stored}
 use Rattle.seg_value.specs.declared.place.Place.{Place}
 use Rattle.seg_seq.proofs.TextCalls.{text_entry, byte_popped}
 use Rattle.seg_seq.proofs.ItemCalls.{vector_entry, one_place, item_popped}
+use Rattle.seg_seq.proofs.Results.{bytes_of}
 use Rattle.seg_seq.proofs.sequence.pop_entry.Goals as goal
 use Rattle.seg_seq.proofs.sequence.pop_entry.Goals.{in-Some, in_default}
-
-bytes_of : (p q : Placement) → p ≡ q → p.bytes ≡ q.bytes
-bytes_of p q e = ap (λ (r : Placement). r.bytes) e
 
 pub returns-clause-text : goal.returns-clause-text
 returns-clause-text g c = λ T xs blocks n t more.

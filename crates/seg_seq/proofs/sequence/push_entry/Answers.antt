@@ -1,16 +1,14 @@
 use Rattle.std.proofs.Common.{rules, ◌≡◌, ◌+◌, ◌*◌, ◌%◌, ◌^◌, ap, ◌∙◌, sym, subst, Err}
 use Rattle.seg_spec.specs.Bytes.{set_word}
 use Rattle.seg_spec.specs.Value.{Seq}
-use Rattle.seg_spec.specs.Window.{Placement, with_bytes}
+use Rattle.seg_spec.specs.Window.{with_bytes}
 use Rattle.seg_value.specs.Places.{object_at}
 use Rattle.seg_value.specs.declared.place.Place.{Place}
 use Rattle.seg_seq.specs.Sequences.{PushesBack}
-use Rattle.seg_seq.proofs.ItemCalls.{vector_entry, one_place, asked_little, no_item_pushed, item_pushed}
+use Rattle.seg_seq.proofs.ItemCalls.{vector_entry, one_place, no_item_pushed, item_pushed}
+use Rattle.seg_seq.proofs.Results.{bytes_of}
 use Rattle.seg_seq.proofs.sequence.push_entry.Goals as goal
 use Rattle.seg_seq.proofs.sequence.push_entry.Goals.{in-Some, in_default}
-
-bytes_of : (p q : Placement) → p ≡ q → p.bytes ≡ q.bytes
-bytes_of p q e = ap (λ (r : Placement). r.bytes) e
 
 pub returns-in_err-reserve-clause-vector : goal.returns-in_err-reserve-clause-vector
 returns-in_err-reserve-clause-vector g c = λ T U vs blocks n h.

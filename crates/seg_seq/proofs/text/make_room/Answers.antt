@@ -1,14 +1,13 @@
-use Rattle.std.proofs.Common.{rules, ◌≡◌, ◌+◌, ◌*◌, ◌^◌, ◌<◌, ◌≤◌, refl, ap, arith, Some, Err}
+use Rattle.std.proofs.Common.{rules, ◌≡◌, ◌+◌, ◌≤◌, inl, refl, ap, arith, Err}
 use Rattle.seg_spec.specs.Bytes.{set_word}
 use Rattle.seg_spec.specs.Value.{Text}
-use Rattle.seg_spec.specs.Window.{Placement, with_bytes}
+use Rattle.seg_spec.specs.Window.{with_bytes}
 use Rattle.seg_raw.specs.declared.code.Code.TheVariants.{BadAlloc}
 use Rattle.seg_value.specs.Places.{place_of}
-use Rattle.seg_seq.proofs.TextCalls.{names_text, too_long, no_room_made, makes_room}
+use Rattle.seg_seq.proofs.SequenceKinds.{buffer_text}
+use Rattle.seg_seq.proofs.TextCalls.{too_long, no_room_made, makes_room}
+use Rattle.seg_seq.proofs.Results.{bytes_of}
 use Rattle.seg_seq.proofs.text.make_room.Goals as goal
-
-bytes_of : (p q : Placement) → p ≡ q → p.bytes ≡ q.bytes
-bytes_of p q e = ap (λ (r : Placement). r.bytes) e
 
 pub returns-in_err-added-clause-text : goal.returns-in_err-added-clause-text
 returns-in_err-added-clause-text g c = λ xs blocks t few.
@@ -22,22 +21,20 @@ pub returns-in_err-reserve-clause-text : goal.returns-in_err-reserve-clause-text
 returns-in_err-reserve-clause-text g c = λ xs blocks t few.
     let result : c.from_residual-in_err-reserve.result ≡ Err c.in_err-reserve.field-0.0 = search rules in
     let added : c.in_ok-added.added ≡ c.args.added = search rules in
-    let some : c.content.result ≡ Some c.in_ok-content.content = search rules in
     let old = c.args.heap.now in
-    let names = names_text old.types c.args.text.type_id c.in_ok-content.content c.content.result t.form_is c.content.ensures some in
+    let names = buffer_text old.types c.args.text.type_id c.in-Text.content c.in_ok-content.field-0 (inl c.in-Text.is) c.in_ok-content.ensures t.form_is in
     let refuses = c.in_err-reserve.ensures.reserves c.args.text.type_id (Text xs) blocks names.names t.stands in
-    rw result (rw c.in_err-reserve.ensures.code (no_room_made g.F.Fit.allocator old (place_of c.args.text) xs blocks t c.args.kept c.args.added c.reserve.new.self c.in_ok-content.content.entry.size c.saturating_add-len.result
+    rw result (rw c.in_err-reserve.ensures.code (no_room_made g.F.Fit.allocator old (place_of c.args.text) xs blocks t c.args.kept c.args.added c.reserve.new.self c.in-Text.content.entry.size c.saturating_add-len.result
     names.size_is (rw added at c.saturating_add-len.ensures) refuses))
 
 pub returns-clause-text : goal.returns-clause-text
 returns-clause-text g c = λ xs blocks t few.
     let added : c.in_ok-added.added ≡ c.args.added = search rules in
-    let some : c.content.result ≡ Some c.in_ok-content.content = search rules in
     let old = c.args.heap.now in
     let mid = c.reserve.new.self in
     let new = c.set_count.new.self in
-    let names = names_text old.types c.args.text.type_id c.in_ok-content.content c.content.result t.form_is c.content.ensures some in
+    let names = buffer_text old.types c.args.text.type_id c.in-Text.content c.in_ok-content.field-0 (inl c.in-Text.is) c.in_ok-content.ensures t.form_is in
     let reserves = c.in_ok-reserve.ensures.reserves c.args.text.type_id (Text xs) blocks names.names t.stands in
     let counted = bytes_of new.window (with_bytes mid.window (set_word mid.window.bytes (c.args.text.at + 4) c.saturating_add-len.result)) c.set_count.ensures.window in
-    makes_room g.F.Fit.allocator old (place_of c.args.text) xs blocks t c.args.kept c.args.added mid new c.in_ok-content.content.entry.size c.saturating_add-len.result (c.start.result + c.args.kept)
+    makes_room g.F.Fit.allocator old (place_of c.args.text) xs blocks t c.args.kept c.args.added mid new c.in-Text.content.entry.size c.saturating_add-len.result (c.start.result + c.args.kept)
     names.size_is (rw added at c.saturating_add-len.ensures) few reserves counted (ap (λ x. x + c.args.kept) c.start.ensures)
