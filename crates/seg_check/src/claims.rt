@@ -1,10 +1,10 @@
 ghost use Rattle.std.specs.Prelude.{◌≡◌, ◌+◌, ◌^◌, ◌<◌, IfSome, vec_len};
 
-use crate::bytes::Bytes;
+use crate::bytes::has_payload;
 use crate::fault::ContentFault;
 use crate::marks::{Mark, Turn};
 use seg_block::{HEAP_START, Tag, UNIT, block_of};
-use seg_ptr::Window;
+use seg_ptr::{View, Window};
 use std::alloc::{AllocError, Allocator};
 
 /// The blocks of a heap, which of them have an owner, and those whose values are still to be looked at.
@@ -93,7 +93,7 @@ impl<A: Allocator> Claims<A> {
     #[inline(always)]
     pub(crate) fn claim(
         &mut self,
-        bytes: Bytes,
+        bytes: View,
         pointer: u32,
         tag: Tag,
         size: u64,
@@ -101,10 +101,10 @@ impl<A: Allocator> Claims<A> {
         ensures taken { self.new.taken ≡ self.old.taken }
     {
         let bad = ContentFault::BadPointer(pointer);
-        let start = bytes.target(pointer).ok_or(bad)?;
+        let start = bytes.target(pointer as usize).ok_or(bad)?;
         let block = block_of(start);
         let unit = self.unit_at(block).ok_or(bad)?;
-        if !bytes.has_payload(block, tag.word(), size) {
+        if !has_payload(bytes, block, tag.word(), size) {
             return Err(bad);
         }
         match self.marks[unit] {
