@@ -1,1 +1,5 @@
 pub mod MovesLaws
+pub mod Laying
+pub mod Paired
+pub mod Passed
+pub mod Programs

@@ -3,3 +3,5 @@ pub mod Writes
 pub mod Sinks
 pub mod Runs
 pub mod Outcomes
+pub mod Lines
+pub mod Pairing
