@@ -4,6 +4,11 @@ use Rattle.seg_spec.specs.Bytes.{word, half, byte, slice, number, number_of, set
 use Rattle.seg_spec.specs.Index.{Root, IsName, IsEntry}
 use Rattle.seg_spec.specs.Pointer.{target, set_pointer, distance}
 use Rattle.seg_spec.specs.Value.{count}
+use Rattle.std.specs.List.{AllByRecursion}
+use Rattle.seg_spec.specs.Types.{Table, IsTable}
+use Rattle.seg_spec.specs.Heap.{live, tag_at}
+use Rattle.seg_spec.specs.Block.{Kind, tag_of, block_of, AllowsType, IsOwnable}
+use Rattle.seg_spec.proofs.Standing.{live_at}
 use Rattle.seg_spec.specs.Cells.{IsWithin}
 use Rattle.seg_spec.proofs.BytesLaws.{number_in, number-set_other, number-slice, length-set_number, length-slice}
 use Rattle.seg_spec.proofs.SliceLaws.{slice-slice, slice-put_same}
@@ -11,8 +16,10 @@ use Rattle.seg_spec.proofs.Writing.{set_number-changes}
 use Rattle.seg_spec.proofs.CellSteps.{ChangesOnly-trans, ChangesOnly-wider}
 use Rattle.seg_spec.proofs.PointerLaws.{target-set_same, target-same}
 use Rattle.seg_value.specs.Names.{IsSameEntry}
-use Rattle.seg_index.specs.Names.{values_at, len_at}
-use Rattle.seg_index.specs.Entries.{zero_at, entry_read, entry_for, rest_of, write_entry}
+use Rattle.seg_index.specs.Names.{values_at, len_at, type_at, name_after, name_of, name_at}
+use Rattle.seg_index.proofs.NamedTags.{is_named, in_block}
+use Rattle.seg_index.specs.Entries.{zero_at, entry_read, rest_of, write_entry}
+use Rattle.seg_index.specs.Lists.{entry_of, IsNamed}
 use Rattle.seg_index.specs.declared.entry.NameEntry.{NameEntry}
 
 -- ---- the parts of a word
@@ -71,7 +78,7 @@ module _ (bytes : List ℕ) (entry : ℕ) (root : Root) (o : IsEntry bytes entry
       let fourth : byte bytes (entry + 4 + 3) ≡ 0 = ap (byte bytes) (let e : entry + 4 + 3 ≡ entry + 7 = omega arith in e) ∙ o.zero_is in
       omega (arith, o.counted)
 
-  pub entry_reads : entry_read bytes entry ≡ entry_for root
+  pub entry_reads : entry_read bytes entry ≡ entry_of root
   entry_reads =
       let short = o.is_name.short in
       let few = o.few in
@@ -111,21 +118,21 @@ module _ (old : List ℕ) (at : ℕ) (root : Root) (within : IsWithin old at 8) 
   mid = set_pointer old at (Some root.at)
 
   abbrev rest : ℕ
-  rest = rest_of (entry_for root)
+  rest = rest_of (entry_of root)
 
   mid_fits : at + 4 + 4 ≤ length mid
   mid_fits = let e = length-set_number 4 old at (distance at (Some root.at)) in omega (arith, within.fits)
 
-  part_is : (i w p : ℕ) → p ≡ at + 4 + i → i + w ≤ 4 → number w (write_entry old at (entry_for root)) p ≡ number w (spelling 4 rest) i
-  part_is i w p e inside = ap (number w (write_entry old at (entry_for root))) e ∙ written_part mid (at + 4) rest i w mid_fits inside
+  part_is : (i w p : ℕ) → p ≡ at + 4 + i → i + w ≤ 4 → number w (write_entry old at (entry_of root)) p ≡ number w (spelling 4 rest) i
+  part_is i w p e inside = ap (number w (write_entry old at (entry_of root))) e ∙ written_part mid (at + 4) rest i w mid_fits inside
 
-  pub entry_written : IsEntry (write_entry old at (entry_for root)) at root
+  pub entry_written : IsEntry (write_entry old at (entry_of root)) at root
   entry_written =
       let short = is_name.short in
       let small = within.small in
       record {
         points =
-            target-same mid (write_entry old at (entry_for root)) at (number-set_other 4 4 mid (at + 4) rest at (inl (omega arith)))
+            target-same mid (write_entry old at (entry_of root)) at (number-set_other 4 4 mid (at + 4) rest at (inl (omega arith)))
             ∙ target-set_same old at (Some root.at) (omega (arith, within.fits)) (omega (arith, within.fits))
             (λ t e. let same : root.at ≡ t = cc in (subst (λ n. n < 2 ^ 32) same low, subst (λ n. n ≢ at + 1) same apart));
         counted = part_is 0 2 (at + 4) (omega arith) (omega arith) ∙ low_half rest ∙ omega arith;
@@ -135,3 +142,30 @@ module _ (old : List ℕ) (at : ℕ) (root : Root) (within : IsWithin old at 8) 
         some = some;
         few = few;
       }
+
+-- ---- the name of an entry
+
+-- the types of named objects are few
+pub type_small : (bytes : List ℕ) (table : Table) (root : Root) → IsTable table → AllByRecursion (λ b. IsOwnable bytes table b.at) (live bytes) → IsNamed bytes table root → root.type < 32
+type_small bytes table root valid ownable named = by o.kind o.allowed (sym named.block.has_tag ∙ o.tag_is)
+  where
+    o : IsOwnable bytes table (block_of root.at)
+    o = live_at (IsOwnable bytes table) (live bytes) (block_of root.at) ownable named.is_live
+
+    by : (kind : Kind) → AllowsType table kind o.type → tag_of Kind.named root.type ≡ tag_of kind o.type → root.type < 32
+    by Kind.named allowed e = let same : root.type ≡ o.type = omega arith in omega (arith, valid.few)
+    by Kind.object allowed e = absurd (omega arith)
+    by Kind.buffer allowed e = absurd (omega arith)
+    by Kind.node allowed e = absurd (omega arith)
+    by Kind.index_buffer allowed e = absurd (omega arith)
+    by Kind.index_node allowed e = absurd (omega arith)
+
+module _ (bytes : List ℕ) (table : Table) (root : Root) (small : root.type < 32) (named : IsNamed bytes table root) where
+  pub type_is : type_at bytes root.at ≡ Some root.type
+  type_is = in_block bytes root.at named.block.after_header ∙ is_named (tag_at bytes (root.at - 16)) root.type named.block.has_tag (omega arith)
+
+  pub root_name : name_of table bytes (Some root.at) (count root.values) (length root.name) ≡ root.name
+  root_name = ap (name_after table bytes root.at (count root.values) (length root.name)) type_is ∙ named.name_is
+
+  pub name_reads : (entry : ℕ) → IsEntry bytes entry root → entry + 8 ≤ length bytes → name_at table bytes entry ≡ root.name
+  name_reads entry o fits = ap (λ (e : NameEntry). name_of table bytes e.object e.count e.name_len) (entry_reads bytes entry root o fits) ∙ root_name

@@ -1,17 +1,17 @@
 -- Roots in ascending order of their names, and where a name stands among them.
-use Rattle.std.proofs.Common.{◌≡◌, ◌≢◌, ℕ, zero, suc, ◌+◌, ◌-◌, ◌<◌, ◌≤◌, ◌⊎◌, inl, inr, Bool, true, false, List, [], ◌∷◌, ◌++◌, length, map, Option, Some, None, Result, Ok, Err, MatchResult, IfOk, IfErr, refl, sym, ap, ◌∙◌, subst, arith, zero-add, length-append}
-use Rattle.std.specs.Prelude.{slice_get, find, if◌then◌else◌}
+use Rattle.std.proofs.Common.{◌≡◌, ◌≢◌, ℕ, zero, suc, ◌+◌, ◌-◌, ◌<◌, ◌≤◌, ◌⊎◌, inl, inr, Bool, true, false, List, [], ◌∷◌, ◌++◌, length, map, Option, Some, None, Result, Ok, Err, MatchResult, IfOk, IfErr, refl, sym, ap, ◌∙◌, subst, arith, zero-add, length-append, lt-ltb, le-ltb, ltb-true}
+use Rattle.std.specs.Prelude.{◌==◌, ◌&&◌, ◌||◌, nat_lt, slice_get, if◌then◌else◌}
 use Rattle.std.specs.List.{AllByRecursion}
-use Rattle.std.specs.Ordering.{nat_cmp, is_lt}
+use Rattle.std.specs.Ordering.{nat_cmp}
 use Rattle.std.specs.Cmp.Lexicographic.{slice_cmp}
 use Rattle.std.specs.declared.cmp.Ordering.{Ordering}
 use Rattle.std.specs.declared.cmp.Ordering.TheVariants.{Less, Equal, Greater}
-use Rattle.std.proofs.lemmas.Bool.{cases_lt}
+use Rattle.std.proofs.lemmas.Bool.Decides.{nat_tests}
 use Rattle.std.proofs.lemmas.Option.{slice_get_past}
 use Rattle.seg_spec.specs.Index.{Root, Precedes, AreAscending, same_name, root_named}
 use Rattle.seg_value.specs.Search.{IsBetween}
-use Rattle.seg_index.specs.Entries.{StandsAt, FoundAt, next_root}
-use Rattle.seg_index.proofs.Precedes.{less_of_precedes, precedes_of_less, greater_of_precedes, precedes_of_greater, same_of_equal, equal_of_same, precedes_trans, same_name_self, precedes_test, precedes_test_back}
+use Rattle.seg_index.specs.Lists.{comes_before, root_after, PartedNames}
+use Rattle.seg_index.proofs.Precedes.{precedes_of_less, precedes_of_greater, same_of_equal, precedes_trans, precedes_differs, same_name_self, precedes_test, precedes_test_back}
 
 -- ---- names before, and names after
 
@@ -68,8 +68,8 @@ order_without (x ∷ xs) r ys a =
 
 -- ---- where a name stands
 
-one_more : (x : Root) (names : List Root) (name : List ℕ) (i : ℕ) (these : List Root) → Precedes x.name name → StandsAt names name i these → StandsAt (x ∷ names) name (suc i) these
-one_more x names name i these h p = record { before = x ∷ p.before; after = p.after; names_are = ap (λ rs. x ∷ rs) p.names_are; index_is = ap suc p.index_is; all_before = (h, p.all_before); all_after = p.all_after }
+one_more : (x : Root) (names : List Root) (name : List ℕ) (i : ℕ) (these : List Root) → Precedes x.name name → PartedNames names name i these → PartedNames (x ∷ names) name (suc i) these
+one_more x names name i these h p = record { before = x ∷ p.before; after = p.after; names_are = ap (λ rs. x ∷ rs) p.names_are; index_is = ap suc p.index_is; low = (h, p.low); its = p.its; high = p.high }
 
 -- what stands at an index comes after what stands at the front
 front_before : (name : List ℕ) (roots : List Root) (i : ℕ) (r : Root) → AllAfter name roots → slice_get roots i ≡ Some r → Precedes name r.name
@@ -78,22 +78,22 @@ front_before name (s ∷ roots) zero r all e = let same : s ≡ r = cc in subst 
 front_before name (s ∷ roots) (suc i) r all e = front_before name roots i r all.1 e
 
 -- a name that is there
-pub stands_there : (names : List Root) (name : List ℕ) (i : ℕ) (r : Root) → InOrder names → slice_get names i ≡ Some r → r.name ≡ name → StandsAt names name i (r ∷ [])
+pub stands_there : (names : List Root) (name : List ℕ) (i : ℕ) (r : Root) → InOrder names → slice_get names i ≡ Some r → r.name ≡ name → PartedNames names name i (r ∷ [])
 stands_there [] name i r a e same = cc
 stands_there (x ∷ names) name zero r a e same =
     let is : x ≡ r = cc in
-    record { before = []; after = names; names_are = ap (λ y. y ∷ names) is; index_is = refl; all_before = tt; all_after = subst (λ n. AllAfter n names) (ap (λ (y : Root). y.name) is ∙ same) (order_head x names a) }
+    record { before = []; after = names; names_are = ap (λ y. y ∷ names) is; index_is = refl; low = tt; its = (same, tt); high = subst (λ n. AllAfter n names) (ap (λ (y : Root). y.name) is ∙ same) (order_head x names a) }
 stands_there (x ∷ names) name (suc i) r a e same =
     one_more x names name i (r ∷ []) (subst (λ n. Precedes x.name n) same (front_before x.name names i r (order_head x names a) e)) (stands_there names name i r (order_tail x names a) e same)
 
 -- a name that would stand before one after it, and after one before it
-pub stands_front : (names : List Root) (name : List ℕ) → InOrder names → ((r : Root) → slice_get names 0 ≡ Some r → Precedes name r.name) → StandsAt names name 0 []
-stands_front [] name a f = record { before = []; after = []; names_are = refl; index_is = refl; all_before = tt; all_after = tt }
+pub stands_front : (names : List Root) (name : List ℕ) → InOrder names → ((r : Root) → slice_get names 0 ≡ Some r → Precedes name r.name) → PartedNames names name 0 []
+stands_front [] name a f = record { before = []; after = []; names_are = refl; index_is = refl; low = tt; its = tt; high = tt }
 stands_front (x ∷ names) name a f =
-    record { before = []; after = x ∷ names; names_are = refl; index_is = refl; all_before = tt; all_after = (f x refl, after_more name x.name names (f x refl) (order_head x names a)) }
+    record { before = []; after = x ∷ names; names_are = refl; index_is = refl; low = tt; its = tt; high = (f x refl, after_more name x.name names (f x refl) (order_head x names a)) }
 
 pub stands_after : (names : List Root) (name : List ℕ) (i : ℕ) (x : Root) → InOrder names → slice_get names i ≡ Some x → Precedes x.name name
-    → ((r : Root) → slice_get names (suc i) ≡ Some r → Precedes name r.name) → StandsAt names name (suc i) []
+    → ((r : Root) → slice_get names (suc i) ≡ Some r → Precedes name r.name) → PartedNames names name (suc i) []
 stands_after [] name i x a e h f = cc
 stands_after (z ∷ names) name zero x a e h f =
     let same : z ≡ x = cc in
@@ -122,6 +122,42 @@ get_below [] i r e = cc
 get_below (x ∷ xs) zero r e = omega arith
 get_below (x ∷ xs) (suc i) r e = let h = get_below xs i r e in omega arith
 
+-- ---- the test whether a name comes before another
+
+comes_true : (xs ys : List ℕ) → Precedes xs ys → comes_before xs ys ≡ true
+comes_true [] [] h = absurd h
+comes_true [] (y ∷ ys) h = refl
+comes_true (x ∷ xs) [] h = absurd h
+comes_true (x ∷ xs) (y ∷ ys) (inl l) = let e : nat_lt x y ≡ true = lt-ltb x y l in rw e refl
+comes_true (x ∷ xs) (y ∷ ys) (inr e) =
+    let not_less : nat_lt x y ≡ false = le-ltb x y (omega (arith, e.0)) in
+    let same : (x == y) ≡ true = (let is = e.0 in grind (arith, nat_tests)) in
+    rw (not_less, same) (comes_true xs ys e.1)
+
+comes_so : (xs ys : List ℕ) → comes_before xs ys ≡ true → Precedes xs ys
+comes_so [] [] e = cc
+comes_so [] (y ∷ ys) e = tt
+comes_so (x ∷ xs) [] e = cc
+comes_so (x ∷ xs) (y ∷ ys) e = go (nat_lt x y) (x == y) refl refl (comes_so xs ys)
+  where
+    go : (a b : Bool) → nat_lt x y ≡ a → (x == y) ≡ b → (comes_before xs ys ≡ true → Precedes xs ys) → (x < y) ⊎ ((x ≡ y) × Precedes xs ys)
+    go true b less same more = inl (ltb-true x y less)
+    go false true less same more = let is : x ≡ y = grind (arith, nat_tests) in inr (is, more (ap (λ t. t && comes_before xs ys) (sym same) ∙ ap (λ t. t || ((x == y) && comes_before xs ys)) (sym less) ∙ e))
+    go false false less same more = let both : false ≡ true = ap (λ t. t && comes_before xs ys) (sym same) ∙ ap (λ t. t || ((x == y) && comes_before xs ys)) (sym less) ∙ e in cc
+
+comes_false : (xs ys : List ℕ) → (Precedes xs ys → ⊥) → comes_before xs ys ≡ false
+comes_false xs ys n = go (comes_before xs ys) refl
+  where
+    go : (b : Bool) → comes_before xs ys ≡ b → comes_before xs ys ≡ false
+    go true e = absurd (n (comes_so xs ys e))
+    go false e = e
+
+not_past : (name other : List ℕ) → Precedes other name → comes_before name other ≡ false
+not_past name other h = comes_false name other (λ k. precedes_differs name name (precedes_trans name other name k h) refl)
+
+not_past_same : (name other : List ℕ) → other ≡ name → comes_before name other ≡ false
+not_past_same name other e = comes_false name other (λ k. precedes_differs name other k (sym e))
+
 -- ---- what the definitions say of such names
 
 named_past : (xs ys : List Root) (name : List ℕ) → AllBefore name xs → root_named (xs ++ ys) name ≡ root_named ys name
@@ -132,55 +168,43 @@ named_none : (xs : List Root) (name : List ℕ) → AllAfter name xs → root_na
 named_none [] name all = refl
 named_none (x ∷ xs) name all = rw (precedes_test name x.name all.0) (named_none xs name all.1)
 
-not_past : (name other : List ℕ) → Precedes other name → is_lt (slice_cmp nat_cmp name other) ≡ false
-not_past name other h = ap is_lt (greater_of_precedes name other h)
-
-not_past_same : (name other : List ℕ) → other ≡ name → is_lt (slice_cmp nat_cmp name other) ≡ false
-not_past_same name other e = ap is_lt (equal_of_same name other (sym e))
-
-yes_past : (name other : List ℕ) → Precedes name other → is_lt (slice_cmp nat_cmp name other) ≡ true
-yes_past name other h = ap is_lt (less_of_precedes name other h)
-
-next_past : (xs ys : List Root) (name : List ℕ) → AllBefore name xs → next_root (xs ++ ys) name ≡ next_root ys name
+next_past : (xs ys : List Root) (name : List ℕ) → AllBefore name xs → root_after (xs ++ ys) name ≡ root_after ys name
 next_past [] ys name all = refl
 next_past (x ∷ xs) ys name all = rw (not_past name x.name all.0) (next_past xs ys name all.1)
 
-next_first : (xs : List Root) (name : List ℕ) → AllAfter name xs → next_root xs name ≡ slice_get xs 0
+next_first : (xs : List Root) (name : List ℕ) → AllAfter name xs → root_after xs name ≡ slice_get xs 0
 next_first [] name all = refl
-next_first (x ∷ xs) name all = rw (yes_past name x.name all.0) refl
+next_first (x ∷ xs) name all = rw (comes_true name x.name all.0) refl
 
 module _ (names : List Root) (name : List ℕ) (i : ℕ) where
-  module _ (r : Root) (f : FoundAt names name i r) where
-    abbrev s : StandsAt names name i (r ∷ [])
-    s = f.stands
-
+  module _ (r : Root) (s : PartedNames names name i (r ∷ [])) where
     pub found_named : root_named names name ≡ Some r
     found_named =
-        let test : same_name name r.name ≡ true = ap (same_name name) f.same ∙ same_name_self name in
-        ap (λ rs. root_named rs name) s.names_are ∙ named_past s.before (r ∷ s.after) name s.all_before ∙ rw test refl
-
-    pub found_next : next_root names name ≡ slice_get names (suc i)
-    found_next =
-        let one : length s.before + 1 ≡ suc i = omega (arith, s.index_is) in
-        ap (λ rs. next_root rs name) s.names_are ∙ next_past s.before (r ∷ s.after) name s.all_before ∙ rw (not_past_same name r.name f.same) (next_first s.after name s.all_after)
-        ∙ sym (ap (slice_get names) (sym one) ∙ ap (λ rs. slice_get rs (length s.before + 1)) s.names_are ∙ get_append s.before (r ∷ s.after) 1)
+        let test : same_name name r.name ≡ true = ap (same_name name) s.its.0 ∙ same_name_self name in
+        ap (λ rs. root_named rs name) s.names_are ∙ named_past s.before (r ∷ s.after) name s.low ∙ rw test refl
 
     pub found_get : slice_get names i ≡ Some r
     found_get =
         let none : length s.before + 0 ≡ i = omega (arith, s.index_is) in
         ap (slice_get names) (sym none) ∙ ap (λ rs. slice_get rs (length s.before + 0)) s.names_are ∙ get_append s.before (r ∷ s.after) 0
 
+    pub found_next : root_after names name ≡ slice_get names (suc i)
+    found_next =
+        let one : length s.before + 1 ≡ suc i = omega (arith, s.index_is) in
+        ap (λ rs. root_after rs name) s.names_are ∙ next_past s.before (r ∷ s.after) name s.low ∙ rw (not_past_same name r.name s.its.0) (next_first s.after name s.high)
+        ∙ sym (ap (slice_get names) (sym one) ∙ ap (λ rs. slice_get rs (length s.before + 1)) s.names_are ∙ get_append s.before (r ∷ s.after) 1)
+
     pub found_below : i < length names
     found_below = get_below names i r found_get
 
-  module _ (s : StandsAt names name i []) where
+  module _ (s : PartedNames names name i []) where
     pub missing_named : root_named names name ≡ None
-    missing_named = ap (λ rs. root_named rs name) s.names_are ∙ named_past s.before s.after name s.all_before ∙ named_none s.after name s.all_after
+    missing_named = ap (λ rs. root_named rs name) s.names_are ∙ named_past s.before s.after name s.low ∙ named_none s.after name s.high
 
-    pub missing_next : next_root names name ≡ slice_get names i
+    pub missing_next : root_after names name ≡ slice_get names i
     missing_next =
         let none : length s.before + 0 ≡ i = omega (arith, s.index_is) in
-        ap (λ rs. next_root rs name) s.names_are ∙ next_past s.before s.after name s.all_before ∙ next_first s.after name s.all_after
+        ap (λ rs. root_after rs name) s.names_are ∙ next_past s.before s.after name s.low ∙ next_first s.after name s.high
         ∙ sym (ap (slice_get names) (sym none) ∙ ap (λ rs. slice_get rs (length s.before + 0)) s.names_are ∙ get_append s.before s.after 0)
 
     pub missing_within : i ≤ length names
@@ -190,17 +214,17 @@ module _ (names : List Root) (name : List ℕ) (i : ℕ) where
 
 module _ (names : List Root) (in_order : InOrder names) (name : List ℕ) (n : ℕ) (n_is : n ≡ length names) (P : ℕ → Ordering → Type 0)
     (tells : (i : ℕ) (r : Root) (o : Ordering) → slice_get names i ≡ Some r → P i o → o ≡ slice_cmp nat_cmp r.name name) where
-  halves_found : (i : ℕ) → i < n → P i Equal → (r : Root) × FoundAt names name i r
+  halves_found : (i : ℕ) → i < n → P i Equal → (r : Root) × PartedNames names name i (r ∷ [])
   halves_found i h p =
       let it = get_there names i (omega arith) in
       let same : it.0.name ≡ name = same_of_equal it.0.name name (sym (tells i it.0 Equal it.1 p)) in
-      (it.0, record { same = same; stands = stands_there names name i it.0 in_order it.1 same })
+      (it.0, stands_there names name i it.0 in_order it.1 same)
 
   above : (i : ℕ) → (i ≡ n) ⊎ P i Greater → (r : Root) → slice_get names i ≡ Some r → Precedes name r.name
   above i (inl e) r at = let none = slice_get_past names i (omega arith) in cc
   above i (inr p) r at = precedes_of_greater r.name name (sym (tells i r Greater at p))
 
-  halves_missing : (i : ℕ) → i ≤ n → (i ≡ 0) ⊎ P (i - 1) Less → ((r : Root) → slice_get names i ≡ Some r → Precedes name r.name) → StandsAt names name i []
+  halves_missing : (i : ℕ) → i ≤ n → (i ≡ 0) ⊎ P (i - 1) Less → ((r : Root) → slice_get names i ≡ Some r → Precedes name r.name) → PartedNames names name i []
   halves_missing zero h low high = stands_front names name in_order high
   halves_missing (suc i) h (inl e) high = absurd (omega arith)
   halves_missing (suc i) h (inr p) high =
@@ -209,6 +233,6 @@ module _ (names : List Root) (in_order : InOrder names) (name : List ℕ) (n : �
       stands_after names name i it.0 in_order it.1 (precedes_of_less it.0.name name (sym (tells i it.0 Less it.1 (subst (λ j. P j Less) back p)))) high
 
   pub halves_end : (result : Result ℕ ℕ) → IfOk result (λ i. (i < n) × P i Equal) → IfErr result (λ i. (i ≤ n) × IsBetween P n i)
-      → MatchResult result (λ i. (r : Root) × FoundAt names name i r) (λ i. StandsAt names name i [])
+      → MatchResult result (λ i. (r : Root) × PartedNames names name i (r ∷ [])) (λ i. PartedNames names name i [])
   halves_end (Ok i) there between = halves_found i there.0 there.1
   halves_end (Err i) there between = halves_missing i between.0 between.1.0 (above i between.1.1)
