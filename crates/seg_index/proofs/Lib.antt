@@ -5,3 +5,4 @@ pub mod EntryLaws
 pub mod RootOrder
 pub mod FlatEntries
 pub mod FlatChanges
+pub mod Results
