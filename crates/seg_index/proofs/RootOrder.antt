@@ -126,7 +126,7 @@ get_below (x ∷ xs) (suc i) r e = let h = get_below xs i r e in omega arith
 
 -- ---- the test whether a name comes before another
 
-comes_true : (xs ys : List ℕ) → Precedes xs ys → comes_before xs ys ≡ true
+pub comes_true : (xs ys : List ℕ) → Precedes xs ys → comes_before xs ys ≡ true
 comes_true [] [] h = absurd h
 comes_true [] (y ∷ ys) h = refl
 comes_true (x ∷ xs) [] h = absurd h
@@ -147,7 +147,7 @@ comes_so (x ∷ xs) (y ∷ ys) e = go (nat_lt x y) (x == y) refl refl (comes_so 
     go false true less same more = let is : x ≡ y = grind (arith, nat_tests) in inr (is, more (ap (λ t. t && comes_before xs ys) (sym same) ∙ ap (λ t. t || ((x == y) && comes_before xs ys)) (sym less) ∙ e))
     go false false less same more = let both : false ≡ true = ap (λ t. t && comes_before xs ys) (sym same) ∙ ap (λ t. t || ((x == y) && comes_before xs ys)) (sym less) ∙ e in cc
 
-comes_false : (xs ys : List ℕ) → (Precedes xs ys → ⊥) → comes_before xs ys ≡ false
+pub comes_false : (xs ys : List ℕ) → (Precedes xs ys → ⊥) → comes_before xs ys ≡ false
 comes_false xs ys n = go (comes_before xs ys) refl
   where
     go : (b : Bool) → comes_before xs ys ≡ b → comes_before xs ys ≡ false
