@@ -6,3 +6,4 @@ pub mod RootOrder
 pub mod FlatEntries
 pub mod FlatChanges
 pub mod Results
+pub mod TreeLists
