@@ -1,9 +1,10 @@
 -- The entries of a flat index, by their indices.
-use Rattle.std.proofs.Common.{◌≡◌, ◌≢◌, ℕ, zero, suc, ◌+◌, ◌-◌, ◌*◌, ◌%◌, ◌^◌, ◌<◌, ◌≤◌, List, [], ◌∷◌, length, Option, Some, None, refl, sym, ap, ◌∙◌, subst, arith}
+use Rattle.std.proofs.Common.{◌≡◌, ◌≢◌, ℕ, zero, suc, ◌+◌, ◌-◌, ◌*◌, ◌%◌, ◌^◌, ◌<◌, ◌≤◌, List, [], ◌∷◌, length, Option, Some, None, Result, Ok, MatchResult, min, IfOk, IfErr, refl, sym, ap, ◌∙◌, subst, arith}
 use Rattle.std.specs.Prelude.{slice_get, option_map}
 use Rattle.std.specs.Cmp.Lexicographic.{slice_cmp}
 use Rattle.std.specs.Ordering.{nat_cmp}
 use Rattle.std.specs.declared.cmp.Ordering.{Ordering}
+use Rattle.std.specs.declared.cmp.Ordering.TheVariants.{Equal}
 use Rattle.std.proofs.lemmas.Option.{slice_get_past}
 use Rattle.seg_spec.specs.Bytes.{word}
 use Rattle.seg_spec.specs.Header.{index_kind_word, index_cell, heap_start}
@@ -16,14 +17,15 @@ use Rattle.seg_spec.specs.Index.{Root, Index, OpensIndex, OpensFlat, IsEntry, Ar
 use Rattle.seg_spec.specs.Sound.{times, positions}
 use Rattle.seg_spec.proofs.Leading.{each_at}
 use Rattle.seg_spec.proofs.LiveLaws.{there, LiesIn, live-lie}
-use Rattle.seg_value.specs.Names.{FindsNames, name_entry}
+use Rattle.seg_value.specs.Search.{IsBetween}
+use Rattle.seg_value.specs.Names.{FindsNames}
 use Rattle.seg_value.proofs.Named.{name_block, name_room}
 use Rattle.seg_index.specs.Names.{name_of, name_at}
 use Rattle.seg_index.specs.Entries.{entry_read}
-use Rattle.seg_index.specs.Lists.{entry_of, IsNamed, FindsNamesOf}
+use Rattle.seg_index.specs.Lists.{entry_of, root_after, PartedNames, IsNamed, FindsNamesOf}
 use Rattle.seg_index.specs.declared.entry.NameEntry.{NameEntry}
 use Rattle.seg_index.proofs.EntryLaws.{entry_reads, name_reads, type_small}
-use Rattle.seg_index.proofs.RootOrder.{InOrder, get_there, get_below}
+use Rattle.seg_index.proofs.RootOrder.{InOrder, get_there, get_below, halves_end, Searched, next_found}
 
 -- ---- entries that stand one after the other
 
@@ -153,3 +155,35 @@ module _ (allocator : ℕ) (bytes : List ℕ) (table : Table) (names : List Root
 
   pub flat_order : InOrder names
   flat_order = f.lists.ascending
+
+  -- ---- the search by halves
+
+  -- how the entry at an index compares with a name, as the code reads it
+  abbrev pub Compares : ℕ → List ℕ → ℕ → Ordering → Type 0
+  Compares first name i o = o ≡ slice_cmp nat_cmp (name_at table bytes ((first + i * 8) % 2 ^ 32)) name
+
+  pub searched : (name : List ℕ) (first len : ℕ) (result : Result ℕ ℕ) → first ≡ start bytes index_cell → len ≡ count_at bytes index_cell
+      → IfOk result (λ i. (i < len) × Compares first name i Equal) → IfErr result (λ i. (i ≤ len) × IsBetween (Compares first name) len i)
+      → MatchResult result (λ i. (r : Root) × PartedNames names name i (r ∷ [])) (λ i. PartedNames names name i [])
+  searched name first len result first_is len_is found missing =
+      halves_end names flat_order name len (len_is ∙ sym flat_length) (Compares first name)
+      (λ i r o at is. is ∙ ap (λ xs. slice_cmp nat_cmp xs name) (ap (λ p. name_at table bytes ((p + i * 8) % 2 ^ 32)) first_is ∙ flat_name i r at))
+      result found missing
+
+  -- ---- what the calls that read return
+
+  -- an entry by its index
+  pub entry_got : (i len : ℕ) (entry : NameEntry) → len ≡ count_at bytes index_cell → i < len → ((r : Root) → slice_get names i ≡ Some r → entry ≡ entry_of r) → Some entry ≡ option_map entry_of (slice_get names i)
+  entry_got i len entry len_is h is =
+      let it = get_there names i (omega (arith, flat_length)) in
+      ap Some (is it.0 it.1) ∙ sym (ap (option_map entry_of) it.1)
+
+  pub entry_missing : (i len : ℕ) → len ≡ count_at bytes index_cell → len ≤ i → None ≡ option_map entry_of (slice_get names i)
+  entry_missing i len len_is h = sym (ap (option_map entry_of) (flat_none i (omega arith)))
+
+  -- the first entry after a name, by what a search for that one says
+  pub next_index : (name : List ℕ) (r : Result ℕ ℕ) (i j : ℕ) → Searched names name r → r ≡ Ok i → j ≡ min (i + 1) 4294967295 → slice_get names j ≡ root_after names name
+  next_index name r i j h e j_is =
+      let it = next_found names name r i h e in
+      let next : j ≡ suc i = omega (arith, it.0, flat_length, flat_fits i (subst (λ k. i < k) flat_length it.0), f.heap.small) in
+      ap (slice_get names) next ∙ it.1

@@ -5,4 +5,5 @@ pub mod EntryLaws
 pub mod RootOrder
 pub mod FlatEntries
 pub mod FlatChanges
+pub mod Results
 pub mod TreeLists

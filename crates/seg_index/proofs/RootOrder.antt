@@ -1,7 +1,8 @@
 -- Roots in ascending order of their names, and where a name stands among them.
-use Rattle.std.proofs.Common.{◌≡◌, ◌≢◌, ℕ, zero, suc, ◌+◌, ◌-◌, ◌<◌, ◌≤◌, ◌⊎◌, inl, inr, Bool, true, false, List, [], ◌∷◌, ◌++◌, length, map, Option, Some, None, Result, Ok, Err, MatchResult, IfOk, IfErr, refl, sym, ap, ◌∙◌, subst, arith, zero-add, length-append, lt-ltb, le-ltb, ltb-true}
+use Rattle.std.proofs.Common.{◌≡◌, ◌≢◌, ℕ, zero, suc, ◌+◌, ◌-◌, ◌<◌, ◌≤◌, ◌⊎◌, inl, inr, Bool, true, false, List, [], ◌∷◌, ◌++◌, length, map, Option, Some, None, Result, Ok, Err, MatchResult, MatchOption, IfOk, IfErr, option_map, refl, sym, ap, ◌∙◌, subst, arith, zero-add, length-append, lt-ltb, le-ltb, ltb-true}
 use Rattle.std.specs.Prelude.{◌==◌, ◌&&◌, ◌||◌, nat_lt, slice_get, if◌then◌else◌}
 use Rattle.std.specs.List.{AllByRecursion}
+use Rattle.std.specs.Result.{result_ok}
 use Rattle.std.specs.Ordering.{nat_cmp}
 use Rattle.std.specs.Cmp.Lexicographic.{slice_cmp}
 use Rattle.std.specs.declared.cmp.Ordering.{Ordering}
@@ -10,7 +11,8 @@ use Rattle.std.proofs.lemmas.Bool.Decides.{nat_tests}
 use Rattle.std.proofs.lemmas.Option.{slice_get_past}
 use Rattle.seg_spec.specs.Index.{Root, Precedes, AreAscending, same_name, root_named}
 use Rattle.seg_value.specs.Search.{IsBetween}
-use Rattle.seg_index.specs.Lists.{comes_before, root_after, PartedNames}
+use Rattle.seg_index.specs.Lists.{entry_of, comes_before, root_after, PartedNames, LooksUp}
+use Rattle.seg_index.specs.declared.entry.NameEntry.{NameEntry}
 use Rattle.seg_index.proofs.Precedes.{precedes_of_less, precedes_of_greater, same_of_equal, precedes_trans, precedes_differs, same_name_self, precedes_test, precedes_test_back}
 
 -- ---- names before, and names after
@@ -236,3 +238,50 @@ module _ (names : List Root) (in_order : InOrder names) (name : List ℕ) (n : �
       → MatchResult result (λ i. (r : Root) × PartedNames names name i (r ∷ [])) (λ i. PartedNames names name i [])
   halves_end (Ok i) there between = halves_found i there.0 there.1
   halves_end (Err i) there between = halves_missing i between.0 between.1.0 (above i between.1.1)
+
+-- ---- what calls return by what a search says
+
+-- the index of the name's root, or the one where it would stand
+abbrev pub Searched : List Root → List ℕ → Result ℕ ℕ → Type 0
+Searched names name r = MatchResult r (λ i. (root : Root) × PartedNames names name i (root ∷ [])) (λ i. PartedNames names name i [])
+
+-- what looking a name up returns, by the root of the name
+abbrev Found : List Root → List ℕ → Option NameEntry → ℕ → Option Root → Type 0
+Found names name found i o = MatchOption o ((found ≡ None) × PartedNames names name i []) (λ root. (found ≡ Some (entry_of root)) × PartedNames names name i (root ∷ []))
+
+module _ (names : List Root) (name : List ℕ) where
+  pub searched_ok : (r : Result ℕ ℕ) (i : ℕ) → Searched names name r → result_ok r ≡ Some i → (root : Root) × PartedNames names name i (root ∷ [])
+  searched_ok (Ok j) i h e = let same : j ≡ i = cc in subst (λ k. (root : Root) × PartedNames names name k (root ∷ [])) same h
+  searched_ok (Err j) i h e = cc
+
+  pub searched_none : (r : Result ℕ ℕ) → Searched names name r → result_ok r ≡ None → root_named names name ≡ None
+  searched_none (Ok j) h e = cc
+  searched_none (Err j) h e = missing_named names name j h
+
+  pub entry_found : (r : Result ℕ ℕ) (i : ℕ) (entry : NameEntry) → Searched names name r → result_ok r ≡ Some i → ((root : Root) → slice_get names i ≡ Some root → entry ≡ entry_of root)
+      → Some entry ≡ option_map entry_of (root_named names name)
+  entry_found r i entry h e is =
+      let it = searched_ok r i h e in
+      ap Some (is it.0 (found_get names name i it.0 it.1)) ∙ sym (ap (option_map entry_of) (found_named names name i it.0 it.1))
+
+  pub entry_absent : (r : Result ℕ ℕ) → Searched names name r → result_ok r ≡ None → None ≡ option_map entry_of (root_named names name)
+  entry_absent r h e = sym (ap (option_map entry_of) (searched_none r h e))
+
+  pub looked_up : (r : Result ℕ ℕ) (i : ℕ) (entry : NameEntry) → Searched names name r → r ≡ Ok i → ((root : Root) → slice_get names i ≡ Some root → entry ≡ entry_of root)
+      → LooksUp names name (Some entry) (PartedNames names name i)
+  looked_up r i entry h e is =
+      let it = searched_ok r i h (ap result_ok e) in
+      subst (Found names name (Some entry) i) (sym (found_named names name i it.0 it.1))
+      (ap Some (is it.0 (found_get names name i it.0 it.1)), it.1)
+
+  pub looked_up_none : (r : Result ℕ ℕ) (i : ℕ) → Searched names name r → r ≡ Err i → LooksUp names name None (PartedNames names name i)
+  looked_up_none r i h e =
+      let s : PartedNames names name i [] = subst (Searched names name) e h in
+      subst (Found names name None i) (sym (missing_named names name i s)) (refl, s)
+
+  -- the first root after a name, by what a search for that one says
+  pub next_missing : (r : Result ℕ ℕ) (i : ℕ) → Searched names name r → r ≡ Err i → slice_get names i ≡ root_after names name
+  next_missing r i h e = sym (missing_next names name i (subst (Searched names name) e h))
+
+  pub next_found : (r : Result ℕ ℕ) (i : ℕ) → Searched names name r → r ≡ Ok i → (i < length names) × (slice_get names (suc i) ≡ root_after names name)
+  next_found r i h e = let it = searched_ok r i h (ap result_ok e) in (found_below names name i it.0 it.1, sym (found_next names name i it.0 it.1))
