@@ -7,3 +7,6 @@ pub mod FlatEntries
 pub mod FlatChanges
 pub mod Results
 pub mod TreeLists
+pub mod Relinked
+pub mod TreeChanges
+pub mod TreeRemoves
