@@ -10,3 +10,5 @@ pub mod TreeLists
 pub mod Relinked
 pub mod TreeChanges
 pub mod TreeRemoves
+pub mod Kept
+pub mod TreeEnters
