@@ -1,10 +1,10 @@
 -- The tree of the index with the names that it lists, as the calls on nodes see it.
-use Rattle.std.proofs.Common.{◌≡◌, ◌≢◌, ℕ, zero, suc, ◌+◌, ◌*◌, ◌-◌, ◌^◌, ◌<◌, ◌≤◌, Bool, true, false, cond, List, [], ◌∷◌, ◌++◌, length, map, Option, Some, None, option_map, refl, sym, ap, ◌∙◌, subst, arith}
+use Rattle.std.proofs.Common.{◌≡◌, ◌≢◌, ℕ, zero, suc, ◌+◌, ◌*◌, ◌-◌, ◌^◌, ◌<◌, ◌≤◌, Bool, true, false, cond, List, [], ◌∷◌, ◌++◌, length, map, Option, Some, None, MatchOption, option_map, refl, sym, ap, ◌∙◌, subst, arith}
 use Rattle.std.specs.Prelude.{⊤, slice_get}
 use Rattle.std.proofs.lemmas.List.{length-map}
 use Rattle.std.specs.List.{AllByRecursion}
-use Rattle.std.specs.Ordering.{nat_cmp, is_eq}
-use Rattle.std.specs.Cmp.Lexicographic.{slice_cmp}
+use Rattle.std.specs.Ordering.{nat_cmp, is_eq, ordering_reverse}
+use Rattle.std.specs.Cmp.Lexicographic.{slice_cmp, nat_list_cmp_total}
 use Rattle.std.specs.declared.cmp.Ordering.{Ordering}
 use Rattle.std.specs.declared.cmp.Ordering.TheVariants.{Less, Equal, Greater}
 use Rattle.seg_spec.specs.Bytes.{word}
@@ -21,9 +21,14 @@ use Rattle.seg_spec.specs.Sound.{times, positions}
 use Rattle.seg_spec.proofs.Frame.{each_weaker}
 use Rattle.seg_spec.proofs.LiveLaws.{times-same, times-more, there, LiesIn, live-lie}
 use Rattle.seg_spec.proofs.FewBlocks.{no_more, few_live}
+use Rattle.seg_rbtree.specs.declared.path.Path.{Path}
+use Rattle.seg_rbtree.specs.Ways.{LeadsTo}
+use Rattle.seg_rbtree.specs.Paths.{FindsEqual}
+use Rattle.seg_rbtree.proofs.Paths.{finds_first}
+use Rattle.seg_rbtree.proofs.Keys.{equal_to_one}
 use Rattle.seg_index.specs.Names.{name_at}
 use Rattle.seg_index.specs.Entries.{entry_read}
-use Rattle.seg_index.specs.Lists.{entry_of, comes_before, root_after, IsNamed, FindsNamesOf}
+use Rattle.seg_index.specs.Lists.{entry_of, comes_before, root_after, IsNamed, FindsNamesOf, LeadsToName, LooksUp}
 use Rattle.seg_index.specs.declared.entry.NameEntry.{NameEntry}
 use Rattle.seg_index.proofs.Precedes.{less_of_precedes, precedes_of_less, precedes_of_greater, same_of_equal, same_name_self, precedes_test, precedes_test_back, precedes_trans, precedes_differs}
 use Rattle.seg_index.proofs.EntryLaws.{entry_reads, name_reads, type_small}
@@ -210,3 +215,26 @@ module _ (allocator : ℕ) (bytes : List ℕ) (table : Table) (names : List Root
         let found_there : o ≡ first_where (λ x. reaches Greater (slice_cmp nat_cmp (name_at table bytes (x + 16)) name)) nodes =
             e shape there_too in_order ∙ ap (λ bs. first_where (λ x. reaches Greater (slice_cmp nat_cmp (name_at here bs (x + 16)) name)) nodes) same ∙ ap (λ t. first_where (λ x. reaches Greater (slice_cmp nat_cmp (name_at t bytes (x + 16)) name)) nodes) table_is in
         ap (option_map (entry_in bytes table)) found_there ∙ next_listed bytes table name nodes names listed
+
+    -- what the way down to a name found
+    pub path_is : (name : List ℕ) (o : Option ℕ) → ((tree : Tree) → IsSearchTree now root tree → Ascend (order now here) (nodes_of tree)
+        → FindsEqual (λ x. slice_cmp nat_cmp (name_at here now (x + 16)) name) (nodes_of tree) o) → option_map (entry_in bytes table) o ≡ option_map entry_of (root_named names name)
+    path_is name o e = found_is name o (λ tree t a. finds_first (λ x. slice_cmp nat_cmp (name_at here now (x + 16)) name) (order now here)
+        (λ x y f g. equal_to_one nat_list_cmp_total (name_at here now (x + 16)) (name_at here now (y + 16)) name f g) (nodes_of tree) o a (e tree t a))
+
+    pub leads_to : (name : List ℕ) (path : Path) → path.root ≡ root → ((tree : Tree) → IsSearchTree now root tree → LeadsTo (λ x. ordering_reverse (slice_cmp nat_cmp (name_at here now (x + 16)) name)) tree path)
+        → LeadsToName bytes table name path
+    leads_to name path path_root leads =
+        let Leads : List ℕ → Table → ℕ → Type 0 = λ bs t r. (tree : Tree) → IsSearchTree bs r tree → LeadsTo (λ x. ordering_reverse (slice_cmp nat_cmp (name_at t bs (x + 16)) name)) tree path in
+        record {
+          root_is = path_root ∙ root_is;
+          leads = subst (λ r. Leads bytes table r) root_is (subst (λ t. Leads bytes t root) table_is (subst (λ bs. Leads bs here root) same leads));
+        }
+
+-- a search for a name whose spot doesn't tell whether the name is there
+looks_by : (o : Option Root) (found : Option NameEntry) (P : Type 0) → found ≡ option_map entry_of o → P → MatchOption o ((found ≡ None) × P) (λ root. (found ≡ Some (entry_of root)) × P)
+looks_by None found P e p = (e, p)
+looks_by (Some root) found P e p = (e, p)
+
+pub looks_up : (names : List Root) (name : List ℕ) (found : Option NameEntry) (P : Type 0) → found ≡ option_map entry_of (root_named names name) → P → LooksUp names name found (λ these. P)
+looks_up names name found P e p = looks_by (root_named names name) found P e p
