@@ -7,3 +7,5 @@ pub mod FlatEntries
 pub mod FlatChanges
 pub mod Results
 pub mod TreeLists
+pub mod LookUps
+pub mod HeldNames
