@@ -43,7 +43,7 @@ word_parts bytes at fits =
     let whole : word bytes at ≡ spelled (slice bytes at 4) = number_slice 4 bytes at fits in
     let zero_more : at + 0 ≡ at = omega arith in
     let low : half bytes at ≡ spelled (slice (slice bytes at 4) 0 2) =
-        number_slice 2 bytes at (omega arith) ∙ ap (λ p. spelled (slice bytes p 2)) (sym zero_more) ∙ ap spelled (sym (slice-slice bytes at 4 0 2 (omega arith))) in
+    number_slice 2 bytes at (omega arith) ∙ ap (λ p. spelled (slice bytes p 2)) (sym zero_more) ∙ ap spelled (sym (slice-slice bytes at 4 0 2 (omega arith))) in
     let third : byte bytes (at + 2) ≡ spelled (slice (slice bytes at 4) 2 1) = number_slice 1 bytes (at + 2) (omega arith) ∙ ap spelled (sym (slice-slice bytes at 4 2 1 (omega arith))) in
     let fourth : byte bytes (at + 3) ≡ spelled (slice (slice bytes at 4) 3 1) = number_slice 1 bytes (at + 3) (omega arith) ∙ ap spelled (sym (slice-slice bytes at 4 3 1 (omega arith))) in
     let parts = four (slice bytes at 4) (length-slice bytes at 4 fits) in
@@ -92,7 +92,7 @@ module _ (bytes : List ℕ) (entry : ℕ) (root : Root) (o : IsEntry bytes entry
 pub entry_moved : (old new : List ℕ) (from to : ℕ) (root : Root) → IsSameEntry old new from to → IsEntry old from root → IsEntry new to root
 entry_moved old new from to root s o =
     let part = λ (i w : ℕ) (inside : i + w ≤ 4). number-slice w old new (to + 4 + i) (from + 4 + i)
-        (sym (slice-slice new (to + 4) 4 i w inside) ∙ ap (λ b. slice b i w) s.1 ∙ slice-slice old (from + 4) 4 i w inside) in
+    (sym (slice-slice new (to + 4) 4 i w inside) ∙ ap (λ b. slice b i w) s.1 ∙ slice-slice old (from + 4) 4 i w inside) in
     record {
       points = s.0 ∙ o.points;
       counted = ap (half new) (let e : to + 4 ≡ to + 4 + 0 = omega arith in e) ∙ part 0 2 (omega arith) ∙ ap (half old) (let e : from + 4 + 0 ≡ from + 4 = omega arith in e) ∙ o.counted;

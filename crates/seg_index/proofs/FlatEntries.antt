@@ -56,9 +56,11 @@ entries_of bytes from zero [] e h = tt
 entries_of bytes from zero (r ∷ names) e h = absurd (omega arith)
 entries_of bytes from (suc n) [] e h = absurd (omega arith)
 entries_of bytes from (suc n) (r ∷ names) e h =
-    let first : from + 0 * 8 ≡ from = omega arith in
-    (subst (λ p. IsEntry bytes p r) first (h 0 r refl), entries_of bytes (from + 8) n names (omega arith) (λ i s at.
-    let next : from + suc i * 8 ≡ from + 8 + i * 8 = omega arith in subst (λ p. IsEntry bytes p s) next (h (suc i) s at)))
+    let first : from + 0 * 8 ≡ from = omega arith in (
+      subst (λ p. IsEntry bytes p r) first (h 0 r refl),
+      entries_of bytes (from + 8) n names (omega arith) (λ i s at.
+          let next : from + suc i * 8 ≡ from + 8 + i * 8 = omega arith in subst (λ p. IsEntry bytes p s) next (h (suc i) s at)),
+    )
 
 -- ---- what calls on a flat index find
 

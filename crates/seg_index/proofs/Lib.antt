@@ -12,3 +12,5 @@ pub mod TreeChanges
 pub mod TreeRemoves
 pub mod Kept
 pub mod TreeEnters
+pub mod LookUps
+pub mod HeldNames

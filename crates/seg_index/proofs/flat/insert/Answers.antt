@@ -1,7 +1,5 @@
-use Rattle.std.proofs.Common.{◌≡◌, ◌+◌, ◌^◌, ◌<◌, ◌≤◌, ap, ◌∙◌, sym, subst, refl, List, ℕ, arith}
-use Rattle.seg_spec.specs.Calls.{Refuses}
-use Rattle.seg_spec.specs.Spending.{entry_asks}
-use Rattle.seg_spec.specs.Window.{Placement, with_bytes}
+use Rattle.std.proofs.Common.{◌≡◌, ◌+◌, ◌^◌, ◌<◌, ap, ◌∙◌, sym, subst, refl, arith}
+use Rattle.seg_spec.specs.Window.{Placement}
 use Rattle.seg_value.specs.Names.{index_cell, FindsIndex}
 use Rattle.seg_index.specs.Entries.{write_entry}
 use Rattle.seg_index.specs.Lists.{EntersName}
@@ -31,6 +29,6 @@ returns-clause-enters g c = λ names blocks f flat root enters e s.
     let opens = c.in_ok-at.ensures.opens_name finds (index_within g.F.Fit.allocator old table names blocks f flat root c.args.index s) in
     let low : c.in_ok-at.at + 4 < 2 ^ 64 = omega (arith, opens.within.fits, opens.within.small) in
     let written : c.write.new.w.bytes ≡ write_entry mid.bytes c.in_ok-at.at c.args.entry =
-        bytes_of _ _ (c.write.ensures.written low) ∙ ap (λ (p : Placement). write_entry p.bytes c.in_ok-at.at c.args.entry) c.window_mut.ensures.value in
+    bytes_of _ _ (c.write.ensures.written low) ∙ ap (λ (p : Placement). write_entry p.bytes c.in_ok-at.at c.args.entry) c.window_mut.ensures.value in
     let is = written ∙ ap (write_entry mid.bytes c.in_ok-at.at) e in
     subst (λ bs. EntersName g.F.Fit.allocator old bs table names blocks root) (sym is) (name_entered g.F.Fit.allocator old table names blocks f flat root c.args.index s enters mid.bytes c.in_ok-at.at opens)

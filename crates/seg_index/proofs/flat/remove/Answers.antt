@@ -1,4 +1,4 @@
-use Rattle.std.proofs.Common.{◌≡◌, ◌<◌, ap, ◌∙◌, sym, subst, refl, ℕ, arith}
+use Rattle.std.proofs.Common.{◌<◌, ◌∙◌, sym, subst, refl}
 use Rattle.seg_value.specs.Names.{index_cell, FindsIndex}
 use Rattle.seg_index.proofs.FlatEntries.{flat_finds, flat_length}
 use Rattle.seg_index.proofs.FlatChanges.{name_left, left_finds, last_left}
