@@ -2,7 +2,7 @@
 --     finds_kept      calls find the same names
 --     leads_kept      a path leads where it led
 --     vacant_kept     the spot of a new name is what it was
-use Rattle.std.proofs.Common.{◌≡◌, ℕ, ◌+◌, ◌*◌, ◌≤◌, List, [], ◌∷◌, length, map, Option, None, sym, ap, ◌∙◌, subst, arith}
+use Rattle.std.proofs.Common.{◌≡◌, ℕ, ◌+◌, ◌*◌, ◌≤◌, List, [], ◌∷◌, length, sym, ap, ◌∙◌, subst, arith}
 use Rattle.std.specs.List.{AllByRecursion}
 use Rattle.std.specs.Ordering.{nat_cmp, ordering_reverse}
 use Rattle.std.specs.Cmp.Lexicographic.{slice_cmp}
@@ -19,7 +19,7 @@ use Rattle.seg_spec.specs.Search.{IsSearchTree}
 use Rattle.seg_spec.specs.Index.{Root}
 use Rattle.seg_spec.specs.Sound.{times, positions}
 use Rattle.seg_spec.proofs.SliceLaws.{IsSame-part}
-use Rattle.seg_spec.proofs.Frame.{each_both, each_weaker, word-same, cell-target, IsBlock-kept, payload-same, nodes-same, IsTree-same}
+use Rattle.seg_spec.proofs.Frame.{each_weaker, word-same, cell-target, IsBlock-kept, payload-same, nodes-same, IsTree-same}
 use Rattle.seg_spec.proofs.LiveLaws.{each_there}
 use Rattle.seg_spec.proofs.OneReading.{IsTree-one}
 use Rattle.seg_spec.proofs.RootFrame.{ListsNames-kept}
@@ -31,7 +31,7 @@ use Rattle.seg_index.specs.Lists.{IsNamed, FindsNamesOf, LeadsToName, IsSpot, Is
 use Rattle.seg_index.specs.declared.lookup.Spot.{Spot}
 use Rattle.seg_index.specs.declared.lookup.Spot.TheVariants.{Flat, Tree as InTree}
 use Rattle.seg_index.specs.declared.lookup.Vacant.{Vacant}
-use Rattle.seg_index.proofs.TreeLists.{IsListed, AreListed, shape, nodes, its, blocks_are, listed, is_search_tree}
+use Rattle.seg_index.proofs.TreeLists.{AreListed, shape, its, blocks_are, listed, is_search_tree}
 
 -- a named object's block is kept
 pub named_kept : (old new : List ℕ) (table : Table) (root : Root) → KeepsBlock old new (block_of root.at) → 1 ≤ times (block_of root.at) (positions (live new)) → IsNamed old table root → IsNamed new table root
@@ -95,7 +95,7 @@ module _ (allocator : ℕ) (old new : List ℕ) (table : Table) (names : List Ro
           go tree t =
               let same : shape allocator old table names blocks s kind ≡ tree = IsTree-one new (target new index_cell) (shape allocator old table names blocks s kind) tree was_hangs t.is_tree in
               let other : shape allocator new table names blocks then kind_then ≡ shape allocator old table names blocks s kind =
-                  IsTree-one new (target new index_cell) (shape allocator new table names blocks then kind_then) (shape allocator old table names blocks s kind) (is_search_tree allocator new table names blocks then kind_then).is_tree was_hangs in
+              IsTree-one new (target new index_cell) (shape allocator new table names blocks then kind_then) (shape allocator old table names blocks s kind) (is_search_tree allocator new table names blocks then kind_then).is_tree was_hangs in
               let listed_now : AreListed new table (nodes_of (shape allocator old table names blocks s kind)) names = subst (λ u. AreListed new table (nodes_of u) names) other (listed allocator new table names blocks then kind_then) in
               let turns = turns_same (nodes_of (shape allocator old table names blocks s kind)) names (listed allocator old table names blocks s kind) listed_now in
               subst (λ u. LeadsTo (turn new) u path) same

@@ -2,10 +2,10 @@
 use Rattle.std.proofs.Common.{◌≡◌, ◌≢◌, ℕ, ◌+◌, ◌-◌, ◌*◌, ◌^◌, ◌<◌, ◌≤◌, ◌⊎◌, inl, inr, List, [], ◌∷◌, length, map, sym, ap, ◌∙◌, subst, arith}
 use Rattle.std.specs.List.{AllByRecursion}
 use Rattle.seg_spec.specs.Bytes.{set_word, IsSame, ChangesOnly}
-use Rattle.seg_spec.specs.Header.{index_cell, heap_start, KeepsFront}
+use Rattle.seg_spec.specs.Header.{index_cell, heap_start}
 use Rattle.seg_spec.specs.Pointer.{target}
 use Rattle.seg_spec.specs.Types.{Table}
-use Rattle.seg_spec.specs.Heap.{units_at, link_at, live, IsHeap}
+use Rattle.seg_spec.specs.Heap.{units_at, live, IsHeap}
 use Rattle.seg_spec.specs.Block.{KeepsHeader, KeepsBlock, IsOwnable, block_of}
 use Rattle.seg_spec.specs.Apart.{Separate, BlocksApart}
 use Rattle.seg_spec.specs.Shapes.{Tree, nodes_of, IsTree, IsRedBlack}
@@ -16,7 +16,7 @@ use Rattle.seg_spec.proofs.SliceLaws.{IsSame-trans}
 use Rattle.seg_spec.proofs.Writing.{set_number-changes}
 use Rattle.seg_spec.proofs.Frame.{each_map, each_of_map, each_weaker, each_both, word-same, target-same, IsTree-same}
 use Rattle.seg_spec.proofs.LiveLaws.{LiesIn, there, each_there, live-lie, live-apart, OneOrApart, apart_once, not_there}
-use Rattle.seg_spec.proofs.SeveralWrites.{Range, Beside, IsWritable, heap_same, live_same, ownable_same, header_then, link_same, part_same, whole_then}
+use Rattle.seg_spec.proofs.SeveralWrites.{Range, Beside, IsWritable, heap_same, live_same, ownable_same, header_then, part_same, whole_then}
 use Rattle.seg_value.proofs.Header.{header_fits}
 use Rattle.seg_rbtree.specs.Changes.{NodesApart, StandApart, Leaves}
 

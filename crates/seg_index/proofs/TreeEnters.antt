@@ -1,5 +1,5 @@
 -- A new node enters the tree of the index: the index lists one name more.
-use Rattle.std.proofs.Common.{◌≡◌, ◌≢◌, ℕ, ◌+◌, ◌-◌, ◌*◌, ◌%◌, ◌^◌, ◌<◌, ◌≤◌, ◌⊎◌, inl, inr, min, Bool, true, false, cond, List, [], ◌∷◌, ◌++◌, length, map, Option, Some, None, refl, sym, ap, ◌∙◌, subst, arith}
+use Rattle.std.proofs.Common.{◌≡◌, ◌≢◌, ℕ, ◌+◌, ◌%◌, ◌^◌, ◌<◌, ◌≤◌, ◌⊎◌, inl, inr, min, Bool, true, false, cond, List, [], ◌∷◌, ◌++◌, length, map, Some, None, refl, sym, ap, ◌∙◌, subst, arith}
 use Rattle.std.proofs.lemmas.Bool.{cases_eq}
 use Rattle.std.specs.Ordering.{nat_cmp, ordering_reverse, is_lt}
 use Rattle.std.specs.List.{AllByRecursion}
@@ -11,19 +11,19 @@ use Rattle.std.proofs.lemmas.List.{length-append}
 use Rattle.seg_spec.specs.Bytes.{word, set_word, IsSame, ChangesOnly}
 use Rattle.seg_spec.specs.Header.{index_kind_word, index_cell, heap_start, KeepsFront, KeepsBack}
 use Rattle.seg_spec.specs.Types.{Table}
-use Rattle.seg_spec.specs.Heap.{Span, live, units_at, IsHeap}
+use Rattle.seg_spec.specs.Heap.{live, IsHeap}
 use Rattle.seg_spec.specs.Block.{Kind, tag_of, block_of, IsBlock, IsInside, KeepsBlock, IsOwnable}
 use Rattle.seg_spec.specs.Cells.{IsWithin}
 use Rattle.seg_spec.specs.Shapes.{Tree, nodes_of}
 use Rattle.seg_spec.specs.Search.{Ascend, IsSearchTree}
 use Rattle.seg_spec.specs.Reads.{count_at}
-use Rattle.seg_spec.specs.Index.{Root, Precedes, IsEntry, AreEntries, ListsNames, root_named, same_name}
+use Rattle.seg_spec.specs.Index.{Root, IsEntry, ListsNames, root_named, same_name}
 use Rattle.seg_spec.specs.Sound.{times, positions}
 use Rattle.seg_spec.specs.Demand.{need, block_for}
 use Rattle.seg_spec.specs.Spending.{spent, entry_asks}
 use Rattle.seg_spec.proofs.SliceLaws.{IsSame-trans, IsSame-part}
 use Rattle.seg_spec.proofs.Composing.{kept_twice}
-use Rattle.seg_spec.proofs.Frame.{each_weaker, each_both, word-same, cell-count}
+use Rattle.seg_spec.proofs.Frame.{each_weaker, word-same}
 use Rattle.seg_spec.proofs.LiveLaws.{times-append, times-same, times-other, there, LiesIn, live-lie, live-once}
 use Rattle.seg_spec.proofs.Standing.{each_live_at, live_at}
 use Rattle.seg_spec.proofs.WriteInside.{low_kept}
@@ -41,7 +41,7 @@ use Rattle.seg_index.specs.Lists.{entry_of, IsNamed, FindsNamesOf, LeadsToName, 
 use Rattle.seg_index.proofs.Precedes.{precedes_of_less, precedes_of_greater, same_of_equal, same_name_self, precedes_trans}
 use Rattle.seg_index.proofs.EntryLaws.{entry_reads, name_reads, type_small, entry_written, write_entry-changes}
 use Rattle.seg_index.proofs.RootOrder.{InOrder, AllBefore, AllAfter, order_head, order_tail, order_with}
-use Rattle.seg_index.proofs.TreeLists.{IsListed, AreListed, order, nodes, shape, its, blocks_are, IsNode, are_nodes, listed, ascend, few_nodes, is_search_tree}
+use Rattle.seg_index.proofs.TreeLists.{IsListed, AreListed, order, shape, its, blocks_are, IsNode, are_nodes, listed, ascend, few_nodes, is_search_tree}
 use Rattle.seg_index.proofs.TreeChanges.{join_listed, entries_kept, lists_by, times_with}
 use Rattle.seg_index.proofs.Relinked.{IsTouched, Remade, remade, count_before, stand_apart}
 use Rattle.seg_index.proofs.Kept.{named_kept, finds_kept, leads_kept}
@@ -104,19 +104,33 @@ module _ (bytes : List ℕ) (table : Table) (node : ℕ) (name : List ℕ) (name
           let less : is_lt (order bytes table node x) ≡ true = ap is_lt (compared x r h.0 ∙ e) in
           let first = precedes_of_less name r.name e in
           record {
-            front = []; back = x ∷ xs; before = []; after = r ∷ rs; nodes_are = refl; names_are = refl;
+            front = [];
+            back = x ∷ xs;
+            before = [];
+            after = r ∷ rs;
+            nodes_are = refl;
+            names_are = refl;
             with_it = rw less refl;
-            lefts = tt; rights = h; low = tt;
+            lefts = tt;
+            rights = h;
+            low = tt;
             high = (first, each_weaker _ _ (λ q p. precedes_trans name r.name q.name first p) rs (order_head r rs a));
           }
       go Equal e more = absurd (not_equal r d.0 e)
       go Greater e more =
           let not_less : is_lt (order bytes table node x) ≡ false = ap is_lt (compared x r h.0 ∙ e) in
           record {
-            front = x ∷ more.front; back = more.back; before = r ∷ more.before; after = more.after;
-            nodes_are = ap (λ ys. x ∷ ys) more.nodes_are; names_are = ap (λ qs. r ∷ qs) more.names_are;
+            front = x ∷ more.front;
+            back = more.back;
+            before = r ∷ more.before;
+            after = more.after;
+            nodes_are = ap (λ ys. x ∷ ys) more.nodes_are;
+            names_are = ap (λ qs. r ∷ qs) more.names_are;
             with_it = rw not_less (ap (λ ys. x ∷ ys) more.with_it);
-            lefts = (h.0, more.lefts); rights = more.rights; low = (precedes_of_greater name r.name e, more.low); high = more.high;
+            lefts = (h.0, more.lefts);
+            rights = more.rights;
+            low = (precedes_of_greater name r.name e, more.low);
+            high = more.high;
           }
 
   -- how the name compares with nodes, as the path was gone and as its node is

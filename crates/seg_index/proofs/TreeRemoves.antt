@@ -1,22 +1,22 @@
 -- A node leaves the tree of the index, and its block is given back: the index lists one name less.
-use Rattle.std.proofs.Common.{◌≡◌, ◌≢◌, ℕ, ◌+◌, ◌-◌, ◌*◌, ◌^◌, ◌<◌, ◌≤◌, ◌⊎◌, inl, inr, List, [], ◌∷◌, ◌++◌, length, map, Option, Some, None, option_map, refl, sym, ap, ◌∙◌, subst, arith}
+use Rattle.std.proofs.Common.{◌≡◌, ◌≢◌, ℕ, ◌+◌, ◌-◌, ◌^◌, ◌<◌, ◌≤◌, inl, inr, List, [], ◌∷◌, ◌++◌, length, map, Option, Some, None, option_map, refl, sym, ap, ◌∙◌, subst, arith}
 use Rattle.std.specs.Prelude.{Contains}
 use Rattle.std.proofs.lemmas.List.{length-append}
 use Rattle.std.specs.List.{AllByRecursion}
 use Rattle.std.specs.Ordering.{nat_cmp, ordering_reverse}
 use Rattle.std.specs.Cmp.Lexicographic.{slice_cmp, nat_list_cmp_total}
 use Rattle.std.specs.declared.cmp.Ordering.{Ordering}
-use Rattle.std.specs.declared.cmp.Ordering.TheVariants.{Less, Equal}
+use Rattle.std.specs.declared.cmp.Ordering.TheVariants.{Less}
 use Rattle.seg_spec.specs.Bytes.{word, set_word, IsSame}
-use Rattle.seg_spec.specs.Header.{allocator_word, index_kind_word, index_cell}
+use Rattle.seg_spec.specs.Header.{index_kind_word, index_cell}
 use Rattle.seg_spec.specs.Pointer.{target}
 use Rattle.seg_spec.specs.Types.{Table}
-use Rattle.seg_spec.specs.Heap.{Span, live, units_at, IsHeap, IsLive, Gives, after_give}
-use Rattle.seg_spec.specs.Block.{Kind, tag_of, block_of, IsBlock, KeepsBlock, IsOwnable}
+use Rattle.seg_spec.specs.Heap.{live, IsHeap, IsLive, Gives, after_give}
+use Rattle.seg_spec.specs.Block.{Kind, tag_of, block_of, IsBlock, KeepsBlock}
 use Rattle.seg_spec.specs.Shapes.{Tree, nodes_of, IsTree}
-use Rattle.seg_spec.specs.Search.{Ascend, IsSearchTree, rank_of}
+use Rattle.seg_spec.specs.Search.{IsSearchTree, rank_of}
 use Rattle.seg_spec.specs.Reads.{count_at}
-use Rattle.seg_spec.specs.Index.{Root, AreEntries, ListsNames, root_named, same_name}
+use Rattle.seg_spec.specs.Index.{Root, ListsNames, root_named}
 use Rattle.seg_spec.specs.Sound.{times, positions}
 use Rattle.seg_spec.specs.Demand.{after_gives}
 use Rattle.seg_spec.specs.Spending.{EntryBlocks}
@@ -24,7 +24,7 @@ use Rattle.seg_spec.proofs.SliceLaws.{IsSame-part, IsSame-trans}
 use Rattle.seg_spec.proofs.OrderSteps.{steps_up}
 use Rattle.seg_spec.proofs.Giving.{found}
 use Rattle.seg_spec.proofs.Composing.{kept_twice}
-use Rattle.seg_spec.proofs.Frame.{each_map, each_of_map, each_weaker, each_both, word-same, target-same, cell-count, IsBlock-kept, payload-same, IsTree-same}
+use Rattle.seg_spec.proofs.Frame.{each_of_map, each_weaker, each_both, word-same, target-same, cell-count, IsBlock-kept, payload-same, IsTree-same}
 use Rattle.seg_spec.proofs.LiveLaws.{times-same, times-more, there, not_there, live-once}
 use Rattle.seg_value.proofs.Inside.{given_counts, given_linked, given_ownable, given_front}
 use Rattle.seg_rbtree.specs.declared.path.Path.{Path}
@@ -38,8 +38,8 @@ use Rattle.seg_index.specs.Names.{name_at}
 use Rattle.seg_index.specs.Lists.{entry_of, FindsNamesOf, LeadsToName, ChangesNames, LeavesName}
 use Rattle.seg_index.proofs.Precedes.{same_of_equal, same_name_self}
 use Rattle.seg_index.proofs.RootOrder.{InOrder, order_without, named_past}
-use Rattle.seg_index.proofs.TreeLists.{entry_in, path_is, IsListed, AreListed, order, nodes, shape, its, blocks_are, IsNode, are_nodes, listed, ascend, few_nodes, is_search_tree}
-use Rattle.seg_index.proofs.TreeChanges.{Splits, split_listed, join_listed, entries_kept, order_before, lists_by, blocks_joined, times_with, contains_middle}
+use Rattle.seg_index.proofs.TreeLists.{entry_in, path_is, AreListed, order, nodes, shape, its, blocks_are, IsNode, are_nodes, listed, ascend, few_nodes, is_search_tree}
+use Rattle.seg_index.proofs.TreeChanges.{Splits, split_listed, join_listed, entries_kept, order_before, lists_by, times_with, contains_middle}
 use Rattle.seg_index.proofs.Relinked.{IsTouched, Remade, remade, count_before, stand_apart}
 
 -- what taking out the node at the end of a path does
@@ -287,7 +287,7 @@ pub never_missing : (allocator : ℕ) (old : List ℕ) (table : Table) (names : 
     (root : Root) (there_is : root_named names root.name ≡ Some root) (path : Path) (way : LeadsToName old table root.name path) → node_at old path ≡ None → ⊥
 never_missing allocator old table names blocks s kind root there_is path way none =
     let found = path_is allocator old table names blocks s kind old table index_cell refl refl refl root.name (node_at old path)
-        (λ tree t a. finds_equal (λ x. slice_cmp nat_cmp (name_at table old (x + 16)) root.name) (order old table)
-        (λ x y less. steps_up nat_list_cmp_total (name_at table old (x + 16)) (name_at table old (y + 16)) root.name less) old index_cell path tree way.root_is t a (way.leads tree t)) in
+    (λ tree t a. finds_equal (λ x. slice_cmp nat_cmp (name_at table old (x + 16)) root.name) (order old table)
+    (λ x y less. steps_up nat_list_cmp_total (name_at table old (x + 16)) (name_at table old (y + 16)) root.name less) old index_cell path tree way.root_is t a (way.leads tree t)) in
     let both : None ≡ Some (entry_of root) = sym (ap (option_map (entry_in old table)) none) ∙ found ∙ ap (option_map entry_of) there_is in
     absurd (cc)

@@ -1,4 +1,4 @@
-use Rattle.std.proofs.Common.{◌≡◌, ℕ, Option, ◌+◌, ◌-◌, refl, ap, ◌∙◌, sym, subst, Some, None}
+use Rattle.std.proofs.Common.{◌≡◌, ℕ, Option, ◌+◌, refl, ap, ◌∙◌, sym, subst, Some, None}
 use Rattle.seg_spec.specs.Bytes.{set_word}
 use Rattle.seg_spec.specs.Header.{index_cell}
 use Rattle.seg_spec.specs.Window.{Placement, with_bytes}
