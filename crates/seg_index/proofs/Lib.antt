@@ -1,2 +1,16 @@
 pub mod NameOrder
 pub mod NamedTags
+pub mod Precedes
+pub mod EntryLaws
+pub mod RootOrder
+pub mod FlatEntries
+pub mod FlatChanges
+pub mod Results
+pub mod TreeLists
+pub mod Relinked
+pub mod TreeChanges
+pub mod TreeRemoves
+pub mod Kept
+pub mod TreeEnters
+pub mod LookUps
+pub mod HeldNames

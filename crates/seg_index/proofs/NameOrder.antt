@@ -6,7 +6,7 @@ use Rattle.std.specs.declared.cmp.Ordering.{Ordering}
 use Rattle.std.specs.declared.cmp.Ordering.TheVariants.{Less, Equal, Greater}
 use Rattle.std.proofs.lemmas.Cmp.{ranked}
 
-ranks : (a b : ℕ) (r : Ordering) → MatchOrdering r (a < b) (a ≡ b) (b < a) → nat_cmp a b ≡ r
+pub ranks : (a b : ℕ) (r : Ordering) → MatchOrdering r (a < b) (a ≡ b) (b < a) → nat_cmp a b ≡ r
 ranks a b r h = sym (go (nat_cmp a b) r refl h)
   where
     go : (s r : Ordering) → s ≡ nat_cmp a b → MatchOrdering r (a < b) (a ≡ b) (b < a) → r ≡ nat_cmp a b
@@ -20,7 +20,7 @@ ranks a b r h = sym (go (nat_cmp a b) r refl h)
     go Greater Equal e h = let p : b < a = ranked a b Greater e in let q : a ≡ b = h in absurd (omega arith)
     go Greater Greater e h = e
 
-level : (x y : ℕ) (o : Ordering) → x ≡ y → ordering_then (nat_cmp x y) o ≡ o
+pub level : (x y : ℕ) (o : Ordering) → x ≡ y → ordering_then (nat_cmp x y) o ≡ o
 level x y o e = ap (λ r. ordering_then r o) (ranks x y Equal e)
 
 decided : (x y : ℕ) (o : Ordering) → (x ≡ y → ⊥) → ordering_then (nat_cmp x y) o ≡ nat_cmp x y

@@ -1,2 +1,4 @@
 pub mod Names
 pub mod NameParts
+pub mod Lists
+pub mod Entries

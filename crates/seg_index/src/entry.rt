@@ -1,7 +1,8 @@
-ghost use Rattle.std.specs.Prelude.{◌≡◌, ◌+◌, ◌*◌, ◌<◌, ◌^◌};
+ghost use Rattle.std.specs.Prelude.{◌≡◌, ◌+◌, ◌*◌, ◌<◌, ◌^◌, Some};
 ghost use Rattle.seg_spec.specs.Pointer.{target};
-ghost use Rattle.seg_spec.specs.Window.{KeepsHost};
+ghost use Rattle.seg_spec.specs.Window.{KeepsHost, with_bytes};
 ghost use Rattle.seg_index.specs.Names.{named_type, type_of, name_of, values_at, len_at};
+ghost use Rattle.seg_index.specs.Entries.{zero_at, write_entry};
 
 use seg_block::{Kind, Tag, UNIT, tag_word};
 use seg_layout::{TypeId, TypeTable};
@@ -48,7 +49,14 @@ pub struct NameEntry {
 
 impl NameEntry {
     /// The entry of an object of `count` values, whose name has `name_len` bytes.
-    pub fn new(object: u32, count: u16, name_len: u8) -> NameEntry {
+    pub fn new(object: u32, count: u16, name_len: u8) -> NameEntry
+        ensures { result ≡ record {
+          object = Some object;
+          count = count;
+          name_len = name_len;
+          zero = 0;
+        } }
+    {
         NameEntry {
             object: Some(object),
             count,
@@ -62,6 +70,7 @@ impl NameEntry {
         ensures object { result.object ≡ target w.now.bytes at }
         ensures count { at + 4 < 2 ^ 64 → result.count ≡ values_at w.now.bytes at }
         ensures name_len { at + 4 < 2 ^ 64 → result.name_len ≡ len_at w.now.bytes at }
+        ensures zero { at + 4 < 2 ^ 64 → result.zero ≡ zero_at w.now.bytes at }
     {
         let rest = w.get32(at.saturating_add(4));
         NameEntry {
@@ -74,10 +83,13 @@ impl NameEntry {
 
     /// Writes the entry at a position.
     pub fn write<A: Allocator>(self, w: &mut Window<A>, at: usize)
-        ensures { KeepsHost w.old w.new }
+        ensures host { KeepsHost w.old w.new }
+        ensures written { at + 4 < 2 ^ 64 →
+            w.new ≡ with_bytes w.old (write_entry w.old.bytes at self) }
     {
-        let [low, high] = self.count.to_le_bytes();
-        let rest = u32::from_le_bytes([low, high, self.name_len, self.zero]);
+        let rest = u32::from(self.count)
+            + (1 << 16) * u32::from(self.name_len)
+            + (1 << 24) * u32::from(self.zero);
         w.point(at, self.object);
         w.put32(at.saturating_add(4), rest);
     }

@@ -1,5 +1,7 @@
-ghost use Rattle.std.specs.Prelude.{◌≡◌};
+ghost use Rattle.std.specs.Prelude.{◌≡◌, ℕ, List, IsOkUnless, MatchResult};
+ghost use Rattle.seg_spec.specs.Index.{Root};
 ghost use Rattle.seg_spec.specs.Window.{KeepsHost};
+ghost use Rattle.seg_index.specs.Lists.{WhereNames, IsOccupied, IsVacant, IsRootOf, MayEnter, EntersOrNot, LeavesName};
 
 use crate::entry::NameEntry;
 use crate::kind::IndexKind;
@@ -34,7 +36,9 @@ pub struct Vacant {
 
 impl Occupied {
     /// The name's entry.
-    pub fn entry(&self) -> NameEntry {
+    pub fn entry(&self) -> NameEntry
+        ensures { result ≡ self.now.entry }
+    {
         self.entry
     }
 
@@ -42,6 +46,11 @@ impl Occupied {
     pub fn remove<F: Fit, A: Allocator>(mut self, heap: &mut Heap<F, A>)
         ensures window { KeepsHost heap.old.window heap.new.window }
         ensures types { heap.new.types ≡ heap.old.types }
+        ensures leaves { WhereNames F.allocator heap.old.window.bytes heap.old.types
+            (λ names blocks. (name : List ℕ) (root : Root) →
+            IsOccupied heap.old.window.bytes heap.old.types names name root self →
+            LeavesName heap.old.window.bytes heap.new.window.bytes heap.old.types
+            names blocks root) }
     {
         match &mut self.spot {
             Spot::Flat(index) => flat::remove(heap, *index),
@@ -62,6 +71,14 @@ impl Vacant {
     ) -> Result<(), Code>
         ensures window { KeepsHost heap.old.window heap.new.window }
         ensures types { heap.new.types ≡ heap.old.types }
+        ensures code { IsOkUnless result Code.BadAlloc }
+        ensures enters { WhereNames F.allocator heap.old.window.bytes heap.old.types
+            (λ names blocks. (root : Root) →
+            MayEnter heap.old.window.bytes heap.old.types blocks root →
+            IsRootOf object count name_len root →
+            IsVacant heap.old.window.bytes heap.old.types names root.name self →
+            EntersOrNot F.allocator heap.old.window.bytes heap.new.window.bytes heap.old.types
+            names blocks root result) }
     {
         let entry = NameEntry::new(object, count, name_len);
         match &mut self.spot {
@@ -72,7 +89,13 @@ impl Vacant {
 }
 
 /// Looks for a name, to remove it where the index has it, and to insert it where not.
-pub fn look_up<F: Fit, A: Allocator>(heap: &Heap<F, A>, name: &[u8]) -> Result<Occupied, Vacant> {
+pub fn look_up<F: Fit, A: Allocator>(heap: &Heap<F, A>, name: &[u8]) -> Result<Occupied, Vacant>
+    ensures { WhereNames F.allocator heap.now.window.bytes heap.now.types
+        (λ names _. MatchResult result
+        (λ occupied. (root : Root) × IsOccupied heap.now.window.bytes heap.now.types names name.now
+        root occupied)
+        (IsVacant heap.now.window.bytes heap.now.types names name.now)) }
+{
     let (spot, entry) = match IndexKind::of(heap.window()) {
         IndexKind::Flat => {
             let (index, entry) = flat::look_up(heap, name);

@@ -1,72 +1,19 @@
--- What writes inside the payloads of several live blocks keep: the heap, and all beside the bytes written.
-use Rattle.std.proofs.Common.{◌≡◌, ◌≢◌, ℕ, ◌+◌, ◌*◌, ◌≤◌, ◌⊎◌, inl, inr, true, false, List, [], ◌∷◌, length, refl, sym, ◌∙◌, subst, arith}
-use Rattle.std.proofs.lemmas.Bool.{false≢true}
-use Rattle.std.specs.Prelude.{⊤}
+-- What writes inside the payloads of several live blocks keep, where nothing else was written.
+use Rattle.std.proofs.Common.{◌≡◌, ◌≢◌, ℕ, ◌+◌, ◌*◌, ◌≤◌, inl, List, length, arith}
 use Rattle.std.specs.List.{AllByRecursion}
-use Rattle.seg_spec.specs.Bytes.{word, IsSame}
+use Rattle.seg_spec.specs.Bytes.{IsSame}
 use Rattle.seg_spec.specs.Types.{Table}
-use Rattle.seg_spec.specs.Heap.{Tile, units_at, link_at, tiles, live, gaps, free_of, IsHeap, heap_start, KeepsTiles}
-use Rattle.seg_spec.specs.Block.{IsInside, KeepsHeader, KeepsBlock, IsOwnable, payload_size}
+use Rattle.seg_spec.specs.Heap.{units_at, link_at, live, IsHeap, heap_start}
+use Rattle.seg_spec.specs.Block.{KeepsHeader, KeepsBlock, IsOwnable}
 use Rattle.seg_spec.specs.Apart.{Separate, KeepsBlockAround}
 use Rattle.seg_spec.specs.Sound.{times, positions}
-use Rattle.seg_spec.proofs.SliceLaws.{IsSame-part}
-use Rattle.seg_spec.proofs.TileLaws.{gaps_between-live_of}
-use Rattle.seg_spec.proofs.Frame.{each_weaker, each_both, word-same, target-same}
-use Rattle.seg_spec.proofs.LiveLaws.{LiesIn, there, live-lie, live-apart, OneOrApart}
-use Rattle.seg_spec.proofs.HeapFrame.{IsHeap-kept, live-kept, IsOwnable-kept}
-use Rattle.seg_spec.proofs.WriteInside.{Spot, spots, each_free_tile}
-
--- n bytes in the payload of a block
-pub record Range : Type 0 where
-  pub at : ℕ
-  pub n : ℕ
-  pub block : ℕ
-
-abbrev pub Beside : ℕ → ℕ → List Range → Type 0
-Beside p m ranges = AllByRecursion (λ r. Separate p m r.at r.n) ranges
-
--- a range lies in a live block
-pub record IsWritable (bytes : List ℕ) (r : Range) : Type 0 where
-  pub inside : IsInside bytes r.block r.at r.n
-  pub is_live : 1 ≤ times r.block (positions (live bytes))
-
-all_so : {X : Type 0} (xs : List X) → AllByRecursion (λ x. ⊤) xs
-all_so [] = tt
-all_so (x ∷ xs) = (tt, all_so xs)
+use Rattle.seg_spec.proofs.Frame.{each_weaker}
+use Rattle.seg_spec.proofs.LiveLaws.{LiesIn, there, live-lie}
+use Rattle.seg_spec.proofs.SeveralWrites as writes
+pub use Rattle.seg_spec.proofs.SeveralWrites.{Range, Beside, IsWritable}
 
 module _ (old new : List ℕ) (allocator : ℕ) (heap : IsHeap allocator old) (ranges : List Range) (writable : AllByRecursion (IsWritable old) ranges)
     (length_kept : length new ≡ length old) (beside : (p m : ℕ) → Beside p m ranges → IsSame old new p m) where
-  spots_for : (rs : List Range) → AllByRecursion (IsWritable old) rs → AllByRecursion (λ t. AllByRecursion (λ r. Spot old r.block t) rs) (tiles old)
-  unfolding live
-  spots_for [] w = all_so (tiles old)
-  spots_for (r ∷ rs) w = each_both _ _ _ (λ t a b. (a, b)) (tiles old) (spots old r.block (tiles old) heap_start (length old) 0 (omega arith) heap.filled heap.headers w.0.is_live) (spots_for rs w.1)
-
-  header_apart : (t : Tile) (r : Range) → IsInside old r.block r.at r.n → Spot old r.block t → Separate t.at 16 r.at r.n
-  header_apart t r inside s = go s.one_or_apart
-    where
-      go : ((t.at ≡ r.block) × (t.live ≡ true)) ⊎ Separate t.at (16 * t.units) r.block (16 * units_at old r.block) → Separate t.at 16 r.at r.n
-      go (inl e) = inl (let l = inside.low in let same = e.0 in omega arith)
-      go (inr (inl l)) = inl (let low = inside.low in let two = s.size in omega arith)
-      go (inr (inr l)) = inr (let high = inside.high in omega arith)
-
-  free_apart : (t : Tile) (r : Range) → IsInside old r.block r.at r.n → Spot old r.block t → t.live ≡ false → Separate (t.at + 16) 16 r.at r.n
-  free_apart t r inside s free = go s.one_or_apart
-    where
-      go : ((t.at ≡ r.block) × (t.live ≡ true)) ⊎ Separate t.at (16 * t.units) r.block (16 * units_at old r.block) → Separate (t.at + 16) 16 r.at r.n
-      go (inl e) = absurd (false≢true (sym free ∙ e.1))
-      go (inr (inl l)) = inl (let low = inside.low in let two = s.size in omega arith)
-      go (inr (inr l)) = inr (let high = inside.high in omega arith)
-
-  headers_beside : (t : Tile) (rs : List Range) → AllByRecursion (IsWritable old) rs → AllByRecursion (λ r. Spot old r.block t) rs → Beside t.at 16 rs
-  headers_beside t rs w s = each_both _ _ _ (λ r a b. header_apart t r a.inside b) rs w s
-
-  free_beside : (t : Tile) (rs : List Range) → t.live ≡ false → AllByRecursion (IsWritable old) rs → AllByRecursion (λ r. Spot old r.block t) rs → Beside (t.at + 16) 16 rs
-  free_beside t rs free w s = each_both _ _ _ (λ r a b. free_apart t r a.inside b free) rs w s
-
-  gaps_free : gaps old ≡ free_of (tiles old)
-  unfolding live
-  gaps_free = gaps_between-live_of (tiles old) true heap_start (length old) heap.filled heap.apart
-
   low_by : (r : Range) → IsWritable old r → heap_start + 16 ≤ r.at
   low_by r w = let l = there (LiesIn old heap_start (length old)) r.block (positions (live old)) (live-lie old allocator heap) w.is_live in let low = l.low in let more = w.inside.low in omega arith
 
@@ -74,87 +21,37 @@ module _ (old new : List ℕ) (allocator : ℕ) (heap : IsHeap allocator old) (r
   pub low_same : (p n : ℕ) → p + n ≤ heap_start → IsSame old new p n
   low_same p n fits = beside p n (each_weaker _ _ (λ r w. inl (let l = low_by r w in omega arith)) ranges writable)
 
-  pub tiles_same : KeepsTiles old new
-  tiles_same = record {
-    length_kept = length_kept;
-    root_kept = low_same 24 4 (omega arith);
-    headers_kept = each_weaker _ _ (λ t s. beside t.at 16 (headers_beside t ranges writable s)) (tiles old) (spots_for ranges writable);
-    free_kept = subst (λ gs. AllByRecursion (λ g. IsSame old new (g.at + 16) 16) gs) (sym gaps_free)
-        (each_free_tile _ (tiles old) (each_weaker _ _ (λ t s free. beside (t.at + 16) 16 (free_beside t ranges free writable s)) (tiles old) (spots_for ranges writable)));
-  }
+  root_kept : IsSame old new 24 4
+  root_kept = low_same 24 4 (omega arith)
+
+  in_heap : (p m : ℕ) → heap_start ≤ p → Beside p m ranges → IsSame old new p m
+  in_heap p m low b = beside p m b
 
   pub heap_same : IsHeap allocator new
-  heap_same = IsHeap-kept old new allocator heap tiles_same
+  heap_same = writes.heap_same old new allocator heap ranges writable length_kept root_kept in_heap
 
   pub live_same : live new ≡ live old
-  live_same = live-kept old new allocator heap tiles_same
+  live_same = writes.live_same old new allocator heap ranges writable length_kept root_kept in_heap
 
   pub ownable_same : (table : Table) → AllByRecursion (λ b. IsOwnable old table b.at) (live old) → AllByRecursion (λ b. IsOwnable new table b.at) (live new)
-  ownable_same table o = IsOwnable-kept old new allocator heap tiles_same table o
+  ownable_same table o = writes.ownable_same old new allocator heap ranges writable length_kept root_kept in_heap table o
 
   -- ---- a live block
 
   module _ (x : ℕ) (is_live : 1 ≤ times x (positions (live old))) where
-    lies : LiesIn old heap_start (length old) x
-    lies = there (LiesIn old heap_start (length old)) x (positions (live old)) (live-lie old allocator heap) is_live
-
-    one_or_apart : (r : Range) → IsWritable old r → OneOrApart old r.block x
-    one_or_apart r w = there (OneOrApart old r.block) x (positions (live old)) (there (λ t. AllByRecursion (OneOrApart old t) (positions (live old))) r.block (positions (live old)) (live-apart old allocator heap) w.is_live) is_live
-
-    header_off : (r : Range) → IsWritable old r → Separate x 16 r.at r.n
-    header_off r w = go (one_or_apart r w)
-      where
-        go : OneOrApart old r.block x → Separate x 16 r.at r.n
-        go (inl e) = inl (let l = w.inside.low in omega arith)
-        go (inr (inl l)) = inr (let high = w.inside.high in omega arith)
-        go (inr (inr l)) = inl (let low = w.inside.low in let two = lies.size in omega arith)
-
-    -- its header
-    pub header_same : IsSame old new x 16
-    header_same = beside x 16 (each_weaker _ _ (λ r w. header_off r w) ranges writable)
-
-    -- a part of it that lies beside the ranges in it
     pub part_same : (p m : ℕ) → x ≤ p → p + m ≤ x + 16 * units_at old x → AllByRecursion (λ r. (r.block ≡ x) → Separate p m r.at r.n) ranges → IsSame old new p m
-    part_same p m low high apart = beside p m (each_both _ _ _ (λ r w a. go r w a (one_or_apart r w)) ranges writable apart)
-      where
-        go : (r : Range) → IsWritable old r → (r.block ≡ x → Separate p m r.at r.n) → OneOrApart old r.block x → Separate p m r.at r.n
-        go r w a (inl e) = a (sym e)
-        go r w a (inr (inl l)) = inr (let h = w.inside.high in omega arith)
-        go r w a (inr (inr l)) = inl (let h = w.inside.low in omega arith)
-
-    first_word : word new x ≡ word old x
-    first_word = word-same old new x (IsSame-part old new x 16 x 4 (omega arith) (omega arith) header_same)
-
-    pub units_same : units_at new x ≡ units_at old x
-    units_same = rw first_word refl
+    part_same p m low high apart = writes.part_same old new allocator heap ranges writable length_kept root_kept in_heap x is_live p m low high apart
 
     pub header_then : KeepsHeader old new x
-    header_then = record {
-      live = rw first_word refl;
-      has_tag = word-same old new (x + 8) (IsSame-part old new x 16 (x + 8) 4 (omega arith) (omega arith) header_same);
-      room = rw units_same (omega arith);
-    }
+    header_then = writes.header_then old new allocator heap ranges writable length_kept root_kept in_heap x is_live
 
     pub link_same : link_at new x ≡ link_at old x
-    link_same = target-same old new (x + 12) (IsSame-part old new x 16 (x + 12) 4 (omega arith) (omega arith) header_same)
+    link_same = writes.link_same old new allocator heap ranges writable length_kept root_kept in_heap x is_live
 
     -- no range lies in it
     pub whole_then : AllByRecursion (λ r. r.block ≢ x) ranges → KeepsBlock old new x
-    whole_then others = record {
-      live = header_then.live;
-      has_tag = header_then.has_tag;
-      room = header_then.room;
-      payload = part_same (x + 16) (payload_size old x) (omega arith) (let two = lies.size in omega arith) (each_weaker _ _ (λ r ne e. absurd (ne e)) ranges others);
-    }
+    whole_then others = writes.whole_then old new allocator heap ranges writable length_kept root_kept in_heap x is_live others
 
     -- every range in it is within n bytes
     pub around_then : (at n : ℕ) → AllByRecursion (λ r. r.block ≡ x → (at ≤ r.at) × (r.at + r.n ≤ at + n)) ranges → KeepsBlockAround old new at n x
-    around_then at n within = record {
-      solid = let two = lies.size in omega arith;
-      header = header_then;
-      payload = λ g m low high apart. part_same g m (omega arith) (let two = lies.size in omega arith) (each_weaker _ _ (λ r i e. go g m r (i e) apart) ranges within);
-    }
-      where
-        go : (g m : ℕ) (r : Range) → (at ≤ r.at) × (r.at + r.n ≤ at + n) → Separate g m at n → Separate g m r.at r.n
-        go g m r i (inl l) = inl (let a = i.0 in omega arith)
-        go g m r i (inr l) = inr (let a = i.1 in omega arith)
+    around_then at n within = writes.around_then old new allocator heap ranges writable length_kept root_kept in_heap x is_live at n within

@@ -56,3 +56,6 @@ pub mod Buffered
 pub mod BufferMoves
 pub mod Requested
 pub mod BufferGrows
+pub mod SeveralWrites
+pub mod OneMore
+pub mod FewBlocks

@@ -22,3 +22,4 @@ pub mod Named
 pub mod Indexed
 pub mod IndexGrows
 pub mod NoSpace
+pub mod NewNodes

@@ -15,7 +15,8 @@ use Rattle.seg_value.specs.Contents.{GivesBlock}
 
 module _ (allocator u h tag : ℕ) (old taken new : List ℕ) (heap : IsHeap allocator old) (t : Takes allocator old taken u (Some h)) (at n : ℕ) (low : h + 16 ≤ at) (high : at + n ≤ h + 16 * u)
     (changes : ChangesOnly (set_word taken (h + 8) tag) new at n) where
-  now_live : times h (positions (live new)) ≡ 1
+  -- the new block is live
+  pub now_live : times h (positions (live new)) ≡ 1
   now_live = let got = took allocator old taken u h t in
       ap (λ bs. times h (positions bs)) (new_live allocator u h tag old taken new heap t at n low high changes ∙ got.live_are) ∙ times-with_block h (record { at = h; units = got.units }) (live old)
       ∙ times-same h (positions (live old)) ∙ ap (λ x. 1 + x) (was_free allocator u h tag old taken new heap t)
@@ -23,7 +24,8 @@ module _ (allocator u h tag : ℕ) (old taken new : List ℕ) (heap : IsHeap all
 need_room : (n : ℕ) → n + 16 ≤ 16 * need n
 need_room n = omega arith
 
-asks_granted : (allocator : ℕ) (old new : List ℕ) (n h : ℕ) → after_take allocator (live old) (length old) (need n) ≡ Some (h, live new) → after_asks allocator (live old) (length old) (block_for n ∷ []) ≡ Some (live new)
+-- the request was granted
+pub asks_granted : (allocator : ℕ) (old new : List ℕ) (n h : ℕ) → after_take allocator (live old) (length old) (need n) ≡ Some (h, live new) → after_asks allocator (live old) (length old) (block_for n ∷ []) ≡ Some (live new)
 asks_granted allocator old new n h e = rw e refl
 
 abbrev taking : List ℕ → ℕ → Span → ℕ × List Span

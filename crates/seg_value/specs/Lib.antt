@@ -7,3 +7,4 @@ pub mod Entries
 pub mod Names
 pub mod Waiting
 pub mod Pointers
+pub mod Nodes

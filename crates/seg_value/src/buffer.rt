@@ -5,6 +5,7 @@ ghost use Rattle.seg_spec.specs.Calls.{Refuses};
 ghost use Rattle.seg_spec.specs.Demand.{block_for};
 ghost use Rattle.seg_spec.specs.Block.{block_of};
 ghost use Rattle.seg_spec.specs.Growing.{Reserves, MovesBuffer};
+ghost use Rattle.seg_spec.specs.Index.{index_node_size};
 ghost use Rattle.seg_spec.specs.Heap.{Span, IsHeap, IsLive, Takes, Gives};
 ghost use Rattle.seg_spec.specs.Owning.{Stands};
 ghost use Rattle.seg_spec.specs.Pointer.{target};
@@ -19,6 +20,7 @@ ghost use Rattle.seg_block.specs.Tags.{word_of};
 ghost use Rattle.seg_value.specs.Buffers.{NamesBuffer, HasSizedBuffer, MakesRoom};
 ghost use Rattle.seg_value.specs.Contents.{IsContent, GivesBlock};
 ghost use Rattle.seg_value.specs.Names.{index_cell, FindsNames, FindsIndex, MakesIndexRoom, MovesIndex, EmptiesIndex};
+ghost use Rattle.seg_value.specs.Nodes.{IsIndexNode, GivesNode};
 ghost use Rattle.seg_value.specs.Places.{place_of, object_at as place_at};
 
 use crate::content::{Content, Shape};
@@ -54,6 +56,11 @@ impl<F: Fit, A: Allocator> Heap<F, A> {
             tag before U)
             (λ code. Refuses F.allocator self.old.window.bytes self.new.window.bytes
             (block_for (before + size self.old.types U) ∷ [])) }
+        ensures given_node { IsIndexNode content.now → IsHeap F.allocator self.old.window.bytes →
+            MatchResult result
+            (GivesNode F.allocator self.old.window.bytes self.new.window.bytes)
+            (λ code. Refuses F.allocator self.old.window.bytes self.new.window.bytes
+            (block_for index_node_size ∷ [])) }
     {
         let need = content.entry.need(1);
         let Some(block) = F::allocate(&mut self.window, need) else {

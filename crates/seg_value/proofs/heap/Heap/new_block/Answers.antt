@@ -8,7 +8,9 @@ use Rattle.seg_value.specs.declared.content.Shape.{Shape}
 use Rattle.seg_value.specs.declared.place.Place.{Place}
 use Rattle.seg_value.specs.Contents.{IsContent, GivesBlock}
 use Rattle.seg_value.specs.Stored.{Stored}
+use Rattle.seg_value.specs.Nodes.{IsIndexNode, GivesNode}
 use Rattle.seg_value.proofs.NewBlocks.{gives_block_for}
+use Rattle.seg_value.proofs.NewNodes.{gives_node_at}
 use Rattle.seg_value.proofs.heap.Heap.new_block.Goals as goal
 
 bytes_of : (p q : Placement) → p ≡ q → p.bytes ≡ q.bytes
@@ -34,3 +36,13 @@ returns-in-Some-value-clause-given g c = subst (λ (s : Stored). (before U tag :
     c.self.inside.types c.tagged-payload.new.self.types c.tagged-payload.ensures.types (ap (λ (p : Place). p.type_id) value_is) content.entry_is.before_is
     valid low below small heap (c.in-Some.ensures.takes heap) content.entry_is.size_is c.need-need.ensures.exact c.tagged-payload.ensures.payload
     (ap (λ (p : Place). p.at) value_is) tagged_by c.init_default.ensures.changes c.init_default.ensures.default)
+
+pub returns-in_default-value-clause-given_node : goal.returns-in_default-value-clause-given_node
+returns-in_default-value-clause-given_node g c = subst (λ (s : Stored). IsIndexNode c.args.content.now → IsHeap g.F.Fit.allocator s.window.bytes →
+    GivesNode g.F.Fit.allocator s.window.bytes c.tagged-payload.new.self.window.bytes c.tagged-payload.result)
+    c.self.view_is (λ node heap.
+    let taken = c.allocate.new.w in
+    let tagged_by = bytes_of c.tagged-payload.new.self.window (with_bytes taken (set_word taken.bytes (c.in-Some.block + 8) (word_of c.args.content.now.tag))) c.tagged-payload.ensures.window in
+    gives_node_at g.F.Fit.allocator c.in-Some.block c.need-need.result c.args.content.now.entry.size c.tagged-payload.result (word_of c.args.content.now.tag)
+    c.self.inside.window.bytes taken.bytes c.tagged-payload.new.self.window.bytes heap (c.in-Some.ensures.takes heap)
+    node.size_is c.need-need.ensures.exact c.tagged-payload.ensures.payload node.tag_is tagged_by)
