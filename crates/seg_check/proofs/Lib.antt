@@ -1,0 +1,4 @@
+pub mod TagNumbers
+pub mod LiveTags
+pub mod TileWalk
+pub mod Following

@@ -1,3 +1,4 @@
 pub mod Headers
 pub mod ContentFaults
 pub mod Faults
+pub mod Tiles
