@@ -1,0 +1,5 @@
+pub mod SameLength
+pub mod MarkLaws
+pub mod KnownLaws
+pub mod ClaimLaws
+pub mod StepLaws

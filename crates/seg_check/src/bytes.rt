@@ -1,72 +1,77 @@
+ghost use Rattle.std.specs.Prelude.{◌≡◌, ◌+◌, ◌-◌, ◌*◌, ◌≤◌, length};
+ghost use Rattle.seg_spec.specs.Bytes.{word};
+ghost use Rattle.seg_spec.specs.Pointer.{target};
+ghost use Rattle.seg_check.specs.Headers2.{header_at};
+
 use seg_block::{LINK, TAG, UNIT, UNITS_BEFORE};
 use seg_ptr::Window;
 use std::alloc::Allocator;
 
-/// The bit of a header's first word that says whether the block is live. The bits below count its units.
 const LIVE: u32 = 1 << 31;
 
-/// The bytes of an image, read as a [`Window`]'s are.
-// A copy of this stays in registers, which a window that a reference leads to doesn't where marks are written meanwhile.
 #[derive(Clone, Copy)]
-pub(crate) struct Bytes<'a> {
+pub(crate) struct View<'a> {
     bytes: &'a [u8],
 }
 
-impl<'a> Bytes<'a> {
-    pub(crate) fn of<A: Allocator>(w: &'a Window<A>) -> Bytes<'a> {
-        Bytes {
+impl<'a> View<'a> {
+    pub(crate) fn of<A: Allocator>(w: &'a Window<A>) -> View<'a>
+        ensures { result.bytes.now ≡ w.now.bytes }
+    {
+        View {
             bytes: w.slice(0, w.len() as usize),
         }
     }
 
-    /// The number at a position.
-    pub(crate) fn get32(self, at: u32) -> u32 {
-        let at = at as usize;
-        match self.bytes.get(at..at + 4) {
+    pub(crate) fn get32(self, at: usize) -> u32
+        ensures { result ≡ word self.entry.bytes.now at }
+    {
+        match self.bytes.get(at..at.saturating_add(4)) {
             Some([a, b, c, d]) => u32::from_le_bytes([*a, *b, *c, *d]),
             Some(_) | None => 0,
         }
     }
 
     /// What the pointer at a position names.
-    pub(crate) fn target(self, at: u32) -> Option<u32> {
+    pub(crate) fn target(self, at: usize) -> Option<u32>
+        ensures { result ≡ target self.entry.bytes.now at }
+    {
         match self.get32(at) {
             1 => None,
-            distance => Some(at.wrapping_add(distance)),
+            distance => Some((at as u32).wrapping_add(distance)),
         }
-    }
-
-    /// The header of the block at a position. Where it doesn't lie in the image, its words are 0.
-    pub(crate) fn header(self, block: u32) -> BlockHeader {
-        let at = block as usize;
-        let header = Bytes {
-            bytes: self.bytes.get(at..at + UNIT as usize).unwrap_or(&[]),
-        };
-        let size = header.get32(0);
-        BlockHeader {
-            units: size % LIVE,
-            is_live: size >= LIVE,
-            units_before: header.get32(UNITS_BEFORE as u32),
-            tag: header.get32(TAG as u32),
-            link: header.get32(LINK as u32),
-        }
-    }
-
-    /// Whether the live block at a position has this tag and so many bytes of payload.
-    pub(crate) fn has_payload(self, block: u32, tag: u32, size: u64) -> bool {
-        let header = self.header(block);
-        let bytes = u64::from(UNIT) * u64::from(header.units);
-        header.tag == tag && bytes >= size.saturating_add(u64::from(UNIT))
     }
 }
 
-/// The header of a block, each of its words read once.
-#[derive(Clone, Copy)]
-pub(crate) struct BlockHeader {
+#[derive(Debug, Clone, Copy, PartialEq, Eq)]
+pub(crate) struct Header {
     pub(crate) units: u32,
     pub(crate) is_live: bool,
     pub(crate) units_before: u32,
     pub(crate) tag: u32,
-    /// The distance in the pointer to the next free block.
-    pub(crate) link: u32,
+    pub(crate) link: Option<u32>,
+}
+
+impl Header {
+    pub(crate) fn read(view: View, block: u32) -> Header
+        ensures inside { block + UNIT ≤ length view.entry.bytes.now
+            → result ≡ header_at view.entry.bytes.now block }
+    {
+        let at = block as usize;
+        let size = view.get32(at);
+        Header {
+            units: size % LIVE,
+            is_live: size >= LIVE,
+            units_before: view.get32(at.saturating_add(UNITS_BEFORE)),
+            tag: view.get32(at.saturating_add(TAG)),
+            link: view.target(at.saturating_add(LINK)),
+        }
+    }
+
+    /// The bytes of the block's payload.
+    pub(crate) fn payload(self) -> u64
+        ensures { result ≡ UNIT * self.units - UNIT }
+    {
+        (u64::from(UNIT) * u64::from(self.units)).saturating_sub(u64::from(UNIT))
+    }
 }

@@ -4,7 +4,7 @@ ghost use Rattle.seg_spec.specs.Sound.{HasHeader};
 ghost use Rattle.seg_spec.specs.Faulty.{HasFront};
 ghost use Rattle.seg_check.specs.Faults.{FitsFront};
 
-use crate::bytes::Bytes;
+use crate::bytes::View;
 use crate::claims::Claims;
 use crate::header::check_header;
 use crate::image::Image;
@@ -39,7 +39,7 @@ fn check_heap<A: Allocator, B: Allocator + Copy>(
     let mut claims = Claims::new(alloc, w)?;
     let image = Image {
         w,
-        bytes: Bytes::of(w),
+        bytes: View::of(w),
         types,
     };
     let free_list = image.check_tiles(&mut claims).map_err(Fault::BadBlock)?;

@@ -1,6 +1,6 @@
 ghost use Rattle.std.specs.Prelude.{◌≡◌};
 
-use crate::bytes::Bytes;
+use crate::bytes::View;
 use crate::claims::Claims;
 use crate::fault::ContentFault;
 use crate::free_list::FreeList;
@@ -15,8 +15,10 @@ use std::alloc::Allocator;
 #[derive(Drop)]
 pub(crate) struct Image<'a, A: Allocator> {
     pub(crate) w: &'a Window<A>,
-    pub(crate) bytes: Bytes<'a>,
+    /// The bytes of the window, at hand.
+    pub(crate) bytes: View<'a>,
     pub(crate) types: &'a TypeTable,
+    ghost same: { bytes.bytes.now ≡ w.now.bytes },
 }
 
 impl<A: Allocator> Image<'_, A> {
@@ -67,7 +69,7 @@ impl<A: Allocator> Image<'_, A> {
 /// How a cell claims the blocks that it names: its own copy of what each claim reads, since a list claims each of its nodes.
 #[derive(Clone, Copy)]
 pub(crate) struct Owner<'a> {
-    bytes: Bytes<'a>,
+    bytes: View<'a>,
     tag: Tag,
     entry_size: u32,
     /// Whether the entries may name blocks, so that they wait for their turn.

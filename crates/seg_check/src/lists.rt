@@ -1,6 +1,6 @@
 ghost use Rattle.std.specs.Prelude.{◌≡◌};
 
-use crate::bytes::Bytes;
+use crate::bytes::View;
 use crate::claims::Claims;
 use crate::fault::ContentFault;
 use crate::image::Image;
@@ -29,7 +29,7 @@ impl<A: Allocator> Image<'_, A> {
             is_linked = is_linked && is_previous(bytes, last, next);
             last = next;
         }
-        let is_closed = bytes.target(last) == Some(first) && is_previous(bytes, last, first);
+        let is_closed = bytes.target(last as usize) == Some(first) && is_previous(bytes, last, first);
         if is_linked && is_closed {
             Ok(())
         } else {
@@ -39,6 +39,6 @@ impl<A: Allocator> Image<'_, A> {
 }
 
 /// Whether a node is the one before another, as that one says.
-fn is_previous(bytes: Bytes, node: u32, next: u32) -> bool {
-    bytes.target(next.wrapping_add(PREVIOUS)) == Some(node)
+fn is_previous(bytes: View, node: u32, next: u32) -> bool {
+    bytes.target(next.wrapping_add(PREVIOUS) as usize) == Some(node)
 }

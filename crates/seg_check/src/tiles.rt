@@ -1,13 +1,10 @@
-use crate::bytes::BlockHeader;
+use crate::bytes::Header;
 use crate::claims::Claims;
 use crate::free_list::FreeList;
 use crate::image::Image;
 use seg_block::{HEAP_START, Kind, Tag, UNIT};
 use seg_layout::{MAX_TYPES, Type, TypeTable};
 use std::alloc::Allocator;
-
-/// The word of a link that names nothing.
-const NULL: u32 = 1;
 
 /// One more than the greatest number of a kind.
 const KINDS: usize = 7;
@@ -16,12 +13,12 @@ const KINDS: usize = 7;
 const TAG_WORDS: usize = 256 * MAX_TYPES;
 
 /// What the first block comes after.
-const BEFORE_ALL: BlockHeader = BlockHeader {
+const BEFORE_ALL: Header = Header {
     units: 0,
     is_live: true,
     units_before: 0,
     tag: 0,
-    link: NULL,
+    link: None,
 };
 
 impl<A: Allocator> Image<'_, A> {
@@ -39,7 +36,7 @@ impl<A: Allocator> Image<'_, A> {
         let mut at = HEAP_START;
         let mut before = BEFORE_ALL;
         while at < end {
-            let header = bytes.header(at);
+            let header = Header::read(bytes, at);
             let units = header.units;
             if units < 2 || units > (end - at) / UNIT || !tags.follows(header, before) {
                 return Err(at);
@@ -80,10 +77,10 @@ impl LiveTags {
     }
 
     /// Whether a header is right after another one, its size aside.
-    fn follows(&self, header: BlockHeader, before: BlockHeader) -> bool {
+    fn follows(&self, header: Header, before: Header) -> bool {
         header.units_before == before.units
             && if header.is_live {
-                header.link == NULL && self.have(header.tag)
+                header.link.is_none() && self.have(header.tag)
             } else {
                 header.tag == 0 && before.is_live
             }

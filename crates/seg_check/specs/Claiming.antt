@@ -1,0 +1,46 @@
+-- Claims of the blocks that pointers name.
+--     Refuses fault P                          the fault is about contents, and P isn't so
+--     IsLiveBlock bytes block                  a live block lies at a position, in the segment
+--     AreLive bytes blocks                     each of them is one
+--     ClaimsBlock bytes old new pointer ..     the block that a pointer names was claimed
+--     CanClaim bytes known pointer tag size    it can be
+use Rattle.std.specs.Prelude.{◌≡◌, ℕ, ◌≤◌, ⊤, true, List, [], ◌∷◌, length, Some}
+use Rattle.seg_spec.specs.Pointer.{target}
+use Rattle.seg_spec.specs.Heap.{is_live_at, units_at}
+use Rattle.seg_spec.specs.Block.{IsBlock, block_of, payload_end}
+use Rattle.seg_spec.specs.Sound.{times}
+use Rattle.seg_check.specs.declared.fault.ContentFault.{ContentFault}
+use Rattle.seg_check.specs.declared.fault.ContentFault.TheVariants.{Memory, BadIndex, BadPointer, DoubleOwner, BadValue}
+use Rattle.seg_check.specs.declared.marks.Turn.{Turn}
+use Rattle.seg_check.specs.Marks.{Known, ClaimsAll}
+
+-- what the fault says against a claim: nothing where host memory was refused
+abbrev pub Refuses : ContentFault → Type 0 → Type 0
+Refuses Memory P = ⊤
+Refuses (BadIndex at) P = P → ⊥
+Refuses (BadPointer at) P = P → ⊥
+Refuses (DoubleOwner at) P = P → ⊥
+Refuses (BadValue at) P = P → ⊥
+
+-- a live block lies at this position, in the segment
+pub record IsLiveBlock (bytes : List ℕ) (block : ℕ) : Type 0 where
+  pub live : is_live_at bytes block ≡ true
+  pub size : 2 ≤ units_at bytes block
+  pub inside : payload_end bytes block ≤ length bytes
+
+abbrev pub AreLive : List ℕ → List ℕ → Type 0
+AreLive bytes blocks = (h : ℕ) → 1 ≤ times h blocks → IsLiveBlock bytes h
+
+-- a pointer names the payload of a block with this tag and room, which nothing claimed so far
+pub record CanClaim (bytes : List ℕ) (known : Known) (pointer tag size : ℕ) : Type 0 where
+  pub start : ℕ
+  pub names : target bytes pointer ≡ Some start
+  pub is_block : IsBlock bytes start tag size
+  pub unclaimed : 1 ≤ times (block_of start) known.unclaimed
+
+-- a pointer names such a block, where it was claimed, and these turns wait after the others
+pub record ClaimsBlock (bytes : List ℕ) (old new : Known) (pointer tag size : ℕ)
+    (turns : List Turn) (start : ℕ) : Type 0 where
+  pub names : target bytes pointer ≡ Some start
+  pub is_block : IsBlock bytes start tag size
+  pub claims : ClaimsAll old new (block_of start ∷ []) turns
