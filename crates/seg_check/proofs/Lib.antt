@@ -3,3 +3,7 @@ pub mod MarkLaws
 pub mod KnownLaws
 pub mod ClaimLaws
 pub mod StepLaws
+pub mod PlaceLoop
+pub mod TagLaws
+pub mod OpenLaws
+pub mod BufferLaws

@@ -171,19 +171,21 @@ module _ (bytes : List ℕ) (table : Table) where
 
   pub cells_forth : (u l : List ℕ) (ps others : List Place) → AreKnown table ps → Resolves bytes table u l (ps ++ others) → Resolves bytes table u l (with_cells table ps ++ others)
   cells_forth u l [] others known r = r
-  cells_forth u l (p ∷ ps) others known r = go (has_cells (form_at table p.type)) refl
+  cells_forth u l (p ∷ ps) others known r = go (has_cells (form_at table p.type)) refl (λ more. cells_forth u l ps more known.1)
     where
-      go : (b : Bool) → has_cells (form_at table p.type) ≡ b → Resolves bytes table u l (cond b (p ∷ with_cells table ps) (with_cells table ps) ++ others)
-      go true e = one_more u l p ps (with_cells table ps) others (cells_forth u l ps (p ∷ others) known.1) r
-      go false e = cells_forth u l ps others known.1 (number_forth u l p (ps ++ others) (known_number p.type known.0 e) r)
+      go : (b : Bool) → has_cells (form_at table p.type) ≡ b → ((more : List Place) → Resolves bytes table u l (ps ++ more) → Resolves bytes table u l (with_cells table ps ++ more))
+          → Resolves bytes table u l (cond b (p ∷ with_cells table ps) (with_cells table ps) ++ others)
+      go true e rest = one_more u l p ps (with_cells table ps) others (rest (p ∷ others)) r
+      go false e rest = rest others (number_forth u l p (ps ++ others) (known_number p.type known.0 e) r)
 
   pub cells_back : (u l : List ℕ) (ps others : List Place) → AreKnown table ps → Resolves bytes table u l (with_cells table ps ++ others) → Resolves bytes table u l (ps ++ others)
   cells_back u l [] others known r = r
-  cells_back u l (p ∷ ps) others known r = go (has_cells (form_at table p.type)) refl r
+  cells_back u l (p ∷ ps) others known r = go (has_cells (form_at table p.type)) refl r (λ more. cells_back u l ps more known.1)
     where
-      go : (b : Bool) → has_cells (form_at table p.type) ≡ b → Resolves bytes table u l (cond b (p ∷ with_cells table ps) (with_cells table ps) ++ others) → Resolves bytes table u l (p ∷ (ps ++ others))
-      go true e r = one_more u l p (with_cells table ps) ps others (cells_back u l ps (p ∷ others) known.1) r
-      go false e r = number_back u l p (ps ++ others) (known_number p.type known.0 e) (cells_back u l ps others known.1 r)
+      go : (b : Bool) → has_cells (form_at table p.type) ≡ b → Resolves bytes table u l (cond b (p ∷ with_cells table ps) (with_cells table ps) ++ others)
+          → ((more : List Place) → Resolves bytes table u l (with_cells table ps ++ more) → Resolves bytes table u l (ps ++ more)) → Resolves bytes table u l (p ∷ (ps ++ others))
+      go true e r rest = one_more u l p (with_cells table ps) ps others (rest (p ∷ others)) r
+      go false e r rest = number_back u l p (ps ++ others) (known_number p.type known.0 e) (rest others r)
 
   -- ---- steps
 

@@ -4,11 +4,17 @@
 --     AreLive bytes blocks                     each of them is one
 --     ClaimsBlock bytes old new pointer ..     the block that a pointer names was claimed
 --     CanClaim bytes known pointer tag size    it can be
-use Rattle.std.specs.Prelude.{◌≡◌, ℕ, ◌≤◌, ⊤, true, List, [], ◌∷◌, length, Some}
+--     turns_where b start count                a turn, where entries may name blocks
+--     has_turns table held                     whether entries that hold this may
+use Rattle.std.specs.Prelude.{◌≡◌, ℕ, ◌≤◌, ⊤, Bool, true, false, List, [], ◌∷◌, length, Some}
 use Rattle.seg_spec.specs.Pointer.{target}
 use Rattle.seg_spec.specs.Heap.{is_live_at, units_at}
 use Rattle.seg_spec.specs.Block.{IsBlock, block_of, payload_end}
 use Rattle.seg_spec.specs.Sound.{times}
+use Rattle.seg_spec.specs.Types.{Table, form_at}
+use Rattle.seg_layout.specs.Forms.{has_cells}
+use Rattle.seg_value.specs.declared.entry.Held.{Held}
+use Rattle.seg_value.specs.declared.entry.Held.TheVariants as held
 use Rattle.seg_check.specs.declared.fault.ContentFault.{ContentFault}
 use Rattle.seg_check.specs.declared.fault.ContentFault.TheVariants.{Memory, BadIndex, BadPointer, DoubleOwner, BadValue}
 use Rattle.seg_check.specs.declared.marks.Turn.{Turn}
@@ -44,3 +50,14 @@ pub record ClaimsBlock (bytes : List ℕ) (old new : Known) (pointer tag size : 
   pub names : target bytes pointer ≡ Some start
   pub is_block : IsBlock bytes start tag size
   pub claims : ClaimsAll old new (block_of start ∷ []) turns
+
+-- the turn of a claimed block, where its entries may name blocks
+abbrev pub turns_where : Bool → ℕ → ℕ → List Turn
+turns_where true start count = record { start = start; count = count } ∷ []
+turns_where false start count = []
+
+-- whether entries that hold this may name blocks
+abbrev pub has_turns : Table → Held → Bool
+has_turns table (held.Value U) = has_cells (form_at table U)
+has_turns table held.Bytes = false
+has_turns table held.Pointer = false

@@ -6,3 +6,4 @@ pub mod Marks
 pub mod Claiming
 pub mod Turns
 pub mod Resolving
+pub mod Cells

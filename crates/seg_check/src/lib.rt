@@ -10,6 +10,7 @@ mod free_tree;
 mod header;
 mod image;
 mod index;
+mod laws;
 mod lists;
 mod maps;
 mod marks;

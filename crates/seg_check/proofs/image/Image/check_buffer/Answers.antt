@@ -1,0 +1,1 @@
+use Rattle.seg_check.proofs.image.Image.check_buffer.Goals as goal
