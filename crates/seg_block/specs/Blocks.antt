@@ -1,13 +1,9 @@
 -- A block, with its size in its header.
 use Rattle.std.specs.Prelude.{◌≡◌, ℕ, ◌+◌, ◌-◌, ◌*◌, ◌⊎◌, Bool, true, false, ◌%◌, ◌≤◌, List, [], ◌∷◌, ◌++◌, length, Contains, IsSomeAnd, Option, None}
-use Rattle.seg_spec.specs.Heap.{Tile, Span, span, span_of, end_of, heap_start, units_at, live, gaps, room_at, IsHeap, Keeps, resized}
+use Rattle.seg_spec.specs.Heap.{Tile, Span, span, span_of, end_of, units_at, live, gaps, room_at, IsHeap, Keeps, resized}
 use Rattle.seg_ptr.specs.declared.window.TheConstants.{MAX_LEN}
 use Rattle.seg_block.specs.Tiling.{tile}
 use Rattle.seg_block.specs.declared.block.Block.{Block}
-
--- the bytes of the smallest segment, whose heap has two units
-abbrev pub smallest : ℕ
-smallest = heap_start + 2 * 16
 
 -- where a block ends
 abbrev pub block_end : Block → ℕ

@@ -1,5 +1,6 @@
 pub mod Sizes
 pub mod Blocks
+pub mod Headers
 pub mod Tags
 pub mod Tiling
 pub mod Request

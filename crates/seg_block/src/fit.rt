@@ -1,7 +1,8 @@
 ghost use Rattle.std.specs.Prelude.{◌≡◌, ℕ, ◌+◌, ◌*◌, ◌/◌, ◌%◌, ◌<◌, ◌≤◌, ◌⊎◌, Bool, List, length};
 ghost use Rattle.seg_spec.specs.Window.{with_bytes, KeepsHost};
 ghost use Rattle.seg_spec.specs.Heap.{Tile, Fill, AreHeaders, HoldsGaps, IsHeap, IsLive, Takes, Gives, Expands, Shrinks, Begins, Extends, Cuts, without_end, free_of, shrunk};
-ghost use Rattle.seg_block.specs.Blocks.{block_end, smallest, IsCut, IsLiveBlock, room_after, IsResized};
+ghost use Rattle.seg_spec.specs.Header.{min_length};
+ghost use Rattle.seg_block.specs.Blocks.{block_end, IsCut, IsLiveBlock, room_after, IsResized};
 ghost use Rattle.seg_block.specs.Extents.{Enlarges};
 ghost use Rattle.seg_block.specs.Tiling.{ending};
 ghost use Rattle.seg_spec.specs.Bytes.{set_word};
@@ -33,7 +34,7 @@ pub trait Fit {
     /// Makes the heap of a segment, which has room for two units, one gap.
     fn init<A: Allocator>(w: &mut Window<A>)
         ensures host { KeepsHost w.old w.new }
-        ensures begins { smallest ≤ length w.old.bytes → length w.old.bytes % UNIT ≡ 0
+        ensures begins { min_length ≤ length w.old.bytes → length w.old.bytes % UNIT ≡ 0
             → Begins allocator w.old.bytes w.new.bytes };
 
     /// Takes a block of `need` units, or of one more where a single unit would be left. None where no gap has them.
@@ -78,9 +79,9 @@ pub trait Fit {
     /// how many units the window can be cut. Of a heap of more than two units that can't be cut the size alone is written.
     fn cut_end<A: Allocator>(w: &mut Window<A>) -> u32
         ensures host { KeepsHost w.old w.new }
-        ensures cuts { smallest ≤ length w.old.bytes → IsHeap allocator w.old.bytes
+        ensures cuts { min_length ≤ length w.old.bytes → IsHeap allocator w.old.bytes
             → Cuts allocator w.old.bytes w.new.bytes result }
-        ensures unchanged { smallest < length w.old.bytes → IsHeap allocator w.old.bytes →
+        ensures unchanged { min_length < length w.old.bytes → IsHeap allocator w.old.bytes →
             result ≡ 0
             → w.new ≡ with_bytes w.old (set_word w.old.bytes SIZE (length w.old.bytes / UNIT)) };
 
@@ -126,7 +127,7 @@ pub trait Fit {
     final fn extend_end<A: Allocator>(w: &mut Window<A>, units: u32)
         requires { UNIT * units ≤ length w.old.bytes }
         ensures host { KeepsHost w.old w.new }
-        ensures extends { smallest + UNIT * units ≤ length w.old.bytes
+        ensures extends { min_length + UNIT * units ≤ length w.old.bytes
             → IsHeap allocator (without_end w.old.bytes units)
             → Extends allocator w.old.bytes w.new.bytes units }
     {

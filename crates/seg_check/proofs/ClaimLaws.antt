@@ -6,7 +6,7 @@ use Rattle.seg_spec.specs.Block.{IsBlock, block_of, payload_size}
 use Rattle.seg_spec.specs.Sound.{times}
 use Rattle.seg_spec.proofs.LiveLaws.{times-same}
 use Rattle.seg_check.specs.Marks.{Known, ClaimsAll}
-use Rattle.seg_check.specs.Claiming.{AreLive, IsLiveBlock, CanClaim, ClaimsBlock}
+use Rattle.seg_check.specs.Claiming.{AreLive, IsLiveBlock, HasPayload, CanClaim, ClaimsBlock}
 
 -- a block that something claimed can't be claimed
 pub claimed_before : (bytes : List ℕ) (known : Known) (pointer tag size start : ℕ) → target bytes pointer ≡ Some start → times (block_of start) known.unclaimed ≡ 0 → CanClaim bytes known pointer tag size → ⊥
@@ -20,10 +20,11 @@ pub claims_live : (bytes : List ℕ) (old new : Known) (block : ℕ) → AreLive
 claims_live bytes old new block live c = live block (omega (arith, c.claimed block, times-same block new.unclaimed))
 
 pub claims_block : (bytes : List ℕ) (old new : Known) (pointer tag size start : ℕ) → AreLive bytes old.unclaimed → target bytes pointer ≡ Some start → 16 ≤ start → ClaimsAll old new (block_of start ∷ []) []
-    → (block_of start + 16 ≤ length bytes → (tag_at bytes (block_of start) ≡ tag) × (size ≤ payload_size bytes (block_of start))) → ClaimsBlock bytes old new pointer tag size [] start
+    → (block_of start + 16 ≤ length bytes → HasPayload bytes (block_of start) tag size) → ClaimsBlock bytes old new pointer tag size [] start
 claims_block bytes old new pointer tag size start live names high c reads =
     let lies = claims_live bytes old new (block_of start) live c in
     let inside = lies.inside in
     let large = lies.size in
     let read = reads (omega arith) in
-    record { names = names; is_block = record { after_header = high; live = lies.live; has_tag = read.0; room = read.1 }; claims = c }
+    let fits = read.fits in
+    record { names = names; is_block = record { after_header = high; live = lies.live; has_tag = read.tag_is; room = omega arith }; claims = c }

@@ -58,13 +58,13 @@ module _ (marks : List Mark) (u f : ℕ) (queue : List Turn) (taken : ℕ) where
     pub adds_live : (n : ℕ) → (u < 2 ^ 64 - 1 → n ≡ u + 1) → IsMarked here block Live → Adds old block true (known_of marks n f queue taken)
     adds_live n next is =
         let unclaimed : SameBlocks (unclaimed_from heap_start marks) (block ∷ old.unclaimed) = (λ h. ⊎_elim
-            (λ same. subst (λ x. times x here.unclaimed ≡ times x (block ∷ old.unclaimed)) same (is.unclaimed ∙ sym (times-same block old.unclaimed ∙ ap (λ n. 1 + n) no_live)))
-            (λ other. kept.unclaimed h (λ e. other (sym e)) ∙ sym (times-other h block old.unclaimed other))
-            (cases_eq block h)) in
+        (λ same. subst (λ x. times x here.unclaimed ≡ times x (block ∷ old.unclaimed)) same (is.unclaimed ∙ sym (times-same block old.unclaimed ∙ ap (λ n. 1 + n) no_live)))
+        (λ other. kept.unclaimed h (λ e. other (sym e)) ∙ sym (times-other h block old.unclaimed other))
+        (cases_eq block h)) in
         let free : SameBlocks (free_from heap_start marks) old.free = (λ h. ⊎_elim
-            (λ same. subst (λ x. times x here.free ≡ times x old.free) same (is.free ∙ sym no_free))
-            (λ other. kept.free h (λ e. other (sym e)))
-            (cases_eq block h)) in
+        (λ same. subst (λ x. times x here.free ≡ times x old.free) same (is.free ∙ sym no_free))
+        (λ other. kept.free h (λ e. other (sym e)))
+        (cases_eq block h)) in
         let more = same_length (unclaimed_from heap_start marks) (block ∷ old.unclaimed) unclaimed in
         let free_same = same_length (free_from heap_start marks) old.free free in
         let limit = few is_unclaimed heap_start marks in
@@ -80,13 +80,13 @@ module _ (marks : List Mark) (u f : ℕ) (queue : List Turn) (taken : ℕ) where
     pub adds_free : (n : ℕ) → (f < 2 ^ 64 - 1 → n ≡ f + 1) → IsMarked here block Free → Adds old block false (known_of marks u n queue taken)
     adds_free n next is =
         let unclaimed : SameBlocks (unclaimed_from heap_start marks) old.unclaimed = (λ h. ⊎_elim
-            (λ same. subst (λ x. times x here.unclaimed ≡ times x old.unclaimed) same (is.unclaimed ∙ sym no_live))
-            (λ other. kept.unclaimed h (λ e. other (sym e)))
-            (cases_eq block h)) in
+        (λ same. subst (λ x. times x here.unclaimed ≡ times x old.unclaimed) same (is.unclaimed ∙ sym no_live))
+        (λ other. kept.unclaimed h (λ e. other (sym e)))
+        (cases_eq block h)) in
         let free : SameBlocks (free_from heap_start marks) (block ∷ old.free) = (λ h. ⊎_elim
-            (λ same. subst (λ x. times x here.free ≡ times x (block ∷ old.free)) same (is.free ∙ sym (times-same block old.free ∙ ap (λ n. 1 + n) no_free)))
-            (λ other. kept.free h (λ e. other (sym e)) ∙ sym (times-other h block old.free other))
-            (cases_eq block h)) in
+        (λ same. subst (λ x. times x here.free ≡ times x (block ∷ old.free)) same (is.free ∙ sym (times-same block old.free ∙ ap (λ n. 1 + n) no_free)))
+        (λ other. kept.free h (λ e. other (sym e)) ∙ sym (times-other h block old.free other))
+        (cases_eq block h)) in
         let more = same_length (free_from heap_start marks) (block ∷ old.free) free in
         let unclaimed_same = same_length (unclaimed_from heap_start marks) old.unclaimed unclaimed in
         let limit = few is_free heap_start marks in
@@ -108,16 +108,16 @@ module _ (marks : List Mark) (u f : ℕ) (queue : List Turn) (taken : ℕ) where
       let gone : times block new ≡ 0 = looked is_unclaimed block heap_start unit (set marks unit Claimed) at_is there ∙ ap (λ x. cond (is_unclaimed x) 1 0) (get_or-set_at marks unit unit Claimed Inside refl inside) in
       let was : times block here.unclaimed ≡ 1 = looked is_unclaimed block heap_start unit marks at_is inside ∙ ap (λ x. cond (is_unclaimed x) 1 0) (sym is) in
       let claimed : SameBlocks here.unclaimed (block ∷ new) = (λ h. ⊎_elim
-          (λ same. subst (λ x. times x here.unclaimed ≡ times x (block ∷ new)) same (was ∙ sym (times-same block new ∙ ap (λ n. 1 + n) gone)))
-          (λ other. sym (times-other h block new other ∙ set_other is_unclaimed h heap_start unit marks Claimed (λ e. other (at_is ∙ e))))
-          (cases_eq block h)) in
+      (λ same. subst (λ x. times x here.unclaimed ≡ times x (block ∷ new)) same (was ∙ sym (times-same block new ∙ ap (λ n. 1 + n) gone)))
+      (λ other. sym (times-other h block new other ∙ set_other is_unclaimed h heap_start unit marks Claimed (λ e. other (at_is ∙ e))))
+      (cases_eq block h)) in
       let less = same_length here.unclaimed (block ∷ new) claimed in
       let free : SameBlocks (free_from heap_start (set marks unit Claimed)) here.free = (λ h. ⊎_elim
-          (λ same. subst (λ x. times x (free_from heap_start (set marks unit Claimed)) ≡ times x here.free) same
-              (looked is_free block heap_start unit (set marks unit Claimed) at_is there ∙ ap (λ x. cond (is_free x) 1 0) (get_or-set_at marks unit unit Claimed Inside refl inside)
-              ∙ sym (looked is_free block heap_start unit marks at_is inside ∙ ap (λ x. cond (is_free x) 1 0) (sym is))))
-          (λ other. set_other is_free h heap_start unit marks Claimed (λ e. other (at_is ∙ e)))
-          (cases_eq block h)) in
+      (λ same. subst (λ x. times x (free_from heap_start (set marks unit Claimed)) ≡ times x here.free) same
+      (looked is_free block heap_start unit (set marks unit Claimed) at_is there ∙ ap (λ x. cond (is_free x) 1 0) (get_or-set_at marks unit unit Claimed Inside refl inside)
+      ∙ sym (looked is_free block heap_start unit marks at_is inside ∙ ap (λ x. cond (is_free x) 1 0) (sym is))))
+      (λ other. set_other is_free h heap_start unit marks Claimed (λ e. other (at_is ∙ e)))
+      (cases_eq block h)) in
       let free_same = same_length (free_from heap_start (set marks unit Claimed)) here.free free in
       record {
         claimed = claimed;

@@ -31,18 +31,18 @@ module _ (these : Mark → Bool) where
   none_below h at (m ∷ ms) low =
       let rest = none_below h (at + 16) ms (omega arith) in
       elim (these m) as (λ b. times h (cond b (at ∷ those_from these (at + 16) ms) (those_from these (at + 16) ms)) ≡ 0)
-          [ true ↦ times-other h at (those_from these (at + 16) ms) (λ e. omega arith) ∙ rest | false ↦ rest ]
+      [ true ↦ times-other h at (those_from these (at + 16) ms) (λ e. omega arith) ∙ rest | false ↦ rest ]
 
   first : (at : ℕ) (m : Mark) (ms : List Mark) → times at (those_from these at (m ∷ ms)) ≡ bit (these m)
   first at m ms =
       let rest = none_below at (at + 16) ms (omega arith) in
       elim (these m) as (λ b. times at (cond b (at ∷ those_from these (at + 16) ms) (those_from these (at + 16) ms)) ≡ bit b)
-          [ true ↦ times-same at (those_from these (at + 16) ms) ∙ ap (λ n. 1 + n) rest | false ↦ rest ]
+      [ true ↦ times-same at (those_from these (at + 16) ms) ∙ ap (λ n. 1 + n) rest | false ↦ rest ]
 
   pub later : (h at : ℕ) (m : Mark) (ms : List Mark) → at ≢ h → times h (those_from these at (m ∷ ms)) ≡ times h (those_from these (at + 16) ms)
   later h at m ms other =
       elim (these m) as (λ b. times h (cond b (at ∷ those_from these (at + 16) ms) (those_from these (at + 16) ms)) ≡ times h (those_from these (at + 16) ms))
-          [ true ↦ times-other h at (those_from these (at + 16) ms) other | false ↦ refl ]
+      [ true ↦ times-other h at (those_from these (at + 16) ms) other | false ↦ refl ]
 
   -- the mark of a unit says whether its position stands there
   pub looked : (h at u : ℕ) (ms : List Mark) → h ≡ at + 16 * u → u < length ms → times h (those_from these at ms) ≡ bit (these (get_or ms u Inside))
@@ -68,7 +68,7 @@ module _ (these : Mark → Bool) where
   set_other h at (suc u) (x ∷ ms) m other =
       let rest = set_other h (at + 16) u ms m (λ e. other (omega arith)) in
       elim (these x) as (λ b. times h (cond b (at ∷ those_from these (at + 16) (set ms u m)) (those_from these (at + 16) (set ms u m))) ≡ times h (cond b (at ∷ those_from these (at + 16) ms) (those_from these (at + 16) ms)))
-          [ true ↦ counted h at _ _ rest | false ↦ rest ]
+      [ true ↦ counted h at _ _ rest | false ↦ rest ]
 
   -- marks of no such kind
   pub none_in : (at n : ℕ) (m : Mark) → these m ≡ false → those_from these at (replicate n m) ≡ []
@@ -85,9 +85,9 @@ module _ (these : Mark → Bool) where
       let rest = one_more (at + 16) u ms (omega arith) in
       let same : (at + 16) + 16 * u ≡ at + 16 * (suc u) = omega arith in
       let next : those_from these (at + 16) (take (suc u) ms) ≡ those_from these (at + 16) (take u ms) ++ one (these (get_or ms u Inside)) (at + 16 * suc u) =
-          rest ∙ ap (λ x. those_from these (at + 16) (take u ms) ++ one (these (get_or ms u Inside)) x) same in
+      rest ∙ ap (λ x. those_from these (at + 16) (take u ms) ++ one (these (get_or ms u Inside)) x) same in
       elim (these m) as (λ b. cond b (at ∷ those_from these (at + 16) (take (suc u) ms)) (those_from these (at + 16) (take (suc u) ms)) ≡ cond b (at ∷ those_from these (at + 16) (take u ms)) (those_from these (at + 16) (take u ms)) ++ one (these (get_or ms u Inside)) (at + 16 * suc u))
-          [ true ↦ ap (λ l. at ∷ l) next | false ↦ next ]
+      [ true ↦ ap (λ l. at ∷ l) next | false ↦ next ]
 
   -- no more positions than marks
   pub few : (at : ℕ) (ms : List Mark) → length (those_from these at ms) ≤ length ms

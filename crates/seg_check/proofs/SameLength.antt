@@ -41,10 +41,10 @@ same_length [] ys e = sym (none_is_empty ys e)
 same_length (x ∷ xs) ys e =
     let s = splits x ys (omega (arith, e x, times-same x xs)) in
     let rest : SameBlocks xs (s.before ++ s.after) = (λ h.
-        let here = e h in
-        let there : times h ys ≡ times h s.before + times h (x ∷ s.after) = ap (times h) s.parts ∙ times-append h s.before (x ∷ s.after) in
-        let apart = times-append h s.before s.after in
-        omega arith) in
+    let here = e h in
+    let there : times h ys ≡ times h s.before + times h (x ∷ s.after) = ap (times h) s.parts ∙ times-append h s.before (x ∷ s.after) in
+    let apart = times-append h s.before s.after in
+    omega arith) in
     let lengths = same_length xs (s.before ++ s.after) rest in
     let there : length ys ≡ length s.before + length (x ∷ s.after) = ap length s.parts ∙ length-append s.before (x ∷ s.after) in
     let apart : length (s.before ++ s.after) ≡ length s.before + length s.after = length-append s.before s.after in

@@ -2,13 +2,14 @@
 --     Refuses fault P                          the fault is about contents, and P isn't so
 --     IsLiveBlock bytes block                  a live block lies at a position, in the segment
 --     AreLive bytes blocks                     each of them is one
+--     HasPayload bytes block tag size          a block has this tag and so many bytes of payload
 --     ClaimsBlock bytes old new pointer ..     the block that a pointer names was claimed
 --     CanClaim bytes known pointer tag size    it can be
 --     turns_where b start count                a turn, where entries may name blocks
 --     has_turns table held                     whether entries that hold this may
-use Rattle.std.specs.Prelude.{◌≡◌, ℕ, ◌≤◌, ⊤, Bool, true, false, List, [], ◌∷◌, length, Some}
+use Rattle.std.specs.Prelude.{◌≡◌, ℕ, ◌+◌, ◌*◌, ◌≤◌, ⊤, Bool, true, false, List, [], ◌∷◌, length, Some}
 use Rattle.seg_spec.specs.Pointer.{target}
-use Rattle.seg_spec.specs.Heap.{is_live_at, units_at}
+use Rattle.seg_spec.specs.Heap.{is_live_at, units_at, tag_at}
 use Rattle.seg_spec.specs.Block.{IsBlock, block_of, payload_end}
 use Rattle.seg_spec.specs.Sound.{times}
 use Rattle.seg_spec.specs.Types.{Table, form_at}
@@ -36,6 +37,11 @@ pub record IsLiveBlock (bytes : List ℕ) (block : ℕ) : Type 0 where
 
 abbrev pub AreLive : List ℕ → List ℕ → Type 0
 AreLive bytes blocks = (h : ℕ) → 1 ≤ times h blocks → IsLiveBlock bytes h
+
+-- a block has this tag, and so many bytes after its header
+pub record HasPayload (bytes : List ℕ) (block tag size : ℕ) : Type 0 where
+  pub tag_is : tag_at bytes block ≡ tag
+  pub fits : size + 16 ≤ 16 * units_at bytes block
 
 -- a pointer names the payload of a block with this tag and room, which nothing claimed so far
 pub record CanClaim (bytes : List ℕ) (known : Known) (pointer tag size : ℕ) : Type 0 where

@@ -1,5 +1,4 @@
 pub mod Headers
-pub mod Headers2
 pub mod ContentFaults
 pub mod Faults
 pub mod Marks

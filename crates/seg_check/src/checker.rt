@@ -4,7 +4,6 @@ ghost use Rattle.seg_spec.specs.Sound.{HasHeader};
 ghost use Rattle.seg_spec.specs.Faulty.{HasFront};
 ghost use Rattle.seg_check.specs.Faults.{FitsFront};
 
-use crate::bytes::View;
 use crate::claims::Claims;
 use crate::header::check_header;
 use crate::image::Image;
@@ -39,7 +38,7 @@ fn check_heap<A: Allocator, B: Allocator + Copy>(
     let mut claims = Claims::new(alloc, w)?;
     let image = Image {
         w,
-        bytes: View::of(w),
+        bytes: w.view(),
         types,
     };
     let free_list = image.check_tiles(&mut claims).map_err(Fault::BadBlock)?;

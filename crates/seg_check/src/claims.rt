@@ -5,11 +5,11 @@ ghost use Rattle.seg_block.specs.Tags.{word_of};
 ghost use Rattle.seg_check.specs.Marks.{Known, nothing_known, IsUnit, IsMarked, IsCounted, KeepsOthers, Adds};
 ghost use Rattle.seg_check.specs.Claiming.{Refuses, AreLive, CanClaim, ClaimsBlock};
 
+use crate::bytes::has_payload;
 use crate::fault::ContentFault;
 use crate::marks::{Mark, Turn};
-use crate::bytes::{Header, View};
 use seg_block::{HEAP_START, Tag, UNIT, block_of};
-use seg_ptr::Window;
+use seg_ptr::{View, Window};
 use std::alloc::{AllocError, Allocator};
 use std::marker::Model;
 
@@ -144,8 +144,7 @@ impl<A: Allocator> Claims<A> {
         let Some(unit) = self.unit_at(block) else {
             return Err(bad);
         };
-        let header = Header::read(bytes, block);
-        if header.tag != tag.word() || header.payload() < size {
+        if !has_payload(bytes, block, tag.word(), size) {
             return Err(bad);
         }
         match self.marks[unit] {
@@ -188,7 +187,7 @@ impl<A: Allocator> Claims<A> {
     pub(crate) fn first_unowned(&self) -> Option<u32>
         ensures { IsCounted self.now → MatchOption result (self.now.unclaimed ≡ [])
             (λ block. (1 ≤ times block self.now.unclaimed) ×
-              ((h : ℕ) → 1 ≤ times h self.now.unclaimed → block ≤ h)) }
+            ((h : ℕ) → 1 ≤ times h self.now.unclaimed → block ≤ h)) }
     {
         if self.unclaimed == 0 {
             return None;

@@ -1,13 +1,12 @@
 ghost use Rattle.std.specs.Prelude.{◌≡◌};
 
-use crate::bytes::View;
 use crate::claims::Claims;
 use crate::fault::ContentFault;
 use crate::free_list::FreeList;
 use crate::marks::Turn;
 use seg_block::Tag;
 use seg_layout::TypeTable;
-use seg_ptr::{Window, header};
+use seg_ptr::{View, Window, header};
 use seg_value::{Content, Entry, Held};
 use std::alloc::Allocator;
 

@@ -10,7 +10,6 @@ mod free_tree;
 mod header;
 mod image;
 mod index;
-mod laws;
 mod lists;
 mod maps;
 mod marks;

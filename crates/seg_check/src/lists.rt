@@ -1,9 +1,9 @@
 ghost use Rattle.std.specs.Prelude.{◌≡◌};
 
-use crate::bytes::View;
 use crate::claims::Claims;
 use crate::fault::ContentFault;
 use crate::image::Image;
+use seg_ptr::View;
 use seg_value::{Content, PREVIOUS};
 use std::alloc::Allocator;
 
@@ -29,7 +29,8 @@ impl<A: Allocator> Image<'_, A> {
             is_linked = is_linked && is_previous(bytes, last, next);
             last = next;
         }
-        let is_closed = bytes.target(last as usize) == Some(first) && is_previous(bytes, last, first);
+        let is_closed = bytes.target(last as usize) == Some(first)
+            && is_previous(bytes, last, first);
         if is_linked && is_closed {
             Ok(())
         } else {

@@ -1,8 +1,7 @@
-use crate::bytes::Header;
 use crate::claims::Claims;
 use crate::free_list::FreeList;
 use crate::image::Image;
-use seg_block::{HEAP_START, Kind, Tag, UNIT};
+use seg_block::{HEAP_START, Header, Kind, Tag, UNIT};
 use seg_layout::{MAX_TYPES, Type, TypeTable};
 use std::alloc::Allocator;
 

@@ -5,12 +5,11 @@ use Rattle.seg_spec.specs.Pointer.{target}
 use Rattle.seg_spec.specs.Block.{block_of}
 use Rattle.seg_spec.specs.Sound.{times}
 use Rattle.seg_block.specs.Tags.{word_of}
-use Rattle.seg_check.specs.declared.bytes.Header.{Header}
 use Rattle.seg_check.specs.declared.marks.Mark.{Mark}
 use Rattle.seg_check.specs.declared.marks.Turn.{Turn}
 use Rattle.seg_check.specs.declared.marks.Mark.TheVariants.{Inside, Live, Claimed}
 use Rattle.seg_check.specs.Marks.{Known, known_of, IsUnit, ClaimsAll, is_unclaimed}
-use Rattle.seg_check.specs.Claiming.{CanClaim}
+use Rattle.seg_check.specs.Claiming.{HasPayload, CanClaim}
 use Rattle.seg_check.proofs.KnownLaws.{mark_is, mark_none, claims_one}
 use Rattle.seg_check.proofs.ClaimLaws.{claimed_before, claims_block}
 use Rattle.seg_check.proofs.claims.Claims.claim.Goals as goal
@@ -48,11 +47,8 @@ returns-in-Live-clause-claimed g c = λ live.
     let claims = subst (λ (k : Known). ClaimsAll k new (block ∷ []) []) c.self.view_is one in
     let same : block ≡ block_of c.in-Some.start = c.block_of-block.ensures in
     claims_block bytes c.args.self.now new c.args.pointer (word_of c.args.tag) c.args.size c.in-Some.start live (sym c.in-Some.ensures) (omega (arith, unit.0, same)) (subst (λ (b : ℕ). ClaimsAll c.args.self.now new (b ∷ []) []) same claims)
-    (λ low.
-        let header = c.read-header.ensures.inside (subst (λ (b : ℕ). b + 16 ≤ length bytes) (sym same) low) in
-        let large = c.if-payload-size.false in
-        let units : c.read-header.result.units ≡ units_at bytes (block_of c.in-Some.start) = ap (λ (h : Header). h.units) header ∙ ap (units_at bytes) same in
-        (ap (tag_at bytes) (sym same) ∙ sym (ap (λ (h : Header). h.tag) header) ∙ c.if-header-word.false ∙ c.word.ensures, omega (arith, c.payload.ensures, units)))
+    (λ low. subst (λ (b : ℕ). HasPayload bytes b (word_of c.args.tag) c.args.size) same (subst (λ (t : ℕ). HasPayload bytes block t c.args.size) c.word.ensures
+    ((c.has_payload.ensures (subst (λ (b : ℕ). b + 16 ≤ length bytes) (sym same) low)).0 c.if-not-has_payload.false)))
 
 -- a mark that isn't that of an unclaimed block
 pub returns-in-Claimed-clause-refused : goal.returns-in-Claimed-clause-refused

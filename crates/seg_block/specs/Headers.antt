@@ -1,0 +1,19 @@
+-- The headers that bytes hold.
+--     header_at bytes at     the header at a position, all of which lies among the bytes
+--     no_header bytes at     what is read where it doesn't: its words are 0
+use Rattle.std.specs.Prelude.{ℕ, false, List}
+use Rattle.seg_spec.specs.Heap.{units_at, is_live_at, units_before, tag_at, link_at}
+use Rattle.seg_block.specs.declared.header.Header.{Header}
+
+abbrev pub header_at : List ℕ → ℕ → Header
+header_at bytes at = record {
+  units = units_at bytes at;
+  is_live = is_live_at bytes at;
+  units_before = units_before bytes at;
+  tag = tag_at bytes at;
+  link = link_at bytes at;
+}
+
+abbrev pub no_header : List ℕ → ℕ → Header
+no_header bytes at =
+    record { units = 0; is_live = false; units_before = 0; tag = 0; link = link_at bytes at }

@@ -1,1 +1,0 @@
-use Rattle.seg_check.proofs.image.Image.check_buffer.Goals as goal

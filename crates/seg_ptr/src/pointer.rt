@@ -1,0 +1,20 @@
+//! Pointers, which hold the distance from their own position. Distance 1 names nothing.
+ghost use Rattle.std.specs.Prelude.{◌≡◌, ◌+◌, ◌%◌, ◌^◌, ◌==◌, if◌then◌else◌, Some, None};
+
+/// What a pointer at a position names that holds this distance.
+pub(crate) fn named(at: usize, distance: u32) -> Option<u32>
+    ensures { result
+        ≡ (if distance == 1 then None else Some ((at + distance) % 2 ^ 32)) }
+{
+    match distance {
+        1 => None,
+        _ => Some(low_word(at).wrapping_add(distance)),
+    }
+}
+
+/// The lowest 32 bits.
+pub(crate) fn low_word(n: usize) -> u32
+    ensures { result ≡ n % 2 ^ 32 }
+{
+    (n % (1 << 32)) as u32
+}

@@ -1,0 +1,63 @@
+ghost use Rattle.std.specs.Prelude.{◌≡◌, ◌+◌, ◌<◌, ◌≤◌, ◌↔◌, [], length, IsTrue};
+ghost use Rattle.seg_spec.specs.Bytes.{slice, word};
+ghost use Rattle.seg_spec.specs.Pointer.{target};
+
+use crate::pointer::named;
+
+/// The bytes of a segment to read, as its [`Window`](crate::Window) reads them: a number whose bytes don't all lie among them
+/// is 0.
+// A copy of this stays in registers, which a window that a reference leads to doesn't where other memory is written meanwhile.
+#[derive(Debug, Clone, Copy)]
+pub struct View<'a> {
+    bytes: &'a [u8],
+}
+
+impl<'a> View<'a> {
+    pub(crate) fn new(bytes: &'a [u8]) -> View<'a>
+        ensures { result.bytes.now ≡ bytes.now }
+    {
+        View { bytes }
+    }
+
+    pub fn len(self) -> usize
+        ensures { result ≡ length self.entry.bytes.now }
+    {
+        self.bytes.len()
+    }
+
+    pub fn is_empty(self) -> bool
+        ensures { IsTrue result ↔ (length self.entry.bytes.now ≡ 0) }
+    {
+        self.bytes.is_empty()
+    }
+
+    /// The `n` bytes from a position on, and none where they don't all lie here. Positions in it count from its own start.
+    pub fn part(self, at: usize, n: usize) -> View<'a>
+        ensures inside { at + n ≤ length self.entry.bytes.now
+            → result.bytes.now ≡ slice self.entry.bytes.now at n }
+        ensures past { length self.entry.bytes.now < at + n → result.bytes.now ≡ [] }
+    {
+        match self.bytes.get(at..at.saturating_add(n)) {
+            Some(bytes) => View { bytes },
+            None => View { bytes: &[] },
+        }
+    }
+
+    /// The number of 32 bits at a position.
+    pub fn get32(self, at: usize) -> u32
+        ensures { result ≡ word self.entry.bytes.now at }
+    {
+        let [a, b, c, d] = self.part(at, 4).bytes else {
+            return 0;
+        };
+        u32::from_le_bytes([*a, *b, *c, *d])
+    }
+
+    /// What the pointer at a position names.
+    #[tactic(auto, unfolding(seg_spec::specs::Pointer::target))]
+    pub fn target(self, at: usize) -> Option<u32>
+        ensures { result ≡ target self.entry.bytes.now at }
+    {
+        named(at, self.get32(at))
+    }
+}
