@@ -11,3 +11,5 @@ pub mod PlaceLoop
 pub mod TagLaws
 pub mod OpenLaws
 pub mod BufferLaws
+pub mod PassedTiles
+pub mod FaultOrder

@@ -175,15 +175,18 @@ module _ (bytes : List ℕ) (table : Table) where
     pub high : at ≤ length bytes
     pub aligned : at % 16 ≡ 0
 
-  pub walked_none : (before : Header) (list : FreeList) → before.units ≡ 0 → before.is_live ≡ true → KnowsGaps bytes list [] → heap_start ≤ length bytes → Walked heap_start before list
-  walked_none before list no_units is_live followed large = record {
-    passed = [];
-    tiled = tiled_none before no_units is_live;
-    followed = followed;
-    low = omega arith;
-    high = large;
-    aligned = refl;
-  }
+  pub walked_none : (before : Header) (list : FreeList) → before.units ≡ 0 → before.is_live ≡ true → KnowsGaps bytes list [] → heap_start ≤ length bytes → (w : Walked heap_start before list) × (w.passed ≡ [])
+  walked_none before list no_units is_live followed large = (
+    record {
+      passed = [];
+      tiled = tiled_none before no_units is_live;
+      followed = followed;
+      low = omega arith;
+      high = large;
+      aligned = refl;
+    },
+    refl,
+  )
 
   -- the free tiles among those passed and one more
   free_more : (passed : List Tile) (at : ℕ) (old new : FreeList) (b : Bool) → is_live_at bytes at ≡ b → (b ≡ true → new ≡ old) → (b ≡ false → KnowsGaps bytes old (free_of passed) → KnowsGaps bytes new (free_of passed ++ span_of (tile_at at) ∷ [])) → KnowsGaps bytes old (free_of passed)
@@ -191,21 +194,25 @@ module _ (bytes : List ℕ) (table : Table) where
   free_more passed at old new true e same added followed = subst (λ gs. KnowsGaps bytes new gs) (sym (append-nil (free_of passed))) (subst (λ list. KnowsGaps bytes list (free_of passed)) (sym (same refl)) followed)
   free_more passed at old new false e same added followed = added refl followed
 
-  pub walked_more : (at : ℕ) (before : Header) (old new : FreeList) → Walked at before old → at < length bytes → 2 ≤ units_at bytes at → end_at at ≤ length bytes → Follows table before (header_at bytes at)
+  pub walked_more : (at : ℕ) (before : Header) (old new : FreeList) (w : Walked at before old) → at < length bytes → 2 ≤ units_at bytes at → end_at at ≤ length bytes → Follows table before (header_at bytes at)
       → (is_live_at bytes at ≡ true → new ≡ old)
       → (is_live_at bytes at ≡ false → (gs : List Span) → KnowsGaps bytes old gs → KnowsGaps bytes new (gs ++ span_of (tile_at at) ∷ []))
-      → Walked (end_at at) (header_at bytes at) new
-  walked_more at before old new w inside large fits next same added = record {
-    passed = w.passed ++ tile_at at ∷ [];
-    tiled = tiled_more w.passed at before w.tiled inside large next;
-    followed = subst (λ gs. KnowsGaps bytes new gs) (sym (free_of-append w.passed (tile_at at ∷ []))) (free_more w.passed at old new (is_live_at bytes at) refl same (λ e k. added e (free_of w.passed) k) w.followed);
-    low = omega (arith, w.low);
-    high = fits;
-    aligned = omega (arith, w.aligned);
-  }
+      → (more : Walked (end_at at) (header_at bytes at) new) × (more.passed ≡ w.passed ++ tile_at at ∷ [])
+  walked_more at before old new w inside large fits next same added = (
+    record {
+      passed = w.passed ++ tile_at at ∷ [];
+      tiled = tiled_more w.passed at before w.tiled inside large next;
+      followed = subst (λ gs. KnowsGaps bytes new gs) (sym (free_of-append w.passed (tile_at at ∷ []))) (free_more w.passed at old new (is_live_at bytes at) refl same (λ e k. added e (free_of w.passed) k) w.followed);
+      low = omega (arith, w.low);
+      high = fits;
+      aligned = omega (arith, w.aligned);
+    },
+    refl,
+  )
 
-  pub walked_all : (at : ℕ) (before : Header) (list : FreeList) → Walked at before list → at ≡ length bytes → HasTiles bytes table × KnowsGaps bytes list (gaps bytes)
+  pub walked_all : (at : ℕ) (before : Header) (list : FreeList) (w : Walked at before list) → at ≡ length bytes → HasTiles bytes table × KnowsGaps bytes list (gaps bytes) × (tiles bytes ≡ w.passed)
   walked_all at before list w end =
       let right = tiles_right w.passed at before w.tiled end in
-      let same : free_of w.passed ≡ gaps bytes = ap free_of (sym (all_passed w.passed at before w.tiled end)) ∙ sym (gaps_free right) in
-      (right, subst (λ gs. KnowsGaps bytes list gs) same w.followed)
+      let all = all_passed w.passed at before w.tiled end in
+      let same : free_of w.passed ≡ gaps bytes = ap free_of (sym all) ∙ sym (gaps_free right) in
+      (right, subst (λ gs. KnowsGaps bytes list gs) same w.followed, all)

@@ -1,9 +1,10 @@
-ghost use Rattle.std.specs.Prelude.{◌≡◌, ℕ, ◌↔◌, true, false, get_or, IsOk, IsTrue, OnOk, IfOk};
+ghost use Rattle.std.specs.Prelude.{◌≡◌, ℕ, ◌-◌, ◌/◌, ◌↔◌, true, false, get_or, length, IsOk, IsTrue, OnOk, IfOk};
 ghost use Rattle.seg_spec.specs.Types.{Table, IsTable};
-ghost use Rattle.seg_spec.specs.Heap.{gaps};
+ghost use Rattle.seg_spec.specs.Heap.{gaps, heap_start};
 ghost use Rattle.seg_spec.specs.Block.{AllowsType};
 ghost use Rattle.seg_spec.specs.Faulty.{HasFront, HasTiles};
 ghost use Rattle.seg_block.specs.Tags.{kind_of};
+ghost use Rattle.seg_check.specs.Marks.{nothing_known, KnowsTiles};
 ghost use Rattle.seg_check.specs.Tiles.{AreLiveTags, Follows, KnowsGaps};
 
 use crate::claims::Claims;
@@ -37,6 +38,9 @@ impl<A: Allocator> Image<'_, A> {
             → IsOk result ↔ HasTiles self.now.w.now.bytes self.now.types.now }
         ensures free_list { HasFront self.now.w.now.bytes self.now.types.now
             → IfOk result (λ list. KnowsGaps self.now.w.now.bytes list (gaps self.now.w.now.bytes)) }
+        ensures known { HasFront self.now.w.now.bytes self.now.types.now
+            → claims.old ≡ nothing_known ((length self.now.w.now.bytes - heap_start) / UNIT)
+            → OnOk result (KnowsTiles self.now.w.now.bytes claims.new) }
     {
         let bytes = self.bytes;
         let tags = LiveTags::of(self.types);

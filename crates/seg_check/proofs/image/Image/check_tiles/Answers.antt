@@ -1,9 +1,11 @@
-use Rattle.std.proofs.Common.{◌≡◌, ℕ, ◌+◌, ◌*◌, ◌^◌, ◌%◌, ◌<◌, ◌≤◌, Bool, true, false, not, List, ◌∷◌, [], ◌++◌, length, refl, sym, ap, ◌∙◌, subst, arith}
-use Rattle.seg_spec.specs.Heap.{Span, span_of, units_at, is_live_at}
+use Rattle.std.proofs.Common.{◌≡◌, ℕ, ◌+◌, ◌-◌, ◌*◌, ◌/◌, ◌^◌, ◌%◌, ◌<◌, ◌≤◌, Bool, true, false, not, List, ◌∷◌, [], ◌++◌, length, refl, sym, ap, ◌∙◌, subst, arith}
+use Rattle.seg_spec.specs.Heap.{Span, span_of, units_at, is_live_at, heap_start}
 use Rattle.seg_block.specs.declared.header.Header.{Header}
 use Rattle.seg_block.specs.Headers.{header_at}
 use Rattle.seg_check.specs.declared.free_list.FreeList.{FreeList}
 use Rattle.seg_check.specs.Tiles.{Follows, KnowsGaps}
+use Rattle.seg_check.specs.Marks.{IsUnit, Adds}
+use Rattle.seg_check.proofs.PassedTiles.{KnowsPassed, knows_none, knows_more, knows_all, no_live, no_free}
 use Rattle.seg_check.proofs.TileWalk.{Walked, walked_none, walked_more, walked_all, next_is, fits_is, tile_at, end_at}
 use Rattle.seg_check.proofs.image.Image.check_tiles.Goals as goal
 use Rattle.seg_check.proofs.image.Image.check_tiles.Goals.{then-units-lt2-via-then-units-lt2, then-units-lt2-via-else-units-lt2+then-units-end, then-units-lt2-via-else-units-lt2+else-units-end+then-not-follows, then-not-header, else-not-header}
@@ -23,7 +25,8 @@ pub loop-at-init : goal.loop-at-init
 loop-at-init g c = λ front.
     let bytes = c.args.self.now.w.now.bytes in
     let large = front.header.not_small in
-    walked_none bytes c.args.self.now.types.now _ c.new-free_list.result refl refl (c.new-free_list.ensures bytes) (omega arith)
+    let w = walked_none bytes c.args.self.now.types.now _ c.new-free_list.result refl refl (c.new-free_list.ensures bytes) (omega arith) in
+    (w.0, λ new. subst (λ ts. KnowsPassed c.args.claims.now ((length bytes - heap_start) / 16) ts) (sym w.1) (knows_none c.args.claims.now ((length bytes - heap_start) / 16) new))
 
 -- the header that is read
 whole : (n at : ℕ) → at < n → n % 16 ≡ 0 → at % 16 ≡ 0 → at + 16 ≤ n
@@ -38,13 +41,19 @@ followed : (bytes view : List ℕ) → view ≡ bytes → (old new : FreeList) (
 followed bytes view same old new gs gap near adds known =
     subst (λ bs. KnowsGaps bs new (gs ++ gap ∷ [])) same (adds gs gap refl near (subst (λ bs. KnowsGaps bs old gs) (sym same) known))
 
+unit_at : (at : ℕ) → heap_start ≤ at → at % 16 ≡ 0 → at ≡ heap_start + 16 * ((at - heap_start) / 16)
+unit_at at low aligned = omega arith
+
+unit_inside : (n at : ℕ) → at + 16 ≤ n → heap_start ≤ at → (at - heap_start) / 16 < (n - heap_start) / 16
+unit_inside n at fits low = omega arith
+
 pub loop-at-preserved : goal.loop-at-preserved
 loop-at-preserved g c = λ front.
     let bytes = c.args.self.now.w.now.bytes in
     let table = c.args.self.now.types.now in
     let at = c.loop-at.at in
     let before = c.loop-at.before in
-    let w = c.loop-at.invariant front in
+    let w = (c.loop-at.invariant front).0 in
     let len = c.len-end.ensures.len in
     let inside : at < length bytes = omega (arith, c.loop-at-test.true, len) in
     let same = c.args.self.now.same in
@@ -70,7 +79,16 @@ loop-at-preserved g c = λ front.
       | else-not-header v ↦ false_true _ (sym e ∙ sym live ∙ not_false _ v.if-not-header.false)
     ] in
     let more = walked_more bytes table at before c.loop-at.free_list list w inside large ends next kept added in
-    subst (λ (h : Header). Walked bytes table (at + 16 * h.units) h list) (sym is) more
+    let all = subst (λ (h : Header). (m : Walked bytes table (at + 16 * h.units) h list) × (m.passed ≡ w.passed ++ tile_at bytes table at ∷ [])) (sym is) more in
+    let unit : IsUnit ((length bytes - heap_start) / 16) at = record { unit = (at - heap_start) / 16; at_is = unit_at at w.low w.aligned; inside = unit_inside (length bytes) at fits w.low } in (
+      all.0,
+      λ new.
+          let k = (c.loop-at.invariant front).1 new in
+          let below = w.tiled.below in
+          let adds = c.add.ensures.added (subst (λ n. IsUnit n at) (sym k.units_are) unit) (no_live _ _ w.passed k at below) (no_free _ _ w.passed k at below) in
+          subst (λ ts. KnowsPassed c.add.new.self ((length bytes - heap_start) / 16) ts) (sym all.1)
+          (knows_more _ _ w.passed k at below c.add.new.self (tile_at bytes table at) refl (subst (λ l. Adds c.loop-at.claims at l c.add.new.self) live adds) c.add.ensures.units),
+    )
 
 pub returns-then-units-lt2-clause-tiles : goal.returns-then-units-lt2-clause-tiles
 returns-then-units-lt2-clause-tiles g c = λ front.
@@ -78,7 +96,7 @@ returns-then-units-lt2-clause-tiles g c = λ front.
     let table = c.args.self.now.types.now in
     let at = c.loop-at.at in
     let before = c.loop-at.before in
-    let w = c.loop-at.invariant front in
+    let w = (c.loop-at.invariant front).0 in
     let len = c.len-end.ensures.len in
     let inside : at < length bytes = omega (arith, c.loop-at-test.true, len) in
     let same = c.args.self.now.same in
@@ -100,7 +118,7 @@ returns-then-units-lt2-clause-tiles g c = λ front.
 pub returns-clause-tiles : goal.returns-clause-tiles
 returns-clause-tiles g c = λ front.
     let bytes = c.args.self.now.w.now.bytes in
-    let w = c.loop-at.invariant front in
+    let w = (c.loop-at.invariant front).0 in
     let len = c.len-end.ensures.len in
     let end : c.loop-at.at ≡ length bytes = omega (arith, w.high, len, c.loop-at-test.false) in
     (λ e. (walked_all bytes c.args.self.now.types.now c.loop-at.at c.loop-at.before c.loop-at.free_list w end).0, λ a. refl)
@@ -108,7 +126,16 @@ returns-clause-tiles g c = λ front.
 pub returns-clause-free_list : goal.returns-clause-free_list
 returns-clause-free_list g c = λ front.
     let bytes = c.args.self.now.w.now.bytes in
-    let w = c.loop-at.invariant front in
+    let w = (c.loop-at.invariant front).0 in
     let len = c.len-end.ensures.len in
     let end : c.loop-at.at ≡ length bytes = omega (arith, w.high, len, c.loop-at-test.false) in
     (walked_all bytes c.args.self.now.types.now c.loop-at.at c.loop-at.before c.loop-at.free_list w end).1
+
+pub returns-clause-known : goal.returns-clause-known
+returns-clause-known g c = λ front new.
+    let bytes = c.args.self.now.w.now.bytes in
+    let w = (c.loop-at.invariant front).0 in
+    let len = c.len-end.ensures.len in
+    let end : c.loop-at.at ≡ length bytes = omega (arith, w.high, len, c.loop-at-test.false) in
+    let all = (walked_all bytes c.args.self.now.types.now c.loop-at.at c.loop-at.before c.loop-at.free_list w end).2 in
+    knows_all bytes c.loop-at.claims _ w.passed ((c.loop-at.invariant front).1 new) all
