@@ -1,0 +1,15 @@
+pub mod TagNumbers
+pub mod LiveTags
+pub mod TileWalk
+pub mod Following
+pub mod SameLength
+pub mod MarkLaws
+pub mod KnownLaws
+pub mod ClaimLaws
+pub mod StepLaws
+pub mod PlaceLoop
+pub mod TagLaws
+pub mod OpenLaws
+pub mod BufferLaws
+pub mod PassedTiles
+pub mod FaultOrder

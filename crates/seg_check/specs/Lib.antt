@@ -1,3 +1,9 @@
 pub mod Headers
 pub mod ContentFaults
 pub mod Faults
+pub mod Tiles
+pub mod Marks
+pub mod Claiming
+pub mod Turns
+pub mod Resolving
+pub mod Cells

@@ -1,4 +1,8 @@
-ghost use Rattle.std.specs.Prelude.{◌≡◌};
+ghost use Rattle.std.specs.Prelude.{◌≡◌, ◌↔◌, IsOk};
+ghost use Rattle.seg_spec.specs.Bytes.{word};
+ghost use Rattle.seg_spec.specs.Header.{allocator_word};
+ghost use Rattle.seg_spec.specs.Heap.{IsFreeList, gaps};
+ghost use Rattle.seg_check.specs.Tiles.{KnowsGaps};
 
 use crate::claims::Claims;
 use crate::fault::ContentFault;
@@ -26,15 +30,28 @@ impl<A: Allocator> Image<'_, A> {
         &self,
         claims: &Claims<B>,
         free_list: FreeList,
-    ) -> Result<(), u32> {
+    ) -> Result<(), u32>
+        ensures list { word self.now.w.now.bytes allocator_word ≡ 0
+            → KnowsGaps self.now.w.now.bytes free_list (gaps self.now.w.now.bytes)
+            → IsOk result ↔ IsFreeList self.now.w.now.bytes (gaps self.now.w.now.bytes) }
+    {
         match self.w.get32(header::ALLOCATOR) {
             0 => free_list.end(self.bytes),
             _ => self.check_free_tree(claims),
         }
     }
 
+    ghost use Rattle.std.specs.Prelude.{◌*◌, IfErr, IfOk};
+    ghost use Rattle.seg_block.specs.Tags.{word_of};
+    ghost use Rattle.seg_check.specs.Claiming.{Refuses, AreLive, CanClaim, ClaimsBlock, turns_where, has_turns};
+
     /// How a cell claims the blocks of its content.
-    pub(crate) fn owner(&self, content: &Content) -> Owner<'_> {
+    pub(crate) fn owner(&self, content: &Content) -> Owner<'_>
+        ensures bytes { result.bytes.bytes.now ≡ self.now.w.now.bytes }
+        ensures tag { result.tag ≡ content.now.tag }
+        ensures entry_size { result.entry_size ≡ content.now.entry.size }
+        ensures has_turns { result.has_turns ≡ has_turns self.now.types.now content.now.entry.held }
+    {
         Owner {
             bytes: self.bytes,
             tag: content.tag,
@@ -52,12 +69,21 @@ impl<A: Allocator> Image<'_, A> {
         count: u32,
     ) -> Result<u32, ContentFault>
         ensures taken { claims.new.taken ≡ claims.old.taken }
+        ensures claimed { AreLive self.now.w.now.bytes claims.old.unclaimed →
+            IfOk result (λ start. ClaimsBlock self.now.w.now.bytes claims.old claims.new pointer
+            (word_of content.now.tag) (count * content.now.entry.size)
+            (turns_where (has_turns self.now.types.now content.now.entry.held) start count) start) }
+        ensures refused { AreLive self.now.w.now.bytes claims.old.unclaimed →
+            IfErr result (λ fault. Refuses fault (CanClaim self.now.w.now.bytes claims.old pointer
+            (word_of content.now.tag) (count * content.now.entry.size))) }
     {
         self.owner(content).claim(claims, pointer, count)
     }
 
     /// Whether entries may name blocks.
-    pub(crate) fn has_turns(&self, entry: Entry) -> bool {
+    pub(crate) fn has_turns(&self, entry: Entry) -> bool
+        ensures { result ≡ has_turns self.now.types.now entry.held }
+    {
         match entry.held {
             Held::Value(item) => self.types.has_pointers(item),
             Held::Bytes | Held::Pointer => false,
@@ -76,6 +102,10 @@ pub(crate) struct Owner<'a> {
 }
 
 impl Owner<'_> {
+    ghost use Rattle.std.specs.Prelude.{◌*◌, IfErr, IfOk};
+    ghost use Rattle.seg_block.specs.Tags.{word_of};
+    ghost use Rattle.seg_check.specs.Claiming.{Refuses, AreLive, CanClaim, ClaimsBlock, turns_where};
+
     /// Claims the block that a pointer names, which has room for so many entries, and returns where its payload begins.
     #[inline(always)]
     pub(crate) fn claim<B: Allocator>(
@@ -85,6 +115,13 @@ impl Owner<'_> {
         count: u32,
     ) -> Result<u32, ContentFault>
         ensures taken { claims.new.taken ≡ claims.old.taken }
+        ensures claimed { AreLive self.entry.bytes.bytes.now claims.old.unclaimed →
+            IfOk result (λ start. ClaimsBlock self.entry.bytes.bytes.now claims.old claims.new
+            pointer (word_of self.entry.tag) (count * self.entry.entry_size)
+            (turns_where self.entry.has_turns start count) start) }
+        ensures refused { AreLive self.entry.bytes.bytes.now claims.old.unclaimed →
+            IfErr result (λ fault. Refuses fault (CanClaim self.entry.bytes.bytes.now claims.old
+            pointer (word_of self.entry.tag) (count * self.entry.entry_size))) }
     {
         let size = u64::from(count) * u64::from(self.entry_size);
         let start = claims.claim(self.bytes, pointer, self.tag, size)?;

@@ -1,0 +1,51 @@
+-- Lists in which each block stands equally often are equally long.
+use Rattle.std.proofs.Common.{◌≡◌, ◌≢◌, ℕ, suc, ◌+◌, ◌*◌, ◌<◌, ◌≤◌, ◌⊎◌, inl, inr, ⊎_elim, List, [], ◌∷◌, ◌++◌, length, refl, sym, ap, ◌∙◌, subst, arith, length-append}
+use Rattle.std.proofs.lemmas.List.{append_assoc}
+use Rattle.std.proofs.lemmas.Bool.{cases_eq}
+use Rattle.seg_spec.specs.Sound.{times, SameBlocks}
+use Rattle.seg_spec.proofs.LiveLaws.{times-append, times-same, times-other, times-more}
+
+pub same_refl : (xs : List ℕ) → SameBlocks xs xs
+same_refl xs h = refl
+
+pub same_sym : (xs ys : List ℕ) → SameBlocks xs ys → SameBlocks ys xs
+same_sym xs ys e h = sym (e h)
+
+pub same_trans : (xs ys zs : List ℕ) → SameBlocks xs ys → SameBlocks ys zs → SameBlocks xs zs
+same_trans xs ys zs p q h = p h ∙ q h
+
+-- ---- one among others
+
+pub record Splits (h : ℕ) (xs : List ℕ) : Type 0 where
+  pub before : List ℕ
+  pub after : List ℕ
+  pub parts : xs ≡ before ++ h ∷ after
+
+pub splits : (h : ℕ) (xs : List ℕ) → 1 ≤ times h xs → Splits h xs
+splits h [] some = absurd (omega arith)
+splits h (x ∷ xs) some = ⊎_elim
+    (λ same. record { before = []; after = xs; parts = ap (λ y. y ∷ xs) same })
+    (λ other.
+    let rest = splits h xs (omega (arith, times-other h x xs other)) in
+    record { before = x ∷ rest.before; after = rest.after; parts = ap (λ ys. x ∷ ys) rest.parts })
+    (cases_eq x h)
+
+-- ---- equally often, so equally many
+
+none_is_empty : (ys : List ℕ) → SameBlocks [] ys → length ys ≡ 0
+none_is_empty [] e = refl
+none_is_empty (y ∷ ys) e = absurd (omega (arith, e y, times-same y ys))
+
+pub same_length : (xs ys : List ℕ) → SameBlocks xs ys → length xs ≡ length ys
+same_length [] ys e = sym (none_is_empty ys e)
+same_length (x ∷ xs) ys e =
+    let s = splits x ys (omega (arith, e x, times-same x xs)) in
+    let rest : SameBlocks xs (s.before ++ s.after) = (λ h.
+    let here = e h in
+    let there : times h ys ≡ times h s.before + times h (x ∷ s.after) = ap (times h) s.parts ∙ times-append h s.before (x ∷ s.after) in
+    let apart = times-append h s.before s.after in
+    omega arith) in
+    let lengths = same_length xs (s.before ++ s.after) rest in
+    let there : length ys ≡ length s.before + length (x ∷ s.after) = ap length s.parts ∙ length-append s.before (x ∷ s.after) in
+    let apart : length (s.before ++ s.after) ≡ length s.before + length s.after = length-append s.before s.after in
+    omega arith

@@ -1,0 +1,166 @@
+-- What stands in a block, by its tag.
+use Rattle.std.proofs.Common.{◌≡◌, ℕ, zero, suc, ◌+◌, ◌*◌, ◌/◌, ◌%◌, ◌<◌, ◌≤◌, ◌⊎◌, inl, inr, List, [], ◌∷◌, length, Option, Some, None, true, false, refl, sym, ap, ◌∙◌, subst, arith}
+use Rattle.seg_spec.specs.Types.{Form, Table, IsTable, form_at, size}
+use Rattle.seg_spec.specs.Heap.{tag_at}
+use Rattle.seg_spec.specs.Block as block
+use Rattle.seg_spec.specs.Block.{kind_number, tag_of, block_of, IsOwnable, AllowsType}
+use Rattle.seg_spec.specs.Owing.{entries_at}
+use Rattle.seg_spec.proofs.MoreTypes.{below_length}
+use Rattle.seg_block.specs.Tags.{kind_of, word_of}
+use Rattle.seg_block.specs.declared.tag.Kind.{Kind}
+use Rattle.seg_block.specs.declared.tag.Kind.TheVariants as kind
+use Rattle.seg_block.specs.declared.tag.Tag.{Tag}
+use Rattle.seg_value.specs.Contents.{IsEntryOf, IsContent, ContentOf, OfBlock}
+use Rattle.seg_value.specs.declared.content.Content.{Content}
+use Rattle.seg_value.specs.declared.content.Shape.TheVariants.{Object}
+use Rattle.seg_value.specs.declared.entry.Entry.{Entry}
+use Rattle.seg_value.specs.declared.entry.Held.{Held}
+use Rattle.seg_value.specs.declared.entry.Held.TheVariants as held
+use Rattle.seg_check.specs.declared.marks.Turn.{Turn}
+use Rattle.seg_check.specs.Turns.{kind_with, places_by, places_with, places_in, entries_by, IsEntryFor, HasEntries, HoldsEntries}
+
+kind_again : (k : block.Kind) (T : ℕ) → kind_with (tag_of k T % 256) ≡ Some k
+kind_again block.Kind.named T = let e : (1 + 256 * T) % 256 ≡ 1 = omega arith in ap kind_with e
+kind_again block.Kind.object T = let e : (2 + 256 * T) % 256 ≡ 2 = omega arith in ap kind_with e
+kind_again block.Kind.buffer T = let e : (3 + 256 * T) % 256 ≡ 3 = omega arith in ap kind_with e
+kind_again block.Kind.node T = let e : (4 + 256 * T) % 256 ≡ 4 = omega arith in ap kind_with e
+kind_again block.Kind.index_buffer T = let e : (5 + 256 * T) % 256 ≡ 5 = omega arith in ap kind_with e
+kind_again block.Kind.index_node T = let e : (6 + 256 * T) % 256 ≡ 6 = omega arith in ap kind_with e
+
+number_small : (k : block.Kind) → kind_number k < 256
+number_small block.Kind.named = omega arith
+number_small block.Kind.object = omega arith
+number_small block.Kind.buffer = omega arith
+number_small block.Kind.node = omega arith
+number_small block.Kind.index_buffer = omega arith
+number_small block.Kind.index_node = omega arith
+
+type_again : (k : block.Kind) (T : ℕ) → tag_of k T / 256 ≡ T
+type_again k T = let s = number_small k in omega arith
+
+-- a tag says its kind and type
+one_tag : (j k : block.Kind) (S T : ℕ) → tag_of j S ≡ tag_of k T → (j ≡ k) × (S ≡ T)
+one_tag j k S T e =
+    let kinds : Some j ≡ Some k = sym (kind_again j S) ∙ ap (λ n. kind_with (n % 256)) e ∙ kind_again k T in
+    (cc, sym (type_again j S) ∙ ap (λ n. n / 256) e ∙ type_again k T)
+
+module _ (bytes : List ℕ) (table : Table) (valid : IsTable table) where
+  -- the values of a turn, by the tag of its block
+  pub places_tagged : (turn : Turn) (k : block.Kind) (T : ℕ) → tag_at bytes (block_of turn.start) ≡ tag_of k T → places_in bytes table turn ≡ places_with table (Some k) T turn.start turn.count
+  unfolding places_in
+  places_tagged turn k T e =
+      let kinds : kind_with (tag_at bytes (block_of turn.start) % 256) ≡ Some k = ap (λ n. kind_with (n % 256)) e ∙ kind_again k T in
+      let types : tag_at bytes (block_of turn.start) / 256 ≡ T = ap (λ n. n / 256) e ∙ type_again k T in
+      (λ i. places_with table (kinds i) (types i) turn.start turn.count)
+
+  tagged_at : (b : ℕ) (turn : Turn) (k : block.Kind) (T : ℕ) → tag_at bytes b ≡ tag_of k T → b ≡ block_of turn.start → places_in bytes table turn ≡ places_with table (Some k) T turn.start turn.count
+  tagged_at b turn k T e same = places_tagged turn k T (ap (tag_at bytes) (sym same) ∙ e)
+
+  -- ---- what the entries are
+
+  has_entries : (b before U : ℕ) (entry : Entry) → IsEntryOf table before U entry → U < length table
+      → ((turn : Turn) → b ≡ block_of turn.start → places_in bytes table turn ≡ entries_at table turn.start before U turn.count) → HasEntries bytes table b entry
+  has_entries b before U entry is known places = record {
+    places = (λ turn same. places turn same ∙ sym (λ i. entries_by table (is.held_is i) (is.before_is i) turn.start turn.count));
+    entry_is = subst (IsEntryFor table entry) (sym is.held_is) (is.size_is ∙ ap (λ n. n + size table U) (sym is.before_is), known);
+  }
+
+  pub stands_object : (b : ℕ) (k : block.Kind) (T : ℕ) (content : Content) → ((start n : ℕ) → places_with table (Some k) T start n ≡ entries_at table start 0 T n) → T < length table → tag_at bytes b ≡ tag_of k T
+      → IsContent table Object (tag_of block.Kind.object T) 0 T content → HasEntries bytes table b content.entry
+  stands_object b k T content are known e c = has_entries b 0 T content.entry c.entry_is known (λ turn same. tagged_at b turn k T e same ∙ are turn.start turn.count)
+
+  allowed_as : (b : ℕ) (k : block.Kind) (T : ℕ) → IsOwnable bytes table b → tag_at bytes b ≡ tag_of k T → AllowsType table k T
+  allowed_as b k T own e =
+      let one = one_tag own.kind k own.type T (sym own.tag_is ∙ e) in
+      subst (λ j. AllowsType table j T) one.0 (subst (λ S. AllowsType table own.kind S) one.1 own.allowed)
+
+  pub stands_named : (b T : ℕ) (content : Content) → IsOwnable bytes table b → tag_at bytes b ≡ tag_of block.Kind.named T → IsContent table Object (tag_of block.Kind.object T) 0 T content → HasEntries bytes table b content.entry
+  stands_named b T content own e c = stands_object b block.Kind.named T content (λ start n. refl) (allowed_as b block.Kind.named T own e) e c
+
+  -- the forms whose values have buffers or nodes
+  stands_by : (b : ℕ) (k : block.Kind) (T : ℕ) (o : Option Form) (content : Content) → form_at table T ≡ o → ((start n : ℕ) → places_with table (Some k) T start n ≡ places_by table o start n) → (block.has_buffer o ≡ true) ⊎ (block.has_nodes o ≡ true)
+      → tag_at bytes b ≡ tag_of k T → ContentOf table T o (Some content) → HasEntries bytes table b content.entry
+  stands_by b k T None content f are has e c = absurd c
+  stands_by b k T (Some Form.i64) content f are has e c = absurd c
+  stands_by b k T (Some (Form.struct Us)) content f are has e c = absurd c
+  stands_by b k T (Some (Form.own U)) content f are has e c = absurd (apart has)
+    where
+      apart : (false ≡ true) ⊎ (false ≡ true) → ⊥
+      apart (inl h) = cc
+      apart (inr h) = cc
+  stands_by b k T (Some Form.str) content f are has e c = record {
+    places = (λ turn same. tagged_at b turn k T e same ∙ are turn.start turn.count ∙ sym (ap (λ h. entries_by table h content.entry.before turn.start turn.count) c.held_is));
+    entry_is = subst (IsEntryFor table content.entry) (sym c.held_is) tt;
+  }
+  stands_by b k T (Some (Form.vec U)) content f are has e c = has_entries b 0 U content.entry c.entry_is (valid.forms T (Form.vec U) f) (λ turn same. tagged_at b turn k T e same ∙ are turn.start turn.count)
+  stands_by b k T (Some (Form.list U)) content f are has e c = has_entries b 8 U content.entry c.entry_is (valid.forms T (Form.list U) f) (λ turn same. tagged_at b turn k T e same ∙ are turn.start turn.count)
+  stands_by b k T (Some (Form.flat_map U)) content f are has e c = has_entries b 8 U content.entry c.entry_is (valid.forms T (Form.flat_map U) f) (λ turn same. tagged_at b turn k T e same ∙ are turn.start turn.count)
+  stands_by b k T (Some (Form.map U)) content f are has e c = has_entries b 24 U content.entry c.entry_is (valid.forms T (Form.map U) f) (λ turn same. tagged_at b turn k T e same ∙ are turn.start turn.count)
+
+  none_some : {X : Type 0} (x : X) → None ≡ Some x → ⊥
+  none_some x h = cc
+
+  pub stands_in : (b : ℕ) (k : Kind) (T : ℕ) (content : Content) → (k ≡ kind.Named → ⊥) → IsOwnable bytes table b → tag_at bytes b ≡ tag_of (kind_of k) T → OfBlock table k T (Some content) → HasEntries bytes table b content.entry
+  stands_in b kind.Named T content other own e s = absurd (other refl)
+  stands_in b kind.Object T content other own e s = stands_object b block.Kind.object T content (λ start n. refl) (allowed_as b block.Kind.object T own e) e s
+  stands_in b kind.Buffer T content other own e s = stands_by b block.Kind.buffer T (form_at table T) content refl (λ start n. refl) (inl (allowed_as b block.Kind.buffer T own e)) e s
+  stands_in b kind.Node T content other own e s = stands_by b block.Kind.node T (form_at table T) content refl (λ start n. refl) (inr (allowed_as b block.Kind.node T own e)) e s
+  stands_in b kind.IndexBuffer T content other own e s = absurd (none_some content (sym s))
+  stands_in b kind.IndexNode T content other own e s = absurd (none_some content (sym s))
+
+  -- ---- where no values stand
+
+  none_by : (T start n : ℕ) (o : Option Form) → ContentOf table T o None → places_by table o start n ≡ []
+  none_by T start n None c = refl
+  none_by T start n (Some Form.i64) c = refl
+  none_by T start n (Some Form.str) c = absurd c
+  none_by T start n (Some (Form.vec U)) c = absurd c
+  none_by T start n (Some (Form.list U)) c = absurd c
+  none_by T start n (Some (Form.flat_map U)) c = absurd c
+  none_by T start n (Some (Form.map U)) c = absurd c
+  none_by T start n (Some (Form.own U)) c = absurd c
+  none_by T start n (Some (Form.struct Us)) c = refl
+
+  pub none_in : (b : ℕ) (k : Kind) (T : ℕ) → (k ≡ kind.Named → ⊥) → tag_at bytes b ≡ tag_of (kind_of k) T → OfBlock table k T None → (turn : Turn) → b ≡ block_of turn.start → places_in bytes table turn ≡ []
+  none_in b kind.Named T other e s turn same = absurd (other refl)
+  none_in b kind.Object T other e s turn same = absurd s
+  none_in b kind.Buffer T other e s turn same = tagged_at b turn block.Kind.buffer T e same ∙ none_by T turn.start turn.count (form_at table T) s
+  none_in b kind.Node T other e s turn same = tagged_at b turn block.Kind.node T e same ∙ none_by T turn.start turn.count (form_at table T) s
+  none_in b kind.IndexBuffer T other e s turn same = tagged_at b turn block.Kind.index_buffer T e same
+  none_in b kind.IndexNode T other e s turn same = tagged_at b turn block.Kind.index_node T e same
+
+  -- ---- a block of the table has a tag
+
+  abbrev back_of : block.Kind → Kind
+  back_of block.Kind.named = kind.Named
+  back_of block.Kind.object = kind.Object
+  back_of block.Kind.buffer = kind.Buffer
+  back_of block.Kind.node = kind.Node
+  back_of block.Kind.index_buffer = kind.IndexBuffer
+  back_of block.Kind.index_node = kind.IndexNode
+
+  word_back : (k : block.Kind) (T : ℕ) → word_of (record { kind = back_of k; type_id = T }) ≡ tag_of k T
+  word_back block.Kind.named T = refl
+  word_back block.Kind.object T = refl
+  word_back block.Kind.buffer T = refl
+  word_back block.Kind.node T = refl
+  word_back block.Kind.index_buffer T = refl
+  word_back block.Kind.index_node T = refl
+
+  with_buffer : (T : ℕ) (o : Option Form) → form_at table T ≡ o → (block.has_buffer o ≡ true) ⊎ (block.has_nodes o ≡ true) → T < length table
+  with_buffer T (Some form) f h = below_length table T form f
+  with_buffer T None f (inl h) = cc
+  with_buffer T None f (inr h) = cc
+
+  small_type : (k : block.Kind) (T : ℕ) → AllowsType table k T → T < 256
+  small_type block.Kind.named T a = let few = valid.few in omega arith
+  small_type block.Kind.object T a = let few = valid.few in omega arith
+  small_type block.Kind.buffer T a = let few = valid.few in let l = with_buffer T (form_at table T) refl (inl a) in omega arith
+  small_type block.Kind.node T a = let few = valid.few in let l = with_buffer T (form_at table T) refl (inr a) in omega arith
+  small_type block.Kind.index_buffer T a = omega arith
+  small_type block.Kind.index_node T a = omega arith
+
+  pub has_tag : (b : ℕ) → IsOwnable bytes table b → ((t : Tag) → t.type_id < 256 → tag_at bytes b ≡ word_of t → None ≡ Some t) → ⊥
+  has_tag b own every =
+      let t : Tag = record { kind = back_of own.kind; type_id = own.type } in
+      none_some t (every t (small_type own.kind own.type own.allowed) (own.tag_is ∙ sym (word_back own.kind own.type)))
