@@ -1,15 +1,14 @@
 -- A map as a tree, with its keys and values, as the calls on nodes see it.
-use Rattle.std.proofs.Common.{◌≡◌, ◌≢◌, ℕ, ◌+◌, ◌*◌, ◌%◌, ◌^◌, ◌<◌, ◌≤◌, ℤ, true, List, [], ◌∷◌, ◌++◌, ◌⊎◌, inl, inr, zero, suc, false, cond, length, map, Option, Some, None, MatchOption, option_map, refl, sym, ap, ◌∙◌, subst, arith}
+use Rattle.std.proofs.Common.{◌≡◌, ℕ, ◌+◌, ◌*◌, ◌%◌, ◌^◌, ◌<◌, ◌≤◌, ℤ, true, List, [], ◌∷◌, ◌++◌, zero, suc, length, map, Option, Some, None, MatchOption, option_map, refl, sym, ap, ◌∙◌, subst, arith}
 use Rattle.std.specs.Prelude.{slice_get}
-use Rattle.std.proofs.lemmas.List.{length-append, length-map}
-use Rattle.std.proofs.lemmas.Bool.{cases_eq}
+use Rattle.std.proofs.lemmas.List.{length-map}
 use Rattle.std.specs.List.{AllByRecursion}
 use Rattle.std.specs.Ordering.{int_cmp, is_eq}
 use Rattle.std.specs.declared.cmp.Ordering.TheVariants.{Greater}
 use Rattle.seg_spec.specs.Bytes.{signed_long}
 use Rattle.seg_spec.specs.Types.{Form, Table, form_at, size}
 use Rattle.seg_spec.specs.Value.{Label, Value, Values, Map, Selector, IsAscending}
-use Rattle.seg_spec.specs.Heap.{Span, Tile, span_of, tiles, Fill, live_of, live, heap_start, IsHeap, units_at}
+use Rattle.seg_spec.specs.Heap.{Span, live, heap_start, units_at}
 use Rattle.seg_spec.specs.Block.{IsBlock, Kind, tag_of, block_of}
 use Rattle.seg_spec.specs.Shapes.{Tree, nodes_of}
 use Rattle.seg_spec.specs.Search.{Ascend, IsSearchTree, first_where, reaches}
@@ -18,8 +17,9 @@ use Rattle.seg_spec.specs.Reads.{Place, Opened, keys_at, places_of, AreNodes, Op
 use Rattle.seg_spec.specs.Sound.{times, positions}
 use Rattle.seg_spec.specs.Owning.{Stands}
 use Rattle.seg_spec.proofs.Frame.{each_weaker}
-use Rattle.seg_spec.proofs.LiveLaws.{times-append, times-same, times-more, times-other, there, LiesIn, live-lie}
+use Rattle.seg_spec.proofs.LiveLaws.{times-append, times-same, times-more, there, LiesIn, live-lie}
 use Rattle.seg_spec.proofs.PlaceSteps.{owned_live}
+use Rattle.seg_spec.proofs.FewBlocks.{no_more, few_live}
 use Rattle.seg_spec.proofs.Leading.{each_at}
 use Rattle.seg_map.specs.Maps.{FindsValue, value_of, first_of, keys_above}
 use Rattle.seg_map.proofs.KeyOrder.{ascend_of, found, AtPlace, first_found, next_found}
@@ -83,42 +83,6 @@ tree_map bytes table place U keys vs blocks f (holds form opened inside owned g 
     let same = same_form form (Form.map U) (sym g ∙ f) in
     let o' : Opens bytes table place (Form.map U) opened = subst (λ h. Opens bytes table place h opened) same o in
     map_by bytes table place U keys vs blocks opened inside owned o' hs v_is blocks_is
-
--- ---- a list has no more elements than one that has each as often
-
-record SplitAt (h : ℕ) (ys : List ℕ) : Type 0 where
-  left : List ℕ
-  right : List ℕ
-  is : ys ≡ left ++ h ∷ right
-
-split_at : (h : ℕ) (ys : List ℕ) → 1 ≤ times h ys → SplitAt h ys
-split_at h [] l = absurd (omega arith)
-split_at h (y ∷ ys) l = go (cases_eq y h) (λ m. split_at h ys m)
-  where
-    go : (y ≡ h) ⊎ (y ≢ h) → (1 ≤ times h ys → SplitAt h ys) → SplitAt h (y ∷ ys)
-    go (inl e) rest = record { left = []; right = ys; is = ap (λ z. z ∷ ys) e }
-    go (inr ne) rest = let r = rest (omega (arith, times-other h y ys ne)) in record { left = y ∷ r.left; right = r.right; is = ap (λ zs. y ∷ zs) r.is }
-
-no_more : (xs ys : List ℕ) → ((h : ℕ) → times h xs ≤ times h ys) → length xs ≤ length ys
-no_more [] ys o = omega arith
-no_more (x ∷ xs) ys o =
-    let r = split_at x ys (omega (arith, o x, times-same x xs)) in
-    let rest = no_more xs (r.left ++ r.right) (λ h. let e : times h ys ≡ times h (r.left ++ x ∷ r.right) = ap (times h) r.is in let a = times-append h r.left
-    (x ∷ r.right) in let b = times-append h r.left r.right in let c = o h in omega arith) in
-    let long : length ys ≡ length (r.left ++ x ∷ r.right) = ap length r.is in
-    omega (arith, length-append r.left (x ∷ r.right), length-append r.left r.right)
-
-few_in : (ts : List Tile) (from to : ℕ) → Fill from ts to → from + 32 * length (live_of ts) ≤ to
-few_in [] from to f = omega (arith, f)
-few_in (t ∷ ts) from to f =
-    let rest = few_in ts (from + 16 * t.units) to f.2 in
-    let two = f.1 in
-    elim t.live as (λ b. from + 32 * length (cond b (span_of t ∷ live_of ts) (live_of ts)) ≤ to) [ true ↦ omega arith | false ↦ omega arith ]
-
--- each live block has 2 units at least
-few_live : (allocator : ℕ) (bytes : List ℕ) → IsHeap allocator bytes → heap_start + 32 * length (live bytes) ≤ length bytes
-unfolding live
-few_live allocator bytes heap = few_in (tiles bytes) heap_start (length bytes) heap.filled
 
 -- ---- where calls find a map
 

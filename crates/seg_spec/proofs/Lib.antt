@@ -56,3 +56,8 @@ pub mod Buffered
 pub mod BufferMoves
 pub mod Requested
 pub mod BufferGrows
+pub mod FewBlocks
+pub mod MappedBlocks
+pub mod Resized
+pub mod PartCleared
+pub mod NoSpace

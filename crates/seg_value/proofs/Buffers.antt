@@ -43,7 +43,7 @@ use Rattle.seg_value.specs.declared.content.Shape.TheVariants as shape
 use Rattle.seg_value.specs.declared.entry.Held.TheVariants as held
 use Rattle.seg_value.specs.Contents.{IsEntryOf, IsContent, ContentOf}
 use Rattle.seg_value.specs.Places.{object_at}
-use Rattle.seg_value.proofs.NoSpace.{too_large, grants_none}
+use Rattle.seg_spec.proofs.NoSpace.{too_large, grants_none}
 use Rattle.seg_value.specs.Buffers.{NamesBuffer, HasSizedBuffer}
 
 -- ---- the entries of a buffer, by the form of its type
@@ -311,7 +311,8 @@ module _ (allocator : ℕ) (old : List ℕ) (table : Table) (cell T : ℕ) (v : 
   ask = growth (option_map block_of (target old cell)) content.entry.size (count_at old cell) limit
 
   -- the units that the code asks for first
-  pub wanted_is : (kept entries wanted : ℕ) → limit * content.entry.size < 2 ^ 32 → kept ≡ count_at old cell → (kept < 2 ^ 31 → entries ≡ max 4 (max (2 * kept) limit)) → (entries * content.entry.size < 2 ^ 32 → wanted ≡ need (entries * content.entry.size))
+  pub wanted_is : (kept entries wanted : ℕ) → limit * content.entry.size < 2 ^ 32 → kept ≡ count_at old cell → (kept < 2 ^ 31 → entries ≡ max 4 (max (2 * kept) limit))
+      → (entries * content.entry.size < 2 ^ 32 → wanted ≡ need (entries * content.entry.size))
       → wanted ≡ need (max 4 (max (2 * count_at old cell) limit) * content.entry.size)
   wanted_is kept entries wanted small kept_is entries_by wanted_by =
       let few = count_small allocator old table cell T v blocks content of s in
@@ -322,7 +323,8 @@ module _ (allocator : ℕ) (old : List ℕ) (table : Table) (cell T : ℕ) (v : 
       wanted_by fits_too ∙ ap (λ k. need (k * content.entry.size)) entries_are
 
   -- or as many as any number of bytes takes
-  pub wanted_large : (kept entries wanted : ℕ) → 2 ^ 32 ≤ limit * content.entry.size → kept ≡ count_at old cell → (kept < 2 ^ 31 → entries ≡ max 4 (max (2 * kept) limit)) → (2 ^ 32 ≤ entries * content.entry.size → wanted ≡ need (2 ^ 32 - 1))
+  pub wanted_large : (kept entries wanted : ℕ) → 2 ^ 32 ≤ limit * content.entry.size → kept ≡ count_at old cell → (kept < 2 ^ 31 → entries ≡ max 4 (max (2 * kept) limit))
+      → (2 ^ 32 ≤ entries * content.entry.size → wanted ≡ need (2 ^ 32 - 1))
       → wanted ≡ need (2 ^ 32 - 1)
   wanted_large kept entries wanted large kept_is entries_by wanted_by =
       let few = count_small allocator old table cell T v blocks content of s in
@@ -434,8 +436,10 @@ module _ (allocator : ℕ) (old : List ℕ) (table : Table) (cell T : ℕ) (v : 
         go (Some p) e = with_block p e
 
   -- more than any segment has room for
-  pub enlarged_large : (mid : List ℕ) (r : Option Grant) (old_block : Option ℕ) (wanted least : ℕ) → old_block ≡ option_map block_of (target old cell) → 2 ^ 32 ≤ limit * content.entry.size → wanted ≡ need (2 ^ 32 - 1) → least ≡ need (2 ^ 32 - 1)
-      → ((at x : ℕ) → old_block ≡ Some at → IsHeap allocator old → IsLiveBlock old at x → Grants allocator old mid at x wanted least r) → (old_block ≡ None → IsHeap allocator old → GrantsNew allocator old mid wanted least r) → Enlarged mid r
+  pub enlarged_large : (mid : List ℕ) (r : Option Grant) (old_block : Option ℕ) (wanted least : ℕ) → old_block ≡ option_map block_of (target old cell)
+      → 2 ^ 32 ≤ limit * content.entry.size → wanted ≡ need (2 ^ 32 - 1) → least ≡ need (2 ^ 32 - 1)
+      → ((at x : ℕ) → old_block ≡ Some at → IsHeap allocator old → IsLiveBlock old at x → Grants allocator old mid at x wanted least r)
+      → (old_block ≡ None → IsHeap allocator old → GrantsNew allocator old mid wanted least r) → Enlarged mid r
   enlarged_large mid r old_block wanted least block_is large wanted_by least_by at_block no_block = go (target old cell) refl
     where
       none : after_ask allocator (live old) (length old) (record { old = option_map block_of (target old cell); preferred = wanted; limit = least }) ≡ None
@@ -452,7 +456,8 @@ module _ (allocator : ℕ) (old : List ℕ) (table : Table) (cell T : ℕ) (v : 
       go (Some p) e =
           let b = named_block allocator old table cell T v blocks content of s p e in
           let g = at_block (block_of p) b.units (block_is ∙ ap (option_map block_of) e) s.heap b.among in
-          let one = units_found (live old) (block_of p) b.units b.among (λ d among at_is. sym (each_contained (StatesSpan old (length old)) (live old) d (live_stated old allocator s.heap) among).units_is ∙ ap (units_at old) at_is ∙ b.units_is) in
+          let one = units_found (live old) (block_of p) b.units b.among
+          (λ d among at_is. sym (each_contained (StatesSpan old (length old)) (live old) d (live_stated old allocator s.heap) among).units_is ∙ ap (units_at old) at_is ∙ b.units_is) in
           let n : after_request_at allocator (live old) (length old) (block_of p) b.units wanted least ≡ None = rw (e, one) at none in
           no_space (rw n at g.grants)
 

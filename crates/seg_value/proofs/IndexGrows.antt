@@ -22,7 +22,7 @@ use Rattle.seg_block.specs.declared.grant.Grant.{Grant}
 use Rattle.seg_block.specs.declared.grant.Grant.TheVariants.{Same, New}
 use Rattle.seg_value.specs.Buffers.{HasSizedBuffer}
 use Rattle.seg_value.specs.Names.{index_cell, FindsNames, ChangesIndex, ReservesIndex, MovesIndex}
-use Rattle.seg_value.proofs.NoSpace.{too_large, grants_none}
+use Rattle.seg_spec.proofs.NoSpace.{too_large, grants_none}
 use Rattle.seg_value.proofs.Named.{name_block, name_live, name_room}
 use Rattle.seg_value.proofs.Indexed.{grown_index, grown_names, grown_target, grown_index_units}
 

@@ -21,4 +21,3 @@ pub mod Header
 pub mod Named
 pub mod Indexed
 pub mod IndexGrows
-pub mod NoSpace
