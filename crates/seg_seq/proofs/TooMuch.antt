@@ -1,29 +1,17 @@
 -- More bytes than a segment has: no gap has room for them.
-use Rattle.std.proofs.Common.{◌≡◌, ℕ, ◌-◌, ◌*◌, ◌^◌, ◌<◌, ◌≤◌, true, false, List, [], ◌∷◌, length, cond, leb, max, Option, Some, None, option_map, refl, sym, ap, subst, arith}
-use Rattle.std.proofs.Math.Nat.{mul-le-mul_right}
-use Rattle.std.proofs.lemmas.Bool.Decides.{nat_tests}
+use Rattle.std.proofs.Common.{◌≡◌, ℕ, ◌*◌, ◌^◌, ◌≤◌, true, List, length, Option, Some, None, refl, sym, subst, arith}
 use Rattle.seg_spec.specs.Pointer.{target}
 use Rattle.seg_spec.specs.Types.{Form, Table, form_at}
 use Rattle.seg_spec.specs.Value.{Value}
 use Rattle.seg_spec.specs.Heap.{live}
-use Rattle.seg_spec.specs.Block.{block_of, has_buffer}
-use Rattle.seg_spec.specs.Reads.{Place, count_at}
+use Rattle.seg_spec.specs.Block.{has_buffer}
+use Rattle.seg_spec.specs.Reads.{Place}
 use Rattle.seg_spec.specs.Owning.{Stands}
-use Rattle.seg_spec.specs.Demand.{need, growth, growth_if_needed, NoRoom}
+use Rattle.seg_spec.specs.Demand.{need, NoRoom}
 use Rattle.seg_spec.specs.Spending.{units_named, buffer_asks}
 use Rattle.seg_spec.proofs.NoSpace.{too_large}
+use Rattle.seg_value.proofs.Enlarging.{ask, asks_once, least_first}
 use Rattle.seg_seq.proofs.Rooms.{reaches}
-
-enlarged : (units : ℕ) (block : Option ℕ) (item kept wanted : ℕ) → 16 * units - 16 < wanted * item → growth_if_needed units block item kept wanted ≡ growth block item kept wanted ∷ []
-enlarged units block item kept wanted l =
-    let f : leb (wanted * item) (16 * units - 16) ≡ false = grind (arith, nat_tests) in
-    ap (λ b. cond b [] (growth block item kept wanted ∷ [])) f
-
-least_first : (item kept wanted : ℕ) → need (wanted * item) ≤ need (max 4 (max (2 * kept) wanted) * item)
-least_first item kept wanted =
-    let more : wanted ≤ max 4 (max (2 * kept) wanted) = omega arith in
-    let m = mul-le-mul_right item more in
-    omega arith
 
 -- a buffer of so many entries has no room
 module _ (allocator : ℕ) (old : List ℕ) (table : Table) (place : Place) (form : Form) (v : Value) (blocks : List ℕ) (f : form_at table place.type ≡ Some form) (b : has_buffer (Some form) ≡ true)
@@ -39,8 +27,6 @@ module _ (allocator : ℕ) (old : List ℕ) (table : Table) (place : Place) (for
   too_much =
       let small = s.heap.small in
       let l = named_short in
-      let block = option_map block_of (target old place.at) in
-      let one = enlarged (units_named old place.at) block item (count_at old place.at) wanted (omega arith) in
       let large : 2 ^ 28 ≤ need (wanted * item) = omega arith in
-      subst (NoRoom allocator (live old) (length old)) (sym one)
-      (too_large allocator old s.heap (growth block item (count_at old place.at) wanted) large (least_first item (count_at old place.at) wanted))
+      subst (NoRoom allocator (live old) (length old)) (sym (asks_once allocator old place.at item wanted (omega arith)))
+      (too_large allocator old s.heap (ask allocator old place.at item wanted) large (least_first allocator old place.at item wanted))

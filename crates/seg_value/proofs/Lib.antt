@@ -21,3 +21,4 @@ pub mod Header
 pub mod Named
 pub mod Indexed
 pub mod IndexGrows
+pub mod Enlarging
