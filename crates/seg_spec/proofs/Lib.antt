@@ -61,3 +61,4 @@ pub mod MappedBlocks
 pub mod Resized
 pub mod PartCleared
 pub mod NoSpace
+pub mod Placements

@@ -1,18 +1,15 @@
 use Rattle.std.proofs.lemmas.Bool.{cases_lt}
-use Rattle.std.proofs.Common.{◌^◌, ⊎_elim, ◌≡◌, ◌*◌, ap, ◌∙◌, sym, subst, Some}
+use Rattle.std.proofs.Common.{◌^◌, ⊎_elim, ◌*◌, ap, ◌∙◌, sym, subst, Some}
 use Rattle.seg_spec.specs.Calls.{Refuses}
 use Rattle.seg_spec.specs.Growing.{Reserves}
-use Rattle.seg_spec.specs.Window.{Placement}
 use Rattle.seg_value.specs.Places.{object_at}
 use Rattle.seg_value.specs.Stored.{Stored}
 use Rattle.seg_value.proofs.Buffers.{of_form, wanted_is, wanted_large, Enlarged, enlarged, enlarged_large, moved_to_new}
 use Rattle.seg_value.specs.Names.{index_cell, ReservesIndex}
 use Rattle.seg_value.proofs.Enlarging.{asks_once}
 use Rattle.seg_value.proofs.IndexGrows as index
+use Rattle.seg_spec.proofs.Placements.{bytes_of}
 use Rattle.seg_value.proofs.heap.Heap.enlarge.Goals as goal
-
-bytes_of : (p q : Placement) → p ≡ q → p.bytes ≡ q.bytes
-bytes_of p q e = ap (λ (r : Placement). r.bytes) e
 
 pub returns-in-None-clause-enlarges : goal.returns-in-None-clause-enlarges
 returns-in-None-clause-enlarges g c = λ T v blocks names s much.
