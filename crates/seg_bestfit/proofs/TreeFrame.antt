@@ -3,6 +3,7 @@ use Rattle.std.proofs.Common.{◌≡◌, ℕ, ◌+◌, ◌-◌, ◌*◌, ◌^◌
 use Rattle.std.specs.Prelude.{Contains}
 use Rattle.std.specs.List.{AllByRecursion}
 use Rattle.std.proofs.lemmas.List.{append_assoc}
+use Rattle.seg_spec.specs.Header.{free_word, back_start, back_size}
 use Rattle.seg_spec.specs.Apart.{Separate}
 use Rattle.seg_spec.specs.Bytes.{Agrees, IsSame}
 use Rattle.seg_spec.specs.Heap.{Span, Tile, span_of, end_of, link_at, Fill, AreHeaders, live_of, free_of, heap_start}
@@ -83,11 +84,11 @@ module _ (old new : List ℕ) where
     agrees : (from n to : ℕ) → from + n ≡ to → Separate from n 24 4 → Beside from n (free_of ts) → Agrees old new from to
     agrees from n to e root beside = subst (λ e. Agrees old new from e) e (Agrees-same_slice old new from n k.length_kept (k.others from n root beside))
 
-    pub front_kept : Agrees old new 0 24
-    front_kept = agrees 0 24 24 (omega arith) (inl (omega arith)) (beside_low ts heap_start to 0 24 filled (omega arith))
+    pub front_kept : Agrees old new 0 free_word
+    front_kept = agrees 0 free_word free_word (omega arith) (inl (omega arith)) (beside_low ts heap_start to 0 free_word filled (omega arith))
 
-    pub back_kept : Agrees old new 28 heap_start
-    back_kept = agrees 28 676 heap_start (omega arith) (inr (omega arith)) (beside_low ts heap_start to 28 676 filled (omega arith))
+    pub back_kept : Agrees old new back_start heap_start
+    back_kept = agrees back_start back_size heap_start (omega arith) (inr (omega arith)) (beside_low ts heap_start to back_start back_size filled (omega arith))
 
     pub live_kept : (b : Span) → Contains (live_of ts) b → Agrees old new (b.at + 8) (end_of b)
     live_kept b c =

@@ -34,7 +34,7 @@ use Rattle.seg_value.specs.declared.entry.Entry.{Entry}
 use Rattle.seg_map.specs.Maps.{value_of, AddsKey, PutsKey, TakesKey, RemovesKey}
 use Rattle.seg_map.proofs.KeyLaws.{parted_missing, inserted_place, inserted_ascends, place_below}
 use Rattle.seg_map.proofs.FlatMaps.{HasBuffer, has_buffer, entry_small, its, holds_each, length_is, value_leads, ascending, key_leads, held_leads, held_opened, held_opens, held_part}
-use Rattle.seg_map.proofs.PartCleared as part
+use Rattle.seg_spec.proofs.PartCleared as part
 
 -- ---- a key comes
 

@@ -1,5 +1,6 @@
 -- Ascending keys, and where another one stands among them.
-use Rattle.std.proofs.Common.{◌≡◌, ℕ, zero, suc, ◌+◌, ◌<◌, ◌⊎◌, inl, inr, ℤ, ◌<ℤ◌, Bool, true, false, not, cond, T, List, [], ◌∷◌, ◌++◌, length, take, drop, Some, None, refl, sym, ap, ◌∙◌, subst, arith, zero-add, length-append, lt-ltb, le-ltb, ltb-true}
+use Rattle.std.proofs.Common.{◌≡◌, ℕ, zero, suc, ◌+◌, ◌<◌, ◌⊎◌, inl, inr, ℤ, ◌<ℤ◌, Bool, true, false, not, cond, T, List, [], ◌∷◌, ◌++◌, length, take, drop, Some, None, refl, sym, ap, ◌∙◌, subst, arith}
+use Rattle.std.proofs.Common.{zero-add, length-append, lt-ltb, le-ltb, ltb-true}
 use Rattle.std.specs.Prelude.{int_lt, filter, count_by, nat_lt, slice_get, insert}
 use Rattle.std.specs.List.{AllByRecursion, prefix_len}
 use Rattle.std.proofs.lemmas.List.Sums.{sum_by-cons}

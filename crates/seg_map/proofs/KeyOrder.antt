@@ -1,5 +1,6 @@
 -- Nodes in ascending order of numbers: what a search finds among them, and one more or one less of them.
-use Rattle.std.proofs.Common.{◌≡◌, ◌≢◌, ℕ, zero, suc, ◌+◌, Bool, true, false, cond, ltb, not, ◌&&◌, ℤ, ◌<ℤ◌, List, [], ◌∷◌, ◌++◌, ◌⊎◌, inl, inr, length, map, take, drop, Option, Some, None, MatchOption, option_map, refl, sym, ap, ◌∙◌, subst, arith, zero-add}
+use Rattle.std.proofs.Common.{◌≡◌, ◌≢◌, ℕ, zero, suc, ◌+◌, Bool, true, false, cond, ltb, not, ◌&&◌, ℤ, ◌<ℤ◌, List, [], ◌∷◌, ◌++◌, ◌⊎◌, inl, inr, length, map, take, drop}
+use Rattle.std.proofs.Common.{Option, Some, None, MatchOption, option_map, refl, sym, ap, ◌∙◌, subst, arith, zero-add}
 use Rattle.std.specs.Prelude.{int_lt, slice_get, insert, remove, position, eqb}
 use Rattle.std.specs.List.{prefix_len}
 use Rattle.std.specs.List.{AllByRecursion}

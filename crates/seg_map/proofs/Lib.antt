@@ -10,6 +10,5 @@ pub mod MapKinds
 pub mod Removing
 pub mod KeyLaws
 pub mod FlatMaps
-pub mod PartCleared
 pub mod FlatChanges
 pub mod Taking

@@ -64,8 +64,10 @@ module _ (allocator : ℕ) (old : List ℕ) (table : Table) (place : Place) (U :
         let clears' : Clears table U (node + 24) = subst (λ p. Clears table U p) position (subst (λ T. Clears table T at) type_is (subst (λ t. Clears t type at) here_is clears)) in
         let less : n ≡ count_at three place.at - 1 = n_is ∙ ap (λ c. c - 1) count_is in
         let c = clears' (k allocator old table place U keys vs blocks f s key node a).value (k allocator old table place U keys vs blocks f s key node a).zs
-        (value_stands allocator old table place U keys vs blocks f s key node a three mid n l mid_is less) in
-        (takes_key allocator old table place U keys vs blocks f s key node a three mid n l mid_is less cleared new c gives, keeps_others allocator old table place U keys vs blocks f s key node a three mid n l mid_is less cleared new c gives)
+        (value_stands allocator old table place U keys vs blocks f s key node a three mid n l mid_is less) in (
+          takes_key allocator old table place U keys vs blocks f s key node a three mid n l mid_is less cleared new c gives,
+          keeps_others allocator old table place U keys vs blocks f s key node a three mid n l mid_is less cleared new c gives,
+        )
 
     pub removes_one : (new : List ℕ) → TakesKey allocator old new table place keys vs blocks (length a.front) → RemovesKey allocator old new table place keys vs blocks (key_place keys key) true
     removes_one new t = rw (key_there allocator old table place U keys vs blocks f s key node a) (refl, t)

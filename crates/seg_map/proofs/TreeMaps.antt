@@ -1,8 +1,7 @@
 -- A map as a tree, with its keys and values, as the calls on nodes see it.
-use Rattle.std.proofs.Common.{◌≡◌, ◌≢◌, ℕ, ◌+◌, ◌*◌, ◌%◌, ◌^◌, ◌<◌, ◌≤◌, ℤ, true, List, [], ◌∷◌, ◌++◌, ◌⊎◌, inl, inr, zero, suc, false, cond, length, map, Option, Some, None, MatchOption, option_map, refl, sym, ap, ◌∙◌, subst, arith}
+use Rattle.std.proofs.Common.{◌≡◌, ℕ, ◌+◌, ◌*◌, ◌%◌, ◌^◌, ◌<◌, ◌≤◌, ℤ, true, List, [], ◌∷◌, ◌++◌, zero, suc, length, map, Option, Some, None, MatchOption, option_map, refl, sym, ap, ◌∙◌, subst, arith}
 use Rattle.std.specs.Prelude.{slice_get}
-use Rattle.std.proofs.lemmas.List.{length-append, length-map}
-use Rattle.std.proofs.lemmas.Bool.{cases_eq}
+use Rattle.std.proofs.lemmas.List.{length-map}
 use Rattle.std.specs.List.{AllByRecursion}
 use Rattle.std.specs.Ordering.{int_cmp, is_eq}
 use Rattle.std.specs.declared.cmp.Ordering.TheVariants.{Greater}
@@ -18,7 +17,7 @@ use Rattle.seg_spec.specs.Reads.{Place, Opened, keys_at, places_of, AreNodes, Op
 use Rattle.seg_spec.specs.Sound.{times, positions}
 use Rattle.seg_spec.specs.Owning.{Stands}
 use Rattle.seg_spec.proofs.Frame.{each_weaker}
-use Rattle.seg_spec.proofs.LiveLaws.{times-append, times-same, times-more, times-other, there, LiesIn, live-lie}
+use Rattle.seg_spec.proofs.LiveLaws.{times-append, times-same, times-more, there, LiesIn, live-lie}
 use Rattle.seg_spec.proofs.PlaceSteps.{owned_live}
 use Rattle.seg_spec.proofs.FewBlocks.{no_more, few_live}
 use Rattle.seg_spec.proofs.Leading.{each_at}

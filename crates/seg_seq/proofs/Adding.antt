@@ -2,6 +2,7 @@
 use Rattle.std.proofs.Common.{◌≡◌, ◌≢◌, ℕ, ◌+◌, ◌*◌, ◌%◌, ◌^◌, ◌<◌, ◌≤◌, ◌⊎◌, inl, inr, ⊎_elim, List, [], ◌∷◌, ◌++◌, length, map, Option, Some, refl, sym, ap, ◌∙◌, subst, arith, append-nil}
 use Rattle.std.specs.List.{AllByRecursion}
 use Rattle.std.proofs.lemmas.Bool.{cases_eq}
+use Rattle.seg_spec.specs.Header.{free_word, back_start, back_size}
 use Rattle.seg_spec.specs.Bytes.{IsSame}
 use Rattle.seg_spec.specs.Types.{Form, Table, form_at, size}
 use Rattle.seg_spec.specs.Value.{Values, nil, cons, count, append, default_of, Seq}
@@ -162,8 +163,8 @@ module _ (allocator : ℕ) (old mid : List ℕ) (table : Table) (list : Place) (
     added_changes : ChangesPlace old new table list (Seq (append vs (cons (default_of table U) nil))) others (live mid) blocks others
     added_changes = record {
       length_kept = r.changes.length_kept ∙ given.length_kept;
-      front_kept = low_same allocator mid new (list.at ∷ all) given.heap r.changes homes 0 24 (omega arith) ∙ given.front_kept;
-      back_kept = low_same allocator mid new (list.at ∷ all) given.heap r.changes homes 28 676 (omega arith) ∙ given.back_kept;
+      front_kept = low_same allocator mid new (list.at ∷ all) given.heap r.changes homes 0 free_word (omega arith) ∙ given.front_kept;
+      back_kept = low_same allocator mid new (list.at ∷ all) given.heap r.changes homes back_start back_size (omega arith) ∙ given.back_kept;
       heap = subst (λ a. IsHeap a new) (sym s.allocator_is) (heap_same allocator mid new (list.at ∷ all) given.heap r.changes homes);
       ownable = ownable_same allocator mid new (list.at ∷ all) given.heap r.changes homes table t.ownable;
       holds_it = holds_list new table list U f (append vs (cons (default_of table U) nil)) others m;

@@ -3,6 +3,7 @@ use Rattle.std.proofs.Common.{◌≡◌, ◌≢◌, ℕ, suc, ◌+◌, ◌%◌, 
 use Rattle.std.specs.Prelude.{slice_get}
 use Rattle.std.specs.List.{AllByRecursion}
 use Rattle.std.proofs.lemmas.Bool.{cases_eq}
+use Rattle.seg_spec.specs.Header.{free_word, back_start, back_size}
 use Rattle.seg_spec.specs.Bytes.{word, IsSame}
 use Rattle.seg_spec.specs.Types.{Form, Table, form_at, size}
 use Rattle.seg_spec.specs.Value.{Value, Values, nil, cons, count, append, default_of, Seq, Selector}
@@ -30,7 +31,8 @@ use Rattle.seg_spec.proofs.Standing.{ownable_linked, each_live_at, live_at}
 use Rattle.seg_value.proofs.Turns.{is_live}
 use Rattle.seg_seq.specs.Rings.{AreSpread, Relinks}
 use Rattle.seg_seq.proofs.Spread.{HasHome, heap_same, live_same, ownable_same, low_same, block_there}
-use Rattle.seg_seq.proofs.Homes.{times_mapped, are_spread, are_home, node_live, other_kept, home_kept, value_kept}
+use Rattle.seg_spec.proofs.MappedBlocks.{times_mapped}
+use Rattle.seg_seq.proofs.Homes.{are_spread, are_home, node_live, other_kept, home_kept, value_kept}
 use Rattle.seg_seq.proofs.Listed.{values_in, value_in, values_append, mapped_append, value_at_index, ListOf, holds_list}
 
 -- ---- values apart
@@ -407,8 +409,8 @@ module _ (allocator : ℕ) (old : List ℕ) (table : Table) (list : Place) (U no
         pub dropped_changes : ChangesPlace old new table list (Seq (append p.left p.right)) others (after_gives (live old) (block_of node ∷ p.its)) blocks others
         dropped_changes = record {
           length_kept = g.kept.front_kept.length_kept ∙ c.length_kept ∙ r.changes.length_kept;
-          front_kept = (front_kept two new g.kept long).0 ∙ c.front_kept ∙ low_same allocator old one (list.at ∷ all) s.heap r.changes homes 0 24 (omega arith);
-          back_kept = (front_kept two new g.kept long).1 ∙ c.back_kept ∙ low_same allocator old one (list.at ∷ all) s.heap r.changes homes 28 676 (omega arith);
+          front_kept = (front_kept two new g.kept long).0 ∙ c.front_kept ∙ low_same allocator old one (list.at ∷ all) s.heap r.changes homes 0 free_word (omega arith);
+          back_kept = (front_kept two new g.kept long).1 ∙ c.back_kept ∙ low_same allocator old one (list.at ∷ all) s.heap r.changes homes back_start back_size (omega arith);
           heap = subst (λ a. IsHeap a new) (sym s.allocator_is) g.heap;
           ownable = new_ownable;
           holds_it = holds_list new table list U f (append p.left p.right) others list_new;

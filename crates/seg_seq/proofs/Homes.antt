@@ -1,73 +1,18 @@
 -- The cell of a list and its nodes lie in live blocks, apart from each other.
-use Rattle.std.proofs.Common.{◌≡◌, ◌≢◌, ℕ, suc, ◌+◌, ◌*◌, ◌%◌, ◌≤◌, ◌⊎◌, inl, inr, ⊎_elim, true, false, cond, List, [], ◌∷◌, length, map, refl, sym, ap, subst, arith}
+use Rattle.std.proofs.Common.{◌≡◌, ◌≢◌, ℕ, ◌+◌, ◌%◌, ◌≤◌, inl, inr, ⊎_elim, List, ◌∷◌, length, map, sym, subst, arith}
 use Rattle.std.specs.List.{AllByRecursion}
 use Rattle.std.proofs.lemmas.Bool.{cases_eq, cases_lt}
 use Rattle.seg_spec.specs.Bytes.{IsSame}
-use Rattle.seg_spec.specs.Heap.{Span, Tile, span_of, tiles, live_of, live, Fill, IsHeap, heap_start}
+use Rattle.seg_spec.specs.Heap.{Span, live, IsHeap, heap_start}
 use Rattle.seg_spec.specs.Block.{IsInside, KeepsBlock, block_of, payload_size}
 use Rattle.seg_spec.specs.Apart.{Separate, KeepsBlockAround}
 use Rattle.seg_spec.specs.Sound.{times, positions}
+use Rattle.seg_spec.proofs.FewBlocks.{few_live, no_more}
+use Rattle.seg_spec.proofs.MappedBlocks.{times_mapped}
+use Rattle.std.proofs.lemmas.List.{length-map}
 use Rattle.seg_spec.proofs.LiveLaws.{times-same, times-other, times-more, there, each_there, LiesIn, live-lie, live-apart, live-once, OneOrApart}
 use Rattle.seg_seq.specs.Rings.{AreSpread, ChangesAt}
 use Rattle.seg_seq.proofs.Spread.{HasHome, part_same, block_same, header_same}
-
--- ---- no more blocks than live ones
-
-record Left (x : ℕ) (ys : List ℕ) : Type 0 where
-  rest : List ℕ
-  shorter : suc (length rest) ≡ length ys
-  counts : (h : ℕ) → times h (x ∷ rest) ≡ times h ys
-
-left_of : (x : ℕ) (ys : List ℕ) → 1 ≤ times x ys → Left x ys
-left_of x [] some = absurd (omega arith)
-left_of x (y ∷ ys) some = go (cases_eq y x) (λ m. left_of x ys m)
-  where
-    go : (y ≡ x) ⊎ (y ≢ x) → (1 ≤ times x ys → Left x ys) → Left x (y ∷ ys)
-    go (inl e) rest = record { rest = ys; shorter = refl; counts = λ h. ap (λ z. times h (z ∷ ys)) (sym e) }
-    go (inr ne) rest =
-        let l = rest (omega (arith, times-other x y ys ne)) in
-        let short = l.shorter in
-        record { rest = y ∷ l.rest; shorter = omega arith; counts = λ h. let c = l.counts h in omega arith }
-
-pub no_longer : (xs ys : List ℕ) → ((h : ℕ) → times h xs ≤ times h ys) → length xs ≤ length ys
-no_longer [] ys f = omega arith
-no_longer (x ∷ xs) ys f =
-    let l = left_of x ys (let t = times-same x xs in let m = f x in omega arith) in
-    let short = l.shorter in
-    let rest = no_longer xs l.rest (λ h. let c = l.counts h in let m = f h in omega arith) in
-    omega arith
-
-few_in : (ts : List Tile) (from to : ℕ) → Fill from ts to → from + 32 * length (live_of ts) ≤ to
-few_in [] from to f = omega (arith, f)
-few_in (t ∷ ts) from to f =
-    let rest = few_in ts (from + 16 * t.units) to f.2 in
-    let two = f.1 in
-    elim t.live as (λ b. from + 32 * length (cond b (span_of t ∷ live_of ts) (live_of ts)) ≤ to) [ true ↦ omega arith | false ↦ omega arith ]
-
-few_live : (allocator : ℕ) (bytes : List ℕ) → IsHeap allocator bytes → 32 * length (live bytes) ≤ length bytes
-unfolding live
-few_live allocator bytes heap = let f = few_in (tiles bytes) heap_start (length bytes) heap.filled in omega arith
-
-length_positions : (bs : List Span) → length (positions bs) ≡ length bs
-length_positions [] = refl
-length_positions (b ∷ bs) = ap suc (length_positions bs)
-
--- ---- nodes and their blocks
-
-pub times_mapped : (h : ℕ) (xs : List ℕ) → times h xs ≤ times (block_of h) (map block_of xs)
-times_mapped h [] = omega arith
-times_mapped h (x ∷ xs) =
-    let rest = times_mapped h xs in
-    ⊎_elim
-    (λ e. let a : times h (x ∷ xs) ≡ 1 + times h xs = subst (λ z. times h (z ∷ xs) ≡ 1 + times h xs) (sym e) (times-same h xs) in
-    let b : times (block_of h) (block_of x ∷ map block_of xs) ≡ 1 + times (block_of h) (map block_of xs) = subst
-    (λ z. times (block_of h) (block_of z ∷ map block_of xs) ≡ 1 + times (block_of h) (map block_of xs)) (sym e) (times-same (block_of h) (map block_of xs)) in
-    omega arith)
-    (λ ne. let a = times-other h x xs ne in let b = times-more (block_of h) (block_of x) (map block_of xs) in omega arith) (cases_eq x h)
-
-length_mapped : (xs : List ℕ) → length (map block_of xs) ≡ length xs
-length_mapped [] = refl
-length_mapped (x ∷ xs) = ap suc (length_mapped xs)
 
 module _ (allocator : ℕ) (bytes : List ℕ) (heap : IsHeap allocator bytes) (cell home : ℕ) (inside : IsInside bytes home cell 8) (even : cell % 8 ≡ 0) (nodes : List ℕ) (low : AllByRecursion (λ p. 16 ≤ p) nodes)
     (owned : (h : ℕ) → times h (home ∷ map block_of nodes) ≤ times h (positions (live bytes))) where
@@ -115,9 +60,9 @@ module _ (allocator : ℕ) (bytes : List ℕ) (heap : IsHeap allocator bytes) (c
   pub are_spread : AreSpread bytes (cell ∷ nodes)
   are_spread = record {
     small = heap.small;
-    few = let l = no_longer (home ∷ map block_of nodes) (positions (live bytes)) owned in
-        let m = length_mapped nodes in
-        let n = length_positions (live bytes) in
+    few = let l = no_more (home ∷ map block_of nodes) (positions (live bytes)) owned in
+        let m = length-map nodes block_of in
+        let n = length-map (live bytes) (λ (b : Span). b.at) in
         let f = few_live allocator bytes heap in
         omega arith;
     fit = (

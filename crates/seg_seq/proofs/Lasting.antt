@@ -1,6 +1,7 @@
 -- A place while a call on it is under way: all that its steps keep, whatever the place holds meanwhile.
 use Rattle.std.proofs.Common.{◌≡◌, ◌≢◌, ℕ, ◌+◌, ◌≤◌, ◌⊎◌, inl, inr, List, ◌∷◌, refl, sym, ap, ◌∙◌, subst, arith}
 use Rattle.std.specs.List.{AllByRecursion}
+use Rattle.seg_spec.specs.Header.{free_word, back_start, back_size}
 use Rattle.seg_spec.specs.Bytes.{word, IsSame, ChangesOnly}
 use Rattle.seg_spec.specs.Types.{Table, size}
 use Rattle.seg_spec.specs.Value.{Value}
@@ -105,8 +106,8 @@ module _ (allocator : ℕ) (old mid : List ℕ) (table : Table) (place : Place) 
       counts = l.counts;
       frames = frames_twice old mid new place.at (size table place.type) blocks others l.frames (record {
         length_kept = changes.length_kept;
-        front_kept = low_kept mid new at m changes allocator l.heap g within g_live 0 24 (omega arith);
-        back_kept = low_kept mid new at m changes allocator l.heap g within g_live 28 676 (omega arith);
+        front_kept = low_kept mid new at m changes allocator l.heap g within g_live 0 free_word (omega arith);
+        back_kept = low_kept mid new at m changes allocator l.heap g within g_live back_start back_size (omega arith);
         kept = around;
         stays = λ h some away. subst (λ bs. 1 ≤ times h (positions bs)) (sym live_same) some;
       }) (λ h some none. not_taken h some none);

@@ -1,5 +1,5 @@
 -- Destruction, step by step: what waits, and what is kept beside it.
-use Rattle.std.proofs.Common.{◌≡◌, ◌≢◌, ℕ, ◌+◌, ◌-◌, ◌*◌, ◌≤◌, ◌⊎◌, inl, inr, ⊎_elim, true, false, cond, eqb, ◌<◌, List, [], ◌∷◌, ◌++◌, length, Option, Some, None, refl, sym, ap, ◌∙◌, subst, arith}
+use Rattle.std.proofs.Common.{◌≡◌, ◌≢◌, ℕ, ◌+◌, ◌-◌, ◌*◌, ◌≤◌, ◌⊎◌, inl, inr, ⊎_elim, true, false, eqb, ◌<◌, List, [], ◌∷◌, ◌++◌, length, Option, Some, None, refl, sym, ap, ◌∙◌, subst, arith}
 use Rattle.std.specs.List.{AllByRecursion}
 use Rattle.std.proofs.lemmas.Bool.Decides.{nat_tests}
 use Rattle.std.proofs.lemmas.Bool.{cases_eq}
@@ -7,7 +7,7 @@ use Rattle.seg_spec.specs.Bytes.{IsSame, ChangesOnly}
 use Rattle.seg_spec.specs.Header.{free_word, back_start, back_size, KeepsFront, KeepsBack}
 use Rattle.seg_spec.specs.Pointer.{distance, set_pointer}
 use Rattle.seg_spec.specs.Types.{Table, IsTable, size}
-use Rattle.seg_spec.specs.Heap.{Span, Tile, span_of, tiles, Fill, live_of, units_at, IsHeap, live, heap_start, without, Gives, link_at}
+use Rattle.seg_spec.specs.Heap.{Span, units_at, IsHeap, live, heap_start, without, Gives, link_at}
 use Rattle.seg_spec.specs.Block.{KeepsBlock, IsInside, block_of, payload_size}
 use Rattle.seg_spec.specs.Reads.{Place}
 use Rattle.seg_spec.specs.Sound.{times, SameBlocks, positions}
@@ -18,6 +18,7 @@ use Rattle.seg_spec.proofs.SliceLaws.{IsSame-part}
 use Rattle.seg_spec.proofs.Composing.{kept_twice}
 use Rattle.seg_spec.proofs.Frame.{SamePlace, target-same, each_weaker}
 use Rattle.seg_spec.proofs.LiveLaws.{times-append, times-same, times-other, there, each_there, times-without, LiesIn, live-lie, live-once}
+use Rattle.seg_spec.proofs.FewBlocks.{few_live}
 use Rattle.seg_spec.proofs.HeapFrame.{IsHeap-kept, live-kept}
 use Rattle.seg_spec.proofs.KeptLaws.{front_kept}
 use Rattle.seg_spec.proofs.WriteInside.{tiles_kept, low_kept, KeptBut, live_kept_but}
@@ -247,18 +248,6 @@ times_few : (h : ℕ) (bs : List Span) → times h (positions bs) ≤ length bs
 times_few h [] = omega arith
 times_few h (b ∷ bs) = let rest = times_few h bs in ⊎_elim (λ e. let s : times h (b.at ∷ positions bs) ≡ 1 + times h (positions bs) = subst
     (λ x. times h (x ∷ positions bs) ≡ 1 + times h (positions bs)) (sym e) (times-same h (positions bs)) in omega arith) (λ ne. omega (arith, times-other h b.at (positions bs) ne)) (cases_eq b.at h)
-
--- each live block has 2 units at least
-few_in : (ts : List Tile) (from to : ℕ) → Fill from ts to → from + 32 * length (live_of ts) ≤ to
-few_in [] from to f = omega (arith, f)
-few_in (t ∷ ts) from to f =
-    let rest = few_in ts (from + 16 * t.units) to f.2 in
-    let two = f.1 in
-    elim t.live as (λ b. from + 32 * length (cond b (span_of t ∷ live_of ts) (live_of ts)) ≤ to) [ true ↦ omega arith | false ↦ omega arith ]
-
-few_live : (allocator : ℕ) (bytes : List ℕ) → IsHeap allocator bytes → heap_start + 32 * length (live bytes) ≤ length bytes
-unfolding live
-few_live allocator bytes heap = few_in (tiles bytes) heap_start (length bytes) heap.filled
 
 module _ (allocator : ℕ) (old now : List ℕ) (table : Table) (valid : IsTable table) (first : Option ℕ) (blocks : List ℕ) (turns : ℕ) (owned : AreLive old blocks) (f : HasFreed allocator old now table first blocks turns) where
   pub left_live : AreLive now f.left

@@ -59,3 +59,9 @@ pub mod BufferGrows
 pub mod SeveralWrites
 pub mod OneMore
 pub mod FewBlocks
+pub mod FewBlocks
+pub mod MappedBlocks
+pub mod Resized
+pub mod PartCleared
+pub mod NoSpace
+pub mod Placements

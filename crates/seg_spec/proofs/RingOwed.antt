@@ -16,6 +16,7 @@ use Rattle.seg_spec.proofs.SliceLaws.{IsSame-part}
 use Rattle.seg_spec.proofs.PointerLaws.{target-set_same}
 use Rattle.seg_spec.proofs.Frame.{SamePlace, each_map, HoldsEach-kept, payload-same, target-same}
 use Rattle.seg_spec.proofs.LiveLaws.{times-append, times-same, times-other, times-more, there, each_there, LiesIn, live-lie, live-once}
+use Rattle.seg_spec.proofs.MappedBlocks.{times_mapped}
 use Rattle.seg_spec.proofs.Writing.{set_number-changes}
 use Rattle.seg_spec.proofs.ChainOwed.{IsChain, chain_owes}
 use Rattle.seg_spec.proofs.Destruction.{others_more, no_common, heap_written, payload_written}
@@ -34,18 +35,6 @@ last_named bytes first x (y ∷ ys) l = last_named bytes first y ys l.1
 last_there : (x : ℕ) (ys : List ℕ) → 1 ≤ times (last_of x ys) (x ∷ ys)
 last_there x [] = omega (arith, times-same x [])
 last_there x (y ∷ ys) = let rest = last_there y ys in let more = times-more (last_of y ys) x (y ∷ ys) in omega arith
-
--- a node stands no more often than its block
-times_mapped : (h : ℕ) (xs : List ℕ) → times h xs ≤ times (block_of h) (map block_of xs)
-times_mapped h [] = omega arith
-times_mapped h (x ∷ xs) =
-    let rest = times_mapped h xs in
-    ⊎_elim
-    (λ e. let a : times h (x ∷ xs) ≡ 1 + times h xs = subst (λ z. times h (z ∷ xs) ≡ 1 + times h xs) (sym e) (times-same h xs) in
-    let b : times (block_of h) (block_of x ∷ map block_of xs) ≡ 1 + times (block_of h) (map block_of xs) = subst
-    (λ z. times (block_of h) (block_of z ∷ map block_of xs) ≡ 1 + times (block_of h) (map block_of xs)) (sym e) (times-same (block_of h) (map block_of xs)) in
-    omega arith)
-    (λ ne. let a = times-other h x xs ne in let b = times-more (block_of h) (block_of x) (map block_of xs) in omega arith) (cases_eq x h)
 
 module _ (bytes : List ℕ) (first last : ℕ) (fits : last + 4 ≤ length bytes) (small : last < 2 ^ 31) where
   then : List ℕ

@@ -1,22 +1,20 @@
 -- Buffers that grow, from what the steps of the calls leave.
-use Rattle.std.proofs.Common.{◌≡◌, ℕ, ◌+◌, ◌-◌, ◌*◌, ◌%◌, ◌^◌, ◌<◌, ◌≤◌, ◌⊎◌, inl, inr, true, false, max, leb, cond, List, [], ◌∷◌, length, Option, Some, None, MatchOption, option_map, refl, sym, ap, ◌∙◌, subst, arith, zero-add}
+use Rattle.std.proofs.Common.{◌≡◌, ℕ, ◌+◌, ◌-◌, ◌*◌, ◌%◌, ◌^◌, ◌<◌, ◌≤◌, ◌⊎◌, inl, inr, true, max, List, [], ◌∷◌, length, Option, Some, None, MatchOption, option_map, refl, sym, ap, ◌∙◌, subst, arith, zero-add}
 use Rattle.std.specs.Prelude.{Contains, ⊤}
 use Rattle.std.proofs.Math.Nat.{mul-le-mul_left, mul-le-mul_right}
 use Rattle.std.proofs.lemmas.Option.{slice_get_past}
 use Rattle.std.proofs.lemmas.Bool.{cases_lt}
-use Rattle.std.proofs.lemmas.Bool.Decides.{nat_tests}
 use Rattle.seg_spec.specs.Bytes.{slice, put, set_word}
 use Rattle.seg_spec.specs.Pointer.{target, set_pointer}
 use Rattle.seg_spec.specs.Types.{Form, Table, form_at, size}
 use Rattle.seg_spec.specs.Value.{Value}
-use Rattle.seg_spec.specs.Heap.{Span, span, units_at, link_at, live, IsHeap, IsLive, Keeps, Takes, Gives, Granted, same, fresh, heap_start, resized, after_request, after_request_at}
+use Rattle.seg_spec.specs.Heap.{Span, span, units_at, live, IsHeap, IsLive, Keeps, Takes, Gives, same, heap_start, resized}
 use Rattle.seg_spec.specs.Block as block
 use Rattle.seg_spec.specs.Block.{tag_of, block_of, has_buffer, IsBlock, payload_size}
 use Rattle.seg_spec.specs.Reads.{count_at, named}
 use Rattle.seg_spec.specs.Sound.{times, positions}
-use Rattle.seg_spec.specs.Demand.{Ask, need, growth, after_ask, after_gives}
+use Rattle.seg_spec.specs.Demand.{Ask, need, after_ask, after_gives}
 use Rattle.seg_spec.specs.Cells.{IsWithin, Shifts}
-use Rattle.seg_spec.specs.Calls.{Refuses}
 use Rattle.seg_spec.specs.Owning.{Stands}
 use Rattle.seg_spec.specs.Spending.{item_size, units_named, buffer_asks, spent}
 use Rattle.seg_spec.specs.Growing.{Reserves, MovesBuffer}
@@ -32,18 +30,18 @@ use Rattle.seg_spec.proofs.Standing.{changes_of}
 use Rattle.seg_spec.proofs.Buffered.{Buffered, buffered, MovesEntries}
 use Rattle.seg_spec.proofs.BufferMoves.{MovesFrom, less_room, old_count, block_small, from_within, to_within, pointed_stands, old_live, moves}
 use Rattle.seg_spec.proofs.BufferGrows.{grown_stands, grown_frames, grown_place, grown_units}
-use Rattle.seg_spec.proofs.Requested.{GrewTo, TookFor, granted_at, granted_new, spent_same, spent_fresh, units_found}
+use Rattle.seg_spec.proofs.Requested.{GrewTo, spent_same, spent_fresh}
 use Rattle.seg_block.specs.Blocks.{IsSized, IsLiveBlock}
 use Rattle.seg_block.specs.Tags.{word_of}
-use Rattle.seg_block.specs.Request.{IsGranted, Grants, GrantsNew}
+use Rattle.seg_block.specs.Request.{Grants, GrantsNew}
 use Rattle.seg_block.specs.declared.grant.Grant.{Grant}
-use Rattle.seg_block.specs.declared.grant.Grant.TheVariants.{Same, New}
 use Rattle.seg_value.specs.declared.content.Content.{Content}
 use Rattle.seg_value.specs.declared.content.Shape.TheVariants as shape
 use Rattle.seg_value.specs.declared.entry.Held.TheVariants as held
 use Rattle.seg_value.specs.Contents.{IsEntryOf, IsContent, ContentOf}
 use Rattle.seg_value.specs.Places.{object_at}
-use Rattle.seg_value.proofs.NoSpace.{too_large, grants_none}
+use Rattle.seg_value.proofs.Enlarging as by_request
+use Rattle.seg_value.proofs.Enlarging.{ask, asks_nothing, NewFor}
 use Rattle.seg_value.specs.Buffers.{NamesBuffer, HasSizedBuffer}
 
 -- ---- the entries of a buffer, by the form of its type
@@ -200,26 +198,7 @@ module _ (allocator : ℕ) (old : List ℕ) (table : Table) (cell T : ℕ) (v : 
       let twice : 2 * count_at old cell * item_size table of.form ≡ 2 * (count_at old cell * item_size table of.form) = grind arith in
       largest 4 (2 * count_at old cell) limit (item_size table of.form) (2 ^ 32) (omega (arith, each_small)) (omega (arith, count_bytes)) small
 
-  preferred_more : (limit : ℕ) → need (limit * item_size table of.form) ≤ need (max 4 (max (2 * count_at old cell) limit) * item_size table of.form)
-  preferred_more limit =
-      let more : limit ≤ max 4 (max (2 * count_at old cell) limit) = omega arith in
-      let m = mul-le-mul_right (item_size table of.form) more in
-      omega arith
-
   -- ---- what is asked for
-
-  abbrev pub the_ask : ℕ → Ask
-  the_ask limit = growth (option_map block_of (target old cell)) content.entry.size (count_at old cell) limit
-
-  pub asks_nothing : (limit room : ℕ) → room ≡ 16 * units_named old cell - 16 → limit * content.entry.size ≤ room → buffer_asks old cell content.entry.size limit ≡ []
-  asks_nothing limit room e l =
-      let fits : leb (limit * content.entry.size) (16 * units_named old cell - 16) ≡ true = grind (arith, nat_tests) in
-      ap (λ b. cond b [] (the_ask limit ∷ [])) fits
-
-  pub asks_once : (limit : ℕ) → 16 * units_named old cell - 16 < limit * content.entry.size → buffer_asks old cell content.entry.size limit ≡ the_ask limit ∷ []
-  asks_once limit l =
-      let more : leb (limit * content.entry.size) (16 * units_named old cell - 16) ≡ false = grind (arith, nat_tests) in
-      ap (λ b. cond b [] (the_ask limit ∷ [])) more
 
   -- there is room already
   pub has_room : (limit room : ℕ) → room ≡ 16 * units_named old cell - 16 → limit * content.entry.size ≤ room
@@ -228,7 +207,7 @@ module _ (allocator : ℕ) (old : List ℕ) (table : Table) (cell T : ℕ) (v : 
     others = blocks;
     succeeds = record {
       left = live old;
-      left_is = ap (λ asks. spent allocator (live old) (length old) asks []) (asks_nothing limit room e l);
+      left_is = ap (λ asks. spent allocator (live old) (length old) asks []) (asks_nothing allocator old cell content.entry.size limit room e l);
       changes = changes_place allocator old table (object_at cell T) v blocks s old (ChangesOnly-none old cell (size table T)) v blocks blocks s.holds_it;
     };
     room = go (target old cell) refl;
@@ -307,11 +286,9 @@ two_units n = omega arith
 
 module _ (allocator : ℕ) (old : List ℕ) (table : Table) (cell T : ℕ) (v : Value) (blocks : List ℕ) (content : Content) (of : OfForm table T content) (s : Stands allocator old table (object_at cell T) v blocks)
     (limit : ℕ) (much : 16 * units_named old cell - 16 < limit * content.entry.size) where
-  abbrev ask : Ask
-  ask = growth (option_map block_of (target old cell)) content.entry.size (count_at old cell) limit
-
   -- the units that the code asks for first
-  pub wanted_is : (kept entries wanted : ℕ) → limit * content.entry.size < 2 ^ 32 → kept ≡ count_at old cell → (kept < 2 ^ 31 → entries ≡ max 4 (max (2 * kept) limit)) → (entries * content.entry.size < 2 ^ 32 → wanted ≡ need (entries * content.entry.size))
+  pub wanted_is : (kept entries wanted : ℕ) → limit * content.entry.size < 2 ^ 32 → kept ≡ count_at old cell → (kept < 2 ^ 31 → entries ≡ max 4 (max (2 * kept) limit))
+      → (entries * content.entry.size < 2 ^ 32 → wanted ≡ need (entries * content.entry.size))
       → wanted ≡ need (max 4 (max (2 * count_at old cell) limit) * content.entry.size)
   wanted_is kept entries wanted small kept_is entries_by wanted_by =
       let few = count_small allocator old table cell T v blocks content of s in
@@ -322,7 +299,8 @@ module _ (allocator : ℕ) (old : List ℕ) (table : Table) (cell T : ℕ) (v : 
       wanted_by fits_too ∙ ap (λ k. need (k * content.entry.size)) entries_are
 
   -- or as many as any number of bytes takes
-  pub wanted_large : (kept entries wanted : ℕ) → 2 ^ 32 ≤ limit * content.entry.size → kept ≡ count_at old cell → (kept < 2 ^ 31 → entries ≡ max 4 (max (2 * kept) limit)) → (2 ^ 32 ≤ entries * content.entry.size → wanted ≡ need (2 ^ 32 - 1))
+  pub wanted_large : (kept entries wanted : ℕ) → 2 ^ 32 ≤ limit * content.entry.size → kept ≡ count_at old cell → (kept < 2 ^ 31 → entries ≡ max 4 (max (2 * kept) limit))
+      → (2 ^ 32 ≤ entries * content.entry.size → wanted ≡ need (2 ^ 32 - 1))
       → wanted ≡ need (2 ^ 32 - 1)
   wanted_large kept entries wanted large kept_is entries_by wanted_by =
       let few = count_small allocator old table cell T v blocks content of s in
@@ -331,40 +309,16 @@ module _ (allocator : ℕ) (old : List ℕ) (table : Table) (cell T : ℕ) (v : 
       let m = mul-le-mul_right content.entry.size more in
       wanted_by (omega arith)
 
-  -- a new block of no fewer units than the least
-  pub record NewFor (mid : List ℕ) (g : ℕ) : Type 0 where
-    pub units : ℕ
-    pub enough : need (limit * content.entry.size) ≤ units
-    pub takes : Takes allocator old mid units (Some g)
-    pub granted : after_ask allocator (live old) (length old) (growth (option_map block_of (target old cell)) content.entry.size (count_at old cell) limit) ≡ Some (fresh g (live mid))
+  abbrev pub asked : Ask
+  asked = ask allocator old cell content.entry.size limit
 
   -- by what the request returned
   abbrev pub Enlarged : List ℕ → Option Grant → Type 0
-  Enlarged mid None = Refuses allocator old mid (growth (option_map block_of (target old cell)) content.entry.size (count_at old cell) limit ∷ [])
-  Enlarged mid (Some (Same at)) = Reserves allocator old mid table (object_at cell T) v blocks (growth (option_map block_of (target old cell)) content.entry.size (count_at old cell) limit ∷ []) (limit * content.entry.size)
-  Enlarged mid (Some (New g)) = NewFor mid g
-
-  least_first : need (limit * content.entry.size) ≤ need (max 4 (max (2 * count_at old cell) limit) * content.entry.size)
-  least_first =
-      let more : limit ≤ max 4 (max (2 * count_at old cell) limit) = omega arith in
-      let m = mul-le-mul_right content.entry.size more in
-      omega arith
-
-  refused : (mid : List ℕ) → after_ask allocator (live old) (length old) ask ≡ None → mid ≡ old → Refuses allocator old mid (ask ∷ [])
-  refused mid e same_bytes = record { no_room = rw e refl; same = same_bytes }
-
-  took_new : (mid : List ℕ) (g : ℕ) (after : List Span) → IsHeap allocator mid → Keeps old mid → TookFor allocator (live old) (length old) g after (need (limit * content.entry.size)) → live mid ≡ after → link_at mid g ≡ None
-      → after_ask allocator (live old) (length old) ask ≡ Some (fresh g after) → NewFor mid g
-  took_new mid g after heap kept took live_is link e = record {
-    units = took.units;
-    enough = took.enough;
-    takes = record { heap = heap; kept = kept; taken = rw took.taken (refl, live_is, link) };
-    granted = e ∙ ap (λ bs. Some (fresh g bs)) (sym live_is);
-  }
+  Enlarged = by_request.Enlarged allocator old cell content.entry.size limit (λ mid. Reserves allocator old mid table (object_at cell T) v blocks (ask allocator old cell content.entry.size limit ∷ []) (limit * content.entry.size))
 
   grew : (mid : List ℕ) (p : ℕ) (after : List Span) → target old cell ≡ Some p → IsHeap allocator mid → Keeps old mid → (x : ℕ) → Contains (live old) (span (block_of p) x)
-      → GrewTo (live old) after (block_of p) x (need (limit * content.entry.size)) → live mid ≡ after → after_ask allocator (live old) (length old) ask ≡ Some (same after)
-      → Reserves allocator old mid table (object_at cell T) v blocks (ask ∷ []) (limit * content.entry.size)
+      → GrewTo (live old) after (block_of p) x (need (limit * content.entry.size)) → live mid ≡ after → after_ask allocator (live old) (length old) asked ≡ Some (same after)
+      → Reserves allocator old mid table (object_at cell T) v blocks (asked ∷ []) (limit * content.entry.size)
   grew mid p after e heap kept x it g live_is granted =
       let is : live mid ≡ resized (block_of p) g.units (live old) = live_is ∙ g.after_is in
       let stands = grown_stands allocator old table (object_at cell T) v blocks s mid heap kept (block_of p) x g.units it g.no_fewer is in
@@ -379,82 +333,28 @@ module _ (allocator : ℕ) (old : List ℕ) (table : Table) (cell T : ℕ) (v : 
         others = blocks;
         succeeds = record {
           left = after;
-          left_is = spent_same allocator (live old) after (length old) ask granted;
+          left_is = spent_same allocator (live old) after (length old) asked granted;
           changes = changes_of allocator old mid table (object_at cell T) v blocks blocks after s.allocator_is stands frames live_is
               (λ h. ap (λ ps. times h ps + times h blocks) (ap positions g.after_is ∙ positions-resized (block_of p) g.units (live old)));
         };
         room = rw names (omega arith);
       }
 
-  module _ (mid : List ℕ) (r : Option Grant) (old_block : Option ℕ) (wanted least : ℕ) (block_is : old_block ≡ option_map block_of (target old cell))
-      (wanted_by : wanted ≡ need (max 4 (max (2 * count_at old cell) limit) * content.entry.size)) (least_by : least ≡ need (limit * content.entry.size))
-      (at_block : (at x : ℕ) → old_block ≡ Some at → IsHeap allocator old → IsLiveBlock old at x → Grants allocator old mid at x wanted least r)
-      (no_block : old_block ≡ None → IsHeap allocator old → GrantsNew allocator old mid wanted least r) where
-    without_block : target old cell ≡ None → Enlarged mid r
-    without_block e =
-        let g = no_block (block_is ∙ ap (option_map block_of) e) s.heap in
-        let asked : after_ask allocator (live old) (length old) ask ≡ after_request allocator (live old) (length old) wanted least = rw (e, wanted_by, least_by) refl in
-        go (after_request allocator (live old) (length old) wanted least) refl asked g.heap g.kept g.grants
-      where
-        go : (q : Option Granted) → after_request allocator (live old) (length old) wanted least ≡ q → after_ask allocator (live old) (length old) ask ≡ after_request allocator (live old) (length old) wanted least
-            → IsHeap allocator mid → Keeps old mid → MatchOption q ((r ≡ None) × (mid ≡ old)) (IsGranted mid 0 r) → Enlarged mid r
-        go None f asked heap kept k = subst (Enlarged mid) (sym k.0) (refused mid (asked ∙ f) k.1)
-        go (Some (same after)) f asked heap kept k = absurd (granted_new allocator (live old) (length old) least wanted (same after) (rw (wanted_by, least_by) least_first) f)
-        go (Some (fresh g after)) f asked heap kept k =
-            let took = granted_new allocator (live old) (length old) least wanted (fresh g after) (rw (wanted_by, least_by) least_first) f in
-            subst (Enlarged mid) (sym k.0) (took_new mid g after heap kept (rw least_by at took) k.1 k.2 (asked ∙ f))
+  in_buffer : (p : ℕ) → target old cell ≡ Some p → (x : ℕ) × Contains (live old) (span (block_of p) x)
+  in_buffer p e = let b = named_block allocator old table cell T v blocks content of s p e in (b.units, b.among)
 
-    with_block : (p : ℕ) → target old cell ≡ Some p → Enlarged mid r
-    with_block p e =
-        let b = named_block allocator old table cell T v blocks content of s p e in
-        let g = at_block (block_of p) b.units (block_is ∙ ap (option_map block_of) e) s.heap b.among in
-        let one = units_found (live old) (block_of p) b.units b.among (λ d among at_is. sym (stated d among).units_is ∙ ap (units_at old) at_is ∙ b.units_is) in
-        let asked : after_ask allocator (live old) (length old) ask ≡ after_request_at allocator (live old) (length old) (block_of p) b.units wanted least = rw (e, one, wanted_by, least_by) refl in
-        go b.units b.among (after_request_at allocator (live old) (length old) (block_of p) b.units wanted least) refl asked g.heap g.kept g.grants
-      where
-        stated : (d : Span) → Contains (live old) d → StatesSpan old (length old) d
-        stated d among = each_contained (StatesSpan old (length old)) (live old) d (live_stated old allocator s.heap) among
-
-        go : (x : ℕ) → Contains (live old) (span (block_of p) x) → (q : Option Granted) → after_request_at allocator (live old) (length old) (block_of p) x wanted least ≡ q
-            → after_ask allocator (live old) (length old) ask ≡ after_request_at allocator (live old) (length old) (block_of p) x wanted least
-            → IsHeap allocator mid → Keeps old mid → MatchOption q ((r ≡ None) × (mid ≡ old)) (IsGranted mid (block_of p) r) → Enlarged mid r
-        go x it None f asked heap kept k = subst (Enlarged mid) (sym k.0) (refused mid (asked ∙ f) k.1)
-        go x it (Some (same after)) f asked heap kept k =
-            let g = granted_at allocator (live old) (length old) least (block_of p) x wanted (same after) (rw (wanted_by, least_by) least_first) f in
-            subst (Enlarged mid) (sym k.0) (grew mid p after e heap kept x it (rw least_by at g) k.1 (asked ∙ f))
-        go x it (Some (fresh n after)) f asked heap kept k =
-            let took = granted_at allocator (live old) (length old) least (block_of p) x wanted (fresh n after) (rw (wanted_by, least_by) least_first) f in
-            subst (Enlarged mid) (sym k.0) (took_new mid n after heap kept (rw least_by at took) k.1 k.2 (asked ∙ f))
-
-    pub enlarged : Enlarged mid r
-    enlarged = go (target old cell) refl
-      where
-        go : (o : Option ℕ) → target old cell ≡ o → Enlarged mid r
-        go None e = without_block e
-        go (Some p) e = with_block p e
+  pub enlarged : (mid : List ℕ) (r : Option Grant) (old_block : Option ℕ) (wanted least : ℕ) → old_block ≡ option_map block_of (target old cell)
+      → wanted ≡ need (max 4 (max (2 * count_at old cell) limit) * content.entry.size) → least ≡ need (limit * content.entry.size)
+      → ((at x : ℕ) → old_block ≡ Some at → IsHeap allocator old → IsLiveBlock old at x → Grants allocator old mid at x wanted least r)
+      → (old_block ≡ None → IsHeap allocator old → GrantsNew allocator old mid wanted least r) → Enlarged mid r
+  enlarged = by_request.enlarged allocator old cell content.entry.size limit s.heap in_buffer _ grew
 
   -- more than any segment has room for
-  pub enlarged_large : (mid : List ℕ) (r : Option Grant) (old_block : Option ℕ) (wanted least : ℕ) → old_block ≡ option_map block_of (target old cell) → 2 ^ 32 ≤ limit * content.entry.size → wanted ≡ need (2 ^ 32 - 1) → least ≡ need (2 ^ 32 - 1)
-      → ((at x : ℕ) → old_block ≡ Some at → IsHeap allocator old → IsLiveBlock old at x → Grants allocator old mid at x wanted least r) → (old_block ≡ None → IsHeap allocator old → GrantsNew allocator old mid wanted least r) → Enlarged mid r
-  enlarged_large mid r old_block wanted least block_is large wanted_by least_by at_block no_block = go (target old cell) refl
-    where
-      none : after_ask allocator (live old) (length old) (record { old = option_map block_of (target old cell); preferred = wanted; limit = least }) ≡ None
-      none = grants_none allocator old s.heap (record { old = option_map block_of (target old cell); preferred = wanted; limit = least }) (omega arith) (omega arith)
-
-      no_space : (r ≡ None) × (mid ≡ old) → Enlarged mid r
-      no_space k = subst (Enlarged mid) (sym k.0) (record { no_room = too_large allocator old s.heap ask (omega arith) least_first; same = k.1 })
-
-      go : (o : Option ℕ) → target old cell ≡ o → Enlarged mid r
-      go None e =
-          let g = no_block (block_is ∙ ap (option_map block_of) e) s.heap in
-          let n : after_request allocator (live old) (length old) wanted least ≡ None = rw e at none in
-          no_space (rw n at g.grants)
-      go (Some p) e =
-          let b = named_block allocator old table cell T v blocks content of s p e in
-          let g = at_block (block_of p) b.units (block_is ∙ ap (option_map block_of) e) s.heap b.among in
-          let one = units_found (live old) (block_of p) b.units b.among (λ d among at_is. sym (each_contained (StatesSpan old (length old)) (live old) d (live_stated old allocator s.heap) among).units_is ∙ ap (units_at old) at_is ∙ b.units_is) in
-          let n : after_request_at allocator (live old) (length old) (block_of p) b.units wanted least ≡ None = rw (e, one) at none in
-          no_space (rw n at g.grants)
+  pub enlarged_large : (mid : List ℕ) (r : Option Grant) (old_block : Option ℕ) (wanted least : ℕ) → old_block ≡ option_map block_of (target old cell)
+      → 2 ^ 32 ≤ limit * content.entry.size → wanted ≡ need (2 ^ 32 - 1) → least ≡ need (2 ^ 32 - 1)
+      → ((at x : ℕ) → old_block ≡ Some at → IsHeap allocator old → IsLiveBlock old at x → Grants allocator old mid at x wanted least r)
+      → (old_block ≡ None → IsHeap allocator old → GrantsNew allocator old mid wanted least r) → Enlarged mid r
+  enlarged_large = by_request.enlarged_large allocator old cell content.entry.size limit s.heap in_buffer _ grew
 
   -- the entries that are there are fewer
   fewer : count_at old cell * content.entry.size < limit * content.entry.size
@@ -470,9 +370,9 @@ module _ (allocator : ℕ) (old : List ℕ) (table : Table) (cell T : ℕ) (v : 
           let same_bytes : count_at old cell * content.entry.size ≡ count_at old cell * item_size table of.form = ap (λ k. count_at old cell * k) of.size_is in
           omega (arith, b.room.room)
 
-  pub moved_to_new : (mid new : List ℕ) (g : ℕ) → NewFor mid g
+  pub moved_to_new : (mid new : List ℕ) (g : ℕ) → NewFor allocator old cell content.entry.size limit mid g
       → ((u : ℕ) → Takes allocator old mid u (Some g) → 2 ≤ u → count_at old cell * content.entry.size + 16 ≤ 16 * u → MovesBuffer allocator old mid new table (object_at cell T) v blocks u)
-      → Reserves allocator old new table (object_at cell T) v blocks (growth (option_map block_of (target old cell)) content.entry.size (count_at old cell) limit ∷ []) (limit * content.entry.size)
+      → Reserves allocator old new table (object_at cell T) v blocks (ask allocator old cell content.entry.size limit ∷ []) (limit * content.entry.size)
   moved_to_new mid new g n moves_it =
       let room = need_room (limit * content.entry.size) in
       let two = two_units (limit * content.entry.size) in
@@ -483,7 +383,7 @@ module _ (allocator : ℕ) (old : List ℕ) (table : Table) (cell T : ℕ) (v : 
         others = m.others;
         succeeds = record {
           left = after_gives (live mid) (named old cell);
-          left_is = spent_fresh allocator (live old) (live mid) (length old) g (growth (option_map block_of (target old cell)) content.entry.size (count_at old cell) limit) n.granted;
+          left_is = spent_fresh allocator (live old) (live mid) (length old) g (ask allocator old cell content.entry.size limit) n.granted;
           changes = m.changes;
         };
         room = less_room new cell (16 * n.units - 16) (limit * content.entry.size) (omega arith) m.room;

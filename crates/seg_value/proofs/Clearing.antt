@@ -2,6 +2,7 @@
 use Rattle.std.proofs.Common.{◌≡◌, ℕ, ◌+◌, ◌^◌, ◌<◌, ◌≤◌, inl, List, [], ◌∷◌, ◌++◌, length, Option, None, sym, ap, ◌∙◌, subst, arith}
 use Rattle.std.specs.Prelude.{nat_le}
 use Rattle.std.specs.List.{AllByRecursion}
+use Rattle.seg_spec.specs.Header.{free_word, back_start, back_size}
 use Rattle.seg_spec.specs.Bytes.{ChangesOnly}
 use Rattle.seg_spec.specs.Types.{Table, IsTable, size}
 use Rattle.seg_spec.specs.Value.{Value, default_of}
@@ -139,8 +140,8 @@ module _ (allocator : ℕ) (old mid after new : List ℕ) (table : Table) (place
       pub place_cleared : ChangesPlace old new table place (default_of table place.type) [] (after_gives (live old) blocks) blocks []
       place_cleared = record {
         length_kept = f.length_kept ∙ written.length_kept ∙ a.keeps.length_kept;
-        front_kept = f.front_kept ∙ written.front_kept 0 24 (omega arith) ∙ a.keeps.front_kept 0 24 (omega arith);
-        back_kept = f.back_kept ∙ written.front_kept 28 676 (omega arith) ∙ a.keeps.front_kept 28 676 (omega arith);
+        front_kept = f.front_kept ∙ written.front_kept 0 free_word (omega arith) ∙ a.keeps.front_kept 0 free_word (omega arith);
+        back_kept = f.back_kept ∙ written.front_kept back_start back_size (omega arith) ∙ a.keeps.front_kept back_start back_size (omega arith);
         heap = subst (λ n. IsHeap n new) (sym s.allocator_is) f.heap;
         ownable = ownable_new;
         holds_it = Holds-kept after new table s.is_table filled (inside_same after new s.home place.at (size table place.type) inside_after home_new) tt;

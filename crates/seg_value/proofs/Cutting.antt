@@ -1,12 +1,13 @@
 -- Buffers that are cut or given up, from what the steps of the calls leave.
-use Rattle.std.proofs.Common.{◌≡◌, ◌≢◌, ℕ, zero, suc, ◌+◌, ◌-◌, ◌*◌, ◌^◌, ◌<◌, ◌≤◌, ◌⊎◌, inl, inr, true, false, List, [], ◌∷◌, ◌++◌, length, eqb, min, Some, None, option_map, option_to_list, refl, sym, ap, ◌∙◌, subst, arith, zero-add}
-use Rattle.std.specs.Prelude.{Contains, slice_index_or, slice_get}
+use Rattle.std.proofs.Common.{◌≡◌, ◌≢◌, ℕ, zero, suc, ◌+◌, ◌-◌, ◌*◌, ◌^◌, ◌<◌, ◌≤◌, ◌⊎◌, inl, inr, true, List, [], ◌∷◌, ◌++◌, length, min, Some, None, option_map, option_to_list, refl, sym, ap, ◌∙◌, subst, arith, zero-add}
+use Rattle.std.specs.Prelude.{Contains, slice_get}
 use Rattle.std.specs.List.{AllByRecursion}
 use Rattle.std.specs.Option.{option_map_or}
 use Rattle.std.proofs.Math.Nat.{mul-one, zero-mul, mul-le-mul_right}
 use Rattle.std.proofs.lemmas.Bool.{cases_eq}
 use Rattle.std.proofs.lemmas.Bool.Decides.{nat_tests}
 use Rattle.seg_spec.specs.Bytes.{Agrees, IsSame, ChangesOnly}
+use Rattle.seg_spec.specs.Header.{KeepsFront, KeepsBack}
 use Rattle.seg_spec.specs.Pointer.{target, set_pointer, distance}
 use Rattle.seg_spec.specs.Types.{Form, Table, IsTable, form_at, size}
 use Rattle.seg_spec.specs.Value.{Value}
@@ -28,6 +29,7 @@ use Rattle.seg_spec.proofs.Frame.{SamePlace, cell-target, cell-count, keys_at-sa
 use Rattle.seg_spec.proofs.LiveLaws.{times-same, times-other, times-append, times-more, times-without, there, each_there, LiesIn, live-lie, live-once, positions-resized}
 use Rattle.seg_spec.proofs.KeptLaws.{each_contained, StatesSpan, live_stated, block_kept, block_ownable, front_kept}
 use Rattle.seg_spec.proofs.Giving.{found}
+use Rattle.seg_spec.proofs.Resized.{resized_here, resized_other}
 use Rattle.seg_spec.proofs.Writing.{set_number-changes}
 use Rattle.seg_spec.proofs.CellSteps.{ChangesOnly-none, ChangesOnly-wider}
 use Rattle.seg_spec.proofs.Composing.{around_kept}
@@ -98,33 +100,6 @@ no_parts_inside old table place (Form.struct Us) opened b none o = absurd (cc)
 no_parts_inside old table place Form.str opened b none o = ap (λ (r : Opened). r.parts) o.opened_is
 no_parts_inside old table place (Form.vec U) opened b none o = rw none at (ap (λ (r : Opened). r.parts) o.opened_is)
 no_parts_inside old table place (Form.flat_map U) opened b none o = rw none at (ap (λ (r : Opened). r.parts) o.opened_is)
-
--- ---- blocks with another size for one of them
-
-pub resized_here : (at n : ℕ) (bs : List Span) (b : Span) → Contains bs b → b.at ≡ at → Contains (resized at n bs) (span at n)
-resized_here at n [] b c e = absurd (omega (arith, c.1))
-resized_here at n (d ∷ bs) b c e = go (cases_eq d.at at) c.0 c.1 c.2 (λ k. resized_here at n bs b k e)
-  where
-    go : (d.at ≡ at) ⊎ (d.at ≢ at) → (i : ℕ) → suc i ≤ length (d ∷ bs) → slice_index_or (d ∷ bs) i b ≡ b → (Contains bs b → Contains (resized at n bs) (span at n)) → Contains (resized at n (d ∷ bs)) (span at n)
-    go (inl same) i l f rest = let on : eqb d.at at ≡ true = grind (arith, nat_tests) in rw on (0, omega arith, refl)
-    go (inr other) zero l f rest = absurd (other (ap (λ (s : Span). s.at) f ∙ e))
-    go (inr other) (suc i) l f rest =
-        let off : eqb d.at at ≡ false = grind (arith, nat_tests) in
-        let r = rest (i, omega arith, f) in
-        rw off (suc r.0, omega (arith, r.1), r.2)
-
-pub resized_other : (at n : ℕ) (bs : List Span) (b : Span) → Contains bs b → b.at ≢ at → Contains (resized at n bs) b
-resized_other at n [] b c ne = absurd (omega (arith, c.1))
-resized_other at n (d ∷ bs) b c ne = go (cases_eq d.at at) c.0 c.1 c.2 (λ k. resized_other at n bs b k ne)
-  where
-    go : (d.at ≡ at) ⊎ (d.at ≢ at) → (i : ℕ) → suc i ≤ length (d ∷ bs) → slice_index_or (d ∷ bs) i b ≡ b → (Contains bs b → Contains (resized at n bs) b) → Contains (resized at n (d ∷ bs)) b
-    go (inl same) zero l f rest = absurd (ne (sym (ap (λ (s : Span). s.at) f) ∙ same))
-    go (inl same) (suc i) l f rest = let on : eqb d.at at ≡ true = grind (arith, nat_tests) in rw on (suc i, omega arith, f)
-    go (inr other) zero l f rest = let off : eqb d.at at ≡ false = grind (arith, nat_tests) in rw off (0, omega arith, f)
-    go (inr other) (suc i) l f rest =
-        let off : eqb d.at at ≡ false = grind (arith, nat_tests) in
-        let r = rest (i, omega arith, f) in
-        rw off (suc r.0, omega (arith, r.1), r.2)
 
 shrunk_between : (x room u : ℕ) → u ≤ x → (u ≤ shrunk x room u) × (shrunk x room u ≤ x)
 shrunk_between x room u l = (grind (arith, nat_tests), grind (arith, nat_tests))
@@ -305,7 +280,7 @@ module _ (allocator : ℕ) (old : List ℕ) (table : Table) (place : Place) (for
           into form opened i part f r.opens index is
           (Leads-each old new table s.is_table part i as_opened.each is r.parts (inside_kept opened as_opened.owned o' as_opened.blocks_are) rest)
 
-      front : IsSame old new 0 24 × IsSame old new 28 676
+      front : KeepsFront old new × KeepsBack old new
       front =
           let l = there (LiesIn old heap_start (length old)) (block_of p) (positions (live old)) (live-lie old allocator s.heap) buffer_live in
           front_kept old new cut.kept (omega (arith, l.low, l.high))

@@ -7,7 +7,7 @@ use Rattle.seg_spec.specs.Heap.{Tile, tiles, Fill, gaps, live, IsHeap, heap_star
 use Rattle.seg_spec.specs.Block.{IsOwnable, KeepsBlock, payload_size}
 use Rattle.seg_spec.specs.Sound.{times, positions}
 use Rattle.seg_spec.proofs.Frame.{each_weaker, word-same}
-use Rattle.seg_spec.proofs.TileLaws.{gaps_between-live_of}
+use Rattle.seg_spec.proofs.TileLaws.{Fill-le, gaps_between-live_of}
 use Rattle.seg_spec.proofs.HeapFrame.{IsHeap-kept, live-kept, IsOwnable-kept}
 use Rattle.seg_spec.proofs.LiveLaws.{there, LiesIn, live-lie}
 use Rattle.seg_spec.proofs.WriteInside.{each_free_tile}
@@ -16,13 +16,9 @@ above : (ts : List Tile) (from to : ℕ) → Fill from ts to → AllByRecursion 
 above [] from to f = tt
 above (t ∷ ts) from to f = (omega (arith, f.0), each_weaker _ _ (λ s a. omega (arith, a)) ts (above ts (from + 16 * t.units) to f.2))
 
-pub ends_after : (ts : List Tile) (from to : ℕ) → Fill from ts to → from ≤ to
-ends_after [] from to f = omega (arith, f)
-ends_after (t ∷ ts) from to f = let r = ends_after ts (from + 16 * t.units) to f.2 in omega arith
-
 -- a heap ends after the header of its segment
 pub header_fits : (allocator : ℕ) (bytes : List ℕ) → IsHeap allocator bytes → heap_start ≤ length bytes
-header_fits allocator bytes heap = ends_after (tiles bytes) heap_start (length bytes) heap.filled
+header_fits allocator bytes heap = Fill-le (tiles bytes) heap_start (length bytes) heap.filled
 
 module _ (allocator : ℕ) (old new : List ℕ) (at m : ℕ) (heap : IsHeap allocator old) (changes : ChangesOnly old new at m) (low : at + m ≤ heap_start) (after_root : 28 ≤ at) where
   each_above : AllByRecursion (λ t. heap_start ≤ t.at) (tiles old)

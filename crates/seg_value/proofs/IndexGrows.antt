@@ -1,28 +1,26 @@
 -- The buffer of the flat index as it comes to have room, from what the steps of the calls leave.
-use Rattle.std.proofs.Common.{◌≡◌, ℕ, ◌+◌, ◌-◌, ◌*◌, ◌^◌, ◌<◌, ◌≤◌, max, min, leb, cond, true, false, List, [], ◌∷◌, length, Option, Some, None, MatchOption, option_map, refl, sym, ap, ◌∙◌, subst, arith}
+use Rattle.std.proofs.Common.{◌≡◌, ℕ, ◌+◌, ◌-◌, ◌*◌, ◌^◌, ◌<◌, ◌≤◌, max, min, List, [], ◌∷◌, length, Option, Some, None, MatchOption, option_map, refl, sym, ap, ◌∙◌, subst, arith}
 use Rattle.std.specs.Prelude.{Contains, ⊤}
-use Rattle.std.proofs.lemmas.Bool.Decides.{nat_tests}
 use Rattle.seg_spec.specs.Pointer.{target}
 use Rattle.seg_spec.specs.Types.{Table}
-use Rattle.seg_spec.specs.Heap.{Span, span, units_at, link_at, live, IsHeap, Keeps, Takes, Granted, same, fresh, heap_start, resized, after_request, after_request_at}
+use Rattle.seg_spec.specs.Heap.{Span, span, units_at, live, IsHeap, Keeps, Takes, same, heap_start, resized}
 use Rattle.seg_spec.specs.Block.{Kind, tag_of, block_of, IsBlock, payload_size}
 use Rattle.seg_spec.specs.Reads.{count_at, named}
 use Rattle.seg_spec.specs.Sound.{positions}
-use Rattle.seg_spec.specs.Demand.{Ask, need, growth, after_ask, after_gives}
-use Rattle.seg_spec.specs.Calls.{Refuses}
+use Rattle.seg_spec.specs.Demand.{Ask, need, after_ask, after_gives}
 use Rattle.seg_spec.specs.Spending.{units_named, buffer_asks, spent}
 use Rattle.seg_spec.proofs.LiveLaws.{there, LiesIn, live-lie}
 use Rattle.seg_spec.proofs.KeptLaws.{each_contained, StatesSpan, live_stated}
 use Rattle.seg_spec.proofs.Giving.{found}
 use Rattle.seg_spec.proofs.BufferMoves.{less_room}
-use Rattle.seg_spec.proofs.Requested.{GrewTo, TookFor, granted_at, granted_new, spent_same, spent_fresh, units_found}
+use Rattle.seg_spec.proofs.Requested.{GrewTo, spent_same, spent_fresh}
 use Rattle.seg_block.specs.Blocks.{IsSized, IsLiveBlock}
-use Rattle.seg_block.specs.Request.{IsGranted, Grants, GrantsNew}
+use Rattle.seg_block.specs.Request.{Grants, GrantsNew}
 use Rattle.seg_block.specs.declared.grant.Grant.{Grant}
-use Rattle.seg_block.specs.declared.grant.Grant.TheVariants.{Same, New}
 use Rattle.seg_value.specs.Buffers.{HasSizedBuffer}
 use Rattle.seg_value.specs.Names.{index_cell, FindsNames, ChangesIndex, ReservesIndex, MovesIndex}
-use Rattle.seg_value.proofs.NoSpace.{too_large, grants_none}
+use Rattle.seg_value.proofs.Enlarging as by_request
+use Rattle.seg_value.proofs.Enlarging.{ask, asks_nothing, NewFor}
 use Rattle.seg_value.proofs.Named.{name_block, name_live, name_room}
 use Rattle.seg_value.proofs.Indexed.{grown_index, grown_names, grown_target, grown_index_units}
 
@@ -63,24 +61,11 @@ module _ (allocator : ℕ) (old : List ℕ) (table : Table) (s : FindsNames allo
       go (Some p) e = omega (arith, name_room allocator old table s p e (count_at old index_cell * 8) (name_block allocator old table s p e).room, s.heap.small)
 
   module _ (limit : ℕ) where
-    abbrev the_ask : Ask
-    the_ask = growth (option_map block_of (target old index_cell)) 8 (count_at old index_cell) limit
-
-    pub index_asks_nothing : (room : ℕ) → room ≡ 16 * units_named old index_cell - 16 → limit * 8 ≤ room → buffer_asks old index_cell 8 limit ≡ []
-    index_asks_nothing room e l =
-        let fits : leb (limit * 8) (16 * units_named old index_cell - 16) ≡ true = grind (arith, nat_tests) in
-        ap (λ b. cond b [] (the_ask ∷ [])) fits
-
-    pub index_asks_once : 16 * units_named old index_cell - 16 < limit * 8 → buffer_asks old index_cell 8 limit ≡ the_ask ∷ []
-    index_asks_once l =
-        let more : leb (limit * 8) (16 * units_named old index_cell - 16) ≡ false = grind (arith, nat_tests) in
-        ap (λ b. cond b [] (the_ask ∷ [])) more
-
     -- there is room already
     pub index_has_room : (room : ℕ) → room ≡ 16 * units_named old index_cell - 16 → limit * 8 ≤ room → ReservesIndex allocator old old table (buffer_asks old index_cell 8 limit) (limit * 8)
     index_has_room room e l = record {
       left = live old;
-      left_is = ap (λ asks. spent allocator (live old) (length old) asks []) (index_asks_nothing room e l);
+      left_is = ap (λ asks. spent allocator (live old) (length old) asks []) (asks_nothing allocator old index_cell 8 limit room e l);
       changes = record {
         length_kept = refl;
         front_kept = refl;
@@ -117,35 +102,15 @@ module _ (allocator : ℕ) (old : List ℕ) (table : Table) (s : FindsNames allo
           let e = entries_by (omega arith) in
           wanted_by (omega arith)
 
-      pub record NewFor (mid : List ℕ) (g : ℕ) : Type 0 where
-        pub units : ℕ
-        pub enough : need (limit * 8) ≤ units
-        pub takes : Takes allocator old mid units (Some g)
-        pub granted : after_ask allocator (live old) (length old) (growth (option_map block_of (target old index_cell)) 8 (count_at old index_cell) limit) ≡ Some (fresh g (live mid))
+      abbrev pub asked : Ask
+      asked = ask allocator old index_cell 8 limit
 
       -- by what the request returned
       abbrev pub Enlarged : List ℕ → Option Grant → Type 0
-      Enlarged mid None = Refuses allocator old mid (growth (option_map block_of (target old index_cell)) 8 (count_at old index_cell) limit ∷ [])
-      Enlarged mid (Some (Same at)) = ReservesIndex allocator old mid table (growth (option_map block_of (target old index_cell)) 8 (count_at old index_cell) limit ∷ []) (limit * 8)
-      Enlarged mid (Some (New g)) = NewFor mid g
-
-      least_first : need (limit * 8) ≤ need (max 4 (max (2 * count_at old index_cell) limit) * 8)
-      least_first = omega arith
-
-      refused : (mid : List ℕ) → after_ask allocator (live old) (length old) the_ask ≡ None → mid ≡ old → Refuses allocator old mid (the_ask ∷ [])
-      refused mid e same_bytes = record { no_room = rw e refl; same = same_bytes }
-
-      took_new : (mid : List ℕ) (g : ℕ) (after : List Span) → IsHeap allocator mid → Keeps old mid → TookFor allocator (live old) (length old) g after (need (limit * 8)) → live mid ≡ after → link_at mid g ≡ None
-          → after_ask allocator (live old) (length old) the_ask ≡ Some (fresh g after) → NewFor mid g
-      took_new mid g after heap kept took live_is link e = record {
-        units = took.units;
-        enough = took.enough;
-        takes = record { heap = heap; kept = kept; taken = rw took.taken (refl, live_is, link) };
-        granted = e ∙ ap (λ bs. Some (fresh g bs)) (sym live_is);
-      }
+      Enlarged = by_request.Enlarged allocator old index_cell 8 limit (λ mid. ReservesIndex allocator old mid table (ask allocator old index_cell 8 limit ∷ []) (limit * 8))
 
       grew : (mid : List ℕ) (p : ℕ) (after : List Span) → target old index_cell ≡ Some p → IsHeap allocator mid → Keeps old mid → (x : ℕ) → Contains (live old) (span (block_of p) x)
-          → GrewTo (live old) after (block_of p) x (need (limit * 8)) → live mid ≡ after → after_ask allocator (live old) (length old) the_ask ≡ Some (same after) → ReservesIndex allocator old mid table (the_ask ∷ []) (limit * 8)
+          → GrewTo (live old) after (block_of p) x (need (limit * 8)) → live mid ≡ after → after_ask allocator (live old) (length old) asked ≡ Some (same after) → ReservesIndex allocator old mid table (asked ∷ []) (limit * 8)
       grew mid p after e heap kept x it g live_is granted =
           let is : live mid ≡ resized (block_of p) g.units (live old) = live_is ∙ g.after_is in
           let units = grown_index_units allocator old table s mid heap kept (block_of p) x g.units it g.no_fewer is in
@@ -153,84 +118,27 @@ module _ (allocator : ℕ) (old : List ℕ) (table : Table) (s : FindsNames allo
           let enough = g.enough in
           record {
             left = after;
-            left_is = spent_same allocator (live old) after (length old) the_ask granted;
+            left_is = spent_same allocator (live old) after (length old) asked granted;
             changes = subst (λ bs. ChangesIndex old mid table bs) live_is (grown_index allocator old table s mid heap kept (block_of p) x g.units it g.no_fewer is);
             names = grown_names allocator old table s mid heap kept (block_of p) x g.units it g.no_fewer is;
             room = rw names (omega arith);
           }
 
-      module _ (mid : List ℕ) (r : Option Grant) (old_block : Option ℕ) (wanted least : ℕ) (block_is : old_block ≡ option_map block_of (target old index_cell))
-          (wanted_by : wanted ≡ need (max 4 (max (2 * count_at old index_cell) limit) * 8)) (least_by : least ≡ need (limit * 8))
-          (at_block : (at x : ℕ) → old_block ≡ Some at → IsHeap allocator old → IsLiveBlock old at x → Grants allocator old mid at x wanted least r)
-          (no_block : old_block ≡ None → IsHeap allocator old → GrantsNew allocator old mid wanted least r) where
-        without_block : target old index_cell ≡ None → Enlarged mid r
-        without_block e =
-            let g = no_block (block_is ∙ ap (option_map block_of) e) s.heap in
-            let asked : after_ask allocator (live old) (length old) the_ask ≡ after_request allocator (live old) (length old) wanted least = rw (e, wanted_by, least_by) refl in
-            go (after_request allocator (live old) (length old) wanted least) refl asked g.heap g.kept g.grants
-          where
-            go : (q : Option Granted) → after_request allocator (live old) (length old) wanted least ≡ q → after_ask allocator (live old) (length old) the_ask ≡ after_request allocator (live old) (length old) wanted least
-                → IsHeap allocator mid → Keeps old mid → MatchOption q ((r ≡ None) × (mid ≡ old)) (IsGranted mid 0 r) → Enlarged mid r
-            go None f asked heap kept k = subst (Enlarged mid) (sym k.0) (refused mid (asked ∙ f) k.1)
-            go (Some (same after)) f asked heap kept k = absurd (granted_new allocator (live old) (length old) least wanted (same after) (rw (wanted_by, least_by) least_first) f)
-            go (Some (fresh g after)) f asked heap kept k =
-                let took = granted_new allocator (live old) (length old) least wanted (fresh g after) (rw (wanted_by, least_by) least_first) f in
-                subst (Enlarged mid) (sym k.0) (took_new mid g after heap kept (rw least_by at took) k.1 k.2 (asked ∙ f))
+      in_buffer : (p : ℕ) → target old index_cell ≡ Some p → (x : ℕ) × Contains (live old) (span (block_of p) x)
+      in_buffer p e = let b = index_block p e in (b.units, b.among)
 
-        with_block : (p : ℕ) → target old index_cell ≡ Some p → Enlarged mid r
-        with_block p e =
-            let b = index_block p e in
-            let g = at_block (block_of p) b.units (block_is ∙ ap (option_map block_of) e) s.heap b.among in
-            let one = units_found (live old) (block_of p) b.units b.among (λ d among at_is. sym (stated d among).units_is ∙ ap (units_at old) at_is ∙ b.units_is) in
-            let asked : after_ask allocator (live old) (length old) the_ask ≡ after_request_at allocator (live old) (length old) (block_of p) b.units wanted least = rw (e, one, wanted_by, least_by) refl in
-            go b.units b.among (after_request_at allocator (live old) (length old) (block_of p) b.units wanted least) refl asked g.heap g.kept g.grants
-          where
-            stated : (d : Span) → Contains (live old) d → StatesSpan old (length old) d
-            stated d among = each_contained (StatesSpan old (length old)) (live old) d (live_stated old allocator s.heap) among
-
-            go : (x : ℕ) → Contains (live old) (span (block_of p) x) → (q : Option Granted) → after_request_at allocator (live old) (length old) (block_of p) x wanted least ≡ q
-                → after_ask allocator (live old) (length old) the_ask ≡ after_request_at allocator (live old) (length old) (block_of p) x wanted least
-                → IsHeap allocator mid → Keeps old mid → MatchOption q ((r ≡ None) × (mid ≡ old)) (IsGranted mid (block_of p) r) → Enlarged mid r
-            go x it None f asked heap kept k = subst (Enlarged mid) (sym k.0) (refused mid (asked ∙ f) k.1)
-            go x it (Some (same after)) f asked heap kept k =
-                let g = granted_at allocator (live old) (length old) least (block_of p) x wanted (same after) (rw (wanted_by, least_by) least_first) f in
-                subst (Enlarged mid) (sym k.0) (grew mid p after e heap kept x it (rw least_by at g) k.1 (asked ∙ f))
-            go x it (Some (fresh n after)) f asked heap kept k =
-                let took = granted_at allocator (live old) (length old) least (block_of p) x wanted (fresh n after) (rw (wanted_by, least_by) least_first) f in
-                subst (Enlarged mid) (sym k.0) (took_new mid n after heap kept (rw least_by at took) k.1 k.2 (asked ∙ f))
-
-        pub index_enlarged : Enlarged mid r
-        index_enlarged = go (target old index_cell) refl
-          where
-            go : (o : Option ℕ) → target old index_cell ≡ o → Enlarged mid r
-            go None e = without_block e
-            go (Some p) e = with_block p e
+      pub index_enlarged : (mid : List ℕ) (r : Option Grant) (old_block : Option ℕ) (wanted least : ℕ) → old_block ≡ option_map block_of (target old index_cell)
+          → wanted ≡ need (max 4 (max (2 * count_at old index_cell) limit) * 8) → least ≡ need (limit * 8)
+          → ((at x : ℕ) → old_block ≡ Some at → IsHeap allocator old → IsLiveBlock old at x → Grants allocator old mid at x wanted least r)
+          → (old_block ≡ None → IsHeap allocator old → GrantsNew allocator old mid wanted least r) → Enlarged mid r
+      index_enlarged = by_request.enlarged allocator old index_cell 8 limit s.heap in_buffer _ grew
 
       -- more than any segment has room for
       pub index_enlarged_large : (mid : List ℕ) (r : Option Grant) (old_block : Option ℕ) (wanted least : ℕ) → old_block ≡ option_map block_of (target old index_cell)
           → 2 ^ 32 ≤ limit * 8 → wanted ≡ need (2 ^ 32 - 1) → least ≡ need (2 ^ 32 - 1)
           → ((at x : ℕ) → old_block ≡ Some at → IsHeap allocator old → IsLiveBlock old at x → Grants allocator old mid at x wanted least r)
           → (old_block ≡ None → IsHeap allocator old → GrantsNew allocator old mid wanted least r) → Enlarged mid r
-      index_enlarged_large mid r old_block wanted least block_is large wanted_by least_by at_block no_block = go (target old index_cell) refl
-        where
-          none : after_ask allocator (live old) (length old) (record { old = option_map block_of (target old index_cell); preferred = wanted; limit = least }) ≡ None
-          none = grants_none allocator old s.heap (record { old = option_map block_of (target old index_cell); preferred = wanted; limit = least }) (omega arith) (omega arith)
-
-          no_space : (r ≡ None) × (mid ≡ old) → Enlarged mid r
-          no_space k = subst (Enlarged mid) (sym k.0) (record { no_room = too_large allocator old s.heap the_ask (omega arith) least_first; same = k.1 })
-
-          go : (o : Option ℕ) → target old index_cell ≡ o → Enlarged mid r
-          go None e =
-              let g = no_block (block_is ∙ ap (option_map block_of) e) s.heap in
-              let n : after_request allocator (live old) (length old) wanted least ≡ None = rw e at none in
-              no_space (rw n at g.grants)
-          go (Some p) e =
-              let b = index_block p e in
-              let g = at_block (block_of p) b.units (block_is ∙ ap (option_map block_of) e) s.heap b.among in
-              let one = units_found (live old) (block_of p) b.units b.among (λ d among at_is. sym (each_contained (StatesSpan old (length old)) (live old) d (live_stated old allocator s.heap) among).units_is
-              ∙ ap (units_at old) at_is ∙ b.units_is) in
-              let n : after_request_at allocator (live old) (length old) (block_of p) b.units wanted least ≡ None = rw (e, one) at none in
-              no_space (rw n at g.grants)
+      index_enlarged_large = by_request.enlarged_large allocator old index_cell 8 limit s.heap in_buffer _ grew
 
       fewer : count_at old index_cell * 8 < limit * 8
       fewer = go (target old index_cell) refl
@@ -244,16 +152,16 @@ module _ (allocator : ℕ) (old : List ℕ) (table : Table) (s : FindsNames allo
               let u : units_named old index_cell ≡ units_at old (block_of p) = rw e refl in
               omega (arith, b.room.room)
 
-      pub index_moved_to : (mid new : List ℕ) (g : ℕ) → NewFor mid g
+      pub index_moved_to : (mid new : List ℕ) (g : ℕ) → NewFor allocator old index_cell 8 limit mid g
           → ((u : ℕ) → Takes allocator old mid u (Some g) → 2 ≤ u → count_at old index_cell * 8 + 16 ≤ 16 * u → MovesIndex old mid new table u)
-          → ReservesIndex allocator old new table (growth (option_map block_of (target old index_cell)) 8 (count_at old index_cell) limit ∷ []) (limit * 8)
+          → ReservesIndex allocator old new table (ask allocator old index_cell 8 limit ∷ []) (limit * 8)
       index_moved_to mid new g n moves_it =
           let enough = n.enough in
           let f = fewer in
           let m = moves_it n.units n.takes (omega arith) (omega arith) in
           record {
             left = after_gives (live mid) (named old index_cell);
-            left_is = spent_fresh allocator (live old) (live mid) (length old) g the_ask n.granted;
+            left_is = spent_fresh allocator (live old) (live mid) (length old) g asked n.granted;
             changes = m.changes;
             names = m.names;
             room = less_room new index_cell (16 * n.units - 16) (limit * 8) (omega arith) m.room;

@@ -4,6 +4,7 @@ use Rattle.std.specs.Prelude.{Contains}
 use Rattle.std.proofs.lemmas.Bool.{cases_eq}
 use Rattle.std.specs.List.{AllByRecursion}
 use Rattle.seg_spec.specs.Bytes.{set_word, IsSame, ChangesOnly}
+use Rattle.seg_spec.specs.Header.{KeepsFront, KeepsBack}
 use Rattle.seg_spec.specs.Pointer.{target, set_pointer, distance}
 use Rattle.seg_spec.specs.Types.{Table}
 use Rattle.seg_spec.specs.Heap.{Span, span, units_at, IsHeap, live, heap_start, resized, Keeps, Takes, Gives, IsLive}
@@ -27,7 +28,7 @@ use Rattle.seg_spec.proofs.Standing.{each_live_at, live_at, ownable_linked}
 use Rattle.seg_spec.proofs.NewBlock.{took, was_free, block_fits, new_heap, new_live, all_kept, is_block, new_length, new_front, new_back, new_link}
 use Rattle.seg_value.specs.Names.{index_cell, name_entry, FindsNames, ChangesIndex, IsSameEntry, KeepsNames, MovesIndex}
 use Rattle.seg_value.specs.Pointers.{MovesPointers}
-use Rattle.seg_value.proofs.Cutting.{resized_here, resized_other}
+use Rattle.seg_spec.proofs.Resized.{resized_here, resized_other}
 use Rattle.seg_value.proofs.Inside.{given_counts, given_linked, given_ownable, given_front, wrote_heap, wrote_live, wrote_ownable, wrote_other, wrote_block}
 use Rattle.seg_value.proofs.Header.{header_fits, header_heap, header_live, header_ownable, header_kept}
 use Rattle.seg_value.proofs.Named.{same_entry, name_block, name_room}
@@ -78,7 +79,7 @@ module _ (allocator : ℕ) (old : List ℕ) (table : Table) (s : FindsNames allo
   counts : (h : ℕ) → times h (positions (live new)) ≡ times h (positions (live old))
   counts h = ap (λ bs. times h (positions bs)) live_is ∙ ap (times h) (positions-resized at n (live old))
 
-  front : IsSame old new 0 24 × IsSame old new 28 676
+  front : KeepsFront old new × KeepsBack old new
   front = front_kept old new keeps (header_fits allocator old s.heap)
 
   cell : IsSame old new index_cell 8
@@ -173,10 +174,10 @@ module _ (allocator : ℕ) (before taken : List ℕ) (table : Table) (s : FindsN
           let some_old : 1 ≤ times h (positions (live before)) = omega (arith, marked_counts h, times-other h g (positions (live before)) other) in
           ownable_linked before tagged_index table h (marked_kept h some_old) (live_at (IsOwnable before table) (live before) h s.ownable some_old)
 
-  marked_front : IsSame before tagged_index 0 24
+  marked_front : KeepsFront before tagged_index
   marked_front = new_front allocator u g tag before taken tagged_index s.heap t (g + 16) 0 low high none
 
-  marked_back : IsSame before tagged_index 28 676
+  marked_back : KeepsBack before tagged_index
   marked_back = new_back allocator u g tag before taken tagged_index s.heap t (g + 16) 0 low high none
 
   marked_cell : IsSame before tagged_index index_cell 8

@@ -1,7 +1,8 @@
 -- A write inside a live block, of which nothing else is known: the heap stays, and all beside it. And calls on a place, one after the other.
 use Rattle.std.proofs.Common.{◌≡◌, ◌≢◌, ℕ, ◌+◌, ◌-◌, ◌≤◌, ◌⊎◌, inl, inr, List, [], ◌∷◌, refl, sym, ◌∙◌, subst, length, arith, ap}
 use Rattle.std.specs.List.{AllByRecursion}
-use Rattle.seg_spec.specs.Bytes.{IsSame, word, ChangesOnly}
+use Rattle.seg_spec.specs.Bytes.{word, ChangesOnly}
+use Rattle.seg_spec.specs.Header.{KeepsFront, KeepsBack, free_word, back_start, back_size}
 use Rattle.seg_spec.specs.Types.{Table, size}
 use Rattle.seg_spec.specs.Value.{Value}
 use Rattle.seg_spec.specs.Heap.{Gives, heap_start, Span, IsHeap, live, KeepsTiles}
@@ -65,8 +66,8 @@ module _ (allocator : ℕ) (old new : List ℕ) (table : Table) (g at m : ℕ) (
   pub frames_beside : (p n : ℕ) → Frames old new p n (g ∷ [])
   frames_beside p n = record {
     length_kept = changes.length_kept;
-    front_kept = low_kept old new at m changes allocator heap g inside g_live 0 24 (omega arith);
-    back_kept = low_kept old new at m changes allocator heap g inside g_live 28 676 (omega arith);
+    front_kept = low_kept old new at m changes allocator heap g inside g_live 0 free_word (omega arith);
+    back_kept = low_kept old new at m changes allocator heap g inside g_live back_start back_size (omega arith);
     kept = λ h some away. around_kept old new p n h (omega (arith, (but h some).solid)) (wrote_other h some (not_it h away));
     stays = λ h some away. subst (λ bs. 1 ≤ times h (positions bs)) (sym wrote_live) some;
   }
@@ -78,8 +79,8 @@ module _ (allocator : ℕ) (old new : List ℕ) (table : Table) (g at m : ℕ) (
   pub frames_around : (p n : ℕ) → p ≤ at → at + m ≤ p + n → Frames old new p n []
   frames_around p n low high = record {
     length_kept = changes.length_kept;
-    front_kept = low_kept old new at m changes allocator heap g inside g_live 0 24 (omega arith);
-    back_kept = low_kept old new at m changes allocator heap g inside g_live 28 676 (omega arith);
+    front_kept = low_kept old new at m changes allocator heap g inside g_live 0 free_word (omega arith);
+    back_kept = low_kept old new at m changes allocator heap g inside g_live back_start back_size (omega arith);
     kept = λ h some away. record { solid = omega (arith, (but h some).solid); header = header h some; payload = λ q k from to apart. changes.others q k (out q k apart) };
     stays = λ h some away. subst (λ bs. 1 ≤ times h (positions bs)) (sym wrote_live) some;
   }
@@ -122,7 +123,7 @@ module _ (allocator : ℕ) (old new : List ℕ) (table : Table) (g : ℕ) (heap 
           let one : 1 ≤ times g (positions (live new)) = subst (λ x. 1 ≤ times x (positions (live new))) e some in
           omega (arith, given_counts g, times-same g (positions (live new)), live-once old allocator heap g)
 
-  pub given_front : IsSame old new 0 24 × IsSame old new 28 676
+  pub given_front : KeepsFront old new × KeepsBack old new
   given_front =
       let l = there (LiesIn old heap_start (length old)) g (positions (live old)) (live-lie old allocator heap) g_live in
       front_kept old new gives.kept (omega (arith, l.low, l.high))

@@ -23,3 +23,4 @@ pub mod Indexed
 pub mod IndexGrows
 pub mod NoSpace
 pub mod NewNodes
+pub mod Enlarging

@@ -4,6 +4,7 @@ use Rattle.std.specs.Prelude.{Contains}
 use Rattle.std.proofs.lemmas.Bool.{cases_eq}
 use Rattle.std.specs.List.{AllByRecursion}
 use Rattle.seg_spec.specs.Bytes.{set_word, IsSame, ChangesOnly}
+use Rattle.seg_spec.specs.Header.{KeepsFront}
 use Rattle.seg_spec.specs.Pointer.{target, set_pointer, distance}
 use Rattle.seg_spec.specs.Types.{Table}
 use Rattle.seg_spec.specs.Heap.{Span, Gives, IsLive, IsHeap, live, heap_start}
@@ -61,7 +62,7 @@ module _ (allocator : ℕ) (old : List ℕ) (table : Table) (s : FindsNames allo
   -- k entries that stand elsewhere now, and c that the cell counts
   pub record Shifted (new : List ℕ) (k from to c : ℕ) : Type 0 where
     pub length_kept : length new ≡ length old
-    pub front_kept : IsSame old new 0 24
+    pub front_kept : KeepsFront old new
     pub middle_kept : IsSame old new 28 4
     pub back_kept : IsSame old new 40 664
     pub heap : IsHeap allocator new
@@ -132,7 +133,7 @@ module _ (allocator : ℕ) (old : List ℕ) (table : Table) (s : FindsNames allo
     }
 
   -- what changed, after all
-  pub index_changes : (new : List ℕ) (n : ℕ) → length new ≡ length old → IsSame old new 0 24 → IsSame old new 28 4 → IsSame old new 40 664
+  pub index_changes : (new : List ℕ) (n : ℕ) → length new ≡ length old → KeepsFront old new → IsSame old new 28 4 → IsSame old new 40 664
       → IsHeap allocator new → live new ≡ live old → AllByRecursion (λ b. IsOwnable new table b.at) (live new)
       → ((h : ℕ) → 1 ≤ times h (positions (live old)) → h ≢ block_of p → KeepsBlock old new h) → target new index_cell ≡ Some p
       → count_at new index_cell ≡ n → IsBlock new p (tag_of Kind.index_buffer 0) (n * 8) → ChangesIndex old new table (live old)

@@ -1,5 +1,6 @@
 -- One turn of destruction, and what it needs of an object that nothing holds.
 use Rattle.std.proofs.Common.{◌≡◌, ℕ, ◌+◌, ◌≤◌, inl, List, [], ◌∷◌, ◌++◌, Option, None, refl, sym, ap, ◌∙◌, subst, arith}
+use Rattle.seg_spec.specs.Header.{free_word, back_start, back_size}
 use Rattle.seg_spec.specs.Types.{Table, IsTable}
 use Rattle.seg_spec.specs.Value.{Value}
 use Rattle.seg_spec.specs.Heap.{IsHeap, live, IsLive, Gives}
@@ -56,8 +57,8 @@ none_pending allocator bytes table first none heap = subst (λ f. Pends allocato
 pub added_frees : (allocator : ℕ) (old mid new : List ℕ) (table : Table) (first : Option ℕ) (xs ys : List ℕ) → Adds allocator old mid table first xs ys → Frees allocator mid new xs → Frees allocator old new xs
 added_frees allocator old mid new table first xs ys a f = record {
   length_kept = f.length_kept ∙ a.keeps.length_kept;
-  front_kept = f.front_kept ∙ a.keeps.front_kept 0 24 (omega arith);
-  back_kept = f.back_kept ∙ a.keeps.front_kept 28 676 (omega arith);
+  front_kept = f.front_kept ∙ a.keeps.front_kept 0 free_word (omega arith);
+  back_kept = f.back_kept ∙ a.keeps.front_kept back_start back_size (omega arith);
   heap = f.heap;
   live_is = f.live_is ∙ ap (λ bs. after_gives bs xs) a.keeps.live_kept;
   live_are = λ h. f.live_are h ∙ ap (λ bs. times h (positions bs)) a.keeps.live_kept;

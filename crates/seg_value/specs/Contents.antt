@@ -5,7 +5,7 @@
 --     AreContents table contents          that of each type
 --     GivesBlock ..                       a new block, with the default of a value
 use Rattle.std.specs.Prelude.{◌≡◌, ℕ, ◌+◌, ◌≤◌, ⊤, List, [], ◌∷◌, length, Option, Some, None, IsSomeAnd, get_or}
-use Rattle.seg_spec.specs.Bytes.{IsSame}
+use Rattle.seg_spec.specs.Header.{KeepsFront, KeepsBack}
 use Rattle.seg_spec.specs.Value.{default_of}
 use Rattle.seg_spec.specs.Heap.{IsHeap, live, link_at}
 use Rattle.seg_spec.specs.Reads.{Holds}
@@ -88,8 +88,8 @@ AreContents table contents =
 pub record GivesBlock (allocator : ℕ) (old new : List ℕ) (table : Table) (tag before U : ℕ)
     (payload : ℕ) : Type 0 where
   pub length_kept : length new ≡ length old
-  pub front_kept : IsSame old new 0 24
-  pub back_kept : IsSame old new 28 676
+  pub front_kept : KeepsFront old new
+  pub back_kept : KeepsBack old new
   pub heap : IsHeap allocator new
   pub is_block : block.IsBlock new payload tag (before + size table U)
   pub link_is : link_at new (block.block_of payload) ≡ None

@@ -18,6 +18,7 @@ use Rattle.std.specs.Prelude.{◌≡◌, ℕ, ◌+◌, ◌*◌, ◌%◌, ◌<◌
 use Rattle.std.specs.List.{AllByRecursion}
 use Rattle.seg_spec.specs.Bytes.{word, IsSame, ChangesOnly, slice}
 pub use Rattle.seg_spec.specs.Header.{index_cell}
+use Rattle.seg_spec.specs.Header.{KeepsFront, back_start, reserved, heap_start}
 use Rattle.seg_spec.specs.Pointer.{target}
 use Rattle.seg_spec.specs.Types.{Table}
 use Rattle.seg_spec.specs.Heap.{Span, IsHeap, live}
@@ -67,9 +68,9 @@ FindsIndex allocator bytes table content cell =
 -- only the index's cell and its buffer changed; the live blocks are these now, and all others are kept
 pub record ChangesIndex (old new : List ℕ) (table : Table) (spans : List Span) : Type 0 where
   pub length_kept : length new ≡ length old
-  pub front_kept : IsSame old new 0 24
-  pub middle_kept : IsSame old new 28 4
-  pub back_kept : IsSame old new 40 664
+  pub front_kept : KeepsFront old new
+  pub middle_kept : IsSame old new back_start (index_cell - back_start)
+  pub back_kept : IsSame old new reserved (heap_start - reserved)
   pub heap : IsHeap (word old 16) new
   pub ownable : AllByRecursion (λ b. IsOwnable new table b.at) (live new)
   pub live_is : live new ≡ spans

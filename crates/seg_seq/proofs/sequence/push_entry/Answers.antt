@@ -6,7 +6,7 @@ use Rattle.seg_value.specs.Places.{object_at}
 use Rattle.seg_value.specs.declared.place.Place.{Place}
 use Rattle.seg_seq.specs.Sequences.{PushesBack}
 use Rattle.seg_seq.proofs.ItemCalls.{vector_entry, one_place, no_item_pushed, item_pushed}
-use Rattle.seg_seq.proofs.Results.{bytes_of}
+use Rattle.seg_spec.proofs.Placements.{bytes_of}
 use Rattle.seg_seq.proofs.sequence.push_entry.Goals as goal
 use Rattle.seg_seq.proofs.sequence.push_entry.Goals.{in-Some, in_default}
 

@@ -1,13 +1,11 @@
-use Rattle.std.proofs.Common.{◌≡◌, ◌+◌, ap}
+use Rattle.std.proofs.Common.{◌+◌}
 use Rattle.seg_value.proofs.Named.{name_closed_by}
 use Rattle.seg_spec.specs.Bytes.{set_word}
-use Rattle.seg_spec.specs.Window.{Placement, with_bytes}
+use Rattle.seg_spec.specs.Window.{with_bytes}
 use Rattle.seg_value.specs.Places.{object_at}
 use Rattle.seg_value.proofs.Between.{closed_by}
+use Rattle.seg_spec.proofs.Placements.{bytes_of}
 use Rattle.seg_value.proofs.heap.Heap.close_entry.Goals as goal
-
-bytes_of : (p q : Placement) → p ≡ q → p.bytes ≡ q.bytes
-bytes_of p q e = ap (λ (r : Placement). r.bytes) e
 
 pub returns-clause-closes : goal.returns-clause-closes
 returns-clause-closes g c = λ T U keys vs blocks names s below nothing.

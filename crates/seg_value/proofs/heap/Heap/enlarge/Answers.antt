@@ -1,17 +1,15 @@
 use Rattle.std.proofs.lemmas.Bool.{cases_lt}
-use Rattle.std.proofs.Common.{◌^◌, ⊎_elim, ◌≡◌, ◌*◌, ap, ◌∙◌, sym, subst, Some}
+use Rattle.std.proofs.Common.{◌^◌, ⊎_elim, ◌*◌, ap, ◌∙◌, sym, subst, Some}
 use Rattle.seg_spec.specs.Calls.{Refuses}
 use Rattle.seg_spec.specs.Growing.{Reserves}
-use Rattle.seg_spec.specs.Window.{Placement}
 use Rattle.seg_value.specs.Places.{object_at}
 use Rattle.seg_value.specs.Stored.{Stored}
-use Rattle.seg_value.proofs.Buffers.{of_form, asks_once, wanted_is, wanted_large, Enlarged, enlarged, enlarged_large, moved_to_new}
-use Rattle.seg_value.specs.Names.{ReservesIndex}
+use Rattle.seg_value.proofs.Buffers.{of_form, wanted_is, wanted_large, Enlarged, enlarged, enlarged_large, moved_to_new}
+use Rattle.seg_value.specs.Names.{index_cell, ReservesIndex}
+use Rattle.seg_value.proofs.Enlarging.{asks_once}
 use Rattle.seg_value.proofs.IndexGrows as index
+use Rattle.seg_spec.proofs.Placements.{bytes_of}
 use Rattle.seg_value.proofs.heap.Heap.enlarge.Goals as goal
-
-bytes_of : (p q : Placement) → p ≡ q → p.bytes ≡ q.bytes
-bytes_of p q e = ap (λ (r : Placement). r.bytes) e
 
 pub returns-in-None-clause-enlarges : goal.returns-in-None-clause-enlarges
 returns-in-None-clause-enlarges g c = λ T v blocks names s much.
@@ -30,7 +28,7 @@ returns-in-None-clause-enlarges g c = λ T v blocks names s much.
     (λ large. enlarged_large code old table c.args.cell T v blocks content of s c.args.limit much c.request.new.w.bytes c.request.result c.buffer_of-block.result c.need-wanted.result c.need.result c.buffer_of-block.ensures large
     (wanted_large code old table c.args.cell T v blocks content of s c.args.limit much c.count-kept.result c.preferred.result c.need-wanted.result large c.count-kept.ensures c.preferred.ensures.doubled c.need-wanted.ensures.capped)
     (c.need.ensures.capped large) at_block no_block) (cases_lt (c.args.limit * content.entry.size) (2 ^ 32)) in
-    let asks = asks_once code old table c.args.cell T v blocks content of s c.args.limit much in
+    let asks = asks_once code old c.args.cell content.entry.size c.args.limit much in
     subst (λ xs. Refuses code old c.request.new.w.bytes xs) (sym asks)
     (subst (Enlarged code old table c.args.cell T v blocks content of s c.args.limit much c.request.new.w.bytes) c.in-None.is r)
 
@@ -51,7 +49,7 @@ returns-in-Some-Same-clause-enlarges g c = λ T v blocks names s much.
     (λ large. enlarged_large code old table c.args.cell T v blocks content of s c.args.limit much c.request.new.w.bytes c.request.result c.buffer_of-block.result c.need-wanted.result c.need.result c.buffer_of-block.ensures large
     (wanted_large code old table c.args.cell T v blocks content of s c.args.limit much c.count-kept.result c.preferred.result c.need-wanted.result large c.count-kept.ensures c.preferred.ensures.doubled c.need-wanted.ensures.capped)
     (c.need.ensures.capped large) at_block no_block) (cases_lt (c.args.limit * content.entry.size) (2 ^ 32)) in
-    let asks = asks_once code old table c.args.cell T v blocks content of s c.args.limit much in
+    let asks = asks_once code old c.args.cell content.entry.size c.args.limit much in
     let is = c.in-Some-Same.is ∙ ap (λ x. Some x) c.in-Some-Same.field-0-is in
     subst (λ xs. Reserves code old c.request.new.w.bytes table (object_at c.args.cell T) v blocks xs (c.args.limit * content.entry.size)) (sym asks)
     (subst (Enlarged code old table c.args.cell T v blocks content of s c.args.limit much c.request.new.w.bytes) is r)
@@ -73,7 +71,7 @@ returns-in-Some-New-clause-enlarges g c = λ T v blocks names s much.
     (λ large. enlarged_large code old table c.args.cell T v blocks content of s c.args.limit much c.request.new.w.bytes c.request.result c.buffer_of-block.result c.need-wanted.result c.need.result c.buffer_of-block.ensures large
     (wanted_large code old table c.args.cell T v blocks content of s c.args.limit much c.count-kept.result c.preferred.result c.need-wanted.result large c.count-kept.ensures c.preferred.ensures.doubled c.need-wanted.ensures.capped)
     (c.need.ensures.capped large) at_block no_block) (cases_lt (c.args.limit * content.entry.size) (2 ^ 32)) in
-    let asks = asks_once code old table c.args.cell T v blocks content of s c.args.limit much in
+    let asks = asks_once code old c.args.cell content.entry.size c.args.limit much in
     let is = c.in-Some-New.is ∙ ap (λ x. Some x) c.in-Some-New.field-0-is in
     let given = subst (Enlarged code old table c.args.cell T v blocks content of s c.args.limit much c.request.new.w.bytes) is r in
     let types_here = ap (λ (x : Stored). x.types) c.self.view_is in
@@ -100,7 +98,7 @@ returns-in-None-clause-enlarges_index g c = λ finds much.
     (λ large. index.index_enlarged_large code old table finds.2 c.args.limit more c.request.new.w.bytes c.request.result c.buffer_of-block.result c.need-wanted.result c.need.result block large
     (index.index_wanted_large code old table finds.2 c.args.limit more c.count-kept.result c.preferred.result c.need-wanted.result large kept c.preferred.ensures.doubled (rw finds.0.size_is at c.need-wanted.ensures.capped))
     ((rw finds.0.size_is at c.need.ensures.capped) large) at_block no_block) (cases_lt (c.args.limit * 8) (2 ^ 32)) in
-    let asks = index.index_asks_once code old table finds.2 c.args.limit more in
+    let asks = asks_once code old index_cell 8 c.args.limit more in
     subst (λ xs. Refuses code old c.request.new.w.bytes xs) (sym asks) (subst (index.Enlarged code old table finds.2 c.args.limit more c.request.new.w.bytes) c.in-None.is r)
 
 pub returns-in-Some-Same-clause-enlarges_index : goal.returns-in-Some-Same-clause-enlarges_index
@@ -121,7 +119,7 @@ returns-in-Some-Same-clause-enlarges_index g c = λ finds much.
     (λ large. index.index_enlarged_large code old table finds.2 c.args.limit more c.request.new.w.bytes c.request.result c.buffer_of-block.result c.need-wanted.result c.need.result block large
     (index.index_wanted_large code old table finds.2 c.args.limit more c.count-kept.result c.preferred.result c.need-wanted.result large kept c.preferred.ensures.doubled (rw finds.0.size_is at c.need-wanted.ensures.capped))
     ((rw finds.0.size_is at c.need.ensures.capped) large) at_block no_block) (cases_lt (c.args.limit * 8) (2 ^ 32)) in
-    let asks = index.index_asks_once code old table finds.2 c.args.limit more in
+    let asks = asks_once code old index_cell 8 c.args.limit more in
     let is = c.in-Some-Same.is ∙ ap (λ x. Some x) c.in-Some-Same.field-0-is in
     subst (λ xs. ReservesIndex code old c.request.new.w.bytes table xs (c.args.limit * 8)) (sym asks) (subst (index.Enlarged code old table finds.2 c.args.limit more c.request.new.w.bytes) is r)
 
@@ -143,7 +141,7 @@ returns-in-Some-New-clause-enlarges_index g c = λ finds much.
     (λ large. index.index_enlarged_large code old table finds.2 c.args.limit more c.request.new.w.bytes c.request.result c.buffer_of-block.result c.need-wanted.result c.need.result block large
     (index.index_wanted_large code old table finds.2 c.args.limit more c.count-kept.result c.preferred.result c.need-wanted.result large kept c.preferred.ensures.doubled (rw finds.0.size_is at c.need-wanted.ensures.capped))
     ((rw finds.0.size_is at c.need.ensures.capped) large) at_block no_block) (cases_lt (c.args.limit * 8) (2 ^ 32)) in
-    let asks = index.index_asks_once code old table finds.2 c.args.limit more in
+    let asks = asks_once code old index_cell 8 c.args.limit more in
     let is = c.in-Some-New.is ∙ ap (λ x. Some x) c.in-Some-New.field-0-is in
     let given = subst (index.Enlarged code old table finds.2 c.args.limit more c.request.new.w.bytes) is r in
     let types_here = ap (λ (x : Stored). x.types) c.self.view_is in

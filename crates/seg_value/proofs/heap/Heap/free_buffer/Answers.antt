@@ -1,14 +1,12 @@
 use Rattle.std.proofs.Common.{◌≡◌, ap, ◌∙◌, sym, Some, None}
 use Rattle.seg_spec.specs.Pointer.{target, set_pointer}
-use Rattle.seg_spec.specs.Window.{Placement, with_bytes}
+use Rattle.seg_spec.specs.Window.{with_bytes}
 use Rattle.seg_value.specs.Places.{object_at}
 use Rattle.seg_value.specs.Stored.{Stored}
 use Rattle.seg_value.proofs.Cutting.{left_alone, unnamed_heap, unnamed_is_live, given_up}
 use Rattle.seg_value.proofs.Named.{index_empty, unnamed_index_heap, unnamed_index_live, index_given_up}
+use Rattle.seg_spec.proofs.Placements.{bytes_of}
 use Rattle.seg_value.proofs.heap.Heap.free_buffer.Goals as goal
-
-bytes_of : (p q : Placement) → p ≡ q → p.bytes ≡ q.bytes
-bytes_of p q e = ap (λ (r : Placement). r.bytes) e
 
 pub returns-in_default-clause-frees : goal.returns-in_default-clause-frees
 returns-in_default-clause-frees g c = λ T form v blocks f b s empty.

@@ -7,7 +7,7 @@ use Rattle.seg_spec.specs.Reads.{count_at}
 use Rattle.seg_spec.specs.Spending.{buffer_asks}
 use Rattle.seg_spec.specs.Types.{Table, size}
 use Rattle.seg_spec.specs.Value.{Map}
-use Rattle.seg_spec.specs.Window.{Placement, with_bytes}
+use Rattle.seg_spec.specs.Window.{with_bytes}
 use Rattle.seg_value.specs.Buffers.{NamesBuffer}
 use Rattle.seg_value.specs.Contents.{ContentOf}
 use Rattle.seg_value.specs.Entries.{NamesFlatMap, OpensEntry}
@@ -18,10 +18,8 @@ use Rattle.seg_spec.specs.Spending.{entry_asks}
 use Rattle.seg_value.specs.Names.{index_cell, OpensName}
 use Rattle.seg_value.proofs.IndexGrows.{one_name_more}
 use Rattle.seg_value.proofs.Named.{name_opened_by}
+use Rattle.seg_spec.proofs.Placements.{bytes_of}
 use Rattle.seg_value.proofs.heap.Heap.open_entry.Goals as goal
-
-bytes_of : (p q : Placement) → p ≡ q → p.bytes ≡ q.bytes
-bytes_of p q e = ap (λ (r : Placement). r.bytes) e
 
 only_err : {X Y : Type 0} (r : Result X Y) (P : X → Type 0) (Q : Type 0) → IsErr r → Q → MatchResult r P (λ code. Q)
 only_err (Ok x) P Q e q = absurd (false≢true e)

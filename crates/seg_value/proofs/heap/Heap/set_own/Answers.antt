@@ -3,15 +3,13 @@ use Rattle.seg_spec.specs.Bytes.{set_word}
 use Rattle.seg_spec.specs.Pointer.{set_pointer}
 use Rattle.seg_spec.specs.Value.{Value, Empty, Full}
 use Rattle.seg_spec.specs.Owning.{Stands}
-use Rattle.seg_spec.specs.Window.{Placement, with_bytes}
+use Rattle.seg_spec.specs.Window.{with_bytes}
 use Rattle.seg_value.specs.Places.{place_of}
 use Rattle.seg_value.specs.Stored.{Stored}
 use Rattle.seg_value.proofs.Setting.{IsEmptied, own_cases, emptied_already, taken_emptied, own_set}
+use Rattle.seg_spec.proofs.Placements.{bytes_of}
 use Rattle.seg_value.proofs.heap.Heap.set_own.Goals as goal
 use Rattle.seg_value.proofs.heap.Heap.set_own.Goals.{in-Some, in_default}
-
-bytes_of : (p q : Placement) → p ≡ q → p.bytes ≡ q.bytes
-bytes_of p q e = ap (λ (r : Placement). r.bytes) e
 
 bytes_in : (s t : Stored) → s ≡ t → s.window.bytes ≡ t.window.bytes
 bytes_in s t e = ap (λ (r : Stored). r.window.bytes) e

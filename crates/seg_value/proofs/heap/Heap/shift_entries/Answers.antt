@@ -1,5 +1,5 @@
 use Rattle.std.proofs.Common.{◌≡◌, ℕ, ◌+◌, ◌*◌, ◌≤◌, ap, ◌∙◌, arith, subst}
-use Rattle.seg_spec.specs.Window.{Placement, with_bytes}
+use Rattle.seg_spec.specs.Window.{with_bytes}
 use Rattle.seg_spec.specs.Bytes.{slice, put}
 use Rattle.seg_spec.specs.Cells.{IsWithin, Shifts}
 use Rattle.seg_value.specs.declared.entry.Held.TheVariants as held
@@ -8,10 +8,8 @@ use Rattle.seg_value.specs.Pointers.{MovesPointers}
 use Rattle.seg_value.proofs.Pointers.{pointers_moved}
 use Rattle.seg_value.specs.Stored.{Stored}
 use Rattle.seg_value.proofs.Shifts.{shifts_by, raw_within}
+use Rattle.seg_spec.proofs.Placements.{bytes_of}
 use Rattle.seg_value.proofs.heap.Heap.shift_entries.Goals as goal
-
-bytes_of : (p q : Placement) → p ≡ q → p.bytes ≡ q.bytes
-bytes_of p q e = ap (λ (r : Placement). r.bytes) e
 
 pub returns-clause-text : goal.returns-clause-text
 returns-clause-text g c = subst (λ (s : Stored). c.args.entry.held ≡ held.Bytes →

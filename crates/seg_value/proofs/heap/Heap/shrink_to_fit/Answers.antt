@@ -1,13 +1,10 @@
 use Rattle.std.proofs.Common.{◌≡◌, ◌≤◌, ap, ◌∙◌, sym, Some, None, arith}
 use Rattle.seg_spec.specs.Pointer.{target}
-use Rattle.seg_spec.specs.Window.{Placement}
 use Rattle.seg_value.specs.Places.{place_of}
 use Rattle.seg_value.specs.Stored.{Stored}
 use Rattle.seg_value.proofs.Cutting.{left_alone, entry_bytes, cut_at}
+use Rattle.seg_spec.proofs.Placements.{bytes_of}
 use Rattle.seg_value.proofs.heap.Heap.shrink_to_fit.Goals as goal
-
-bytes_of : (p q : Placement) → p ≡ q → p.bytes ≡ q.bytes
-bytes_of p q e = ap (λ (r : Placement). r.bytes) e
 
 pub returns-in_default-target-clause-shrinks : goal.returns-in_default-target-clause-shrinks
 returns-in_default-target-clause-shrinks g c = λ form v blocks f b s.

@@ -1,14 +1,12 @@
 use Rattle.std.proofs.Common.{◌≡◌, ◌+◌, ◌≤◌, length, ap, ◌∙◌, subst, ℤ, w64, of_z, SFits}
 use Rattle.std.proofs.lemmas.Int.{to_z-of_z}
-use Rattle.seg_spec.specs.Window.{Placement, with_bytes}
+use Rattle.seg_spec.specs.Window.{with_bytes}
 use Rattle.seg_spec.specs.Bytes.{set_long, signed, signed_long, ChangesOnly}
 use Rattle.seg_spec.proofs.BytesLaws.{number-set_same}
 use Rattle.seg_spec.proofs.Writing.{set_number-changes}
 use Rattle.seg_value.specs.Stored.{Stored}
+use Rattle.seg_spec.proofs.Placements.{bytes_of}
 use Rattle.seg_value.proofs.heap.Heap.store.Goals as goal
-
-bytes_of : (p q : Placement) → p ≡ q → p.bytes ≡ q.bytes
-bytes_of p q e = ap (λ (r : Placement). r.bytes) e
 
 signed_back : (z : ℤ) → SFits w64 z → signed (of_z w64 z) ≡ z
 unfolding signed

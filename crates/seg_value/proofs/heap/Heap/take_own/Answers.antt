@@ -4,15 +4,13 @@ use Rattle.seg_spec.specs.Pointer.{set_pointer}
 use Rattle.seg_spec.specs.Types.{Form, form_at}
 use Rattle.seg_spec.specs.Value.{Value, Empty, Full}
 use Rattle.seg_spec.specs.Owning.{Stands}
-use Rattle.seg_spec.specs.Window.{Placement, with_bytes}
+use Rattle.seg_spec.specs.Window.{with_bytes}
 use Rattle.seg_spec.proofs.OwnSteps.{empty_own}
 use Rattle.seg_value.specs.Places.{place_of, TakesOwn}
 use Rattle.seg_value.specs.Stored.{Stored}
 use Rattle.seg_value.proofs.Owns.{full, own_taken}
+use Rattle.seg_spec.proofs.Placements.{bytes_of}
 use Rattle.seg_value.proofs.heap.Heap.take_own.Goals as goal
-
-bytes_of : (p q : Placement) → p ≡ q → p.bytes ≡ q.bytes
-bytes_of p q e = ap (λ (r : Placement). r.bytes) e
 
 pub returns-clause-empty : goal.returns-clause-empty
 returns-clause-empty g c = subst (λ (s : Stored). (allocator U : ℕ) (blocks : List ℕ) → form_at s.types c.args.own.type_id ≡ Some (Form.own U) →

@@ -1,11 +1,7 @@
-use Rattle.std.proofs.Common.{◌≡◌, ap}
-use Rattle.seg_spec.specs.Window.{Placement}
 use Rattle.seg_value.specs.Places.{object_at}
 use Rattle.seg_value.proofs.Uncoupling.{single, ring, buffer}
+use Rattle.seg_spec.proofs.Placements.{bytes_of}
 use Rattle.seg_value.proofs.heap.Heap.uncouple.Goals as goal
-
-bytes_of : (p q : Placement) → p ≡ q → p.bytes ≡ q.bytes
-bytes_of p q e = ap (λ (r : Placement). r.bytes) e
 
 pub returns-in-Buffer-clause-uncouples : goal.returns-in-Buffer-clause-uncouples
 returns-in-Buffer-clause-uncouples g c = λ allocator T v xs valid heap content named h fits.

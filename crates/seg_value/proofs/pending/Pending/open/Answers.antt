@@ -5,10 +5,8 @@ use Rattle.seg_spec.specs.Window.{Placement}
 use Rattle.seg_spec.proofs.Destruction.{same_adds}
 use Rattle.seg_value.specs.Contents.{OfBlock}
 use Rattle.seg_value.proofs.Opening.{parted, some_content, unread, links_fit, inside_links, all_added}
+use Rattle.seg_spec.proofs.Placements.{bytes_of}
 use Rattle.seg_value.proofs.pending.Pending.open.Goals as goal
-
-bytes_of : (p q : Placement) → p ≡ q → p.bytes ≡ q.bytes
-bytes_of p q e = ap (λ (r : Placement). r.bytes) e
 
 pub returns-in_default-clause-opened : goal.returns-in_default-clause-opened
 returns-in_default-clause-opened g c = λ xs goes allocator ys valid w fits.

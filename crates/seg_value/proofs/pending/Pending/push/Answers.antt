@@ -1,12 +1,10 @@
-use Rattle.std.proofs.Common.{◌≡◌, ◌+◌, ap}
+use Rattle.std.proofs.Common.{◌+◌}
 use Rattle.seg_spec.specs.Pointer.{set_pointer}
 use Rattle.seg_spec.specs.Block.{block_of}
-use Rattle.seg_spec.specs.Window.{Placement, with_bytes}
+use Rattle.seg_spec.specs.Window.{with_bytes}
 use Rattle.seg_spec.proofs.Destruction.{adds_pushed}
+use Rattle.seg_spec.proofs.Placements.{bytes_of}
 use Rattle.seg_value.proofs.pending.Pending.push.Goals as goal
-
-bytes_of : (p q : Placement) → p ≡ q → p.bytes ≡ q.bytes
-bytes_of p q e = ap (λ (r : Placement). r.bytes) e
 
 pub returns-clause-added : goal.returns-clause-added
 returns-clause-added g c = λ xs goes allocator ys valid w fits.

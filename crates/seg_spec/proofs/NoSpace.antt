@@ -5,15 +5,14 @@ use Rattle.std.specs.Option.{IfSome}
 use Rattle.std.specs.List.{AllByRecursion}
 use Rattle.seg_spec.specs.Heap.{Span, Tile, span_of, tiles, Fill, gaps_of, live, live_of, room_at, IsHeap, heap_start, Granted}
 use Rattle.seg_spec.specs.Demand.{Ask, after_ask, after_asks, blocks_then, NoRoom, IsDenied}
-use Rattle.seg_spec.proofs.TileLaws.{gaps_between-live_of}
+use Rattle.seg_spec.proofs.TileLaws.{Fill-le, gaps_between-live_of}
 use Rattle.seg_spec.proofs.WriteInside.{each_free_tile}
 use Rattle.seg_spec.proofs.NoGaps.{no_room}
 use Rattle.seg_spec.proofs.Frame.{each_weaker}
-use Rattle.seg_value.proofs.Header.{ends_after}
 
 sizes : (ts : List Tile) (from to : ℕ) → Fill from ts to → AllByRecursion (λ t. 16 * t.units ≤ to) ts
 sizes [] from to f = tt
-sizes (t ∷ ts) from to f = let e = ends_after ts (from + 16 * t.units) to f.2 in (omega arith, sizes ts (from + 16 * t.units) to f.2)
+sizes (t ∷ ts) from to f = let e = Fill-le ts (from + 16 * t.units) to f.2 in (omega arith, sizes ts (from + 16 * t.units) to f.2)
 
 each_live_tile : (P : Span → Type 0) (ts : List Tile) → AllByRecursion (λ t. P (span_of t)) ts → AllByRecursion P (live_of ts)
 each_live_tile P [] a = tt
