@@ -8,7 +8,7 @@ use Rattle.std.specs.declared.cmp.Ordering.TheVariants.{Greater}
 use Rattle.seg_spec.specs.Bytes.{signed_long}
 use Rattle.seg_spec.specs.Types.{Form, Table, form_at, size}
 use Rattle.seg_spec.specs.Value.{Label, Value, Values, Map, Selector, IsAscending}
-use Rattle.seg_spec.specs.Heap.{Span, live, heap_start, IsHeap, units_at}
+use Rattle.seg_spec.specs.Heap.{Span, live, heap_start, units_at}
 use Rattle.seg_spec.specs.Block.{IsBlock, Kind, tag_of, block_of}
 use Rattle.seg_spec.specs.Shapes.{Tree, nodes_of}
 use Rattle.seg_spec.specs.Search.{Ascend, IsSearchTree, first_where, reaches}
