@@ -14,3 +14,4 @@ pub mod Kept
 pub mod TreeEnters
 pub mod LookUps
 pub mod HeldNames
+pub mod HeldChanges
