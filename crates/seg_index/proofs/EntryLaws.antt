@@ -1,8 +1,8 @@
 -- Entries of the index as the code reads and writes them, against what the definitions say of them.
-use Rattle.std.proofs.Common.{◌≡◌, ◌≢◌, ℕ, ◌+◌, ◌-◌, ◌*◌, ◌/◌, ◌%◌, ◌^◌, ◌<◌, ◌≤◌, ◌⊎◌, inl, inr, List, [], ◌∷◌, length, take, drop, Option, Some, None, refl, sym, ap, ◌∙◌, subst, arith}
+use Rattle.std.proofs.Common.{◌≡◌, ◌≢◌, ℕ, ◌+◌, ◌-◌, ◌*◌, ◌/◌, ◌%◌, ◌^◌, ◌<◌, ◌≤◌, inl, List, [], ◌∷◌, length, Some, refl, sym, ap, ◌∙◌, subst, arith}
 use Rattle.seg_spec.specs.Bytes.{word, half, byte, slice, number, number_of, set_number, set_word, spelled, spelling, ChangesOnly}
 use Rattle.seg_spec.specs.Index.{Root, IsName, IsEntry}
-use Rattle.seg_spec.specs.Pointer.{target, set_pointer, distance}
+use Rattle.seg_spec.specs.Pointer.{set_pointer, distance}
 use Rattle.seg_spec.specs.Value.{count}
 use Rattle.std.specs.List.{AllByRecursion}
 use Rattle.seg_spec.specs.Types.{Table, IsTable}

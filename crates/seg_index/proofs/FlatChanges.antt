@@ -1,10 +1,10 @@
 -- A flat index as a root comes or goes.
-use Rattle.std.proofs.Common.{◌≡◌, ◌≢◌, ℕ, zero, suc, ◌+◌, ◌-◌, ◌*◌, ◌%◌, ◌^◌, ◌<◌, ◌≤◌, ◌⊎◌, inl, inr, true, false, List, [], ◌∷◌, ◌++◌, length, Option, Some, None, option_to_list, option_map, refl, sym, ap, ◌∙◌, subst, arith, length-append}
-use Rattle.std.specs.Prelude.{◌==◌, slice_get, if◌then◌else◌}
+use Rattle.std.proofs.Common.{◌≡◌, ◌≢◌, ℕ, zero, suc, ◌+◌, ◌-◌, ◌*◌, ◌<◌, ◌≤◌, inl, inr, true, false, List, [], ◌∷◌, ◌++◌, length, Option, Some, None, option_to_list, option_map, refl, sym, ap, ◌∙◌, subst, arith, length-append}
+use Rattle.std.specs.Prelude.{◌==◌, slice_get}
 use Rattle.std.proofs.lemmas.Bool.{cases_lt, cases_eq}
 use Rattle.std.proofs.lemmas.Bool.Decides.{nat_tests}
 use Rattle.seg_spec.specs.Bytes.{word, IsSame}
-use Rattle.seg_spec.specs.Header.{index_kind_word, index_cell, reserved, back_start, KeepsFront}
+use Rattle.seg_spec.specs.Header.{index_kind_word, index_cell}
 use Rattle.seg_spec.specs.Pointer.{target}
 use Rattle.seg_spec.specs.Types.{Table}
 use Rattle.seg_spec.specs.Heap.{Span, live}
@@ -23,7 +23,7 @@ use Rattle.seg_index.specs.Entries.{write_entry}
 use Rattle.seg_index.specs.Lists.{entry_of, PartedNames, FindsNamesOf, MayEnter, ChangesNames, EntersName, LeavesName}
 use Rattle.seg_index.proofs.EntryLaws.{entry_moved, entry_written, write_entry-changes}
 use Rattle.seg_index.proofs.RootOrder.{InOrder, order_with, order_without, get_append, get_front, get_below, missing_within}
-use Rattle.seg_index.proofs.FlatEntries.{Indexed, entries_of, flat_blocks, flat_length, flat_entry, flat_live, flat_finds, flat_order, object_lies}
+use Rattle.seg_index.proofs.FlatEntries.{Indexed, entries_of, flat_blocks, flat_length, flat_entry, flat_live, flat_order, object_lies}
 
 -- ---- one root more or less, by indices
 

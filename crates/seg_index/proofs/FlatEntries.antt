@@ -1,5 +1,5 @@
 -- The entries of a flat index, by their indices.
-use Rattle.std.proofs.Common.{◌≡◌, ◌≢◌, ℕ, zero, suc, ◌+◌, ◌-◌, ◌*◌, ◌%◌, ◌^◌, ◌<◌, ◌≤◌, List, [], ◌∷◌, length, Option, Some, None, Result, Ok, MatchResult, min, IfOk, IfErr, refl, sym, ap, ◌∙◌, subst, arith}
+use Rattle.std.proofs.Common.{◌≡◌, ℕ, zero, suc, ◌+◌, ◌-◌, ◌*◌, ◌%◌, ◌^◌, ◌<◌, ◌≤◌, List, [], ◌∷◌, length, Option, Some, None, Result, Ok, MatchResult, min, IfOk, IfErr, refl, sym, ap, ◌∙◌, subst, arith}
 use Rattle.std.specs.Prelude.{slice_get, option_map}
 use Rattle.std.specs.Cmp.Lexicographic.{slice_cmp}
 use Rattle.std.specs.Ordering.{nat_cmp}
@@ -11,16 +11,16 @@ use Rattle.seg_spec.specs.Header.{index_kind_word, index_cell, heap_start}
 use Rattle.seg_spec.specs.Pointer.{target}
 use Rattle.seg_spec.specs.Types.{Table}
 use Rattle.seg_spec.specs.Heap.{live}
-use Rattle.seg_spec.specs.Block.{Kind, tag_of, block_of, IsBlock}
+use Rattle.seg_spec.specs.Block.{Kind, tag_of, block_of}
 use Rattle.seg_spec.specs.Reads.{count_at, named, start, spaced, NamesRoom}
-use Rattle.seg_spec.specs.Index.{Root, Index, OpensIndex, OpensFlat, IsEntry, AreEntries, ListsNames}
+use Rattle.seg_spec.specs.Index.{Root, Index, OpensIndex, OpensFlat, IsEntry, AreEntries}
 use Rattle.seg_spec.specs.Sound.{times, positions}
 use Rattle.seg_spec.proofs.Leading.{each_at}
 use Rattle.seg_spec.proofs.LiveLaws.{there, LiesIn, live-lie}
 use Rattle.seg_value.specs.Search.{IsBetween}
 use Rattle.seg_value.specs.Names.{FindsNames}
 use Rattle.seg_value.proofs.Named.{name_block, name_room}
-use Rattle.seg_index.specs.Names.{name_of, name_at}
+use Rattle.seg_index.specs.Names.{name_at}
 use Rattle.seg_index.specs.Entries.{entry_read}
 use Rattle.seg_index.specs.Lists.{entry_of, root_after, PartedNames, IsNamed, FindsNamesOf}
 use Rattle.seg_index.specs.declared.entry.NameEntry.{NameEntry}

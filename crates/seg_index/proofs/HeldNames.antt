@@ -1,14 +1,14 @@
 -- What calls on the index find: in an image, and again after a call on the index.
-use Rattle.std.proofs.Common.{◌≡◌, ℕ, ◌+◌, ◌*◌, ◌≤◌, List, [], ◌∷◌, ◌++◌, length, refl, sym, ap, ◌∙◌, subst, arith}
+use Rattle.std.proofs.Common.{◌≡◌, ℕ, ◌+◌, ◌*◌, ◌≤◌, List, [], ◌∷◌, ◌++◌, length, refl, sym, ◌∙◌, subst, arith}
 use Rattle.std.specs.List.{AllByRecursion}
-use Rattle.seg_spec.specs.Bytes.{word, slice, IsSame}
+use Rattle.seg_spec.specs.Bytes.{word, IsSame}
 use Rattle.seg_spec.specs.Header.{allocator_word, index_kind_word}
 use Rattle.seg_spec.specs.Types.{Table, size}
 use Rattle.seg_spec.specs.Value.{count}
 use Rattle.seg_spec.specs.Heap.{Span, live}
 use Rattle.seg_spec.specs.Block.{Kind, tag_of, block_of, IsBlock}
 use Rattle.seg_spec.specs.Index.{Root, IsName, AreEntries}
-use Rattle.seg_spec.specs.Sound.{Picture, kind_by_name, HoldsRoot, HoldsRoots, holds_more_roots, IsHeld, times, positions}
+use Rattle.seg_spec.specs.Sound.{Picture, kind_by_name, HoldsRoots, holds_more_roots, IsHeld, times, positions}
 use Rattle.seg_spec.proofs.SliceLaws.{IsSame-part}
 use Rattle.seg_spec.proofs.Frame.{word-same, IsBlock-kept, payload-same, each_weaker, each_left, each_right}
 use Rattle.seg_spec.proofs.LiveLaws.{live-once, times-append, times-same}
@@ -43,12 +43,17 @@ module _ (bytes : List ℕ) (table : Table) (index_blocks : List ℕ) where
   each_named [] rest blocks h are own = tt
   each_named (r ∷ names) rest _ (holds_more_roots {blocks = mine} {rest = others} h hs) are own =
       let its : 1 ≤ times (block_of r.at) mine = subst (λ bs. 1 ≤ times (block_of r.at) bs) (sym h.blocks_are) (omega (arith, times-same (block_of r.at) h.inside)) in
-      let here = own (block_of r.at) (omega (arith, times-append (block_of r.at) mine others)) in
-      ((record {
-        block = subst (λ kind. IsBlock bytes r.at (tag_of kind r.type) (count r.values * size table r.type + length r.name)) (named_kind r.name are.0.not_empty) h.block;
-        name_is = h.name_is;
-        is_live = here.0;
-      }, here.1), each_named names rest others hs are.1 (λ k some. own k (omega (arith, times-append k mine others))))
+      let here = own (block_of r.at) (omega (arith, times-append (block_of r.at) mine others)) in (
+        (
+          record {
+            block = subst (λ kind. IsBlock bytes r.at (tag_of kind r.type) (count r.values * size table r.type + length r.name)) (named_kind r.name are.0.not_empty) h.block;
+            name_is = h.name_is;
+            is_live = here.0;
+          },
+          here.1,
+        ),
+        each_named names rest others hs are.1 (λ k some. own k (omega (arith, times-append k mine others))),
+      )
 
 pub finds_held : (bytes : List ℕ) (picture : Picture) (held : IsHeld bytes picture) → FindsNamesOf (word bytes allocator_word) bytes picture.table picture.names held.index_blocks
 finds_held bytes picture held =
@@ -83,15 +88,17 @@ module _ (allocator : ℕ) (old : List ℕ) (table : Table) (names : List Root) 
         let size_is = count r.values * size table r.type in
         let tag = tag_of Kind.named r.type in
         let same : IsSame old new (r.at + size_is) (length r.name) =
-            IsSame-part old new r.at (size_is + length r.name) (r.at + size_is) (length r.name) (omega arith) (omega arith) (payload-same old new r.at tag (size_is + length r.name) k o.0.block) in
+        IsSame-part old new r.at (size_is + length r.name) (r.at + size_is) (length r.name) (omega arith) (omega arith) (payload-same old new r.at tag (size_is + length r.name) k o.0.block) in
         let were = c.live_are (block_of r.at) in
         let once = live-once new (word old allocator_word) c.heap (block_of r.at) in
-        let was_live = o.0.is_live in
-        (record {
-          block = IsBlock-kept old new r.at tag (size_is + length r.name) k o.0.block;
-          name_is = same ∙ o.0.name_is;
-          is_live = omega (arith, o.1);
-        }, omega (arith, o.1))
+        let was_live = o.0.is_live in (
+          record {
+            block = IsBlock-kept old new r.at tag (size_is + length r.name) k o.0.block;
+            name_is = same ∙ o.0.name_is;
+            is_live = omega (arith, o.1);
+          },
+          omega (arith, o.1),
+        )
 
     pub finds_after : Beside roots → FindsNamesOf allocator new table roots others
     finds_after beside = record {

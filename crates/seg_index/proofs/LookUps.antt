@@ -6,7 +6,7 @@ use Rattle.seg_spec.specs.Header.{index_kind_word}
 use Rattle.seg_spec.specs.Types.{Table}
 use Rattle.seg_spec.specs.Index.{Root, same_name, root_named}
 use Rattle.seg_rbtree.specs.declared.path.Path.{Path}
-use Rattle.seg_index.specs.Lists.{entry_of, PartedNames, LeadsToName, IsSpot, LooksUp, IsOccupied}
+use Rattle.seg_index.specs.Lists.{entry_of, LeadsToName, IsSpot, LooksUp, IsOccupied}
 use Rattle.seg_index.specs.declared.entry.NameEntry.{NameEntry}
 use Rattle.seg_index.specs.declared.kind.IndexKind.{IndexKind}
 use Rattle.seg_index.specs.declared.kind.IndexKind.TheVariants.{Flat, Tree}
@@ -52,8 +52,11 @@ module _ (bytes : List ℕ) (table : Table) (names : List Root) (name : List ℕ
       go : (o : Option Root) → root_named names name ≡ o → MatchOption o ((found ≡ None) × IsAt []) (λ root. (found ≡ Some (entry_of root)) × IsAt (root ∷ []))
           → (root : Root) × IsOccupied bytes table names name root (record { spot = it.0; entry = entry })
       go None named m = absurd (let none = m.0 in let some_is = found_is in cc)
-      go (Some root) named m = (root, record {
-        found = named;
-        entry_is = (let first = m.0 in let some_is = found_is in cc);
-        spot = subst (IsSpot bytes table names name (root ∷ [])) (sym (ap (λ (p : Spot × Option NameEntry). p.0) e)) (is_spot (root ∷ []) m.1);
-      })
+      go (Some root) named m = (
+        root,
+        record {
+          found = named;
+          entry_is = (let first = m.0 in let some_is = found_is in cc);
+          spot = subst (IsSpot bytes table names name (root ∷ [])) (sym (ap (λ (p : Spot × Option NameEntry). p.0) e)) (is_spot (root ∷ []) m.1);
+        },
+      )
