@@ -6,5 +6,10 @@ pub mod RootOrder
 pub mod FlatEntries
 pub mod FlatChanges
 pub mod TreeLists
+pub mod Relinked
+pub mod TreeChanges
+pub mod TreeRemoves
+pub mod Kept
+pub mod TreeEnters
 pub mod LookUps
 pub mod HeldNames

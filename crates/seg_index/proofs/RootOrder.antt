@@ -162,7 +162,7 @@ not_past_same name other e = comes_false name other (λ k. precedes_differs name
 
 -- ---- what the definitions say of such names
 
-named_past : (xs ys : List Root) (name : List ℕ) → AllBefore name xs → root_named (xs ++ ys) name ≡ root_named ys name
+pub named_past : (xs ys : List Root) (name : List ℕ) → AllBefore name xs → root_named (xs ++ ys) name ≡ root_named ys name
 named_past [] ys name all = refl
 named_past (x ∷ xs) ys name all = rw (precedes_test_back x.name name all.0) (named_past xs ys name all.1)
 

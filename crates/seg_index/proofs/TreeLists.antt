@@ -1,5 +1,5 @@
 -- The tree of the index with the names that it lists, as the calls on nodes see it.
-use Rattle.std.proofs.Common.{◌≡◌, ◌≢◌, ℕ, zero, suc, ◌+◌, ◌*◌, ◌-◌, ◌^◌, ◌<◌, ◌≤◌, Bool, true, false, cond, List, [], ◌∷◌, ◌++◌, length, map, Option, Some, None, MatchOption, option_map, refl, sym, ap, ◌∙◌, subst, arith}
+use Rattle.std.proofs.Common.{◌≡◌, ℕ, ◌+◌, ◌*◌, ◌≤◌, Bool, true, false, cond, List, [], ◌∷◌, length, map, Option, Some, None, MatchOption, option_map, refl, sym, ap, ◌∙◌, subst, arith}
 use Rattle.std.specs.Prelude.{⊤, slice_get}
 use Rattle.std.proofs.lemmas.List.{length-map}
 use Rattle.std.specs.List.{AllByRecursion}
@@ -9,16 +9,14 @@ use Rattle.std.specs.declared.cmp.Ordering.{Ordering}
 use Rattle.std.specs.declared.cmp.Ordering.TheVariants.{Less, Equal, Greater}
 use Rattle.seg_spec.specs.Bytes.{word}
 use Rattle.seg_spec.specs.Header.{index_kind_word, index_cell, heap_start}
-use Rattle.seg_spec.specs.Pointer.{target}
 use Rattle.seg_spec.specs.Types.{Table}
-use Rattle.seg_spec.specs.Heap.{Span, live, units_at}
+use Rattle.seg_spec.specs.Heap.{Span, live}
 use Rattle.seg_spec.specs.Block.{Kind, tag_of, block_of, IsBlock}
 use Rattle.seg_spec.specs.Shapes.{Tree, nodes_of}
 use Rattle.seg_spec.specs.Search.{Ascend, IsSearchTree, first_where, reaches}
 use Rattle.seg_spec.specs.Reads.{AreNodes}
 use Rattle.seg_spec.specs.Index.{Root, Index, OpensIndex, OpensTreeIndex, IsEntry, AreEntries, root_named, same_name}
 use Rattle.seg_spec.specs.Sound.{times, positions}
-use Rattle.seg_spec.proofs.Frame.{each_weaker}
 use Rattle.seg_spec.proofs.LiveLaws.{times-same, times-more, there, LiesIn, live-lie}
 use Rattle.seg_spec.proofs.FewBlocks.{no_more, few_live}
 use Rattle.seg_rbtree.specs.declared.path.Path.{Path}
@@ -115,11 +113,10 @@ module _ (bytes : List ℕ) (table : Table) where
   pub ascend_listed : (xs : List ℕ) (rs : List Root) → AreListed bytes table xs rs → InOrder rs → Ascend order xs
   ascend_listed [] rs h a = tt
   ascend_listed (x ∷ xs) [] h a = absurd h
-  ascend_listed (x ∷ xs) (r ∷ rs) h a =
-      (
-        subst (λ n. AllByRecursion (λ y. slice_cmp nat_cmp n (name_at table bytes (y + 16)) ≡ Less) xs) (sym h.0.name_is) (all_above r.name xs rs h.1 (order_head r rs a)),
-        ascend_listed xs rs h.1 (order_tail r rs a),
-      )
+  ascend_listed (x ∷ xs) (r ∷ rs) h a = (
+    subst (λ n. AllByRecursion (λ y. slice_cmp nat_cmp n (name_at table bytes (y + 16)) ≡ Less) xs) (sym h.0.name_is) (all_above r.name xs rs h.1 (order_head r rs a)),
+    ascend_listed xs rs h.1 (order_tail r rs a),
+  )
 
 -- ---- the tree that calls find
 
@@ -170,8 +167,7 @@ module _ (allocator : ℕ) (bytes : List ℕ) (table : Table) (names : List Root
   listed_by (x ∷ xs) (r ∷ rs) es ns named =
       let end = ns.0.end in
       let fits : x + 16 + 8 ≤ length bytes = omega arith in
-      let small = type_small bytes table r s.is_table s.ownable named.0.0 in
-      (
+      let small = type_small bytes table r s.is_table s.ownable named.0.0 in (
         record { entry = es.0; read_is = entry_reads bytes (x + 16) r es.0 fits; name_is = name_reads bytes table r small named.0.0 (x + 16) es.0 fits },
         listed_by xs rs es.1 ns.1 named.1,
       )
@@ -206,14 +202,14 @@ module _ (allocator : ℕ) (bytes : List ℕ) (table : Table) (names : List Root
         → o ≡ first_where (λ x. is_eq (slice_cmp nat_cmp (name_at here now (x + 16)) name)) (nodes_of tree)) → option_map (entry_in bytes table) o ≡ option_map entry_of (root_named names name)
     found_is name o e =
         let found_there : o ≡ first_where (λ x. is_eq (slice_cmp nat_cmp (name_at table bytes (x + 16)) name)) nodes =
-            e shape there_too in_order ∙ ap (λ bs. first_where (λ x. is_eq (slice_cmp nat_cmp (name_at here bs (x + 16)) name)) nodes) same ∙ ap (λ t. first_where (λ x. is_eq (slice_cmp nat_cmp (name_at t bytes (x + 16)) name)) nodes) table_is in
+        e shape there_too in_order ∙ ap (λ bs. first_where (λ x. is_eq (slice_cmp nat_cmp (name_at here bs (x + 16)) name)) nodes) same ∙ ap (λ t. first_where (λ x. is_eq (slice_cmp nat_cmp (name_at t bytes (x + 16)) name)) nodes) table_is in
         ap (option_map (entry_in bytes table)) found_there ∙ found_listed bytes table name nodes names listed
 
     pub next_is : (name : List ℕ) (o : Option ℕ) → ((tree : Tree) → IsSearchTree now root tree → Ascend (order now here) (nodes_of tree)
         → o ≡ first_where (λ x. reaches Greater (slice_cmp nat_cmp (name_at here now (x + 16)) name)) (nodes_of tree)) → option_map (entry_in bytes table) o ≡ option_map entry_of (root_after names name)
     next_is name o e =
         let found_there : o ≡ first_where (λ x. reaches Greater (slice_cmp nat_cmp (name_at table bytes (x + 16)) name)) nodes =
-            e shape there_too in_order ∙ ap (λ bs. first_where (λ x. reaches Greater (slice_cmp nat_cmp (name_at here bs (x + 16)) name)) nodes) same ∙ ap (λ t. first_where (λ x. reaches Greater (slice_cmp nat_cmp (name_at t bytes (x + 16)) name)) nodes) table_is in
+        e shape there_too in_order ∙ ap (λ bs. first_where (λ x. reaches Greater (slice_cmp nat_cmp (name_at here bs (x + 16)) name)) nodes) same ∙ ap (λ t. first_where (λ x. reaches Greater (slice_cmp nat_cmp (name_at t bytes (x + 16)) name)) nodes) table_is in
         ap (option_map (entry_in bytes table)) found_there ∙ next_listed bytes table name nodes names listed
 
     -- what the way down to a name found

@@ -1,4 +1,4 @@
-use Rattle.std.proofs.Common.{◌∷◌, [], ap, ◌∙◌, sym, subst, Some}
+use Rattle.std.proofs.Common.{◌∷◌, [], ap, ◌∙◌, sym, subst}
 use Rattle.seg_spec.specs.Index.{root_named}
 use Rattle.seg_index.specs.Lists.{LeadsToName}
 use Rattle.seg_index.proofs.LookUps.{root_of_name, tree_spot}
