@@ -5,7 +5,6 @@ pub mod EntryLaws
 pub mod RootOrder
 pub mod FlatEntries
 pub mod FlatChanges
-pub mod Results
 pub mod TreeLists
 pub mod Relinked
 pub mod TreeChanges

@@ -1,5 +1,7 @@
-ghost use Rattle.std.specs.Prelude.{◌≡◌};
+ghost use Rattle.std.specs.Prelude.{◌≡◌, ◌<◌, false, length, IsTrue, MatchResult, Some, None};
 ghost use Rattle.seg_spec.specs.Window.{KeepsHost};
+ghost use Rattle.seg_spec.specs.Sound.{Picture};
+ghost use Rattle.seg_manager.specs.Segments.{IsSegment, unique_at, MakesUnique, FindsOrMakes, RefusesUnique, LosesUnique};
 
 use crate::segment::Segment;
 use seg_block::Fit;
@@ -15,6 +17,10 @@ impl<F: Fit, A: Allocator> Segment<F, A> {
     pub fn construct_unique(&mut self, t: TypeId) -> Result<u32, Code>
         ensures window { KeepsHost self.old.window self.new.window }
         ensures types { self.new.types ≡ self.old.types }
+        ensures makes { (picture : Picture) → IsSegment F.allocator self.old picture →
+            t < length self.old.types → MatchResult result
+            (MakesUnique F.allocator self.old self.new picture t)
+            (RefusesUnique F.allocator self.old self.new picture t) }
     {
         if unique(self.window(), t).is_some() {
             return Err(Code::AlreadyExists);
@@ -25,7 +31,11 @@ impl<F: Fit, A: Allocator> Segment<F, A> {
     }
 
     /// The position of the unique object of a type. `Absent` where there is none.
-    pub fn find_unique(&self, t: TypeId) -> Result<u32, Code> {
+    pub fn find_unique(&self, t: TypeId) -> Result<u32, Code>
+        ensures { (picture : Picture) → IsSegment F.allocator self.now picture → t < MAX_TYPES →
+            MatchResult result (λ at. unique_at picture t ≡ Some at)
+            (λ code. (code ≡ Code.Absent) × (unique_at picture t ≡ None)) }
+    {
         unique(self.window(), t).ok_or(Code::Absent)
     }
 
@@ -33,6 +43,11 @@ impl<F: Fit, A: Allocator> Segment<F, A> {
     pub fn find_or_construct_unique(&mut self, t: TypeId) -> Result<u32, Code>
         ensures window { KeepsHost self.old.window self.new.window }
         ensures types { self.new.types ≡ self.old.types }
+        ensures makes { (picture : Picture) → IsSegment F.allocator self.old picture →
+            t < length self.old.types → MatchResult result
+            (FindsOrMakes F.allocator self.old self.new picture t)
+            (λ code. (code ≡ Code.BadAlloc)
+            × RefusesUnique F.allocator self.old self.new picture t code) }
     {
         match unique(self.window(), t) {
             Some(object) => Ok(object),
@@ -44,6 +59,11 @@ impl<F: Fit, A: Allocator> Segment<F, A> {
     pub fn destroy_unique(&mut self, t: TypeId) -> bool
         ensures window { KeepsHost self.old.window self.new.window }
         ensures types { self.new.types ≡ self.old.types }
+        ensures loses { (picture : Picture) → IsSegment F.allocator self.old picture →
+            t < MAX_TYPES → IsTrue result → LosesUnique F.allocator self.old self.new picture t }
+        ensures none { (picture : Picture) → IsSegment F.allocator self.old picture →
+            t < MAX_TYPES → result ≡ false → unique_at picture t ≡ None }
+        ensures unchanged { result ≡ false → self.new ≡ self.old }
     {
         let Some(object) = unique(self.window(), t) else {
             return false;

@@ -1,0 +1,22 @@
+-- What an option or a result is, from the tests that a call makes.
+use Rattle.std.proofs.Common.{◌≡◌, ℕ, true, false, Option, Some, None, Result, Ok, Err, MatchResult, refl, sym, subst, ◌∙◌}
+use Rattle.std.specs.Option.{is_some, IsSome}
+use Rattle.std.specs.Result.{IsErr, IsErrAnd}
+use Rattle.std.proofs.lemmas.Bool.{false≢true, true≢false}
+
+pub some_is : (o : Option ℕ) → is_some o ≡ true → IsSome o
+some_is None e = absurd (false≢true e)
+some_is (Some x) e = refl
+
+pub none_is : (o : Option ℕ) → is_some o ≡ false → o ≡ None
+none_is None e = refl
+none_is (Some x) e = absurd (true≢false e)
+
+-- an error that was handed on
+pub handed_on : {X E : Type 0} (r : Result X E) (d e : E) (P : X → Type 0) (Q : E → Type 0) → IsErr r → IsErrAnd r (λ f. f ≡ d) → d ≡ e → Q e → MatchResult r P Q
+handed_on (Ok x) d e P Q i a is q = absurd (false≢true i)
+handed_on (Err f) d e P Q i a is q = subst Q (sym (a ∙ is)) q
+
+pub by_result : {X E : Type 0} (P Q : X → Type 0) (R S : E → Type 0) (r : Result X E) → ((x : X) → P x → Q x) → ((e : E) → R e → S e) → MatchResult r P R → MatchResult r Q S
+by_result P Q R S (Ok x) f k m = f x m
+by_result P Q R S (Err e) f k m = k e m

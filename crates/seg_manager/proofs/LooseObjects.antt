@@ -1,0 +1,235 @@
+-- An object joins the loose ones of a segment, or leaves them.
+use Rattle.std.proofs.Common.{◌≡◌, ◌≢◌, ℕ, zero, suc, ◌+◌, ◌*◌, ◌<◌, ◌≤◌, ◌⊎◌, inl, inr, List, [], ◌∷◌, ◌++◌, length, Some, None, refl, sym, ap, ◌∙◌, subst, arith, append-nil}
+use Rattle.std.proofs.lemmas.Bool.{cases_eq}
+use Rattle.std.specs.List.{AllByRecursion}
+use Rattle.seg_spec.specs.Bytes.{word, slice}
+use Rattle.seg_spec.specs.Header.{allocator_word, free_word, KeepsFront}
+use Rattle.seg_spec.specs.Types.{Table, IsTable, size}
+use Rattle.seg_spec.specs.Value.{Value, nil, cons, default_of}
+use Rattle.seg_spec.specs.Heap.{live, IsHeap}
+use Rattle.seg_spec.specs.Block.{Kind, tag_of, IsOwnable, IsBlock, block_of}
+use Rattle.seg_spec.specs.Reads.{Place, Holds, HoldsEach, holds_none, holds_more, items}
+use Rattle.seg_spec.specs.Index.{Root}
+use Rattle.seg_spec.specs.Sound.{Picture, IsPlain, HoldsRoot, HoldsRoots, IsHeld, times, positions}
+use Rattle.seg_spec.specs.Roots.{loose, with_roots}
+use Rattle.seg_spec.specs.Demand.{need}
+use Rattle.seg_spec.specs.Calls.{IsLoose}
+use Rattle.seg_spec.specs.Destroying.{Frees}
+use Rattle.seg_spec.proofs.SliceLaws.{IsSame-part}
+use Rattle.seg_spec.proofs.Frame.{word-same}
+use Rattle.seg_spec.proofs.LiveLaws.{times-same, times-other}
+use Rattle.seg_spec.proofs.Standing.{each_live_at, live_at, ownable_linked}
+use Rattle.seg_spec.proofs.RootLaws.{HoldsRoots-one, HoldsRoots-only}
+use Rattle.seg_value.specs.Contents.{GivesBlock}
+use Rattle.seg_value.specs.Stored.{Stored}
+use Rattle.seg_manager.specs.Segments.{IsSegment, Becomes, new_root, MakesLoose, LosesLoose}
+use Rattle.seg_manager.proofs.LooseRoots.{Trades, its, holds_its, its_live, loose_traded}
+use Rattle.seg_manager.proofs.OneRequest.{spent_one, counts_one}
+
+pub allocator_same : (old new : List ℕ) → KeepsFront old new → word new allocator_word ≡ word old allocator_word
+allocator_same old new front = word-same old new allocator_word (IsSame-part old new 0 free_word allocator_word 4 (omega arith) (omega arith) front)
+
+-- ---- a root of one value without a name
+
+no_bytes : (bytes : List ℕ) (at : ℕ) → slice bytes at 0 ≡ []
+unfolding slice
+no_bytes bytes at = refl
+
+one_root : (bytes : List ℕ) (table : Table) (T at : ℕ) (v : Value) (inside : List ℕ) → IsBlock bytes at (tag_of Kind.object T) (size table T) → Holds bytes table (record { at = at; type = T }) v inside
+    → HoldsRoot bytes table (record { name = []; at = at; type = T; values = cons v nil }) (block_of at ∷ inside)
+one_root bytes table T at v inside block held =
+    let sized : 1 * size table T + 0 ≡ size table T = omega arith in
+    record {
+      block = rw sized block;
+      name_is = no_bytes bytes (at + 1 * size table T);
+      inside = inside;
+      values = subst (λ bs. HoldsEach bytes table (items table at T 1) (cons v nil) bs) (append-nil inside) (holds_more held holds_none);
+      blocks_are = refl;
+    }
+
+-- ---- it comes
+
+module _ (allocator : ℕ) (old new : Stored) (picture : Picture) (is : IsSegment allocator old picture) (T at : ℕ) (below : T < length old.types) (same : new.types ≡ old.types)
+    (given : GivesBlock allocator old.window.bytes new.window.bytes old.types (tag_of Kind.object T) 0 T at) where
+  abbrev a : List ℕ
+  a = old.window.bytes
+
+  abbrev b : List ℕ
+  b = new.window.bytes
+
+  table_is : old.types ≡ picture.table
+  table_is = is.table_is
+
+  counts : (h : ℕ) → times h (positions (live b)) ≡ times h (block_of at ∷ positions (live a))
+  counts h = counts_one allocator (live a) (live b) (length a) (need (0 + size old.types T)) given.granted_is (block_of at) given.was_free given.now_live h
+
+  ownable_at : (h : ℕ) → 1 ≤ times h (positions (live b)) → IsOwnable b picture.table h
+  ownable_at h some = go (cases_eq (block_of at) h)
+    where
+      go : (block_of at ≡ h) ⊎ (block_of at ≢ h) → IsOwnable b picture.table h
+      go (inl e) = subst (λ x. IsOwnable b picture.table x) e (record {
+        kind = Kind.object;
+        type = T;
+        allowed = rw (← table_is) below;
+        tag_is = given.is_block.has_tag;
+        link_is = given.link_is;
+      })
+      go (inr other) =
+          let c = counts h in
+          let t = times-other h (block_of at) (positions (live a)) other in
+          let some_old : 1 ≤ times h (positions (live a)) = omega arith in
+          let k = given.kept h some_old in
+          let o = live_at (IsOwnable a picture.table) (live a) h is.held.laid_out.blocks some_old in
+          record { kind = o.kind; type = o.type; allowed = o.allowed; tag_is = k.0.has_tag ∙ o.tag_is; link_is = k.1 ∙ o.link_is }
+
+  sized : 0 + size old.types T ≡ size old.types T
+  sized = omega arith
+
+  root : HoldsRoot b picture.table (new_root old.types [] T 1 at) (block_of at ∷ [])
+  root = subst (λ t. HoldsRoot b t (new_root old.types [] T 1 at) (block_of at ∷ [])) table_is (one_root b old.types T at (default_of old.types T) [] (rw sized at given.is_block) (rw (Rattle.std.proofs.Common.add-zero at) at given.value))
+
+  module _ (before after : List Root) (split : picture.loose ≡ before ++ after) where
+    none_go : HoldsRoots a picture.table [] (its a b picture is.held before [] after split)
+    none_go = holds_its a b picture is.held before [] after split
+
+    no_blocks : (xs : List ℕ) → HoldsRoots a picture.table [] xs → (h : ℕ) → times h xs ≡ 0
+    no_blocks [] h k = refl
+    no_blocks (x ∷ xs) h k = elim h [ ]
+
+    trades : Trades a b picture (its a b picture is.held before [] after split) (block_of at ∷ [])
+    trades = record {
+      length_kept = given.length_kept;
+      front_kept = given.front_kept;
+      back_kept = given.back_kept;
+      heap = rw is.allocator_is given.heap;
+      ownable = each_live_at (IsOwnable b picture.table) (live b) ownable_at;
+      kept = λ h some none. (given.kept h some).0;
+      counts = λ h.
+          let c = counts h in
+          let n = no_blocks (its a b picture is.held before [] after split) none_go h in
+          omega arith;
+    }
+
+    pub joined : Becomes allocator old new (with_roots picture loose (before ++ new_root old.types [] T 1 at ∷ after)) []
+    joined = record {
+      segment = record {
+        held = loose_traded a b picture is.held before [] after split (new_root old.types [] T 1 at ∷ []) (block_of at ∷ []) trades (HoldsRoots-one b picture.table root)
+            (record { no_name = refl; value = default_of old.types T; values_are = refl }, tt);
+        table_is = same ∙ table_is;
+        allocator_is = allocator_same a b given.front_kept ∙ is.allocator_is;
+      };
+      length_kept = given.length_kept;
+      front_kept = given.front_kept;
+      kept = λ h some none. (given.kept h some).0;
+    }
+
+  pub made : MakesLoose allocator old new picture T at
+  made = record {
+    spends = rw sized at (spent_one allocator (live a) (live b) (length a) (need (0 + size old.types T)) given.granted_is);
+    joins = joined;
+  }
+
+-- ---- it goes
+
+module _ (allocator : ℕ) (old new : Stored) (picture : Picture) (is : IsSegment allocator old picture) (before : List Root) (root : Root) (after : List Root) (split : picture.loose ≡ before ++ root ∷ after)
+    (same : new.types ≡ old.types) where
+  abbrev a' : List ℕ
+  a' = old.window.bytes
+
+  abbrev b' : List ℕ
+  b' = new.window.bytes
+
+  abbrev blocks : List ℕ
+  blocks = its a' b' picture is.held before (root ∷ []) after split
+
+  holds_it : HoldsRoot a' picture.table root blocks
+  holds_it = HoldsRoots-only a' picture.table root blocks (holds_its a' b' picture is.held before (root ∷ []) after split)
+
+  middle : (rs : List Root) → AllByRecursion IsPlain (rs ++ root ∷ after) → IsPlain root
+  middle [] p = p.0
+  middle (r ∷ rs) p = middle rs p.1
+
+  plain_in : (us : List Root) → AllByRecursion IsPlain (us ++ picture.loose) → IsPlain root
+  plain_in [] p = middle before (subst (λ rs. AllByRecursion IsPlain rs) split p)
+  plain_in (u ∷ us) p = plain_in us p.1
+
+  plain : IsPlain root
+  plain = plain_in picture.uniques is.held.laid_out.plain
+
+  -- a value by itself
+  record OneValue : Type 0 where
+    inside : List ℕ
+    blocks_are : blocks ≡ block_of root.at ∷ inside
+    block : IsBlock a' root.at (tag_of Kind.object root.type) (size picture.table root.type)
+    holds_value : Holds a' picture.table (record { at = root.at; type = root.type }) plain.value inside
+
+  only_value : (table : Table) (place : Place) (v : Value) (xs : List ℕ) → HoldsEach a' table (place ∷ []) (cons v nil) xs → Holds a' table place v xs
+  only_value table place v xs (holds_more {blocks = mine} h holds_none) = rw (append-nil mine) h
+
+  one_value_in : (r : Root) (v : Value) → r.name ≡ [] → r.values ≡ cons v nil → (h : HoldsRoot a' picture.table r blocks) → IsBlock a' r.at (tag_of Kind.object r.type) (size picture.table r.type)
+      × Holds a' picture.table (record { at = r.at; type = r.type }) v h.inside
+  one_value_in r v no_name values h =
+      let sized : 1 * size picture.table r.type + 0 ≡ size picture.table r.type = omega arith in
+      let block = rw (no_name, values, sized) at h.block in
+      let each = rw values at h.values in
+      (block, only_value picture.table (record { at = r.at; type = r.type }) v h.inside each)
+
+  one : OneValue
+  one = let i = one_value_in root plain.value plain.no_name plain.values_are holds_it in
+      record { inside = holds_it.inside; blocks_are = holds_it.blocks_are; block = i.0; holds_value = i.1 }
+
+  loose_value : IsLoose a' old.types (record { at = root.at; type = root.type }) plain.value one.inside
+  loose_value = subst (λ t. IsLoose a' t (record { at = root.at; type = root.type }) plain.value one.inside) (sym is.table_is) (record {
+    block = one.block;
+    holds_it = one.holds_value;
+    owned = λ h. let l = its_live a' b' picture is.held before (root ∷ []) after split h in rw one.blocks_are at l;
+  })
+
+  -- where its destruction frees what it owns
+  module _ (frees : (U : ℕ) (v : Value) (inside : List ℕ) → IsTable old.types → IsHeap allocator a' → IsLoose a' old.types (record { at = root.at; type = U }) v inside → Frees allocator a' b' (block_of root.at ∷ inside)) where
+    freed : Frees allocator a' b' blocks
+    freed = rw one.blocks_are (frees root.type plain.value one.inside (rw is.table_is is.held.laid_out.is_table) (rw is.allocator_is at is.held.laid_out.heap) loose_value)
+
+    still : (h : ℕ) → 1 ≤ times h (positions (live b')) → (1 ≤ times h (positions (live a'))) × (times h blocks ≡ 0)
+    still h some =
+        let c = freed.live_are h in
+        let once = Rattle.seg_spec.proofs.LiveLaws.live-once a' allocator (rw is.allocator_is at is.held.laid_out.heap) h in
+        (omega arith, omega arith)
+
+    ownable_then : (h : ℕ) → 1 ≤ times h (positions (live b')) → IsOwnable b' picture.table h
+    ownable_then h some =
+        let s = still h some in
+        ownable_linked a' b' picture.table h (freed.kept h s.0 s.1) (live_at (IsOwnable a' picture.table) (live a') h is.held.laid_out.blocks s.0)
+
+    trades' : Trades a' b' picture blocks []
+    trades' = record {
+      length_kept = freed.length_kept;
+      front_kept = freed.front_kept;
+      back_kept = freed.back_kept;
+      heap = rw is.allocator_is freed.heap;
+      ownable = each_live_at (IsOwnable b' picture.table) (live b') ownable_then;
+      kept = λ h some none. (freed.kept h some none).whole.kept;
+      counts = λ h. let c = freed.live_are h in omega arith;
+    }
+
+    pub lost : LosesLoose allocator old new picture before root after
+    lost = record {
+      blocks = blocks;
+      holds_it = rw is.table_is holds_it;
+      becomes = record {
+        segment = record {
+          held = loose_traded a' b' picture is.held before (root ∷ []) after split [] [] trades' Rattle.seg_spec.specs.Sound.holds_no_root tt;
+          table_is = same ∙ is.table_is;
+          allocator_is = allocator_same a' b' freed.front_kept ∙ is.allocator_is;
+        };
+        length_kept = freed.length_kept;
+        front_kept = freed.front_kept;
+        kept = λ h some none. (freed.kept h some none).whole.kept;
+      };
+      live_is = freed.live_is;
+    }
+
+    -- what goes was live, each block once
+    pub lost_owned : (h : ℕ) → times h lost.blocks ≤ times h (positions (live a'))
+    unfolding lost
+    lost_owned h = its_live a' b' picture is.held before (root ∷ []) after split h

@@ -1,0 +1,173 @@
+-- A unique object of a segment is made or found, or it goes.
+use Rattle.std.proofs.Common.{◌≡◌, ◌≢◌, ℕ, ◌+◌, ◌*◌, ◌<◌, ◌≤◌, ◌^◌, List, [], ◌∷◌, ◌++◌, length, Option, Some, None, option_map, refl, sym, ap, ◌∙◌, subst, arith}
+use Rattle.std.specs.List.{AllByRecursion}
+use Rattle.seg_spec.specs.Bytes.{word, ChangesOnly}
+use Rattle.seg_spec.specs.Header.{allocator_word, free_word, heap_start}
+use Rattle.seg_spec.specs.Pointer.{target, set_pointer}
+use Rattle.seg_spec.specs.Types.{IsTable}
+use Rattle.seg_spec.specs.Value.{Value}
+use Rattle.seg_spec.specs.Heap.{live, IsHeap}
+use Rattle.seg_spec.specs.Block.{KeepsBlock, block_of}
+use Rattle.seg_spec.specs.Index.{Root, unique_word, position_of}
+use Rattle.seg_spec.specs.Sound.{Picture, HoldsRoot, IsHeld, times, positions}
+use Rattle.seg_spec.specs.Roots.{loose, with_roots}
+use Rattle.seg_spec.specs.Calls.{IsLoose}
+use Rattle.seg_spec.specs.Demand.{after_gives}
+use Rattle.seg_spec.specs.Destroying.{Frees}
+use Rattle.seg_spec.proofs.Composing.{kept_twice}
+use Rattle.seg_spec.proofs.LiveLaws.{times-same, there, each_there, LiesIn, live-lie}
+use Rattle.seg_spec.proofs.RootLaws.{HoldsRoots-only}
+use Rattle.seg_spec.proofs.RootFrame.{HoldsRoot-kept}
+use Rattle.seg_value.specs.Stored.{Stored}
+use Rattle.seg_value.proofs.Header.{header_fits}
+use Rattle.seg_manager.specs.Segments.{IsSegment, Becomes, new_root, MakesLoose, unique_at, MakesUnique, LosesUnique}
+use Rattle.seg_manager.proofs.LooseRoots.{its, holds_its, its_live}
+use Rattle.seg_manager.proofs.LooseObjects.{lost, lost_owned}
+use Rattle.seg_manager.proofs.UniqueLaws.{position_root, none_root, unique_of, between}
+use Rattle.seg_manager.proofs.UniqueWords.{word_changes, word_written, word_live, word_kept, above_kept, word_allocator, unique_joined, unique_left}
+
+-- what the word of a type names
+pub names_unique : (allocator : ℕ) (s : Stored) (picture : Picture) (T : ℕ) → IsSegment allocator s picture → T < 32 → target s.window.bytes (unique_word T) ≡ unique_at picture T
+names_unique allocator s picture T is less = is.held.laid_out.uniques.words T less ∙ position_root picture.uniques T
+
+pub few_types : (allocator : ℕ) (s : Stored) (picture : Picture) (T : ℕ) → IsSegment allocator s picture → T < length s.types → T < 32
+few_types allocator s picture T is less = let few = is.held.laid_out.is_table.few in let same : length s.types ≡ length picture.table = ap length is.table_is in omega arith
+
+-- a live block stands in the heap
+above : (allocator : ℕ) (s : Stored) (picture : Picture) → IsSegment allocator s picture → (h : ℕ) → 1 ≤ times h (positions (live s.window.bytes)) → heap_start ≤ h
+above allocator s picture is h some = (there (LiesIn s.window.bytes heap_start (length s.window.bytes)) h (positions (live s.window.bytes))
+    (live-lie s.window.bytes (word s.window.bytes allocator_word) is.held.laid_out.heap) some).low
+
+-- ---- one comes
+
+-- the first loose object stands in the heap
+first_high : (bytes : List ℕ) (picture : Picture) (held : IsHeld bytes picture) (root : Root) (rest : List Root) → picture.loose ≡ root ∷ rest → (heap_start ≤ root.at) × (root.at < 2 ^ 32)
+first_high bytes picture held root rest split =
+    let mine = its bytes bytes picture held [] (root ∷ []) rest split in
+    let h = HoldsRoots-only bytes picture.table root mine (holds_its bytes bytes picture held [] (root ∷ []) rest split) in
+    let once = its_live bytes bytes picture held [] (root ∷ []) rest split (block_of root.at) in
+    let some : times (block_of root.at) mine ≡ times (block_of root.at) (block_of root.at ∷ h.inside) = ap (times (block_of root.at)) h.blocks_are in
+    let one = times-same (block_of root.at) h.inside in
+    let l = there (LiesIn bytes heap_start (length bytes)) (block_of root.at) (positions (live bytes)) (live-lie bytes (word bytes allocator_word) held.laid_out.heap) (omega arith) in
+    let low = l.low in
+    let high = l.high in
+    let size = l.size in
+    let small = held.laid_out.heap.small in
+    (omega arith, omega arith)
+
+module _ (allocator : ℕ) (old mid new : Stored) (picture : Picture) (is : IsSegment allocator old picture) (T at : ℕ) (below : T < length old.types) (none : target old.window.bytes (unique_word T) ≡ None)
+    (makes : MakesLoose allocator old mid picture T at) (bytes_are : new.window.bytes ≡ set_pointer mid.window.bytes (unique_word T) (Some at)) (types_are : new.types ≡ mid.types) where
+  abbrev root : Root
+  root = new_root old.types [] T 1 at
+
+  less : T < 32
+  less = few_types allocator old picture T is below
+
+  abbrev with_loose : Picture
+  with_loose = with_roots picture loose (root ∷ picture.loose)
+
+  joins : Becomes allocator old mid with_loose []
+  joins = makes.joins [] picture.loose refl
+
+  long : heap_start ≤ length mid.window.bytes
+  long = header_fits (word mid.window.bytes allocator_word) mid.window.bytes joins.segment.held.laid_out.heap
+
+  changes : ChangesOnly mid.window.bytes new.window.bytes (unique_word T) 4
+  changes = rw bytes_are (word_changes mid.window.bytes T (Some at))
+
+  word_is : target new.window.bytes (unique_word T) ≡ Some at
+  word_is =
+      let high = first_high mid.window.bytes with_loose joins.segment.held root picture.loose refl in
+      rw bytes_are (word_written mid.window.bytes T (Some at) less long (λ t e. let same : at ≡ t = cc in (omega (arith, high.1), omega (arith, high.0))))
+
+  no_position : position_of picture.uniques T ≡ None
+  no_position = sym (is.held.laid_out.uniques.words T less) ∙ none
+
+  pub made_unique : MakesUnique allocator old new picture T at
+  made_unique =
+      let b = between 0 T picture.uniques (omega arith) less is.held.laid_out.uniques.rising no_position in
+      let held = unique_joined mid.window.bytes new.window.bytes with_loose joins.segment.held T less changes b.before b.after root picture.loose b.parts refl refl (b.rising root refl) word_is in
+      let same_live : live new.window.bytes ≡ live mid.window.bytes = word_live mid.window.bytes new.window.bytes with_loose joins.segment.held T less changes in
+      record {
+        none = none_root picture.uniques T no_position;
+        spends = makes.spends ∙ ap Some (sym same_live);
+        before = b.before;
+        after = b.after;
+        uniques_are = b.parts;
+        becomes = record {
+          segment = record {
+            held = held;
+            table_is = types_are ∙ joins.segment.table_is;
+            allocator_is = word_allocator mid.window.bytes new.window.bytes with_loose joins.segment.held T less changes ∙ joins.segment.allocator_is;
+          };
+          length_kept = changes.length_kept ∙ joins.length_kept;
+          front_kept = changes.others 0 free_word (Rattle.std.proofs.Common.inl (omega arith)) ∙ joins.front_kept;
+          kept = λ h some no. kept_twice old.window.bytes mid.window.bytes new.window.bytes h (joins.kept h some no)
+              (above_kept mid.window.bytes new.window.bytes with_loose joins.segment.held T less changes h (above allocator old picture is h some));
+        };
+      }
+
+-- ---- it goes
+
+back : (old new : List ℕ) (at n : ℕ) → ChangesOnly old new at n → ChangesOnly new old at n
+back old new at n c = record { length_kept = sym c.length_kept; others = λ p m o. sym (c.others p m o) }
+
+module _ (allocator : ℕ) (old mid new : Stored) (picture : Picture) (is : IsSegment allocator old picture) (T at : ℕ) (less : T < 32) (named : target old.window.bytes (unique_word T) ≡ Some at)
+    (bytes_are : mid.window.bytes ≡ set_pointer old.window.bytes (unique_word T) None) (types_are : mid.types ≡ old.types) (types_then : new.types ≡ mid.types)
+    (frees : (U : ℕ) (v : Value) (inside : List ℕ) → IsTable mid.types → IsHeap allocator mid.window.bytes → IsLoose mid.window.bytes mid.types (record { at = at; type = U }) v inside
+    → Frees allocator mid.window.bytes new.window.bytes (block_of at ∷ inside)) where
+  abbrev a : List ℕ
+  a = old.window.bytes
+
+  abbrev b : List ℕ
+  b = mid.window.bytes
+
+  changes' : ChangesOnly a b (unique_word T) 4
+  changes' = rw bytes_are (word_changes a T None)
+
+  long' : heap_start ≤ length a
+  long' = header_fits (word a allocator_word) a is.held.laid_out.heap
+
+  word_is' : target b (unique_word T) ≡ None
+  word_is' = rw bytes_are (word_written a T None less long' (λ t e. absurd (let f : None ≡ Some t = e in cc)))
+
+  -- what its destruction leaves
+  abbrev Destroys : ℕ → Type 0
+  Destroys p = (U : ℕ) (v : Value) (inside : List ℕ) → IsTable mid.types → IsHeap allocator b → IsLoose b mid.types (record { at = p; type = U }) v inside → Frees allocator b new.window.bytes (block_of p ∷ inside)
+
+  pub lost_unique : LosesUnique allocator old new picture T
+  lost_unique =
+      let u = unique_of T at picture.uniques (sym (is.held.laid_out.uniques.words T less) ∙ named) in
+      let destroys : Destroys u.root.at = subst Destroys (sym u.at_is) frees in
+      let without = record picture { uniques = u.before ++ u.after; loose = u.root ∷ picture.loose } in
+      let held : IsHeld b without = unique_left a b picture is.held T less changes' u.before u.root u.after u.parts u.type_is word_is' in
+      let is_then : IsSegment allocator mid without = record {
+        held = held;
+        table_is = types_are ∙ is.table_is;
+        allocator_is = word_allocator a b picture is.held T less changes' ∙ is.allocator_is;
+      } in
+      let l = lost allocator mid new without is_then [] u.root picture.loose refl types_then destroys in
+      let same_live : live b ≡ live a = word_live a b picture is.held T less changes' in
+      let valid : IsTable old.types = rw is.table_is is.held.laid_out.is_table in
+      let owned = lost_owned allocator mid new without is_then [] u.root picture.loose refl types_then destroys in
+      let stay : AllByRecursion (KeepsBlock b a) l.blocks = each_there (KeepsBlock b a) l.blocks
+      (λ h some. above_kept b a without held T less (back a b (unique_word T) 4 changes') h (above allocator mid without is_then h (omega (arith, owned h)))) in
+      let keeps : (h : ℕ) → 1 ≤ times h (positions (live a)) → KeepsBlock a b h = word_kept a b picture is.held T less changes' in
+      record {
+        before = u.before;
+        root = u.root;
+        after = u.after;
+        uniques_are = u.parts;
+        root_is = u.root_is;
+        loses = record {
+          blocks = l.blocks;
+          holds_it = HoldsRoot-kept b a old.types valid u.root l.blocks stay (subst (λ t. HoldsRoot b t u.root l.blocks) types_are l.holds_it);
+          becomes = record {
+            segment = l.becomes.segment;
+            length_kept = l.becomes.length_kept ∙ changes'.length_kept;
+            front_kept = l.becomes.front_kept ∙ changes'.others 0 free_word (Rattle.std.proofs.Common.inl (omega arith));
+            kept = λ h some none. kept_twice a b new.window.bytes h (keeps h some) (l.becomes.kept h (subst (λ bs. 1 ≤ times h (positions bs)) (sym same_live) some) none);
+          };
+          live_is = l.live_is ∙ ap (λ bs. after_gives bs l.blocks) same_live;
+        };
+      }

@@ -1,0 +1,124 @@
+-- What the calls of a segment find and leave.
+--     IsSegment allocator s picture       the bytes hold the picture, whose types the segment has
+--     Becomes allocator old new other gone
+--                                         the bytes hold another picture, and each live block
+--                                         that isn't gone is kept
+--     Spends allocator old new asks gives
+--                                         the requests were granted, and these blocks given back
+--     new_root table name T n at          an object of n default values
+--     MakesLoose, LosesLoose              a loose object comes, and goes
+--     MakesUnique, FindsOrMakes, RefusesUnique, LosesUnique
+--                                         a unique object comes, or is found, or is refused, and goes
+--     unique_at picture T                 where the unique object of a type begins
+use Rattle.std.specs.Prelude.{◌≡◌, ℕ, ◌≤◌, List, [], ◌∷◌, ◌++◌, length, ◌⊎◌, Option, Some, None, IsSome, option_map}
+use Rattle.seg_spec.specs.Bytes.{word}
+use Rattle.seg_spec.specs.Header.{allocator_word, KeepsFront}
+use Rattle.seg_spec.specs.Types.{Table, size}
+use Rattle.seg_spec.specs.Value.{copies, default_of}
+use Rattle.seg_spec.specs.Heap.{live}
+use Rattle.seg_spec.specs.Block.{KeepsBlock}
+use Rattle.seg_spec.specs.Index.{Root, root_of_type}
+use Rattle.seg_spec.specs.Sound.{Picture, IsHeld, HoldsRoot, times, positions}
+use Rattle.seg_spec.specs.Roots.{Listed, with_roots}
+use Rattle.seg_spec.specs.Demand.{Ask, block_for, after_gives}
+use Rattle.seg_spec.specs.Spending.{spent}
+use Rattle.seg_spec.specs.Calls.{Refuses}
+use Rattle.seg_raw.specs.declared.code.Code.{Code}
+use Rattle.seg_raw.specs.declared.code.Code.TheVariants as code
+use Rattle.seg_value.specs.Stored.{Stored}
+
+-- the segment's bytes hold the picture, its types are the picture's, and its allocator is this one
+pub record IsSegment (allocator : ℕ) (s : Stored) (picture : Picture) : Type 0 where
+  pub held : IsHeld s.window.bytes picture
+  pub table_is : s.types ≡ picture.table
+  pub allocator_is : word s.window.bytes allocator_word ≡ allocator
+
+-- the segment has another picture now, and each live block that isn't among those that are gone is
+-- kept where it was
+pub record Becomes (allocator : ℕ) (old new : Stored) (other : Picture)
+    (gone : List ℕ) : Type 0 where
+  pub segment : IsSegment allocator new other
+  pub length_kept : length new.window.bytes ≡ length old.window.bytes
+  pub front_kept : KeepsFront old.window.bytes new.window.bytes
+  pub kept : (h : ℕ) → 1 ≤ times h (positions (live old.window.bytes)) → times h gone ≡ 0 →
+      KeepsBlock old.window.bytes new.window.bytes h
+
+-- the requests were granted, and these blocks given back: the live blocks are those that are left
+abbrev pub Spends : ℕ → Stored → Stored → List Ask → List ℕ → Type 0
+Spends allocator old new asks gives =
+    spent allocator (live old.window.bytes) (length old.window.bytes) asks gives
+    ≡ Some (live new.window.bytes)
+
+-- an object of n default values of a type
+abbrev pub new_root : Table → List ℕ → ℕ → ℕ → ℕ → Root
+new_root table name T n at =
+    record { name = name; at = at; type = T; values = copies n (default_of table T) }
+
+-- the request for an object of one value of a type
+abbrev pub one_value : Table → ℕ → List Ask
+one_value table T = block_for (size table T) ∷ []
+
+-- ---- loose objects
+
+-- an object of the type at this position joins the loose ones, anywhere among them
+pub record MakesLoose (allocator : ℕ) (old new : Stored) (picture : Picture)
+    (T at : ℕ) : Type 0 where
+  pub spends : Spends allocator old new (one_value old.types T) []
+  pub joins : (before after : List Root) → picture.loose ≡ before ++ after →
+      Becomes allocator old new
+      (with_roots picture Listed.loose (before ++ new_root old.types [] T 1 at ∷ after)) []
+
+-- the root goes, with its blocks, and the picture is another one
+pub record LosesRoot (allocator : ℕ) (old new : Stored) (root : Root)
+    (other : Picture) : Type 0 where
+  pub blocks : List ℕ
+  pub holds_it : HoldsRoot old.window.bytes old.types root blocks
+  pub becomes : Becomes allocator old new other blocks
+  pub live_is : live new.window.bytes ≡ after_gives (live old.window.bytes) blocks
+
+-- the one that stood between these leaves them
+abbrev pub LosesLoose : ℕ → Stored → Stored → Picture → List Root → Root → List Root → Type 0
+LosesLoose allocator old new picture before root after =
+    LosesRoot allocator old new root (with_roots picture Listed.loose (before ++ after))
+
+-- ---- unique objects
+
+-- where the unique object of a type begins, if there is one
+abbrev pub unique_at : Picture → ℕ → Option ℕ
+unique_at picture T = option_map (λ r. r.at) (root_of_type picture.uniques T)
+
+-- there was no unique object of the type, and the new one at this position joins them
+pub record MakesUnique (allocator : ℕ) (old new : Stored) (picture : Picture)
+    (T at : ℕ) : Type 0 where
+  pub none : root_of_type picture.uniques T ≡ None
+  pub spends : Spends allocator old new (one_value old.types T) []
+  pub before : List Root
+  pub after : List Root
+  pub uniques_are : picture.uniques ≡ before ++ after
+  pub becomes : Becomes allocator old new
+      (with_roots picture Listed.by_type (before ++ new_root old.types [] T 1 at ∷ after)) []
+
+-- the unique object of the type was found, or one was made
+abbrev pub FindsOrMakes : ℕ → Stored → Stored → Picture → ℕ → ℕ → Type 0
+FindsOrMakes allocator old new picture T at =
+    ((unique_at picture T ≡ Some at) × (new ≡ old)) ⊎ MakesUnique allocator old new picture T at
+
+-- none was made, for the reason that the code says, and nothing changed
+abbrev pub RefusesUnique : ℕ → Stored → Stored → Picture → ℕ → Code → Type 0
+RefusesUnique allocator old new picture T code.AlreadyExists =
+    IsSome (unique_at picture T) × (new ≡ old)
+RefusesUnique allocator old new picture T code.BadAlloc =
+    (unique_at picture T ≡ None) ×
+    Refuses allocator old.window.bytes new.window.bytes (one_value old.types T)
+RefusesUnique _ _ _ _ _ _ = ⊥
+
+-- the unique object of the type leaves them
+pub record LosesUnique (allocator : ℕ) (old new : Stored) (picture : Picture)
+    (T : ℕ) : Type 0 where
+  pub before : List Root
+  pub root : Root
+  pub after : List Root
+  pub uniques_are : picture.uniques ≡ before ++ root ∷ after
+  pub root_is : root_of_type picture.uniques T ≡ Some root
+  pub loses : LosesRoot allocator old new root
+      (with_roots picture Listed.by_type (before ++ after))
