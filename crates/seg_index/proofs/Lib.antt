@@ -5,7 +5,6 @@ pub mod EntryLaws
 pub mod RootOrder
 pub mod FlatEntries
 pub mod FlatChanges
-pub mod Results
 pub mod TreeLists
 pub mod Relinked
 pub mod TreeChanges
@@ -14,3 +13,4 @@ pub mod Kept
 pub mod TreeEnters
 pub mod LookUps
 pub mod HeldNames
+pub mod HeldChanges

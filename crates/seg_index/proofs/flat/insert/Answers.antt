@@ -1,11 +1,11 @@
 use Rattle.std.proofs.Common.{◌≡◌, ◌+◌, ◌^◌, ◌<◌, ap, ◌∙◌, sym, subst, refl, arith}
+use Rattle.std.proofs.lemmas.Result.{MatchResult-from_err}
 use Rattle.seg_spec.specs.Window.{Placement}
 use Rattle.seg_value.specs.Names.{index_cell, FindsIndex}
 use Rattle.seg_index.specs.Entries.{write_entry}
 use Rattle.seg_index.specs.Lists.{EntersName}
 use Rattle.seg_index.proofs.FlatEntries.{flat_finds}
 use Rattle.seg_index.proofs.FlatChanges.{index_within, name_entered}
-use Rattle.seg_index.proofs.Results.{only_err}
 use Rattle.seg_index.proofs.flat.insert.Goals as goal
 
 bytes_of : (p q : Placement) → p ≡ q → p.bytes ≡ q.bytes
@@ -17,8 +17,8 @@ returns-in_err-at-clause-enters g c = λ names blocks f flat root enters e s.
     let table = c.args.heap.now.types in
     let finds : FindsIndex g.F.Fit.allocator old table c.index_buffer.result index_cell = (c.index_buffer.ensures, refl, flat_finds g.F.Fit.allocator old table names blocks f flat) in
     let refused = c.in_err-at.ensures.opens_name finds (index_within g.F.Fit.allocator old table names blocks f flat root c.args.index s) in
-    only_err c.from_residual.result (λ done. EntersName g.F.Fit.allocator old c.open_entry.new.self.window.bytes table names blocks root) _ c.from_residual.ensures.0
-    (rw flat refused)
+    MatchResult-from_err c.from_residual.result (λ done. EntersName g.F.Fit.allocator old c.open_entry.new.self.window.bytes table names blocks root) _ c.from_residual.ensures.0
+    (λ code. rw flat refused)
 
 pub returns-clause-enters : goal.returns-clause-enters
 returns-clause-enters g c = λ names blocks f flat root enters e s.

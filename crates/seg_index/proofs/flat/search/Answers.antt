@@ -1,11 +1,12 @@
 use Rattle.std.proofs.Common.{rules}
 use Rattle.seg_index.proofs.FlatEntries.{searched}
-use Rattle.seg_index.proofs.Results.{ok_then, err_then, or_then}
+use Rattle.std.proofs.Math.Logic.{⊎_map}
+use Rattle.std.proofs.lemmas.Result.{IfOk-weaker, IfErr-weaker}
 use Rattle.seg_index.proofs.flat.search.Goals as goal
 
 pub returns : goal.returns
 returns g c = λ names blocks f flat.
     searched g.F.Fit.allocator c.args.heap.now.window.bytes c.args.heap.now.types names blocks f flat c.args.name.now c.start-entries.result c.count.result
     c.binary_search.result c.start-entries.ensures c.count.ensures
-    (ok_then c.binary_search.result c.binary_search.ensures.found (λ i h. (h.0, search rules)))
-    (err_then c.binary_search.result c.binary_search.ensures.missing (λ i h. (h.0, (or_then h.1.0 (λ p. search rules), or_then h.1.1 (λ p. search rules)))))
+    (IfOk-weaker c.binary_search.result _ _ (λ i h. (h.0, search rules)) c.binary_search.ensures.found)
+    (IfErr-weaker c.binary_search.result _ _ (λ i h. (h.0, (⊎_map (λ e. e) (λ p. search rules) h.1.0, ⊎_map (λ e. e) (λ p. search rules) h.1.1))) c.binary_search.ensures.missing)
