@@ -95,7 +95,8 @@ module _ (allocator : ℕ) (old new : List ℕ) (table : Table) (names : List Ro
           go tree t =
               let same : shape allocator old table names blocks s kind ≡ tree = IsTree-one new (target new index_cell) (shape allocator old table names blocks s kind) tree was_hangs t.is_tree in
               let other : shape allocator new table names blocks then kind_then ≡ shape allocator old table names blocks s kind =
-              IsTree-one new (target new index_cell) (shape allocator new table names blocks then kind_then) (shape allocator old table names blocks s kind) (is_search_tree allocator new table names blocks then kind_then).is_tree was_hangs in
+              IsTree-one new (target new index_cell) (shape allocator new table names blocks then kind_then) (shape allocator old table names blocks s kind)
+              (is_search_tree allocator new table names blocks then kind_then).is_tree was_hangs in
               let listed_now : AreListed new table (nodes_of (shape allocator old table names blocks s kind)) names = subst (λ u. AreListed new table (nodes_of u) names) other (listed allocator new table names blocks then kind_then) in
               let turns = turns_same (nodes_of (shape allocator old table names blocks s kind)) names (listed allocator old table names blocks s kind) listed_now in
               subst (λ u. LeadsTo (turn new) u path) same

@@ -13,3 +13,4 @@ pub mod Kept
 pub mod TreeEnters
 pub mod LookUps
 pub mod HeldNames
+pub mod HeldChanges

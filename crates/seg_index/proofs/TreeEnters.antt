@@ -241,7 +241,11 @@ module _ (allocator : ℕ) (old mid wrote : List ℕ) (table : Table) (names : L
   own_block = wrote_block allocator mid wrote table (block_of node) (node + 16) 8 g.heap writes inside own_mid node (tag_of Kind.index_node 0) 24 (let back = g.is_block.after_header in omega arith) g.is_block
 
   named_then : IsNamed wrote table root
-  named_then = named_kept old wrote table root (kept_then (block_of root.at) may.named.is_live) (let c = counts (block_of root.at) in let d = times_cons (block_of root.at) (block_of node) (positions (live old)) in let some = may.named.is_live in omega arith) may.named
+  named_then =
+      let c = counts (block_of root.at) in
+      let d = times_cons (block_of root.at) (block_of node) (positions (live old)) in
+      let some = may.named.is_live in
+      named_kept old wrote table root (kept_then (block_of root.at) may.named.is_live) (omega arith) may.named
 
   lies_root : LiesIn old heap_start (length old) (block_of root.at)
   lies_root = there (LiesIn old heap_start (length old)) (block_of root.at) (positions (live old)) (live-lie old allocator s.heap) may.named.is_live

@@ -202,14 +202,16 @@ module _ (allocator : ℕ) (bytes : List ℕ) (table : Table) (names : List Root
         → o ≡ first_where (λ x. is_eq (slice_cmp nat_cmp (name_at here now (x + 16)) name)) (nodes_of tree)) → option_map (entry_in bytes table) o ≡ option_map entry_of (root_named names name)
     found_is name o e =
         let found_there : o ≡ first_where (λ x. is_eq (slice_cmp nat_cmp (name_at table bytes (x + 16)) name)) nodes =
-        e shape there_too in_order ∙ ap (λ bs. first_where (λ x. is_eq (slice_cmp nat_cmp (name_at here bs (x + 16)) name)) nodes) same ∙ ap (λ t. first_where (λ x. is_eq (slice_cmp nat_cmp (name_at t bytes (x + 16)) name)) nodes) table_is in
+        e shape there_too in_order ∙ ap (λ bs. first_where (λ x. is_eq (slice_cmp nat_cmp (name_at here bs (x + 16)) name)) nodes) same
+        ∙ ap (λ t. first_where (λ x. is_eq (slice_cmp nat_cmp (name_at t bytes (x + 16)) name)) nodes) table_is in
         ap (option_map (entry_in bytes table)) found_there ∙ found_listed bytes table name nodes names listed
 
     pub next_is : (name : List ℕ) (o : Option ℕ) → ((tree : Tree) → IsSearchTree now root tree → Ascend (order now here) (nodes_of tree)
         → o ≡ first_where (λ x. reaches Greater (slice_cmp nat_cmp (name_at here now (x + 16)) name)) (nodes_of tree)) → option_map (entry_in bytes table) o ≡ option_map entry_of (root_after names name)
     next_is name o e =
         let found_there : o ≡ first_where (λ x. reaches Greater (slice_cmp nat_cmp (name_at table bytes (x + 16)) name)) nodes =
-        e shape there_too in_order ∙ ap (λ bs. first_where (λ x. reaches Greater (slice_cmp nat_cmp (name_at here bs (x + 16)) name)) nodes) same ∙ ap (λ t. first_where (λ x. reaches Greater (slice_cmp nat_cmp (name_at t bytes (x + 16)) name)) nodes) table_is in
+        e shape there_too in_order ∙ ap (λ bs. first_where (λ x. reaches Greater (slice_cmp nat_cmp (name_at here bs (x + 16)) name)) nodes) same
+        ∙ ap (λ t. first_where (λ x. reaches Greater (slice_cmp nat_cmp (name_at t bytes (x + 16)) name)) nodes) table_is in
         ap (option_map (entry_in bytes table)) found_there ∙ next_listed bytes table name nodes names listed
 
     -- what the way down to a name found

@@ -4,18 +4,18 @@
 --     root_after names name                 the first root whose name comes after another one
 --     PartedNames names name index these    the roots before a name, these of the name itself, and
 --                                           those after it
---     IsNamed bytes table root              the block of a named object, with its name after the values
+--     IsNamed bytes table root              a named object's block, with its name after the values
 --     FindsNamesOf allocator bytes table names blocks
 --                                           the heap is in order, and the index lists these names
 --     WhereNames allocator bytes table claim      the claim holds of the names that calls find
 --     WhereKind kind allocator bytes table claim      the same where the index is of this kind
---     LeadsToName bytes table name path     the path leads to a name's node, or to where one would stand
+--     LeadsToName bytes table name path     the path leads to a name's node, or to its empty place
 --     IsSpot bytes table names name these spot    where a search for a name ended
 --     LooksUp names name found IsAt         what a search for a name returns
 --     IsOccupied, IsVacant                  what a name's entry, and a missing name, are known by
---     IsRootOf object n len root            the root's position, number of values and length of its name
+--     IsRootOf object n len root            a root's position, count and bytes of its name
 --     MayEnter bytes table names blocks root      a root that the index may come to list
---     ChangesNames ..                       nothing changed but the index, which lists these names now
+--     ChangesNames ..                       only the index changed, which lists these names now
 --     EntersName, EntersOrNot               the index lists a root too, or has no room for it
 --     LeavesName                            the index doesn't list a root any more
 use Rattle.std.specs.Prelude.{◌≡◌, ℕ, ◌+◌, ◌*◌, ◌≤◌, ◌==◌, ◌&&◌, ◌||◌, nat_lt, Bool, true, false, if◌then◌else◌, List, [], ◌∷◌, ◌++◌, length, Option, Some, None, MatchOption, Result, MatchResult}

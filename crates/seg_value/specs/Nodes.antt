@@ -1,6 +1,6 @@
 -- Nodes of the index's tree, which hold no values of their own.
---     IsIndexNode content                    an entry with the bytes of such a node, which ends with a
---                                            pointer to an object that it doesn't own
+--     IsIndexNode content                    an entry with the bytes of such a node, and a pointer
+--                                            to an object that it doesn't own
 --     GivesNode allocator old new payload    the block of a new node
 use Rattle.std.specs.Prelude.{◌≡◌, ℕ, ◌≤◌, List, [], ◌∷◌, length, Some, None}
 use Rattle.seg_spec.specs.Heap.{IsHeap, live, link_at}
@@ -29,7 +29,8 @@ pub record GivesNode (allocator : ℕ) (old new : List ℕ) (payload : ℕ) : Ty
   pub is_block : IsBlock new payload (tag_of block.Kind.index_node 0) index_node_size
   pub link_is : link_at new (block_of payload) ≡ None
   pub granted_is :
-      after_asks allocator (live old) (length old) (block_for index_node_size ∷ []) ≡ Some (live new)
+      after_asks allocator (live old) (length old) (block_for index_node_size ∷ [])
+      ≡ Some (live new)
   pub was_free : times (block_of payload) (positions (live old)) ≡ 0
   pub now_live : times (block_of payload) (positions (live new)) ≡ 1
   pub kept : (h : ℕ) → 1 ≤ times h (positions (live old)) →

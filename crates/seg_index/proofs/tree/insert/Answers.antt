@@ -24,7 +24,8 @@ returns-clause-enters g c = λ names blocks s kind root may entry_is missing way
     let node = c.in_ok-node.node in
     let given = c.in_ok-node.ensures.given_node c.node_content.ensures s.heap in
     let at : c.entry_place.result ≡ node + 16 = c.entry_place.ensures in
-    let written = bytes_are c.write.new.w (with_bytes c.window_mut.result.now (write_entry c.window_mut.result.now.bytes c.entry_place.result c.args.entry)) (c.write.ensures.written (let fits = node_fits g.F.Fit.allocator c.args.heap.now.window.bytes c.new_block.new.self.window.bytes node given in omega arith)) in
+    let fits = node_fits g.F.Fit.allocator c.args.heap.now.window.bytes c.new_block.new.self.window.bytes node given in
+    let written = bytes_are c.write.new.w (with_bytes c.window_mut.result.now (write_entry c.window_mut.result.now.bytes c.entry_place.result c.args.entry)) (c.write.ensures.written (omega arith)) in
     let wrote_is = written ∙ ap (λ bs. write_entry bs c.entry_place.result c.args.entry) (bytes_are c.window_mut.result.now c.new_block.new.self.window c.window_mut.ensures.value)
     ∙ ap (λ p. write_entry c.new_block.new.self.window.bytes p c.args.entry) at ∙ ap (write_entry c.new_block.new.self.window.bytes (node + 16)) entry_is in
     let same = bytes_are c.window_mut-2.result.now c.write.new.w c.window_mut-2.ensures.value in
