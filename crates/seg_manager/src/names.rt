@@ -1,5 +1,10 @@
-ghost use Rattle.std.specs.Prelude.{◌≡◌};
+ghost use Rattle.std.specs.Prelude.{◌≡◌, ◌<◌, None, MatchOption, IsSomeAnd, Some, slice_get};
+ghost use Rattle.seg_spec.specs.Index.{Root, root_named};
+ghost use Rattle.seg_spec.specs.Sound.{Picture};
 ghost use Rattle.seg_spec.specs.Window.{KeepsHost};
+ghost use Rattle.seg_index.specs.Lists.{IsNamed, entry_of, root_after};
+ghost use Rattle.seg_manager.specs.NamedObjects.{found_as, Says};
+ghost use Rattle.seg_manager.specs.Segments.{IsSegment};
 
 use crate::segment::Segment;
 use seg_block::{Fit, Kind, Tag, UNIT, need};
@@ -109,14 +114,24 @@ impl<F: Fit, A: Allocator> Segment<F, A> {
     }
 
     /// The object of a name. `Absent` where there is none, `OtherType` where it has another type.
-    pub fn find(&self, name: &[u8], t: TypeId) -> Result<Found, Code> {
-        let entry = find(self.heap(), name).ok_or(Code::Absent)?;
-        self.found(entry, t)
+    pub fn find(&self, name: &[u8], t: TypeId) -> Result<Found, Code>
+        ensures { (picture : Picture) → IsSegment F.allocator self.now picture →
+            result ≡ found_as t (root_named picture.names name.now) }
+    {
+        match find(self.heap(), name) {
+            Some(entry) => self.found(entry, t),
+            None => Err(Code::Absent),
+        }
     }
 
     /// The object of an entry. `OtherType` where it has another type.
-    fn found(&self, entry: NameEntry, t: TypeId) -> Result<Found, Code> {
-        let at = entry.object.ok_or(Code::Absent)?;
+    fn found(&self, entry: NameEntry, t: TypeId) -> Result<Found, Code>
+        ensures { (root : Root) → IsNamed self.now.window.bytes self.now.types root →
+            root.type < 32 → entry ≡ entry_of root → result ≡ found_as t (Some root) }
+    {
+        let Some(at) = entry.object else {
+            return Err(Code::Absent);
+        };
         if entry.type_id(self.window()) != Some(t) {
             return Err(Code::OtherType);
         }
@@ -176,17 +191,31 @@ impl<F: Fit, A: Allocator> Segment<F, A> {
     }
 
     /// The least name.
-    pub fn first_name(&self) -> Option<Named<'_>> {
+    pub fn first_name(&self) -> Option<Named<'_>>
+        ensures { (picture : Picture) → IsSegment F.allocator self.now picture →
+            MatchOption result (slice_get picture.names 0 ≡ None)
+            (λ it. IsSomeAnd (slice_get picture.names 0)
+            (Says it.name.now it.type_id it.count)) }
+    {
         self.named(first_name(self.heap())?)
     }
 
     /// The least name above another one, which need not be there.
-    pub fn next_name(&self, after: &[u8]) -> Option<Named<'_>> {
+    pub fn next_name(&self, after: &[u8]) -> Option<Named<'_>>
+        ensures { (picture : Picture) → IsSegment F.allocator self.now picture →
+            MatchOption result (root_after picture.names after.now ≡ None)
+            (λ it. IsSomeAnd (root_after picture.names after.now)
+            (Says it.name.now it.type_id it.count)) }
+    {
         self.named(next_name(self.heap(), after)?)
     }
 
     /// What an entry says.
-    fn named(&self, entry: NameEntry) -> Option<Named<'_>> {
+    fn named(&self, entry: NameEntry) -> Option<Named<'_>>
+        ensures { (root : Root) → IsNamed self.now.window.bytes self.now.types root →
+            root.type < 32 → entry ≡ entry_of root →
+            IsSomeAnd result (λ it. Says it.name.now it.type_id it.count root) }
+    {
         Some(Named {
             name: entry.name(self.window(), self.types()),
             type_id: entry.type_id(self.window())?,
