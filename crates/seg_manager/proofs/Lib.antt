@@ -6,3 +6,5 @@ pub mod UniqueLaws
 pub mod UniqueWords
 pub mod UniqueObjects
 pub mod Answering
+pub mod TileWalk
+pub mod Counting

@@ -1,5 +1,7 @@
-ghost use Rattle.std.specs.Prelude.{◌≡◌};
+ghost use Rattle.std.specs.Prelude.{◌≡◌, length};
 ghost use Rattle.seg_spec.specs.Window.{KeepsHost};
+ghost use Rattle.seg_spec.specs.Sound.{Picture};
+ghost use Rattle.seg_manager.specs.Segments.{IsSegment};
 
 use crate::segment::Segment;
 use seg_block::{Fit, Kind, Tag, UNIT, need};
@@ -171,7 +173,10 @@ impl<F: Fit, A: Allocator> Segment<F, A> {
     }
 
     /// How many names there are.
-    pub fn num_named(&self) -> u32 {
+    pub fn num_named(&self) -> u32
+        ensures { (picture : Picture) → IsSegment F.allocator self.now picture →
+            result ≡ length picture.names }
+    {
         name_count(self.window())
     }
 
