@@ -8,3 +8,6 @@ pub mod UniqueObjects
 pub mod Answering
 pub mod TileWalk
 pub mod Counting
+pub mod TableBytes
+pub mod TypesAdded
+pub mod Creating
