@@ -1,6 +1,7 @@
 -- An image with nothing in it, as it is written.
-use Rattle.std.proofs.Common.{◌≡◌, ℕ, zero, suc, ◌+◌, ◌-◌, ◌*◌, ◌/◌, ◌%◌, ◌^◌, ◌<◌, ◌≤◌, ◌⊎◌, inl, inr, List, [], ◌∷◌, ◌++◌, length, take, drop, replicate, Option, Some, None, refl, sym, ap, ◌∙◌, subst, arith, append-nil}
+use Rattle.std.proofs.Common.{◌≡◌, ℕ, zero, suc, ◌+◌, ◌-◌, ◌*◌, ◌/◌, ◌%◌, ◌^◌, ◌<◌, ◌≤◌, ◌≢◌, ◌⊎◌, inl, inr, ⊎_elim, List, [], ◌∷◌, ◌++◌, length, take, drop, replicate, Option, Some, None, refl, sym, ap, ◌∙◌, subst, arith, append-nil}
 use Rattle.std.specs.Prelude.{codes}
+use Rattle.std.proofs.lemmas.Bool.{cases_eq}
 use Rattle.std.proofs.lemmas.List.{length-replicate, take-replicate, drop-replicate}
 use Rattle.seg_spec.specs.Bytes.{slice, put, number, number_of, word, set_word, IsSame, Agrees, ChangesOnly}
 use Rattle.seg_spec.specs.Header.{version_word, units_word, allocator_word, index_kind_word, free_word, index_cell, back_start, reserved, reserved_size, types_start, types_size, uniques_start, uniques_size, heap_start, min_length, max_length}
@@ -15,9 +16,11 @@ use Rattle.seg_spec.specs.Faulty.{IsImageLength}
 use Rattle.seg_spec.proofs.BytesLaws.{number-set_same, number-slice, slice-agrees, length-put, length-set_number}
 use Rattle.seg_spec.proofs.SliceLaws.{slice-slice, slice-put_same, put-changes}
 use Rattle.seg_spec.proofs.PointerLaws.{target-set_same, target-same}
-use Rattle.seg_spec.proofs.CellSteps.{ChangesOnly-wider}
+use Rattle.seg_spec.proofs.CellSteps.{ChangesOnly-trans, ChangesOnly-wider}
 use Rattle.seg_spec.proofs.Writing.{set_number-changes}
-use Rattle.seg_manager.specs.Segments.{nothing}
+use Rattle.seg_index.specs.declared.kind.IndexKind.{IndexKind}
+use Rattle.seg_index.specs.declared.kind.IndexKind.TheVariants as kinds
+use Rattle.seg_manager.specs.Segments.{nothing, word_of_kind}
 
 -- ---- zeros
 
@@ -45,6 +48,27 @@ no_index bytes (suc n) none count = record {
   are_nodes = tt;
   index_is = refl;
 }
+
+pub kind_word : (i : IndexKind) (n : ℕ) → (i ≡ kinds.Flat → n ≡ 0) → (i ≡ kinds.Tree → n ≡ 1) → n ≡ word_of_kind i
+kind_word kinds.Flat n f t = f refl
+kind_word kinds.Tree n f t = t refl
+
+pub few_kinds_of : (i : IndexKind) → word_of_kind i ≤ 1
+few_kinds_of kinds.Flat = omega arith
+few_kinds_of kinds.Tree = omega arith
+
+-- the words of the first types name nothing
+pub one_more_null : (first old new : List ℕ) (t : ℕ) → ChangesOnly first old uniques_start uniques_size → t < 32 → new ≡ set_pointer old (unique_word t) None → (heap_start ≤ length first → (T : ℕ) → T < t → target old (unique_word T) ≡ None)
+    → ChangesOnly first new uniques_start uniques_size × (heap_start ≤ length first → (T : ℕ) → T < t + 1 → target new (unique_word T) ≡ None)
+one_more_null first old new t changes less new_is nulls =
+    let own : ChangesOnly old new (unique_word t) 4 = rw new_is (set_number-changes 4 old (unique_word t) (distance (unique_word t) None)) in
+    let same_length = changes.length_kept in (
+      ChangesOnly-trans first old new uniques_start uniques_size changes (ChangesOnly-wider old new (unique_word t) 4 uniques_start uniques_size (omega arith) (omega arith) own),
+      λ long T below. ⊎_elim
+          (λ e. subst (λ U. target new (unique_word U) ≡ None) (sym e) (ap (λ b. target b (unique_word t)) new_is ∙ target-set_same old (unique_word t) None (omega arith) (omega arith) (λ p f. absurd (let g : None ≡ Some p = f in cc))))
+          (λ ne. target-same old new (unique_word T) (number-slice 4 old new (unique_word T) (unique_word T) (own.others (unique_word T) 4 (inl (omega arith)))) ∙ nulls long T (omega arith))
+          (cases_eq T t),
+    )
 
 -- ---- the header
 
@@ -83,7 +107,9 @@ module _ (len allocator kind : ℕ) (old zeros magic version units with_allocato
   all_zeros : (p n : ℕ) → p + n ≤ len → slice zeros p n ≡ replicate n 0
   all_zeros p n fits =
       let whole : slice zeros 0 len ≡ replicate len 0 = ap (λ b. slice b 0 len) zeros_is ∙ slice-put_same old 0 (replicate len 0) len (sym (length-replicate len 0)) (omega (arith, old_long)) in
-      sym (slice-slice zeros 0 len p n fits) ∙ ap (λ b. slice b p n) whole ∙ zeros_sliced len p n fits
+      let from : 0 + p ≡ p = omega arith in
+      let part : slice (slice zeros 0 len) p n ≡ slice zeros p n = slice-slice zeros 0 len p n fits ∙ ap (λ q. slice zeros q n) from in
+      sym part ∙ ap (λ b. slice b p n) whole ∙ zeros_sliced len p n fits
 
   -- what a step wrote stands in the end
   from_kind : (p n : ℕ) → p + n ≤ 32 → IsSame with_kind empty p n

@@ -11,3 +11,4 @@ pub mod Counting
 pub mod TableBytes
 pub mod TypesAdded
 pub mod Creating
+pub mod ZeroedGaps

@@ -57,6 +57,11 @@ pub reads_none : (bytes : List ℕ) (at : ℕ) (ts : List Tile) (o : Option Bloc
 reads_none bytes at [] o r e read = refl
 reads_none bytes at (t ∷ ts) o r e read = absurd (let no : IsSomeAnd {T = Block} None (λ f. Covers f (span at t.units)) = rw e at (read (span at t.units) refl (first_sized bytes at t ts r)) in no)
 
+-- nor at the end
+pub rest_none : (bytes : List ℕ) (at : ℕ) (ts : List Tile) → Rest bytes at ts → length bytes ≤ at → ts ≡ []
+rest_none bytes at [] r le = refl
+rest_none bytes at (t ∷ ts) r le = absurd (let more = Fill-le ts (at + 16 * t.units) (length bytes) r.fill.2 in let two = r.fill.1 in omega arith)
+
 -- ---- counting
 
 -- what was counted on the way to a position, and what is free from there on

@@ -155,9 +155,9 @@ fn write_types<A: Allocator>(w: &mut Window<A>, types: &TypeTable)
 /// Writes the image of an empty segment.
 fn write_empty<F: Fit, A: Allocator>(w: &mut Window<A>, size: u32, index: IndexKind)
     ensures host { KeepsHost w.old w.new }
-    ensures length { length w.new.bytes ≡ length w.old.bytes }
     ensures empty { F.allocator ≤ 1 → IsImageLength size → length w.old.bytes ≡ size →
         IsHeld w.new.bytes nothing × (live w.new.bytes ≡ [])
+        × (length w.new.bytes ≡ size)
         × (word w.new.bytes allocator_word ≡ F.allocator)
         × (word w.new.bytes index_kind_word ≡ word_of_kind index) }
 {

@@ -1,6 +1,10 @@
-ghost use Rattle.std.specs.Prelude.{◌≡◌, ℕ, ◌+◌, ◌*◌, ◌^◌, ◌<◌, ◌≤◌, ◌↔◌, max, IsTrue, []};
-ghost use Rattle.seg_spec.specs.Heap.{IsHeap, live, gaps};
-ghost use Rattle.seg_manager.specs.Gaps.{bytes_of, largest_of};
+ghost use Rattle.std.specs.Prelude.{◌≡◌, ℕ, ◌+◌, ◌*◌, ◌^◌, ◌<◌, ◌≤◌, ◌↔◌, max, IsTrue, [], replicate};
+ghost use Rattle.seg_spec.specs.Bytes.{put};
+ghost use Rattle.seg_spec.specs.Heap.{IsHeap, span, live, gaps};
+ghost use Rattle.seg_spec.specs.Sound.{Picture};
+ghost use Rattle.seg_spec.specs.Window.{with_bytes, KeepsHost};
+ghost use Rattle.seg_manager.specs.Gaps.{bytes_of, largest_of, spare_start, spare_size, ZeroesGaps};
+ghost use Rattle.seg_manager.specs.Segments.{IsSegment};
 
 use crate::segment::Segment;
 use seg_block::{Block, Fit, HEAP_START, UNIT, block_at, is_live};
@@ -78,7 +82,12 @@ impl<F: Fit, A: Allocator> Segment<F, A> {
     }
 
     /// Writes 0 to each byte of the gaps that holds no header and that the allocator doesn't use.
-    pub fn zero_free_memory(&mut self) {
+    pub fn zero_free_memory(&mut self)
+        ensures window { KeepsHost self.old.window self.new.window }
+        ensures types { self.new.types ≡ self.old.types }
+        ensures zeroes { (picture : Picture) → IsSegment F.allocator self.old picture →
+            ZeroesGaps F.allocator self.old self.new picture }
+    {
         let w = self.heap_mut().window_mut();
         let end = w.len();
         let mut at = HEAP_START;
@@ -97,6 +106,10 @@ impl<F: Fit, A: Allocator> Segment<F, A> {
 /// Writes 0 to the payload of a free block, after what the allocator keeps there.
 fn zero_payload<F: Fit, A: Allocator>(w: &mut Window<A>, block: Block)
     requires { block.at + 16 * block.units ≤ 2 ^ 30 }
+    ensures few { F.allocator ≤ 1 }
+    ensures zeros { w.new ≡ with_bytes w.old (put w.old.bytes
+        (spare_start F.allocator (span block.at block.units))
+        (replicate (spare_size F.allocator (span block.at block.units)) 0)) }
 {
     let used = UNIT + F::free_words();
     let payload = (UNIT * block.units).saturating_sub(used);
