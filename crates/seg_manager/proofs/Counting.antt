@@ -1,10 +1,10 @@
 -- The names and unique objects that an image counts.
-use Rattle.std.proofs.Common.{◌≡◌, ℕ, zero, suc, ◌+◌, List, [], ◌∷◌, length, map, refl, sym, ap, ◌∙◌, arith}
+use Rattle.std.proofs.Common.{◌≡◌, ℕ, zero, suc, ◌+◌, List, [], ◌∷◌, length, refl, sym, ap, ◌∙◌, arith}
 use Rattle.std.proofs.lemmas.List.{length-map}
 use Rattle.seg_spec.specs.Bytes.{word}
 use Rattle.seg_spec.specs.Header.{index_kind_word, index_cell}
 use Rattle.seg_spec.specs.Shapes.{nodes_of, tree_words}
-use Rattle.seg_spec.specs.Reads.{count_at, start, spaced}
+use Rattle.seg_spec.specs.Reads.{count_at, start}
 use Rattle.seg_spec.specs.Index.{Root, Index, OpensIndex, AreEntries}
 use Rattle.seg_spec.specs.Sound.{Picture, IsHeld}
 use Rattle.seg_spec.proofs.Fits.{length-spaced}

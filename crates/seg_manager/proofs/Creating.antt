@@ -1,19 +1,19 @@
 -- An image with nothing in it, as it is written.
-use Rattle.std.proofs.Common.{◌≡◌, ℕ, zero, suc, ◌+◌, ◌-◌, ◌*◌, ◌/◌, ◌%◌, ◌^◌, ◌<◌, ◌≤◌, ◌≢◌, ◌⊎◌, inl, inr, ⊎_elim, List, [], ◌∷◌, ◌++◌, length, take, drop, replicate, Option, Some, None, refl, sym, ap, ◌∙◌, subst, arith, append-nil}
+use Rattle.std.proofs.Common.{◌≡◌, ℕ, zero, suc, ◌+◌, ◌-◌, ◌/◌, ◌^◌, ◌<◌, ◌≤◌, ◌⊎◌, inl, inr, ⊎_elim, List, [], length, take, replicate, Some, None, refl, sym, ap, ◌∙◌, subst, arith}
 use Rattle.std.specs.Prelude.{codes}
 use Rattle.std.proofs.lemmas.Bool.{cases_eq}
 use Rattle.std.proofs.lemmas.List.{length-replicate, take-replicate, drop-replicate}
-use Rattle.seg_spec.specs.Bytes.{slice, put, number, number_of, word, set_word, IsSame, Agrees, ChangesOnly}
-use Rattle.seg_spec.specs.Header.{version_word, units_word, allocator_word, index_kind_word, free_word, index_cell, back_start, reserved, reserved_size, types_start, types_size, uniques_start, uniques_size, heap_start, min_length, max_length}
+use Rattle.seg_spec.specs.Bytes.{slice, put, number, number_of, word, set_word, IsSame, ChangesOnly}
+use Rattle.seg_spec.specs.Header.{version_word, units_word, allocator_word, index_kind_word, free_word, index_cell, back_start, reserved, reserved_size, types_start, types_size, uniques_start, uniques_size, heap_start, min_length}
 use Rattle.seg_spec.specs.Pointer.{target, set_pointer, distance}
-use Rattle.seg_spec.specs.Types.{Table, IsTable, HasTable, size, padded}
-use Rattle.seg_spec.specs.Heap.{IsHeap, live, Begins}
-use Rattle.seg_spec.specs.Shapes.{leaf, IsRedBlack}
+use Rattle.seg_spec.specs.Types.{IsTable, size}
+use Rattle.seg_spec.specs.Heap.{Begins}
+use Rattle.seg_spec.specs.Shapes.{leaf}
 use Rattle.seg_spec.specs.Reads.{count_at}
-use Rattle.seg_spec.specs.Index.{Index, OpensIndex, ListsNames, ListsUniques, unique_word}
-use Rattle.seg_spec.specs.Sound.{Picture, HasHeader, IsLaidOut, IsHeld, holds_no_root}
+use Rattle.seg_spec.specs.Index.{OpensIndex, unique_word}
+use Rattle.seg_spec.specs.Sound.{HasHeader, IsHeld, holds_no_root}
 use Rattle.seg_spec.specs.Faulty.{IsImageLength}
-use Rattle.seg_spec.proofs.BytesLaws.{number-set_same, number-slice, slice-agrees, length-put, length-set_number}
+use Rattle.seg_spec.proofs.BytesLaws.{number-set_same, number-slice, slice-agrees, length-put}
 use Rattle.seg_spec.proofs.SliceLaws.{slice-slice, slice-put_same, put-changes}
 use Rattle.seg_spec.proofs.PointerLaws.{target-set_same, target-same}
 use Rattle.seg_spec.proofs.CellSteps.{ChangesOnly-trans, ChangesOnly-wider}

@@ -1,5 +1,5 @@
 -- A table of types as it is written, entry by entry.
-use Rattle.std.proofs.Common.{◌≡◌, ℕ, zero, suc, ◌+◌, ◌-◌, ◌*◌, ◌<◌, ◌≤◌, ◌⊎◌, inl, inr, List, [], ◌∷◌, ◌++◌, length, take, drop, replicate, Option, Some, None, refl, sym, ap, ◌∙◌, subst, arith, add-one, take-add}
+use Rattle.std.proofs.Common.{◌≡◌, ℕ, zero, suc, ◌+◌, ◌-◌, ◌*◌, ◌<◌, ◌≤◌, inl, List, [], ◌∷◌, ◌++◌, length, take, drop, replicate, Option, Some, None, refl, sym, ap, ◌∙◌, subst, arith, add-one, take-add}
 use Rattle.std.specs.Prelude.{flat_map}
 use Rattle.std.specs.List.{AllByRecursion}
 use Rattle.std.proofs.lemmas.List.{append_assoc, append-nil, length-append, length-drop, same_lists, places, replicate-append-replicate}
@@ -8,7 +8,7 @@ use Rattle.seg_spec.specs.Header.{types_start, types_size}
 use Rattle.seg_spec.specs.Types.{Form, Table, IsTable, HasTable, form_at, form_bytes, option_bytes, entry_at, padded}
 use Rattle.seg_spec.proofs.CellSteps.{ChangesOnly-trans, ChangesOnly-wider, ChangesOnly-none}
 use Rattle.seg_spec.proofs.OneTable.{IsLong, length-form_bytes}
-use Rattle.seg_spec.proofs.SliceLaws.{slice-put_same, slice-put_other, put-changes}
+use Rattle.seg_spec.proofs.SliceLaws.{slice-put_same, put-changes}
 use Rattle.seg_spec.proofs.TypesLaws.{all_forms}
 
 slice_split : (bytes : List ℕ) (at n m : ℕ) → slice bytes at (n + m) ≡ slice bytes at n ++ slice bytes (at + n) m

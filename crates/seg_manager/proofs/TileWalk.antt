@@ -1,12 +1,12 @@
 -- A walk from tile to tile, and what it counts.
-use Rattle.std.proofs.Common.{◌≡◌, ℕ, ◌+◌, ◌-◌, ◌*◌, ◌%◌, ◌<◌, ◌≤◌, ◌⊎◌, inl, inr, ◌↔◌, eqb, true, false, Bool, max, List, [], ◌∷◌, length, cond, Option, Some, None, refl, sym, ap, ◌∙◌, subst, arith}
+use Rattle.std.proofs.Common.{◌≡◌, ℕ, ◌+◌, ◌-◌, ◌*◌, ◌%◌, ◌≤◌, ◌↔◌, eqb, true, false, Bool, max, List, [], ◌∷◌, length, cond, Option, None, refl, sym, ap, ◌∙◌, subst, arith}
 use Rattle.std.proofs.lemmas.Bool.Decides.{nat_tests}
 use Rattle.std.specs.Prelude.{IsSomeAnd}
 use Rattle.seg_spec.specs.Heap.{Span, span, Tile, span_of, units_at, is_live_at, tiles, Fill, AreHeaders, AreApart, IsHeap, live, live_of, free_of, gaps, heap_start}
 use Rattle.seg_spec.proofs.TileLaws.{Fill-le}
 use Rattle.seg_spec.proofs.FreeLaws.{gaps-free}
 use Rattle.seg_block.specs.declared.block.Block.{Block}
-use Rattle.seg_block.specs.Blocks.{IsSized, LiesIn, Covers}
+use Rattle.seg_block.specs.Blocks.{IsSized, Covers}
 use Rattle.seg_manager.specs.Gaps.{bytes_of, largest_of}
 
 -- the tiles from a position on
@@ -170,6 +170,7 @@ pub one_gap : (allocator : ℕ) (bytes : List ℕ) (largest size : ℕ) → IsHe
 unfolding live
 one_gap allocator bytes largest size heap largest_is size_is =
     let long = Fill-le (tiles bytes) heap_start (length bytes) heap.filled in
-    let all : largest ≡ largest_of (free_of (tiles bytes)) = largest_is ∙ ap largest_of (gaps-free bytes allocator heap) in
-    (λ e. let same = same_test largest size e in whole_free (tiles bytes) heap_start (length bytes) heap.filled (omega arith),
-    λ none. let whole = free_whole (tiles bytes) heap_start (length bytes) heap.filled heap.apart none in test_same largest size (omega arith))
+    let all : largest ≡ largest_of (free_of (tiles bytes)) = largest_is ∙ ap largest_of (gaps-free bytes allocator heap) in (
+      λ e. let same = same_test largest size e in whole_free (tiles bytes) heap_start (length bytes) heap.filled (omega arith),
+      λ none. let whole = free_whole (tiles bytes) heap_start (length bytes) heap.filled heap.apart none in test_same largest size (omega arith),
+    )

@@ -5,8 +5,7 @@ use Rattle.std.proofs.lemmas.Bool.Decides.{nat_tests}
 use Rattle.std.proofs.lemmas.List.{take-append-drop, take_all}
 use Rattle.seg_spec.specs.Bytes.{word, IsSame, ChangesOnly}
 use Rattle.seg_spec.specs.Header.{allocator_word, types_start, types_size, uniques_start, heap_start}
-use Rattle.seg_spec.specs.Types.{Form, Table, IsTable, HasTable, Agree, longer}
-use Rattle.seg_spec.specs.Heap.{live}
+use Rattle.seg_spec.specs.Types.{Table, IsTable, HasTable, Agree, longer}
 use Rattle.seg_spec.specs.Sound.{Picture, IsHeld}
 use Rattle.seg_spec.proofs.Frame.{word-same}
 use Rattle.seg_spec.proofs.HeapFrame.{live-kept}

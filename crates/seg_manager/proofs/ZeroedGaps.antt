@@ -1,18 +1,18 @@
 -- Zeros in the gaps of a heap, after what the allocator keeps there.
-use Rattle.std.proofs.Common.{◌≡◌, ◌≢◌, ℕ, zero, suc, ◌+◌, ◌-◌, ◌*◌, ◌%◌, ◌<◌, ◌≤◌, ◌⊎◌, inl, inr, ⊎_elim, true, false, Bool, List, [], ◌∷◌, ◌++◌, length, replicate, cond, Option, Some, None, refl, sym, ap, ◌∙◌, subst, arith, append-nil}
+use Rattle.std.proofs.Common.{◌≡◌, ℕ, zero, suc, ◌+◌, ◌*◌, ◌≤◌, ◌⊎◌, inl, inr, true, false, List, [], ◌∷◌, ◌++◌, length, replicate, cond, Option, None, refl, sym, ap, ◌∙◌, subst, arith, append-nil}
 use Rattle.std.proofs.lemmas.Bool.{false≢true}
 use Rattle.std.proofs.lemmas.List.{append_assoc, length-replicate}
 use Rattle.std.specs.List.{AllByRecursion}
 use Rattle.seg_spec.specs.Bytes.{word, slice, put, IsSame, ChangesOnly}
 use Rattle.seg_spec.specs.Header.{allocator_word, free_word, back_start, back_size, KeepsFront, KeepsBack}
 use Rattle.seg_spec.specs.Pointer.{target}
-use Rattle.seg_spec.specs.Heap.{Span, span, Tile, span_of, end_of, units_at, is_live_at, tiles, Fill, AreHeaders, IsHeap, live, live_of, free_of, gaps, heap_start, Links, HoldsGaps, link_at}
+use Rattle.seg_spec.specs.Heap.{Span, span, Tile, span_of, end_of, units_at, is_live_at, tiles, Fill, AreHeaders, IsHeap, live, live_of, free_of, gaps, heap_start, Links, HoldsGaps}
 use Rattle.seg_spec.specs.Block.{IsOwnable, KeepsBlock, payload_size}
 use Rattle.seg_spec.specs.Apart.{Separate}
 use Rattle.seg_spec.specs.Sound.{Picture, IsHeld, times, positions}
 use Rattle.seg_spec.proofs.BytesLaws.{Agrees-put}
 use Rattle.seg_spec.proofs.Frame.{each_weaker, each_both, each_left, each_right, word-same, target-same}
-use Rattle.seg_spec.proofs.TileLaws.{Fill-le, Fill-append, Fill-front, Fill-back, tiles-unique, free_of-append, AreHeaders-front, AreHeaders-back}
+use Rattle.seg_spec.proofs.TileLaws.{Fill-le, Fill-append, tiles-unique, free_of-append}
 use Rattle.seg_spec.proofs.HeaderLaws.{AreHeaders-agrees}
 use Rattle.seg_spec.proofs.HeapFrame.{AreHeaders-kept, HoldsGaps-kept, link-kept}
 use Rattle.seg_spec.proofs.FreeLaws.{gaps-free}
@@ -108,10 +108,10 @@ module _ (a : ℕ) (old mid : List ℕ) (at : ℕ) (z : Zeroing a old mid at) (t
           let two = rest_is.fill.1 in
           let wide = within in
           let mine : slice new (spare_start a (span_of t)) (spare_size a (span_of t)) ≡ replicate (spare_size a (span_of t)) 0 =
-              ap (λ b. slice b (spare_start a (span_of t)) (spare_size a (span_of t))) new_is
-              ∙ slice-put_same mid (spare_start a (span_of t)) (replicate (spare_size a (span_of t)) 0) (spare_size a (span_of t)) (sym (length-replicate (spare_size a (span_of t)) 0)) (omega arith) in
+          ap (λ b. slice b (spare_start a (span_of t)) (spare_size a (span_of t))) new_is
+          ∙ slice-put_same mid (spare_start a (span_of t)) (replicate (spare_size a (span_of t)) 0) (spare_size a (span_of t)) (sym (length-replicate (spare_size a (span_of t)) 0)) (omega arith) in
           let earlier : AllByRecursion (IsZeroed a new) (free_of z.passed) = each_both (IsZeroed a mid) (λ g. (heap_start ≤ g.at) × (2 ≤ g.units) × (end_of g ≤ at)) (IsZeroed a new)
-              (λ g zero_g w. changes.others (spare_start a g) (spare_size a g) (inl (omega (arith, w.1, w.2))) ∙ zero_g) (free_of z.passed) z.zeroed (free_before z.passed heap_start at z.fill) in
+          (λ g zero_g w. changes.others (spare_start a g) (spare_size a g) (inl (omega (arith, w.1, w.2))) ∙ zero_g) (free_of z.passed) z.zeroed (free_before z.passed heap_start at z.fill) in
           record {
             passed = z.passed ++ t ∷ [];
             others = ts;

@@ -1,10 +1,10 @@
-use Rattle.std.proofs.Common.{◌≡◌, ◌≤◌, ◌%◌, ℕ, List, length, ap, ◌∙◌, sym, refl, arith, None}
-use Rattle.seg_spec.specs.Bytes.{put, set_word}
+use Rattle.std.proofs.Common.{◌≡◌, ◌≤◌, length, ap, ◌∙◌, refl, arith, None}
+use Rattle.seg_spec.specs.Bytes.{put}
 use Rattle.seg_spec.specs.Pointer.{set_pointer}
 use Rattle.seg_spec.specs.Index.{unique_word}
 use Rattle.seg_spec.specs.Heap.{Begins}
 use Rattle.seg_spec.specs.Window.{Placement, with_bytes}
-use Rattle.seg_spec.specs.Header.{uniques_start, uniques_size, heap_start, min_length}
+use Rattle.seg_spec.specs.Header.{uniques_start, uniques_size, heap_start}
 use Rattle.std.specs.Prelude.{codes}
 use Rattle.seg_spec.proofs.CellSteps.{ChangesOnly-none}
 use Rattle.seg_manager.specs.Segments.{word_of_kind}

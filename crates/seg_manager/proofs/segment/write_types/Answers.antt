@@ -1,9 +1,8 @@
-use Rattle.std.proofs.Common.{◌≡◌, ◌+◌, ◌*◌, ◌<◌, length, ap, ◌∙◌, sym, refl, subst, arith}
+use Rattle.std.proofs.Common.{◌≡◌, ◌+◌, ◌*◌, ◌<◌, ap, refl, arith}
 use Rattle.seg_spec.specs.Bytes.{put}
-use Rattle.seg_spec.specs.Window.{Placement, with_bytes}
-use Rattle.seg_spec.specs.Types.{entry_at}
+use Rattle.seg_spec.specs.Window.{Placement}
 use Rattle.seg_manager.proofs.Answering.{host_twice}
-use Rattle.seg_manager.proofs.TableBytes.{Written, none_written, one_written, entry_long, all_written}
+use Rattle.seg_manager.proofs.TableBytes.{none_written, one_written, entry_long, all_written}
 use Rattle.seg_manager.proofs.segment.write_types.Goals as goal
 
 pub loop-t-init : goal.loop-t-init

@@ -1,4 +1,4 @@
-use Rattle.std.proofs.Common.{◌≡◌, ap, ◌∙◌, refl}
+use Rattle.std.proofs.Common.{ap, ◌∙◌, refl}
 use Rattle.seg_value.specs.Stored.{Stored}
 use Rattle.seg_manager.proofs.TypesAdded.{adds_by}
 use Rattle.seg_manager.proofs.segment.Segment.add_types.Goals as goal

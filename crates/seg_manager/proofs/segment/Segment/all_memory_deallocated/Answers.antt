@@ -1,4 +1,4 @@
-use Rattle.std.proofs.Common.{◌≡◌, ◌-◌, ap, ◌∙◌, sym, arith}
+use Rattle.std.proofs.Common.{◌-◌, ap, ◌∙◌}
 use Rattle.seg_manager.proofs.TileWalk.{one_gap}
 use Rattle.seg_manager.proofs.segment.Segment.all_memory_deallocated.Goals as goal
 

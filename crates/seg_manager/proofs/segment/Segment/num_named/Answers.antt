@@ -1,4 +1,4 @@
-use Rattle.std.proofs.Common.{◌≡◌, ◌∙◌}
+use Rattle.std.proofs.Common.{◌∙◌}
 use Rattle.seg_manager.proofs.Counting.{names_counted}
 use Rattle.seg_manager.proofs.segment.Segment.num_named.Goals as goal
 

@@ -1,10 +1,10 @@
 use Rattle.std.proofs.Common.{◌≡◌, ◌≤◌, ◌+◌, ◌*◌, length, ap, ◌∙◌, sym, subst, arith}
 use Rattle.seg_block.specs.declared.block.Block.{Block}
-use Rattle.seg_spec.specs.Heap.{IsHeap, Fill, units_at}
+use Rattle.seg_spec.specs.Heap.{IsHeap, units_at}
 use Rattle.seg_spec.specs.Window.{Placement, with_bytes}
 use Rattle.seg_manager.proofs.Answering.{host_twice}
 use Rattle.seg_manager.proofs.TileWalk.{reads_none, rest_none}
-use Rattle.seg_manager.proofs.ZeroedGaps.{Zeroing, stepped_live, stepped_free, zeroed_all, zeroes}
+use Rattle.seg_manager.proofs.ZeroedGaps.{stepped_live, stepped_free, zeroed_all, zeroes}
 use Rattle.seg_manager.proofs.segment.Segment.zero_free_memory.Goals as goal
 use Rattle.seg_manager.proofs.segment.Segment.zero_free_memory.Goals.{then-not-is_live, else-not-is_live}
 

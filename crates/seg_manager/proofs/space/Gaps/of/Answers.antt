@@ -1,8 +1,8 @@
-use Rattle.std.proofs.Common.{◌≡◌, ◌≤◌, ◌+◌, ◌*◌, max, length, ap, ◌∙◌, sym, subst, arith}
+use Rattle.std.proofs.Common.{◌≡◌, ◌≤◌, ◌+◌, ◌*◌, max, length, ap, ◌∙◌, sym, arith}
 use Rattle.seg_block.specs.declared.block.Block.{Block}
-use Rattle.seg_spec.specs.Heap.{units_at, is_live_at}
+use Rattle.seg_spec.specs.Heap.{units_at}
 use Rattle.seg_manager.specs.declared.space.Gaps.{Gaps}
-use Rattle.seg_manager.proofs.TileWalk.{Counted, begun, passed_live, passed_free, counted_at, counted_all}
+use Rattle.seg_manager.proofs.TileWalk.{passed_live, passed_free, counted_at, counted_all}
 use Rattle.seg_manager.proofs.space.Gaps.of.Goals as goal
 use Rattle.seg_manager.proofs.space.Gaps.of.Goals.{then-not-is_live, else-not-is_live}
 
