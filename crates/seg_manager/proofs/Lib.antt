@@ -12,3 +12,4 @@ pub mod TableBytes
 pub mod TypesAdded
 pub mod Creating
 pub mod ZeroedGaps
+pub mod Resizing
