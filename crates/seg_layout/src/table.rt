@@ -200,6 +200,8 @@ impl TypeTable {
         ensures longer { IfOk result (λ table. table ≡ longer self.now other.now) }
         ensures differs { IfErr result (λ fault.
             (k : ℕ) × (fault ≡ Fault.TypeMismatch k) × IsFirstDifference self.now other.now k) }
+        ensures table { IsTable self.now }
+        ensures other { IsTable other.now }
     {
         let (mine, theirs) = (self.entries.as_slice(), other.entries.as_slice());
         for index in 0..mine.len().min(theirs.len()) {

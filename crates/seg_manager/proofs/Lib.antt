@@ -7,3 +7,10 @@ pub mod UniqueWords
 pub mod UniqueObjects
 pub mod Answering
 pub mod NamedReads
+pub mod TileWalk
+pub mod Counting
+pub mod TableBytes
+pub mod TypesAdded
+pub mod Creating
+pub mod ZeroedGaps
+pub mod Resizing

@@ -6,14 +6,16 @@
 --     Spends allocator old new asks gives
 --                                         the requests were granted, and these blocks given back
 --     new_root table name T n at          an object of n default values
+--     nothing, IsNew                      the empty picture, and a segment with it
 --     MakesLoose, LosesLoose              a loose object comes, and goes
 --     MakesUnique, FindsOrMakes, RefusesUnique, LosesUnique
 --                                         a unique object comes, or is found, or is refused, and goes
+--     AddsTypes                           the table becomes a longer one
 --     unique_at picture T                 where the unique object of a type begins
-use Rattle.std.specs.Prelude.{◌≡◌, ℕ, ◌≤◌, List, [], ◌∷◌, ◌++◌, length, ◌⊎◌, Option, Some, None, IsSome, option_map}
-use Rattle.seg_spec.specs.Bytes.{word}
-use Rattle.seg_spec.specs.Header.{allocator_word, KeepsFront}
-use Rattle.seg_spec.specs.Types.{Table, size}
+use Rattle.std.specs.Prelude.{◌≡◌, ℕ, ◌+◌, ◌≤◌, take, drop, List, [], ◌∷◌, ◌++◌, length, ◌⊎◌, Option, Some, None, IsSome, option_map}
+use Rattle.seg_spec.specs.Bytes.{word, ChangesOnly}
+use Rattle.seg_spec.specs.Header.{allocator_word, index_kind_word, types_start, types_size, KeepsFront}
+use Rattle.seg_spec.specs.Types.{Table, size, longer}
 use Rattle.seg_spec.specs.Value.{copies, default_of}
 use Rattle.seg_spec.specs.Heap.{live}
 use Rattle.seg_spec.specs.Block.{KeepsBlock}
@@ -23,6 +25,8 @@ use Rattle.seg_spec.specs.Roots.{Listed, with_roots}
 use Rattle.seg_spec.specs.Demand.{Ask, block_for, after_gives}
 use Rattle.seg_spec.specs.Spending.{spent}
 use Rattle.seg_spec.specs.Calls.{Refuses}
+use Rattle.seg_index.specs.declared.kind.IndexKind.{IndexKind}
+use Rattle.seg_index.specs.declared.kind.IndexKind.TheVariants as kind
 use Rattle.seg_raw.specs.declared.code.Code.{Code}
 use Rattle.seg_raw.specs.declared.code.Code.TheVariants as code
 use Rattle.seg_value.specs.Stored.{Stored}
@@ -57,6 +61,27 @@ new_root table name T n at =
 -- the request for an object of one value of a type
 abbrev pub one_value : Table → ℕ → List Ask
 one_value table T = block_for (size table T) ∷ []
+
+-- ---- a new segment
+
+-- no types and no roots
+abbrev pub nothing : Picture
+nothing = record { table = []; names = []; uniques = []; loose = [] }
+
+-- what the image's word for the index says of a kind
+abbrev pub word_of_kind : IndexKind → ℕ
+word_of_kind kind.Flat = 0
+word_of_kind kind.Tree = 1
+
+-- a segment of this length, at a base of a region that is kept around it, with nothing in it
+pub record IsNew (allocator : ℕ) (s : Stored) (region : List ℕ) (base len : ℕ)
+    (index : IndexKind) : Type 0 where
+  pub segment : IsSegment allocator s nothing
+  pub kind_is : word s.window.bytes index_kind_word ≡ word_of_kind index
+  pub length_is : length s.window.bytes ≡ len
+  pub no_block : live s.window.bytes ≡ []
+  pub before_is : s.window.before ≡ take base region
+  pub after_is : s.window.after ≡ drop (base + len) region
 
 -- ---- loose objects
 
@@ -122,3 +147,12 @@ pub record LosesUnique (allocator : ℕ) (old new : Stored) (picture : Picture)
   pub root_is : root_of_type picture.uniques T ≡ Some root
   pub loses : LosesRoot allocator old new root
       (with_roots picture Listed.by_type (before ++ after))
+
+-- ---- types
+
+-- the table is the longer one, in the bytes too, and nothing else changed
+pub record AddsTypes (allocator : ℕ) (old new : Stored) (picture : Picture)
+    (more : Table) : Type 0 where
+  pub segment : IsSegment allocator new (record picture { table = longer old.types more })
+  pub changes : ChangesOnly old.window.bytes new.window.bytes types_start types_size
+  pub live_is : live new.window.bytes ≡ live old.window.bytes

@@ -1,4 +1,4 @@
-ghost use Rattle.std.specs.Prelude.{◌≡◌, ◌<◌, None, MatchOption, IsSomeAnd, Some, slice_get};
+ghost use Rattle.std.specs.Prelude.{◌≡◌, ◌<◌, None, MatchOption, IsSomeAnd, Some, slice_get, length};
 ghost use Rattle.seg_spec.specs.Index.{Root, root_named};
 ghost use Rattle.seg_spec.specs.Sound.{Picture};
 ghost use Rattle.seg_spec.specs.Window.{KeepsHost};
@@ -186,7 +186,10 @@ impl<F: Fit, A: Allocator> Segment<F, A> {
     }
 
     /// How many names there are.
-    pub fn num_named(&self) -> u32 {
+    pub fn num_named(&self) -> u32
+        ensures { (picture : Picture) → IsSegment F.allocator self.now picture →
+            result ≡ length picture.names }
+    {
         name_count(self.window())
     }
 

@@ -1,4 +1,12 @@
-ghost use Rattle.std.specs.Prelude.{◌≡◌};
+ghost use Rattle.std.specs.Prelude.{◌≡◌, ℕ, ◌+◌, ◌≤◌, ◌↔◌, ◌⊎◌, [], length, IsTrue, IsOk, IfOk, IfErr, OnOk, OnErr};
+ghost use Rattle.seg_spec.specs.Bytes.{word, ChangesOnly};
+ghost use Rattle.seg_spec.specs.Faulty.{IsImageLength};
+ghost use Rattle.seg_spec.specs.Header.{allocator_word, index_kind_word, types_start, types_size};
+ghost use Rattle.seg_spec.specs.Heap.{live};
+ghost use Rattle.seg_spec.specs.Sound.{Picture, IsHeld};
+ghost use Rattle.seg_spec.specs.Types.{IsTable, HasTable, Agree, IsFirstDifference, longer};
+ghost use Rattle.seg_spec.specs.Window.{IsPlace, KeepsHost};
+ghost use Rattle.seg_manager.specs.Segments.{IsSegment, nothing, word_of_kind, IsNew, AddsTypes};
 
 use seg_block::{Fit, UNIT};
 use seg_index::{IndexKind, set_unique};
@@ -79,7 +87,14 @@ impl<F: Fit, A: Allocator> Segment<F, A> {
         base: u32,
         size: u32,
         index: IndexKind,
-    ) -> Result<Segment<F, A>, (Fault, Region<A>)> {
+    ) -> Result<Segment<F, A>, (Fault, Region<A>)>
+        ensures empty { F.allocator ≤ 1 →
+            IfOk result (λ segment. IsNew F.allocator segment region base size index) }
+        ensures placed { IsOk result ↔ (IsImageLength size × IsPlace (length region) base size) }
+        ensures size { IfErr result (λ refused. (refused.0 ≡ Fault.BadSize × ¬ IsImageLength size)
+            ⊎ (refused.0 ≡ Fault.Misplaced × IsImageLength size)) }
+        ensures region { IfErr result (λ refused. refused.1 ≡ region) }
+    {
         if !is_size(size) {
             return Err((Fault::BadSize, region));
         }
@@ -89,7 +104,17 @@ impl<F: Fit, A: Allocator> Segment<F, A> {
     }
 
     /// Adds the types of a longer table, in the bytes too. `TypeMismatch` where both tables have an entry that differs.
-    pub fn add_types(&mut self, types: &TypeTable) -> Result<(), Fault> {
+    pub fn add_types(&mut self, types: &TypeTable) -> Result<(), Fault>
+        ensures window { KeepsHost self.old.window self.new.window }
+        ensures agree { IsOk result ↔ Agree self.old.types types.now }
+        ensures types { OnOk result (self.new.types ≡ longer self.old.types types.now) }
+        ensures adds { OnOk result ((picture : Picture) →
+            IsSegment F.allocator self.old picture →
+            AddsTypes F.allocator self.old self.new picture types.now) }
+        ensures differs { IfErr result (λ fault. (k : ℕ) × (fault ≡ Fault.TypeMismatch k)
+            × IsFirstDifference self.old.types types.now k) }
+        ensures unchanged { OnErr result (self.new ≡ self.old) }
+    {
         let types = self.types().extends(types)?;
         write_types(self.heap.window_mut(), &types);
         self.heap.set_types(types);
@@ -108,19 +133,34 @@ impl<F: Fit, A: Allocator> Segment<F, A> {
 }
 
 /// Whether a segment may have so many bytes.
-pub(crate) fn is_size(size: u32) -> bool {
+pub(crate) fn is_size(size: u32) -> bool
+    ensures { IsTrue result ↔ IsImageLength size }
+{
     (MIN_LEN..=MAX_LEN).contains(&size) && size % UNIT == 0
 }
 
 /// Writes a table of types into the image.
-fn write_types<A: Allocator>(w: &mut Window<A>, types: &TypeTable) {
+fn write_types<A: Allocator>(w: &mut Window<A>, types: &TypeTable)
+    ensures host { KeepsHost w.old w.new }
+    ensures changes { IsTable types.now →
+        ChangesOnly w.old.bytes w.new.bytes types_start types_size }
+    ensures table { IsTable types.now → types_start + types_size ≤ length w.old.bytes →
+        HasTable w.new.bytes types_start types.now }
+{
     for t in 0..MAX_TYPES {
         w.copy_in(header::TYPES + ENTRY * t, &types.entry(t as TypeId));
     }
 }
 
 /// Writes the image of an empty segment.
-fn write_empty<F: Fit, A: Allocator>(w: &mut Window<A>, size: u32, index: IndexKind) {
+fn write_empty<F: Fit, A: Allocator>(w: &mut Window<A>, size: u32, index: IndexKind)
+    ensures host { KeepsHost w.old w.new }
+    ensures empty { F.allocator ≤ 1 → IsImageLength size → length w.old.bytes ≡ size →
+        IsHeld w.new.bytes nothing × (live w.new.bytes ≡ [])
+        × (length w.new.bytes ≡ size)
+        × (word w.new.bytes allocator_word ≡ F.allocator)
+        × (word w.new.bytes index_kind_word ≡ word_of_kind index) }
+{
     w.fill(0, size as usize, 0);
     header::begin(w);
     w.put32(header::SIZE, size / UNIT);

@@ -1,3 +1,10 @@
+ghost use Rattle.std.specs.Prelude.{◌≡◌, ◌+◌, ◌%◌, ◌≤◌, ◌⊎◌, ◌↔◌, length, IsOk, IfOk, IfErr, OnOk, OnErr};
+ghost use Rattle.seg_spec.specs.Faulty.{IsImageLength};
+ghost use Rattle.seg_spec.specs.Sound.{Picture};
+ghost use Rattle.seg_spec.specs.Window.{region_of};
+ghost use Rattle.seg_manager.specs.Segments.{IsSegment};
+ghost use Rattle.seg_manager.specs.Sizes.{Grows};
+
 use crate::segment::{Segment, is_size};
 use seg_block::{Fit, UNIT};
 use seg_raw::Fault;
@@ -7,7 +14,20 @@ use std::alloc::Allocator;
 impl<F: Fit, A: Allocator> Segment<F, A> {
     /// Adds `extra` bytes after the segment's end, and returns its new size in bytes. `BadSize` where that
     /// is no size of a segment, `NoHostRoom` where the region ends before it; then nothing changes.
-    pub fn grow(&mut self, extra: u32) -> Result<u32, Fault> {
+    pub fn grow(&mut self, extra: u32) -> Result<u32, Fault>
+        ensures types { self.new.types ≡ self.old.types }
+        ensures size { IfOk result (λ size. size ≡ length self.old.window.bytes + extra) }
+        ensures done { IsOk result ↔ ((extra % UNIT ≡ 0)
+            × IsImageLength (length self.old.window.bytes + extra)
+            × (length self.old.window.before + (length self.old.window.bytes + extra)
+            ≤ length (region_of self.old.window))) }
+        ensures fault { IfErr result (λ fault. (fault ≡ Fault.BadSize)
+            ⊎ ((fault ≡ Fault.NoHostRoom) × IsImageLength (length self.old.window.bytes + extra))) }
+        ensures unchanged { OnErr result (self.new ≡ self.old) }
+        ensures grows { OnOk result ((picture : Picture) →
+            IsSegment F.allocator self.old picture →
+            Grows F.allocator self.old self.new picture extra) }
+    {
         let w = self.heap_mut().window_mut();
         let len = w.len();
         let size = len.saturating_add(extra);

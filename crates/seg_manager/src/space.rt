@@ -1,20 +1,30 @@
-ghost use Rattle.std.specs.Prelude.{◌≡◌, ◌+◌, ◌*◌, ◌^◌, ◌≤◌};
+ghost use Rattle.std.specs.Prelude.{◌≡◌, ℕ, ◌+◌, ◌*◌, ◌^◌, ◌<◌, ◌≤◌, ◌↔◌, max, IsTrue, [], replicate};
+ghost use Rattle.seg_spec.specs.Bytes.{put};
+ghost use Rattle.seg_spec.specs.Heap.{IsHeap, span, live, gaps};
+ghost use Rattle.seg_spec.specs.Sound.{Picture};
+ghost use Rattle.seg_spec.specs.Window.{with_bytes, KeepsHost};
+ghost use Rattle.seg_manager.specs.Gaps.{bytes_of, largest_of, spare_start, spare_size, ZeroesGaps};
+ghost use Rattle.seg_manager.specs.Segments.{IsSegment};
 
 use crate::segment::Segment;
 use seg_block::{Block, Fit, HEAP_START, UNIT, block_at, is_live};
 use seg_ptr::Window;
 use std::alloc::Allocator;
 
-/// The gaps of a heap: how many, and their bytes, of all and of the largest.
+/// The bytes of the gaps of a heap, of all and of the largest.
 #[derive(Debug, Clone, Copy, Default)]
 struct Gaps {
-    count: u32,
     total: u32,
     largest: u32,
 }
 
 impl Gaps {
-    fn of<A: Allocator>(w: &Window<A>) -> Gaps {
+    fn of<A: Allocator>(w: &Window<A>) -> Gaps
+        ensures total { (allocator : ℕ) → IsHeap allocator w.now.bytes →
+            result.total ≡ bytes_of (gaps w.now.bytes) }
+        ensures largest { (allocator : ℕ) → IsHeap allocator w.now.bytes →
+            result.largest ≡ largest_of (gaps w.now.bytes) }
+    {
         let mut gaps = Gaps::default();
         let mut at = HEAP_START;
         while let Some(block) = block_at(w, at) {
@@ -26,8 +36,11 @@ impl Gaps {
         gaps
     }
 
-    fn add(&mut self, bytes: u32) {
-        self.count = self.count.saturating_add(1);
+    fn add(&mut self, bytes: u32)
+        ensures total { self.old.total + bytes < 2 ^ 32 →
+            self.new.total ≡ self.old.total + bytes }
+        ensures largest { self.new.largest ≡ max self.old.largest bytes }
+    {
         self.total = self.total.saturating_add(bytes);
         self.largest = self.largest.max(bytes);
     }
@@ -44,23 +57,37 @@ fn end_of(block: Block) -> u32
 /// Free memory.
 impl<F: Fit, A: Allocator> Segment<F, A> {
     /// The bytes of all gaps, with their headers.
-    pub fn free_memory(&self) -> u32 {
+    pub fn free_memory(&self) -> u32
+        ensures { IsHeap F.allocator self.now.window.bytes →
+            result ≡ bytes_of (gaps self.now.window.bytes) }
+    {
         Gaps::of(self.window()).total
     }
 
     /// The bytes of the largest gap, with its header.
-    pub fn largest_gap(&self) -> u32 {
+    pub fn largest_gap(&self) -> u32
+        ensures { IsHeap F.allocator self.now.window.bytes →
+            result ≡ largest_of (gaps self.now.window.bytes) }
+    {
         Gaps::of(self.window()).largest
     }
 
     /// Whether one gap is the whole heap.
-    pub fn all_memory_deallocated(&self) -> bool {
+    pub fn all_memory_deallocated(&self) -> bool
+        ensures { IsHeap F.allocator self.now.window.bytes →
+            (IsTrue result ↔ (live self.now.window.bytes ≡ [])) }
+    {
         let heap = self.window().len().saturating_sub(HEAP_START);
         Gaps::of(self.window()).largest == heap
     }
 
     /// Writes 0 to each byte of the gaps that holds no header and that the allocator doesn't use.
-    pub fn zero_free_memory(&mut self) {
+    pub fn zero_free_memory(&mut self)
+        ensures window { KeepsHost self.old.window self.new.window }
+        ensures types { self.new.types ≡ self.old.types }
+        ensures zeroes { (picture : Picture) → IsSegment F.allocator self.old picture →
+            ZeroesGaps F.allocator self.old self.new picture }
+    {
         let w = self.heap_mut().window_mut();
         let end = w.len();
         let mut at = HEAP_START;
@@ -79,6 +106,10 @@ impl<F: Fit, A: Allocator> Segment<F, A> {
 /// Writes 0 to the payload of a free block, after what the allocator keeps there.
 fn zero_payload<F: Fit, A: Allocator>(w: &mut Window<A>, block: Block)
     requires { block.at + 16 * block.units ≤ 2 ^ 30 }
+    ensures few { F.allocator ≤ 1 }
+    ensures zeros { w.new ≡ with_bytes w.old (put w.old.bytes
+        (spare_start F.allocator (span block.at block.units))
+        (replicate (spare_size F.allocator (span block.at block.units)) 0)) }
 {
     let used = UNIT + F::free_words();
     let payload = (UNIT * block.units).saturating_sub(used);

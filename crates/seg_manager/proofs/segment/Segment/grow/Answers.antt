@@ -1,10 +1,13 @@
-use Rattle.std.proofs.Common.{◌≡◌, ◌∙◌, length, false, ap, sym, arith}
+use Rattle.std.proofs.Common.{◌≡◌, ◌∙◌, length, false, ap, sym, refl, subst, arith}
 use Rattle.std.specs.Result.{OnOk, is_err}
 use Rattle.std.proofs.Common.{Result, Ok, Err}
 use Rattle.std.proofs.lemmas.Bool.{true≢false}
 use Rattle.seg_spec.specs.Window.{Placement}
 use Rattle.seg_spec.proofs.BytesLaws.{length-put}
-use Rattle.std.proofs.Common.{replicate}
+use Rattle.std.proofs.Common.{replicate, ◌≤◌, ◌+◌, ◌*◌, ◌/◌}
+use Rattle.seg_spec.specs.Heap.{IsHeap, without_end}
+use Rattle.seg_spec.specs.Faulty.{IsImageLength}
+use Rattle.seg_manager.proofs.Resizing.{grown_by_none, front_is, grown}
 use Rattle.seg_manager.proofs.segment.Segment.grow.Goals as goal
 
 holds_on_ok : {T E P : Type 0} (r : Result T E) → OnOk r P → is_err r ≡ false → P
@@ -18,3 +21,43 @@ extend_end-requires g c = omega (
   ap (λ (p : Placement). length p.bytes) c.fill.ensures,
   length-put c.resize.new.self.bytes c.len-len.result (replicate c.args.extra 0),
 )
+
+pub returns-else-extra-gt0-clause-grows : goal.returns-else-extra-gt0-clause-grows
+returns-else-extra-gt0-clause-grows g c = λ picture is.
+    let old = c.args.self.now in
+    let extra = c.args.extra in
+    let window = c.window_mut-w.ensures.value ∙ ap (λ s. s.window) c.heap_mut.ensures.value in
+    let len = rw window at c.len-len.ensures.len in
+    let is_sized = c.is_size.ensures.0 c.if-not-is_size.false in
+    let small = is_sized.not_large in
+    let size_is : c.saturating_add-size.result ≡ length old.window.bytes + extra = omega (arith, c.saturating_add-size.ensures) in
+    let sized : IsImageLength (length old.window.bytes + extra) = rw size_is at is_sized in
+    let long = holds_on_ok c.resize.result c.resize.ensures.len (sym c.is_err.ensures.value ∙ c.if-is_err.false) ∙ size_is in
+    let region = rw window at c.resize.ensures.region in
+    let base = rw window at c.resize.ensures.base in
+    grown_by_none g.F.Fit.allocator old picture is c.resize.new.self extra region base long sized c.if-extra-ne0.false (record { window = c.resize.new.self; types = c.heap_mut.result.now.types }) (omega (arith, c.if-extra-gt0.false)) refl
+    (ap (λ s. s.types) c.heap_mut.ensures.value)
+
+pub returns-then-extra-gt0-clause-grows : goal.returns-then-extra-gt0-clause-grows
+returns-then-extra-gt0-clause-grows g c = λ picture is.
+    let a = g.F.Fit.allocator in
+    let old = c.args.self.now in
+    let extra = c.args.extra in
+    let q = c.resize.new.self in
+    let window = c.window_mut-w.ensures.value ∙ ap (λ s. s.window) c.heap_mut.ensures.value in
+    let len = rw window at c.len-len.ensures.len in
+    let is_sized = c.is_size.ensures.0 c.if-not-is_size.false in
+    let small = is_sized.not_large in
+    let size_is : c.saturating_add-size.result ≡ length old.window.bytes + extra = omega (arith, c.saturating_add-size.ensures) in
+    let sized : IsImageLength (length old.window.bytes + extra) = rw size_is at is_sized in
+    let long = holds_on_ok c.resize.result c.resize.ensures.len (sym c.is_err.ensures.value ∙ c.if-is_err.false) ∙ size_is in
+    let region = rw window at c.resize.ensures.region in
+    let base = rw window at c.resize.ensures.base in
+    let whole = c.if-extra-ne0.false in
+    let filled = rw len at c.fill.ensures in
+    let front = front_is a old picture is q extra region base long sized whole c.fill.new.self c.extend_end.new.w (replicate extra 0) filled c.extend_end.ensures.host in
+    let heap : IsHeap a (without_end c.fill.new.self.bytes (extra / 16)) = rw (front, ← is.allocator_is) is.held.laid_out.heap in
+    let low = is.held.laid_out.header.not_small in
+    let wide : length c.fill.new.self.bytes ≡ length old.window.bytes + extra = ap (λ (p : Placement). length p.bytes) filled ∙ length-put q.bytes (length old.window.bytes) (replicate extra 0) ∙ long in
+    let extends = c.extend_end.ensures.extends (omega arith) heap in
+    grown a old picture is q extra region base long sized whole c.fill.new.self c.extend_end.new.w (replicate extra 0) filled c.extend_end.ensures.host c.heap_mut.result.now.types (ap (λ s. s.types) c.heap_mut.ensures.value) extends
