@@ -3,3 +3,5 @@ pub mod Laying
 pub mod Paired
 pub mod Passed
 pub mod Programs
+pub mod Bounds
+pub mod Stepping

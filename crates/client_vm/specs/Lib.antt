@@ -5,3 +5,6 @@ pub mod Runs
 pub mod Outcomes
 pub mod Lines
 pub mod Pairing
+pub mod Paths
+pub mod Places
+pub mod Machines
