@@ -1,6 +1,6 @@
 -- A flat map that gets a key, or loses one, from what the steps of the calls leave.
-use Rattle.std.proofs.Common.{◌≡◌, ℕ, zero, suc, ◌+◌, ◌*◌, ◌%◌, ◌^◌, ◌<◌, ◌≤◌, inl, inr, ⊎_elim, ℤ, true, false, List, [], ◌∷◌, ◌++◌, length, Some, None, Result, Ok, refl, sym, ap, ◌∙◌, subst, arith}
-use Rattle.std.specs.Prelude.{insert, remove, int_lt, unwrap_or}
+use Rattle.std.proofs.Common.{◌≡◌, ◌≢◌, ℕ, zero, suc, ◌+◌, ◌*◌, ◌%◌, ◌^◌, ◌<◌, ◌≤◌, inl, inr, ⊎_elim, ℤ, true, false, List, [], ◌∷◌, ◌++◌, length, map, Some, None, Result, Ok, refl, sym, ap, ◌∙◌, subst, arith}
+use Rattle.std.specs.Prelude.{insert, remove, int_lt, unwrap_or, slice_get}
 use Rattle.std.proofs.Math.Nat.{zero-mul, mul-le-mul_right}
 use Rattle.std.proofs.lemmas.List.Sums.{count_by-le-length}
 use Rattle.seg_spec.specs.Bytes.{signed, signed_long, ChangesOnly, IsSame}
@@ -8,7 +8,7 @@ use Rattle.seg_spec.specs.Types.{Form, Table, form_at, size}
 use Rattle.seg_spec.specs.Value.{Value, Values, nil, cons, Map, IsAscending, Selector, change_nth, default_of, with_value_at}
 use Rattle.seg_spec.specs.Heap.{live}
 use Rattle.seg_spec.specs.Block.{IsInside, block_of}
-use Rattle.seg_spec.specs.Reads.{Place, count_at, named, start, Holds, Leads}
+use Rattle.seg_spec.specs.Reads.{Place, count_at, named, start, spaced, places_of, Holds, Leads}
 use Rattle.seg_spec.specs.Apart.{Separate, ComesApart}
 use Rattle.seg_spec.specs.Cells.{IsWithin}
 use Rattle.seg_spec.specs.Sound.{times}
@@ -24,16 +24,17 @@ use Rattle.seg_spec.proofs.SliceLaws.{IsSame-part}
 use Rattle.seg_spec.proofs.TypesLaws.{size_large}
 use Rattle.seg_spec.proofs.CellSteps.{ChangesOnly-wider, size_aligned}
 use Rattle.seg_spec.proofs.LiveLaws.{times-same, times-append}
-use Rattle.seg_spec.proofs.Paths.{middle}
+use Rattle.seg_spec.proofs.Paths.{Middle, middle}
 use Rattle.seg_spec.proofs.OneReading.{Holds-one}
 use Rattle.seg_value.specs.Contents.{IsEntryOf}
-use Rattle.seg_value.specs.Entries.{OpensEntry, flat_asks, flat_value}
+use Rattle.seg_value.specs.Entries.{OpensEntry, ClosesEntry, flat_asks, flat_value}
 use Rattle.seg_value.specs.Places.{object_at, place_of}
 use Rattle.seg_value.specs.declared.place.Place as code
 use Rattle.seg_value.specs.declared.entry.Entry.{Entry}
-use Rattle.seg_map.specs.Maps.{value_of, AddsKey, PutsKey, TakesKey, RemovesKey}
-use Rattle.seg_map.proofs.KeyLaws.{parted_missing, inserted_place, inserted_ascends, place_below}
-use Rattle.seg_map.proofs.FlatMaps.{HasBuffer, has_buffer, entry_small, its, holds_each, length_is, value_leads, ascending, key_leads, held_leads, held_opened, held_opens, held_part}
+use Rattle.seg_spec.specs.Shrinking.{KeepsPathsInside}
+use Rattle.seg_map.specs.Maps.{value_of, AddsKey, PutsKey, TakesKey, RemovesKey, KeepsLowerKeys}
+use Rattle.seg_map.proofs.KeyLaws.{stands_before, still_there, parted_missing, inserted_place, inserted_ascends, place_below}
+use Rattle.seg_map.proofs.FlatMaps.{goes_on, goes_through, HasBuffer, has_buffer, entry_small, its, holds_each, length_is, value_leads, ascending, key_leads, held_leads, held_opened, held_opens, held_part}
 use Rattle.seg_spec.proofs.PartCleared as part
 
 -- ---- a key comes
@@ -131,6 +132,12 @@ module _ (allocator : ℕ) (old opened stored new : List ℕ) (table here : Tabl
 
 -- ---- a key goes
 
+-- what stands in the front of places
+in_front : (xs ys : List Place) (j : ℕ) (p : Place) → j < length xs → slice_get (xs ++ ys) j ≡ Some p → slice_get xs j ≡ Some p
+in_front [] ys j p l e = absurd (omega arith)
+in_front (x ∷ xs) ys zero p l e = e
+in_front (x ∷ xs) ys (suc j) p l e = in_front xs ys j p (omega arith) e
+
 removed_changed : (g : Value → Value) (vs : Values) (i : ℕ) → remove_nth (change_nth (Some i) g vs) i ≡ remove_nth vs i
 removed_changed g nil i = refl
 removed_changed g (cons v vs) zero = refl
@@ -164,12 +171,15 @@ module _ (allocator : ℕ) (old : List ℕ) (table : Table) (place : Place) (U :
   abbrev pub rest : List ℕ
   rest = part.rest allocator old table place (Map keys vs) blocks s inner (Selector.key key ∷ []) led
 
-  inside : IsInside old (block_of b.p) inner.at (size table inner.type)
-  inside =
+  value_inside : (n : ℕ) → n < count_at old place.at → IsInside old (block_of b.p) (start old place.at + n * (8 + size table U) + 8) (size table U)
+  value_inside n l =
       let e = start_is in
-      let whole : suc i * each ≤ count_at old place.at * each = mul-le-mul_right each below in
-      let more : suc i * each ≡ i * each + each = grind arith in
+      let whole : suc n * each ≤ count_at old place.at * each = mul-le-mul_right each l in
+      let more : suc n * each ≡ n * each + each = grind arith in
       record { low = omega (arith, b.block.after_header); high = omega (arith, b.block.room, b.block.after_header, b.lies.size) }
+
+  inside : IsInside old (block_of b.p) inner.at (size table inner.type)
+  inside = value_inside i below
 
   aligned : inner.at % 8 ≡ 0
   aligned =
@@ -202,6 +212,54 @@ module _ (allocator : ℕ) (old : List ℕ) (table : Table) (place : Place) (U :
       let parts = part.counts allocator old table place (Map keys vs) blocks s inner (Selector.key key ∷ []) led h in
       omega arith
 
+  -- ---- a value before it
+
+  m : Middle old table (places_of U (map (λ p. p + 8) (spaced (start old place.at) (8 + size table U) (count_at old place.at)))) i inner vs (its allocator old table place U keys vs blocks f s).owned
+  m = middle old table (holds_each allocator old table place U keys vs blocks f s) i inner (held_part old table place U keys vs blocks f s.holds_it i below)
+
+  module _ (j : ℕ) (earlier : j < i) where
+    abbrev sooner : Place
+    sooner = value_of U (start old place.at + j * (8 + size table U) + 8)
+
+    among : slice_get m.before j ≡ Some sooner
+    among =
+        let l = below in
+        let e = m.at_is in
+        let all = held_part old table place U keys vs blocks f s.holds_it j (omega arith) in
+        let split = subst (λ ps. slice_get ps j ≡ Some sooner) m.places_are all in
+        in_front m.before (inner ∷ m.after) j sooner (omega arith) split
+
+    own : Middle old table m.before j sooner m.left m.xs
+    own = middle old table m.lefts j sooner among
+
+    -- its blocks are none of the other value's, nor the buffer
+    others : (h : ℕ) → 1 ≤ times h own.zs → (1 ≤ times h rest) × (h ≢ block_of b.p)
+    others h some =
+        let first = ap (times h) own.blocks_are in
+        let first_left = times-append h own.xs (own.zs ++ own.ys) in
+        let first_right = times-append h own.zs own.ys in
+        let second = ap (times h) m.blocks_are in
+        let second_left = times-append h m.xs (m.zs ++ m.ys) in
+        let second_right = times-append h m.zs m.ys in
+        let buffered = its allocator old table place U keys vs blocks f s in
+        let all = ap (times h) buffered.blocks_are in
+        let both = times-append h (named old place.at) buffered.owned in
+        let its_are = ap (times h) (Holds-one old table c.holds_it m.holds_it).1 in
+        let once = part.blocks_once allocator old table place (Map keys vs) blocks s inner (Selector.key key ∷ []) led h in
+        let parts = part.counts allocator old table place (Map keys vs) blocks s inner (Selector.key key ∷ []) led h in (
+          omega arith,
+          λ e. let one : times (block_of b.p) (named old place.at) ≡ 1 = rw b.names (times-same (block_of b.p) []) in
+              let here : times h (named old place.at) ≡ 1 = subst (λ x. times x (named old place.at) ≡ 1) (sym e) one in omega arith,
+        )
+
+    pub sooner_kept : (mid : List ℕ) (w : Value) → ChangesPlace old mid table inner w [] (after_gives (live old) c.its) c.its [] → KeepsPathsInside old mid table sooner
+    sooner_kept mid w change =
+        let l = below in
+        let less : suc j * (8 + size table U) ≤ i * (8 + size table U) = mul-le-mul_right (8 + size table U) earlier in
+        let more : suc j * (8 + size table U) ≡ j * (8 + size table U) + (8 + size table U) = grind arith in
+        part.beside_paths allocator old table place (Map keys vs) blocks s inner (Selector.key key ∷ []) led (block_of b.p) inside mine aligned mid w change sooner own.value own.zs own.holds_it
+        (value_inside j (omega arith)) (inl (omega arith)) others
+
   pub inner_stands : Stands allocator old table inner c.value c.its
   inner_stands = part.inner_stands allocator old table place (Map keys vs) blocks s inner (Selector.key key ∷ []) led (block_of b.p) inside mine aligned
 
@@ -224,15 +282,34 @@ module _ (allocator : ℕ) (old : List ℕ) (table : Table) (place : Place) (U :
     start_kept : start mid place.at ≡ start old place.at
     start_kept = ap (λ t. unwrap_or t 0) (cell-target old mid place.at cell_same)
 
-    pub closed : ((vs : Values) (blocks : List ℕ) → Stands allocator mid table place (Map keys vs) blocks → i < count_at mid place.at → PlaceBlocks mid table (value_of U (start mid place.at + i * (8 + size table U) + 8)) []
-        → ChangesPlace mid new table place (without_entry (keys, vs) i) blocks (live mid) blocks blocks) → TakesKey allocator old new table place keys vs blocks i
-    closed closes =
+    -- the gap is closed
+    abbrev Closes : Type 0
+    Closes = (vs : Values) (blocks : List ℕ) → Stands allocator mid table place (Map keys vs) blocks → i < count_at mid place.at
+        → PlaceBlocks mid table (value_of U (start mid place.at + i * (8 + size table U) + 8)) [] → ClosesEntry mid new table place U keys vs blocks i
+
+    last : Closes → ClosesEntry mid new table place U keys changed rest i
+    last closes =
         let value : Holds mid table (value_of U (start mid place.at + i * (8 + size table U) + 8)) w [] =
         subst (λ a. Holds mid table (value_of U (a + i * (8 + size table U) + 8)) w []) (sym start_kept) change.holds_it in
         let count = cell-count old mid place.at cell_same in
-        let last = closes changed rest stands_mid (let l = below in omega arith) (w, value) in
+        closes changed rest stands_mid (let l = below in omega arith) (w, value)
+
+    pub keeps_lower : Closes → KeepsLowerKeys old new table place key
+    keeps_lower closes other path goal lower way =
+        let g = goes_on old table place U keys vs blocks f s.holds_it other path goal way in
+        let ascends = ascending allocator old table place U keys vs blocks f s in
+        let l = stands_before keys key i ascends there other g.i g.place_is lower in
+        let then = last closes in
+        let first = sooner_kept g.i l mid w change path goal g.goes in
+        let moved = subst (λ a. Leads mid table (value_of U (a + g.i * (8 + size table U) + 8)) path goal) (sym start_kept) first in
+        let second = then.paths g.i l path goal moved in
+        let there_now = subst (λ a. Leads new table (value_of U (a + g.i * (8 + size table U) + 8)) path goal) (sym then.start_kept) second in
+        goes_through new table place U (remove keys i) (remove_nth changed i) rest f then.changes.holds_it other g.i (still_there keys key i ascends there other g.i g.place_is lower) path goal there_now
+
+    pub closed : Closes → TakesKey allocator old new table place keys vs blocks i
+    closed closes =
         let last' : ChangesPlace mid new table place (without_entry (keys, vs) i) rest (live mid) rest rest =
-        subst (λ us. ChangesPlace mid new table place (Map (remove keys i) us) rest (live mid) rest rest) (removed_changed (with_value_at [] w) vs i) last in
+        subst (λ us. ChangesPlace mid new table place (Map (remove keys i) us) rest (live mid) rest rest) (removed_changed (with_value_at [] w) vs i) (last closes).changes in
         record {
           gives = c.its;
           part = record {
@@ -278,7 +355,7 @@ module _ (allocator : ℕ) (old : List ℕ) (table : Table) (cell T U : ℕ) (ke
       → Some value ≡ Some (record { at = (from + i * entry.size + entry.before) % 2 ^ 32; type_id = U })
       → ((v : Value) (bs : List ℕ) → Stands allocator old table (place_of value) v bs → ChangesPlace old mid table (place_of value) (default_of table value.type_id) [] (after_gives (live old) bs) bs [])
       → ((us : Values) (bs : List ℕ) → Stands allocator mid here (object_at cell T) (Map keys us) bs → i < count_at mid cell → PlaceBlocks mid here (flat_value mid here cell U i) []
-      → ChangesPlace mid new here (object_at cell T) (without_entry (keys, us) i) bs (live mid) bs bs) → RemovesKey allocator old new table (object_at cell T) keys vs blocks (key_place keys key) true
+      → ClosesEntry mid new here (object_at cell T) U keys us bs i) → RemovesKey allocator old new table (object_at cell T) keys vs blocks (key_place keys key) true × KeepsLowerKeys old new table (object_at cell T) key
   remove_found mid new here same entry i from value e h from_is value_is clears closes =
       let there : key_place keys key ≡ Some i = subst (λ k. key_place keys k ≡ Some i) back h in
       let below : i < count_at old cell = subst (λ k. i < k) (length_is allocator old table (object_at cell T) U keys vs blocks f s) (place_below keys key i there) in
@@ -292,9 +369,11 @@ module _ (allocator : ℕ) (old : List ℕ) (table : Table) (cell T U : ℕ) (ke
       let change = clears c'.value c'.its (subst (λ p. Stands allocator old table p c'.value c'.its) (sym place_is) stands) in
       let change' = subst (λ (p : Place). ChangesPlace old mid table p (default_of table p.type) [] (after_gives (live old) c'.its) c'.its []) place_is change in
       let closes' = subst (λ t. (us : Values) (bs : List ℕ) → Stands allocator mid t (object_at cell T) (Map keys us) bs → i < count_at mid cell → PlaceBlocks mid t (flat_value mid t cell U i) []
-      → ChangesPlace mid new t (object_at cell T) (without_entry (keys, us) i) bs (live mid) bs bs) same closes in
-      subst (λ o. RemovesKey allocator old new table (object_at cell T) keys vs blocks o true) (sym there)
-      (refl, closed allocator old table (object_at cell T) U keys vs blocks f s key i there mid new (default_of table U) change' closes')
+      → ClosesEntry mid new t (object_at cell T) U keys us bs i) same closes in (
+        subst (λ o. RemovesKey allocator old new table (object_at cell T) keys vs blocks o true) (sym there)
+            (refl, closed allocator old table (object_at cell T) U keys vs blocks f s key i there mid new (default_of table U) change' closes'),
+        keeps_lower allocator old table (object_at cell T) U keys vs blocks f s key i there mid new (default_of table U) change' closes',
+      )
     where
       known : (x y : code.Place) → Some x ≡ Some y → x ≡ y
       known x y e = cc

@@ -12,7 +12,7 @@ use Rattle.std.specs.declared.cmp.Ordering.TheVariants.{Less, Equal, Greater}
 use Rattle.seg_spec.specs.Bytes.{signed_long}
 use Rattle.seg_spec.specs.Pointer.{target}
 use Rattle.seg_spec.specs.Types.{Form, Table, form_at, size}
-use Rattle.seg_spec.specs.Value.{Label, Values, Map, IsAscending, Selector}
+use Rattle.seg_spec.specs.Value.{index_of, Label, Values, Map, IsAscending, Selector}
 use Rattle.seg_spec.specs.Heap.{live, heap_start}
 use Rattle.seg_spec.specs.Block.{Kind, tag_of, IsBlock, block_of}
 use Rattle.seg_spec.specs.Reads.{Place, Opened, count_at, named, start, spaced, places_of, keys_at, Opens, Holds, HoldsEach, Leads, here, into}
@@ -22,6 +22,8 @@ use Rattle.seg_spec.specs.Items.{key_place, keys_below}
 use Rattle.seg_spec.proofs.LiveLaws.{times-same, there, LiesIn, live-lie}
 use Rattle.seg_spec.proofs.PlaceSteps.{owned_live}
 use Rattle.seg_spec.proofs.Buffered.{Buffered, buffered}
+use Rattle.seg_spec.proofs.OneReading.{Opens-one}
+use Rattle.seg_value.proofs.Runs.{spaced_get, map_get}
 use Rattle.seg_value.specs.Search.{IsBetween}
 use Rattle.seg_value.specs.Contents.{IsEntryOf}
 use Rattle.seg_value.specs.declared.entry.Entry.{Entry}
@@ -56,18 +58,6 @@ length-spaced at step (suc n) = ap suc (length-spaced (at + step) step n)
 length-keys_at : (bytes ps : List ℕ) → length (keys_at bytes ps) ≡ length ps
 length-keys_at bytes [] = refl
 length-keys_at bytes (p ∷ ps) = ap suc (length-keys_at bytes ps)
-
-pub spaced_get : (at step n i : ℕ) → i < n → slice_get (spaced at step n) i ≡ Some (at + i * step)
-spaced_get at step zero i h = absurd (omega arith)
-spaced_get at step (suc n) zero h = let e : at + 0 * step ≡ at = omega arith in rw e refl
-spaced_get at step (suc n) (suc i) h =
-    let e : at + step + i * step ≡ at + suc i * step = grind arith in
-    spaced_get (at + step) step n i (omega arith) ∙ ap Some e
-
-pub map_get : {X Y : Type 0} (f : X → Y) (xs : List X) (i : ℕ) (x : X) → slice_get xs i ≡ Some x → slice_get (map f xs) i ≡ Some (f x)
-map_get f [] i x e = cc
-map_get f (y ∷ ys) zero x e = let same : y ≡ x = cc in ap (λ z. Some (f z)) same
-map_get f (y ∷ ys) (suc i) x e = map_get f ys i x e
 
 one_less : (i : ℕ) → suc i - 1 ≡ i
 one_less i = omega arith
@@ -109,11 +99,32 @@ module _ (bytes : List ℕ) (table : Table) (place : Place) (U : ℕ) (keys : Li
       map_get (λ p. value_of U p) (map (λ p. p + 8) held_entries) i (start bytes place.at + i * (8 + size table U) + 8)
       (map_get (λ p. p + 8) held_entries i (start bytes place.at + i * (8 + size table U)) (spaced_get (start bytes place.at) (8 + size table U) (count_at bytes place.at) i h))
 
-  pub held_leads : (key : ℤ) (i : ℕ) → key_place keys key ≡ Some i → Leads bytes table place (Selector.key key ∷ []) (held_value i)
-  held_leads key i at =
+  -- a path from the value of a key, and back
+  pub goes_through : (key : ℤ) (i : ℕ) → key_place keys key ≡ Some i → (path : List Selector) (inner : Place) → Leads bytes table (held_value i) path inner → Leads bytes table place (Selector.key key ∷ path) inner
+  goes_through key i at path inner way =
       let below : i < count_at bytes place.at = subst (λ k. i < k) held_length (place_below keys key i at) in
       let index : key_place (keys_at bytes held_entries) key ≡ Some i = subst (λ ks. key_place ks key ≡ Some i) held_keys at in
-      into {place = place} (Form.flat_map U) held_opened i (held_value i) f held_opens index (held_part i below) here
+      into {place = place} (Form.flat_map U) held_opened i (held_value i) f held_opens index (held_part i below) way
+
+  pub held_leads : (key : ℤ) (i : ℕ) → key_place keys key ≡ Some i → Leads bytes table place (Selector.key key ∷ []) (held_value i)
+  held_leads key i at = goes_through key i at [] (held_value i) here
+
+  pub record GoesOn (key : ℤ) (path : List Selector) (inner : Place) : Type 0 where
+    pub i : ℕ
+    pub place_is : key_place keys key ≡ Some i
+    pub goes : Leads bytes table (held_value i) path inner
+
+  pub goes_on : (key : ℤ) (path : List Selector) (inner : Place) → Leads bytes table place (Selector.key key ∷ path) inner → GoesOn key path inner
+  goes_on key path inner (into form opened i part e o index part_is rest) =
+      let forms : form ≡ Form.flat_map U = (let k : Some form ≡ Some (Form.flat_map U) = sym e ∙ f in cc) in
+      let same : opened ≡ held_opened = Opens-one bytes table place (Form.flat_map U) opened held_opened (subst (λ g. Opens bytes table place g opened) forms o) held_opens in
+      let there_is : key_place (keys_at bytes held_entries) key ≡ Some i = subst (λ (op : Opened). index_of op.label (Selector.key key) ≡ Some i) same index in
+      let at : key_place keys key ≡ Some i = subst (λ ks. key_place ks key ≡ Some i) (sym held_keys) there_is in
+      let below : i < count_at bytes place.at = subst (λ k. i < k) held_length (place_below keys key i at) in
+      let its_part : slice_get held_opened.parts i ≡ Some part = subst (λ (op : Opened). slice_get op.parts i ≡ Some part) same part_is in
+      let also = held_part i below in
+      let one : part ≡ held_value i = (let k : Some part ≡ Some (held_value i) = sym its_part ∙ also in cc) in
+      record { i = i; place_is = at; goes = subst (λ q. Leads bytes table q path inner) one rest }
 
 -- ---- where calls find it
 

@@ -1,7 +1,7 @@
 -- Ascending keys, and where another one stands among them.
 use Rattle.std.proofs.Common.{◌≡◌, ℕ, zero, suc, ◌+◌, ◌<◌, ◌⊎◌, inl, inr, ℤ, ◌<ℤ◌, Bool, true, false, not, cond, T, List, [], ◌∷◌, ◌++◌, length, take, drop, Some, None, refl, sym, ap, ◌∙◌, subst, arith}
-use Rattle.std.proofs.Common.{zero-add, length-append, lt-ltb, le-ltb, ltb-true}
-use Rattle.std.specs.Prelude.{int_lt, filter, count_by, nat_lt, slice_get, insert}
+use Rattle.std.proofs.Common.{◌-◌, ◌≤◌, zero-add, length-append, lt-ltb, le-ltb, ltb-true}
+use Rattle.std.specs.Prelude.{int_lt, filter, count_by, nat_lt, slice_get, insert, remove}
 use Rattle.std.specs.List.{AllByRecursion, prefix_len}
 use Rattle.std.proofs.lemmas.List.Sums.{sum_by-cons}
 use Rattle.std.specs.Ordering.{int_cmp}
@@ -9,6 +9,8 @@ use Rattle.std.specs.Cmp.{int_chain, int_ranked}
 use Rattle.std.specs.declared.cmp.Ordering.{Ordering}
 use Rattle.std.specs.declared.cmp.Ordering.TheVariants.{Less, Equal, Greater}
 use Rattle.std.specs.Int.Signed.{<ℤ_irrefl}
+use Rattle.std.proofs.lemmas.Bool.{cases_lt}
+use Rattle.seg_value.proofs.Runs.{remove_key}
 use Rattle.seg_spec.specs.Value.{IsAscending, same_int}
 use Rattle.seg_spec.specs.Items.{key_place, keys_below}
 use Rattle.seg_map.specs.Maps.{first_of, keys_above}
@@ -261,6 +263,53 @@ parted_missing keys k i a e is = by (parted keys k a)
     by : PartedAt keys k → Parted keys k i []
     by (inl p) = let there = found_place keys k p.0 p.1 in cc
     by (inr p) = subst (λ j. Parted keys k j []) (sym (missing_below keys k p.0 p.1) ∙ sym is) p.1
+
+-- ---- a key below one that goes
+
+clash : (a b : ℤ) → a <ℤ b → b <ℤ a → ⊥
+clash a b h g = let t = less_true a b h in let f = less_false b a g in cc
+
+get_left : {X : Type 0} (xs ys zs : List X) (j : ℕ) → j < length xs → slice_get (xs ++ ys) j ≡ slice_get (xs ++ zs) j
+get_left [] ys zs j l = absurd (omega arith)
+get_left (x ∷ xs) ys zs zero l = refl
+get_left (x ∷ xs) ys zs (suc j) l = get_left xs ys zs j (omega arith)
+
+module _ (keys : List ℤ) (k : ℤ) (i : ℕ) (ascending : IsAscending keys) (there_is : key_place keys k ≡ Some i) (other : ℤ) (j : ℕ) (other_is : key_place keys other ≡ Some j) (lower : other <ℤ k) where
+  at_k : Parted keys k i (k ∷ [])
+  at_k = parted_found keys k i ascending there_is
+
+  key_at_j : slice_get keys j ≡ Some other
+  key_at_j =
+      let p = parted_found keys other j ascending other_is in
+      let e : length p.below + 0 ≡ j = omega (arith, p.at_is) in
+      let got : slice_get (p.below ++ other ∷ p.above) j ≡ Some other = subst (λ n. slice_get (p.below ++ other ∷ p.above) n ≡ Some other) e (get_append p.below (other ∷ p.above) 0) in
+      subst (λ ks. slice_get ks j ≡ Some other) (sym p.keys_are) got
+
+  -- it stands before that one
+  pub stands_before : j < i
+  stands_before = go (cases_lt j i)
+    where
+      above_k : (d : ℕ) → slice_get (k ∷ at_k.above) d ≡ Some other → ⊥
+      above_k zero e = let same : k ≡ other = cc in clash k k (subst (λ x. x <ℤ k) (sym same) lower) (subst (λ x. x <ℤ k) (sym same) lower)
+      above_k (suc d) e = clash other k lower (front_below k at_k.above d other at_k.all_above e)
+
+      go : (j < i) ⊎ (i ≤ j) → j < i
+      go (inl l) = l
+      go (inr l) =
+          let e : length at_k.below + (j - i) ≡ j = omega (arith, at_k.at_is) in
+          let got : slice_get (at_k.below ++ k ∷ at_k.above) j ≡ Some other = subst (λ ks. slice_get ks j ≡ Some other) at_k.keys_are key_at_j in
+          let moved : slice_get (at_k.below ++ k ∷ at_k.above) (length at_k.below + (j - i)) ≡ Some other = subst (λ n. slice_get (at_k.below ++ k ∷ at_k.above) n ≡ Some other) (sym e) got in
+          absurd (above_k (j - i) (sym (get_append at_k.below (k ∷ at_k.above) (j - i)) ∙ moved))
+
+  -- where it stands once that one is gone
+  pub still_there : key_place (remove keys i) other ≡ Some j
+  still_there =
+      let left = subst IsAscending at_k.keys_are ascending in
+      let got : slice_get (at_k.below ++ k ∷ at_k.above) j ≡ Some other = subst (λ ks. slice_get ks j ≡ Some other) at_k.keys_are key_at_j in
+      let l = stands_before in
+      let front : slice_get (at_k.below ++ at_k.above) j ≡ Some other = get_left at_k.below at_k.above (k ∷ at_k.above) j (omega (arith, at_k.at_is)) ∙ got in
+      let gone : remove keys i ≡ at_k.below ++ at_k.above = ap (λ ks. remove ks i) at_k.keys_are ∙ remove_key at_k.below at_k.above k i (sym at_k.at_is) in
+      rw gone (found_place (at_k.below ++ at_k.above) other j (parted_at (at_k.below ++ at_k.above) other j (ascending_without at_k.below k at_k.above left) front))
 
 -- ---- a key comes
 

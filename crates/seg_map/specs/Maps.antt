@@ -9,7 +9,9 @@
 --                                 doesn't have the key
 --     AddsKey, PutsKey            a key came to a map; what putting a key leaves
 --     TakesKey, RemovesKey        a key went from a map; what removing a key leaves
-use Rattle.std.specs.Prelude.{◌≡◌, ℕ, Bool, true, false, ℤ, int_lt, List, [], ◌∷◌, filter, slice_get, Option, Some, None, MatchOption, Result, MatchResult}
+--     KeepsLowerKeys old new table map key
+--                                 paths through keys below another lead where they led
+use Rattle.std.specs.Prelude.{◌≡◌, ◌<ℤ◌, ℕ, Bool, true, false, ℤ, int_lt, List, [], ◌∷◌, filter, slice_get, Option, Some, None, MatchOption, Result, MatchResult}
 use Rattle.seg_spec.specs.Types.{Form, Table, form_at}
 use Rattle.seg_spec.specs.Value.{Values, Map, Selector, default_of}
 use Rattle.seg_spec.specs.Items.{key_place, with_entry, without_entry}
@@ -81,3 +83,10 @@ abbrev pub RemovesKey : ℕ → List ℕ → List ℕ → Table → Place → Li
 RemovesKey allocator old new table map keys vs blocks None gone = (gone ≡ false) × (new ≡ old)
 RemovesKey allocator old new table map keys vs blocks (Some i) gone =
     (gone ≡ true) × TakesKey allocator old new table map keys vs blocks i
+
+-- each path through a key below another leads where it led
+abbrev pub KeepsLowerKeys : List ℕ → List ℕ → Table → Place → ℤ → Type 0
+KeepsLowerKeys old new table map key =
+    (other : ℤ) (path : List Selector) (inner : Place) → other <ℤ key
+    → Leads old table map (Selector.key other ∷ path) inner
+    → Leads new table map (Selector.key other ∷ path) inner

@@ -7,7 +7,7 @@ ghost use Rattle.seg_spec.specs.Window.{KeepsHost};
 ghost use Rattle.seg_value.specs.Places.{object_at};
 ghost use Rattle.seg_value.specs.Contents.{IsEntryOf};
 ghost use Rattle.seg_value.specs.Entries.{NamesFlatMap, flat_asks};
-ghost use Rattle.seg_map.specs.Maps.{WhereMap, FindsValue, PutsKey, RemovesKey, first_of, keys_above};
+ghost use Rattle.seg_map.specs.Maps.{WhereMap, FindsValue, PutsKey, RemovesKey, KeepsLowerKeys, first_of, keys_above};
 
 use seg_block::Fit;
 use seg_raw::Code;
@@ -108,6 +108,10 @@ pub(crate) fn remove<F: Fit, A: Allocator>(
         (λ T U keys vs blocks. NamesFlatMap heap.old.types T U content.now →
         RemovesKey F.allocator heap.old.window.bytes heap.new.window.bytes heap.old.types
         (object_at cell T) keys vs blocks (key_place keys key) result) }
+    ensures keeps { WhereMap Form.flat_map F.allocator heap.old.window.bytes heap.old.types cell
+        (λ T U keys vs blocks. NamesFlatMap heap.old.types T U content.now →
+        KeepsLowerKeys heap.old.window.bytes heap.new.window.bytes heap.old.types
+        (object_at cell T) key) }
 {
     let Ok(index) = search(heap, content.entry, cell, key) else {
         return false;

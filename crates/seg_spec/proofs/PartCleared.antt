@@ -14,6 +14,8 @@ use Rattle.seg_spec.specs.Roots.{ChangesPlace}
 use Rattle.seg_spec.specs.Owning.{Stands}
 use Rattle.seg_spec.specs.Demand.{after_gives}
 use Rattle.seg_spec.specs.Growing.{Succeeds}
+use Rattle.seg_spec.specs.Shrinking.{KeepsPathsInside}
+use Rattle.seg_spec.proofs.Leading.{Leads-kept}
 use Rattle.seg_spec.proofs.SliceLaws.{IsSame-part}
 use Rattle.seg_spec.proofs.Frame.{word-same}
 use Rattle.seg_spec.proofs.LiveLaws.{OneOrApart, times-same, times-other, times-append, there, each_there, LiesIn, live-lie, live-once, live-apart, apart_once}
@@ -119,6 +121,30 @@ module _ (allocator : ℕ) (old : List ℕ) (table : Table) (place : Place) (v :
       pub place_same : IsSame old mid place.at (size table place.type)
       place_same = place_around place.at (size table place.type) (omega arith) (omega arith)
           (⊎_elim (λ l. inl (omega (arith, inside.low))) (λ l. inr (omega (arith, inside.high))) (there (λ h. Separate place.at (size table place.type) h (16 * units_at old h)) block rest place_beside mine))
+
+      -- each path from a part beside the value, in the same block and with other blocks, leads where it led
+      pub beside_paths : (other : Place) (u : Value) (bs : List ℕ) → Holds old table other u bs → IsInside old block other.at (size table other.type)
+          → Separate other.at (size table other.type) inner.at (size table inner.type) → ((h : ℕ) → 1 ≤ times h bs → (1 ≤ times h rest) × (h ≢ block)) → KeepsPathsInside old mid table other
+      beside_paths other u bs holds_it in_block apart ours path goal way =
+          let b = change.kept block (rest_live block mine) (rest_kept block mine) in
+          let l = lies block (rest_live block mine) in
+          Leads-kept old mid table s.is_table way holds_it (b.payload other.at (size table other.type) (omega (arith, in_block.low)) (omega (arith, in_block.high, l.size)) apart)
+          (each_there (KeepsBlock old mid) bs (λ g some. whole g (ours g some).0 (ours g some).1))
+        where
+          whole : (g : ℕ) → 1 ≤ times g rest → g ≢ block → KeepsBlock old mid g
+          whole g some ne =
+              let k = change.kept g (rest_live g some) (rest_kept g some) in
+              record {
+                live = k.header.live;
+                has_tag = k.header.has_tag;
+                room = k.header.room;
+                payload = k.payload (g + 16) (payload_size old g) (omega arith) (omega arith) (off (pair block g (rest_live block mine) (rest_live g some)));
+              }
+            where
+              off : OneOrApart old block g → Separate (g + 16) (payload_size old g) inner.at (size table inner.type)
+              off (inl e) = absurd (ne e)
+              off (inr (inl before)) = inr (omega (arith, inside.high))
+              off (inr (inr following)) = let l = lies g (rest_live g some) in inl (omega (arith, inside.low, l.size))
 
       rest_apart : BlocksApart old rest
       rest_apart = apart_once old rest

@@ -18,7 +18,8 @@ use Rattle.seg_spec.specs.Owning.{Stands, StandsBeside}
 use Rattle.seg_spec.specs.Growing.{Reserves}
 use Rattle.seg_spec.specs.Items.{insert_nth, remove_nth, without_entry}
 use Rattle.seg_spec.specs.Spending.{PlaceBlocks}
-use Rattle.seg_value.specs.Entries.{flat_value, flat_asks, OpensEntry}
+use Rattle.seg_value.specs.Entries.{flat_value, flat_asks, OpensEntry, ClosesEntry}
+use Rattle.seg_spec.specs.Shrinking.{KeepsPathsInside}
 use Rattle.seg_spec.proofs.BytesLaws.{number-set_same}
 use Rattle.seg_spec.proofs.SliceLaws.{IsSame-part}
 use Rattle.seg_spec.proofs.OneReading.{Holds-one}
@@ -31,7 +32,7 @@ use Rattle.seg_spec.proofs.PlaceSteps.{home_live, owned_live, owned_other, place
 use Rattle.seg_spec.proofs.Standing.{Frames, frames_twice, stands_after}
 use Rattle.seg_spec.proofs.Buffered.{HoldsEntries, Buffered, buffered, holds_buffered}
 use Rattle.seg_value.proofs.Inside.{changes_twice, wrote_heap, wrote_live, wrote_ownable, wrote_other, wrote_block, frames_beside, frames_around}
-use Rattle.seg_value.proofs.Runs.{Run, run_kept, run_moved, parts, joined, alone, keys_long, the_one, insert_between, remove_between, insert_key, remove_key, ascending_after, ascending_without}
+use Rattle.seg_value.proofs.Runs.{Run, run_kept, run_paths, run_moved, parts, joined, alone, keys_long, the_one, insert_between, remove_between, insert_key, remove_key, ascending_after, ascending_without}
 use Rattle.seg_value.proofs.Shifts.{moved_changes}
 
 both : (ks ls : List ℤ) (us ws : Values) → Map ks us ≡ Map ls ws → (ks ≡ ls) × (us ≡ ws)
@@ -161,6 +162,7 @@ module _ (allocator : ℕ) (old : List ℕ) (table : Table) (place : Place) (U :
     pub block : (n : ℕ) → n ≤ payload_size old (block_of p) → IsBlock new p (tag_of Kind.buffer place.type) n
     pub first : Run new table U p a k1 v1 o1
     pub next : Run new table U to k k2 v2 o2
+    pub paths : (i : ℕ) → i < a → KeepsPathsInside old new table (record { at = p + i * (8 + size table U) + 8; type = U })
 
   module _ (a k from to c : ℕ) (moved new : List ℕ) (shifts : Shifts old moved table 8 U (8 + size table U) from to k) (new_is : new ≡ set_word moved (place.at + 4) c) (c_small : c < 2 ^ 32) (even : to % 8 ≡ 0)
       (k1 k2 : List ℤ) (v1 v2 : Values) (o1 o2 : List ℕ) (first : Run old table U p a k1 v1 o1) (next : Run old table U from k k2 v2 o2) (ascending : IsAscending k2)
@@ -288,6 +290,9 @@ module _ (allocator : ℕ) (old : List ℕ) (table : Table) (place : Place) (U :
       block = new_block;
       first = first_new;
       next = next_new;
+      paths = λ i below path goal way. run_paths moved new table s.is_table U p a k1 v1 o1 (buffer_same p (a * each) (omega arith) (omega arith)) (new_inner o1 ours_first) first_moved i below path goal
+          (run_paths old moved table s.is_table U p a k1 v1 o1 (moves.others p (a * each) (inl before))
+          (each_there (KeepsBlock old moved) o1 (λ h some. let j = inner h (ours_first h some) in moved_other h j.is_live j.not_buffer)) first i below path goal way);
     }
 
   -- ---- where an entry begins
@@ -311,7 +316,7 @@ module _ (allocator : ℕ) (old : List ℕ) (table : Table) (place : Place) (U :
     q : ℕ
     q = p + index * (8 + size table U)
 
-    pub closed : ChangesPlace old new table place (without_entry (keys, vs) index) blocks (live old) blocks blocks
+    pub closed : ClosesEntry old new table place U keys vs blocks index
     unfolding q
     closed =
         let r : Run old table U p (index + (1 + k)) keys vs owned = rw counted at all_entries in
@@ -338,7 +343,13 @@ module _ (allocator : ℕ) (old : List ℕ) (table : Table) (place : Place) (U :
         (subst (λ xs. Run new table U p (index + k) (a.first_keys ++ b.next_keys) (append a.first_values b.next_values) xs) (sym owned_are) run) (ascending_without a.first_keys b.next_keys key ascend) in
         let new_keys : remove keys index ≡ a.first_keys ++ b.next_keys = ap (λ ks. remove ks index) keys_are ∙ remove_key a.first_keys b.next_keys key index a.keys_count in
         let new_values : remove_nth vs index ≡ append a.first_values b.next_values = ap (λ us. remove_nth us index) values_are ∙ remove_between a.first_values b.next_values one.value index a.values_count in
-        rw (new_keys, new_values) done
+        let changes : ChangesPlace old new table place (without_entry (keys, vs) index) blocks (live old) blocks blocks = rw (new_keys, new_values) done in
+        let start_is : start old place.at ≡ p = ap (λ o. unwrap_or o 0) named_is in
+        record {
+          changes = changes;
+          start_kept = ap (λ o. unwrap_or o 0) m.named_then ∙ sym start_is;
+          paths = λ i below. subst (λ x. KeepsPathsInside old new table (record { at = x + i * (8 + size table U) + 8; type = U })) (sym start_is) (m.paths i below);
+        }
 
   -- ---- one comes
 
@@ -514,10 +525,10 @@ module _ (allocator : ℕ) (old : List ℕ) (table : Table) (place : Place) (U :
   pub closed_by : (index each at next last k step begin : ℕ) (moved new : List ℕ) → index < count_at old place.at → each ≡ 8 + size table U → begin ≡ start old place.at
       → last ≡ count_at old place.at - 1 → k ≡ last - index → step ≡ min (index + 1) 4294967295
       → at ≡ (begin + index * each) % 2 ^ 32 → next ≡ (begin + step * each) % 2 ^ 32 → (IsWithin old next (k * each) → IsWithin old at (k * each) → Shifts old moved table 8 U each next at k) → new ≡ set_word moved (place.at + 4) last
-      → PlaceBlocks old table (flat_value old table place.at U index) [] → ChangesPlace old new table place (without_entry (keys, vs) index) blocks (live old) blocks blocks
+      → PlaceBlocks old table (flat_value old table place.at U index) [] → ClosesEntry old new table place U keys vs blocks index
   closed_by index each at next last k step begin moved new below each_is begin_is last_is k_is step_is at_by next_by shifts new_is nothing = go (target old place.at) refl
     where
-      go : (o : Option ℕ) → target old place.at ≡ o → ChangesPlace old new table place (without_entry (keys, vs) index) blocks (live old) blocks blocks
+      go : (o : Option ℕ) → target old place.at ≡ o → ClosesEntry old new table place U keys vs blocks index
       go None e =
           let none : count_at old place.at ≡ 0 = rw e at (buffered old table place (Form.flat_map U) (Map keys vs) blocks f refl s.holds_it).room in
           absurd (omega arith)

@@ -1,6 +1,6 @@
 -- Runs of entries of a flat map: how they come apart, join, stay and move.
-use Rattle.std.proofs.Common.{◌≡◌, ℕ, zero, suc, ◌+◌, ◌*◌, ◌%◌, ◌≤◌, ℤ, List, [], ◌∷◌, ◌++◌, length, map, refl, sym, ap, ◌∙◌, subst, arith, append_assoc, rules}
-use Rattle.std.specs.Prelude.{insert, remove, ◌<ℤ◌}
+use Rattle.std.proofs.Common.{◌≡◌, ℕ, zero, suc, ◌+◌, ◌*◌, ◌%◌, ◌<◌, ◌≤◌, Some, ℤ, List, [], ◌∷◌, ◌++◌, length, map, refl, sym, ap, ◌∙◌, subst, arith, append_assoc, rules}
+use Rattle.std.specs.Prelude.{insert, remove, slice_get, ◌<ℤ◌}
 use Rattle.std.specs.List.{AllByRecursion}
 use Rattle.seg_spec.specs.Bytes.{signed_long, IsSame}
 use Rattle.seg_spec.specs.Types.{Form, Table, size, IsTable}
@@ -11,8 +11,24 @@ use Rattle.seg_spec.specs.Block.{KeepsBlock}
 use Rattle.seg_spec.specs.Reads.{Place, spaced, places_of, keys_at, Holds, HoldsEach, holds_none, holds_more}
 use Rattle.seg_spec.specs.Cells.{IsWithin, Shifts}
 use Rattle.seg_spec.specs.Owning.{StandsBeside}
+use Rattle.seg_spec.specs.Shrinking.{KeepsPathsInside}
+use Rattle.seg_spec.proofs.Leading.{Leads-each}
 use Rattle.seg_spec.proofs.Frame.{keys_at-same, spaced-same, inner-same, shorter, HoldsEach-kept}
 use Rattle.seg_spec.proofs.Buffered.{HoldsEntries, entries_moved}
+
+-- ---- places in a row
+
+pub spaced_get : (at step n i : ℕ) → i < n → slice_get (spaced at step n) i ≡ Some (at + i * step)
+spaced_get at step zero i h = absurd (omega arith)
+spaced_get at step (suc n) zero h = let e : at + 0 * step ≡ at = omega arith in rw e refl
+spaced_get at step (suc n) (suc i) h =
+    let e : at + step + i * step ≡ at + suc i * step = grind arith in
+    spaced_get (at + step) step n i (omega arith) ∙ ap Some e
+
+pub map_get : {X Y : Type 0} (f : X → Y) (xs : List X) (i : ℕ) (x : X) → slice_get xs i ≡ Some x → slice_get (map f xs) i ≡ Some (f x)
+map_get f [] i x e = cc
+map_get f (y ∷ ys) zero x e = let same : y ≡ x = cc in ap (λ z. Some (f z)) same
+map_get f (y ∷ ys) (suc i) x e = map_get f ys i x e
 
 -- ---- lists of values
 
@@ -200,6 +216,16 @@ module _ (old new : List ℕ) (table : Table) (valid : IsTable table) (U : ℕ) 
         keys_are = r.keys_are ∙ sym same_keys;
         values = HoldsEach-kept old new table valid r.values (inner-same old new table valid U 8 (8 + size table U) entries (omega arith) all) kept;
       }
+
+  -- each path from a value of it leads where it led
+  pub run_paths : (at n : ℕ) (keys : List ℤ) (vs : Values) (owned : List ℕ) → IsSame old new at (n * (8 + size table U)) → AllByRecursion (KeepsBlock old new) owned
+      → Run old table U at n keys vs owned → (i : ℕ) → i < n → KeepsPathsInside old new table (record { at = at + i * (8 + size table U) + 8; type = U })
+  run_paths at n keys vs owned same kept r i below path inner way =
+      let entries = spaced at (8 + size table U) n in
+      let all = spaced-same old new at (8 + size table U) n same in
+      let value : ℕ → Place = λ q. record { at = q; type = U } in
+      let here_it_is = map_get value (map (λ q. q + 8) entries) i (at + i * (8 + size table U) + 8) (map_get (λ q. q + 8) entries i (at + i * (8 + size table U)) (spaced_get at (8 + size table U) n i below)) in
+      Leads-each old new table valid (value (at + i * (8 + size table U) + 8)) i r.values here_it_is (inner-same old new table valid U 8 (8 + size table U) entries (omega arith) all) kept way
 
   pub run_moved : (allocator home from to n : ℕ) (keys : List ℤ) (vs : Values) (owned : List ℕ) → IsHeap allocator old → to % 8 ≡ 0 → IsWithin old from (n * (8 + size table U)) → to + n * (8 + size table U) ≤ length old
       → StandsBeside old home to (n * (8 + size table U)) owned → Shifts old new table 8 U (8 + size table U) from to n → IsAscending keys → Run old table U from n keys vs owned → Run new table U to n keys vs owned

@@ -4,7 +4,8 @@
 --     flat_value bytes table cell U i       the place of its value
 --     flat_asks bytes table cell U          the requests for one more entry
 --     OpensEntry ..                         a flat map has room for an entry at an index
-use Rattle.std.specs.Prelude.{◌≡◌, ℕ, ◌+◌, ◌*◌, ◌%◌, ℤ, List, [], Some, insert}
+--     ClosesEntry ..                        the entry at an index is gone, and those before it stay
+use Rattle.std.specs.Prelude.{◌≡◌, ℕ, ◌+◌, ◌*◌, ◌%◌, ◌<◌, ℤ, List, [], Some, insert}
 use Rattle.seg_spec.specs.Apart.{Separate}
 use Rattle.seg_spec.specs.Block as block
 use Rattle.seg_spec.specs.Block.{tag_of}
@@ -12,8 +13,11 @@ use Rattle.seg_spec.specs.Bytes.{signed_long, ChangesOnly}
 use Rattle.seg_spec.specs.Cells.{IsWithin}
 use Rattle.seg_spec.specs.Demand.{Ask}
 use Rattle.seg_spec.specs.Growing.{Succeeds}
-use Rattle.seg_spec.specs.Items.{insert_nth}
+use Rattle.seg_spec.specs.Heap.{live}
+use Rattle.seg_spec.specs.Items.{insert_nth, without_entry}
 use Rattle.seg_spec.specs.Reads.{Place, count_at, start, Holds}
+use Rattle.seg_spec.specs.Roots.{ChangesPlace}
+use Rattle.seg_spec.specs.Shrinking.{KeepsPathsInside}
 use Rattle.seg_spec.specs.Spending.{buffer_asks}
 use Rattle.seg_spec.specs.Types.{Form, Table, form_at, size}
 use Rattle.seg_spec.specs.Value.{Value, Values, Map, IsAscending}
@@ -56,3 +60,13 @@ pub record OpensEntry (allocator : ℕ) (old new : List ℕ) (table : Table) (pl
       Succeeds allocator old written table place
       (Map (insert keys index (signed_long written at)) (insert_nth vs index w))
       (flat_asks old table place.at U) [] blocks others
+
+-- The entry at an index is gone, and with it the key and the value there, which owned nothing. The
+-- buffer stands where it stood; paths from the values before that index lead where they led.
+pub record ClosesEntry (old new : List ℕ) (table : Table) (place : Place) (U : ℕ) (keys : List ℤ)
+    (vs : Values) (blocks : List ℕ) (index : ℕ) : Type 0 where
+  pub changes : ChangesPlace old new table place (without_entry (keys, vs) index) blocks
+      (live old) blocks blocks
+  pub start_kept : start new place.at ≡ start old place.at
+  pub paths : (i : ℕ) → i < index →
+      KeepsPathsInside old new table (flat_value old table place.at U i)

@@ -1,14 +1,11 @@
 ghost use Rattle.std.specs.Prelude.{◌≡◌, ℕ, ℤ, ◌<◌, ◌≤◌, List, [], IsOkUnless, MatchResult};
 ghost use Rattle.seg_spec.specs.Calls.{Refuses};
-ghost use Rattle.seg_spec.specs.Heap.{live};
-ghost use Rattle.seg_spec.specs.Items.{without_entry};
 ghost use Rattle.seg_spec.specs.Owning.{Stands};
 ghost use Rattle.seg_spec.specs.Reads.{count_at};
-ghost use Rattle.seg_spec.specs.Roots.{ChangesPlace};
 ghost use Rattle.seg_spec.specs.Spending.{entry_asks, PlaceBlocks};
 ghost use Rattle.seg_spec.specs.Value.{Values, Map};
 ghost use Rattle.seg_spec.specs.Window.{KeepsHost};
-ghost use Rattle.seg_value.specs.Entries.{NamesFlatMap, OpensEntry, flat_asks, flat_value};
+ghost use Rattle.seg_value.specs.Entries.{NamesFlatMap, OpensEntry, ClosesEntry, flat_asks, flat_value};
 ghost use Rattle.seg_value.specs.Names.{FindsIndex, OpensName, ClosesName};
 ghost use Rattle.seg_value.specs.Places.{object_at as place_at};
 
@@ -69,9 +66,8 @@ impl<F: Fit, A: Allocator> Heap<F, A> {
             index < count_at self.old.window.bytes cell →
             PlaceBlocks self.old.window.bytes self.old.types
             (flat_value self.old.window.bytes self.old.types cell U index) [] →
-            ChangesPlace self.old.window.bytes self.new.window.bytes self.old.types
-            (place_at cell T) (without_entry (keys, vs) index) blocks (live self.old.window.bytes)
-            blocks blocks }
+            ClosesEntry self.old.window.bytes self.new.window.bytes self.old.types
+            (place_at cell T) U keys vs blocks index }
         ensures closes_name { FindsIndex F.allocator self.old.window.bytes
             self.old.types content.now cell →
             index < count_at self.old.window.bytes cell →
