@@ -59,7 +59,6 @@ pub mod BufferGrows
 pub mod SeveralWrites
 pub mod OneMore
 pub mod FewBlocks
-pub mod FewBlocks
 pub mod MappedBlocks
 pub mod Resized
 pub mod PartCleared
