@@ -1,5 +1,6 @@
 -- Strings, vectors, flat maps and owns, by the block that each names.
 use Rattle.std.proofs.Common.{◌≡◌, ℕ, zero, suc, ◌+◌, ◌*◌, ◌<◌, ◌≤◌, List, [], ◌∷◌, ◌++◌, length, map, Bool, true, false, Option, Some, None, Result, Ok, Err, refl, sym, ap, ◌∙◌, subst, arith}
+use Rattle.std.specs.Option.{is_some}
 use Rattle.seg_spec.specs.Bytes.{slice}
 use Rattle.seg_spec.specs.Pointer.{target}
 use Rattle.seg_spec.specs.Types.{Form, Table, form_at, size}
@@ -93,7 +94,7 @@ module _ (bytes : List ℕ) (table : Table) where
   items_are : (at p n U : ℕ) → target bytes at ≡ Some p → n ≡ count_at bytes at → items table (start bytes at) U (count_at bytes at) ≡ entries_at table p 0 U n
   items_are at p n U e n_is = ap (λ q. items table q U (count_at bytes at)) (start_some bytes at p e) ∙ ap (items table p U) (sym n_is) ∙ sym (items_entries table p U n)
 
-  block_is : (p tag n m each each' : ℕ) → n ≡ m → each ≡ each' → IsBlock bytes p tag (n * each) → IsBlock bytes p tag (m * each')
+  pub block_is : (p tag n m each each' : ℕ) → n ≡ m → each ≡ each' → IsBlock bytes p tag (n * each) → IsBlock bytes p tag (m * each')
   block_is p tag n m each each' e s b = subst (λ x. IsBlock bytes p tag (m * x)) s (subst (λ x. IsBlock bytes p tag (x * each)) e b)
 
   pub items_advance : (old new : Known) (at T n p : ℕ) (form : Form) (content : Content) → IsReady bytes table old → HasItems form → NamesBy table T form content → n ≡ count_at bytes at
@@ -138,7 +139,7 @@ module _ (bytes : List ℕ) (table : Table) where
     pub room : NamesRoom bytes at tag each
     pub within : Within (named bytes at) known.unclaimed
 
-  named_within : (known : Known) (at : ℕ) (opened : Opened) (blocks : List ℕ) → opened.blocks ≡ blocks → Within opened.blocks known.unclaimed → Within blocks known.unclaimed
+  pub named_within : (known : Known) (at : ℕ) (opened : Opened) (blocks : List ℕ) → opened.blocks ≡ blocks → Within opened.blocks known.unclaimed → Within blocks known.unclaimed
   named_within known at opened blocks e within = subst (λ bs. Within bs known.unclaimed) e within
 
   text_can : (known : Known) (at T : ℕ) → form_at table T ≡ Some Form.str → CanResolve bytes table known.unclaimed (record { at = at; type = T } ∷ []) → CanName known at (tag_of Kind.buffer T) 1
@@ -178,3 +179,56 @@ module _ (bytes : List ℕ) (table : Table) where
       let can = vec_can known at T U by.form_is r in
       content_can known at n _ (tag_of Kind.buffer T) 0 U (size table U) content by.content_of (zero_size U)
       (subst (λ m. CanClaim bytes known at (tag_of Kind.buffer T) (m * size table U)) (sym n_is) (can_claim bytes known at (tag_of Kind.buffer T) (size table U) p e can.room can.within))
+
+pub counted_names : (at n m : ℕ) (o : Option ℕ) → counted_by at o n ≡ Ok (Some m) → (p : ℕ) × (o ≡ Some p)
+counted_names at zero m None e = cc
+counted_names at (suc n) m None e = cc
+counted_names at n m (Some p) e = (p, refl)
+
+pub blocks_names : (at n m : ℕ) (o : Option ℕ) → blocks_counted_by at o n ≡ Ok (Some m) → (p : ℕ) × (o ≡ Some p)
+blocks_names at zero m None e = cc
+blocks_names at (suc n) m None e = cc
+blocks_names at zero m (Some p) e = cc
+blocks_names at (suc n) m (Some p) e = (p, refl)
+
+-- ---- owns
+
+pub blocks_is_some : (at n : ℕ) (o m : Option ℕ) → blocks_counted_by at o n ≡ Ok m → true ≡ is_some m → (p : ℕ) × (o ≡ Some p) × (1 ≤ n)
+blocks_is_some at n o None e s = cc
+blocks_is_some at n o (Some m) e s = let names = blocks_names at n m o e in (names.0, names.1, (blocks_some at n m o e).1)
+
+pub blocks_is_none : (at n : ℕ) (o m : Option ℕ) → blocks_counted_by at o n ≡ Ok m → false ≡ is_some m → (o ≡ None) × (n ≡ 0)
+blocks_is_none at n o None e s = blocks_none at n o e
+blocks_is_none at n o (Some m) e s = cc
+
+module _ (bytes : List ℕ) (table : Table) (at T U : ℕ) (content : Content) (by : NamesBy table T (Form.own U) content) where
+  own_opened : Opened
+  own_opened = record { label = Label.opt; blocks = named bytes at; parts = items table (start bytes at) U (count_at bytes at) }
+
+  pub own_advance : (old new : Known) (p : ℕ) → IsReady bytes table old → 1 ≡ count_at bytes at
+      → ClaimsBlock bytes old new at (word_of content.tag) (1 * content.entry.size) (turns_where (has_turns table content.entry.held) p 1) p → Advances bytes table old new (record { at = at; type = T } ∷ [])
+  unfolding own_opened
+  own_advance old new p ready n_is c =
+      let d = content_claimed bytes table old new at 1 p _ (tag_of Kind.object U) 0 U content by.content_of c in
+      advance_block bytes table old new ready at (tag_of Kind.object U) 1 0 U p T (Form.own U) own_opened by.form_is
+      (record {
+        named_room = names_room bytes at (tag_of Kind.object U) (size table U) p d.names (block_is bytes table p (tag_of Kind.object U) 1 (count_at bytes at) (0 + size table U) (size table U) n_is (sym (zero_size bytes table U)) d.is_block);
+        counted = sym n_is ∙ sym (ap length (named_some bytes at p d.names));
+        opened_is = refl;
+      })
+      refl (items_are bytes table at p 1 U d.names n_is) (ready.is_table.forms T (Form.own U) by.form_is) d
+      (places_tagged bytes table ready.is_table (record { start = p; count = 1 }) Kind.object U d.is_block.has_tag)
+
+  pub own_nothing : (known : Known) → target bytes at ≡ None → count_at bytes at ≡ 0 → Advances bytes table known known (record { at = at; type = T } ∷ [])
+  unfolding own_opened
+  own_nothing known e n =
+      advance_nothing bytes table known (record { at = at; type = T }) (Form.own U) own_opened by.form_is
+      (record { named_room = no_room bytes at (tag_of Kind.object U) (size table U) e n; counted = n ∙ sym (ap length (named_none bytes at e)); opened_is = refl })
+      (named_none bytes at e) (ap (items table (start bytes at) U) n)
+
+  pub own_can : (known : Known) (p : ℕ) → target bytes at ≡ Some p → 1 ≡ count_at bytes at → CanResolve bytes table known.unclaimed (record { at = at; type = T } ∷ []) → CanClaim bytes known at (word_of content.tag) (1 * content.entry.size)
+  own_can known p e n_is r =
+      let o = can_open bytes table known.unclaimed (record { at = at; type = T }) (Form.own U) [] by.form_is r in
+      let within = named_within bytes table known at o.opened (named bytes at) (ap (λ (x : Opened). x.blocks) o.opens.opened_is) o.within in
+      content_can bytes table known at 1 _ (tag_of Kind.object U) 0 U (size table U) content by.content_of (zero_size bytes table U)
+      (subst (λ m. CanClaim bytes known at (tag_of Kind.object U) (m * size table U)) (sym n_is) (can_claim bytes known at (tag_of Kind.object U) (size table U) p e o.opens.named_room within))

@@ -7,3 +7,7 @@ pub mod PlaceLoop
 pub mod TagLaws
 pub mod OpenLaws
 pub mod BufferLaws
+pub mod StructLaws
+pub mod EntryLoop
+pub mod AscendLaws
+pub mod FlatMapLaws

@@ -292,7 +292,10 @@ module _ (bytes : List ℕ) (table : Table) where
   pub ready_now : (old new : Known) (ps : List Place) → IsReady bytes table old → Advances bytes table old new ps → IsReady bytes table new
   ready_now old new ps ready a = record {
     is_table = ready.is_table;
-    lacks_maps = ready.lacks_maps;
+    lacks_nodes = ready.lacks_nodes;
     blocks = (λ h some. ready.blocks h (omega (arith, a.within h)));
     small = ready.small;
   }
+
+  pub steps_refused : {A : Type 0} (old new : Known) (places : List Place) (r : Result A ContentFault) (e : ContentFault) (P : Type 0) → r ≡ Err e → (CanResolve bytes table old.unclaimed places → P) → Refuses e P → Steps bytes table old new places r
+  steps_refused old new places r e P is lead refused = subst (λ x. Steps bytes table old new places x) (sym is) (refuses_map e P (CanResolve bytes table old.unclaimed places) lead refused)

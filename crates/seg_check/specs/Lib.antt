@@ -6,3 +6,4 @@ pub mod Claiming
 pub mod Turns
 pub mod Resolving
 pub mod Cells
+pub mod Keys

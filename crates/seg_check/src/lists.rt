@@ -1,4 +1,8 @@
-ghost use Rattle.std.specs.Prelude.{◌≡◌};
+ghost use Rattle.std.specs.Prelude.{◌≡◌, ℕ, ◌∷◌, []};
+ghost use Rattle.seg_spec.specs.Types.{Form};
+ghost use Rattle.seg_value.specs.Places.{object_at};
+ghost use Rattle.seg_check.specs.Resolving.{IsReady, Steps};
+ghost use Rattle.seg_check.specs.Cells.{NamesBy};
 
 use crate::claims::Claims;
 use crate::fault::ContentFault;
@@ -16,6 +20,10 @@ impl<A: Allocator> Image<'_, A> {
         cell: u32,
     ) -> Result<(), ContentFault>
         ensures taken { claims.new.taken ≡ claims.old.taken }
+        ensures steps { (T U : ℕ) → NamesBy self.now.types.now T (Form.list U) content.now →
+            IsReady self.now.w.now.bytes self.now.types.now claims.old →
+            Steps self.now.w.now.bytes self.now.types.now claims.old claims.new
+            (object_at cell T ∷ []) result }
     {
         let Some(count) = self.counted_blocks(cell)? else {
             return Ok(());
