@@ -1,3 +1,7 @@
+pub mod TagNumbers
+pub mod LiveTags
+pub mod TileWalk
+pub mod Following
 pub mod SameLength
 pub mod MarkLaws
 pub mod KnownLaws
@@ -11,3 +15,5 @@ pub mod StructLaws
 pub mod EntryLoop
 pub mod AscendLaws
 pub mod FlatMapLaws
+pub mod PassedTiles
+pub mod FaultOrder

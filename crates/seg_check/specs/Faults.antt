@@ -2,13 +2,16 @@
 --     IsImageOf bytes table                    a sound image with these types
 --     IsFaultOf bytes fault                    what is wrong, where all that is looked at before it is right
 --     IsFaultOfOpening allocator bytes fault   or the image names another allocator
---     FitsFront bytes fault                    what of it is about the header and the types
---     FitsFrontForOpening allocator bytes fault
+--     HasList bytes                            where the image is one of sequential fit, its list holds the gaps
+--     FitsHeap bytes fault                     what of it is about the header, the types, the tiles and this list
+--     FitsHeapForOpening allocator bytes fault
 use Rattle.std.specs.Prelude.{◌≡◌, ◌≢◌, ◌⊎◌, ⊤, ℕ, List, []}
 use Rattle.seg_spec.specs.Bytes.{word}
 use Rattle.seg_spec.specs.Types.{Table}
 use Rattle.seg_spec.specs.Sound.{Picture, IsHeld, IsSound}
-use Rattle.seg_spec.specs.Faulty.{HasFront, LacksHeader, LacksType, LacksTiles, LacksGaps, LacksContent, LacksOwner}
+use Rattle.seg_spec.specs.Header.{allocator_word}
+use Rattle.seg_spec.specs.Heap.{IsFreeList, gaps}
+use Rattle.seg_spec.specs.Faulty.{HasFront, HasTiles, LacksHeader, LacksType, LacksTiles, LacksGaps, LacksContent, LacksOwner}
 use Rattle.seg_raw.specs.declared.fault.Fault.{Fault}
 use Rattle.seg_raw.specs.declared.fault.Fault.TheVariants as fault
 
@@ -47,37 +50,51 @@ IsFaultOfOpening allocator bytes f =
     IsFaultOf bytes f ⊎
     ((f ≡ fault.BadHeader) × IsSound bytes × (word bytes 16 ≢ allocator))
 
--- ---- the front: the header and the types
+-- ---- all but the content: the header, the types, the tiles and the free blocks
 
--- both are in order
+-- header and types are in order
 abbrev pub IsFrontRight : List ℕ → Type 0
 IsFrontRight bytes = (table : Table) × HasFront bytes table
 
--- What is wrong with the front where the bytes get this fault. Memory is asked for, and the heap
--- looked at, only where the front is right.
-abbrev pub FitsFront : List ℕ → Fault → Type 0
-FitsFront bytes fault.BadHeader = LacksHeader bytes
-FitsFront bytes (fault.BadType k) = LacksType bytes k
-FitsFront bytes fault.Memory = IsFrontRight bytes
-FitsFront bytes (fault.BadBlock at) = IsFrontRight bytes
-FitsFront bytes (fault.BadFree at) = IsFrontRight bytes
-FitsFront bytes (fault.BadIndex at) = IsFrontRight bytes
-FitsFront bytes (fault.BadPointer at) = IsFrontRight bytes
-FitsFront bytes (fault.DoubleOwner at) = IsFrontRight bytes
-FitsFront bytes (fault.BadValue at) = IsFrontRight bytes
-FitsFront bytes (fault.Unowned at) = IsFrontRight bytes
-FitsFront bytes fault.Misplaced = ⊥
-FitsFront bytes (fault.TypeMismatch k) = ⊥
-FitsFront bytes fault.BadSize = ⊥
-FitsFront bytes fault.NoHostRoom = ⊥
-FitsFront bytes (fault.BadCode at) = ⊥
-FitsFront bytes (fault.BadLine line) = ⊥
-FitsFront bytes (fault.Rejected instruction reason) = ⊥
-FitsFront bytes fault.TooLong = ⊥
-FitsFront bytes (fault.BadMove i) = ⊥
+-- where the image is one of sequential fit, its list holds the gaps
+abbrev pub HasList : List ℕ → Type 0
+HasList bytes = word bytes allocator_word ≡ 0 → IsFreeList bytes (gaps bytes)
 
--- The same for an allocator of this number, or the front is right and names another one.
-abbrev pub FitsFrontForOpening : ℕ → List ℕ → Fault → Type 0
-FitsFrontForOpening allocator bytes f =
-    FitsFront bytes f ⊎
-    ((f ≡ fault.BadHeader) × IsFrontRight bytes × (word bytes 16 ≢ allocator))
+-- the front and the tiles are in order, and the list
+abbrev pub IsHeapRight : List ℕ → Type 0
+IsHeapRight bytes =
+    (table : Table) × HasFront bytes table × HasTiles bytes table × HasList bytes
+
+-- the front and the tiles are in order, and where the image is one of sequential fit its list is not
+abbrev pub LacksList : List ℕ → Type 0
+LacksList bytes = (table : Table) × HasFront bytes table × HasTiles bytes table ×
+    (word bytes allocator_word ≡ 0 → IsFreeList bytes (gaps bytes) → ⊥)
+
+-- What is wrong with these parts where the bytes get this fault, and all before it is right. Memory is
+-- asked for, and the heap looked at, only where the front is right.
+abbrev pub FitsHeap : List ℕ → Fault → Type 0
+FitsHeap bytes fault.BadHeader = LacksHeader bytes
+FitsHeap bytes (fault.BadType k) = LacksType bytes k
+FitsHeap bytes fault.Memory = IsFrontRight bytes
+FitsHeap bytes (fault.BadBlock at) = LacksTiles bytes
+FitsHeap bytes (fault.BadFree at) = LacksList bytes
+FitsHeap bytes (fault.BadIndex at) = IsHeapRight bytes
+FitsHeap bytes (fault.BadPointer at) = IsHeapRight bytes
+FitsHeap bytes (fault.DoubleOwner at) = IsHeapRight bytes
+FitsHeap bytes (fault.BadValue at) = IsHeapRight bytes
+FitsHeap bytes (fault.Unowned at) = IsHeapRight bytes
+FitsHeap bytes fault.Misplaced = ⊥
+FitsHeap bytes (fault.TypeMismatch k) = ⊥
+FitsHeap bytes fault.BadSize = ⊥
+FitsHeap bytes fault.NoHostRoom = ⊥
+FitsHeap bytes (fault.BadCode at) = ⊥
+FitsHeap bytes (fault.BadLine line) = ⊥
+FitsHeap bytes (fault.Rejected instruction reason) = ⊥
+FitsHeap bytes fault.TooLong = ⊥
+FitsHeap bytes (fault.BadMove i) = ⊥
+
+-- The same for an allocator of this number, or all these parts are right and name another one.
+abbrev pub FitsHeapForOpening : ℕ → List ℕ → Fault → Type 0
+FitsHeapForOpening allocator bytes f =
+    FitsHeap bytes f ⊎
+    ((f ≡ fault.BadHeader) × IsHeapRight bytes × (word bytes 16 ≢ allocator))

@@ -1,6 +1,7 @@
 pub mod Headers
 pub mod ContentFaults
 pub mod Faults
+pub mod Tiles
 pub mod Marks
 pub mod Claiming
 pub mod Turns

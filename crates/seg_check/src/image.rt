@@ -1,4 +1,8 @@
-ghost use Rattle.std.specs.Prelude.{◌≡◌};
+ghost use Rattle.std.specs.Prelude.{◌≡◌, ◌↔◌, IsOk};
+ghost use Rattle.seg_spec.specs.Bytes.{word};
+ghost use Rattle.seg_spec.specs.Header.{allocator_word};
+ghost use Rattle.seg_spec.specs.Heap.{IsFreeList, gaps};
+ghost use Rattle.seg_check.specs.Tiles.{KnowsGaps};
 
 use crate::claims::Claims;
 use crate::fault::ContentFault;
@@ -26,7 +30,11 @@ impl<A: Allocator> Image<'_, A> {
         &self,
         claims: &Claims<B>,
         free_list: FreeList,
-    ) -> Result<(), u32> {
+    ) -> Result<(), u32>
+        ensures list { word self.now.w.now.bytes allocator_word ≡ 0
+            → KnowsGaps self.now.w.now.bytes free_list (gaps self.now.w.now.bytes)
+            → IsOk result ↔ IsFreeList self.now.w.now.bytes (gaps self.now.w.now.bytes) }
+    {
         match self.w.get32(header::ALLOCATOR) {
             0 => free_list.end(self.bytes),
             _ => self.check_free_tree(claims),

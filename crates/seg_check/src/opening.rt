@@ -2,7 +2,8 @@ ghost use Rattle.std.specs.Prelude.{◌≡◌, IfErr, IfOk, OnOk};
 ghost use Rattle.seg_spec.specs.Bytes.{word};
 ghost use Rattle.seg_spec.specs.Types.{IsTable, HasTable};
 ghost use Rattle.seg_spec.specs.Sound.{HasHeader};
-ghost use Rattle.seg_check.specs.Faults.{FitsFrontForOpening};
+ghost use Rattle.seg_spec.specs.Faulty.{HasTiles};
+ghost use Rattle.seg_check.specs.Faults.{FitsHeapForOpening, HasList};
 
 use crate::checker::check;
 use seg_block::Fit;
@@ -20,8 +21,10 @@ pub fn open<F: Fit, A: Allocator, B: Allocator>(
     ensures opened { IfOk result (λ segment. segment.window ≡ window) }
     ensures types { IfOk result (λ segment. IsTable segment.types × HasTable window.bytes 64 segment.types) }
     ensures header { OnOk result (HasHeader window.bytes × (word window.bytes 16 ≡ F.allocator)) }
+    ensures heap { IfOk result
+        (λ segment. HasTiles window.bytes segment.types × HasList window.bytes) }
     ensures fault { IfErr result
-        (λ refused. FitsFrontForOpening F.allocator window.bytes refused.0) }
+        (λ refused. FitsHeapForOpening F.allocator window.bytes refused.0) }
     ensures refused { IfErr result (λ refused. refused.1 ≡ window) }
 {
     match check(alloc, &window) {

@@ -1,3 +1,12 @@
+ghost use Rattle.std.specs.Prelude.{◌≡◌, ℕ, ◌-◌, ◌/◌, ◌↔◌, true, false, get_or, length, IsOk, IsTrue, OnOk, IfOk};
+ghost use Rattle.seg_spec.specs.Types.{Table, IsTable};
+ghost use Rattle.seg_spec.specs.Heap.{gaps, heap_start};
+ghost use Rattle.seg_spec.specs.Block.{AllowsType};
+ghost use Rattle.seg_spec.specs.Faulty.{HasFront, HasTiles};
+ghost use Rattle.seg_block.specs.Tags.{kind_of};
+ghost use Rattle.seg_check.specs.Marks.{nothing_known, KnowsTiles};
+ghost use Rattle.seg_check.specs.Tiles.{AreLiveTags, Follows, KnowsGaps};
+
 use crate::claims::Claims;
 use crate::free_list::FreeList;
 use crate::image::Image;
@@ -24,10 +33,15 @@ impl<A: Allocator> Image<'_, A> {
     /// The blocks, one after the other to the end of the image: each with at least two units, the units of the one
     /// before, a tag that the types allow, and if it is live no link; and no two free ones side by side. `Err` has the
     /// position of the first header that is wrong. Returns what the free ones say of the list of sequential fit.
-    pub(crate) fn check_tiles<B: Allocator>(
-        &self,
-        claims: &mut Claims<B>,
-    ) -> Result<FreeList, u32> {
+    pub(crate) fn check_tiles<B: Allocator>(&self, claims: &mut Claims<B>) -> Result<FreeList, u32>
+        ensures tiles { HasFront self.now.w.now.bytes self.now.types.now
+            → IsOk result ↔ HasTiles self.now.w.now.bytes self.now.types.now }
+        ensures free_list { HasFront self.now.w.now.bytes self.now.types.now
+            → IfOk result (λ list. KnowsGaps self.now.w.now.bytes list (gaps self.now.w.now.bytes)) }
+        ensures known { HasFront self.now.w.now.bytes self.now.types.now
+            → claims.old ≡ nothing_known ((length self.now.w.now.bytes - heap_start) / UNIT)
+            → OnOk result (KnowsTiles self.now.w.now.bytes claims.new) }
+    {
         let bytes = self.bytes;
         let tags = LiveTags::of(self.types);
         let mut free_list = FreeList::new();
@@ -59,7 +73,9 @@ struct LiveTags {
 }
 
 impl LiveTags {
-    fn of(types: &TypeTable) -> LiveTags {
+    fn of(types: &TypeTable) -> LiveTags
+        ensures { IsTable types.now → AreLiveTags types.now result.are_right }
+    {
         let mut are_right = [false; TAG_WORDS];
         for index in 0..KINDS * MAX_TYPES {
             let word = index / MAX_TYPES + 256 * (index % MAX_TYPES);
@@ -71,12 +87,17 @@ impl LiveTags {
     }
 
     /// Whether a word spells one of them.
-    fn have(&self, word: u32) -> bool {
+    fn have(&self, word: u32) -> bool
+        ensures { result ≡ get_or self.now.are_right word false }
+    {
         self.are_right.get(word as usize) == Some(&true)
     }
 
     /// Whether a header is right after another one, its size aside.
-    fn follows(&self, header: Header, before: Header) -> bool {
+    fn follows(&self, header: Header, before: Header) -> bool
+        ensures { (table : Table) → AreLiveTags table self.now.are_right
+            → IsTrue result ↔ Follows table before header }
+    {
         header.units_before == before.units
             && if header.is_live {
                 header.link.is_none() && self.have(header.tag)
@@ -87,7 +108,9 @@ impl LiveTags {
 }
 
 /// Whether a live block may have this tag.
-fn is_live_tag(types: &TypeTable, tag: Tag) -> bool {
+fn is_live_tag(types: &TypeTable, tag: Tag) -> bool
+    ensures { IsTrue result ↔ AllowsType types.now (kind_of tag.kind) tag.type_id }
+{
     let kind = types.kind(tag.type_id);
     match tag.kind {
         Kind::Named | Kind::Object => kind.is_some(),

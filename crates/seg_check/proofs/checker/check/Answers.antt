@@ -25,3 +25,10 @@ returns-in_err-check_heap-clause-fault g c =
     let types = has_table c.args.w.now.bytes c.slice.result.now c.in_ok-types.types header c.slice.ensures table.1 in
     let p = err_from_is_err_and c.from_residual-in_err-check_heap.result c.from_residual-in_err-check_heap.ensures.1 in
     rw (p.1, p.2) (c.in_err-check_heap.ensures.fault (record { header = header; types = types; is_table = table.0 }))
+
+pub returns-clause-heap : goal.returns-clause-heap
+returns-clause-heap g c =
+    let header = c.in_ok-check_header.ensures.header in
+    let table = c.in_ok-types.ensures.table in
+    let types = has_table c.args.w.now.bytes c.slice.result.now c.in_ok-types.types header c.slice.ensures table.1 in
+    c.in_ok-check_heap.ensures.heap (record { header = header; types = types; is_table = table.0 })

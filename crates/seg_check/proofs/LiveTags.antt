@@ -1,0 +1,84 @@
+-- The table of the tags that live blocks may have, worked out word by word.
+use Rattle.std.proofs.Common.{◌≡◌, ◌≢◌, ℕ, ◌+◌, ◌*◌, ◌/◌, ◌%◌, ◌<◌, ◌≤◌, ⊎_elim, Bool, true, false, List, length, Option, Some, None, get_or, set, sym, ap, ◌∙◌, subst, arith, get_or-set_other, get_or-set_same}
+use Rattle.std.specs.Prelude.{◌↔◌}
+use Rattle.std.proofs.lemmas.Bool.{cases_eq}
+use Rattle.seg_spec.specs.Types.{Table, IsTable}
+use Rattle.seg_spec.specs.Block.{tag_of, AllowsType}
+use Rattle.seg_block.specs.Tags.{kind_of, word_of}
+use Rattle.seg_block.specs.declared.tag.Tag.{Tag}
+use Rattle.seg_check.specs.Tiles.{IsAllowed, AreLiveTags}
+use Rattle.seg_check.proofs.TagNumbers.{number_small, one_tag, type_small, kind_from, kind_of-from}
+
+-- the turn of a word, and the word of a turn: kind by kind, and type by type
+abbrev pub turn_of : ℕ → ℕ
+turn_of word = 32 * (word % 256) + word / 256
+
+abbrev pub word_at : ℕ → ℕ
+word_at turn = turn / 32 + 256 * (turn % 32)
+
+-- what is known of the words whose turn has come
+abbrev pub AreLiveTagsTo : Table → List Bool → ℕ → Type 0
+AreLiveTagsTo table are_right turn =
+    (word : ℕ) → (get_or are_right word false ≡ true) ↔ (IsAllowed table word × (turn_of word < turn))
+
+module _ (table : Table) (valid : IsTable table) where
+  allowed_small : (word : ℕ) → IsAllowed table word → (word % 256 ≤ 6) × (word / 256 < 32)
+  allowed_small word a =
+      let n = number_small a.kind in
+      let t = type_small table valid a.kind a.type a.allowed in
+      let e = a.tag_is in
+      (omega arith, omega arith)
+
+  pub turn_small : (word : ℕ) → IsAllowed table word → turn_of word < 224
+  turn_small word a = let s = allowed_small word a in omega arith
+
+  same_word : (word turn : ℕ) → IsAllowed table word → turn_of word ≡ turn → word ≡ word_at turn
+  same_word word turn a e = let s = allowed_small word a in omega arith
+
+  pub skipped : (tags : List Bool) (turn : ℕ) → (IsAllowed table (word_at turn) → ⊥) → AreLiveTagsTo table tags turn → AreLiveTagsTo table tags (turn + 1)
+  skipped tags turn none known = λ word. (
+    λ e. let k = (known word).0 e in (k.0, omega (arith, k.1)),
+    λ p. ⊎_elim
+        (λ same. absurd (none (subst (IsAllowed table) (same_word word turn p.0 same) p.0)))
+        (λ other. (known word).1 (p.0, omega (arith, p.1, other)))
+        (cases_eq (turn_of word) turn),
+  )
+
+  pub marked : (tags : List Bool) (turn : ℕ) (b : Bool) → word_at turn < length tags → turn < 224 → (b ≡ true) ↔ IsAllowed table (word_at turn) → AreLiveTagsTo table tags turn → AreLiveTagsTo table (set tags (word_at turn) b) (turn + 1)
+  marked tags turn b inside few right known = λ word. ⊎_elim
+      (λ (same : word ≡ word_at turn).
+      let e : get_or (set tags (word_at turn) b) word false ≡ b = ap (λ k. get_or (set tags (word_at turn) b) k false) same ∙ get_or-set_same tags (word_at turn) b false inside in
+      let now : turn_of word < turn + 1 = omega (arith, same) in (
+        λ h. (subst (IsAllowed table) (sym same) (right.0 (sym e ∙ h)), now),
+        λ p. e ∙ right.1 (subst (IsAllowed table) same p.0),
+      ))
+      (λ (other : word ≢ word_at turn).
+      let e : get_or (set tags (word_at turn) b) word false ≡ get_or tags word false = get_or-set_other tags (word_at turn) word b false other in (
+        λ h. let k = (known word).0 (sym e ∙ h) in (k.0, omega (arith, k.1)),
+        λ p. e ∙ (known word).1 (p.0, before word p.0 other p.1),
+      ))
+      (cases_eq word (word_at turn))
+    where
+      before : (word : ℕ) → IsAllowed table word → word ≢ word_at turn → turn_of word < turn + 1 → turn_of word < turn
+      before word a other less = ⊎_elim (λ e. absurd (other (same_word word turn a e))) (λ ne. omega (arith, less, ne)) (cases_eq (turn_of word) turn)
+
+  pub all_known : (tags : List Bool) → AreLiveTagsTo table tags 224 → AreLiveTags table tags
+  all_known tags known = λ word. (λ e. ((known word).0 e).0, λ a. (known word).1 (a, turn_small word a))
+
+  -- a word that spells no tag is none that is allowed
+  pub no_tag : (word : ℕ) (o : Option Tag) → ((t : Tag) → t.type_id < 256 → word ≡ word_of t → o ≡ Some t) → o ≡ None → IsAllowed table word → ⊥
+  no_tag word o every none a =
+      let t : Tag = record { kind = kind_from a.kind; type_id = a.type } in
+      let small = type_small table valid a.kind a.type a.allowed in
+      let is : word ≡ word_of t = a.tag_is ∙ ap (λ k. tag_of k a.type) (sym (kind_of-from a.kind)) in
+      let some : o ≡ Some t = every t (omega arith) is in
+      cc
+
+  -- the word of a tag is allowed where its type is
+  pub tag_allowed : (word : ℕ) (t : Tag) → word ≡ word_of t → (AllowsType table (kind_of t.kind) t.type_id → IsAllowed table word) × (IsAllowed table word → AllowsType table (kind_of t.kind) t.type_id)
+  tag_allowed word t is = (
+    λ a. record { kind = kind_of t.kind; type = t.type_id; allowed = a; tag_is = is },
+    λ a.
+        let one = one_tag a.kind (kind_of t.kind) a.type t.type_id (sym a.tag_is ∙ is) in
+        subst (λ T. AllowsType table (kind_of t.kind) T) one.1 (subst (λ k. AllowsType table k a.type) one.0 a.allowed),
+  )
