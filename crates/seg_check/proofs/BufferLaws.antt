@@ -63,7 +63,8 @@ blocks_wrong at (suc n) (Some p) f P e a b = cc
 module _ (bytes : List ℕ) (table : Table) where
   -- ---- the content by its form
 
-  claimed_as : (old new : Known) (at n p : ℕ) (tag tag' size size' : ℕ) (b b' : Bool) → tag ≡ tag' → size ≡ size' → b ≡ b' → ClaimsBlock bytes old new at tag (n * size) (turns_where b p n) p → ClaimsBlock bytes old new at tag' (n * size') (turns_where b' p n) p
+  claimed_as : (old new : Known) (at n p : ℕ) (tag tag' size size' : ℕ) (b b' : Bool) → tag ≡ tag' → size ≡ size' → b ≡ b' → ClaimsBlock bytes old new at tag (n * size) (turns_where b p n) p
+      → ClaimsBlock bytes old new at tag' (n * size') (turns_where b' p n) p
   claimed_as old new at n p tag tag' size size' b b' t s e c =
       subst (λ x. ClaimsBlock bytes old new at tag' (n * size') (turns_where x p n) p) e
       (subst (λ x. ClaimsBlock bytes old new at tag' (n * x) (turns_where b p n) p) s
@@ -72,12 +73,15 @@ module _ (bytes : List ℕ) (table : Table) where
   can_claim_as : (known : Known) (at n : ℕ) (tag tag' size size' : ℕ) → tag ≡ tag' → size ≡ size' → CanClaim bytes known at tag (n * size) → CanClaim bytes known at tag' (n * size')
   can_claim_as known at n tag tag' size size' t s c = subst (λ x. CanClaim bytes known at tag' (n * x)) s (subst (λ x. CanClaim bytes known at x (n * size)) t c)
 
-  pub content_claimed : (old new : Known) (at n p : ℕ) (shape : Shape) (tag before U : ℕ) (content : Content) → IsContent table shape tag before U content → ClaimsBlock bytes old new at (word_of content.tag) (n * content.entry.size) (turns_where (has_turns table content.entry.held) p n) p
+  pub content_claimed : (old new : Known) (at n p : ℕ) (shape : Shape) (tag before U : ℕ) (content : Content) → IsContent table shape tag before U content
+      → ClaimsBlock bytes old new at (word_of content.tag) (n * content.entry.size) (turns_where (has_turns table content.entry.held) p n) p
       → ClaimsBlock bytes old new at tag (n * (before + size table U)) (turns_where (has_cells (form_at table U)) p n) p
   content_claimed old new at n p shape tag before U content is c =
-      claimed_as old new at n p (word_of content.tag) tag content.entry.size (before + size table U) (has_turns table content.entry.held) (has_cells (form_at table U)) is.tag_is is.entry_is.size_is (ap (has_turns table) is.entry_is.held_is) c
+      claimed_as old new at n p (word_of content.tag) tag content.entry.size (before + size table U) (has_turns table content.entry.held) (has_cells (form_at table U)) is.tag_is is.entry_is.size_is (ap
+      (has_turns table) is.entry_is.held_is) c
 
-  pub content_can : (known : Known) (at n : ℕ) (shape : Shape) (tag before U each : ℕ) (content : Content) → IsContent table shape tag before U content → each ≡ before + size table U → CanClaim bytes known at tag (n * each) → CanClaim bytes known at (word_of content.tag) (n * content.entry.size)
+  pub content_can : (known : Known) (at n : ℕ) (shape : Shape) (tag before U each : ℕ) (content : Content) → IsContent table shape tag before U content → each ≡ before + size table U → CanClaim bytes known at tag (n * each)
+      → CanClaim bytes known at (word_of content.tag) (n * content.entry.size)
   content_can known at n shape tag before U each content is e c = can_claim_as known at n tag (word_of content.tag) each content.entry.size (sym is.tag_is) (e ∙ sym is.entry_is.size_is) c
 
   -- ---- strings and vectors
@@ -115,11 +119,17 @@ module _ (bytes : List ℕ) (table : Table) where
   items_advance old new at T n p (Form.vec U) content ready has by n_is c =
       let d = content_claimed old new at n p _ (tag_of Kind.buffer T) 0 U content by.content_of c in
       advance_block bytes table old new ready at (tag_of Kind.buffer T) n 0 U p T (Form.vec U) (items_opened at U Label.seq) by.form_is
-      (record { named_room = names_room bytes at (tag_of Kind.buffer T) (size table U) p d.names (block_is p (tag_of Kind.buffer T) n (count_at bytes at) (0 + size table U) (size table U) n_is (sym (zero_size U)) d.is_block); ascending = tt; opened_is = refl })
+      (record {
+        named_room = names_room bytes at (tag_of Kind.buffer T) (size table U) p d.names (block_is p (tag_of Kind.buffer T) n (count_at bytes at) (0 + size table U) (size table U) n_is (sym
+            (zero_size U)) d.is_block);
+        ascending = tt;
+        opened_is = refl;
+      })
       refl (items_are at p n U d.names n_is) (ready.is_table.forms T (Form.vec U) by.form_is) d
       (places_tagged bytes table ready.is_table (record { start = p; count = n }) Kind.buffer T d.is_block.has_tag ∙ ap (λ o. places_by table o p n) by.form_is)
 
-  pub items_nothing : (known : Known) (at T : ℕ) (form : Form) (content : Content) → HasItems form → NamesBy table T form content → target bytes at ≡ None → count_at bytes at ≡ 0 → Advances bytes table known known (record { at = at; type = T } ∷ [])
+  pub items_nothing : (known : Known) (at T : ℕ) (form : Form) (content : Content) → HasItems form → NamesBy table T form content → target bytes at ≡ None → count_at bytes at ≡ 0
+      → Advances bytes table known known (record { at = at; type = T } ∷ [])
   unfolding text_opened items_opened
   items_nothing known at T Form.i64 content has by e n = absurd has
   items_nothing known at T (Form.struct Us) content has by e n = absurd has
@@ -152,7 +162,8 @@ module _ (bytes : List ℕ) (table : Table) where
       let o = can_open bytes table known.unclaimed (record { at = at; type = T }) (Form.vec U) [] f r in
       record { room = o.opens.named_room; within = named_within known at o.opened (named bytes at) (ap (λ (x : Opened). x.blocks) o.opens.opened_is) o.within }
 
-  pub items_counted : (known : Known) (at T : ℕ) (form : Form) (content : Content) → HasItems form → NamesBy table T form content → target bytes at ≡ None → CanResolve bytes table known.unclaimed (record { at = at; type = T } ∷ []) → count_at bytes at ≡ 0
+  pub items_counted : (known : Known) (at T : ℕ) (form : Form) (content : Content) → HasItems form → NamesBy table T form content → target bytes at ≡ None
+      → CanResolve bytes table known.unclaimed (record { at = at; type = T } ∷ []) → count_at bytes at ≡ 0
   items_counted known at T Form.i64 content has by e r = absurd has
   items_counted known at T (Form.struct Us) content has by e r = absurd has
   items_counted known at T (Form.list U) content has by e r = absurd has
@@ -162,7 +173,8 @@ module _ (bytes : List ℕ) (table : Table) where
   items_counted known at T Form.str content has by e r = none_counted bytes at (tag_of Kind.buffer T) 1 e (text_can known at T by.form_is r).room
   items_counted known at T (Form.vec U) content has by e r = none_counted bytes at (tag_of Kind.buffer T) (size table U) e (vec_can known at T U by.form_is r).room
 
-  pub items_can : (known : Known) (at T n p : ℕ) (form : Form) (content : Content) → HasItems form → NamesBy table T form content → target bytes at ≡ Some p → n ≡ count_at bytes at → CanResolve bytes table known.unclaimed (record { at = at; type = T } ∷ [])
+  pub items_can : (known : Known) (at T n p : ℕ) (form : Form) (content : Content) → HasItems form → NamesBy table T form content → target bytes at ≡ Some p → n ≡ count_at bytes at
+      → CanResolve bytes table known.unclaimed (record { at = at; type = T } ∷ [])
       → CanClaim bytes known at (word_of content.tag) (n * content.entry.size)
   items_can known at T n p Form.i64 content has by e n_is r = absurd has
   items_can known at T n p (Form.struct Us) content has by e n_is r = absurd has
@@ -212,7 +224,8 @@ module _ (bytes : List ℕ) (table : Table) (at T U : ℕ) (content : Content) (
       let d = content_claimed bytes table old new at 1 p _ (tag_of Kind.object U) 0 U content by.content_of c in
       advance_block bytes table old new ready at (tag_of Kind.object U) 1 0 U p T (Form.own U) own_opened by.form_is
       (record {
-        named_room = names_room bytes at (tag_of Kind.object U) (size table U) p d.names (block_is bytes table p (tag_of Kind.object U) 1 (count_at bytes at) (0 + size table U) (size table U) n_is (sym (zero_size bytes table U)) d.is_block);
+        named_room = names_room bytes at (tag_of Kind.object U) (size table U) p d.names (block_is bytes table p (tag_of Kind.object U) 1 (count_at bytes at) (0 + size table U) (size table U) n_is (sym
+            (zero_size bytes table U)) d.is_block);
         counted = sym n_is ∙ sym (ap length (named_some bytes at p d.names));
         opened_is = refl;
       })
@@ -226,7 +239,8 @@ module _ (bytes : List ℕ) (table : Table) (at T U : ℕ) (content : Content) (
       (record { named_room = no_room bytes at (tag_of Kind.object U) (size table U) e n; counted = n ∙ sym (ap length (named_none bytes at e)); opened_is = refl })
       (named_none bytes at e) (ap (items table (start bytes at) U) n)
 
-  pub own_can : (known : Known) (p : ℕ) → target bytes at ≡ Some p → 1 ≡ count_at bytes at → CanResolve bytes table known.unclaimed (record { at = at; type = T } ∷ []) → CanClaim bytes known at (word_of content.tag) (1 * content.entry.size)
+  pub own_can : (known : Known) (p : ℕ) → target bytes at ≡ Some p → 1 ≡ count_at bytes at → CanResolve bytes table known.unclaimed (record { at = at; type = T } ∷ [])
+      → CanClaim bytes known at (word_of content.tag) (1 * content.entry.size)
   own_can known p e n_is r =
       let o = can_open bytes table known.unclaimed (record { at = at; type = T }) (Form.own U) [] by.form_is r in
       let within = named_within bytes table known at o.opened (named bytes at) (ap (λ (x : Opened). x.blocks) o.opens.opened_is) o.within in

@@ -69,7 +69,8 @@ module _ (bytes : List ℕ) (table : Table) (at T U : ℕ) (content : Content) (
       (record { named_room = no_room bytes at (tag_of Kind.buffer T) (8 + size table U) e n; ascending = subst (λ m. IsAscending (keys (start bytes at) m)) (sym n) tt; opened_is = refl })
       (named_none bytes at e) (ap (entries_at table (start bytes at) 8 U) n)
 
-  pub flat_can : (known : Known) (n p : ℕ) → target bytes at ≡ Some p → n ≡ count_at bytes at → CanResolve bytes table known.unclaimed (record { at = at; type = T } ∷ []) → CanClaim bytes known at (word_of content.tag) (n * content.entry.size)
+  pub flat_can : (known : Known) (n p : ℕ) → target bytes at ≡ Some p → n ≡ count_at bytes at → CanResolve bytes table known.unclaimed (record { at = at; type = T } ∷ [])
+      → CanClaim bytes known at (word_of content.tag) (n * content.entry.size)
   flat_can known n p e n_is r =
       let o = can_open bytes table known.unclaimed (record { at = at; type = T }) (Form.flat_map U) [] by.form_is r in
       let within = named_within bytes table known at o.opened (named bytes at) (ap (λ (x : Opened). x.blocks) o.opens.opened_is) o.within in

@@ -86,7 +86,8 @@ module _ (these : Mark → Bool) where
       let same : (at + 16) + 16 * u ≡ at + 16 * (suc u) = omega arith in
       let next : those_from these (at + 16) (take (suc u) ms) ≡ those_from these (at + 16) (take u ms) ++ one (these (get_or ms u Inside)) (at + 16 * suc u) =
       rest ∙ ap (λ x. those_from these (at + 16) (take u ms) ++ one (these (get_or ms u Inside)) x) same in
-      elim (these m) as (λ b. cond b (at ∷ those_from these (at + 16) (take (suc u) ms)) (those_from these (at + 16) (take (suc u) ms)) ≡ cond b (at ∷ those_from these (at + 16) (take u ms)) (those_from these (at + 16) (take u ms)) ++ one (these (get_or ms u Inside)) (at + 16 * suc u))
+      elim (these m) as (λ b. cond b (at ∷ those_from these (at + 16) (take (suc u) ms)) (those_from these (at + 16) (take (suc u) ms)) ≡ cond b (at ∷ those_from these (at + 16) (take u ms)) (those_from these (at + 16)
+      (take u ms)) ++ one (these (get_or ms u Inside)) (at + 16 * suc u))
       [ true ↦ ap (λ l. at ∷ l) next | false ↦ next ]
 
   -- no more positions than marks

@@ -103,12 +103,14 @@ module _ (bytes : List ℕ) (table : Table) where
     claimed_turns true e c places = (claimed_turn c places, tt)
     claimed_turns false e c places = tt
 
-    pub claimed_waiting : (b : Bool) → has_cells (form_at table U) ≡ b → places_in bytes table (record { start = p; count = n }) ≡ entries_at table p before U n → waiting bytes table (turns_where b p n) ≡ with_cells table (entries_at table p before U n)
+    pub claimed_waiting : (b : Bool) → has_cells (form_at table U) ≡ b → places_in bytes table (record { start = p; count = n }) ≡ entries_at table p before U n
+        → waiting bytes table (turns_where b p n) ≡ with_cells table (entries_at table p before U n)
     claimed_waiting true e places = append-nil (places_in bytes table (record { start = p; count = n })) ∙ places ∙ sym (one_type table U true (map (λ q. q + before) (spaced p (before + size table U) n)) e)
     claimed_waiting false e places = sym (one_type table U false (map (λ q. q + before) (spaced p (before + size table U) n)) e)
 
     -- a cell that names one block has become what waits
-    pub advance_block : (T : ℕ) (form : Form) (opened : Opened) → form_at table T ≡ Some form → Opens bytes table (record { at = at; type = T }) form opened → opened.blocks ≡ named bytes at → opened.parts ≡ entries_at table p before U n → U < length table
+    pub advance_block : (T : ℕ) (form : Form) (opened : Opened) → form_at table T ≡ Some form → Opens bytes table (record { at = at; type = T }) form opened → opened.blocks ≡ named bytes at
+        → opened.parts ≡ entries_at table p before U n → U < length table
         → ClaimsBlock bytes old new at tag (n * (before + size table U)) (turns_where (has_cells (form_at table U)) p n) p
         → places_in bytes table (record { start = p; count = n }) ≡ entries_at table p before U n → Advances bytes table old new (record { at = at; type = T } ∷ [])
     advance_block T form opened f o blocks parts known c places =
@@ -120,7 +122,8 @@ module _ (bytes : List ℕ) (table : Table) where
 
   -- ---- nothing is named
 
-  pub advance_nothing : (known : Known) (place : Place) (form : Form) (opened : Opened) → form_at table place.type ≡ Some form → Opens bytes table place form opened → opened.blocks ≡ [] → opened.parts ≡ [] → Advances bytes table known known (place ∷ [])
+  pub advance_nothing : (known : Known) (place : Place) (form : Form) (opened : Opened) → form_at table place.type ≡ Some form → Opens bytes table place form opened → opened.blocks ≡ [] → opened.parts ≡ []
+      → Advances bytes table known known (place ∷ [])
   advance_nothing known place form opened f o blocks parts =
       advance_open bytes table known known place form opened [] f o
       (record { claimed = (λ h. ap (λ bs. times h (bs ++ known.unclaimed)) (sym blocks)); counted = (λ c. c); turns_are = sym (append-nil known.turns) })

@@ -166,7 +166,8 @@ module _ (bytes : List ℕ) (table : Table) where
       go (Some (Form.own U)) e = let n : true ≡ false = sym (ap has_cells e) ∙ none in cc
       go (Some (Form.struct Us)) e = let n : true ≡ false = sym (ap has_cells e) ∙ none in cc
 
-  one_more : (u l : List ℕ) (p : Place) (ps qs others : List Place) → (Resolves bytes table u l (ps ++ (p ∷ others)) → Resolves bytes table u l (qs ++ (p ∷ others))) → Resolves bytes table u l (p ∷ (ps ++ others)) → Resolves bytes table u l (p ∷ (qs ++ others))
+  one_more : (u l : List ℕ) (p : Place) (ps qs others : List Place) → (Resolves bytes table u l (ps ++ (p ∷ others)) → Resolves bytes table u l (qs ++ (p ∷ others))) → Resolves bytes table u l (p ∷ (ps ++ others))
+      → Resolves bytes table u l (p ∷ (qs ++ others))
   one_more u l p ps qs others step r = resolves_swap u l qs (p ∷ []) others (step (resolves_swap u l (p ∷ []) ps others r))
 
   pub cells_forth : (u l : List ℕ) (ps others : List Place) → AreKnown table ps → Resolves bytes table u l (ps ++ others) → Resolves bytes table u l (with_cells table ps ++ others)
@@ -297,5 +298,6 @@ module _ (bytes : List ℕ) (table : Table) where
     small = ready.small;
   }
 
-  pub steps_refused : {A : Type 0} (old new : Known) (places : List Place) (r : Result A ContentFault) (e : ContentFault) (P : Type 0) → r ≡ Err e → (CanResolve bytes table old.unclaimed places → P) → Refuses e P → Steps bytes table old new places r
+  pub steps_refused : {A : Type 0} (old new : Known) (places : List Place) (r : Result A ContentFault) (e : ContentFault) (P : Type 0) → r ≡ Err e → (CanResolve bytes table old.unclaimed places → P) → Refuses e P
+      → Steps bytes table old new places r
   steps_refused old new places r e P is lead refused = subst (λ x. Steps bytes table old new places x) (sym is) (refuses_map e P (CanResolve bytes table old.unclaimed places) lead refused)

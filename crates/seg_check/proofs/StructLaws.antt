@@ -44,8 +44,10 @@ module _ (bytes : List ℕ) (table : Table) (valid : IsTable table) (at T : ℕ)
   -- a field lies in the struct
   pub field_in : (i : ℕ) (c : Cell) → slice_get (fields_of table T) i ≡ Some c → at + c.from + size table c.type ≤ at + size table T
   field_in i c e =
-      let part : slice_get (parts_at at (fields_of table T)) i ≡ Some (record { at = at + c.from; type = c.type }) = slice_get-map (λ (d : Cell). record { at = at + d.from; type = d.type }) (fields_of table T) i ∙ ap (option_map (λ (d : Cell). record { at = at + d.from; type = d.type })) e in
-      let inside = each_get (InFields table at (sum_by (size table) Us)) (parts_at at (fields_of table T)) i (record { at = at + c.from; type = c.type }) (subst (λ ps. Rattle.std.specs.List.AllByRecursion (InFields table at (sum_by (size table) Us)) ps) fields_are (fields_in table at Us)) part in
+      let part : slice_get (parts_at at (fields_of table T)) i ≡ Some (record { at = at + c.from; type = c.type }) = slice_get-map (λ (d : Cell). record { at = at + d.from; type = d.type }) (fields_of table T) i
+      ∙ ap (option_map (λ (d : Cell). record { at = at + d.from; type = d.type })) e in
+      let inside = each_get (InFields table at (sum_by (size table) Us)) (parts_at at (fields_of table T)) i (record { at = at + c.from; type = c.type }) (subst (λ ps. Rattle.std.specs.List.AllByRecursion (InFields table at
+      (sum_by (size table) Us)) ps) fields_are (fields_in table at Us)) part in
       let total = size-form table valid T (Form.struct Us) f in
       omega (arith, inside.high)
 
@@ -53,13 +55,17 @@ module _ (bytes : List ℕ) (table : Table) (valid : IsTable table) (at T : ℕ)
     part_at : (c : Cell) → slice_get (fields_of table T) i ≡ Some c → slice_get (parts_at at (fields_of table T)) i ≡ Some (record { at = at + c.from; type = c.type })
     part_at c e = slice_get-map (λ (d : Cell). record { at = at + d.from; type = d.type }) (fields_of table T) i ∙ ap (option_map (λ (d : Cell). record { at = at + d.from; type = d.type })) e
 
-    pub field_more : (new : Known) (c : Cell) (x : ℕ) → slice_get (fields_of table T) i ≡ Some c → x ≡ at + c.from → Advances bytes table mid new (record { at = x; type = c.type } ∷ []) → Advances bytes table old new (take (i + 1) (parts_at at (fields_of table T)))
-    field_more new c x e x_is a = place_more bytes table old mid (parts_at at (fields_of table T)) i done new (record { at = at + c.from; type = c.type }) (part_at c e) (subst (λ y. Advances bytes table mid new (record { at = y; type = c.type } ∷ [])) x_is a)
+    pub field_more : (new : Known) (c : Cell) (x : ℕ) → slice_get (fields_of table T) i ≡ Some c → x ≡ at + c.from → Advances bytes table mid new (record { at = x; type = c.type } ∷ [])
+        → Advances bytes table old new (take (i + 1) (parts_at at (fields_of table T)))
+    field_more new c x e x_is a = place_more bytes table old mid (parts_at at (fields_of table T)) i done new (record { at = at + c.from; type = c.type }) (part_at c e) (subst (λ y. Advances bytes table mid new
+        (record { at = y; type = c.type } ∷ [])) x_is a)
 
     pub field_past : slice_get (fields_of table T) i ≡ None → Advances bytes table old mid (take (i + 1) (parts_at at (fields_of table T)))
-    field_past e = place_past bytes table old mid (parts_at at (fields_of table T)) i done (slice_get-map (λ (d : Cell). record { at = at + d.from; type = d.type }) (fields_of table T) i ∙ ap (option_map (λ (d : Cell). record { at = at + d.from; type = d.type })) e)
+    field_past e = place_past bytes table old mid (parts_at at (fields_of table T)) i done (slice_get-map (λ (d : Cell). record { at = at + d.from; type = d.type }) (fields_of table T) i
+        ∙ ap (option_map (λ (d : Cell). record { at = at + d.from; type = d.type })) e)
 
-    pub field_can : (c : Cell) (x : ℕ) → slice_get (fields_of table T) i ≡ Some c → x ≡ at + c.from → CanResolve bytes table old.unclaimed (record { at = at; type = T } ∷ []) → CanResolve bytes table mid.unclaimed (record { at = x; type = c.type } ∷ [])
+    pub field_can : (c : Cell) (x : ℕ) → slice_get (fields_of table T) i ≡ Some c → x ≡ at + c.from → CanResolve bytes table old.unclaimed (record { at = at; type = T } ∷ [])
+        → CanResolve bytes table mid.unclaimed (record { at = x; type = c.type } ∷ [])
     field_can c x e x_is r =
         subst (λ y. CanResolve bytes table mid.unclaimed (record { at = y; type = c.type } ∷ [])) (sym x_is)
         (place_can bytes table old mid (parts_at at (fields_of table T)) i done (record { at = at + c.from; type = c.type }) (part_at c e)
@@ -75,7 +81,8 @@ module _ (bytes : List ℕ) (table : Table) (valid : IsTable table) (at T : ℕ)
 known_form : (bytes : List ℕ) (table : Table) (T : ℕ) → T < length table → form_at table T ≡ None → ⊥
 known_form bytes table T known e = let number : form_at table T ≡ Some Form.i64 = known_number bytes table T known (ap has_cells e) in cc
 
-pub no_cell : (bytes : List ℕ) (table : Table) (valid : IsTable table) (known : Known) (at T : ℕ) → T < length table → length (fields_of table T) ≡ 0 → (o : Option Form) → form_at table T ≡ o → ContentOf table T o None → Advances bytes table known known (record { at = at; type = T } ∷ [])
+pub no_cell : (bytes : List ℕ) (table : Table) (valid : IsTable table) (known : Known) (at T : ℕ) → T < length table → length (fields_of table T) ≡ 0 → (o : Option Form) → form_at table T ≡ o → ContentOf table T o None
+    → Advances bytes table known known (record { at = at; type = T } ∷ [])
 no_cell bytes table valid known at T l none None f c = absurd (known_form bytes table T l f)
 no_cell bytes table valid known at T l none (Some Form.i64) f c = advance_number bytes table known (record { at = at; type = T }) f
 no_cell bytes table valid known at T l none (Some (Form.struct [])) f c = absurd (omega (arith, (valid.forms T (Form.struct []) f).0))

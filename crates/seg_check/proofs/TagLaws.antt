@@ -78,7 +78,8 @@ module _ (bytes : List ℕ) (table : Table) (valid : IsTable table) where
   stands_named b T content own e c = stands_object b block.Kind.named T content (λ start n. refl) (allowed_as b block.Kind.named T own e) e c
 
   -- the forms whose values have buffers or nodes
-  stands_by : (b : ℕ) (k : block.Kind) (T : ℕ) (o : Option Form) (content : Content) → form_at table T ≡ o → ((start n : ℕ) → places_with table (Some k) T start n ≡ places_by table o start n) → (block.has_buffer o ≡ true) ⊎ (block.has_nodes o ≡ true)
+  stands_by : (b : ℕ) (k : block.Kind) (T : ℕ) (o : Option Form) (content : Content) → form_at table T ≡ o → ((start n : ℕ) → places_with table (Some k) T start n ≡ places_by table o start n)
+      → (block.has_buffer o ≡ true) ⊎ (block.has_nodes o ≡ true)
       → tag_at bytes b ≡ tag_of k T → ContentOf table T o (Some content) → HasEntries bytes table b content.entry
   stands_by b k T None content f are has e c = absurd c
   stands_by b k T (Some Form.i64) content f are has e c = absurd c

@@ -109,7 +109,8 @@ pub record Adds (old : Known) (block : ℕ) (is_live : Bool) (new : Known) : Typ
   pub counted : IsCounted old → IsCounted new
   pub turns_kept : new.turns ≡ old.turns
 
--- these blocks were claimed, which nothing had claimed before, and these turns wait after the others
+-- these blocks were claimed, which nothing had claimed before, and these turns wait after the
+-- others
 pub record ClaimsAll (old new : Known) (blocks : List ℕ) (turns : List Turn) : Type 0 where
   pub claimed : SameBlocks old.unclaimed (blocks ++ new.unclaimed)
   pub counted : IsCounted old → IsCounted new

@@ -95,7 +95,8 @@ entries_by table held.Pointer before start n = []
 
 -- what the entries hold: bytes, or values of a type of the table
 abbrev pub IsEntryFor : Table → Entry → Held → Type 0
-IsEntryFor table entry (held.Value U) = (entry.size ≡ entry.before + size table U) × (U < length table)
+IsEntryFor table entry (held.Value U) =
+    (entry.size ≡ entry.before + size table U) × (U < length table)
 IsEntryFor table entry held.Bytes = Unit {0}
 IsEntryFor table entry held.Pointer = ⊥
 

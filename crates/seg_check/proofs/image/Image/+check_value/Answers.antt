@@ -48,14 +48,16 @@ loop-index-preserved g t c =
             let before : cell.type < T = w.in-Some.ensures.before in
             let small : x + size table w.part.result.type_id ≤ 2 ^ 32 = subst (λ U. x + size table U ≤ 2 ^ 32) (sym U_is) (omega arith) in
             let step = w.in_ok-check_value.ensures.steps (ready_now bytes table old mid _ ready done) (omega arith) small in
-            let all = field_more bytes table ready.is_table at T s.0 s.1 old mid i done w.check_value.new.claims cell x field x_is (subst (λ U. Advances bytes table mid w.check_value.new.claims (record { at = x; type = U } ∷ [])) U_is step) in
+            let all = field_more bytes table ready.is_table at T s.0 s.1 old mid i done w.check_value.new.claims cell x field x_is (subst (λ U. Advances bytes table mid w.check_value.new.claims
+            (record { at = x; type = U } ∷ [])) U_is step) in
             subst (λ k. Advances bytes table old k (take (i + 1) (parts_at at (fields_of table T)))) (sym w.claims-is) all);
       }
       | in_default w ↦ record {
         taken = ap (λ (k : Known). k.taken) w.claims-is ∙ c.loop-index.invariant.taken;
         so_far = (λ ready known fits.
             let done = c.loop-index.invariant.so_far ready known fits in
-            subst (λ k. Advances bytes table old k (take (i + 1) (parts_at at (fields_of table T)))) (sym w.claims-is) (field_past bytes table ready.is_table at T s.0 s.1 old mid i done (c.field.ensures.field ∙ ap (map_option cell_of) w.in_default.is)));
+            subst (λ k. Advances bytes table old k (take (i + 1) (parts_at at (fields_of table T)))) (sym w.claims-is) (field_past bytes table ready.is_table at T s.0 s.1 old mid i done (c.field.ensures.field
+            ∙ ap (map_option cell_of) w.in_default.is)));
       }
     ]
 

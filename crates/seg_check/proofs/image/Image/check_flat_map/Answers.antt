@@ -44,7 +44,8 @@ loop-index-preserved g c = λ T U by ready.
     let old = c.args.claims.now in
     let i = c.loop-index.index in
     let p = c.in_ok-start.start in
-    let at = flat_key bytes table c.args.cell T U c.args.content.now by old c.claim_entries.new.claims c.in-Some.count p i c.value_at.result ready (c.in_ok-start.ensures.claimed (ready_live bytes table old ready)) c.loop-index-test.true c.value_at.ensures in
+    let at = flat_key bytes table c.args.cell T U c.args.content.now by old c.claim_entries.new.claims c.in-Some.count p i c.value_at.result ready (c.in_ok-start.ensures.claimed
+    (ready_live bytes table old ready)) c.loop-index-test.true c.value_at.ensures in
     let same = to_z-of_z w64 c.key.result (record { sfits = c.key.type_inv }) in
     let key = same ∙ c.key.ensures at.0 ∙ ap (signed_long bytes) at.1 in
     let more = c.add.ensures (keys_at bytes (spaced p (8 + size table U) i)) (c.loop-index.invariant T U by ready) in

@@ -23,7 +23,8 @@ returns-in_err-tag g c = λ valid own.
 pub returns-in_err-content-in-Object : goal.returns-in_err-content-in-Object
 returns-in_err-content-in-Object g c = λ valid own.
     subst (HoldsEntries c.args.self.now.w.now.bytes c.args.self.now.types.now c.args.block) (sym c.from_residual-in_err-content-in-Object.ensures)
-    (none_in c.args.self.now.w.now.bytes c.args.self.now.types.now valid c.args.block c.in_ok-tag.tag.kind c.in_ok-tag.tag.type_id (other c.in_ok-tag.tag.kind c.in-Object.is) (sym c.tag_word.ensures ∙ c.in_ok-tag.ensures.spelled) c.in_err-content-in-Object.ensures)
+    (none_in c.args.self.now.w.now.bytes c.args.self.now.types.now valid c.args.block c.in_ok-tag.tag.kind c.in_ok-tag.tag.type_id (other c.in_ok-tag.tag.kind c.in-Object.is) (sym c.tag_word.ensures
+    ∙ c.in_ok-tag.ensures.spelled) c.in_err-content-in-Object.ensures)
 
 pub returns : goal.returns
 returns g c = λ valid own.
@@ -34,5 +35,6 @@ returns g c = λ valid own.
     let P : Content → Type 0 = λ content. HasEntries bytes table c.args.block content.entry in
     elim c.match-tag.branch [
       | in-Named w ↦ subst P (sym w.content-is) (stands_named bytes table valid c.args.block T w.object-content.result own (tagged ∙ ap (λ k. tag_of (kind_of k) T) w.in-Named.is) w.object-content.ensures.content)
-      | in-Object+in_ok-content-in-Object w ↦ subst P (sym w.content-is) (stands_in bytes table valid c.args.block c.in_ok-tag.tag.kind T w.in_ok-content-in-Object.content (other c.in_ok-tag.tag.kind w.in-Object.is) own tagged w.in_ok-content-in-Object.ensures)
+      | in-Object+in_ok-content-in-Object w ↦ subst P (sym w.content-is) (stands_in bytes table valid c.args.block c.in_ok-tag.tag.kind T w.in_ok-content-in-Object.content
+          (other c.in_ok-tag.tag.kind w.in-Object.is) own tagged w.in_ok-content-in-Object.ensures)
     ]
