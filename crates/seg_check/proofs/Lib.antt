@@ -17,3 +17,4 @@ pub mod AscendLaws
 pub mod FlatMapLaws
 pub mod PassedTiles
 pub mod FaultOrder
+pub mod ListLaws

@@ -293,7 +293,7 @@ module _ (bytes : List ℕ) (table : Table) where
   pub ready_now : (old new : Known) (ps : List Place) → IsReady bytes table old → Advances bytes table old new ps → IsReady bytes table new
   ready_now old new ps ready a = record {
     is_table = ready.is_table;
-    lacks_nodes = ready.lacks_nodes;
+    lacks_maps = ready.lacks_maps;
     blocks = (λ h some. ready.blocks h (omega (arith, a.within h)));
     small = ready.small;
   }

@@ -47,16 +47,15 @@ pub record Advances (bytes : List ℕ) (table : Table) (old new : Known)
       Resolves bytes table new.unclaimed left (waiting bytes table turns ++ others) →
       Resolves bytes table old.unclaimed left (places ++ others)
 
--- no type of the table is a list or a map
-pub record LacksNodes (table : Table) : Type 0 where
-  pub lists : (T U : ℕ) → form_at table T ≡ Some (Form.list U) → ⊥
-  pub maps : (T U : ℕ) → form_at table T ≡ Some (Form.map U) → ⊥
+-- no type of the table is a map
+abbrev pub LacksMaps : Table → Type 0
+LacksMaps table = (T U : ℕ) → form_at table T ≡ Some (Form.map U) → ⊥
 
--- a valid table without lists and maps, and unclaimed blocks that it allows, in an image that
+-- a valid table without maps, and unclaimed blocks that it allows, in an image that
 -- is not too long
 pub record IsReady (bytes : List ℕ) (table : Table) (known : Known) : Type 0 where
   pub is_table : IsTable table
-  pub lacks_nodes : LacksNodes table
+  pub lacks_maps : LacksMaps table
   pub blocks : AreBlocks bytes table known.unclaimed
   pub small : length bytes ≤ 2 ^ 30
 

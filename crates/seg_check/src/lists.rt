@@ -1,4 +1,5 @@
-ghost use Rattle.std.specs.Prelude.{◌≡◌, ℕ, ◌∷◌, []};
+ghost use Rattle.std.specs.Prelude.{◌≡◌, ℕ, ◌+◌, ◌^◌, ◌<◌, ◌↔◌, ◌∷◌, [], IsTrue, Some};
+ghost use Rattle.seg_spec.specs.Pointer.{target};
 ghost use Rattle.seg_spec.specs.Types.{Form};
 ghost use Rattle.seg_value.specs.Places.{object_at};
 ghost use Rattle.seg_check.specs.Resolving.{IsReady, Steps};
@@ -48,6 +49,9 @@ impl<A: Allocator> Image<'_, A> {
 }
 
 /// Whether a node is the one before another, as that one says.
-fn is_previous(bytes: View, node: u32, next: u32) -> bool {
+fn is_previous(bytes: View, node: u32, next: u32) -> bool
+    ensures { next + PREVIOUS < 2 ^ 32 →
+        IsTrue result ↔ (target bytes.entry.bytes.now (next + PREVIOUS) ≡ Some node) }
+{
     bytes.target(next.wrapping_add(PREVIOUS) as usize) == Some(node)
 }
