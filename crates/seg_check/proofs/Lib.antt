@@ -13,3 +13,4 @@ pub mod OpenLaws
 pub mod BufferLaws
 pub mod PassedTiles
 pub mod FaultOrder
+pub mod WalkLaws

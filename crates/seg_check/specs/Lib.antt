@@ -7,3 +7,5 @@ pub mod Claiming
 pub mod Turns
 pub mod Resolving
 pub mod Cells
+pub mod Walks
+pub mod Colours
