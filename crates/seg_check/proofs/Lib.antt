@@ -14,3 +14,4 @@ pub mod BufferLaws
 pub mod PassedTiles
 pub mod FaultOrder
 pub mod WalkLaws
+pub mod WalkSteady

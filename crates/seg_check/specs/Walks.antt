@@ -3,8 +3,10 @@
 --     Part, entered_of, after, unentered     the nodes above and to the left of the place, each with its right part
 --     Completes bytes height stage rest      a red-black tree goes on like this from the stage on, with the rest of its nodes
 --     IsAtEnd height old new rest            nothing is left, and all that was met is of such a tree
+--     IsSteady bytes stage turns             counts and positions of the walk don't wrap
+--     Proceeds bytes old new visit           a tree goes on from the new stage on as from the old one
 --     IsColourOf bytes node colour           this is the colour of a node, or it has none
-use Rattle.std.specs.Prelude.{◌≡◌, ℕ, ◌+◌, ◌^◌, ◌<◌, ◌≤◌, ◌⊎◌, true, ⊤, List, [], ◌∷◌, ◌++◌, length, Option, MatchOption}
+use Rattle.std.specs.Prelude.{◌≡◌, None, Some, ◌↔◌, ℕ, ◌+◌, ◌^◌, ◌<◌, ◌≤◌, ◌⊎◌, true, ⊤, List, [], ◌∷◌, ◌++◌, length, Option, MatchOption}
 use Rattle.std.specs.List.{AllByRecursion}
 use Rattle.seg_spec.specs.Pointer.{target}
 use Rattle.seg_spec.specs.Shapes as shapes
@@ -14,6 +16,8 @@ use Rattle.seg_rbtree.specs.Nodes.{shade}
 use Rattle.seg_check.specs.declared.walk.Above.{Above}
 use Rattle.seg_check.specs.declared.walk.Entered.{Entered}
 use Rattle.seg_check.specs.declared.walk.Stage.{Stage}
+use Rattle.seg_check.specs.declared.walk.Visit.{Visit}
+use Rattle.seg_check.specs.declared.walk.Visit.TheVariants.{Enter, Pass}
 
 -- this is the colour of a node, or its words are those of no colour
 abbrev pub IsColourOf : List ℕ → ℕ → Option Colour → Type 0
@@ -74,3 +78,30 @@ pub record IsAtEnd (height : ℕ) (old new : Stage) (rest : List ℕ) : Type 0 w
   pub height_is : old.above.blacks ≡ height
   pub is_right : new.is_red_black ≡ true
   pub counted : new.nodes ≡ new.wanted
+
+-- few nodes are above a place
+pub record IsShallow (above : Above) : Type 0 where
+  pub few : above.nodes ≤ 60
+  pub blacks_few : above.blacks ≤ above.nodes
+
+-- counts and positions of a walk with so many turns to come don't wrap: no node was entered that reaches
+-- beyond all positions, or the walk is past the end of the bytes, where it finds nodes for ever
+pub record IsSteady (bytes : List ℕ) (stage : Stage) (turns : ℕ) : Type 0 where
+  pub above : IsShallow stage.above
+  pub entered : AllByRecursion (λ e. IsShallow e.above) stage.entered.items
+  pub low : AllByRecursion (λ e. e.node + 4 < 2 ^ 32) stage.entered.items
+      ⊎ ((length bytes ≤ stage.pointer) × (stage.pointer < 2 ^ 32))
+  pub counted : stage.nodes + turns < 2 ^ 32
+  pub small : length bytes ≤ 2 ^ 30
+
+-- what the walk comes to: a tree goes on from the new stage on as from the old one
+abbrev pub Proceeds : List ℕ → Stage → Stage → Option Visit → Type 0
+Proceeds bytes old new None =
+    Completes bytes old.above.blacks old []
+    × ((height : ℕ) (rest : List ℕ) → Completes bytes height old rest → rest ≡ [])
+Proceeds bytes old new (Some (Enter pointer)) =
+    (pointer ≡ old.pointer)
+    × ((height : ℕ) (rest : List ℕ) → Completes bytes height old rest ↔ Completes bytes height new rest)
+Proceeds bytes old new (Some (Pass node)) = (height : ℕ) (rest : List ℕ) →
+    (Completes bytes height old (node ∷ rest) ↔ Completes bytes height new rest)
+    × (Completes bytes height old rest → (more : List ℕ) × (rest ≡ node ∷ more))

@@ -82,7 +82,7 @@ struct Stage {
 impl Stage {
     ghost use Rattle.std.specs.Prelude.{ℕ, ◌+◌, ◌^◌, ◌≤◌, ◌↔◌, List, ◌∷◌, ◌++◌, Some, IsTrue, IfSome, IfNone};
     ghost use Rattle.seg_spec.specs.Pointer.{target};
-    ghost use Rattle.seg_check.specs.Walks.{Completes, IsColourOf, IsAtEnd};
+    ghost use Rattle.seg_check.specs.Walks.{Completes, IsColourOf, IsAtEnd, IsShallow};
 
     /// At the root.
     fn new(tree: Tree) -> Stage
@@ -121,6 +121,7 @@ impl Stage {
         ensures entered { IsTrue result → self.new.entered.items
             ≡ self.old.entered.items ++ record { node = node; above = self.new.above } ∷ [] }
         ensures nodes { self.old.nodes < 2 ^ 32 → self.new.nodes ≤ self.old.nodes + 1 }
+        ensures above { IsTrue result → IsShallow self.old.above → IsShallow self.new.above }
     {
         let is_red = is_red(colour);
         let above = Above {
@@ -150,6 +151,9 @@ impl Stage {
         ensures end { IfNone result ((bytes : List ℕ) (height : ℕ) (rest : List ℕ)
             → target bytes self.old.pointer ≡ None
             → Completes bytes height self.old rest ↔ IsAtEnd height self.old self.new rest) }
+        ensures left { IfSome result (λ node. self.old.entered.items
+            ≡ self.new.entered.items ++ record { node = node; above = self.new.above } ∷ []) }
+        ensures nodes { self.new.nodes ≡ self.old.nodes }
     {
         let blacks = self.above.blacks;
         self.is_red_black = self.is_red_black && is_height(self.height, blacks);
@@ -161,7 +165,9 @@ impl Stage {
     }
 
     /// Whether the tree is as it is to be, once all of it was walked.
-    fn is_right(&self) -> bool {
+    fn is_right(&self) -> bool
+        ensures { IsTrue result ↔ ((self.now.is_red_black ≡ true) × (self.now.nodes ≡ self.now.wanted)) }
+    {
         self.is_red_black && self.nodes == self.wanted
     }
 }
@@ -178,9 +184,18 @@ pub(crate) struct Walk<'w, A: Allocator> {
 }
 
 impl<A: Allocator> Walk<'_, A> {
+    ghost use Rattle.std.specs.Prelude.{IfOk, IfSome};
+    ghost use Rattle.seg_check.specs.Walks.{IsSteady, Proceeds};
+
     /// What the walk comes to next, until it has come to the end.
     pub(crate) fn next(&mut self) -> Result<Option<Visit>, u32>
         ensures fewer { OnOk result (self.new.turns < self.old.turns) }
+        ensures steady { IsSteady self.old.w.now.bytes self.old.stage self.old.turns
+            → IfOk result (λ visit. IfSome visit (λ _.
+            IsSteady self.new.w.now.bytes self.new.stage self.new.turns)) }
+        ensures goes_on { IsSteady self.old.w.now.bytes self.old.stage self.old.turns
+            → IfOk result (Proceeds self.old.w.now.bytes self.old.stage self.new.stage) }
+        ensures window { self.new.w.now ≡ self.old.w.now }
     {
         if self.turns == 0 {
             return Err(self.root);
@@ -193,11 +208,10 @@ impl<A: Allocator> Walk<'_, A> {
             }
             return Err(self.root);
         }
-        let passed = self.stage.pass();
-        if passed.is_some() || self.stage.is_right() {
-            Ok(passed.map(Visit::Pass))
-        } else {
-            Err(self.root)
+        match self.stage.pass() {
+            Some(node) => Ok(Some(Visit::Pass(node))),
+            None if self.stage.is_right() => Ok(None),
+            None => Err(self.root),
         }
     }
 }

@@ -3,7 +3,6 @@ use Rattle.std.proofs.Common.{◌≡◌, ℕ, ◌+◌, ◌<◌, min, Bool, not, 
 use Rattle.seg_rbtree.specs.declared.node.Colour.{Colour}
 use Rattle.seg_rbtree.specs.declared.node.Colour.TheVariants.{Black, Red}
 use Rattle.seg_check.specs.Colours.{is_red, may_stand}
-use Rattle.seg_check.specs.declared.walk.Stage.{Stage}
 use Rattle.seg_check.proofs.WalkLaws.{Enters, enter_forth, enter_back, black_count}
 use Rattle.seg_check.proofs.walk.Stage.enter.Goals as goal
 use Rattle.seg_check.proofs.walk.Stage.enter.Goals.{then-self, else-self}
