@@ -18,3 +18,5 @@ pub mod FlatMapLaws
 pub mod PassedTiles
 pub mod FaultOrder
 pub mod ListLaws
+pub mod WalkLaws
+pub mod WalkSteady

@@ -8,3 +8,5 @@ pub mod Turns
 pub mod Resolving
 pub mod Cells
 pub mod Keys
+pub mod Walks
+pub mod Colours
