@@ -1,5 +1,5 @@
 -- Keys that ascend, with one more.
-use Rattle.std.proofs.Common.{◌≡◌, ℕ, zero, suc, ◌+◌, ◌*◌, ◌-◌, ◌%◌, ◌<◌, ◌≤◌, ℤ, ◌<ℤ◌, ◌↔◌, List, [], ◌∷◌, ◌++◌, length, map, take, Option, Some, None, MatchOption, refl, sym, ap, ◌∙◌, subst, arith}
+use Rattle.std.proofs.Common.{◌≡◌, ℕ, zero, suc, ◌+◌, ◌*◌, ℤ, ◌<ℤ◌, List, [], ◌∷◌, ◌++◌, Some, MatchOption, refl, ap, ◌∙◌, arith}
 use Rattle.std.specs.Prelude.{⊤}
 use Rattle.std.proofs.lemmas.List.{map-append}
 use Rattle.seg_spec.specs.Value.{IsAscending}

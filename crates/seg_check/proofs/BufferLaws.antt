@@ -1,29 +1,29 @@
 -- Strings, vectors, flat maps and owns, by the block that each names.
-use Rattle.std.proofs.Common.{◌≡◌, ℕ, zero, suc, ◌+◌, ◌*◌, ◌<◌, ◌≤◌, List, [], ◌∷◌, ◌++◌, length, map, Bool, true, false, Option, Some, None, Result, Ok, Err, refl, sym, ap, ◌∙◌, subst, arith}
+use Rattle.std.proofs.Common.{◌≡◌, ℕ, zero, suc, ◌+◌, ◌*◌, ◌≤◌, List, [], ◌∷◌, length, Bool, true, false, Option, Some, None, Ok, Err, refl, sym, ap, ◌∙◌, subst, arith}
 use Rattle.std.specs.Option.{is_some}
 use Rattle.seg_spec.specs.Bytes.{slice}
 use Rattle.seg_spec.specs.Pointer.{target}
 use Rattle.seg_spec.specs.Types.{Form, Table, form_at, size}
-use Rattle.seg_spec.specs.Block.{Kind, tag_of, block_of, IsBlock}
+use Rattle.seg_spec.specs.Block.{Kind, tag_of, IsBlock}
 use Rattle.seg_spec.specs.Owing.{entries_at}
-use Rattle.seg_spec.specs.Value.{IsAscending, Label}
-use Rattle.seg_spec.specs.Reads.{Place, Opened, Opens, OpensBuffer, OpensOwn, NamesRoom, named, start, count_at, keys_at, spaced, places_of, items}
+use Rattle.seg_spec.specs.Value.{Label}
+use Rattle.seg_spec.specs.Reads.{Opened, NamesRoom, named, start, count_at, items}
 use Rattle.seg_spec.proofs.CellOwed.{items_entries}
 use Rattle.seg_layout.specs.Forms.{has_cells}
 use Rattle.seg_block.specs.Tags.{word_of}
-use Rattle.seg_value.specs.Contents.{IsEntryOf, IsContent, IsText}
+use Rattle.seg_value.specs.Contents.{IsContent}
 use Rattle.seg_value.specs.declared.content.Content.{Content}
 use Rattle.seg_value.specs.declared.content.Shape.{Shape}
 use Rattle.seg_check.specs.declared.fault.ContentFault.{ContentFault}
 use Rattle.seg_check.specs.declared.fault.ContentFault.TheVariants.{BadPointer, BadValue}
 use Rattle.seg_check.specs.Claiming.{Refuses, CanClaim, ClaimsBlock, turns_where, has_turns}
 use Rattle.seg_check.specs.Marks.{Known, ClaimsAll, Within}
-use Rattle.seg_check.specs.Turns.{places_in, places_by, waiting, with_cells}
+use Rattle.seg_check.specs.Turns.{places_by}
 use Rattle.seg_check.specs.Resolving.{CanResolve, Advances, IsReady}
 use Rattle.seg_check.specs.Cells.{counted_by, blocks_counted_by, NamesBy, HasItems}
-use Rattle.seg_check.proofs.StepLaws.{advance_open, CanOpen, can_open}
+use Rattle.seg_check.proofs.StepLaws.{advance_open, can_open}
 use Rattle.seg_check.proofs.TagLaws.{places_tagged}
-use Rattle.seg_check.proofs.OpenLaws.{named_some, named_none, start_some, names_room, room_named, no_room, none_counted, can_claim, advance_block, advance_nothing}
+use Rattle.seg_check.proofs.OpenLaws.{named_some, named_none, start_some, names_room, no_room, none_counted, can_claim, advance_block, advance_nothing}
 
 -- ---- what a cell counts
 

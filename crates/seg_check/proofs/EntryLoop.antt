@@ -1,5 +1,5 @@
 -- The entries of a block in turn, and the blocks that wait in turn.
-use Rattle.std.proofs.Common.{◌≡◌, ℕ, zero, suc, ◌+◌, ◌*◌, ◌%◌, ◌^◌, ◌<◌, ◌≤◌, ◌↔◌, List, [], ◌∷◌, ◌++◌, length, map, Option, Some, None, refl, sym, ap, ◌∙◌, subst, arith}
+use Rattle.std.proofs.Common.{◌≡◌, ℕ, zero, suc, ◌+◌, ◌*◌, ◌%◌, ◌^◌, ◌<◌, ◌≤◌, List, [], ◌∷◌, ◌++◌, length, Some, None, refl, sym, ap, ◌∙◌, subst, arith}
 use Rattle.std.proofs.lemmas.List.{append-nil}
 use Rattle.std.specs.Prelude.{slice_get}
 use Rattle.seg_spec.specs.Types.{Table, IsTable, size}
@@ -14,7 +14,7 @@ use Rattle.seg_value.specs.declared.entry.Held.TheVariants as held
 use Rattle.seg_check.specs.declared.marks.Turn.{Turn}
 use Rattle.seg_check.specs.Marks.{Known, IsCounted, Within}
 use Rattle.seg_check.specs.Turns.{AreLow, AreTurns, IsTurn, IsEntryFor, HasEntries, entries_by, places_in, waiting}
-use Rattle.seg_check.specs.Resolving.{Resolves, CanResolve, Advances, IsReady}
+use Rattle.seg_check.specs.Resolving.{Resolves, Advances, IsReady}
 use Rattle.seg_check.proofs.StepLaws.{resolves_swap, waiting-append, turns_both}
 use Rattle.seg_check.proofs.PlaceLoop.{each_get}
 

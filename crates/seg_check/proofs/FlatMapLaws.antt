@@ -1,12 +1,11 @@
 -- Flat maps, by their buffer and the order of their keys.
 use Rattle.std.proofs.Common.{◌≡◌, ℕ, zero, suc, ◌+◌, ◌*◌, ◌%◌, ◌^◌, ◌-◌, ◌<◌, ◌≤◌, List, [], ◌∷◌, ◌++◌, length, map, Option, Some, None, Result, Ok, Err, MatchResult, refl, sym, ap, ◌∙◌, subst, arith}
-use Rattle.seg_spec.specs.Bytes.{signed_long}
 use Rattle.seg_spec.specs.Pointer.{target}
-use Rattle.seg_spec.specs.Types.{Form, Table, form_at, size}
+use Rattle.seg_spec.specs.Types.{Form, Table, size}
 use Rattle.seg_spec.specs.Block.{Kind, tag_of, block_of}
 use Rattle.seg_spec.specs.Owing.{entries_at}
 use Rattle.seg_spec.specs.Value.{IsAscending, Label}
-use Rattle.seg_spec.specs.Reads.{Place, Opened, Opens, named, start, count_at, keys_at, spaced, places_of}
+use Rattle.seg_spec.specs.Reads.{Place, Opened, named, start, count_at, keys_at, spaced, places_of}
 use Rattle.seg_spec.specs.Sound.{times}
 use Rattle.seg_spec.proofs.LiveLaws.{times-same}
 use Rattle.seg_block.specs.Tags.{word_of}
@@ -21,7 +20,7 @@ use Rattle.seg_check.specs.Resolving.{CanResolve, Advances, IsReady, Steps}
 use Rattle.seg_check.specs.Cells.{NamesBy}
 use Rattle.seg_check.proofs.StepLaws.{can_open}
 use Rattle.seg_check.proofs.TagLaws.{places_tagged}
-use Rattle.seg_check.proofs.OpenLaws.{named_some, named_none, start_some, names_room, no_room, can_claim, advance_block, advance_nothing, entries_low}
+use Rattle.seg_check.proofs.OpenLaws.{named_none, start_some, names_room, no_room, can_claim, advance_block, advance_nothing, entries_low}
 use Rattle.seg_check.proofs.BufferLaws.{content_claimed, content_can, block_is, named_within}
 use Rattle.seg_check.proofs.PlaceLoop.{each_get}
 use Rattle.seg_check.proofs.EntryLoop.{entry_get}

@@ -1,5 +1,5 @@
 -- What is known of a block, by the marks of the units.
-use Rattle.std.proofs.Common.{◌≡◌, ◌≢◌, ℕ, ◌+◌, ◌-◌, ◌*◌, ◌%◌, ◌^◌, ◌<◌, ◌≤◌, suc, ◌⊎◌, inl, inr, ⊎_elim, Bool, true, false, cond, List, [], ◌∷◌, ◌++◌, length, get_or, set, take, drop, replicate, refl, sym, ap, ◌∙◌, subst, arith}
+use Rattle.std.proofs.Common.{◌≡◌, ℕ, ◌+◌, ◌-◌, ◌*◌, ◌^◌, ◌<◌, ◌≤◌, suc, ⊎_elim, true, false, cond, List, [], ◌∷◌, ◌++◌, length, get_or, set, take, drop, replicate, refl, sym, ap, ◌∙◌, subst, arith}
 use Rattle.std.proofs.Math.ListN.{length-set}
 use Rattle.std.proofs.lemmas.List.{append-nil, length-replicate}
 use Rattle.std.proofs.lemmas.Grind.{get_or-set_at}
@@ -10,7 +10,7 @@ use Rattle.seg_spec.proofs.LiveLaws.{times-same, times-other}
 use Rattle.seg_check.specs.declared.marks.Mark.{Mark}
 use Rattle.seg_check.specs.declared.marks.Mark.TheVariants.{Inside, Free, Live, Claimed}
 use Rattle.seg_check.specs.declared.marks.Turn.{Turn}
-use Rattle.seg_check.specs.Marks.{Known, known_of, nothing_known, is_unclaimed, is_free, unclaimed_from, free_from, IsUnit, IsMarked, IsCounted, KeepsOthers, Adds, ClaimsAll}
+use Rattle.seg_check.specs.Marks.{Known, known_of, nothing_known, is_unclaimed, is_free, unclaimed_from, free_from, IsUnit, IsMarked, KeepsOthers, Adds, ClaimsAll}
 use Rattle.seg_check.proofs.MarkLaws.{bit, one, looked, no_unit, set_other, one_more, none_in, few, after_none}
 use Rattle.seg_check.proofs.SameLength.{same_length}
 

@@ -1,15 +1,15 @@
 -- The ring of a list, as its nodes are claimed along next.
-use Rattle.std.proofs.Common.{◌≡◌, ℕ, zero, suc, ◌+◌, ◌*◌, ◌^◌, ◌<◌, ◌≤◌, ◌↔◌, Bool, true, false, List, [], ◌∷◌, ◌++◌, length, length-append, map, Some, None, refl, sym, ap, ◌∙◌, subst, arith}
+use Rattle.std.proofs.Common.{◌≡◌, ℕ, ◌+◌, ◌*◌, ◌^◌, ◌<◌, ◌≤◌, ◌↔◌, Bool, true, false, List, [], ◌∷◌, ◌++◌, length, length-append, map, Some, None, refl, sym, ap, ◌∙◌, subst, arith}
 use Rattle.std.proofs.lemmas.List.{append-nil, append_assoc, map-append}
 use Rattle.std.specs.List.{AllByRecursion}
 use Rattle.seg_spec.specs.Pointer.{target}
 use Rattle.seg_spec.specs.Types.{Form, Table, form_at, size}
-use Rattle.seg_spec.specs.Block.{Kind, tag_of, block_of, IsBlock, payload_size}
+use Rattle.seg_spec.specs.Block.{Kind, tag_of, block_of, IsBlock}
 use Rattle.seg_spec.specs.Owing.{entries_at}
-use Rattle.seg_spec.specs.Shapes.{AreLinked, IsLinked, IsRing}
+use Rattle.seg_spec.specs.Shapes.{IsLinked, IsRing}
 use Rattle.seg_spec.specs.Value.{Label}
-use Rattle.seg_spec.specs.Reads.{Place, Opened, Opens, OpensRing, AreNodes, count_at, places_of}
-use Rattle.seg_spec.specs.Sound.{times, SameBlocks}
+use Rattle.seg_spec.specs.Reads.{Place, Opened, AreNodes, count_at, places_of}
+use Rattle.seg_spec.specs.Sound.{times}
 use Rattle.seg_spec.proofs.LiveLaws.{times-same, times-append, times-more}
 use Rattle.seg_layout.specs.Forms.{has_cells}
 use Rattle.seg_check.specs.declared.marks.Turn.{Turn}
@@ -19,7 +19,7 @@ use Rattle.seg_check.specs.Turns.{AreKnown, AreTurns, IsTurn, places_in, places_
 use Rattle.seg_check.specs.Resolving.{CanResolve, Advances, IsReady}
 use Rattle.seg_check.proofs.StepLaws.{advance_open, can_open, waiting-append, turns_both}
 use Rattle.seg_check.proofs.TagLaws.{places_tagged}
-use Rattle.seg_check.proofs.OpenLaws.{one_type, advance_nothing, claimed_turns, claimed_waiting}
+use Rattle.seg_check.proofs.OpenLaws.{one_type, advance_nothing}
 
 module _ (bytes : List ℕ) where
   -- from x on each node names the next one, up to the last

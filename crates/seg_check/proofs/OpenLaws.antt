@@ -1,31 +1,21 @@
 -- Cells whose blocks were claimed, or can't be.
-use Rattle.std.proofs.Common.{◌≡◌, ℕ, zero, suc, ◌+◌, ◌*◌, ◌^◌, ◌<◌, ◌≤◌, List, [], ◌∷◌, ◌++◌, length, map, Bool, true, false, cond, Option, Some, None, unwrap_or, MatchOption, Ok, Err, refl, sym, ap, ◌∙◌, subst, arith, add_assoc}
+use Rattle.std.proofs.Common.{◌≡◌, ℕ, zero, suc, ◌+◌, ◌*◌, ◌^◌, ◌<◌, ◌≤◌, List, [], ◌∷◌, ◌++◌, length, map, Bool, true, false, cond, Some, None, unwrap_or, MatchOption, refl, sym, ap, ◌∙◌, subst, arith}
 use Rattle.std.proofs.lemmas.List.{append-nil}
-use Rattle.std.specs.List.{AllByRecursion}
 use Rattle.std.specs.Prelude.{option_to_list}
 use Rattle.std.specs.Option.{option_map}
-use Rattle.seg_spec.specs.Bytes.{slice}
 use Rattle.seg_spec.specs.Pointer.{target}
-use Rattle.seg_spec.specs.Types.{Form, Table, IsTable, form_at, size}
-use Rattle.seg_spec.specs.Heap.{tag_at}
-use Rattle.seg_spec.specs.Block.{Kind, tag_of, block_of, payload_size, IsBlock}
+use Rattle.seg_spec.specs.Types.{Form, Table, form_at, size}
+use Rattle.seg_spec.specs.Block.{block_of, IsBlock}
 use Rattle.seg_spec.specs.Owing.{entries_at}
-use Rattle.seg_spec.specs.Shapes.{IsRing, leaf, IsTree}
-use Rattle.seg_spec.specs.Value.{IsAscending, Label}
-use Rattle.seg_spec.specs.Reads.{Place, Opened, Opens, NamesRoom, named, start, count_at, keys_at, spaced, places_of, items}
-use Rattle.seg_spec.specs.Sound.{times, SameBlocks}
-use Rattle.seg_spec.proofs.LiveLaws.{times-same, times-append}
-use Rattle.seg_spec.proofs.CellOwed.{items_entries}
+use Rattle.seg_spec.specs.Reads.{Place, Opened, Opens, NamesRoom, named, start, count_at, spaced, places_of}
+use Rattle.seg_spec.specs.Sound.{times}
+use Rattle.seg_spec.proofs.LiveLaws.{times-same}
 use Rattle.seg_layout.specs.Forms.{has_cells}
-use Rattle.seg_value.specs.Contents.{ContentOf}
-use Rattle.seg_value.specs.declared.content.Content.{Content}
-use Rattle.seg_check.specs.declared.marks.Turn.{Turn}
 use Rattle.seg_check.specs.Claiming.{AreLive, CanClaim, ClaimsBlock, turns_where}
 use Rattle.seg_check.specs.Marks.{Known, ClaimsAll, Within}
-use Rattle.seg_check.specs.Turns.{AreLow, AreKnown, AreTurns, IsTurn, places_in, places_with, waiting, with_cells}
-use Rattle.seg_check.specs.Resolving.{Resolves, CanResolve, Advances, IsReady}
-use Rattle.seg_check.proofs.StepLaws.{advance_open, CanOpen, can_open}
-use Rattle.seg_check.proofs.TagLaws.{places_tagged}
+use Rattle.seg_check.specs.Turns.{AreLow, AreKnown, AreTurns, IsTurn, places_in, waiting, with_cells}
+use Rattle.seg_check.specs.Resolving.{Advances, IsReady}
+use Rattle.seg_check.proofs.StepLaws.{advance_open}
 
 -- ---- entries
 

@@ -1,9 +1,8 @@
 -- Lists in which each block stands equally often are equally long.
-use Rattle.std.proofs.Common.{◌≡◌, ◌≢◌, ℕ, suc, ◌+◌, ◌*◌, ◌<◌, ◌≤◌, ◌⊎◌, inl, inr, ⊎_elim, List, [], ◌∷◌, ◌++◌, length, refl, sym, ap, ◌∙◌, subst, arith, length-append}
-use Rattle.std.proofs.lemmas.List.{append_assoc}
+use Rattle.std.proofs.Common.{◌≡◌, ℕ, ◌+◌, ◌≤◌, ⊎_elim, List, [], ◌∷◌, ◌++◌, length, refl, sym, ap, ◌∙◌, arith, length-append}
 use Rattle.std.proofs.lemmas.Bool.{cases_eq}
 use Rattle.seg_spec.specs.Sound.{times, SameBlocks}
-use Rattle.seg_spec.proofs.LiveLaws.{times-append, times-same, times-other, times-more}
+use Rattle.seg_spec.proofs.LiveLaws.{times-append, times-same, times-other}
 
 pub same_refl : (xs : List ℕ) → SameBlocks xs xs
 same_refl xs h = refl

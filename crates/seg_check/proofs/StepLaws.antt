@@ -1,23 +1,21 @@
 -- How places that wait give way to the places inside them.
-use Rattle.std.proofs.Common.{◌≡◌, ℕ, ◌+◌, ◌<◌, ◌≤◌, zero, suc, Bool, true, false, cond, List, [], ◌∷◌, ◌++◌, length, map, filter, Option, Some, None, Ok, Err, Result, refl, sym, ap, ◌∙◌, subst, arith}
+use Rattle.std.proofs.Common.{◌≡◌, ℕ, ◌<◌, ◌≤◌, zero, suc, Bool, true, false, cond, List, [], ◌∷◌, ◌++◌, length, Option, Some, None, Err, Result, refl, sym, ap, ◌∙◌, subst, arith}
 use Rattle.std.proofs.lemmas.List.{append_assoc, append-nil}
-use Rattle.std.specs.List.{AllByRecursion}
-use Rattle.std.specs.Prelude.{flat_map}
 use Rattle.seg_spec.specs.Bytes.{signed_long}
-use Rattle.seg_spec.specs.Types.{Form, Table, IsTable, form_at}
-use Rattle.seg_spec.specs.Value.{Value, Values, nil, cons, node, append, Label}
-use Rattle.seg_spec.specs.Reads.{Place, Opened, Opens, Holds, holds, HoldsEach, holds_none, holds_more, fields}
+use Rattle.seg_spec.specs.Types.{Form, Table, form_at}
+use Rattle.seg_spec.specs.Value.{Values, cons, node, append, Label}
+use Rattle.seg_spec.specs.Reads.{Place, Opened, Opens, holds, HoldsEach, holds_none, holds_more, fields}
 use Rattle.seg_spec.specs.Sound.{times, SameBlocks}
 use Rattle.seg_spec.proofs.LiveLaws.{times-append}
 use Rattle.seg_spec.proofs.OneReading.{Opens-one}
-use Rattle.seg_spec.proofs.TreeOwed.{EachSplit, each_split}
+use Rattle.seg_spec.proofs.TreeOwed.{each_split}
 use Rattle.seg_layout.specs.Forms.{has_cells}
 use Rattle.seg_check.specs.declared.fault.ContentFault.{ContentFault}
 use Rattle.seg_check.specs.declared.fault.ContentFault.TheVariants.{Memory, BadIndex, BadPointer, DoubleOwner, BadValue}
 use Rattle.seg_check.specs.declared.marks.Turn.{Turn}
 use Rattle.seg_check.specs.Claiming.{Refuses}
-use Rattle.seg_check.specs.Marks.{Known, IsCounted, ClaimsAll, Within}
-use Rattle.seg_check.specs.Turns.{places_in, waiting, with_cells, AreKnown, AreTurns, AreBlocks}
+use Rattle.seg_check.specs.Marks.{Known, ClaimsAll, Within}
+use Rattle.seg_check.specs.Turns.{places_in, waiting, with_cells, AreKnown, AreTurns}
 use Rattle.seg_check.specs.Resolving.{Resolves, CanResolve, Advances, IsReady, Steps}
 
 -- what refuses one claim refuses each that leads to it

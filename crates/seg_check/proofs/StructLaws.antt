@@ -1,12 +1,12 @@
 -- The fields of a struct in turn.
-use Rattle.std.proofs.Common.{◌≡◌, ℕ, zero, suc, ◌+◌, ◌*◌, ◌%◌, ◌^◌, ◌<◌, ◌≤◌, List, [], ◌∷◌, ◌++◌, length, map, take, Option, Some, None, sum_by, refl, sym, ap, ◌∙◌, subst, arith, add_assoc}
-use Rattle.std.proofs.lemmas.Option.{slice_get-map, slice_get_past}
+use Rattle.std.proofs.Common.{◌≡◌, ℕ, suc, ◌+◌, ◌<◌, ◌≤◌, List, [], ◌∷◌, length, take, Option, Some, None, sum_by, refl, sym, ap, ◌∙◌, subst, arith, add_assoc}
+use Rattle.std.proofs.lemmas.Option.{slice_get-map}
 use Rattle.std.specs.Option.{option_map}
 use Rattle.std.specs.Prelude.{slice_get}
 use Rattle.seg_spec.specs.Types.{Form, Table, IsTable, form_at, size, Cell, fields_from, fields_by, fields_of}
-use Rattle.seg_spec.specs.Reads.{Place, fields}
+use Rattle.seg_spec.specs.Reads.{fields}
 use Rattle.seg_spec.proofs.Geometry.{InFields, fields_in}
-use Rattle.seg_spec.proofs.TypesLaws.{size-form, size_large}
+use Rattle.seg_spec.proofs.TypesLaws.{size-form}
 use Rattle.seg_check.specs.Marks.{Known}
 use Rattle.seg_check.specs.Turns.{parts_at}
 use Rattle.seg_check.specs.Resolving.{CanResolve, Advances}

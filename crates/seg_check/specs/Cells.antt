@@ -5,7 +5,7 @@
 --     HasItems form                      a string or a vector
 --     ResolvesTurns bytes table old new result
 --                                        all values that waited were looked at
-use Rattle.std.specs.Prelude.{◌≡◌, ℕ, zero, suc, ⊤, ◌↔◌, Option, Some, None, Result, Ok, Err, List, []}
+use Rattle.std.specs.Prelude.{◌≡◌, ℕ, zero, suc, ⊤, ◌↔◌, Option, Some, None, Result, Ok, Err, List}
 use Rattle.seg_spec.specs.Types.{Form, Table, form_at}
 use Rattle.seg_spec.specs.Sound.{SameBlocks}
 use Rattle.seg_value.specs.declared.content.Content.{Content}

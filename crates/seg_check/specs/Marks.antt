@@ -11,11 +11,11 @@
 --     ClaimsAll old new blocks turns
 --                               these blocks were claimed, and these turns wait after the others
 --     KnowsTiles bytes known    the blocks of the heap are known, and none of them is claimed
-use Rattle.std.specs.Prelude.{◌≡◌, ◌≢◌, ℕ, ◌+◌, ◌-◌, ◌*◌, ◌%◌, ◌^◌, ◌<◌, ◌≤◌, Bool, true, false, List, [], ◌∷◌, ◌++◌, length, drop, if◌then◌else◌}
+use Rattle.std.specs.Prelude.{◌≡◌, ◌≢◌, ℕ, ◌+◌, ◌*◌, ◌<◌, ◌≤◌, Bool, true, false, List, [], ◌∷◌, ◌++◌, length, drop, if◌then◌else◌}
 use Rattle.seg_spec.specs.Heap.{heap_start, live, free_of, tiles}
 use Rattle.seg_spec.specs.Sound.{times, SameBlocks, positions}
 use Rattle.seg_check.specs.declared.marks.Mark.{Mark}
-use Rattle.seg_check.specs.declared.marks.Mark.TheVariants.{Inside, Free, Live, Claimed}
+use Rattle.seg_check.specs.declared.marks.Mark.TheVariants.{Free, Live}
 use Rattle.seg_check.specs.declared.marks.Turn.{Turn}
 
 -- a live block begins there that nothing claimed so far, or a free one

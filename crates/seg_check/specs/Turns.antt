@@ -6,7 +6,7 @@
 --     IsTurn bytes table turn          the table allows the tag, and no position overflows
 --     AreBlocks bytes table blocks     live blocks with tags that the table allows
 --     HasEntries bytes table block e   what is read of a block as what stands in it
-use Rattle.std.specs.Prelude.{◌≡◌, ℕ, zero, suc, ◌+◌, ◌/◌, ◌%◌, ◌^◌, ◌<◌, ◌≤◌, List, [], ◌∷◌, length, map, filter, flat_map, Option, Some, None}
+use Rattle.std.specs.Prelude.{◌≡◌, ℕ, zero, suc, ◌+◌, ◌/◌, ◌%◌, ◌^◌, ◌<◌, ◌≤◌, List, [], length, map, filter, flat_map, Option, Some, None}
 use Rattle.std.specs.List.{AllByRecursion}
 use Rattle.seg_spec.specs.Types.{Form, Table, Cell, form_at, size}
 use Rattle.seg_spec.specs.Heap.{tag_at}

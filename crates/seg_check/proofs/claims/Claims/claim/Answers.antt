@@ -1,13 +1,13 @@
-use Rattle.std.proofs.Common.{◌≡◌, ℕ, ◌+◌, ◌-◌, ◌*◌, ◌%◌, ◌<◌, ◌≤◌, ⊎_elim, List, [], ◌∷◌, length, get_or, set, Some, true, false, cond, refl, sym, ap, ◌∙◌, subst, arith}
+use Rattle.std.proofs.Common.{◌≡◌, ℕ, ◌+◌, ◌*◌, ◌%◌, ◌<◌, ◌≤◌, ⊎_elim, List, [], ◌∷◌, length, get_or, set, Some, false, cond, sym, ap, ◌∙◌, subst, arith}
 use Rattle.std.proofs.lemmas.List.{get_or_read}
-use Rattle.seg_spec.specs.Heap.{heap_start, units_at, tag_at}
+use Rattle.seg_spec.specs.Heap.{heap_start}
 use Rattle.seg_spec.specs.Pointer.{target}
 use Rattle.seg_spec.specs.Block.{block_of}
 use Rattle.seg_spec.specs.Sound.{times}
 use Rattle.seg_block.specs.Tags.{word_of}
 use Rattle.seg_check.specs.declared.marks.Mark.{Mark}
 use Rattle.seg_check.specs.declared.marks.Turn.{Turn}
-use Rattle.seg_check.specs.declared.marks.Mark.TheVariants.{Inside, Live, Claimed}
+use Rattle.seg_check.specs.declared.marks.Mark.TheVariants.{Inside, Claimed}
 use Rattle.seg_check.specs.Marks.{Known, known_of, IsUnit, ClaimsAll, is_unclaimed}
 use Rattle.seg_check.specs.Claiming.{HasPayload, CanClaim}
 use Rattle.seg_check.proofs.KnownLaws.{mark_is, mark_none, claims_one}

@@ -1,11 +1,11 @@
-use Rattle.std.proofs.Common.{◌≡◌, ℕ, ◌+◌, ◌*◌, ◌%◌, ◌^◌, ◌<◌, ◌≤◌, ◌∷◌, [], length, take, Err, Some, None, refl, sym, ap, ◌∙◌, subst, arith}
+use Rattle.std.proofs.Common.{◌≡◌, ◌+◌, take, Err, Some, None, refl, sym, ap, ◌∙◌, subst, arith}
 use Rattle.std.proofs.lemmas.Result.{err_from_is_err_and}
-use Rattle.seg_spec.specs.Block.{IsOwnable, block_of}
+use Rattle.seg_spec.specs.Block.{IsOwnable}
 use Rattle.seg_value.specs.Places.{place_of}
 use Rattle.seg_value.specs.declared.place.Place.{Place}
 use Rattle.seg_check.specs.Marks.{Known}
 use Rattle.seg_check.specs.Turns.{places_in}
-use Rattle.seg_check.specs.Resolving.{Advances, CanResolve}
+use Rattle.seg_check.specs.Resolving.{Advances}
 use Rattle.seg_check.proofs.StepLaws.{advance_none, ready_now, steps_refused}
 use Rattle.seg_check.proofs.PlaceLoop.{place_more, place_past, place_can, place_all}
 use Rattle.seg_check.proofs.EntryLoop.{few_places, no_value, is_read}

@@ -1,11 +1,8 @@
-use Rattle.std.proofs.Common.{◌≡◌, ℕ, ◌*◌, ◌∷◌, [], Ok, Err, Some, None, sym, ap, ◌∙◌, subst}
+use Rattle.std.proofs.Common.{◌≡◌, ◌∷◌, [], Ok, Err, sym, ap, ◌∙◌}
 use Rattle.std.proofs.lemmas.Result.{err_from_is_err_and}
 use Rattle.seg_spec.specs.Pointer.{target}
 use Rattle.seg_spec.specs.Reads.{count_at}
-use Rattle.seg_block.specs.Tags.{word_of}
 use Rattle.seg_value.specs.Places.{object_at}
-use Rattle.seg_check.specs.Cells.{counted_by}
-use Rattle.seg_check.specs.Claiming.{CanClaim}
 use Rattle.seg_check.proofs.StepLaws.{steps_refused}
 use Rattle.seg_check.proofs.OpenLaws.{ready_live}
 use Rattle.seg_check.proofs.BufferLaws.{counted_none, counted_some, counted_names, items_advance, items_nothing, items_can}

@@ -1,4 +1,4 @@
-use Rattle.std.proofs.Common.{◌≡◌, None, sym, ap, ◌∙◌, subst, refl}
+use Rattle.std.proofs.Common.{ap, ◌∙◌, subst, refl}
 use Rattle.seg_spec.specs.Types.{form_at}
 use Rattle.seg_layout.specs.Forms.{form_of, map_option}
 use Rattle.seg_value.specs.Contents.{ContentOf}

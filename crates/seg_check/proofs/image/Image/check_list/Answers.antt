@@ -1,24 +1,16 @@
-use Rattle.std.proofs.Common.{◌≡◌, ℕ, ◌+◌, ◌*◌, ◌^◌, ◌<◌, ◌≤◌, ◌↔◌, Bool, true, false, List, ◌∷◌, [], Ok, Err, Option, Some, None, eqb, refl, sym, ap, ◌∙◌, subst, arith}
+use Rattle.std.proofs.Common.{◌≡◌, ℕ, ◌+◌, true, false, ◌∷◌, [], Ok, Err, Option, Some, None, eqb, sym, ap, ◌∙◌, subst, arith}
 use Rattle.std.specs.Option.{option_eq}
 use Rattle.std.proofs.lemmas.Bool.Decides.{nat_tests}
 use Rattle.std.proofs.lemmas.Result.{err_from_is_err_and}
 use Rattle.seg_spec.specs.Pointer.{target}
-use Rattle.seg_spec.specs.Types.{Table, Form, form_at, size}
-use Rattle.seg_spec.specs.Block.{Kind, tag_of}
 use Rattle.seg_spec.specs.Reads.{count_at}
-use Rattle.seg_layout.specs.Forms.{has_cells}
 use Rattle.seg_block.specs.Tags.{word_of}
 use Rattle.seg_value.specs.Places.{object_at}
-use Rattle.seg_value.specs.declared.content.Content.{Content}
-use Rattle.seg_check.specs.declared.image.Owner.{Owner}
-use Rattle.seg_check.specs.Claiming.{AreLive, CanClaim, ClaimsBlock, turns_where, has_turns}
-use Rattle.seg_check.specs.Marks.{Known}
-use Rattle.seg_check.specs.Resolving.{IsReady}
-use Rattle.seg_check.specs.Cells.{NamesBy}
+use Rattle.seg_check.specs.Claiming.{AreLive, has_turns}
 use Rattle.seg_check.proofs.StepLaws.{steps_refused}
 use Rattle.seg_check.proofs.OpenLaws.{ready_live}
 use Rattle.seg_check.proofs.BufferLaws.{blocks_none, blocks_some, blocks_names}
-use Rattle.seg_check.proofs.ListLaws.{Walked, walked_first, walked_more, walked_ready, ring_advance, ring_nothing, first_can, ring_closed, next_can, owner_claimed, owner_can, first_low, next_low}
+use Rattle.seg_check.proofs.ListLaws.{walked_first, walked_more, walked_ready, ring_advance, ring_nothing, first_can, ring_closed, next_can, owner_claimed, owner_can, first_low, next_low}
 use Rattle.seg_check.proofs.image.Image.check_list.Goals as goal
 use Rattle.seg_check.proofs.image.Image.check_list.Goals.{then-is_linked, else-is_linked, then-eq, else-eq, else-is_linked-2-via-then-is_linked-2+else-is_closed, else-is_linked-2-via-else-is_linked-2}
 

@@ -1,12 +1,10 @@
-use Rattle.std.proofs.Common.{◌≡◌, ℕ, ◌∷◌, [], List, Err, refl, sym, ap, ◌∙◌, subst, arith}
+use Rattle.std.proofs.Common.{◌≡◌, ◌∷◌, [], Err, sym, ap, ◌∙◌, subst, arith}
 use Rattle.std.proofs.lemmas.Result.{err_from_is_err_and}
 use Rattle.seg_spec.specs.Sound.{times}
 use Rattle.seg_check.specs.Turns.{AreTurns, places_in, waiting}
-use Rattle.seg_check.specs.Claiming.{Refuses}
-use Rattle.seg_check.specs.Resolving.{IsReady, Resolves}
 use Rattle.seg_check.specs.Cells.{ResolvesTurns}
 use Rattle.seg_check.proofs.StepLaws.{refuses_map, ready_now}
-use Rattle.seg_check.proofs.EntryLoop.{Resolving, ready_same, moved, turn_forth, turn_back, turns_now, none_left, left_none}
+use Rattle.seg_check.proofs.EntryLoop.{ready_same, moved, turn_forth, turn_back, turns_now, none_left, left_none}
 use Rattle.seg_check.proofs.image.Image.check_values.Goals as goal
 
 pub loop-turn-init : goal.loop-turn-init
