@@ -37,11 +37,6 @@ counted_some at zero m None e = cc
 counted_some at (suc n) m None e = cc
 counted_some at n m (Some p) e = cc
 
-pub counted_wrong : (at n : ℕ) (o : Option ℕ) (f : ContentFault) → counted_by at o n ≡ Err f → (f ≡ BadPointer at) × (o ≡ None) × (1 ≤ n)
-counted_wrong at zero None f e = cc
-counted_wrong at (suc n) None f e = (cc, refl, omega arith)
-counted_wrong at n (Some p) f e = cc
-
 pub blocks_none : (at n : ℕ) (o : Option ℕ) → blocks_counted_by at o n ≡ Ok None → (o ≡ None) × (n ≡ 0)
 blocks_none at zero None e = (refl, refl)
 blocks_none at (suc n) None e = cc
@@ -53,12 +48,6 @@ blocks_some at zero m None e = cc
 blocks_some at (suc n) m None e = cc
 blocks_some at zero m (Some p) e = cc
 blocks_some at (suc n) m (Some p) e = (cc, omega arith)
-
-pub blocks_wrong : (at n : ℕ) (o : Option ℕ) (f : ContentFault) (P : Type 0) → blocks_counted_by at o n ≡ Err f → (o ≡ None → 1 ≤ n → P → ⊥) → ((p : ℕ) → o ≡ Some p → n ≡ 0 → P → ⊥) → Refuses f P
-blocks_wrong at zero None f P e a b = cc
-blocks_wrong at (suc n) None f P e a b = let is : f ≡ BadPointer at = cc in subst (λ x. Refuses x P) (sym is) (a refl (omega arith))
-blocks_wrong at zero (Some p) f P e a b = let is : f ≡ BadValue at = cc in subst (λ x. Refuses x P) (sym is) (b p refl refl)
-blocks_wrong at (suc n) (Some p) f P e a b = cc
 
 module _ (bytes : List ℕ) (table : Table) where
   -- ---- the content by its form
@@ -161,17 +150,6 @@ module _ (bytes : List ℕ) (table : Table) where
   vec_can known at T U f r =
       let o = can_open bytes table known.unclaimed (record { at = at; type = T }) (Form.vec U) [] f r in
       record { room = o.opens.named_room; within = named_within known at o.opened (named bytes at) (ap (λ (x : Opened). x.blocks) o.opens.opened_is) o.within }
-
-  pub items_counted : (known : Known) (at T : ℕ) (form : Form) (content : Content) → HasItems form → NamesBy table T form content → target bytes at ≡ None
-      → CanResolve bytes table known.unclaimed (record { at = at; type = T } ∷ []) → count_at bytes at ≡ 0
-  items_counted known at T Form.i64 content has by e r = absurd has
-  items_counted known at T (Form.struct Us) content has by e r = absurd has
-  items_counted known at T (Form.list U) content has by e r = absurd has
-  items_counted known at T (Form.flat_map U) content has by e r = absurd has
-  items_counted known at T (Form.map U) content has by e r = absurd has
-  items_counted known at T (Form.own U) content has by e r = absurd has
-  items_counted known at T Form.str content has by e r = none_counted bytes at (tag_of Kind.buffer T) 1 e (text_can known at T by.form_is r).room
-  items_counted known at T (Form.vec U) content has by e r = none_counted bytes at (tag_of Kind.buffer T) (size table U) e (vec_can known at T U by.form_is r).room
 
   pub items_can : (known : Known) (at T n p : ℕ) (form : Form) (content : Content) → HasItems form → NamesBy table T form content → target bytes at ≡ Some p → n ≡ count_at bytes at
       → CanResolve bytes table known.unclaimed (record { at = at; type = T } ∷ [])

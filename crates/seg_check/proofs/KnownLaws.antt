@@ -137,7 +137,3 @@ pub found_here : (ms : List Mark) (i block : ℕ) → i < length ms → block �
 found_here ms i block inside at is none =
     let n : times block (unclaimed_from heap_start ms) ≡ 1 = looked is_unclaimed block heap_start i ms at inside ∙ ap bit (sym is) in
     (omega arith, λ h some. omega (arith, after_none is_unclaimed h heap_start i ms none some))
-
-pub empty_list : (xs : List ℕ) → length xs ≡ 0 → xs ≡ []
-empty_list [] e = refl
-empty_list (x ∷ xs) e = absurd (omega arith)

@@ -4,15 +4,6 @@ use Rattle.std.proofs.lemmas.Bool.{cases_eq}
 use Rattle.seg_spec.specs.Sound.{times, SameBlocks}
 use Rattle.seg_spec.proofs.LiveLaws.{times-append, times-same, times-other}
 
-pub same_refl : (xs : List ℕ) → SameBlocks xs xs
-same_refl xs h = refl
-
-pub same_sym : (xs ys : List ℕ) → SameBlocks xs ys → SameBlocks ys xs
-same_sym xs ys e h = sym (e h)
-
-pub same_trans : (xs ys zs : List ℕ) → SameBlocks xs ys → SameBlocks ys zs → SameBlocks xs zs
-same_trans xs ys zs p q h = p h ∙ q h
-
 -- ---- one among others
 
 pub record Splits (h : ℕ) (xs : List ℕ) : Type 0 where

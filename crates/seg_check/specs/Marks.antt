@@ -10,6 +10,7 @@
 --     Adds old block live new   a block was added
 --     ClaimsAll old new blocks turns
 --                               these blocks were claimed, and these turns wait after the others
+--     Within xs ys              each block stands no more often here than there
 --     KnowsTiles bytes known    the blocks of the heap are known, and none of them is claimed
 use Rattle.std.specs.Prelude.{◌≡◌, ◌≢◌, ℕ, ◌+◌, ◌*◌, ◌<◌, ◌≤◌, Bool, true, false, List, [], ◌∷◌, ◌++◌, length, drop, if◌then◌else◌}
 use Rattle.seg_spec.specs.Heap.{heap_start, live, free_of, tiles}
