@@ -2,7 +2,7 @@
 use Rattle.std.proofs.Common.{◌≡◌, ℕ, suc, ◌+◌, Bool, true, false, not, ◌&&◌, List, [], ◌∷◌, ◌++◌, length, Option, Some, None, refl, sym, ap, ◌∙◌, subst, arith, eq-eqb, ◌==◌}
 use Rattle.std.specs.Prelude.{◌↔◌, MatchOption, ⊤}
 use Rattle.std.proofs.lemmas.Bool.Decides.{nat_tests}
-use Rattle.std.proofs.lemmas.List.{append_assoc, length-append}
+use Rattle.std.proofs.lemmas.List.{append_assoc, append-nil, length-append}
 use Rattle.seg_spec.specs.Pointer.{target}
 use Rattle.seg_spec.specs.Shapes as shapes
 use Rattle.seg_spec.specs.Shapes.{HasColour, black, red, colour_word, Tree, leaf, fork, nodes_of, IsTree, IsBlack, IsBalanced}
@@ -14,7 +14,7 @@ use Rattle.seg_check.specs.declared.walk.Above.{Above}
 use Rattle.seg_check.specs.declared.walk.Entered.{Entered}
 use Rattle.seg_check.specs.declared.walk.Stage.{Stage}
 use Rattle.seg_check.specs.Colours.{is_red, may_stand, is_height}
-use Rattle.seg_check.specs.Walks.{Fits, Part, entered_of, after, unentered, ArePartsOf, Completes, IsColourOf, IsAtEnd}
+use Rattle.seg_check.specs.Walks.{Fits, Part, entered_of, after, unentered, ArePartsOf, Completes, IsColourOf, IsAtEnd, Hangs}
 
 true_false : (X : Type 0) → true ≡ false → X
 true_false X e = absurd (let no : true ≡ false = e in cc)
@@ -330,3 +330,50 @@ ends old new e bytes height rest empty = (
   λ k. let at = end_forth bytes height old new empty e rest k in record { rest_is = at.0; height_is = at.1; is_right = at.2; counted = at.3 },
   λ at. subst (Completes bytes height old) (sym at.rest_is) (end_back bytes height old new empty e at.height_is at.is_right at.counted),
 )
+
+-- ---- the start
+
+pub record Starts (stage : Stage) (root wanted : ℕ) : Type 0 where
+  pub wanted_is : stage.wanted ≡ wanted
+  pub pointer_is : stage.pointer ≡ root
+  pub entered_is : stage.entered.items ≡ []
+  pub nodes_are : stage.nodes ≡ 0
+  pub height_is : stage.height ≡ None
+  pub right_is : stage.is_red_black ≡ true
+  pub blacks_are : stage.above.blacks ≡ 0
+  pub red_is : stage.above.is_red ≡ true
+
+module _ (bytes : List ℕ) (stage : Stage) (root wanted : ℕ) (s : Starts stage root wanted) (height : ℕ) (nodes : List ℕ) where
+  start_forth : Completes bytes height stage nodes → Hangs bytes root wanted height nodes
+  start_forth k =
+      let none = none_of stage.entered.items k.parts k.parts_are s.entered_is in
+      let same : nodes ≡ nodes_of k.tree = k.rest_is ∙ ap (λ ps. nodes_of k.tree ++ after ps) none ∙ append-nil (nodes_of k.tree) in
+      let all : stage.nodes + (length (nodes_of k.tree) + 0) ≡ stage.wanted = ap (λ ps. stage.nodes + (length (nodes_of k.tree) + unentered ps)) (sym none) ∙ k.counted in
+      let high : k.fits.blacks ≡ height = omega (arith, k.fits.blacks_are, s.blacks_are) in
+      record {
+        tree = k.tree;
+        is_tree = subst (λ p. IsTree bytes (target bytes p) k.tree) s.pointer_is k.is_tree;
+        black = k.fits.below_red s.red_is;
+        balanced = subst (IsBalanced k.tree) high k.fits.balanced;
+        nodes_are = sym same;
+        counted = ap length same ∙ omega (arith, all, s.nodes_are, s.wanted_is);
+      }
+
+  start_back : Hangs bytes root wanted height nodes → Completes bytes height stage nodes
+  start_back h =
+      let size = ap length h.nodes_are in
+      record {
+        is_right = s.right_is;
+        height_is = subst (λ (o : Option ℕ). MatchOption o ⊤ (λ n. n ≡ height)) (sym s.height_is) tt;
+        tree = h.tree;
+        is_tree = subst (λ p. IsTree bytes (target bytes p) h.tree) (sym s.pointer_is) h.is_tree;
+        fits = record { blacks = height; blacks_are = omega (arith, s.blacks_are); balanced = h.balanced; below_red = λ _. h.black };
+        parts = [];
+        parts_are = sym s.entered_is;
+        are_parts = tt;
+        rest_is = sym h.nodes_are ∙ sym (append-nil (nodes_of h.tree));
+        counted = omega (arith, size, h.counted, s.nodes_are, s.wanted_is);
+      }
+
+  pub starts : Completes bytes height stage nodes ↔ Hangs bytes root wanted height nodes
+  starts = (start_forth, start_back)

@@ -2,6 +2,7 @@
 --     Fits height above tree                 a tree may hang at a place below so much
 --     Part, entered_of, after, unentered     the nodes above and to the left of the place, each with its right part
 --     Completes bytes height stage rest      a red-black tree goes on like this from the stage on, with the rest of its nodes
+--     Hangs bytes root wanted height nodes   a red-black tree of these nodes, so many as are wanted, hangs at a pointer
 --     IsAtEnd height old new rest            nothing is left, and all that was met is of such a tree
 --     IsSteady bytes stage turns             counts and positions of the walk don't wrap
 --     Proceeds bytes old new visit           a tree goes on from the new stage on as from the old one
@@ -105,3 +106,12 @@ Proceeds bytes old new (Some (Enter pointer)) =
 Proceeds bytes old new (Some (Pass node)) = (height : ℕ) (rest : List ℕ) →
     (Completes bytes height old (node ∷ rest) ↔ Completes bytes height new rest)
     × (Completes bytes height old rest → (more : List ℕ) × (rest ≡ node ∷ more))
+
+-- a red-black tree of these nodes, so many as are wanted, hangs at the pointer word at a root
+pub record Hangs (bytes : List ℕ) (root wanted height : ℕ) (nodes : List ℕ) : Type 0 where
+  pub tree : Tree
+  pub is_tree : IsTree bytes (target bytes root) tree
+  pub black : IsBlack tree
+  pub balanced : IsBalanced tree height
+  pub nodes_are : nodes_of tree ≡ nodes
+  pub counted : length nodes ≡ wanted

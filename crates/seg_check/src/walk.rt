@@ -22,9 +22,17 @@ pub(crate) struct Tree {
 }
 
 impl Tree {
+    ghost use Rattle.std.specs.Prelude.{ℕ, ◌↔◌, List};
+    ghost use Rattle.seg_check.specs.Walks.{Completes, Hangs, IsSteady};
+
     /// A walk through the tree. Where it isn't a red-black tree of so many nodes, the walk ends with the position of the
     /// pointer to the root as `Err`: at once before a node that would stand too deep, else after the last node.
-    pub(crate) fn walk<A: Allocator>(self, w: &Window<A>) -> Walk<'_, A> {
+    pub(crate) fn walk<A: Allocator>(self, w: &Window<A>) -> Walk<'_, A>
+        ensures starts { (height : ℕ) (nodes : List ℕ) → Completes w.now.bytes height result.stage nodes
+            ↔ Hangs w.now.bytes self.root self.nodes height nodes }
+        ensures steady { IsSteady w.now.bytes result.stage result.turns }
+        ensures window { result.w.now ≡ w.now }
+    {
         Walk {
             w,
             root: self.root,
@@ -94,6 +102,7 @@ impl Stage {
         ensures is_red_black { result.is_red_black ≡ true }
         ensures blacks { result.above.blacks ≡ 0 }
         ensures is_red { result.above.is_red ≡ true }
+        ensures shallow { IsShallow result.above }
     {
         Stage {
             wanted: tree.nodes,
