@@ -1,28 +1,29 @@
 -- Strings, vectors, flat maps and owns, by the block that each names.
-use Rattle.std.proofs.Common.{◌≡◌, ℕ, zero, suc, ◌+◌, ◌*◌, ◌<◌, ◌≤◌, List, [], ◌∷◌, ◌++◌, length, map, Bool, true, false, Option, Some, None, Result, Ok, Err, refl, sym, ap, ◌∙◌, subst, arith}
+use Rattle.std.proofs.Common.{◌≡◌, ℕ, zero, suc, ◌+◌, ◌*◌, ◌≤◌, List, [], ◌∷◌, length, Bool, true, false, Option, Some, None, Ok, Err, refl, sym, ap, ◌∙◌, subst, arith}
+use Rattle.std.specs.Option.{is_some}
 use Rattle.seg_spec.specs.Bytes.{slice}
 use Rattle.seg_spec.specs.Pointer.{target}
 use Rattle.seg_spec.specs.Types.{Form, Table, form_at, size}
-use Rattle.seg_spec.specs.Block.{Kind, tag_of, block_of, IsBlock}
+use Rattle.seg_spec.specs.Block.{Kind, tag_of, IsBlock}
 use Rattle.seg_spec.specs.Owing.{entries_at}
-use Rattle.seg_spec.specs.Value.{IsAscending, Label}
-use Rattle.seg_spec.specs.Reads.{Place, Opened, Opens, OpensBuffer, OpensOwn, NamesRoom, named, start, count_at, keys_at, spaced, places_of, items}
+use Rattle.seg_spec.specs.Value.{Label}
+use Rattle.seg_spec.specs.Reads.{Opened, NamesRoom, named, start, count_at, items}
 use Rattle.seg_spec.proofs.CellOwed.{items_entries}
 use Rattle.seg_layout.specs.Forms.{has_cells}
 use Rattle.seg_block.specs.Tags.{word_of}
-use Rattle.seg_value.specs.Contents.{IsEntryOf, IsContent, IsText}
+use Rattle.seg_value.specs.Contents.{IsContent}
 use Rattle.seg_value.specs.declared.content.Content.{Content}
 use Rattle.seg_value.specs.declared.content.Shape.{Shape}
 use Rattle.seg_check.specs.declared.fault.ContentFault.{ContentFault}
 use Rattle.seg_check.specs.declared.fault.ContentFault.TheVariants.{BadPointer, BadValue}
 use Rattle.seg_check.specs.Claiming.{Refuses, CanClaim, ClaimsBlock, turns_where, has_turns}
 use Rattle.seg_check.specs.Marks.{Known, ClaimsAll, Within}
-use Rattle.seg_check.specs.Turns.{places_in, places_by, waiting, with_cells}
+use Rattle.seg_check.specs.Turns.{places_by}
 use Rattle.seg_check.specs.Resolving.{CanResolve, Advances, IsReady}
 use Rattle.seg_check.specs.Cells.{counted_by, blocks_counted_by, NamesBy, HasItems}
-use Rattle.seg_check.proofs.StepLaws.{advance_open, CanOpen, can_open}
+use Rattle.seg_check.proofs.StepLaws.{advance_open, can_open}
 use Rattle.seg_check.proofs.TagLaws.{places_tagged}
-use Rattle.seg_check.proofs.OpenLaws.{named_some, named_none, start_some, names_room, room_named, no_room, none_counted, can_claim, advance_block, advance_nothing}
+use Rattle.seg_check.proofs.OpenLaws.{named_some, named_none, start_some, names_room, no_room, none_counted, can_claim, advance_block, advance_nothing}
 
 -- ---- what a cell counts
 
@@ -36,11 +37,6 @@ counted_some at zero m None e = cc
 counted_some at (suc n) m None e = cc
 counted_some at n m (Some p) e = cc
 
-pub counted_wrong : (at n : ℕ) (o : Option ℕ) (f : ContentFault) → counted_by at o n ≡ Err f → (f ≡ BadPointer at) × (o ≡ None) × (1 ≤ n)
-counted_wrong at zero None f e = cc
-counted_wrong at (suc n) None f e = (cc, refl, omega arith)
-counted_wrong at n (Some p) f e = cc
-
 pub blocks_none : (at n : ℕ) (o : Option ℕ) → blocks_counted_by at o n ≡ Ok None → (o ≡ None) × (n ≡ 0)
 blocks_none at zero None e = (refl, refl)
 blocks_none at (suc n) None e = cc
@@ -53,16 +49,11 @@ blocks_some at (suc n) m None e = cc
 blocks_some at zero m (Some p) e = cc
 blocks_some at (suc n) m (Some p) e = (cc, omega arith)
 
-pub blocks_wrong : (at n : ℕ) (o : Option ℕ) (f : ContentFault) (P : Type 0) → blocks_counted_by at o n ≡ Err f → (o ≡ None → 1 ≤ n → P → ⊥) → ((p : ℕ) → o ≡ Some p → n ≡ 0 → P → ⊥) → Refuses f P
-blocks_wrong at zero None f P e a b = cc
-blocks_wrong at (suc n) None f P e a b = let is : f ≡ BadPointer at = cc in subst (λ x. Refuses x P) (sym is) (a refl (omega arith))
-blocks_wrong at zero (Some p) f P e a b = let is : f ≡ BadValue at = cc in subst (λ x. Refuses x P) (sym is) (b p refl refl)
-blocks_wrong at (suc n) (Some p) f P e a b = cc
-
 module _ (bytes : List ℕ) (table : Table) where
   -- ---- the content by its form
 
-  claimed_as : (old new : Known) (at n p : ℕ) (tag tag' size size' : ℕ) (b b' : Bool) → tag ≡ tag' → size ≡ size' → b ≡ b' → ClaimsBlock bytes old new at tag (n * size) (turns_where b p n) p → ClaimsBlock bytes old new at tag' (n * size') (turns_where b' p n) p
+  claimed_as : (old new : Known) (at n p : ℕ) (tag tag' size size' : ℕ) (b b' : Bool) → tag ≡ tag' → size ≡ size' → b ≡ b' → ClaimsBlock bytes old new at tag (n * size) (turns_where b p n) p
+      → ClaimsBlock bytes old new at tag' (n * size') (turns_where b' p n) p
   claimed_as old new at n p tag tag' size size' b b' t s e c =
       subst (λ x. ClaimsBlock bytes old new at tag' (n * size') (turns_where x p n) p) e
       (subst (λ x. ClaimsBlock bytes old new at tag' (n * x) (turns_where b p n) p) s
@@ -71,12 +62,15 @@ module _ (bytes : List ℕ) (table : Table) where
   can_claim_as : (known : Known) (at n : ℕ) (tag tag' size size' : ℕ) → tag ≡ tag' → size ≡ size' → CanClaim bytes known at tag (n * size) → CanClaim bytes known at tag' (n * size')
   can_claim_as known at n tag tag' size size' t s c = subst (λ x. CanClaim bytes known at tag' (n * x)) s (subst (λ x. CanClaim bytes known at x (n * size)) t c)
 
-  pub content_claimed : (old new : Known) (at n p : ℕ) (shape : Shape) (tag before U : ℕ) (content : Content) → IsContent table shape tag before U content → ClaimsBlock bytes old new at (word_of content.tag) (n * content.entry.size) (turns_where (has_turns table content.entry.held) p n) p
+  pub content_claimed : (old new : Known) (at n p : ℕ) (shape : Shape) (tag before U : ℕ) (content : Content) → IsContent table shape tag before U content
+      → ClaimsBlock bytes old new at (word_of content.tag) (n * content.entry.size) (turns_where (has_turns table content.entry.held) p n) p
       → ClaimsBlock bytes old new at tag (n * (before + size table U)) (turns_where (has_cells (form_at table U)) p n) p
   content_claimed old new at n p shape tag before U content is c =
-      claimed_as old new at n p (word_of content.tag) tag content.entry.size (before + size table U) (has_turns table content.entry.held) (has_cells (form_at table U)) is.tag_is is.entry_is.size_is (ap (has_turns table) is.entry_is.held_is) c
+      claimed_as old new at n p (word_of content.tag) tag content.entry.size (before + size table U) (has_turns table content.entry.held) (has_cells (form_at table U)) is.tag_is is.entry_is.size_is (ap
+      (has_turns table) is.entry_is.held_is) c
 
-  pub content_can : (known : Known) (at n : ℕ) (shape : Shape) (tag before U each : ℕ) (content : Content) → IsContent table shape tag before U content → each ≡ before + size table U → CanClaim bytes known at tag (n * each) → CanClaim bytes known at (word_of content.tag) (n * content.entry.size)
+  pub content_can : (known : Known) (at n : ℕ) (shape : Shape) (tag before U each : ℕ) (content : Content) → IsContent table shape tag before U content → each ≡ before + size table U → CanClaim bytes known at tag (n * each)
+      → CanClaim bytes known at (word_of content.tag) (n * content.entry.size)
   content_can known at n shape tag before U each content is e c = can_claim_as known at n tag (word_of content.tag) each content.entry.size (sym is.tag_is) (e ∙ sym is.entry_is.size_is) c
 
   -- ---- strings and vectors
@@ -93,7 +87,7 @@ module _ (bytes : List ℕ) (table : Table) where
   items_are : (at p n U : ℕ) → target bytes at ≡ Some p → n ≡ count_at bytes at → items table (start bytes at) U (count_at bytes at) ≡ entries_at table p 0 U n
   items_are at p n U e n_is = ap (λ q. items table q U (count_at bytes at)) (start_some bytes at p e) ∙ ap (items table p U) (sym n_is) ∙ sym (items_entries table p U n)
 
-  block_is : (p tag n m each each' : ℕ) → n ≡ m → each ≡ each' → IsBlock bytes p tag (n * each) → IsBlock bytes p tag (m * each')
+  pub block_is : (p tag n m each each' : ℕ) → n ≡ m → each ≡ each' → IsBlock bytes p tag (n * each) → IsBlock bytes p tag (m * each')
   block_is p tag n m each each' e s b = subst (λ x. IsBlock bytes p tag (m * x)) s (subst (λ x. IsBlock bytes p tag (x * each)) e b)
 
   pub items_advance : (old new : Known) (at T n p : ℕ) (form : Form) (content : Content) → IsReady bytes table old → HasItems form → NamesBy table T form content → n ≡ count_at bytes at
@@ -114,11 +108,17 @@ module _ (bytes : List ℕ) (table : Table) where
   items_advance old new at T n p (Form.vec U) content ready has by n_is c =
       let d = content_claimed old new at n p _ (tag_of Kind.buffer T) 0 U content by.content_of c in
       advance_block bytes table old new ready at (tag_of Kind.buffer T) n 0 U p T (Form.vec U) (items_opened at U Label.seq) by.form_is
-      (record { named_room = names_room bytes at (tag_of Kind.buffer T) (size table U) p d.names (block_is p (tag_of Kind.buffer T) n (count_at bytes at) (0 + size table U) (size table U) n_is (sym (zero_size U)) d.is_block); ascending = tt; opened_is = refl })
+      (record {
+        named_room = names_room bytes at (tag_of Kind.buffer T) (size table U) p d.names (block_is p (tag_of Kind.buffer T) n (count_at bytes at) (0 + size table U) (size table U) n_is (sym
+            (zero_size U)) d.is_block);
+        ascending = tt;
+        opened_is = refl;
+      })
       refl (items_are at p n U d.names n_is) (ready.is_table.forms T (Form.vec U) by.form_is) d
       (places_tagged bytes table ready.is_table (record { start = p; count = n }) Kind.buffer T d.is_block.has_tag ∙ ap (λ o. places_by table o p n) by.form_is)
 
-  pub items_nothing : (known : Known) (at T : ℕ) (form : Form) (content : Content) → HasItems form → NamesBy table T form content → target bytes at ≡ None → count_at bytes at ≡ 0 → Advances bytes table known known (record { at = at; type = T } ∷ [])
+  pub items_nothing : (known : Known) (at T : ℕ) (form : Form) (content : Content) → HasItems form → NamesBy table T form content → target bytes at ≡ None → count_at bytes at ≡ 0
+      → Advances bytes table known known (record { at = at; type = T } ∷ [])
   unfolding text_opened items_opened
   items_nothing known at T Form.i64 content has by e n = absurd has
   items_nothing known at T (Form.struct Us) content has by e n = absurd has
@@ -138,7 +138,7 @@ module _ (bytes : List ℕ) (table : Table) where
     pub room : NamesRoom bytes at tag each
     pub within : Within (named bytes at) known.unclaimed
 
-  named_within : (known : Known) (at : ℕ) (opened : Opened) (blocks : List ℕ) → opened.blocks ≡ blocks → Within opened.blocks known.unclaimed → Within blocks known.unclaimed
+  pub named_within : (known : Known) (at : ℕ) (opened : Opened) (blocks : List ℕ) → opened.blocks ≡ blocks → Within opened.blocks known.unclaimed → Within blocks known.unclaimed
   named_within known at opened blocks e within = subst (λ bs. Within bs known.unclaimed) e within
 
   text_can : (known : Known) (at T : ℕ) → form_at table T ≡ Some Form.str → CanResolve bytes table known.unclaimed (record { at = at; type = T } ∷ []) → CanName known at (tag_of Kind.buffer T) 1
@@ -151,17 +151,8 @@ module _ (bytes : List ℕ) (table : Table) where
       let o = can_open bytes table known.unclaimed (record { at = at; type = T }) (Form.vec U) [] f r in
       record { room = o.opens.named_room; within = named_within known at o.opened (named bytes at) (ap (λ (x : Opened). x.blocks) o.opens.opened_is) o.within }
 
-  pub items_counted : (known : Known) (at T : ℕ) (form : Form) (content : Content) → HasItems form → NamesBy table T form content → target bytes at ≡ None → CanResolve bytes table known.unclaimed (record { at = at; type = T } ∷ []) → count_at bytes at ≡ 0
-  items_counted known at T Form.i64 content has by e r = absurd has
-  items_counted known at T (Form.struct Us) content has by e r = absurd has
-  items_counted known at T (Form.list U) content has by e r = absurd has
-  items_counted known at T (Form.flat_map U) content has by e r = absurd has
-  items_counted known at T (Form.map U) content has by e r = absurd has
-  items_counted known at T (Form.own U) content has by e r = absurd has
-  items_counted known at T Form.str content has by e r = none_counted bytes at (tag_of Kind.buffer T) 1 e (text_can known at T by.form_is r).room
-  items_counted known at T (Form.vec U) content has by e r = none_counted bytes at (tag_of Kind.buffer T) (size table U) e (vec_can known at T U by.form_is r).room
-
-  pub items_can : (known : Known) (at T n p : ℕ) (form : Form) (content : Content) → HasItems form → NamesBy table T form content → target bytes at ≡ Some p → n ≡ count_at bytes at → CanResolve bytes table known.unclaimed (record { at = at; type = T } ∷ [])
+  pub items_can : (known : Known) (at T n p : ℕ) (form : Form) (content : Content) → HasItems form → NamesBy table T form content → target bytes at ≡ Some p → n ≡ count_at bytes at
+      → CanResolve bytes table known.unclaimed (record { at = at; type = T } ∷ [])
       → CanClaim bytes known at (word_of content.tag) (n * content.entry.size)
   items_can known at T n p Form.i64 content has by e n_is r = absurd has
   items_can known at T n p (Form.struct Us) content has by e n_is r = absurd has
@@ -178,3 +169,58 @@ module _ (bytes : List ℕ) (table : Table) where
       let can = vec_can known at T U by.form_is r in
       content_can known at n _ (tag_of Kind.buffer T) 0 U (size table U) content by.content_of (zero_size U)
       (subst (λ m. CanClaim bytes known at (tag_of Kind.buffer T) (m * size table U)) (sym n_is) (can_claim bytes known at (tag_of Kind.buffer T) (size table U) p e can.room can.within))
+
+pub counted_names : (at n m : ℕ) (o : Option ℕ) → counted_by at o n ≡ Ok (Some m) → (p : ℕ) × (o ≡ Some p)
+counted_names at zero m None e = cc
+counted_names at (suc n) m None e = cc
+counted_names at n m (Some p) e = (p, refl)
+
+pub blocks_names : (at n m : ℕ) (o : Option ℕ) → blocks_counted_by at o n ≡ Ok (Some m) → (p : ℕ) × (o ≡ Some p)
+blocks_names at zero m None e = cc
+blocks_names at (suc n) m None e = cc
+blocks_names at zero m (Some p) e = cc
+blocks_names at (suc n) m (Some p) e = (p, refl)
+
+-- ---- owns
+
+pub blocks_is_some : (at n : ℕ) (o m : Option ℕ) → blocks_counted_by at o n ≡ Ok m → true ≡ is_some m → (p : ℕ) × (o ≡ Some p) × (1 ≤ n)
+blocks_is_some at n o None e s = cc
+blocks_is_some at n o (Some m) e s = let names = blocks_names at n m o e in (names.0, names.1, (blocks_some at n m o e).1)
+
+pub blocks_is_none : (at n : ℕ) (o m : Option ℕ) → blocks_counted_by at o n ≡ Ok m → false ≡ is_some m → (o ≡ None) × (n ≡ 0)
+blocks_is_none at n o None e s = blocks_none at n o e
+blocks_is_none at n o (Some m) e s = cc
+
+module _ (bytes : List ℕ) (table : Table) (at T U : ℕ) (content : Content) (by : NamesBy table T (Form.own U) content) where
+  own_opened : Opened
+  own_opened = record { label = Label.opt; blocks = named bytes at; parts = items table (start bytes at) U (count_at bytes at) }
+
+  pub own_advance : (old new : Known) (p : ℕ) → IsReady bytes table old → 1 ≡ count_at bytes at
+      → ClaimsBlock bytes old new at (word_of content.tag) (1 * content.entry.size) (turns_where (has_turns table content.entry.held) p 1) p → Advances bytes table old new (record { at = at; type = T } ∷ [])
+  unfolding own_opened
+  own_advance old new p ready n_is c =
+      let d = content_claimed bytes table old new at 1 p _ (tag_of Kind.object U) 0 U content by.content_of c in
+      advance_block bytes table old new ready at (tag_of Kind.object U) 1 0 U p T (Form.own U) own_opened by.form_is
+      (record {
+        named_room = names_room bytes at (tag_of Kind.object U) (size table U) p d.names (block_is bytes table p (tag_of Kind.object U) 1 (count_at bytes at) (0 + size table U) (size table U) n_is (sym
+            (zero_size bytes table U)) d.is_block);
+        counted = sym n_is ∙ sym (ap length (named_some bytes at p d.names));
+        opened_is = refl;
+      })
+      refl (items_are bytes table at p 1 U d.names n_is) (ready.is_table.forms T (Form.own U) by.form_is) d
+      (places_tagged bytes table ready.is_table (record { start = p; count = 1 }) Kind.object U d.is_block.has_tag)
+
+  pub own_nothing : (known : Known) → target bytes at ≡ None → count_at bytes at ≡ 0 → Advances bytes table known known (record { at = at; type = T } ∷ [])
+  unfolding own_opened
+  own_nothing known e n =
+      advance_nothing bytes table known (record { at = at; type = T }) (Form.own U) own_opened by.form_is
+      (record { named_room = no_room bytes at (tag_of Kind.object U) (size table U) e n; counted = n ∙ sym (ap length (named_none bytes at e)); opened_is = refl })
+      (named_none bytes at e) (ap (items table (start bytes at) U) n)
+
+  pub own_can : (known : Known) (p : ℕ) → target bytes at ≡ Some p → 1 ≡ count_at bytes at → CanResolve bytes table known.unclaimed (record { at = at; type = T } ∷ [])
+      → CanClaim bytes known at (word_of content.tag) (1 * content.entry.size)
+  own_can known p e n_is r =
+      let o = can_open bytes table known.unclaimed (record { at = at; type = T }) (Form.own U) [] by.form_is r in
+      let within = named_within bytes table known at o.opened (named bytes at) (ap (λ (x : Opened). x.blocks) o.opens.opened_is) o.within in
+      content_can bytes table known at 1 _ (tag_of Kind.object U) 0 U (size table U) content by.content_of (zero_size bytes table U)
+      (subst (λ m. CanClaim bytes known at (tag_of Kind.object U) (m * size table U)) (sym n_is) (can_claim bytes known at (tag_of Kind.object U) (size table U) p e o.opens.named_room within))

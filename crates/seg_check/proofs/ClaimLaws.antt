@@ -1,8 +1,7 @@
 -- What the marks say of a claim.
-use Rattle.std.proofs.Common.{◌≡◌, ℕ, ◌+◌, ◌-◌, ◌*◌, ◌<◌, ◌≤◌, List, [], ◌∷◌, length, Some, refl, sym, ap, ◌∙◌, subst, arith}
-use Rattle.seg_spec.specs.Heap.{units_at, tag_at, heap_start}
+use Rattle.std.proofs.Common.{◌≡◌, ℕ, ◌+◌, ◌≤◌, List, [], ◌∷◌, length, Some, subst, arith}
 use Rattle.seg_spec.specs.Pointer.{target}
-use Rattle.seg_spec.specs.Block.{IsBlock, block_of, payload_size}
+use Rattle.seg_spec.specs.Block.{block_of}
 use Rattle.seg_spec.specs.Sound.{times}
 use Rattle.seg_spec.proofs.LiveLaws.{times-same}
 use Rattle.seg_check.specs.Marks.{Known, ClaimsAll}

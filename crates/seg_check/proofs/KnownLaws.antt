@@ -1,5 +1,5 @@
 -- What is known of a block, by the marks of the units.
-use Rattle.std.proofs.Common.{◌≡◌, ◌≢◌, ℕ, ◌+◌, ◌-◌, ◌*◌, ◌%◌, ◌^◌, ◌<◌, ◌≤◌, suc, ◌⊎◌, inl, inr, ⊎_elim, Bool, true, false, cond, List, [], ◌∷◌, ◌++◌, length, get_or, set, take, drop, replicate, refl, sym, ap, ◌∙◌, subst, arith}
+use Rattle.std.proofs.Common.{◌≡◌, ℕ, ◌+◌, ◌-◌, ◌*◌, ◌^◌, ◌<◌, ◌≤◌, suc, ⊎_elim, true, false, cond, List, [], ◌∷◌, ◌++◌, length, get_or, set, take, drop, replicate, refl, sym, ap, ◌∙◌, subst, arith}
 use Rattle.std.proofs.Math.ListN.{length-set}
 use Rattle.std.proofs.lemmas.List.{append-nil, length-replicate}
 use Rattle.std.proofs.lemmas.Grind.{get_or-set_at}
@@ -10,7 +10,7 @@ use Rattle.seg_spec.proofs.LiveLaws.{times-same, times-other}
 use Rattle.seg_check.specs.declared.marks.Mark.{Mark}
 use Rattle.seg_check.specs.declared.marks.Mark.TheVariants.{Inside, Free, Live, Claimed}
 use Rattle.seg_check.specs.declared.marks.Turn.{Turn}
-use Rattle.seg_check.specs.Marks.{Known, known_of, nothing_known, is_unclaimed, is_free, unclaimed_from, free_from, IsUnit, IsMarked, IsCounted, KeepsOthers, Adds, ClaimsAll}
+use Rattle.seg_check.specs.Marks.{Known, known_of, nothing_known, is_unclaimed, is_free, unclaimed_from, free_from, IsUnit, IsMarked, KeepsOthers, Adds, ClaimsAll}
 use Rattle.seg_check.proofs.MarkLaws.{bit, one, looked, no_unit, set_other, one_more, none_in, few, after_none}
 use Rattle.seg_check.proofs.SameLength.{same_length}
 
@@ -137,7 +137,3 @@ pub found_here : (ms : List Mark) (i block : ℕ) → i < length ms → block �
 found_here ms i block inside at is none =
     let n : times block (unclaimed_from heap_start ms) ≡ 1 = looked is_unclaimed block heap_start i ms at inside ∙ ap bit (sym is) in
     (omega arith, λ h some. omega (arith, after_none is_unclaimed h heap_start i ms none some))
-
-pub empty_list : (xs : List ℕ) → length xs ≡ 0 → xs ≡ []
-empty_list [] e = refl
-empty_list (x ∷ xs) e = absurd (omega arith)

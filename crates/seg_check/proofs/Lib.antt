@@ -11,5 +11,12 @@ pub mod PlaceLoop
 pub mod TagLaws
 pub mod OpenLaws
 pub mod BufferLaws
+pub mod StructLaws
+pub mod EntryLoop
+pub mod AscendLaws
+pub mod FlatMapLaws
 pub mod PassedTiles
 pub mod FaultOrder
+pub mod ListLaws
+pub mod WalkLaws
+pub mod WalkSteady

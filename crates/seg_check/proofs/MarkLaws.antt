@@ -1,10 +1,9 @@
 -- What the marks of the units say of positions.
-use Rattle.std.proofs.Common.{◌≡◌, ◌≢◌, ℕ, zero, suc, ◌+◌, ◌*◌, ◌<◌, ◌≤◌, ◌⊎◌, inl, inr, ⊎_elim, Bool, true, false, cond, List, [], ◌∷◌, ◌++◌, length, get_or, set, take, replicate, refl, sym, ap, ◌∙◌, subst, arith, add-one}
-use Rattle.std.proofs.lemmas.Bool.{cases_eq}
-use Rattle.seg_spec.specs.Sound.{times, SameBlocks}
+use Rattle.std.proofs.Common.{◌≡◌, ◌≢◌, ℕ, zero, suc, ◌+◌, ◌*◌, ◌<◌, ◌≤◌, ◌⊎◌, inl, inr, ⊎_elim, Bool, true, false, cond, List, [], ◌∷◌, ◌++◌, length, get_or, set, take, replicate, refl, sym, ap, ◌∙◌, arith}
+use Rattle.seg_spec.specs.Sound.{times}
 use Rattle.seg_spec.proofs.LiveLaws.{times-same, times-other}
 use Rattle.seg_check.specs.declared.marks.Mark.{Mark}
-use Rattle.seg_check.specs.declared.marks.Mark.TheVariants.{Inside, Free, Live, Claimed}
+use Rattle.seg_check.specs.declared.marks.Mark.TheVariants.{Inside}
 use Rattle.seg_check.specs.Marks.{those_from}
 
 -- how often a position counts where its unit has such a mark
@@ -86,7 +85,8 @@ module _ (these : Mark → Bool) where
       let same : (at + 16) + 16 * u ≡ at + 16 * (suc u) = omega arith in
       let next : those_from these (at + 16) (take (suc u) ms) ≡ those_from these (at + 16) (take u ms) ++ one (these (get_or ms u Inside)) (at + 16 * suc u) =
       rest ∙ ap (λ x. those_from these (at + 16) (take u ms) ++ one (these (get_or ms u Inside)) x) same in
-      elim (these m) as (λ b. cond b (at ∷ those_from these (at + 16) (take (suc u) ms)) (those_from these (at + 16) (take (suc u) ms)) ≡ cond b (at ∷ those_from these (at + 16) (take u ms)) (those_from these (at + 16) (take u ms)) ++ one (these (get_or ms u Inside)) (at + 16 * suc u))
+      elim (these m) as (λ b. cond b (at ∷ those_from these (at + 16) (take (suc u) ms)) (those_from these (at + 16) (take (suc u) ms)) ≡ cond b (at ∷ those_from these (at + 16) (take u ms)) (those_from these (at + 16)
+      (take u ms)) ++ one (these (get_or ms u Inside)) (at + 16 * suc u))
       [ true ↦ ap (λ l. at ∷ l) next | false ↦ next ]
 
   -- no more positions than marks

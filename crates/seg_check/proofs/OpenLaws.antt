@@ -1,31 +1,21 @@
 -- Cells whose blocks were claimed, or can't be.
-use Rattle.std.proofs.Common.{◌≡◌, ℕ, zero, suc, ◌+◌, ◌*◌, ◌^◌, ◌<◌, ◌≤◌, List, [], ◌∷◌, ◌++◌, length, map, Bool, true, false, cond, Option, Some, None, unwrap_or, MatchOption, Ok, Err, refl, sym, ap, ◌∙◌, subst, arith, add_assoc}
+use Rattle.std.proofs.Common.{◌≡◌, ℕ, zero, suc, ◌+◌, ◌*◌, ◌^◌, ◌<◌, ◌≤◌, List, [], ◌∷◌, ◌++◌, length, map, Bool, true, false, cond, Some, None, unwrap_or, MatchOption, refl, sym, ap, ◌∙◌, subst, arith}
 use Rattle.std.proofs.lemmas.List.{append-nil}
-use Rattle.std.specs.List.{AllByRecursion}
 use Rattle.std.specs.Prelude.{option_to_list}
 use Rattle.std.specs.Option.{option_map}
-use Rattle.seg_spec.specs.Bytes.{slice}
 use Rattle.seg_spec.specs.Pointer.{target}
-use Rattle.seg_spec.specs.Types.{Form, Table, IsTable, form_at, size}
-use Rattle.seg_spec.specs.Heap.{tag_at}
-use Rattle.seg_spec.specs.Block.{Kind, tag_of, block_of, payload_size, IsBlock}
+use Rattle.seg_spec.specs.Types.{Form, Table, form_at, size}
+use Rattle.seg_spec.specs.Block.{block_of, IsBlock}
 use Rattle.seg_spec.specs.Owing.{entries_at}
-use Rattle.seg_spec.specs.Shapes.{IsRing, leaf, IsTree}
-use Rattle.seg_spec.specs.Value.{IsAscending, Label}
-use Rattle.seg_spec.specs.Reads.{Place, Opened, Opens, NamesRoom, named, start, count_at, keys_at, spaced, places_of, items}
-use Rattle.seg_spec.specs.Sound.{times, SameBlocks}
-use Rattle.seg_spec.proofs.LiveLaws.{times-same, times-append}
-use Rattle.seg_spec.proofs.CellOwed.{items_entries}
+use Rattle.seg_spec.specs.Reads.{Place, Opened, Opens, NamesRoom, named, start, count_at, spaced, places_of}
+use Rattle.seg_spec.specs.Sound.{times}
+use Rattle.seg_spec.proofs.LiveLaws.{times-same}
 use Rattle.seg_layout.specs.Forms.{has_cells}
-use Rattle.seg_value.specs.Contents.{ContentOf}
-use Rattle.seg_value.specs.declared.content.Content.{Content}
-use Rattle.seg_check.specs.declared.marks.Turn.{Turn}
 use Rattle.seg_check.specs.Claiming.{AreLive, CanClaim, ClaimsBlock, turns_where}
 use Rattle.seg_check.specs.Marks.{Known, ClaimsAll, Within}
-use Rattle.seg_check.specs.Turns.{AreLow, AreKnown, AreTurns, IsTurn, places_in, places_with, waiting, with_cells}
-use Rattle.seg_check.specs.Resolving.{Resolves, CanResolve, Advances, IsReady}
-use Rattle.seg_check.proofs.StepLaws.{advance_open, CanOpen, can_open}
-use Rattle.seg_check.proofs.TagLaws.{places_tagged}
+use Rattle.seg_check.specs.Turns.{AreLow, AreKnown, AreTurns, IsTurn, places_in, waiting, with_cells}
+use Rattle.seg_check.specs.Resolving.{Advances, IsReady}
+use Rattle.seg_check.proofs.StepLaws.{advance_open}
 
 -- ---- entries
 
@@ -103,12 +93,14 @@ module _ (bytes : List ℕ) (table : Table) where
     claimed_turns true e c places = (claimed_turn c places, tt)
     claimed_turns false e c places = tt
 
-    pub claimed_waiting : (b : Bool) → has_cells (form_at table U) ≡ b → places_in bytes table (record { start = p; count = n }) ≡ entries_at table p before U n → waiting bytes table (turns_where b p n) ≡ with_cells table (entries_at table p before U n)
+    pub claimed_waiting : (b : Bool) → has_cells (form_at table U) ≡ b → places_in bytes table (record { start = p; count = n }) ≡ entries_at table p before U n
+        → waiting bytes table (turns_where b p n) ≡ with_cells table (entries_at table p before U n)
     claimed_waiting true e places = append-nil (places_in bytes table (record { start = p; count = n })) ∙ places ∙ sym (one_type table U true (map (λ q. q + before) (spaced p (before + size table U) n)) e)
     claimed_waiting false e places = sym (one_type table U false (map (λ q. q + before) (spaced p (before + size table U) n)) e)
 
     -- a cell that names one block has become what waits
-    pub advance_block : (T : ℕ) (form : Form) (opened : Opened) → form_at table T ≡ Some form → Opens bytes table (record { at = at; type = T }) form opened → opened.blocks ≡ named bytes at → opened.parts ≡ entries_at table p before U n → U < length table
+    pub advance_block : (T : ℕ) (form : Form) (opened : Opened) → form_at table T ≡ Some form → Opens bytes table (record { at = at; type = T }) form opened → opened.blocks ≡ named bytes at
+        → opened.parts ≡ entries_at table p before U n → U < length table
         → ClaimsBlock bytes old new at tag (n * (before + size table U)) (turns_where (has_cells (form_at table U)) p n) p
         → places_in bytes table (record { start = p; count = n }) ≡ entries_at table p before U n → Advances bytes table old new (record { at = at; type = T } ∷ [])
     advance_block T form opened f o blocks parts known c places =
@@ -120,7 +112,8 @@ module _ (bytes : List ℕ) (table : Table) where
 
   -- ---- nothing is named
 
-  pub advance_nothing : (known : Known) (place : Place) (form : Form) (opened : Opened) → form_at table place.type ≡ Some form → Opens bytes table place form opened → opened.blocks ≡ [] → opened.parts ≡ [] → Advances bytes table known known (place ∷ [])
+  pub advance_nothing : (known : Known) (place : Place) (form : Form) (opened : Opened) → form_at table place.type ≡ Some form → Opens bytes table place form opened → opened.blocks ≡ [] → opened.parts ≡ []
+      → Advances bytes table known known (place ∷ [])
   advance_nothing known place form opened f o blocks parts =
       advance_open bytes table known known place form opened [] f o
       (record { claimed = (λ h. ap (λ bs. times h (bs ++ known.unclaimed)) (sym blocks)); counted = (λ c. c); turns_are = sym (append-nil known.turns) })

@@ -1,12 +1,11 @@
 -- Places that are looked at one after the other.
-use Rattle.std.proofs.Common.{◌≡◌, ℕ, zero, suc, ◌+◌, ◌*◌, ◌<◌, ◌≤◌, List, [], ◌∷◌, ◌++◌, length, map, take, drop, Option, Some, None, refl, sym, ap, ◌∙◌, subst, arith}
-use Rattle.std.proofs.lemmas.List.{append_assoc}
+use Rattle.std.proofs.Common.{◌≡◌, ℕ, zero, suc, ◌+◌, ◌≤◌, List, [], ◌∷◌, ◌++◌, length, take, drop, Some, None, refl, sym, ap, ◌∙◌, subst, arith}
 use Rattle.std.specs.List.{AllByRecursion}
 use Rattle.std.specs.Prelude.{slice_get}
 use Rattle.seg_spec.specs.Types.{Table}
 use Rattle.seg_spec.specs.Reads.{Place}
 use Rattle.seg_check.specs.Marks.{Known}
-use Rattle.seg_check.specs.Resolving.{Resolves, CanResolve, Advances}
+use Rattle.seg_check.specs.Resolving.{CanResolve, Advances}
 use Rattle.seg_check.proofs.StepLaws.{advance_more, can_more, can_front}
 
 pub take_whole : {X : Type 0} (xs : List X) (n : ℕ) → length xs ≤ n → take n xs ≡ xs

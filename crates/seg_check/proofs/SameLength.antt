@@ -1,18 +1,8 @@
 -- Lists in which each block stands equally often are equally long.
-use Rattle.std.proofs.Common.{◌≡◌, ◌≢◌, ℕ, suc, ◌+◌, ◌*◌, ◌<◌, ◌≤◌, ◌⊎◌, inl, inr, ⊎_elim, List, [], ◌∷◌, ◌++◌, length, refl, sym, ap, ◌∙◌, subst, arith, length-append}
-use Rattle.std.proofs.lemmas.List.{append_assoc}
+use Rattle.std.proofs.Common.{◌≡◌, ℕ, ◌+◌, ◌≤◌, ⊎_elim, List, [], ◌∷◌, ◌++◌, length, refl, sym, ap, ◌∙◌, arith, length-append}
 use Rattle.std.proofs.lemmas.Bool.{cases_eq}
 use Rattle.seg_spec.specs.Sound.{times, SameBlocks}
-use Rattle.seg_spec.proofs.LiveLaws.{times-append, times-same, times-other, times-more}
-
-pub same_refl : (xs : List ℕ) → SameBlocks xs xs
-same_refl xs h = refl
-
-pub same_sym : (xs ys : List ℕ) → SameBlocks xs ys → SameBlocks ys xs
-same_sym xs ys e h = sym (e h)
-
-pub same_trans : (xs ys zs : List ℕ) → SameBlocks xs ys → SameBlocks ys zs → SameBlocks xs zs
-same_trans xs ys zs p q h = p h ∙ q h
+use Rattle.seg_spec.proofs.LiveLaws.{times-append, times-same, times-other}
 
 -- ---- one among others
 

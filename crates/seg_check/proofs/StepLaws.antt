@@ -1,23 +1,21 @@
 -- How places that wait give way to the places inside them.
-use Rattle.std.proofs.Common.{◌≡◌, ℕ, ◌+◌, ◌<◌, ◌≤◌, zero, suc, Bool, true, false, cond, List, [], ◌∷◌, ◌++◌, length, map, filter, Option, Some, None, Ok, Err, Result, refl, sym, ap, ◌∙◌, subst, arith}
+use Rattle.std.proofs.Common.{◌≡◌, ℕ, ◌<◌, ◌≤◌, zero, suc, Bool, true, false, cond, List, [], ◌∷◌, ◌++◌, length, Option, Some, None, Err, Result, refl, sym, ap, ◌∙◌, subst, arith}
 use Rattle.std.proofs.lemmas.List.{append_assoc, append-nil}
-use Rattle.std.specs.List.{AllByRecursion}
-use Rattle.std.specs.Prelude.{flat_map}
 use Rattle.seg_spec.specs.Bytes.{signed_long}
-use Rattle.seg_spec.specs.Types.{Form, Table, IsTable, form_at}
-use Rattle.seg_spec.specs.Value.{Value, Values, nil, cons, node, append, Label}
-use Rattle.seg_spec.specs.Reads.{Place, Opened, Opens, Holds, holds, HoldsEach, holds_none, holds_more, fields}
+use Rattle.seg_spec.specs.Types.{Form, Table, form_at}
+use Rattle.seg_spec.specs.Value.{Values, cons, node, append, Label}
+use Rattle.seg_spec.specs.Reads.{Place, Opened, Opens, holds, HoldsEach, holds_none, holds_more, fields}
 use Rattle.seg_spec.specs.Sound.{times, SameBlocks}
 use Rattle.seg_spec.proofs.LiveLaws.{times-append}
 use Rattle.seg_spec.proofs.OneReading.{Opens-one}
-use Rattle.seg_spec.proofs.TreeOwed.{EachSplit, each_split}
+use Rattle.seg_spec.proofs.TreeOwed.{each_split}
 use Rattle.seg_layout.specs.Forms.{has_cells}
 use Rattle.seg_check.specs.declared.fault.ContentFault.{ContentFault}
 use Rattle.seg_check.specs.declared.fault.ContentFault.TheVariants.{Memory, BadIndex, BadPointer, DoubleOwner, BadValue}
 use Rattle.seg_check.specs.declared.marks.Turn.{Turn}
 use Rattle.seg_check.specs.Claiming.{Refuses}
-use Rattle.seg_check.specs.Marks.{Known, IsCounted, ClaimsAll, Within}
-use Rattle.seg_check.specs.Turns.{places_in, waiting, with_cells, AreKnown, AreTurns, AreBlocks}
+use Rattle.seg_check.specs.Marks.{Known, ClaimsAll, Within}
+use Rattle.seg_check.specs.Turns.{places_in, waiting, with_cells, AreKnown, AreTurns}
 use Rattle.seg_check.specs.Resolving.{Resolves, CanResolve, Advances, IsReady, Steps}
 
 -- what refuses one claim refuses each that leads to it
@@ -166,7 +164,8 @@ module _ (bytes : List ℕ) (table : Table) where
       go (Some (Form.own U)) e = let n : true ≡ false = sym (ap has_cells e) ∙ none in cc
       go (Some (Form.struct Us)) e = let n : true ≡ false = sym (ap has_cells e) ∙ none in cc
 
-  one_more : (u l : List ℕ) (p : Place) (ps qs others : List Place) → (Resolves bytes table u l (ps ++ (p ∷ others)) → Resolves bytes table u l (qs ++ (p ∷ others))) → Resolves bytes table u l (p ∷ (ps ++ others)) → Resolves bytes table u l (p ∷ (qs ++ others))
+  one_more : (u l : List ℕ) (p : Place) (ps qs others : List Place) → (Resolves bytes table u l (ps ++ (p ∷ others)) → Resolves bytes table u l (qs ++ (p ∷ others))) → Resolves bytes table u l (p ∷ (ps ++ others))
+      → Resolves bytes table u l (p ∷ (qs ++ others))
   one_more u l p ps qs others step r = resolves_swap u l qs (p ∷ []) others (step (resolves_swap u l (p ∷ []) ps others r))
 
   pub cells_forth : (u l : List ℕ) (ps others : List Place) → AreKnown table ps → Resolves bytes table u l (ps ++ others) → Resolves bytes table u l (with_cells table ps ++ others)
@@ -296,3 +295,7 @@ module _ (bytes : List ℕ) (table : Table) where
     blocks = (λ h some. ready.blocks h (omega (arith, a.within h)));
     small = ready.small;
   }
+
+  pub steps_refused : {A : Type 0} (old new : Known) (places : List Place) (r : Result A ContentFault) (e : ContentFault) (P : Type 0) → r ≡ Err e → (CanResolve bytes table old.unclaimed places → P) → Refuses e P
+      → Steps bytes table old new places r
+  steps_refused old new places r e P is lead refused = subst (λ x. Steps bytes table old new places x) (sym is) (refuses_map e P (CanResolve bytes table old.unclaimed places) lead refused)

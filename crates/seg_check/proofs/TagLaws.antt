@@ -1,5 +1,5 @@
 -- What stands in a block, by its tag.
-use Rattle.std.proofs.Common.{◌≡◌, ℕ, zero, suc, ◌+◌, ◌*◌, ◌/◌, ◌%◌, ◌<◌, ◌≤◌, ◌⊎◌, inl, inr, List, [], ◌∷◌, length, Option, Some, None, true, false, refl, sym, ap, ◌∙◌, subst, arith}
+use Rattle.std.proofs.Common.{◌≡◌, ℕ, ◌+◌, ◌*◌, ◌/◌, ◌%◌, ◌<◌, ◌⊎◌, inl, inr, List, [], length, Option, Some, None, true, false, refl, sym, ap, ◌∙◌, subst, arith}
 use Rattle.seg_spec.specs.Types.{Form, Table, IsTable, form_at, size}
 use Rattle.seg_spec.specs.Heap.{tag_at}
 use Rattle.seg_spec.specs.Block as block
@@ -14,10 +14,8 @@ use Rattle.seg_value.specs.Contents.{IsEntryOf, IsContent, ContentOf, OfBlock}
 use Rattle.seg_value.specs.declared.content.Content.{Content}
 use Rattle.seg_value.specs.declared.content.Shape.TheVariants.{Object}
 use Rattle.seg_value.specs.declared.entry.Entry.{Entry}
-use Rattle.seg_value.specs.declared.entry.Held.{Held}
-use Rattle.seg_value.specs.declared.entry.Held.TheVariants as held
 use Rattle.seg_check.specs.declared.marks.Turn.{Turn}
-use Rattle.seg_check.specs.Turns.{kind_with, places_by, places_with, places_in, entries_by, IsEntryFor, HasEntries, HoldsEntries}
+use Rattle.seg_check.specs.Turns.{kind_with, places_by, places_with, places_in, entries_by, IsEntryFor, HasEntries}
 
 kind_again : (k : block.Kind) (T : ℕ) → kind_with (tag_of k T % 256) ≡ Some k
 kind_again block.Kind.named T = let e : (1 + 256 * T) % 256 ≡ 1 = omega arith in ap kind_with e
@@ -78,7 +76,8 @@ module _ (bytes : List ℕ) (table : Table) (valid : IsTable table) where
   stands_named b T content own e c = stands_object b block.Kind.named T content (λ start n. refl) (allowed_as b block.Kind.named T own e) e c
 
   -- the forms whose values have buffers or nodes
-  stands_by : (b : ℕ) (k : block.Kind) (T : ℕ) (o : Option Form) (content : Content) → form_at table T ≡ o → ((start n : ℕ) → places_with table (Some k) T start n ≡ places_by table o start n) → (block.has_buffer o ≡ true) ⊎ (block.has_nodes o ≡ true)
+  stands_by : (b : ℕ) (k : block.Kind) (T : ℕ) (o : Option Form) (content : Content) → form_at table T ≡ o → ((start n : ℕ) → places_with table (Some k) T start n ≡ places_by table o start n)
+      → (block.has_buffer o ≡ true) ⊎ (block.has_nodes o ≡ true)
       → tag_at bytes b ≡ tag_of k T → ContentOf table T o (Some content) → HasEntries bytes table b content.entry
   stands_by b k T None content f are has e c = absurd c
   stands_by b k T (Some Form.i64) content f are has e c = absurd c

@@ -5,7 +5,7 @@
 --     HasItems form                      a string or a vector
 --     ResolvesTurns bytes table old new result
 --                                        all values that waited were looked at
-use Rattle.std.specs.Prelude.{◌≡◌, ℕ, zero, suc, ⊤, ◌↔◌, Option, Some, None, Result, Ok, Err, List, []}
+use Rattle.std.specs.Prelude.{◌≡◌, ℕ, zero, suc, ⊤, ◌↔◌, Option, Some, None, Result, Ok, Err, List}
 use Rattle.seg_spec.specs.Types.{Form, Table, form_at}
 use Rattle.seg_spec.specs.Sound.{SameBlocks}
 use Rattle.seg_value.specs.declared.content.Content.{Content}
@@ -41,14 +41,18 @@ HasItems Form.str = ⊤
 HasItems (Form.vec U) = ⊤
 HasItems _ = ⊥
 
--- the values that waited own all unclaimed blocks but some just where these are the ones that are left
+-- the values that waited own all unclaimed blocks but some just where these are the ones left
 pub record Owned (bytes : List ℕ) (table : Table) (old new : Known) : Type 0 where
   pub counted : IsCounted old → IsCounted new
   pub within : Within new.unclaimed old.unclaimed
-  pub owned : (left : List ℕ) → Resolves bytes table old.unclaimed left (waiting bytes table old.turns) ↔ SameBlocks new.unclaimed left
+  pub owned : (left : List ℕ) →
+      Resolves bytes table old.unclaimed left (waiting bytes table old.turns) ↔
+      SameBlocks new.unclaimed left
 
 -- that is so, or the values that waited can't be resolved
-abbrev pub ResolvesTurns : {A : Type 0} → List ℕ → Table → Known → Known → Result A ContentFault → Type 0
+abbrev pub ResolvesTurns : {A : Type 0} →
+    List ℕ → Table → Known → Known → Result A ContentFault → Type 0
 ResolvesTurns bytes table old new (Ok x) = Owned bytes table old new
 ResolvesTurns bytes table old new (Err fault) =
-    Refuses fault ((left : List ℕ) × Resolves bytes table old.unclaimed left (waiting bytes table old.turns))
+    Refuses fault ((left : List ℕ) ×
+    Resolves bytes table old.unclaimed left (waiting bytes table old.turns))

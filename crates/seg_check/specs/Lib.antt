@@ -7,3 +7,6 @@ pub mod Claiming
 pub mod Turns
 pub mod Resolving
 pub mod Cells
+pub mod Keys
+pub mod Walks
+pub mod Colours

@@ -10,12 +10,13 @@
 --     Adds old block live new   a block was added
 --     ClaimsAll old new blocks turns
 --                               these blocks were claimed, and these turns wait after the others
+--     Within xs ys              each block stands no more often here than there
 --     KnowsTiles bytes known    the blocks of the heap are known, and none of them is claimed
-use Rattle.std.specs.Prelude.{◌≡◌, ◌≢◌, ℕ, ◌+◌, ◌-◌, ◌*◌, ◌%◌, ◌^◌, ◌<◌, ◌≤◌, Bool, true, false, List, [], ◌∷◌, ◌++◌, length, drop, if◌then◌else◌}
+use Rattle.std.specs.Prelude.{◌≡◌, ◌≢◌, ℕ, ◌+◌, ◌*◌, ◌<◌, ◌≤◌, Bool, true, false, List, [], ◌∷◌, ◌++◌, length, drop, if◌then◌else◌}
 use Rattle.seg_spec.specs.Heap.{heap_start, live, free_of, tiles}
 use Rattle.seg_spec.specs.Sound.{times, SameBlocks, positions}
 use Rattle.seg_check.specs.declared.marks.Mark.{Mark}
-use Rattle.seg_check.specs.declared.marks.Mark.TheVariants.{Inside, Free, Live, Claimed}
+use Rattle.seg_check.specs.declared.marks.Mark.TheVariants.{Free, Live}
 use Rattle.seg_check.specs.declared.marks.Turn.{Turn}
 
 -- a live block begins there that nothing claimed so far, or a free one
@@ -109,7 +110,8 @@ pub record Adds (old : Known) (block : ℕ) (is_live : Bool) (new : Known) : Typ
   pub counted : IsCounted old → IsCounted new
   pub turns_kept : new.turns ≡ old.turns
 
--- these blocks were claimed, which nothing had claimed before, and these turns wait after the others
+-- these blocks were claimed, which nothing had claimed before, and these turns wait after the
+-- others
 pub record ClaimsAll (old new : Known) (blocks : List ℕ) (turns : List Turn) : Type 0 where
   pub claimed : SameBlocks old.unclaimed (blocks ++ new.unclaimed)
   pub counted : IsCounted old → IsCounted new

@@ -1,11 +1,11 @@
--- What is still to be shown of an image while it is checked: that the places which wait hold values, and that these own just
--- the blocks which nothing claimed so far, but for some that are left. Each step leads from such a claim to an equivalent one,
--- or refutes it.
+-- What is still to be shown of an image while it is checked: that the places which wait hold
+-- values, and that these own just the blocks which nothing claimed so far, but for some that are
+-- left. Each step leads from such a claim to an equivalent one, or refutes it.
 --     Resolves bytes table unclaimed left places     the claim
---     CanResolve bytes table unclaimed places        it holds with some blocks left, and other places
+--     CanResolve bytes table unclaimed places        it holds with some blocks left and other places
 --     Advances bytes table old new places            these places have become what waits now
 --     IsReady bytes table known                      what each step rests on
---     Steps bytes table old new places result        a step did that, or refutes that the places can be resolved
+--     Steps bytes table old new places result        a step did that, or the places can't be resolved
 use Rattle.std.specs.Prelude.{◌≡◌, ℕ, ◌^◌, ◌≤◌, List, ◌++◌, length, Some, Result, Ok, Err}
 use Rattle.seg_spec.specs.Types.{Form, Table, IsTable, form_at}
 use Rattle.seg_spec.specs.Value.{Values}
@@ -51,7 +51,8 @@ pub record Advances (bytes : List ℕ) (table : Table) (old new : Known)
 abbrev pub LacksMaps : Table → Type 0
 LacksMaps table = (T U : ℕ) → form_at table T ≡ Some (Form.map U) → ⊥
 
--- a valid table with no maps, and unclaimed blocks that it allows, in an image that is not too long
+-- a valid table without maps, and unclaimed blocks that it allows, in an image that
+-- is not too long
 pub record IsReady (bytes : List ℕ) (table : Table) (known : Known) : Type 0 where
   pub is_table : IsTable table
   pub lacks_maps : LacksMaps table

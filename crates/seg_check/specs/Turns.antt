@@ -2,12 +2,13 @@
 --     places_in bytes table turn       those in the block of a turn, by its tag
 --     waiting bytes table turns        those of several turns
 --     with_cells table places          the places whose values may name blocks
+--     parts_at at cells                the places of cells in a value
 --     IsTurn bytes table turn          the table allows the tag, and no position overflows
 --     AreBlocks bytes table blocks     live blocks with tags that the table allows
 --     HasEntries bytes table block e   what is read of a block as what stands in it
-use Rattle.std.specs.Prelude.{◌≡◌, ℕ, zero, suc, ◌+◌, ◌/◌, ◌%◌, ◌^◌, ◌<◌, ◌≤◌, List, [], ◌∷◌, length, filter, flat_map, Option, Some, None}
+use Rattle.std.specs.Prelude.{◌≡◌, ℕ, zero, suc, ◌+◌, ◌/◌, ◌%◌, ◌^◌, ◌<◌, ◌≤◌, List, [], length, map, filter, flat_map, Option, Some, None}
 use Rattle.std.specs.List.{AllByRecursion}
-use Rattle.seg_spec.specs.Types.{Form, Table, form_at, size}
+use Rattle.seg_spec.specs.Types.{Form, Table, Cell, form_at, size}
 use Rattle.seg_spec.specs.Heap.{tag_at}
 use Rattle.seg_spec.specs.Block.{Kind, block_of, IsOwnable}
 use Rattle.seg_spec.specs.Owing.{entries_at}
@@ -59,6 +60,10 @@ waiting bytes table turns = flat_map (places_in bytes table) turns
 abbrev pub with_cells : Table → List Place → List Place
 with_cells table places = filter (λ place. has_cells (form_at table place.type)) places
 
+-- the places of cells in a value at a position
+abbrev pub parts_at : ℕ → List Cell → List Place
+parts_at at cells = map (λ cell. record { at = at + cell.from; type = cell.type }) cells
+
 -- positions without overflow
 abbrev pub AreLow : List Place → Type 0
 AreLow places = AllByRecursion (λ place. place.at ≤ 2 ^ 30) places
@@ -90,7 +95,8 @@ entries_by table held.Pointer before start n = []
 
 -- what the entries hold: bytes, or values of a type of the table
 abbrev pub IsEntryFor : Table → Entry → Held → Type 0
-IsEntryFor table entry (held.Value U) = (entry.size ≡ entry.before + size table U) × (U < length table)
+IsEntryFor table entry (held.Value U) =
+    (entry.size ≡ entry.before + size table U) × (U < length table)
 IsEntryFor table entry held.Bytes = Unit {0}
 IsEntryFor table entry held.Pointer = ⊥
 
@@ -100,7 +106,7 @@ pub record HasEntries (bytes : List ℕ) (table : Table) (block : ℕ) (entry : 
       places_in bytes table turn ≡ entries_by table entry.held entry.before turn.start turn.count
   pub entry_is : IsEntryFor table entry entry.held
 
--- or there are none
+-- and there are none where nothing is read
 abbrev pub HoldsEntries : List ℕ → Table → ℕ → Option Entry → Type 0
 HoldsEntries bytes table block None =
     (turn : Turn) → block ≡ block_of turn.start → places_in bytes table turn ≡ []

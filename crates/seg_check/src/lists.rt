@@ -1,4 +1,9 @@
-ghost use Rattle.std.specs.Prelude.{◌≡◌};
+ghost use Rattle.std.specs.Prelude.{◌≡◌, ℕ, ◌+◌, ◌^◌, ◌<◌, ◌↔◌, ◌∷◌, [], IsTrue, Some};
+ghost use Rattle.seg_spec.specs.Pointer.{target};
+ghost use Rattle.seg_spec.specs.Types.{Form};
+ghost use Rattle.seg_value.specs.Places.{object_at};
+ghost use Rattle.seg_check.specs.Resolving.{IsReady, Steps};
+ghost use Rattle.seg_check.specs.Cells.{NamesBy};
 
 use crate::claims::Claims;
 use crate::fault::ContentFault;
@@ -16,6 +21,10 @@ impl<A: Allocator> Image<'_, A> {
         cell: u32,
     ) -> Result<(), ContentFault>
         ensures taken { claims.new.taken ≡ claims.old.taken }
+        ensures steps { (T U : ℕ) → NamesBy self.now.types.now T (Form.list U) content.now →
+            IsReady self.now.w.now.bytes self.now.types.now claims.old →
+            Steps self.now.w.now.bytes self.now.types.now claims.old claims.new
+            (object_at cell T ∷ []) result }
     {
         let Some(count) = self.counted_blocks(cell)? else {
             return Ok(());
@@ -40,6 +49,9 @@ impl<A: Allocator> Image<'_, A> {
 }
 
 /// Whether a node is the one before another, as that one says.
-fn is_previous(bytes: View, node: u32, next: u32) -> bool {
+fn is_previous(bytes: View, node: u32, next: u32) -> bool
+    ensures { next + PREVIOUS < 2 ^ 32 →
+        IsTrue result ↔ (target bytes.entry.bytes.now (next + PREVIOUS) ≡ Some node) }
+{
     bytes.target(next.wrapping_add(PREVIOUS) as usize) == Some(node)
 }

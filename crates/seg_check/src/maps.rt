@@ -1,4 +1,9 @@
-ghost use Rattle.std.specs.Prelude.{◌≡◌};
+ghost use Rattle.std.specs.Prelude.{◌≡◌, ℕ, ◌-◌, ◌≤◌, ◌∷◌, []};
+ghost use Rattle.seg_spec.specs.Bytes.{signed_long};
+ghost use Rattle.seg_spec.specs.Types.{Form};
+ghost use Rattle.seg_value.specs.Places.{object_at};
+ghost use Rattle.seg_check.specs.Resolving.{IsReady, Steps};
+ghost use Rattle.seg_check.specs.Cells.{NamesBy};
 
 use crate::claims::Claims;
 use crate::fault::ContentFault;
@@ -16,6 +21,10 @@ impl<A: Allocator> Image<'_, A> {
         cell: u32,
     ) -> Result<(), ContentFault>
         ensures taken { claims.new.taken ≡ claims.old.taken }
+        ensures steps { (T U : ℕ) → NamesBy self.now.types.now T (Form.flat_map U) content.now →
+            IsReady self.now.w.now.bytes self.now.types.now claims.old →
+            Steps self.now.w.now.bytes self.now.types.now claims.old claims.new
+            (object_at cell T ∷ []) result }
     {
         let Some(count) = self.counted(cell)? else {
             return Ok(());
@@ -36,6 +45,10 @@ impl<A: Allocator> Image<'_, A> {
         cell: u32,
     ) -> Result<(), ContentFault>
         ensures taken { claims.new.taken ≡ claims.old.taken }
+        ensures steps { (T U : ℕ) → NamesBy self.now.types.now T (Form.map U) content.now →
+            IsReady self.now.w.now.bytes self.now.types.now claims.old →
+            Steps self.now.w.now.bytes self.now.types.now claims.old claims.new
+            (object_at cell T ∷ []) result }
     {
         let Some(count) = self.counted_blocks(cell)? else {
             return Ok(());
@@ -58,7 +71,10 @@ impl<A: Allocator> Image<'_, A> {
     }
 
     /// The key that stands right before the value at a position.
-    fn key(&self, value: u32) -> i64 {
+    #[tactic(auto, unfolding(seg_spec::specs::Bytes::signed))]
+    fn key(&self, value: u32) -> i64
+        ensures { KEY ≤ value → result ≡ signed_long self.now.w.now.bytes (value - KEY) }
+    {
         self.w.get64(value.wrapping_sub(KEY) as usize).cast_signed()
     }
 }
@@ -71,20 +87,41 @@ struct Keys {
 }
 
 impl Keys {
-    fn new() -> Keys {
+    ghost use Rattle.std.specs.Prelude.{⊤, ℤ, ◌<ℤ◌, ◌↔◌, List, ◌++◌, IsTrue, MatchOption, MatchResult};
+    ghost use Rattle.seg_spec.specs.Value.{IsAscending};
+    ghost use Rattle.seg_check.specs.Keys.{HasKeys};
+
+    fn new() -> Keys
+        ensures { HasKeys result [] }
+    {
         Keys {
             last: None,
             ascend: true,
         }
     }
 
-    fn add(&mut self, key: i64) {
-        self.ascend = self.ascend && self.last.is_none_or(|last| last < key);
+    fn add(&mut self, key: i64)
+        ensures { (ks : List ℤ) → HasKeys self.old ks → HasKeys self.new (ks ++ key ∷ []) }
+    {
+        self.ascend = self.ascend && self.is_before(key);
         self.last = Some(key);
     }
 
+    /// Whether no key or a lower one came last.
+    fn is_before(self, key: i64) -> bool
+        ensures { IsTrue result ↔ MatchOption self.last ⊤ (λ last. last <ℤ key) }
+    {
+        match self.last {
+            Some(last) => last < key,
+            None => true,
+        }
+    }
+
     /// Each key is above the one before, else `BadValue` with the map's cell.
-    fn check(self, cell: u32) -> Result<(), ContentFault> {
+    fn check(self, cell: u32) -> Result<(), ContentFault>
+        ensures { (ks : List ℤ) → HasKeys self ks → MatchResult result (λ _. IsAscending ks)
+            (λ fault. (fault ≡ ContentFault.BadValue cell) × (IsAscending ks → ⊥)) }
+    {
         if self.ascend {
             Ok(())
         } else {

@@ -1,4 +1,12 @@
-ghost use Rattle.std.specs.Prelude.{◌≡◌};
+ghost use Rattle.std.specs.Prelude.{◌≡◌, ℕ, ◌+◌, ◌^◌, ◌<◌, ◌≤◌, ◌∷◌, [], length};
+ghost use Rattle.seg_spec.specs.Types.{Form, IsTable, fields_of, size};
+ghost use Rattle.seg_spec.specs.Block.{IsOwnable};
+ghost use Rattle.seg_spec.specs.Pointer.{target};
+ghost use Rattle.seg_spec.specs.Reads.{count_at};
+ghost use Rattle.seg_value.specs.Places.{place_of, object_at};
+ghost use Rattle.seg_check.specs.Turns.{places_in, IsTurn, AreTurns, HoldsEntries};
+ghost use Rattle.seg_check.specs.Resolving.{IsReady, Steps};
+ghost use Rattle.seg_check.specs.Cells.{counted_by, blocks_counted_by, NamesBy, HasItems, ResolvesTurns};
 
 use crate::claims::Claims;
 use crate::fault::ContentFault;
@@ -14,7 +22,11 @@ impl<A: Allocator> Image<'_, A> {
     pub(crate) fn check_values<B: Allocator>(
         &self,
         claims: &mut Claims<B>,
-    ) -> Result<(), ContentFault> {
+    ) -> Result<(), ContentFault>
+        ensures { IsReady self.now.w.now.bytes self.now.types.now claims.old →
+            AreTurns self.now.w.now.bytes self.now.types.now claims.old.turns →
+            ResolvesTurns self.now.w.now.bytes self.now.types.now claims.old claims.new result }
+    {
         while let Some(turn) = claims.next_turn() {
             self.check_block(claims, turn)?;
         }
@@ -28,6 +40,10 @@ impl<A: Allocator> Image<'_, A> {
         turn: Turn,
     ) -> Result<(), ContentFault>
         ensures taken { claims.new.taken ≡ claims.old.taken }
+        ensures steps { IsReady self.now.w.now.bytes self.now.types.now claims.old →
+            IsTurn self.now.w.now.bytes self.now.types.now turn →
+            Steps self.now.w.now.bytes self.now.types.now claims.old claims.new
+            (places_in self.now.w.now.bytes self.now.types.now turn) result }
     {
         let Some(entry) = self.entry_of(block_of(turn.start)) else {
             return Ok(());
@@ -41,7 +57,11 @@ impl<A: Allocator> Image<'_, A> {
     }
 
     /// What stands in a claimed block that waited for its turn.
-    fn entry_of(&self, block: u32) -> Option<Entry> {
+    fn entry_of(&self, block: u32) -> Option<Entry>
+        ensures { IsTable self.now.types.now →
+            IsOwnable self.now.w.now.bytes self.now.types.now block →
+            HoldsEntries self.now.w.now.bytes self.now.types.now block result }
+    {
         let tag = Tag::read(tag_word(self.w, block))?;
         let content = match tag.kind {
             Kind::Named => Content::object(self.types, tag.type_id),
@@ -60,6 +80,11 @@ impl<A: Allocator> Image<'_, A> {
         value: Place,
     ) -> Result<(), ContentFault>
         ensures taken { claims.new.taken ≡ claims.old.taken }
+        ensures steps { IsReady self.now.w.now.bytes self.now.types.now claims.old →
+            value.type_id < length self.now.types.now →
+            value.at + size self.now.types.now value.type_id ≤ 2 ^ 32 →
+            Steps self.now.w.now.bytes self.now.types.now claims.old claims.new
+            (place_of value ∷ []) result }
     {
         if !self.types.has_pointers(value.type_id) {
             return Ok(());
@@ -83,6 +108,11 @@ impl<A: Allocator> Image<'_, A> {
         place: Place,
     ) -> Result<(), ContentFault>
         ensures taken { claims.new.taken ≡ claims.old.taken }
+        ensures steps { IsReady self.now.w.now.bytes self.now.types.now claims.old →
+            place.type_id < length self.now.types.now →
+            length (fields_of self.now.types.now place.type_id) ≡ 0 →
+            Steps self.now.w.now.bytes self.now.types.now claims.old claims.new
+            (place_of place ∷ []) result }
     {
         let (Some(kind), Some(content)) = (
             self.types.kind(place.type_id),
@@ -108,6 +138,11 @@ impl<A: Allocator> Image<'_, A> {
         cell: u32,
     ) -> Result<(), ContentFault>
         ensures taken { claims.new.taken ≡ claims.old.taken }
+        ensures steps { (T : ℕ) (form : Form) → HasItems form →
+            NamesBy self.now.types.now T form content.now →
+            IsReady self.now.w.now.bytes self.now.types.now claims.old →
+            Steps self.now.w.now.bytes self.now.types.now claims.old claims.new
+            (object_at cell T ∷ []) result }
     {
         if let Some(count) = self.counted(cell)? {
             self.claim_entries(claims, cell, content, count)?;
@@ -123,6 +158,10 @@ impl<A: Allocator> Image<'_, A> {
         cell: u32,
     ) -> Result<(), ContentFault>
         ensures taken { claims.new.taken ≡ claims.old.taken }
+        ensures steps { (T U : ℕ) → NamesBy self.now.types.now T (Form.own U) content.now →
+            IsReady self.now.w.now.bytes self.now.types.now claims.old →
+            Steps self.now.w.now.bytes self.now.types.now claims.old claims.new
+            (object_at cell T ∷ []) result }
     {
         if count(self.w, cell) > 1 {
             return Err(ContentFault::BadValue(cell));
@@ -134,7 +173,10 @@ impl<A: Allocator> Image<'_, A> {
     }
 
     /// How much a cell counts that isn't empty. `BadPointer` where it counts something and names nothing.
-    pub(crate) fn counted(&self, cell: u32) -> Result<Option<u32>, ContentFault> {
+    pub(crate) fn counted(&self, cell: u32) -> Result<Option<u32>, ContentFault>
+        ensures { result ≡ counted_by cell (target self.now.w.now.bytes cell)
+            (count_at self.now.w.now.bytes cell) }
+    {
         match (self.w.target(cell as usize), count(self.w, cell)) {
             (None, 0) => Ok(None),
             (None, _) => Err(ContentFault::BadPointer(cell)),
@@ -143,7 +185,10 @@ impl<A: Allocator> Image<'_, A> {
     }
 
     /// The same of a cell that counts the blocks that it leads to: `BadValue` where it names one and counts none.
-    pub(crate) fn counted_blocks(&self, cell: u32) -> Result<Option<u32>, ContentFault> {
+    pub(crate) fn counted_blocks(&self, cell: u32) -> Result<Option<u32>, ContentFault>
+        ensures { result ≡ blocks_counted_by cell (target self.now.w.now.bytes cell)
+            (count_at self.now.w.now.bytes cell) }
+    {
         match self.counted(cell)? {
             Some(0) => Err(ContentFault::BadValue(cell)),
             count => Ok(count),

@@ -1,4 +1,6 @@
-ghost use Rattle.std.specs.Prelude.{◌≡◌, ◌<◌, OnOk};
+ghost use Rattle.std.specs.Prelude.{◌≡◌, ◌^◌, ◌<◌, ◌≤◌, true, [], None, OnOk};
+ghost use Rattle.seg_rbtree.specs.Nodes.{side_word};
+ghost use Rattle.seg_check.specs.Colours.{is_red, may_stand, is_height};
 
 use arrayvec::ArrayVec;
 use seg_block::UNIT;
@@ -20,24 +22,22 @@ pub(crate) struct Tree {
 }
 
 impl Tree {
+    ghost use Rattle.std.specs.Prelude.{ℕ, ◌↔◌, List};
+    ghost use Rattle.seg_check.specs.Walks.{Completes, Hangs, IsSteady};
+
     /// A walk through the tree. Where it isn't a red-black tree of so many nodes, the walk ends with the position of the
     /// pointer to the root as `Err`: at once before a node that would stand too deep, else after the last node.
-    pub(crate) fn walk<A: Allocator>(self, w: &Window<A>) -> Walk<'_, A> {
+    pub(crate) fn walk<A: Allocator>(self, w: &Window<A>) -> Walk<'_, A>
+        ensures starts { (height : ℕ) (nodes : List ℕ) → Completes w.now.bytes height result.stage nodes
+            ↔ Hangs w.now.bytes self.root self.nodes height nodes }
+        ensures steady { IsSteady w.now.bytes result.stage result.turns }
+        ensures window { result.w.now ≡ w.now }
+    {
         Walk {
             w,
-            tree: self,
+            root: self.root,
             turns: w.len() / UNIT,
-            pointer: self.root,
-            above: Above {
-                nodes: 0,
-                blacks: 0,
-                // a root is black
-                is_red: true,
-            },
-            entered: ArrayVec::new(),
-            nodes: 0,
-            height: None,
-            is_red_black: true,
+            stage: Stage::new(self),
         }
     }
 }
@@ -69,13 +69,11 @@ struct Entered {
     above: Above,
 }
 
-/// A walk through a tree, from left to right.
+/// How far a walk has come.
 #[derive(Drop)]
-pub(crate) struct Walk<'w, A: Allocator> {
-    w: &'w Window<A>,
-    tree: Tree,
-    /// More turns than the walk of a tree in this segment takes: two for each node, and one.
-    turns: u32,
+struct Stage {
+    /// How many nodes the tree is to have.
+    wanted: usize,
     /// The position of the pointer that leads to the place where the walk is.
     pointer: u32,
     above: Above,
@@ -89,34 +87,52 @@ pub(crate) struct Walk<'w, A: Allocator> {
     is_red_black: bool,
 }
 
-impl<A: Allocator> Walk<'_, A> {
-    /// What the walk comes to next, until it has come to the end.
-    pub(crate) fn next(&mut self) -> Result<Option<Visit>, u32>
-        ensures fewer { OnOk result (self.new.turns < self.old.turns) }
+impl Stage {
+    ghost use Rattle.std.specs.Prelude.{ℕ, ◌+◌, ◌^◌, ◌≤◌, ◌↔◌, List, ◌∷◌, ◌++◌, Some, IsTrue, IfSome, IfNone};
+    ghost use Rattle.seg_spec.specs.Pointer.{target};
+    ghost use Rattle.seg_check.specs.Walks.{Completes, IsColourOf, IsAtEnd, IsShallow};
+
+    /// At the root.
+    fn new(tree: Tree) -> Stage
+        ensures wanted { result.wanted ≡ tree.nodes }
+        ensures pointer { result.pointer ≡ tree.root }
+        ensures entered { result.entered.items ≡ [] }
+        ensures nodes { result.nodes ≡ 0 }
+        ensures height { result.height ≡ None }
+        ensures is_red_black { result.is_red_black ≡ true }
+        ensures blacks { result.above.blacks ≡ 0 }
+        ensures is_red { result.above.is_red ≡ true }
+        ensures shallow { IsShallow result.above }
     {
-        if self.turns == 0 {
-            return Err(self.tree.root);
-        }
-        self.turns -= 1;
-        let pointer = self.pointer;
-        if let Some(node) = self.w.target(pointer as usize) {
-            self.enter(node)?;
-            return Ok(Some(Visit::Enter(pointer)));
-        }
-        let passed = self.pass();
-        if passed.is_some() || self.is_right() {
-            Ok(passed.map(Visit::Pass))
-        } else {
-            Err(self.tree.root)
+        Stage {
+            wanted: tree.nodes,
+            pointer: tree.root,
+            above: Above {
+                nodes: 0,
+                blacks: 0,
+                // a root is black
+                is_red: true,
+            },
+            entered: ArrayVec::new(),
+            nodes: 0,
+            height: None,
+            is_red_black: true,
         }
     }
 
-    /// Goes on from the node at the place to its left part.
-    fn enter(&mut self, node: u32) -> Result<(), u32>
-        ensures turns { self.new.turns ≡ self.old.turns }
+    /// Goes on from the node of this colour at the place to its left part. False before a node that would stand too deep.
+    fn enter(&mut self, node: u32, colour: Option<Colour>) -> bool
+        ensures goes_on { IsTrue result → (bytes : List ℕ) (height : ℕ) (rest : List ℕ)
+            → target bytes self.old.pointer ≡ Some node → IsColourOf bytes node colour
+            → self.old.nodes < 2 ^ 32 → self.old.above.blacks < 255
+            → Completes bytes height self.old rest ↔ Completes bytes height self.new rest }
+        ensures pointer { IsTrue result → self.new.pointer ≡ node }
+        ensures entered { IsTrue result → self.new.entered.items
+            ≡ self.old.entered.items ++ record { node = node; above = self.new.above } ∷ [] }
+        ensures nodes { self.old.nodes < 2 ^ 32 → self.new.nodes ≤ self.old.nodes + 1 }
+        ensures above { IsTrue result → IsShallow self.old.above → IsShallow self.new.above }
     {
-        let colour = node_colour(self.w, node);
-        let is_red = colour == Some(Colour::Red);
+        let is_red = is_red(colour);
         let above = Above {
             nodes: self.above.nodes.saturating_add(1),
             blacks: self.above.blacks.saturating_add(u8::from(!is_red)),
@@ -124,22 +140,32 @@ impl<A: Allocator> Walk<'_, A> {
         };
         let is_deep = usize::from(self.above.nodes) >= DEPTH;
         if is_deep || self.entered.try_push(Entered { node, above }).is_err() {
-            return Err(self.tree.root);
+            return false;
         }
-        let is_right = colour.is_some() && !(is_red && self.above.is_red);
-        self.is_red_black = self.is_red_black && is_right;
+        self.is_red_black = self.is_red_black && may_stand(colour, self.above.is_red);
         self.nodes = self.nodes.saturating_add(1);
         self.pointer = child_pointer(node, Side::Left);
         self.above = above;
-        Ok(())
+        true
     }
 
     /// Goes on from an empty place to the right part of the next node in order, and returns this node.
     fn pass(&mut self) -> Option<u32>
-        ensures turns { self.new.turns ≡ self.old.turns }
+        ensures goes_on { IfSome result (λ node. (bytes : List ℕ) (height : ℕ) (rest : List ℕ)
+            → target bytes self.old.pointer ≡ None → node + 4 < 2 ^ 32
+            → Completes bytes height self.old (node ∷ rest) ↔ Completes bytes height self.new rest) }
+        ensures next { IfSome result (λ node. (bytes : List ℕ) (height : ℕ) (rest : List ℕ)
+            → target bytes self.old.pointer ≡ None → node + 4 < 2 ^ 32
+            → Completes bytes height self.old rest → (more : List ℕ) × (rest ≡ node ∷ more)) }
+        ensures end { IfNone result ((bytes : List ℕ) (height : ℕ) (rest : List ℕ)
+            → target bytes self.old.pointer ≡ None
+            → Completes bytes height self.old rest ↔ IsAtEnd height self.old self.new rest) }
+        ensures left { IfSome result (λ node. self.old.entered.items
+            ≡ self.new.entered.items ++ record { node = node; above = self.new.above } ∷ []) }
+        ensures nodes { self.new.nodes ≡ self.old.nodes }
     {
         let blacks = self.above.blacks;
-        self.is_red_black = self.is_red_black && self.height.is_none_or(|height| height == blacks);
+        self.is_red_black = self.is_red_black && is_height(self.height, blacks);
         self.height = Some(blacks);
         let Entered { node, above } = self.entered.pop()?;
         self.pointer = child_pointer(node, Side::Right);
@@ -148,12 +174,87 @@ impl<A: Allocator> Walk<'_, A> {
     }
 
     /// Whether the tree is as it is to be, once all of it was walked.
-    fn is_right(&self) -> bool {
-        self.is_red_black && self.nodes == self.tree.nodes
+    fn is_right(&self) -> bool
+        ensures { IsTrue result ↔ ((self.now.is_red_black ≡ true) × (self.now.nodes ≡ self.now.wanted)) }
+    {
+        self.is_red_black && self.nodes == self.wanted
+    }
+}
+
+/// A walk through a tree, from left to right.
+#[derive(Drop)]
+pub(crate) struct Walk<'w, A: Allocator> {
+    w: &'w Window<A>,
+    /// The position of the pointer to the root.
+    root: u32,
+    /// More turns than the walk of a tree in this segment takes: two for each node, and one.
+    turns: u32,
+    stage: Stage,
+}
+
+impl<A: Allocator> Walk<'_, A> {
+    ghost use Rattle.std.specs.Prelude.{IfOk, IfSome};
+    ghost use Rattle.seg_check.specs.Walks.{IsSteady, Proceeds};
+
+    /// What the walk comes to next, until it has come to the end.
+    pub(crate) fn next(&mut self) -> Result<Option<Visit>, u32>
+        ensures fewer { OnOk result (self.new.turns < self.old.turns) }
+        ensures steady { IsSteady self.old.w.now.bytes self.old.stage self.old.turns
+            → IfOk result (λ visit. IfSome visit (λ _.
+            IsSteady self.new.w.now.bytes self.new.stage self.new.turns)) }
+        ensures goes_on { IsSteady self.old.w.now.bytes self.old.stage self.old.turns
+            → IfOk result (Proceeds self.old.w.now.bytes self.old.stage self.new.stage) }
+        ensures window { self.new.w.now ≡ self.old.w.now }
+    {
+        if self.turns == 0 {
+            return Err(self.root);
+        }
+        self.turns -= 1;
+        let pointer = self.stage.pointer;
+        if let Some(node) = self.w.target(pointer as usize) {
+            if self.stage.enter(node, node_colour(self.w, node)) {
+                return Ok(Some(Visit::Enter(pointer)));
+            }
+            return Err(self.root);
+        }
+        match self.stage.pass() {
+            Some(node) => Ok(Some(Visit::Pass(node))),
+            None if self.stage.is_right() => Ok(None),
+            None => Err(self.root),
+        }
+    }
+}
+
+/// Whether so many black nodes are above an empty place as above those that were met.
+fn is_height(known: Option<u8>, blacks: u8) -> bool
+    ensures { result ≡ is_height known blacks }
+{
+    match known {
+        None => true,
+        Some(height) => height == blacks,
+    }
+}
+
+fn is_red(colour: Option<Colour>) -> bool
+    ensures { result ≡ is_red colour }
+{
+    matches!(colour, Some(Colour::Red))
+}
+
+/// Whether a node of this colour may stand below a red one, or below another.
+fn may_stand(colour: Option<Colour>, below_red: bool) -> bool
+    ensures { result ≡ may_stand colour below_red }
+{
+    match colour {
+        None => false,
+        Some(Colour::Black) => true,
+        Some(Colour::Red) => !below_red,
     }
 }
 
 /// The position of the pointer to a child. A node that lies in the segment has one.
-fn child_pointer(node: u32, side: Side) -> u32 {
+fn child_pointer(node: u32, side: Side) -> u32
+    ensures { side_word node side < 2 ^ 32 → result ≡ side_word node side }
+{
     u32::try_from(child_word(node, side)).unwrap_or(u32::MAX)
 }

@@ -1,4 +1,4 @@
-use Rattle.std.proofs.Common.{◌≡◌, ◌+◌, ◌%◌, true, false, sym, ap, ◌∙◌, subst, arith}
+use Rattle.std.proofs.Common.{◌+◌, ◌%◌, sym, subst, arith}
 use Rattle.seg_check.specs.declared.marks.Mark.TheVariants.{Live, Free}
 use Rattle.seg_check.specs.Marks.{Known, known_of, IsMarked, KeepsOthers, Adds}
 use Rattle.seg_check.proofs.KnownLaws.{adds_live, adds_free}

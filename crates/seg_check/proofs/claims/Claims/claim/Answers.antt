@@ -1,13 +1,13 @@
-use Rattle.std.proofs.Common.{◌≡◌, ℕ, ◌+◌, ◌-◌, ◌*◌, ◌%◌, ◌<◌, ◌≤◌, ⊎_elim, List, [], ◌∷◌, length, get_or, set, Some, true, false, cond, refl, sym, ap, ◌∙◌, subst, arith}
+use Rattle.std.proofs.Common.{◌≡◌, ℕ, ◌+◌, ◌*◌, ◌%◌, ◌<◌, ◌≤◌, ⊎_elim, List, [], ◌∷◌, length, get_or, set, Some, false, cond, sym, ap, ◌∙◌, subst, arith}
 use Rattle.std.proofs.lemmas.List.{get_or_read}
-use Rattle.seg_spec.specs.Heap.{heap_start, units_at, tag_at}
+use Rattle.seg_spec.specs.Heap.{heap_start}
 use Rattle.seg_spec.specs.Pointer.{target}
 use Rattle.seg_spec.specs.Block.{block_of}
 use Rattle.seg_spec.specs.Sound.{times}
 use Rattle.seg_block.specs.Tags.{word_of}
 use Rattle.seg_check.specs.declared.marks.Mark.{Mark}
 use Rattle.seg_check.specs.declared.marks.Turn.{Turn}
-use Rattle.seg_check.specs.declared.marks.Mark.TheVariants.{Inside, Live, Claimed}
+use Rattle.seg_check.specs.declared.marks.Mark.TheVariants.{Inside, Claimed}
 use Rattle.seg_check.specs.Marks.{Known, known_of, IsUnit, ClaimsAll, is_unclaimed}
 use Rattle.seg_check.specs.Claiming.{HasPayload, CanClaim}
 use Rattle.seg_check.proofs.KnownLaws.{mark_is, mark_none, claims_one}
@@ -46,7 +46,8 @@ returns-in-Live-clause-claimed g c = λ live.
     let one = claims_one marks f.unclaimed f.free f.queue.items f.taken block c.in-Some-unit_at.unit n unit.0 inside mark (λ some. omega arith) in
     let claims = subst (λ (k : Known). ClaimsAll k new (block ∷ []) []) c.self.view_is one in
     let same : block ≡ block_of c.in-Some.start = c.block_of-block.ensures in
-    claims_block bytes c.args.self.now new c.args.pointer (word_of c.args.tag) c.args.size c.in-Some.start live (sym c.in-Some.ensures) (omega (arith, unit.0, same)) (subst (λ (b : ℕ). ClaimsAll c.args.self.now new (b ∷ []) []) same claims)
+    claims_block bytes c.args.self.now new c.args.pointer (word_of c.args.tag) c.args.size c.in-Some.start live (sym c.in-Some.ensures) (omega (arith, unit.0, same)) (subst (λ (b : ℕ). ClaimsAll c.args.self.now new
+    (b ∷ []) []) same claims)
     (λ low. subst (λ (b : ℕ). HasPayload bytes b (word_of c.args.tag) c.args.size) same (subst (λ (t : ℕ). HasPayload bytes block t c.args.size) c.word.ensures
     ((c.has_payload.ensures (subst (λ (b : ℕ). b + 16 ≤ length bytes) (sym same) low)).0 c.if-not-has_payload.false)))
 
@@ -55,13 +56,15 @@ pub returns-in-Claimed-clause-refused : goal.returns-in-Claimed-clause-refused
 returns-in-Claimed-clause-refused g c = λ live.
     let f = c.self.inside in
     let unit = c.in-Some-unit_at.ensures.unit in
-    refused c.args.bytes.bytes.now f.marks.items f.unclaimed f.free f.queue.items f.taken c.args.self.now c.args.pointer (word_of c.args.tag) c.args.size c.in-Some.start c.block_of-block.result c.in-Some-unit_at.unit c.index.result.now c.self.view_is
+    refused c.args.bytes.bytes.now f.marks.items f.unclaimed f.free f.queue.items f.taken c.args.self.now c.args.pointer
+    (word_of c.args.tag) c.args.size c.in-Some.start c.block_of-block.result c.in-Some-unit_at.unit c.index.result.now c.self.view_is
     (sym c.in-Some.ensures) c.block_of-block.ensures unit.0 unit.1 (λ inside. get_or_read f.marks.items c.in-Some-unit_at.unit c.index.result.now inside c.index.ensures Inside) (ap is_unclaimed c.in-Claimed.is)
 
 pub returns-in-Inside-clause-refused : goal.returns-in-Inside-clause-refused
 returns-in-Inside-clause-refused g c = λ live.
     let f = c.self.inside in
     let unit = c.in-Some-unit_at.ensures.unit in
-    refused c.args.bytes.bytes.now f.marks.items f.unclaimed f.free f.queue.items f.taken c.args.self.now c.args.pointer (word_of c.args.tag) c.args.size c.in-Some.start c.block_of-block.result c.in-Some-unit_at.unit c.index.result.now c.self.view_is
+    refused c.args.bytes.bytes.now f.marks.items f.unclaimed f.free f.queue.items f.taken c.args.self.now c.args.pointer
+    (word_of c.args.tag) c.args.size c.in-Some.start c.block_of-block.result c.in-Some-unit_at.unit c.index.result.now c.self.view_is
     (sym c.in-Some.ensures) c.block_of-block.ensures unit.0 unit.1 (λ inside. get_or_read f.marks.items c.in-Some-unit_at.unit c.index.result.now inside c.index.ensures Inside)
     (⊎_elim (λ e. ap is_unclaimed e) (λ e. ap is_unclaimed e) c.in-Inside.is)

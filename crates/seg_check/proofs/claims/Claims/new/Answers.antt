@@ -1,4 +1,4 @@
-use Rattle.std.proofs.Common.{◌≡◌, ◌-◌, ◌/◌, ap, arith}
+use Rattle.std.proofs.Common.{◌/◌, ap, arith}
 use Rattle.seg_check.proofs.KnownLaws.{fresh}
 use Rattle.seg_check.proofs.claims.Claims.new.Goals as goal
 

@@ -1,0 +1,32 @@
+use Rattle.std.proofs.Common.{◌≡◌, ◌<◌, ◌^◌, [], None, refl, sym, ◌∙◌, arith}
+use Rattle.seg_spec.specs.Pointer.{target}
+use Rattle.seg_check.proofs.WalkSteady.{steady_enter, steady_pass, node_low}
+use Rattle.seg_check.proofs.walk.Walk.next.Goals as goal
+
+pub returns-then-enter-clause-steady : goal.returns-then-enter-clause-steady
+returns-then-enter-clause-steady g c = λ s.
+    let few : c.args.self.now.stage.nodes < 2 ^ 32 = omega (arith, s.counted) in
+    steady_enter c.args.self.now.w.now.bytes c.args.self.now.stage c.enter.new.self c.args.self.now.turns c.in-Some.node s (omega arith) (sym c.in-Some.ensures) (c.enter.ensures.pointer c.if-enter.true) (c.enter.ensures.entered c.if-enter.true) (c.enter.ensures.nodes few)
+    (c.enter.ensures.above c.if-enter.true s.above)
+
+pub returns-in-Some-pass-clause-steady : goal.returns-in-Some-pass-clause-steady
+returns-in-Some-pass-clause-steady g c = λ s.
+    let empty : target c.args.self.now.w.now.bytes c.args.self.now.stage.pointer ≡ None = sym c.target.ensures ∙ c.in_default.is in
+    steady_pass c.args.self.now.w.now.bytes c.args.self.now.stage c.pass.new.self c.args.self.now.turns c.in-Some-pass.node s (omega arith) empty c.in-Some-pass.ensures.left c.pass.ensures.nodes
+
+pub returns-in-Some-pass-clause-goes_on : goal.returns-in-Some-pass-clause-goes_on
+returns-in-Some-pass-clause-goes_on g c = λ s height rest.
+    let bytes = c.args.self.now.w.now.bytes in
+    let empty : target bytes c.args.self.now.stage.pointer ≡ None = sym c.target.ensures ∙ c.in_default.is in
+    let low = node_low bytes c.args.self.now.stage c.pass.new.self c.args.self.now.turns c.in-Some-pass.node s (omega arith) empty c.in-Some-pass.ensures.left in
+    (c.in-Some-pass.ensures.goes_on bytes height rest empty low, c.in-Some-pass.ensures.next bytes height rest empty low)
+
+pub returns-in-None-clause-goes_on : goal.returns-in-None-clause-goes_on
+returns-in-None-clause-goes_on g c = λ s.
+    let bytes = c.args.self.now.w.now.bytes in
+    let empty : target bytes c.args.self.now.stage.pointer ≡ None = sym c.target.ensures ∙ c.in_default.is in
+    let right = c.is_right.ensures.0 c.if-is_right.true in
+    let end = c.in-None.ensures.end bytes in (
+      (end c.args.self.now.stage.above.blacks [] empty).1 (record { rest_is = refl; height_is = refl; is_right = right.0; counted = right.1 }),
+      λ height rest k. ((end height rest empty).0 k).rest_is,
+    )

@@ -1,0 +1,117 @@
+-- A walk through a tree, from left to right.
+--     Fits height above tree                 a tree may hang at a place below so much
+--     Part, entered_of, after, unentered     the nodes above and to the left of the place, each with its right part
+--     Completes bytes height stage rest      a red-black tree goes on like this from the stage on, with the rest of its nodes
+--     Hangs bytes root wanted height nodes   a red-black tree of these nodes, so many as are wanted, hangs at a pointer
+--     IsAtEnd height old new rest            nothing is left, and all that was met is of such a tree
+--     IsSteady bytes stage turns             counts and positions of the walk don't wrap
+--     Proceeds bytes old new visit           a tree goes on from the new stage on as from the old one
+--     IsColourOf bytes node colour           this is the colour of a node, or it has none
+use Rattle.std.specs.Prelude.{◌≡◌, None, Some, ◌↔◌, ℕ, ◌+◌, ◌^◌, ◌<◌, ◌≤◌, ◌⊎◌, true, ⊤, List, [], ◌∷◌, ◌++◌, length, Option, MatchOption}
+use Rattle.std.specs.List.{AllByRecursion}
+use Rattle.seg_spec.specs.Pointer.{target}
+use Rattle.seg_spec.specs.Shapes as shapes
+use Rattle.seg_spec.specs.Shapes.{HasColour, Tree, nodes_of, IsTree, IsBlack, IsBalanced}
+use Rattle.seg_rbtree.specs.declared.node.Colour.{Colour}
+use Rattle.seg_rbtree.specs.Nodes.{shade}
+use Rattle.seg_check.specs.declared.walk.Above.{Above}
+use Rattle.seg_check.specs.declared.walk.Entered.{Entered}
+use Rattle.seg_check.specs.declared.walk.Stage.{Stage}
+use Rattle.seg_check.specs.declared.walk.Visit.{Visit}
+use Rattle.seg_check.specs.declared.walk.Visit.TheVariants.{Enter, Pass}
+
+-- this is the colour of a node, or its words are those of no colour
+abbrev pub IsColourOf : List ℕ → ℕ → Option Colour → Type 0
+IsColourOf bytes node colour = MatchOption colour
+    ((c : shapes.Colour) → HasColour bytes node c → ⊥) (λ c. HasColour bytes node (shade c))
+
+-- the tree may hang below so much, where each way down the whole tree meets so many black nodes
+pub record Fits (height : ℕ) (above : Above) (tree : Tree) : Type 0 where
+  pub blacks : ℕ
+  pub blacks_are : above.blacks + blacks ≡ height
+  pub balanced : IsBalanced tree blacks
+  pub below_red : above.is_red ≡ true → IsBlack tree
+
+-- a node to the left of the place and above it, with its right part
+pub record Part : Type 0 where
+  pub entered : Entered
+  pub right : Tree
+
+-- the nodes as the walk has them: the nearest last
+abbrev pub entered_of : List Part → List Entered
+entered_of [] = []
+entered_of (p ∷ ps) = entered_of ps ++ p.entered ∷ []
+
+-- what comes after the part at the place
+abbrev pub after : List Part → List ℕ
+after [] = []
+after (p ∷ ps) = p.entered.node ∷ (nodes_of p.right ++ after ps)
+
+-- how many nodes of it weren't entered
+abbrev pub unentered : List Part → ℕ
+unentered [] = 0
+unentered (p ∷ ps) = length (nodes_of p.right) + unentered ps
+
+-- each right part hangs at its pointer
+abbrev pub ArePartsOf : List ℕ → ℕ → List Part → Type 0
+ArePartsOf bytes height [] = ⊤
+ArePartsOf bytes height (p ∷ ps) =
+    IsTree bytes (target bytes (p.entered.node + 4)) p.right
+    × Fits height p.entered.above p.right × ArePartsOf bytes height ps
+
+-- trees hang at the place and at the right of the nodes that were entered, which make a red-black tree
+-- of the wanted number of nodes, and the rest of its nodes are these
+pub record Completes (bytes : List ℕ) (height : ℕ) (stage : Stage) (rest : List ℕ) : Type 0 where
+  pub is_right : stage.is_red_black ≡ true
+  pub height_is : MatchOption stage.height ⊤ (λ h. h ≡ height)
+  pub tree : Tree
+  pub is_tree : IsTree bytes (target bytes stage.pointer) tree
+  pub fits : Fits height stage.above tree
+  pub parts : List Part
+  pub parts_are : entered_of parts ≡ stage.entered.items
+  pub are_parts : ArePartsOf bytes height parts
+  pub rest_is : rest ≡ nodes_of tree ++ after parts
+  pub counted : stage.nodes + (length (nodes_of tree) + unentered parts) ≡ stage.wanted
+
+-- nothing is left at a stage, and after it all that was met is of such a tree
+pub record IsAtEnd (height : ℕ) (old new : Stage) (rest : List ℕ) : Type 0 where
+  pub rest_is : rest ≡ []
+  pub height_is : old.above.blacks ≡ height
+  pub is_right : new.is_red_black ≡ true
+  pub counted : new.nodes ≡ new.wanted
+
+-- few nodes are above a place
+pub record IsShallow (above : Above) : Type 0 where
+  pub few : above.nodes ≤ 60
+  pub blacks_few : above.blacks ≤ above.nodes
+
+-- counts and positions of a walk with so many turns to come don't wrap: no node was entered that reaches
+-- beyond all positions, or the walk is past the end of the bytes, where it finds nodes for ever
+pub record IsSteady (bytes : List ℕ) (stage : Stage) (turns : ℕ) : Type 0 where
+  pub above : IsShallow stage.above
+  pub entered : AllByRecursion (λ e. IsShallow e.above) stage.entered.items
+  pub low : AllByRecursion (λ e. e.node + 4 < 2 ^ 32) stage.entered.items
+      ⊎ ((length bytes ≤ stage.pointer) × (stage.pointer < 2 ^ 32))
+  pub counted : stage.nodes + turns < 2 ^ 32
+  pub small : length bytes ≤ 2 ^ 30
+
+-- what the walk comes to: a tree goes on from the new stage on as from the old one
+abbrev pub Proceeds : List ℕ → Stage → Stage → Option Visit → Type 0
+Proceeds bytes old new None =
+    Completes bytes old.above.blacks old []
+    × ((height : ℕ) (rest : List ℕ) → Completes bytes height old rest → rest ≡ [])
+Proceeds bytes old new (Some (Enter pointer)) =
+    (pointer ≡ old.pointer)
+    × ((height : ℕ) (rest : List ℕ) → Completes bytes height old rest ↔ Completes bytes height new rest)
+Proceeds bytes old new (Some (Pass node)) = (height : ℕ) (rest : List ℕ) →
+    (Completes bytes height old (node ∷ rest) ↔ Completes bytes height new rest)
+    × (Completes bytes height old rest → (more : List ℕ) × (rest ≡ node ∷ more))
+
+-- a red-black tree of these nodes, so many as are wanted, hangs at the pointer word at a root
+pub record Hangs (bytes : List ℕ) (root wanted height : ℕ) (nodes : List ℕ) : Type 0 where
+  pub tree : Tree
+  pub is_tree : IsTree bytes (target bytes root) tree
+  pub black : IsBlack tree
+  pub balanced : IsBalanced tree height
+  pub nodes_are : nodes_of tree ≡ nodes
+  pub counted : length nodes ≡ wanted
