@@ -1,5 +1,5 @@
-ghost use Rattle.std.specs.Prelude.{◌≡◌, ◌<◌, None, MatchOption, IsSomeAnd, Some, slice_get};
-ghost use Rattle.seg_spec.specs.Index.{Root, root_named};
+ghost use Rattle.std.specs.Prelude.{◌≡◌, ◌<◌, false, None, MatchOption, IsSomeAnd, Some, IfSome, IfNone, length, slice_get, is_ok};
+ghost use Rattle.seg_spec.specs.Index.{Root, IsName, root_named};
 ghost use Rattle.seg_spec.specs.Sound.{Picture};
 ghost use Rattle.seg_spec.specs.Window.{KeepsHost};
 ghost use Rattle.seg_index.specs.Lists.{IsNamed, entry_of, root_after};
@@ -40,7 +40,11 @@ struct Name<'a> {
 }
 
 impl<'a> Name<'a> {
-    fn of(bytes: &'a [u8]) -> Option<Name<'a>> {
+    fn of(bytes: &'a [u8]) -> Option<Name<'a>>
+        ensures name { IfSome result (λ name. IsName bytes.now × (name.bytes.now ≡ bytes.now)
+            × (name.len ≡ length bytes.now)) }
+        ensures none { IfNone result (IsName bytes.now → ⊥) }
+    {
         let len = u8::try_from(bytes.len()).ok()?;
         if (1..=MAX_NAME).contains(&len) && bytes.iter().all(|byte| byte.is_ascii_graphic()) {
             Some(Name { bytes, len })
@@ -160,6 +164,9 @@ impl<F: Fit, A: Allocator> Segment<F, A> {
     pub fn destroy(&mut self, name: &[u8], t: TypeId) -> bool
         ensures window { KeepsHost self.old.window self.new.window }
         ensures types { self.new.types ≡ self.old.types }
+        ensures tells { (picture : Picture) → IsSegment F.allocator self.old picture →
+            result ≡ is_ok (found_as t (root_named picture.names name.now)) }
+        ensures unchanged { result ≡ false → self.new ≡ self.old }
     {
         let Ok(occupied) = look_up(self.heap(), name) else {
             return false;
