@@ -1,9 +1,9 @@
-ghost use Rattle.std.specs.Prelude.{◌≡◌, ◌<◌, false, None, MatchOption, IsSomeAnd, Some, IfSome, IfNone, length, slice_get, is_ok};
+ghost use Rattle.std.specs.Prelude.{◌≡◌, ◌<◌, false, None, MatchOption, IsSomeAnd, Some, IfSome, IfNone, length, MatchResult, IsOkUnless, slice_get, is_ok};
 ghost use Rattle.seg_spec.specs.Index.{Root, IsName, root_named};
 ghost use Rattle.seg_spec.specs.Sound.{Picture};
 ghost use Rattle.seg_spec.specs.Window.{KeepsHost};
 ghost use Rattle.seg_index.specs.Lists.{IsNamed, entry_of, root_after};
-ghost use Rattle.seg_manager.specs.NamedObjects.{found_as, Says};
+ghost use Rattle.seg_manager.specs.NamedObjects.{found_as, Says, IsMissing, IsCount, RefusesName, FindsOrMakesNamed, RefusesToFind};
 ghost use Rattle.seg_manager.specs.Segments.{IsSegment};
 
 use crate::segment::Segment;
@@ -62,9 +62,16 @@ impl<F: Fit, A: Allocator> Segment<F, A> {
     pub fn construct(&mut self, name: &[u8], t: TypeId, count: u32) -> Result<u32, Code>
         ensures window { KeepsHost self.old.window self.new.window }
         ensures types { self.new.types ≡ self.old.types }
+        ensures tells { (picture : Picture) → IsSegment F.allocator self.old picture →
+            MatchResult result (λ _. IsMissing picture.names name.now × IsCount count)
+            (RefusesName self.old self.new picture.names name.now count) }
     {
-        let count = u16::try_from(count).map_err(|_| Code::OutOfRange)?;
-        let name = Name::of(name).ok_or(Code::OutOfRange)?;
+        let Ok(count) = u16::try_from(count) else {
+            return Err(Code::OutOfRange);
+        };
+        let Some(name) = Name::of(name) else {
+            return Err(Code::OutOfRange);
+        };
         if count == 0 {
             return Err(Code::OutOfRange);
         }
@@ -84,6 +91,7 @@ impl<F: Fit, A: Allocator> Segment<F, A> {
     ) -> Result<u32, Code>
         ensures window { KeepsHost self.old.window self.new.window }
         ensures types { self.new.types ≡ self.old.types }
+        ensures code { IsOkUnless result Code.BadAlloc }
     {
         let object = self.new_named(name, t, count)?;
         let entered = vacant.insert(self.heap_mut(), object, count, name.len);
@@ -97,6 +105,7 @@ impl<F: Fit, A: Allocator> Segment<F, A> {
     fn new_named(&mut self, name: Name, t: TypeId, count: u16) -> Result<u32, Code>
         ensures window { KeepsHost self.old.window self.new.window }
         ensures types { self.new.types ≡ self.old.types }
+        ensures code { IsOkUnless result Code.BadAlloc }
     {
         let size = self.types().size(t);
         let values = u32::from(count).saturating_mul(size);
@@ -150,11 +159,20 @@ impl<F: Fit, A: Allocator> Segment<F, A> {
     pub fn find_or_construct(&mut self, name: &[u8], t: TypeId) -> Result<u32, Code>
         ensures window { KeepsHost self.old.window self.new.window }
         ensures types { self.new.types ≡ self.old.types }
+        ensures tells { (picture : Picture) → IsSegment F.allocator self.old picture →
+            MatchResult result
+            (FindsOrMakesNamed self.old self.new picture.names name.now t)
+            (RefusesToFind self.old self.new picture.names name.now t) }
     {
         match look_up(self.heap(), name) {
-            Ok(occupied) => Ok(self.found(occupied.entry(), t)?.at),
+            Ok(occupied) => match self.found(occupied.entry(), t) {
+                Ok(found) => Ok(found.at),
+                Err(code) => Err(code),
+            },
             Err(vacant) => {
-                let name = Name::of(name).ok_or(Code::OutOfRange)?;
+                let Some(name) = Name::of(name) else {
+                    return Err(Code::OutOfRange);
+                };
                 self.construct_at(vacant, name, t, 1)
             }
         }

@@ -1,6 +1,5 @@
 use Rattle.std.proofs.Common.{ap, ◌∙◌, sym, is_ok}
 use Rattle.std.proofs.lemmas.Result.{MatchResult-at_ok, MatchResult-at_err}
-use Rattle.seg_spec.specs.Index.{root_named}
 use Rattle.seg_manager.specs.NamedObjects.{found_as}
 use Rattle.seg_manager.proofs.NamedReads.{finds_in, listed_named}
 use Rattle.seg_manager.proofs.segment.Segment.destroy.Goals as goal
