@@ -6,3 +6,4 @@ pub mod UniqueLaws
 pub mod UniqueWords
 pub mod UniqueObjects
 pub mod Answering
+pub mod NewNamed
