@@ -110,7 +110,9 @@ impl<F: Fit, A: Allocator> Segment<F, A> {
         let values = u32::from(count).saturating_mul(size);
         let units = need(values.saturating_add(u32::from(name.len)));
         let w = self.heap_mut().window_mut();
-        let block = F::allocate(w, units).ok_or(Code::BadAlloc)?;
+        let Some(block) = F::allocate(w, units) else {
+            return Err(Code::BadAlloc);
+        };
         let tag = Tag {
             kind: Kind::Named,
             type_id: t,

@@ -1,12 +1,11 @@
-use Rattle.std.proofs.Common.{◌≡◌, ℕ, ◌<◌, ◌≤◌, [], length, ap, ◌∙◌, sym, subst, rules, arith}
+use Rattle.std.proofs.Common.{◌<◌, [], length, ap, ◌∙◌, subst, rules, arith}
 use Rattle.seg_spec.specs.Bytes.{ChangesOnly}
 use Rattle.seg_spec.specs.Cells.{IsWithin}
 use Rattle.seg_spec.specs.Types.{size}
 use Rattle.seg_spec.specs.Value.{default_of}
 use Rattle.seg_spec.specs.Reads.{Holds}
-use Rattle.seg_spec.specs.Window.{with_bytes}
 use Rattle.seg_value.specs.Stored.{Stored}
-use Rattle.seg_manager.proofs.NewNamed.{filled_first, filled_next, filled_all}
+use Rattle.seg_manager.proofs.NewNamed.{filled_next, filled_all}
 use Rattle.seg_manager.proofs.segment.Segment.init_values.Goals as goal
 
 pub loop-index-preserved : goal.loop-index-preserved

@@ -1,4 +1,4 @@
-use Rattle.std.proofs.Common.{◌≡◌, ◌≤◌}
+use Rattle.std.proofs.Common.{◌≡◌}
 use Rattle.seg_spec.specs.Window.{with_bytes}
 use Rattle.seg_manager.specs.NewNamed.{HasValuesRoom}
 use Rattle.seg_manager.proofs.NewNamed.{Filled}
