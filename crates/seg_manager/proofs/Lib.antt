@@ -8,3 +8,4 @@ pub mod UniqueObjects
 pub mod Answering
 pub mod NamedReads
 pub mod NamedMaking
+pub mod NewNamed

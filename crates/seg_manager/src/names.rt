@@ -1,10 +1,17 @@
-ghost use Rattle.std.specs.Prelude.{◌≡◌, ◌<◌, false, None, MatchOption, IsSomeAnd, Some, IfSome, IfNone, length, MatchResult, IsOkUnless, slice_get, is_ok};
+ghost use Rattle.std.specs.Prelude.{◌≡◌, ◌+◌, ◌*◌, ◌%◌, ◌^◌, ◌<◌, ◌≤◌, false, [], length, None, Some, MatchOption, IsSomeAnd, IfSome, IfNone, MatchResult, IsOkUnless, slice_get, is_ok};
+ghost use Rattle.seg_spec.specs.Bytes.{ChangesOnly};
+ghost use Rattle.seg_spec.specs.Calls.{Refuses};
+ghost use Rattle.seg_spec.specs.Heap.{IsHeap};
 ghost use Rattle.seg_spec.specs.Index.{Root, IsName, root_named};
+ghost use Rattle.seg_spec.specs.Reads.{items, HoldsEach};
 ghost use Rattle.seg_spec.specs.Sound.{Picture};
+ghost use Rattle.seg_spec.specs.Types.{IsTable, size};
+ghost use Rattle.seg_spec.specs.Value.{copies, default_of};
 ghost use Rattle.seg_spec.specs.Window.{KeepsHost};
 ghost use Rattle.seg_index.specs.Lists.{IsNamed, entry_of, root_after};
 ghost use Rattle.seg_manager.specs.NamedObjects.{found_as, Says, IsMissing, IsCount, RefusesName, FindsOrMakesNamed, RefusesToFind};
-ghost use Rattle.seg_manager.specs.Segments.{IsSegment};
+ghost use Rattle.seg_manager.specs.NewNamed.{HasValuesRoom, GivesNamed, root_asks};
+ghost use Rattle.seg_manager.specs.Segments.{IsSegment, new_root};
 
 use crate::segment::Segment;
 use seg_block::{Fit, Kind, Tag, UNIT, need};
@@ -106,12 +113,22 @@ impl<F: Fit, A: Allocator> Segment<F, A> {
         ensures window { KeepsHost self.old.window self.new.window }
         ensures types { self.new.types ≡ self.old.types }
         ensures code { IsOkUnless result Code.BadAlloc }
+        ensures gives { IsHeap F.allocator self.old.window.bytes → IsTable self.old.types →
+            t < length self.old.types → name.entry.len ≡ length name.entry.bytes.now →
+            1 ≤ name.entry.len →
+            MatchResult result
+            (λ object. GivesNamed F.allocator self.old.window.bytes self.new.window.bytes
+            self.old.types (new_root self.old.types name.entry.bytes.now t count object))
+            (λ code. Refuses F.allocator self.old.window.bytes self.new.window.bytes
+            (root_asks self.old.types (new_root self.old.types name.entry.bytes.now t count 0))) }
     {
         let size = self.types().size(t);
         let values = u32::from(count).saturating_mul(size);
         let units = need(values.saturating_add(u32::from(name.len)));
         let w = self.heap_mut().window_mut();
-        let block = F::allocate(w, units).ok_or(Code::BadAlloc)?;
+        let Some(block) = F::allocate(w, units) else {
+            return Err(Code::BadAlloc);
+        };
         let tag = Tag {
             kind: Kind::Named,
             type_id: t,
@@ -119,11 +136,26 @@ impl<F: Fit, A: Allocator> Segment<F, A> {
         tag.write(w, block);
         let object = block.wrapping_add(UNIT);
         w.copy_in(object as usize + values as usize, name.bytes);
+        self.init_values(object, t, count);
+        Ok(object)
+    }
+
+    /// Makes `count` values from a position on the default of a type.
+    fn init_values(&mut self, object: u32, t: TypeId, count: u16)
+        ensures window { KeepsHost self.old.window self.new.window }
+        ensures types { self.new.types ≡ self.old.types }
+        ensures changes { HasValuesRoom self.old.window.bytes self.old.types object t count →
+            ChangesOnly self.old.window.bytes self.new.window.bytes object
+            (count * size self.old.types t) }
+        ensures default { HasValuesRoom self.old.window.bytes self.old.types object t count →
+            HoldsEach self.new.window.bytes self.old.types (items self.old.types object t count)
+            (copies count (default_of self.old.types t)) [] }
+    {
+        let size = self.types().size(t);
         for index in 0..count {
             let value = value_of(object, t, size, index);
             self.heap_mut().init_default(value);
         }
-        Ok(object)
     }
 
     /// The object of a name. `Absent` where there is none, `OtherType` where it has another type.
@@ -250,7 +282,10 @@ impl<F: Fit, A: Allocator> Segment<F, A> {
 }
 
 /// A value of an object, by its index. Each has `size` bytes.
-fn value_of(object: u32, type_id: TypeId, size: u32, index: u16) -> Place {
+fn value_of(object: u32, type_id: TypeId, size: u32, index: u16) -> Place
+    ensures at { result.at ≡ (object + index * size) % 2 ^ 32 }
+    ensures type_id { result.type_id ≡ type_id }
+{
     Place {
         at: object.wrapping_add(u32::from(index).wrapping_mul(size)),
         type_id,
