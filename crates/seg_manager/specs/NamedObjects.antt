@@ -1,6 +1,6 @@
 -- Named objects of a segment.
---     found_of root            where the first value of a root is, and how many it has
---     found_as T root          what a search for an object of a type returns, by the root of its name
+--     found_of root            where the first value of a root is, and how many
+--     found_as T root          what a search for an object of a type returns, by its name's root
 --     Says name T n root       the name of a root, its type, and how many values it has
 --     IsMissing names name     the name is one, and no root has it
 --     IsCount n                so many values an object may have
