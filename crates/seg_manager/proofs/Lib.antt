@@ -7,3 +7,4 @@ pub mod UniqueWords
 pub mod UniqueObjects
 pub mod Answering
 pub mod NewNamed
+pub mod NamedEnters

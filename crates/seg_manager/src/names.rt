@@ -1,13 +1,16 @@
-ghost use Rattle.std.specs.Prelude.{◌≡◌, ◌+◌, ◌*◌, ◌%◌, ◌^◌, ◌<◌, ◌≤◌, [], length, IsOkUnless, MatchResult};
+ghost use Rattle.std.specs.Prelude.{◌≡◌, ◌+◌, ◌*◌, ◌%◌, ◌^◌, ◌<◌, ◌≤◌, [], length, IfOk, IsOkUnless, MatchResult};
 ghost use Rattle.seg_spec.specs.Bytes.{ChangesOnly};
 ghost use Rattle.seg_spec.specs.Calls.{Refuses};
 ghost use Rattle.seg_spec.specs.Heap.{IsHeap};
+ghost use Rattle.seg_spec.specs.Index.{IsName};
 ghost use Rattle.seg_spec.specs.Reads.{items, HoldsEach};
+ghost use Rattle.seg_spec.specs.Sound.{Picture};
 ghost use Rattle.seg_spec.specs.Types.{IsTable, size};
 ghost use Rattle.seg_spec.specs.Value.{copies, default_of};
 ghost use Rattle.seg_spec.specs.Window.{KeepsHost};
-ghost use Rattle.seg_manager.specs.NewNamed.{HasValuesRoom, GivesNamed, root_asks};
-ghost use Rattle.seg_manager.specs.Segments.{new_root};
+ghost use Rattle.seg_index.specs.Lists.{IsVacant};
+ghost use Rattle.seg_manager.specs.NewNamed.{HasValuesRoom, GivesNamed, MakesNamed, root_asks};
+ghost use Rattle.seg_manager.specs.Segments.{IsSegment, new_root};
 
 use crate::segment::Segment;
 use seg_block::{Fit, Kind, Tag, UNIT, need};
@@ -83,13 +86,21 @@ impl<F: Fit, A: Allocator> Segment<F, A> {
     ) -> Result<u32, Code>
         ensures window { KeepsHost self.old.window self.new.window }
         ensures types { self.new.types ≡ self.old.types }
+        ensures makes { (picture : Picture) → (s : IsSegment F.allocator self.old picture) →
+            t < length self.old.types → IsName name.entry.bytes.now →
+            name.entry.len ≡ length name.entry.bytes.now → 1 ≤ count →
+            IsVacant self.old.window.bytes self.old.types picture.names name.entry.bytes.now vacant →
+            IfOk result (MakesNamed F.allocator self.old self.new picture s.held.index_blocks
+            name.entry.bytes.now t count) }
     {
         let object = self.new_named(name, t, count)?;
-        let entered = vacant.insert(self.heap_mut(), object, count, name.len);
-        if entered.is_err() {
-            self.heap_mut().free_block(object);
+        match vacant.insert(self.heap_mut(), object, count, name.len) {
+            Ok(()) => Ok(object),
+            Err(code) => {
+                self.heap_mut().free_block(object);
+                Err(code)
+            }
         }
-        entered.map(|()| object)
     }
 
     /// A block for the object of a name, with default values and the name after them.
