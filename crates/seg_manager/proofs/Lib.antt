@@ -9,3 +9,4 @@ pub mod Answering
 pub mod NamedReads
 pub mod NamedMaking
 pub mod NewNamed
+pub mod NamedEnters

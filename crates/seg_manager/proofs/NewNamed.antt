@@ -79,7 +79,7 @@ pub count-copies : (n : ℕ) (v : Value) → count (copies n v) ≡ n
 count-copies zero v = refl
 count-copies (suc n) v = ap suc (count-copies n v)
 
-named_kind : (name : List ℕ) → 1 ≤ length name → kind_by_name name ≡ Kind.named
+pub named_kind : (name : List ℕ) → 1 ≤ length name → kind_by_name name ≡ Kind.named
 named_kind [] some = absurd (omega arith)
 named_kind (b ∷ name) some = refl
 

@@ -3,7 +3,8 @@
 --     GivesNamed allocator old new table root
 --                                            the block of a new object with its name; all other live
 --                                            blocks are kept
-use Rattle.std.specs.Prelude.{◌≡◌, ℕ, ◌+◌, ◌*◌, ◌<◌, ◌≤◌, List, [], ◌∷◌, length, Some, None}
+--     MakesNamed ..                          the segment holds a new named object
+use Rattle.std.specs.Prelude.{◌≡◌, ℕ, ◌+◌, ◌*◌, ◌<◌, ◌≤◌, List, [], ◌∷◌, ◌++◌, length, Some, None}
 use Rattle.seg_spec.specs.Header.{KeepsFront, KeepsBack}
 use Rattle.seg_spec.specs.Types.{Table, IsTable, size}
 use Rattle.seg_spec.specs.Value.{count}
@@ -11,8 +12,11 @@ use Rattle.seg_spec.specs.Heap.{IsHeap, live, link_at}
 use Rattle.seg_spec.specs.Block.{block_of, KeepsBlock}
 use Rattle.seg_spec.specs.Cells.{IsWithin}
 use Rattle.seg_spec.specs.Index.{Root}
-use Rattle.seg_spec.specs.Sound.{HoldsRoot, times, positions}
+use Rattle.seg_spec.specs.Sound.{Picture, HoldsRoot, times, positions}
+use Rattle.seg_spec.specs.Roots.{Listed, with_roots}
 use Rattle.seg_spec.specs.Demand.{Ask, block_for, after_asks}
+use Rattle.seg_value.specs.Stored.{Stored}
+use Rattle.seg_manager.specs.Segments.{Becomes, new_root}
 
 -- n values of a type of the table lie in the segment, from a position on
 pub record HasValuesRoom (bytes : List ℕ) (table : Table) (at T n : ℕ) : Type 0 where
@@ -38,3 +42,14 @@ pub record GivesNamed (allocator : ℕ) (old new : List ℕ) (table : Table) (ro
   pub now_live : times (block_of root.at) (positions (live new)) ≡ 1
   pub kept : (h : ℕ) → 1 ≤ times h (positions (live old)) →
       KeepsBlock old new h × (link_at new h ≡ link_at old h)
+
+-- the segment holds a new named object of n default values at this position, among the others in
+-- order; each live block that isn't the index's is kept
+pub record MakesNamed (allocator : ℕ) (old new : Stored) (picture : Picture)
+    (index_blocks name : List ℕ) (T n at : ℕ) : Type 0 where
+  pub before : List Root
+  pub after : List Root
+  pub names_are : picture.names ≡ before ++ after
+  pub becomes : Becomes allocator old new
+      (with_roots picture Listed.by_name (before ++ new_root old.types name T n at ∷ after))
+      index_blocks

@@ -1,4 +1,4 @@
-ghost use Rattle.std.specs.Prelude.{◌≡◌, ◌+◌, ◌*◌, ◌%◌, ◌^◌, ◌<◌, ◌≤◌, false, [], length, None, Some, MatchOption, IsSomeAnd, IfSome, IfNone, MatchResult, IsOkUnless, slice_get, is_ok};
+ghost use Rattle.std.specs.Prelude.{◌≡◌, ◌+◌, ◌*◌, ◌%◌, ◌^◌, ◌<◌, ◌≤◌, false, [], length, None, Some, MatchOption, IsSomeAnd, IfOk, IfSome, IfNone, MatchResult, IsOkUnless, slice_get, is_ok};
 ghost use Rattle.seg_spec.specs.Bytes.{ChangesOnly};
 ghost use Rattle.seg_spec.specs.Calls.{Refuses};
 ghost use Rattle.seg_spec.specs.Heap.{IsHeap};
@@ -8,9 +8,9 @@ ghost use Rattle.seg_spec.specs.Sound.{Picture};
 ghost use Rattle.seg_spec.specs.Types.{IsTable, size};
 ghost use Rattle.seg_spec.specs.Value.{copies, default_of};
 ghost use Rattle.seg_spec.specs.Window.{KeepsHost};
-ghost use Rattle.seg_index.specs.Lists.{IsNamed, entry_of, root_after};
+ghost use Rattle.seg_index.specs.Lists.{IsNamed, IsVacant, entry_of, root_after};
 ghost use Rattle.seg_manager.specs.NamedObjects.{found_as, Says, IsMissing, IsCount, RefusesName, FindsOrMakesNamed, RefusesToFind};
-ghost use Rattle.seg_manager.specs.NewNamed.{HasValuesRoom, GivesNamed, root_asks};
+ghost use Rattle.seg_manager.specs.NewNamed.{HasValuesRoom, GivesNamed, MakesNamed, root_asks};
 ghost use Rattle.seg_manager.specs.Segments.{IsSegment, new_root};
 
 use crate::segment::Segment;
@@ -72,6 +72,10 @@ impl<F: Fit, A: Allocator> Segment<F, A> {
         ensures tells { (picture : Picture) → IsSegment F.allocator self.old picture →
             MatchResult result (λ _. IsMissing picture.names name.now × IsCount count)
             (RefusesName self.old self.new picture.names name.now count) }
+        ensures makes { (picture : Picture) → (s : IsSegment F.allocator self.old picture) →
+            t < length self.old.types →
+            IfOk result (MakesNamed F.allocator self.old self.new picture s.held.index_blocks
+            name.now t count) }
     {
         let Ok(count) = u16::try_from(count) else {
             return Err(Code::OutOfRange);
@@ -99,13 +103,21 @@ impl<F: Fit, A: Allocator> Segment<F, A> {
         ensures window { KeepsHost self.old.window self.new.window }
         ensures types { self.new.types ≡ self.old.types }
         ensures code { IsOkUnless result Code.BadAlloc }
+        ensures makes { (picture : Picture) → (s : IsSegment F.allocator self.old picture) →
+            t < length self.old.types → IsName name.entry.bytes.now →
+            name.entry.len ≡ length name.entry.bytes.now → 1 ≤ count →
+            IsVacant self.old.window.bytes self.old.types picture.names name.entry.bytes.now vacant →
+            IfOk result (MakesNamed F.allocator self.old self.new picture s.held.index_blocks
+            name.entry.bytes.now t count) }
     {
         let object = self.new_named(name, t, count)?;
-        let entered = vacant.insert(self.heap_mut(), object, count, name.len);
-        if entered.is_err() {
-            self.heap_mut().free_block(object);
+        match vacant.insert(self.heap_mut(), object, count, name.len) {
+            Ok(()) => Ok(object),
+            Err(code) => {
+                self.heap_mut().free_block(object);
+                Err(code)
+            }
         }
-        entered.map(|()| object)
     }
 
     /// A block for the object of a name, with default values and the name after them.
