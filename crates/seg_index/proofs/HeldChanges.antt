@@ -2,7 +2,7 @@
 --     laid_out_named      an image whose index lists other names is laid out for these
 --     held_entered        an object beside the image, entered in the index, is one of the image's
 --     held_left           where an object's entry and all its blocks went, the image holds the others
-use Rattle.std.proofs.Common.{◌≡◌, ℕ, ◌+◌, ◌≤◌, List, [], ◌∷◌, ◌++◌, length, refl, ap, ◌∙◌, append_assoc, arith}
+use Rattle.std.proofs.Common.{◌≡◌, ℕ, ◌+◌, ◌≤◌, List, [], ◌∷◌, ◌++◌, length, refl, sym, ap, ◌∙◌, subst, append_assoc, arith}
 use Rattle.std.specs.List.{AllByRecursion}
 use Rattle.seg_spec.specs.Bytes.{word}
 use Rattle.seg_spec.specs.Header.{allocator_word, index_kind_word, version_word, units_word, back_start, reserved, reserved_size, types_start, types_size, uniques_start, uniques_size, KeepsFront, KeepsBack}
@@ -60,9 +60,9 @@ no_blocks bytes table _ holds_no_root = refl
 
 -- ---- an object comes
 
-module _ (old mid new : List ℕ) (picture : Picture) (held : IsHeld old picture) (root : Root) (its : List ℕ) (length_kept : length mid ≡ length old) (front : KeepsFront old mid) (back : KeepsBack old mid)
+module _ (allocator : ℕ) (old mid new : List ℕ) (picture : Picture) (held : IsHeld old picture) (allocator_is : word old allocator_word ≡ allocator) (root : Root) (its : List ℕ) (length_kept : length mid ≡ length old) (front : KeepsFront old mid) (back : KeepsBack old mid)
     (kept : (h : ℕ) → 1 ≤ times h (positions (live old)) → KeepsBlock old mid h) (holds : HoldsRoot mid picture.table root its) (counts : (h : ℕ) → times h (positions (live mid)) ≡ times h its + times h (positions (live old)))
-    (f : FindsNamesOf (word old allocator_word) mid picture.table picture.names held.index_blocks) (e : EntersName (word old allocator_word) mid new picture.table picture.names held.index_blocks root) where
+    (f : FindsNamesOf allocator mid picture.table picture.names held.index_blocks) (e : EntersName allocator mid new picture.table picture.names held.index_blocks root) where
   abbrev rest : List Root
   rest = picture.uniques ++ picture.loose
 
@@ -77,11 +77,11 @@ module _ (old mid new : List ℕ) (picture : Picture) (held : IsHeld old picture
       omega arith
 
   mid_once : (h : ℕ) → times h (positions (live mid)) ≤ 1
-  mid_once h = live-once mid (word old allocator_word) f.heap h
+  mid_once h = live-once mid allocator f.heap h
 
   laid_out : IsLaidOut new (with_names picture (e.before ++ root ∷ e.after)) e.others
   laid_out = laid_out_named mid new picture held.index_blocks e.left (e.before ++ root ∷ e.after) e.others
-      (IsLaidOut-kept old mid picture held.index_blocks held.laid_out length_kept front back f.heap f.ownable (each_there (KeepsBlock old mid) held.index_blocks (λ h some. kept h (let o = owned h in omega arith)))) e.changes
+      (IsLaidOut-kept old mid picture held.index_blocks held.laid_out length_kept front back (subst (λ a. IsHeap a mid) (sym allocator_is) f.heap) f.ownable (each_there (KeepsBlock old mid) held.index_blocks (λ h some. kept h (let o = owned h in omega arith)))) e.changes
 
   others_kept : AllByRecursion (KeepsBlock old new) (apart.left ++ apart.right)
   others_kept = each_there (KeepsBlock old new) (apart.left ++ apart.right) (λ h some.

@@ -14,3 +14,6 @@ pub mod TypesAdded
 pub mod Creating
 pub mod ZeroedGaps
 pub mod Resizing
+pub mod NamedMaking
+pub mod NewNamed
+pub mod NamedEnters

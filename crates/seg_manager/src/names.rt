@@ -1,10 +1,17 @@
-ghost use Rattle.std.specs.Prelude.{◌≡◌, ◌<◌, None, MatchOption, IsSomeAnd, Some, slice_get, length};
-ghost use Rattle.seg_spec.specs.Index.{Root, root_named};
+ghost use Rattle.std.specs.Prelude.{◌≡◌, ◌+◌, ◌*◌, ◌%◌, ◌^◌, ◌<◌, ◌≤◌, false, [], length, None, Some, MatchOption, IsSomeAnd, IfOk, IfSome, IfNone, MatchResult, IsOkUnless, slice_get, is_ok};
+ghost use Rattle.seg_spec.specs.Bytes.{ChangesOnly};
+ghost use Rattle.seg_spec.specs.Calls.{Refuses};
+ghost use Rattle.seg_spec.specs.Heap.{IsHeap};
+ghost use Rattle.seg_spec.specs.Index.{Root, IsName, root_named};
+ghost use Rattle.seg_spec.specs.Reads.{items, HoldsEach};
 ghost use Rattle.seg_spec.specs.Sound.{Picture};
+ghost use Rattle.seg_spec.specs.Types.{IsTable, size};
+ghost use Rattle.seg_spec.specs.Value.{copies, default_of};
 ghost use Rattle.seg_spec.specs.Window.{KeepsHost};
-ghost use Rattle.seg_index.specs.Lists.{IsNamed, entry_of, root_after};
-ghost use Rattle.seg_manager.specs.NamedObjects.{found_as, Says};
-ghost use Rattle.seg_manager.specs.Segments.{IsSegment};
+ghost use Rattle.seg_index.specs.Lists.{IsNamed, IsVacant, entry_of, root_after};
+ghost use Rattle.seg_manager.specs.NamedObjects.{found_as, Says, IsMissing, IsCount, RefusesName, FindsOrMakesNamed, RefusesToFind};
+ghost use Rattle.seg_manager.specs.NewNamed.{HasValuesRoom, GivesNamed, MakesNamed, root_asks};
+ghost use Rattle.seg_manager.specs.Segments.{IsSegment, new_root};
 
 use crate::segment::Segment;
 use seg_block::{Fit, Kind, Tag, UNIT, need};
@@ -40,7 +47,11 @@ struct Name<'a> {
 }
 
 impl<'a> Name<'a> {
-    fn of(bytes: &'a [u8]) -> Option<Name<'a>> {
+    fn of(bytes: &'a [u8]) -> Option<Name<'a>>
+        ensures name { IfSome result (λ name. IsName bytes.now × (name.bytes.now ≡ bytes.now)
+            × (name.len ≡ length bytes.now)) }
+        ensures none { IfNone result (IsName bytes.now → ⊥) }
+    {
         let len = u8::try_from(bytes.len()).ok()?;
         if (1..=MAX_NAME).contains(&len) && bytes.iter().all(|byte| byte.is_ascii_graphic()) {
             Some(Name { bytes, len })
@@ -58,9 +69,20 @@ impl<F: Fit, A: Allocator> Segment<F, A> {
     pub fn construct(&mut self, name: &[u8], t: TypeId, count: u32) -> Result<u32, Code>
         ensures window { KeepsHost self.old.window self.new.window }
         ensures types { self.new.types ≡ self.old.types }
+        ensures tells { (picture : Picture) → IsSegment F.allocator self.old picture →
+            MatchResult result (λ _. IsMissing picture.names name.now × IsCount count)
+            (RefusesName self.old self.new picture.names name.now count) }
+        ensures makes { (picture : Picture) → (s : IsSegment F.allocator self.old picture) →
+            t < length self.old.types →
+            IfOk result (MakesNamed F.allocator self.old self.new picture s.held.index_blocks
+            name.now t count) }
     {
-        let count = u16::try_from(count).map_err(|_| Code::OutOfRange)?;
-        let name = Name::of(name).ok_or(Code::OutOfRange)?;
+        let Ok(count) = u16::try_from(count) else {
+            return Err(Code::OutOfRange);
+        };
+        let Some(name) = Name::of(name) else {
+            return Err(Code::OutOfRange);
+        };
         if count == 0 {
             return Err(Code::OutOfRange);
         }
@@ -80,25 +102,45 @@ impl<F: Fit, A: Allocator> Segment<F, A> {
     ) -> Result<u32, Code>
         ensures window { KeepsHost self.old.window self.new.window }
         ensures types { self.new.types ≡ self.old.types }
+        ensures code { IsOkUnless result Code.BadAlloc }
+        ensures makes { (picture : Picture) → (s : IsSegment F.allocator self.old picture) →
+            t < length self.old.types → IsName name.entry.bytes.now →
+            name.entry.len ≡ length name.entry.bytes.now → 1 ≤ count →
+            IsVacant self.old.window.bytes self.old.types picture.names name.entry.bytes.now vacant →
+            IfOk result (MakesNamed F.allocator self.old self.new picture s.held.index_blocks
+            name.entry.bytes.now t count) }
     {
         let object = self.new_named(name, t, count)?;
-        let entered = vacant.insert(self.heap_mut(), object, count, name.len);
-        if entered.is_err() {
-            self.heap_mut().free_block(object);
+        match vacant.insert(self.heap_mut(), object, count, name.len) {
+            Ok(()) => Ok(object),
+            Err(code) => {
+                self.heap_mut().free_block(object);
+                Err(code)
+            }
         }
-        entered.map(|()| object)
     }
 
     /// A block for the object of a name, with default values and the name after them.
     fn new_named(&mut self, name: Name, t: TypeId, count: u16) -> Result<u32, Code>
         ensures window { KeepsHost self.old.window self.new.window }
         ensures types { self.new.types ≡ self.old.types }
+        ensures code { IsOkUnless result Code.BadAlloc }
+        ensures gives { IsHeap F.allocator self.old.window.bytes → IsTable self.old.types →
+            t < length self.old.types → name.entry.len ≡ length name.entry.bytes.now →
+            1 ≤ name.entry.len →
+            MatchResult result
+            (λ object. GivesNamed F.allocator self.old.window.bytes self.new.window.bytes
+            self.old.types (new_root self.old.types name.entry.bytes.now t count object))
+            (λ code. Refuses F.allocator self.old.window.bytes self.new.window.bytes
+            (root_asks self.old.types (new_root self.old.types name.entry.bytes.now t count 0))) }
     {
         let size = self.types().size(t);
         let values = u32::from(count).saturating_mul(size);
         let units = need(values.saturating_add(u32::from(name.len)));
         let w = self.heap_mut().window_mut();
-        let block = F::allocate(w, units).ok_or(Code::BadAlloc)?;
+        let Some(block) = F::allocate(w, units) else {
+            return Err(Code::BadAlloc);
+        };
         let tag = Tag {
             kind: Kind::Named,
             type_id: t,
@@ -106,11 +148,26 @@ impl<F: Fit, A: Allocator> Segment<F, A> {
         tag.write(w, block);
         let object = block.wrapping_add(UNIT);
         w.copy_in(object as usize + values as usize, name.bytes);
+        self.init_values(object, t, count);
+        Ok(object)
+    }
+
+    /// Makes `count` values from a position on the default of a type.
+    fn init_values(&mut self, object: u32, t: TypeId, count: u16)
+        ensures window { KeepsHost self.old.window self.new.window }
+        ensures types { self.new.types ≡ self.old.types }
+        ensures changes { HasValuesRoom self.old.window.bytes self.old.types object t count →
+            ChangesOnly self.old.window.bytes self.new.window.bytes object
+            (count * size self.old.types t) }
+        ensures default { HasValuesRoom self.old.window.bytes self.old.types object t count →
+            HoldsEach self.new.window.bytes self.old.types (items self.old.types object t count)
+            (copies count (default_of self.old.types t)) [] }
+    {
+        let size = self.types().size(t);
         for index in 0..count {
             let value = value_of(object, t, size, index);
             self.heap_mut().init_default(value);
         }
-        Ok(object)
     }
 
     /// The object of a name. `Absent` where there is none, `OtherType` where it has another type.
@@ -146,11 +203,20 @@ impl<F: Fit, A: Allocator> Segment<F, A> {
     pub fn find_or_construct(&mut self, name: &[u8], t: TypeId) -> Result<u32, Code>
         ensures window { KeepsHost self.old.window self.new.window }
         ensures types { self.new.types ≡ self.old.types }
+        ensures tells { (picture : Picture) → IsSegment F.allocator self.old picture →
+            MatchResult result
+            (FindsOrMakesNamed self.old self.new picture.names name.now t)
+            (RefusesToFind self.old self.new picture.names name.now t) }
     {
         match look_up(self.heap(), name) {
-            Ok(occupied) => Ok(self.found(occupied.entry(), t)?.at),
+            Ok(occupied) => match self.found(occupied.entry(), t) {
+                Ok(found) => Ok(found.at),
+                Err(code) => Err(code),
+            },
             Err(vacant) => {
-                let name = Name::of(name).ok_or(Code::OutOfRange)?;
+                let Some(name) = Name::of(name) else {
+                    return Err(Code::OutOfRange);
+                };
                 self.construct_at(vacant, name, t, 1)
             }
         }
@@ -160,6 +226,9 @@ impl<F: Fit, A: Allocator> Segment<F, A> {
     pub fn destroy(&mut self, name: &[u8], t: TypeId) -> bool
         ensures window { KeepsHost self.old.window self.new.window }
         ensures types { self.new.types ≡ self.old.types }
+        ensures tells { (picture : Picture) → IsSegment F.allocator self.old picture →
+            result ≡ is_ok (found_as t (root_named picture.names name.now)) }
+        ensures unchanged { result ≡ false → self.new ≡ self.old }
     {
         let Ok(occupied) = look_up(self.heap(), name) else {
             return false;
@@ -228,7 +297,10 @@ impl<F: Fit, A: Allocator> Segment<F, A> {
 }
 
 /// A value of an object, by its index. Each has `size` bytes.
-fn value_of(object: u32, type_id: TypeId, size: u32, index: u16) -> Place {
+fn value_of(object: u32, type_id: TypeId, size: u32, index: u16) -> Place
+    ensures at { result.at ≡ (object + index * size) % 2 ^ 32 }
+    ensures type_id { result.type_id ≡ type_id }
+{
     Place {
         at: object.wrapping_add(u32::from(index).wrapping_mul(size)),
         type_id,

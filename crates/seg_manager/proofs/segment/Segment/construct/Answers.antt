@@ -1,0 +1,23 @@
+use Rattle.std.proofs.Common.{◌≤◌, ap, ◌∙◌, sym, refl, arith}
+use Rattle.std.proofs.lemmas.Result.{MatchResult-at_ok, MatchResult-at_err}
+use Rattle.seg_spec.specs.Index.{root_named}
+use Rattle.seg_manager.proofs.NamedReads.{finds_in}
+use Rattle.seg_manager.proofs.NamedMaking.{is_there, made_named}
+use Rattle.seg_manager.proofs.segment.Segment.construct.Goals as goal
+
+pub returns-in-Ok-look_up-clause-tells : goal.returns-in-Ok-look_up-clause-tells
+returns-in-Ok-look_up-clause-tells g c = λ picture is.
+    let name = c.in-Some.ensures.name in
+    let it = MatchResult-at_ok _ _ _ c.in-Ok-look_up.is (c.look_up.ensures picture.names is.held.index_blocks (finds_in g.F.Fit.allocator c.args.self.now picture is c.heap.result.now c.heap.ensures)) in
+    let some : 1 ≤ c.args.count = omega (arith, c.in-Ok.ensures.1, c.if-count-eq0.false) in
+    let few : c.args.count ≤ 65535 = omega (arith, c.in-Ok.ensures.0) in
+    (name.0, (some, few), is_there (root_named picture.names c.args.name.now) it.0 (ap (root_named picture.names) (sym name.1) ∙ it.1.found), refl)
+
+pub returns-in-Err-clause-tells : goal.returns-in-Err-clause-tells
+returns-in-Err-clause-tells g c = λ picture is.
+    let name = c.in-Some.ensures.name in
+    let vacant = MatchResult-at_err _ _ _ c.in-Err.is (c.look_up.ensures picture.names is.held.index_blocks (finds_in g.F.Fit.allocator c.args.self.now picture is c.heap.result.now c.heap.ensures)) in
+    let some : 1 ≤ c.args.count = omega (arith, c.in-Ok.ensures.1, c.if-count-eq0.false) in
+    let few : c.args.count ≤ 65535 = omega (arith, c.in-Ok.ensures.0) in
+    made_named c.construct_at.result c.args.self.now c.construct_at.new.self picture.names c.args.name.now c.args.count c.construct_at.ensures.code
+    (name.0, ap (root_named picture.names) (sym name.1) ∙ vacant.missing) (some, few)

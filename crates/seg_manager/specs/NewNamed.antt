@@ -1,0 +1,55 @@
+-- A new named object, before the index lists it.
+--     HasValuesRoom bytes table at T n       n values of a type from a position on lie in the segment
+--     GivesNamed allocator old new table root
+--                                            the block of a new object with its name; all other live
+--                                            blocks are kept
+--     MakesNamed ..                          the segment holds a new named object
+use Rattle.std.specs.Prelude.{◌≡◌, ℕ, ◌+◌, ◌*◌, ◌<◌, ◌≤◌, List, [], ◌∷◌, ◌++◌, length, Some, None}
+use Rattle.seg_spec.specs.Header.{KeepsFront, KeepsBack}
+use Rattle.seg_spec.specs.Types.{Table, IsTable, size}
+use Rattle.seg_spec.specs.Value.{count}
+use Rattle.seg_spec.specs.Heap.{IsHeap, live, link_at}
+use Rattle.seg_spec.specs.Block.{block_of, KeepsBlock}
+use Rattle.seg_spec.specs.Cells.{IsWithin}
+use Rattle.seg_spec.specs.Index.{Root}
+use Rattle.seg_spec.specs.Sound.{Picture, HoldsRoot, times, positions}
+use Rattle.seg_spec.specs.Roots.{Listed, with_roots}
+use Rattle.seg_spec.specs.Demand.{Ask, block_for, after_asks}
+use Rattle.seg_value.specs.Stored.{Stored}
+use Rattle.seg_manager.specs.Segments.{Becomes, new_root}
+
+-- n values of a type of the table lie in the segment, from a position on
+pub record HasValuesRoom (bytes : List ℕ) (table : Table) (at T n : ℕ) : Type 0 where
+  pub within : IsWithin bytes at (n * size table T)
+  pub is_table : IsTable table
+  pub known : T < length table
+
+-- the request for the block of a root: its values, and its name after them
+abbrev pub root_asks : Table → Root → List Ask
+root_asks table root =
+    block_for (count root.values * size table root.type + length root.name) ∷ []
+
+-- the root holds its values in a new block, and owns no other; all other live blocks are kept
+pub record GivesNamed (allocator : ℕ) (old new : List ℕ) (table : Table) (root : Root) : Type 0 where
+  pub length_kept : length new ≡ length old
+  pub front_kept : KeepsFront old new
+  pub back_kept : KeepsBack old new
+  pub heap : IsHeap allocator new
+  pub holds : HoldsRoot new table root (block_of root.at ∷ [])
+  pub link_is : link_at new (block_of root.at) ≡ None
+  pub granted_is : after_asks allocator (live old) (length old) (root_asks table root) ≡ Some (live new)
+  pub was_free : times (block_of root.at) (positions (live old)) ≡ 0
+  pub now_live : times (block_of root.at) (positions (live new)) ≡ 1
+  pub kept : (h : ℕ) → 1 ≤ times h (positions (live old)) →
+      KeepsBlock old new h × (link_at new h ≡ link_at old h)
+
+-- the segment holds a new named object of n default values at this position, among the others in
+-- order; each live block that isn't the index's is kept
+pub record MakesNamed (allocator : ℕ) (old new : Stored) (picture : Picture)
+    (index_blocks name : List ℕ) (T n at : ℕ) : Type 0 where
+  pub before : List Root
+  pub after : List Root
+  pub names_are : picture.names ≡ before ++ after
+  pub becomes : Becomes allocator old new
+      (with_roots picture Listed.by_name (before ++ new_root old.types name T n at ∷ after))
+      index_blocks
