@@ -6,5 +6,7 @@ pub mod UniqueLaws
 pub mod UniqueWords
 pub mod UniqueObjects
 pub mod Answering
+pub mod NamedReads
+pub mod NamedMaking
 pub mod NewNamed
 pub mod NamedEnters

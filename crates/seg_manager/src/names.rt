@@ -1,14 +1,15 @@
-ghost use Rattle.std.specs.Prelude.{◌≡◌, ◌+◌, ◌*◌, ◌%◌, ◌^◌, ◌<◌, ◌≤◌, [], length, IfOk, IsOkUnless, MatchResult};
+ghost use Rattle.std.specs.Prelude.{◌≡◌, ◌+◌, ◌*◌, ◌%◌, ◌^◌, ◌<◌, ◌≤◌, false, [], length, None, Some, MatchOption, IsSomeAnd, IfSome, IfNone, IfOk, MatchResult, IsOkUnless, slice_get, is_ok};
 ghost use Rattle.seg_spec.specs.Bytes.{ChangesOnly};
 ghost use Rattle.seg_spec.specs.Calls.{Refuses};
 ghost use Rattle.seg_spec.specs.Heap.{IsHeap};
-ghost use Rattle.seg_spec.specs.Index.{IsName};
+ghost use Rattle.seg_spec.specs.Index.{Root, IsName, root_named};
 ghost use Rattle.seg_spec.specs.Reads.{items, HoldsEach};
 ghost use Rattle.seg_spec.specs.Sound.{Picture};
 ghost use Rattle.seg_spec.specs.Types.{IsTable, size};
 ghost use Rattle.seg_spec.specs.Value.{copies, default_of};
 ghost use Rattle.seg_spec.specs.Window.{KeepsHost};
-ghost use Rattle.seg_index.specs.Lists.{IsVacant};
+ghost use Rattle.seg_index.specs.Lists.{IsNamed, IsVacant, entry_of, root_after};
+ghost use Rattle.seg_manager.specs.NamedObjects.{found_as, Says, IsMissing, IsCount, RefusesName, FindsOrMakesNamed, RefusesToFind};
 ghost use Rattle.seg_manager.specs.NewNamed.{HasValuesRoom, GivesNamed, MakesNamed, root_asks};
 ghost use Rattle.seg_manager.specs.Segments.{IsSegment, new_root};
 
@@ -46,7 +47,11 @@ struct Name<'a> {
 }
 
 impl<'a> Name<'a> {
-    fn of(bytes: &'a [u8]) -> Option<Name<'a>> {
+    fn of(bytes: &'a [u8]) -> Option<Name<'a>>
+        ensures name { IfSome result (λ name. IsName bytes.now × (name.bytes.now ≡ bytes.now)
+            × (name.len ≡ length bytes.now)) }
+        ensures none { IfNone result (IsName bytes.now → ⊥) }
+    {
         let len = u8::try_from(bytes.len()).ok()?;
         if (1..=MAX_NAME).contains(&len) && bytes.iter().all(|byte| byte.is_ascii_graphic()) {
             Some(Name { bytes, len })
@@ -64,9 +69,20 @@ impl<F: Fit, A: Allocator> Segment<F, A> {
     pub fn construct(&mut self, name: &[u8], t: TypeId, count: u32) -> Result<u32, Code>
         ensures window { KeepsHost self.old.window self.new.window }
         ensures types { self.new.types ≡ self.old.types }
+        ensures tells { (picture : Picture) → IsSegment F.allocator self.old picture →
+            MatchResult result (λ _. IsMissing picture.names name.now × IsCount count)
+            (RefusesName self.old self.new picture.names name.now count) }
+        ensures makes { (picture : Picture) → (s : IsSegment F.allocator self.old picture) →
+            t < length self.old.types →
+            IfOk result (MakesNamed F.allocator self.old self.new picture s.held.index_blocks
+            name.now t count) }
     {
-        let count = u16::try_from(count).map_err(|_| Code::OutOfRange)?;
-        let name = Name::of(name).ok_or(Code::OutOfRange)?;
+        let Ok(count) = u16::try_from(count) else {
+            return Err(Code::OutOfRange);
+        };
+        let Some(name) = Name::of(name) else {
+            return Err(Code::OutOfRange);
+        };
         if count == 0 {
             return Err(Code::OutOfRange);
         }
@@ -86,6 +102,7 @@ impl<F: Fit, A: Allocator> Segment<F, A> {
     ) -> Result<u32, Code>
         ensures window { KeepsHost self.old.window self.new.window }
         ensures types { self.new.types ≡ self.old.types }
+        ensures code { IsOkUnless result Code.BadAlloc }
         ensures makes { (picture : Picture) → (s : IsSegment F.allocator self.old picture) →
             t < length self.old.types → IsName name.entry.bytes.now →
             name.entry.len ≡ length name.entry.bytes.now → 1 ≤ count →
@@ -154,14 +171,24 @@ impl<F: Fit, A: Allocator> Segment<F, A> {
     }
 
     /// The object of a name. `Absent` where there is none, `OtherType` where it has another type.
-    pub fn find(&self, name: &[u8], t: TypeId) -> Result<Found, Code> {
-        let entry = find(self.heap(), name).ok_or(Code::Absent)?;
-        self.found(entry, t)
+    pub fn find(&self, name: &[u8], t: TypeId) -> Result<Found, Code>
+        ensures { (picture : Picture) → IsSegment F.allocator self.now picture →
+            result ≡ found_as t (root_named picture.names name.now) }
+    {
+        match find(self.heap(), name) {
+            Some(entry) => self.found(entry, t),
+            None => Err(Code::Absent),
+        }
     }
 
     /// The object of an entry. `OtherType` where it has another type.
-    fn found(&self, entry: NameEntry, t: TypeId) -> Result<Found, Code> {
-        let at = entry.object.ok_or(Code::Absent)?;
+    fn found(&self, entry: NameEntry, t: TypeId) -> Result<Found, Code>
+        ensures { (root : Root) → IsNamed self.now.window.bytes self.now.types root →
+            root.type < 32 → entry ≡ entry_of root → result ≡ found_as t (Some root) }
+    {
+        let Some(at) = entry.object else {
+            return Err(Code::Absent);
+        };
         if entry.type_id(self.window()) != Some(t) {
             return Err(Code::OtherType);
         }
@@ -176,11 +203,20 @@ impl<F: Fit, A: Allocator> Segment<F, A> {
     pub fn find_or_construct(&mut self, name: &[u8], t: TypeId) -> Result<u32, Code>
         ensures window { KeepsHost self.old.window self.new.window }
         ensures types { self.new.types ≡ self.old.types }
+        ensures tells { (picture : Picture) → IsSegment F.allocator self.old picture →
+            MatchResult result
+            (FindsOrMakesNamed self.old self.new picture.names name.now t)
+            (RefusesToFind self.old self.new picture.names name.now t) }
     {
         match look_up(self.heap(), name) {
-            Ok(occupied) => Ok(self.found(occupied.entry(), t)?.at),
+            Ok(occupied) => match self.found(occupied.entry(), t) {
+                Ok(found) => Ok(found.at),
+                Err(code) => Err(code),
+            },
             Err(vacant) => {
-                let name = Name::of(name).ok_or(Code::OutOfRange)?;
+                let Some(name) = Name::of(name) else {
+                    return Err(Code::OutOfRange);
+                };
                 self.construct_at(vacant, name, t, 1)
             }
         }
@@ -190,6 +226,9 @@ impl<F: Fit, A: Allocator> Segment<F, A> {
     pub fn destroy(&mut self, name: &[u8], t: TypeId) -> bool
         ensures window { KeepsHost self.old.window self.new.window }
         ensures types { self.new.types ≡ self.old.types }
+        ensures tells { (picture : Picture) → IsSegment F.allocator self.old picture →
+            result ≡ is_ok (found_as t (root_named picture.names name.now)) }
+        ensures unchanged { result ≡ false → self.new ≡ self.old }
     {
         let Ok(occupied) = look_up(self.heap(), name) else {
             return false;
@@ -221,17 +260,31 @@ impl<F: Fit, A: Allocator> Segment<F, A> {
     }
 
     /// The least name.
-    pub fn first_name(&self) -> Option<Named<'_>> {
+    pub fn first_name(&self) -> Option<Named<'_>>
+        ensures { (picture : Picture) → IsSegment F.allocator self.now picture →
+            MatchOption result (slice_get picture.names 0 ≡ None)
+            (λ it. IsSomeAnd (slice_get picture.names 0)
+            (Says it.name.now it.type_id it.count)) }
+    {
         self.named(first_name(self.heap())?)
     }
 
     /// The least name above another one, which need not be there.
-    pub fn next_name(&self, after: &[u8]) -> Option<Named<'_>> {
+    pub fn next_name(&self, after: &[u8]) -> Option<Named<'_>>
+        ensures { (picture : Picture) → IsSegment F.allocator self.now picture →
+            MatchOption result (root_after picture.names after.now ≡ None)
+            (λ it. IsSomeAnd (root_after picture.names after.now)
+            (Says it.name.now it.type_id it.count)) }
+    {
         self.named(next_name(self.heap(), after)?)
     }
 
     /// What an entry says.
-    fn named(&self, entry: NameEntry) -> Option<Named<'_>> {
+    fn named(&self, entry: NameEntry) -> Option<Named<'_>>
+        ensures { (root : Root) → IsNamed self.now.window.bytes self.now.types root →
+            root.type < 32 → entry ≡ entry_of root →
+            IsSomeAnd result (λ it. Says it.name.now it.type_id it.count root) }
+    {
         Some(Named {
             name: entry.name(self.window(), self.types()),
             type_id: entry.type_id(self.window())?,

@@ -1,0 +1,27 @@
+use Rattle.std.proofs.Common.{◌∙◌, sym, refl}
+use Rattle.std.proofs.lemmas.Result.{MatchResult-at_ok, MatchResult-at_err}
+use Rattle.seg_manager.proofs.NamedReads.{finds_in, listed_named}
+use Rattle.seg_manager.proofs.NamedMaking.{made_missing, found_is, other_is}
+use Rattle.seg_manager.proofs.segment.Segment.find_or_construct.Goals as goal
+
+pub returns-in_default-clause-tells : goal.returns-in_default-clause-tells
+returns-in_default-clause-tells g c = λ picture is.
+    let vacant = MatchResult-at_err _ _ _ c.in-Err.is (c.look_up.ensures picture.names is.held.index_blocks (finds_in g.F.Fit.allocator c.args.self.now picture is c.heap.result.now c.heap.ensures)) in
+    (vacant.missing, c.in_default.ensures.none, refl)
+
+pub returns-in-Ok-found-clause-tells : goal.returns-in-Ok-found-clause-tells
+returns-in-Ok-found-clause-tells g c = λ picture is.
+    let it = MatchResult-at_ok _ _ _ c.in-Ok.is (c.look_up.ensures picture.names is.held.index_blocks (finds_in g.F.Fit.allocator c.args.self.now picture is c.heap.result.now c.heap.ensures)) in
+    let l = listed_named g.F.Fit.allocator c.args.self.now picture is c.args.name.now it.0 it.1.found in
+    found_is c.args.t it.0 c.args.self.now picture.names c.args.name.now c.in-Ok-found.found it.1.found (sym c.in-Ok-found.is ∙ c.found.ensures it.0 l.0 l.1 (c.entry.ensures ∙ it.1.entry_is))
+
+pub returns-in-Err-found-clause-tells : goal.returns-in-Err-found-clause-tells
+returns-in-Err-found-clause-tells g c = λ picture is.
+    let it = MatchResult-at_ok _ _ _ c.in-Ok.is (c.look_up.ensures picture.names is.held.index_blocks (finds_in g.F.Fit.allocator c.args.self.now picture is c.heap.result.now c.heap.ensures)) in
+    let l = listed_named g.F.Fit.allocator c.args.self.now picture is c.args.name.now it.0 it.1.found in
+    other_is c.args.t it.0 c.args.self.now picture.names c.args.name.now c.in-Err-found.code it.1.found (sym c.in-Err-found.is ∙ c.found.ensures it.0 l.0 l.1 (c.entry.ensures ∙ it.1.entry_is))
+
+pub returns-in-Some-clause-tells : goal.returns-in-Some-clause-tells
+returns-in-Some-clause-tells g c = λ picture is.
+    let vacant = MatchResult-at_err _ _ _ c.in-Err.is (c.look_up.ensures picture.names is.held.index_blocks (finds_in g.F.Fit.allocator c.args.self.now picture is c.heap.result.now c.heap.ensures)) in
+    made_missing c.construct_at.result c.args.self.now c.construct_at.new.self picture.names c.args.name.now c.args.t c.construct_at.ensures.code (c.in-Some.ensures.name.0, vacant.missing)
