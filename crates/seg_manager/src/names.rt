@@ -1,4 +1,4 @@
-ghost use Rattle.std.specs.Prelude.{◌≡◌, ◌+◌, ◌*◌, ◌%◌, ◌^◌, ◌<◌, ◌≤◌, false, [], length, None, Some, MatchOption, IsSomeAnd, IfOk, IfSome, IfNone, MatchResult, IsOkUnless, slice_get, is_ok};
+ghost use Rattle.std.specs.Prelude.{◌≡◌, ◌+◌, ◌*◌, ◌%◌, ◌^◌, ◌<◌, ◌≤◌, false, [], length, None, Some, MatchOption, IsSomeAnd, IfSome, IfNone, IfOk, MatchResult, IsOkUnless, slice_get, is_ok};
 ghost use Rattle.seg_spec.specs.Bytes.{ChangesOnly};
 ghost use Rattle.seg_spec.specs.Calls.{Refuses};
 ghost use Rattle.seg_spec.specs.Heap.{IsHeap};
