@@ -53,7 +53,7 @@ none_zeroed a old heap = record {
 }
 
 -- a free tile lies before the end of the tiles
-free_before : (ts : List Tile) (from to : ℕ) → Fill from ts to → AllByRecursion (λ g. (from ≤ g.at) × (2 ≤ g.units) × (end_of g ≤ to)) (free_of ts)
+pub free_before : (ts : List Tile) (from to : ℕ) → Fill from ts to → AllByRecursion (λ g. (from ≤ g.at) × (2 ≤ g.units) × (end_of g ≤ to)) (free_of ts)
 free_before [] from to f = tt
 free_before (t ∷ ts) from to f =
     let le = Fill-le ts (from + 16 * t.units) to f.2 in
