@@ -23,7 +23,7 @@ use Rattle.seg_spec.proofs.SliceLaws.{IsSame-part, slice-put_same, put-changes}
 use Rattle.seg_value.specs.Stored.{Stored}
 use Rattle.seg_manager.specs.Gaps.{spare_start, spare_size, IsZeroed, LiesBeside, ZeroesGaps}
 use Rattle.seg_manager.specs.Segments.{IsSegment}
-use Rattle.seg_manager.proofs.LooseRoots.{each_joined}
+use Rattle.seg_spec.proofs.LooseRoots.{each_joined}
 use Rattle.seg_manager.proofs.LooseObjects.{allocator_same}
 use Rattle.seg_manager.proofs.TileWalk.{Rest, Reads, reads_tile}
 

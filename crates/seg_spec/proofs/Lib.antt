@@ -56,3 +56,7 @@ pub mod Buffered
 pub mod BufferMoves
 pub mod Requested
 pub mod BufferGrows
+pub mod AddTypes
+pub mod UniqueLaws
+pub mod LooseRoots
+pub mod OneRequest
