@@ -9,3 +9,4 @@ pub mod TypesAdded
 pub mod Creating
 pub mod ZeroedGaps
 pub mod Resizing
+pub mod UniqueCount

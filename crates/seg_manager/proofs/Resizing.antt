@@ -1,5 +1,5 @@
 -- A segment whose heap ends elsewhere holds its picture still.
-use Rattle.std.proofs.Common.{◌≡◌, ◌≢◌, ℕ, zero, suc, ◌+◌, ◌-◌, ◌*◌, ◌/◌, ◌%◌, ◌<◌, ◌≤◌, ◌⊎◌, inl, inr, ⊎_elim, true, false, eqb, List, [], ◌∷◌, ◌++◌, length, take, drop, cond, Option, Some, None, refl, sym, ap, ◌∙◌, subst, arith}
+use Rattle.std.proofs.Common.{◌≡◌, ◌≢◌, ℕ, suc, ◌+◌, ◌-◌, ◌*◌, ◌/◌, ◌%◌, ◌<◌, ◌≤◌, ◌⊎◌, inl, inr, ◌&&◌, true, false, eqb, List, [], ◌∷◌, ◌++◌, length, take, drop, cond, refl, sym, ap, ◌∙◌, subst, arith}
 use Rattle.std.specs.Prelude.{Contains, slice_index_or}
 use Rattle.std.specs.List.{AllByRecursion}
 use Rattle.std.proofs.lemmas.Bool.{cases_eq, cases_lt}
@@ -49,7 +49,10 @@ no_smaller_extended : (bs : List Span) (end n : ℕ) → NoSmaller bs (after_ext
 no_smaller_extended [] end n = tt
 no_smaller_extended (b ∷ bs) end n =
     let rest = no_smaller_extended bs end n in
-    elim (Rattle.std.proofs.Common.◌&&◌ (eqb n 1) (eqb (end_of b) end)) as (λ t. NoSmaller (b ∷ bs) ((cond t (record { at = b.at; units = b.units + 1 }) b) ∷ after_extend bs end n)) [ true ↦ (refl, omega arith, rest) | false ↦ (refl, omega arith, rest) ]
+    elim ((eqb n 1) && (eqb (end_of b) end)) as (λ t. NoSmaller (b ∷ bs) ((cond t (record { at = b.at; units = b.units + 1 }) b) ∷ after_extend bs end n)) [
+      | true ↦ (refl, omega arith, rest)
+      | false ↦ (refl, omega arith, rest)
+    ]
 
 same_positions : (bs cs : List Span) → NoSmaller bs cs → positions cs ≡ positions bs
 same_positions [] [] h = refl
@@ -186,7 +189,8 @@ module _ (old new : List ℕ) (picture : Picture) (held : IsHeld old picture) (r
 
 -- ---- more units at the end
 
-pub extended : (old filled new : List ℕ) (n : ℕ) (picture : Picture) → IsHeld old picture → without_end filled n ≡ old → length filled ≡ length old + 16 * n → IsImageLength (length filled) → Extends (word old allocator_word) filled new n → Resized old new
+pub extended : (old filled new : List ℕ) (n : ℕ) (picture : Picture) → IsHeld old picture → without_end filled n ≡ old → length filled ≡ length old + 16 * n → IsImageLength (length filled)
+    → Extends (word old allocator_word) filled new n → Resized old new
 extended old filled new n picture held front_is long sized e =
     let small = held.laid_out.header.not_small in
     let whole : length filled - 16 * n ≡ length old = omega arith in
@@ -342,7 +346,8 @@ module _ (old mid : List ℕ) (n : ℕ) (picture : Picture) (held : IsHeld old p
 
   pub cut_fits : heap_start + 16 * n < length old
   cut_fits =
-      let all : AllByRecursion (LiesInHeap (length old)) (gaps old) = subst (AllByRecursion (LiesInHeap (length old))) (sym (gaps-free old (word old allocator_word) old_heap)) (free_before (tiles old) heap_start (length old) old_heap.filled) in
+      let all : AllByRecursion (LiesInHeap (length old)) (gaps old) =
+      subst (AllByRecursion (LiesInHeap (length old))) (sym (gaps-free old (word old allocator_word) old_heap)) (free_before (tiles old) heap_start (length old) old_heap.filled) in
       let l = cut_low (gaps old) (length old) held.laid_out.header.not_small all in
       rw c.cut l
 
@@ -359,7 +364,8 @@ module _ (old mid : List ℕ) (n : ℕ) (picture : Picture) (held : IsHeld old p
   cut_above = let fits = cut_fits in let long = cut_long in omega arith
 
   high_old : AllByRecursion (λ b. end_of b ≤ length cut_off) (live old)
-  high_old = subst (AllByRecursion (λ b. end_of b ≤ length cut_off)) c.live_kept (each_weaker (StatesSpan cut_off (length cut_off)) (λ b. end_of b ≤ length cut_off) (λ b s. s.high) (live cut_off) (live_stated cut_off (word old allocator_word) c.heap))
+  high_old = subst (AllByRecursion (λ b. end_of b ≤ length cut_off)) c.live_kept (each_weaker (StatesSpan cut_off (length cut_off)) (λ b. end_of b ≤ length cut_off) (λ b s. s.high) (live cut_off)
+      (live_stated cut_off (word old allocator_word) c.heap))
 
   pub was_cut : Resized old cut_off
   was_cut =
@@ -381,7 +387,8 @@ module _ (old mid : List ℕ) (n : ℕ) (picture : Picture) (held : IsHeld old p
       }
 
 module _ (allocator : ℕ) (old new : Stored) (picture : Picture) (is : IsSegment allocator old picture) (mid : Placement) (n : ℕ) (host : mid ≡ with_bytes old.window mid.bytes) (cuts : Cuts allocator old.window.bytes mid.bytes n)
-    (same_region : region_of new.window ≡ region_of mid) (base : length new.window.before ≡ length mid.before) (len : ℕ) (len_is : len + 16 * n ≡ length old.window.bytes) (long : length new.window.bytes ≡ len) (types_are : new.types ≡ old.types) where
+    (same_region : region_of new.window ≡ region_of mid) (base : length new.window.before ≡ length mid.before) (len : ℕ) (len_is : len + 16 * n ≡ length old.window.bytes)
+    (long : length new.window.bytes ≡ len) (types_are : new.types ≡ old.types) where
   cuts' : Cuts (word old.window.bytes allocator_word) old.window.bytes mid.bytes n
   cuts' = rw is.allocator_is cuts
 

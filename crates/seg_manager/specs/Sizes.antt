@@ -8,8 +8,8 @@ use Rattle.seg_spec.specs.Sound.{Picture, times, positions}
 use Rattle.seg_value.specs.Stored.{Stored}
 use Rattle.seg_manager.specs.Segments.{IsSegment}
 
--- the picture and every live block are kept; a single new unit goes to a block that ended at the end; the host's bytes
--- before and after the larger segment are kept
+-- the picture and every live block are kept; a single new unit goes to a block that ended at the
+-- end; the host's bytes before and after the larger segment are kept
 pub record Grows (allocator : ℕ) (old new : Stored) (picture : Picture) (extra : ℕ) : Type 0 where
   pub segment : IsSegment allocator new picture
   pub length_is : length new.window.bytes ≡ length old.window.bytes + extra
