@@ -58,7 +58,8 @@ few_kinds_of kinds.Flat = omega arith
 few_kinds_of kinds.Tree = omega arith
 
 -- the words of the first types name nothing
-pub one_more_null : (first old new : List ℕ) (t : ℕ) → ChangesOnly first old uniques_start uniques_size → t < 32 → new ≡ set_pointer old (unique_word t) None → (heap_start ≤ length first → (T : ℕ) → T < t → target old (unique_word T) ≡ None)
+pub one_more_null : (first old new : List ℕ) (t : ℕ) → ChangesOnly first old uniques_start uniques_size → t < 32 → new ≡ set_pointer old (unique_word t) None
+    → (heap_start ≤ length first → (T : ℕ) → T < t → target old (unique_word T) ≡ None)
     → ChangesOnly first new uniques_start uniques_size × (heap_start ≤ length first → (T : ℕ) → T < t + 1 → target new (unique_word T) ≡ None)
 one_more_null first old new t changes less new_is nulls =
     let own : ChangesOnly old new (unique_word t) 4 = rw new_is (set_number-changes 4 old (unique_word t) (distance (unique_word t) None)) in

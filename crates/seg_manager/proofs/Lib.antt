@@ -1,8 +1,4 @@
-pub mod LooseRoots
-pub mod OneRequest
 pub mod LooseObjects
-pub mod AddTypes
-pub mod UniqueLaws
 pub mod UniqueWords
 pub mod UniqueObjects
 pub mod Answering
@@ -17,3 +13,4 @@ pub mod Resizing
 pub mod NamedMaking
 pub mod NewNamed
 pub mod NamedEnters
+pub mod UniqueCount

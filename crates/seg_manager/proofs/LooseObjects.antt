@@ -23,8 +23,8 @@ use Rattle.seg_spec.proofs.RootLaws.{HoldsRoots-one, HoldsRoots-only}
 use Rattle.seg_value.specs.Contents.{GivesBlock}
 use Rattle.seg_value.specs.Stored.{Stored}
 use Rattle.seg_manager.specs.Segments.{IsSegment, Becomes, new_root, MakesLoose, LosesLoose}
-use Rattle.seg_manager.proofs.LooseRoots.{Trades, its, holds_its, its_live, loose_traded}
-use Rattle.seg_manager.proofs.OneRequest.{spent_one, counts_one}
+use Rattle.seg_spec.proofs.LooseRoots.{Trades, its, holds_its, its_live, loose_traded}
+use Rattle.seg_spec.proofs.OneRequest.{spent_one, counts_one}
 
 pub allocator_same : (old new : List ℕ) → KeepsFront old new → word new allocator_word ≡ word old allocator_word
 allocator_same old new front = word-same old new allocator_word (IsSame-part old new 0 free_word allocator_word 4 (omega arith) (omega arith) front)

@@ -1,19 +1,21 @@
 -- A segment whose heap ends elsewhere holds its picture still.
-use Rattle.std.proofs.Common.{◌≡◌, ◌≢◌, ℕ, zero, suc, ◌+◌, ◌-◌, ◌*◌, ◌/◌, ◌%◌, ◌<◌, ◌≤◌, ◌⊎◌, inl, inr, ⊎_elim, true, false, eqb, List, [], ◌∷◌, ◌++◌, length, take, drop, cond, Option, Some, None, refl, sym, ap, ◌∙◌, subst, arith}
+use Rattle.std.proofs.Common.{◌≡◌, ◌≢◌, ℕ, suc, ◌+◌, ◌-◌, ◌*◌, ◌/◌, ◌%◌, ◌<◌, ◌≤◌, ◌⊎◌, inl, inr, ◌&&◌, true, false, eqb, List, [], ◌∷◌, ◌++◌, length, take, drop, cond, refl, sym, ap, ◌∙◌, subst, arith}
 use Rattle.std.specs.Prelude.{Contains, slice_index_or}
 use Rattle.std.specs.List.{AllByRecursion}
-use Rattle.std.proofs.lemmas.Bool.{cases_eq}
+use Rattle.std.proofs.lemmas.Bool.{cases_eq, cases_lt}
 use Rattle.std.proofs.lemmas.Bool.Decides.{nat_tests}
 use Rattle.std.proofs.lemmas.List.{length-take, length-drop, length-append, append_assoc, take_all, same_lists, places}
 use Rattle.seg_spec.specs.Bytes.{word, slice, put, IsSame, Agrees}
-use Rattle.seg_spec.specs.Header.{allocator_word, units_word, index_kind_word, free_word, index_cell, back_start, back_size, reserved, reserved_size, types_start, types_size, uniques_start, uniques_size, heap_start, min_length, max_length}
+use Rattle.seg_spec.specs.Header.{allocator_word, units_word, index_kind_word, free_word, index_cell, back_start, back_size, reserved, reserved_size, types_start, types_size, uniques_start, uniques_size, heap_start, min_length}
 use Rattle.seg_spec.specs.Types.{Table}
 use Rattle.seg_spec.specs.Heap.{Span, Tile, end_of, units_at, is_live_at, tag_at, link_at, tiles, Fill, IsHeap, live, gaps, without_end, after_extend, units_to_cut, Extends, Cuts}
 use Rattle.seg_spec.specs.Block.{IsOwnable, KeepsBlock, payload_size}
 use Rattle.seg_spec.specs.Faulty.{IsImageLength}
 use Rattle.seg_spec.specs.Sound.{Picture, HasHeader, IsHeld, times, positions}
 use Rattle.seg_spec.proofs.BytesLaws.{slice-agrees, length-put, take-put}
-use Rattle.seg_spec.proofs.Frame.{word-same, target-same, each_weaker, each_both, each_left, each_right}
+use Rattle.seg_spec.proofs.Frame.{word-same, target-same, each_weaker, each_both}
+use Rattle.seg_spec.proofs.FreeLaws.{gaps-free}
+use Rattle.seg_spec.proofs.TileLaws.{Fill-le}
 use Rattle.seg_spec.proofs.KeptLaws.{StatesSpan, live_stated}
 use Rattle.seg_spec.proofs.LiveLaws.{there, each_there, times-append}
 use Rattle.seg_spec.proofs.RootFrame.{HoldsRoots-kept, ListsNames-kept, ListsUniques-kept}
@@ -21,7 +23,8 @@ use Rattle.seg_spec.proofs.SliceLaws.{IsSame-part, slice-slice, region-placed}
 use Rattle.seg_spec.specs.Window.{Placement, region_of, with_bytes}
 use Rattle.seg_value.specs.Stored.{Stored}
 use Rattle.seg_manager.specs.Segments.{IsSegment}
-use Rattle.seg_manager.specs.Sizes.{Grows}
+use Rattle.seg_manager.specs.Sizes.{Grows, Shrinks}
+use Rattle.seg_manager.proofs.ZeroedGaps.{free_before}
 
 -- ---- bytes at the front of longer ones
 
@@ -46,7 +49,10 @@ no_smaller_extended : (bs : List Span) (end n : ℕ) → NoSmaller bs (after_ext
 no_smaller_extended [] end n = tt
 no_smaller_extended (b ∷ bs) end n =
     let rest = no_smaller_extended bs end n in
-    elim (Rattle.std.proofs.Common.◌&&◌ (eqb n 1) (eqb (end_of b) end)) as (λ t. NoSmaller (b ∷ bs) ((cond t (record { at = b.at; units = b.units + 1 }) b) ∷ after_extend bs end n)) [ true ↦ (refl, omega arith, rest) | false ↦ (refl, omega arith, rest) ]
+    elim ((eqb n 1) && (eqb (end_of b) end)) as (λ t. NoSmaller (b ∷ bs) ((cond t (record { at = b.at; units = b.units + 1 }) b) ∷ after_extend bs end n)) [
+      | true ↦ (refl, omega arith, rest)
+      | false ↦ (refl, omega arith, rest)
+    ]
 
 same_positions : (bs cs : List Span) → NoSmaller bs cs → positions cs ≡ positions bs
 same_positions [] [] h = refl
@@ -183,15 +189,16 @@ module _ (old new : List ℕ) (picture : Picture) (held : IsHeld old picture) (r
 
 -- ---- more units at the end
 
-pub extended : (old filled new : List ℕ) (n : ℕ) (picture : Picture) → IsHeld old picture → without_end filled n ≡ old → length filled ≡ length old + 16 * n → IsImageLength (length filled) → Extends (word old allocator_word) filled new n → Resized old new
+pub extended : (old filled new : List ℕ) (n : ℕ) (picture : Picture) → IsHeld old picture → without_end filled n ≡ old → length filled ≡ length old + 16 * n → IsImageLength (length filled)
+    → Extends (word old allocator_word) filled new n → Resized old new
 extended old filled new n picture held front_is long sized e =
     let small = held.laid_out.header.not_small in
     let whole : length filled - 16 * n ≡ length old = omega arith in
     let from_old : (p m : ℕ) → p + m ≤ length old → IsSame old filled p m =
-        λ p m l. sym (slice_front filled (length filled - 16 * n) p m (omega arith)) ∙ ap (λ b. slice b p m) front_is in
+    λ p m l. sym (slice_front filled (length filled - 16 * n) p m (omega arith)) ∙ ap (λ b. slice b p m) front_is in
     let new_long : length new ≡ length filled = e.length_kept in
     let part : (from to : ℕ) → Agrees filled new from to → to ≤ length old → (p m : ℕ) → from ≤ p → p + m ≤ to → IsSame old new p m =
-        λ from to a fits p m l h. slice-agrees filled new from to p m a l h (omega arith) ∙ from_old p m (omega arith) in
+    λ from to a fits p m l h. slice-agrees filled new from to p m a l h (omega arith) ∙ from_old p m (omega arith) in
     record {
       long = rw new_long sized;
       front = part 0 units_word e.front_kept (omega arith) 0 units_word (omega arith) (omega arith);
@@ -296,3 +303,122 @@ module _ (allocator : ℕ) (old : Stored) (picture : Picture) (is : IsSegment al
           before_is = ap (λ (r : Placement). r.before) host ∙ ap (λ (r : Placement). r.before) filled_is ∙ before_same old.window q same_region base;
           after_is = ap (λ (r : Placement). r.after) host ∙ ap (λ (r : Placement). r.after) filled_is ∙ after_same old.window q same_region base extra long;
         }
+
+-- ---- fewer units at the end
+
+abbrev LiesInHeap : ℕ → Span → Type 0
+LiesInHeap end g = (heap_start ≤ g.at) × (2 ≤ g.units) × (end_of g ≤ end)
+
+cut_low : (gs : List Span) (end : ℕ) → min_length ≤ end → AllByRecursion (LiesInHeap end) gs → heap_start + 16 * units_to_cut gs end < end
+cut_low [] end low a = omega arith
+cut_low (g ∷ gs) end low a = go (cases_eq (end_of g) end) (cases_eq g.at heap_start) (cut_low gs end low a.1)
+  where
+    go : (end_of g ≡ end) ⊎ (end_of g ≢ end) → (g.at ≡ heap_start) ⊎ (g.at ≢ heap_start) → heap_start + 16 * units_to_cut gs end < end → heap_start + 16 * units_to_cut (g ∷ gs) end < end
+    go (inr ne) k rest =
+        let off : eqb (end_of g) end ≡ false = grind (arith, nat_tests) in
+        rw off rest
+    go (inl e) (inl f) rest =
+        let on : eqb (end_of g) end ≡ true = grind (arith, nat_tests) in
+        let first : eqb g.at heap_start ≡ true = grind (arith, nat_tests) in
+        let l = a.0 in
+        rw (on, first) (omega arith)
+    go (inl e) (inr ne) rest =
+        let on : eqb (end_of g) end ≡ true = grind (arith, nat_tests) in
+        let later : eqb g.at heap_start ≡ false = grind (arith, nat_tests) in
+        let l = a.0 in
+        let above : heap_start < g.at = above_start (cases_lt heap_start g.at) ne l.0 in
+        rw (on, later) (omega arith)
+      where
+        above_start : (heap_start < g.at) ⊎ (g.at ≤ heap_start) → g.at ≢ heap_start → heap_start ≤ g.at → heap_start < g.at
+        above_start (inl l) ne low = l
+        above_start (inr l) ne low = absurd (ne (omega arith))
+
+fill_large : (ts : List Tile) (to : ℕ) → Fill heap_start ts to → heap_start < to → min_length ≤ to
+fill_large [] to f l = absurd (omega (arith, f))
+fill_large (t ∷ ts) to f l = let le = Fill-le ts (heap_start + 16 * t.units) to f.2 in let two = f.1 in omega arith
+
+module _ (old mid : List ℕ) (n : ℕ) (picture : Picture) (held : IsHeld old picture) (c : Cuts (word old allocator_word) old mid n) where
+  abbrev cut_off : List ℕ
+  cut_off = without_end mid n
+
+  old_heap : IsHeap (word old allocator_word) old
+  old_heap = held.laid_out.heap
+
+  pub cut_fits : heap_start + 16 * n < length old
+  cut_fits =
+      let all : AllByRecursion (LiesInHeap (length old)) (gaps old) =
+      subst (AllByRecursion (LiesInHeap (length old))) (sym (gaps-free old (word old allocator_word) old_heap)) (free_before (tiles old) heap_start (length old) old_heap.filled) in
+      let l = cut_low (gaps old) (length old) held.laid_out.header.not_small all in
+      rw c.cut l
+
+  pub cut_long : length cut_off + 16 * n ≡ length old
+  cut_long = let t = length-take (length mid - 16 * n) mid in let fits = cut_fits in let same = c.length_kept in omega arith
+
+  front_of : (p m : ℕ) → p + m ≤ length cut_off → IsSame mid cut_off p m
+  front_of p m l = slice_front mid (length mid - 16 * n) p m (let t = length-take (length mid - 16 * n) mid in omega arith)
+
+  part_cut : (from to : ℕ) → Agrees old mid from to → (p m : ℕ) → from ≤ p → p + m ≤ to → p + m ≤ length cut_off → IsSame old cut_off p m
+  part_cut from to a p m l h fits = front_of p m fits ∙ slice-agrees old mid from to p m a l h (omega (arith, cut_long))
+
+  cut_above : heap_start < length cut_off
+  cut_above = let fits = cut_fits in let long = cut_long in omega arith
+
+  high_old : AllByRecursion (λ b. end_of b ≤ length cut_off) (live old)
+  high_old = subst (AllByRecursion (λ b. end_of b ≤ length cut_off)) c.live_kept (each_weaker (StatesSpan cut_off (length cut_off)) (λ b. end_of b ≤ length cut_off) (λ b s. s.high) (live cut_off)
+      (live_stated cut_off (word old allocator_word) c.heap))
+
+  pub was_cut : Resized old cut_off
+  was_cut =
+      let above = cut_above in
+      let long = cut_long in
+      let o = held.laid_out.header in
+      let even = o.whole_units in
+      let large = o.not_large in
+      record {
+        long = record { not_small = fill_large (tiles cut_off) (length cut_off) c.heap.filled above; not_large = omega arith; whole_units = omega arith };
+        front = part_cut 0 units_word c.front_kept 0 units_word (omega arith) (omega arith) (omega arith);
+        units_is = let w : word cut_off units_word ≡ word mid units_word = word-same mid cut_off units_word (front_of units_word 4 (omega arith)) in let s = c.size_is in omega arith;
+        words = part_cut (units_word + 4) free_word c.words_kept allocator_word 8 (omega arith) (omega arith) (omega arith);
+        back = part_cut back_start heap_start c.back_kept back_start back_size (omega arith) (omega arith) (omega arith);
+        heap = c.heap;
+        no_smaller = subst (NoSmaller (live old)) (sym c.live_kept) (no_smaller_same (live old));
+        kept = each_both (λ b. end_of b ≤ length cut_off) (λ b. Contains (live old) b) _ (λ b high k. λ p m l h. part_cut (b.at + 8) (end_of b) (c.blocks_kept b k) p m l h (omega arith)) (live old) high_old
+            (each_of (λ b. Contains (live old) b) (live old) (λ b k. k));
+      }
+
+module _ (allocator : ℕ) (old new : Stored) (picture : Picture) (is : IsSegment allocator old picture) (mid : Placement) (n : ℕ) (host : mid ≡ with_bytes old.window mid.bytes) (cuts : Cuts allocator old.window.bytes mid.bytes n)
+    (same_region : region_of new.window ≡ region_of mid) (base : length new.window.before ≡ length mid.before) (len : ℕ) (len_is : len + 16 * n ≡ length old.window.bytes)
+    (long : length new.window.bytes ≡ len) (types_are : new.types ≡ old.types) where
+  cuts' : Cuts (word old.window.bytes allocator_word) old.window.bytes mid.bytes n
+  cuts' = rw is.allocator_is cuts
+
+  bytes_are : new.window.bytes ≡ without_end mid.bytes n
+  bytes_are =
+      let same = cuts.length_kept in
+      let left : length mid.bytes - 16 * n ≡ len = omega arith in
+      sym (take_all len new.window.bytes (omega arith)) ∙ front_bytes mid new.window same_region base len (omega arith) (omega arith) ∙ ap (λ k. take k mid.bytes) (sym left)
+
+  resized_cut : Resized old.window.bytes new.window.bytes
+  resized_cut = rw bytes_are (was_cut old.window.bytes mid.bytes n picture is.held cuts')
+
+  pub shrunk_to : (result : ℕ) → result ≡ len → Shrinks allocator old new picture result
+  shrunk_to result result_is = record {
+    segment = record {
+      held = resized_held old.window.bytes new.window.bytes picture is.held resized_cut;
+      table_is = types_are ∙ is.table_is;
+      allocator_is = allocator_then old.window.bytes new.window.bytes picture is.held resized_cut ∙ is.allocator_is;
+    };
+    result_is = result_is ∙ sym long;
+    length_is = rw (← cuts.cut) (omega arith);
+    live_is = ap (λ b. live b) bytes_are ∙ cuts.live_kept;
+    kept = kept_block old.window.bytes new.window.bytes picture is.held resized_cut;
+    before_is = before_same mid new.window same_region base ∙ ap (λ (r : Placement). r.before) host;
+    after_is = rw (← cuts.cut) (sym (after_same new.window mid (sym same_region) (sym base) (16 * n) (let same = cuts.length_kept in omega arith)) ∙ ap (λ (r : Placement). r.after) host);
+  }
+
+-- a segment ends where its region does, or before
+pub region_long : (p : Placement) → length p.before + length p.bytes ≤ length (region_of p)
+region_long p =
+    let n = length-append (p.before ++ p.bytes) p.after in
+    let m = length-append p.before p.bytes in
+    omega arith

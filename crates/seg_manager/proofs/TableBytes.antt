@@ -71,7 +71,8 @@ entry_long table T valid = go (form_at table T) refl
 pub one_written : (old mid new : List ℕ) (table : Table) (t at : ℕ) → Written old mid table t → t < 32 → at ≡ types_start + 16 * t → length (entry_at table t) ≡ 16 → new ≡ put mid at (entry_at table t) → Written old new table (t + 1)
 one_written old mid new table t at w less at_is wide new_is =
     let entry = entry_at table t in
-    let put_there : ChangesOnly mid (put mid (types_start + 16 * t) entry) (types_start + 16 * t) 16 = subst (ChangesOnly mid (put mid (types_start + 16 * t) entry) (types_start + 16 * t)) wide (put-changes mid (types_start + 16 * t) entry) in
+    let put_there : ChangesOnly mid (put mid (types_start + 16 * t) entry) (types_start + 16 * t) 16 =
+    subst (ChangesOnly mid (put mid (types_start + 16 * t) entry) (types_start + 16 * t)) wide (put-changes mid (types_start + 16 * t) entry) in
     let changed : ChangesOnly mid new (types_start + 16 * t) 16 = rw (new_is, at_is) put_there in
     let all : ChangesOnly old new types_start types_size = ChangesOnly-trans old mid new types_start types_size w.changes (ChangesOnly-wider mid new (types_start + 16 * t) 16 types_start types_size (omega arith) (omega arith) changed) in
     record {

@@ -21,9 +21,9 @@ use Rattle.seg_spec.proofs.RootFrame.{HoldsRoot-kept}
 use Rattle.seg_value.specs.Stored.{Stored}
 use Rattle.seg_value.proofs.Header.{header_fits}
 use Rattle.seg_manager.specs.Segments.{IsSegment, Becomes, new_root, MakesLoose, unique_at, MakesUnique, LosesUnique}
-use Rattle.seg_manager.proofs.LooseRoots.{its, holds_its, its_live}
+use Rattle.seg_spec.proofs.LooseRoots.{its, holds_its, its_live}
 use Rattle.seg_manager.proofs.LooseObjects.{lost, lost_owned}
-use Rattle.seg_manager.proofs.UniqueLaws.{position_root, none_root, unique_of, between}
+use Rattle.seg_spec.proofs.UniqueLaws.{position_root, none_root, unique_of, between}
 use Rattle.seg_manager.proofs.UniqueWords.{word_changes, word_written, word_live, word_kept, above_kept, word_allocator, unique_joined, unique_left}
 
 -- what the word of a type names

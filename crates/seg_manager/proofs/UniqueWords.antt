@@ -19,9 +19,9 @@ use Rattle.seg_spec.proofs.RootFrame.{HoldsRoots-kept, ListsNames-kept}
 use Rattle.seg_spec.proofs.StretchLaws.{stretches_come_apart}
 use Rattle.seg_spec.proofs.Writing.{set_number-changes}
 use Rattle.seg_value.proofs.Header.{header_heap, header_live, header_ownable, header_kept}
-use Rattle.seg_manager.proofs.AddTypes.{header_same}
-use Rattle.seg_manager.proofs.LooseRoots.{each_joined}
-use Rattle.seg_manager.proofs.UniqueLaws.{unique_added, unique_removed}
+use Rattle.seg_spec.proofs.AddTypes.{header_same}
+use Rattle.seg_spec.proofs.LooseRoots.{each_joined}
+use Rattle.seg_spec.proofs.UniqueLaws.{unique_added, unique_removed}
 
 pub word_changes : (old : List ℕ) (T : ℕ) (to : Option ℕ) → ChangesOnly old (set_pointer old (unique_word T) to) (unique_word T) 4
 word_changes old T to = set_number-changes 4 old (unique_word T) (distance (unique_word T) to)

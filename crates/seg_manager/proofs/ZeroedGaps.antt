@@ -23,7 +23,7 @@ use Rattle.seg_spec.proofs.SliceLaws.{IsSame-part, slice-put_same, put-changes}
 use Rattle.seg_value.specs.Stored.{Stored}
 use Rattle.seg_manager.specs.Gaps.{spare_start, spare_size, IsZeroed, LiesBeside, ZeroesGaps}
 use Rattle.seg_manager.specs.Segments.{IsSegment}
-use Rattle.seg_manager.proofs.LooseRoots.{each_joined}
+use Rattle.seg_spec.proofs.LooseRoots.{each_joined}
 use Rattle.seg_manager.proofs.LooseObjects.{allocator_same}
 use Rattle.seg_manager.proofs.TileWalk.{Rest, Reads, reads_tile}
 
@@ -53,7 +53,7 @@ none_zeroed a old heap = record {
 }
 
 -- a free tile lies before the end of the tiles
-free_before : (ts : List Tile) (from to : ℕ) → Fill from ts to → AllByRecursion (λ g. (from ≤ g.at) × (2 ≤ g.units) × (end_of g ≤ to)) (free_of ts)
+pub free_before : (ts : List Tile) (from to : ℕ) → Fill from ts to → AllByRecursion (λ g. (from ≤ g.at) × (2 ≤ g.units) × (end_of g ≤ to)) (free_of ts)
 free_before [] from to f = tt
 free_before (t ∷ ts) from to f =
     let le = Fill-le ts (from + 16 * t.units) to f.2 in

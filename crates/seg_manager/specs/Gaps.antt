@@ -1,5 +1,5 @@
 -- What is free in a heap.
---     bytes_of gaps, largest_of gaps      the bytes of all gaps and of the largest, with their headers
+--     bytes_of gaps, largest_of gaps      the bytes of all gaps and of the largest, with headers
 --     spare_start, spare_size             the bytes of a gap that hold no header and that the
 --                                         allocator doesn't use
 --     IsZeroed, LiesBeside, ZeroesGaps    they are 0; bytes beside them; a call that makes them 0

@@ -9,7 +9,7 @@
 --     nothing, IsNew                      the empty picture, and a segment with it
 --     MakesLoose, LosesLoose              a loose object comes, and goes
 --     MakesUnique, FindsOrMakes, RefusesUnique, LosesUnique
---                                         a unique object comes, or is found, or is refused, and goes
+--                                         a unique object comes, is found or refused, and goes
 --     AddsTypes                           the table becomes a longer one
 --     unique_at picture T                 where the unique object of a type begins
 use Rattle.std.specs.Prelude.{◌≡◌, ℕ, ◌+◌, ◌≤◌, take, drop, List, [], ◌∷◌, ◌++◌, length, ◌⊎◌, Option, Some, None, IsSome, option_map}

@@ -3,7 +3,7 @@ ghost use Rattle.seg_spec.specs.Faulty.{IsImageLength};
 ghost use Rattle.seg_spec.specs.Sound.{Picture};
 ghost use Rattle.seg_spec.specs.Window.{region_of};
 ghost use Rattle.seg_manager.specs.Segments.{IsSegment};
-ghost use Rattle.seg_manager.specs.Sizes.{Grows};
+ghost use Rattle.seg_manager.specs.Sizes.{Grows, Shrinks};
 
 use crate::segment::{Segment, is_size};
 use seg_block::{Fit, UNIT};
@@ -46,7 +46,11 @@ impl<F: Fit, A: Allocator> Segment<F, A> {
     }
 
     /// Cuts the gap at the end, but for two units of a heap that is one gap, and returns the new size in bytes.
-    pub fn shrink_to_fit(&mut self) -> u32 {
+    pub fn shrink_to_fit(&mut self) -> u32
+        ensures types { self.new.types ≡ self.old.types }
+        ensures shrinks { (picture : Picture) → IsSegment F.allocator self.old picture →
+            Shrinks F.allocator self.old self.new picture result }
+    {
         let w = self.heap_mut().window_mut();
         let cut = F::cut_end(w);
         let size = w.len().saturating_sub(cut.saturating_mul(UNIT));

@@ -74,9 +74,16 @@ impl<F: Fit, A: Allocator> Segment<F, A> {
     }
 
     /// How many unique objects there are.
-    pub fn num_unique(&self) -> usize {
-        (0..MAX_TYPES as TypeId)
-            .filter(|t| unique(self.window(), *t).is_some())
-            .count()
+    pub fn num_unique(&self) -> usize
+        ensures { (picture : Picture) → IsSegment F.allocator self.now picture →
+            result ≡ length picture.uniques }
+    {
+        let mut count = 0;
+        for t in 0..MAX_TYPES as TypeId {
+            if unique(self.window(), t).is_some() {
+                count += 1;
+            }
+        }
+        count
     }
 }

@@ -64,3 +64,7 @@ pub mod Resized
 pub mod PartCleared
 pub mod NoSpace
 pub mod Placements
+pub mod AddTypes
+pub mod UniqueLaws
+pub mod LooseRoots
+pub mod OneRequest

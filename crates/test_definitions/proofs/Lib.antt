@@ -3,8 +3,6 @@ pub mod Evaluating
 pub mod SoundImages
 pub mod UnsoundImages
 pub mod Parts
-pub mod UniqueLaws
-pub mod AddTypes
 pub mod EveryImage
 pub mod NoRoots
 pub mod PartLaw

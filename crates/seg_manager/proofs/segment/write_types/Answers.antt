@@ -15,7 +15,8 @@ loop-t-preserved g c =
     let new_is = ap (λ (p : Placement). p.bytes) c.copy_in.ensures in
     record {
       host = host_twice c.args.w.now c.loop-t.w c.copy_in.new.self (put c.loop-t.w.bytes (64 + 16 * t) c.entry.result) c.loop-t.invariant.host c.copy_in.ensures;
-      written = λ valid. one_written c.args.w.now.bytes c.loop-t.w.bytes c.copy_in.new.self.bytes c.args.types.now t (64 + 16 * t) (c.loop-t.invariant.written valid) less refl (entry_long c.args.types.now t valid) (rw c.entry.ensures at new_is);
+      written = λ valid. one_written c.args.w.now.bytes c.loop-t.w.bytes c.copy_in.new.self.bytes c.args.types.now t (64 + 16 * t) (c.loop-t.invariant.written valid) less refl
+          (entry_long c.args.types.now t valid) (rw c.entry.ensures at new_is);
     }
 
 pub returns-clause-changes : goal.returns-clause-changes

@@ -1,10 +1,10 @@
-use Rattle.std.proofs.Common.{◌≡◌, ◌∙◌, length, false, ap, sym, refl, subst, arith}
+use Rattle.std.proofs.Common.{◌≡◌, ◌∙◌, length, false, ap, sym, refl, arith}
 use Rattle.std.specs.Result.{OnOk, is_err}
 use Rattle.std.proofs.Common.{Result, Ok, Err}
 use Rattle.std.proofs.lemmas.Bool.{true≢false}
 use Rattle.seg_spec.specs.Window.{Placement}
 use Rattle.seg_spec.proofs.BytesLaws.{length-put}
-use Rattle.std.proofs.Common.{replicate, ◌≤◌, ◌+◌, ◌*◌, ◌/◌}
+use Rattle.std.proofs.Common.{replicate, ◌+◌, ◌/◌}
 use Rattle.seg_spec.specs.Heap.{IsHeap, without_end}
 use Rattle.seg_spec.specs.Faulty.{IsImageLength}
 use Rattle.seg_manager.proofs.Resizing.{grown_by_none, front_is, grown}
