@@ -11,7 +11,7 @@ use Rattle.seg_value.specs.declared.content.Shape.{Shape}
 use Rattle.seg_value.specs.declared.content.Shape.TheVariants as shape
 use Rattle.seg_raw.specs.declared.code.Code.TheVariants as code
 use Rattle.seg_map.specs.declared.map.Kind.TheVariants as kind
-use Rattle.seg_map.specs.EitherMap.{KindOf, IsMapOf, has_keys, key_asks}
+use Rattle.seg_map.specs.EitherMap.{KindOf, IsMapOf, has_keys, key_asks, KeepsTreePaths, KeepsKeysBut}
 use Rattle.seg_map.specs.Trees.{NamesTree}
 use Rattle.seg_map.specs.Maps.{FindsValue, PutsKey, RemovesKey}
 use Rattle.seg_spec.specs.Items.{key_place}
@@ -160,3 +160,11 @@ puts_by allocator old new table place U keys vs blocks o form is key passed same
 pub removes_by : (allocator : ℕ) (old new : List ℕ) (table : Table) (place : Place) (keys : List ℤ) (vs : Values) (blocks : List ℕ) (key passed : ℤ) → passed ≡ key → (gone : Bool)
     → RemovesKey allocator old new table place keys vs blocks (key_place keys passed) gone → RemovesKey allocator old new table place keys vs blocks (key_place keys key) gone
 removes_by allocator old new table place keys vs blocks key passed same gone h = subst (λ k. RemovesKey allocator old new table place keys vs blocks (key_place keys k) gone) same h
+
+pub tree_paths_by : (old new : List ℕ) (table : Table) (place : Place) (o : Option Form) (form : Form) → o ≡ Some form → KeepsTreePaths (Some form) old new table place → KeepsTreePaths o old new table place
+tree_paths_by old new table place o form is h = subst (λ f. KeepsTreePaths f old new table place) (sym is) h
+
+pub keeps_by : (old new : List ℕ) (table : Table) (place : Place) (o : Option Form) (form : Form) → o ≡ Some form → (key passed : ℤ) → passed ≡ key → KeepsKeysBut (Some form) old new table place passed
+    → KeepsKeysBut o old new table place key
+keeps_by old new table place o form is key passed same h =
+    subst (λ f. KeepsKeysBut f old new table place key) (sym is) (subst (λ k. KeepsKeysBut (Some form) old new table place k) same h)

@@ -4,13 +4,17 @@
 --     WhereMaps allocator bytes table map claim     the claim holds of a place that is a map
 --     key_asks bytes table at form     the requests for one more key
 --     KindOf table T form result       the kind of the maps of a type
-use Rattle.std.specs.Prelude.{◌≡◌, ℕ, ◌+◌, ℤ, Bool, true, false, List, [], ◌∷◌, Option, Some, Result, Ok, Err}
+--     KeepsTreePaths form old new table map         paths into a map that is a tree lead where they led
+--     KeepsKeysBut form old new table map key       paths through other keys do: through all of them in
+--                                                   a tree, through lower ones in a flat map
+use Rattle.std.specs.Prelude.{⊤, ◌≡◌, ℕ, ◌+◌, ℤ, Bool, true, false, List, [], ◌∷◌, Option, Some, Result, Ok, Err}
 use Rattle.seg_spec.specs.Types.{Form, Table, form_at, size}
 use Rattle.seg_spec.specs.Value.{Values, Map}
 use Rattle.seg_spec.specs.Block.{Kind, tag_of}
 use Rattle.seg_spec.specs.Reads.{Place}
 use Rattle.seg_spec.specs.Owning.{Stands}
 use Rattle.seg_spec.specs.Demand.{Ask, block_for}
+use Rattle.seg_spec.specs.Shrinking.{KeepsPathsInside}
 use Rattle.seg_value.specs.Contents.{IsContent}
 use Rattle.seg_value.specs.Entries.{flat_asks}
 use Rattle.seg_value.specs.declared.content.Shape.TheVariants as shape
@@ -18,7 +22,8 @@ use Rattle.seg_raw.specs.declared.code.Code.{Code}
 use Rattle.seg_raw.specs.declared.code.Code.TheVariants as code
 use Rattle.seg_map.specs.declared.map.Kind as map
 use Rattle.seg_map.specs.declared.map.Kind.TheVariants as kind
-use Rattle.seg_map.specs.Trees.{VALUE, NamesTree}
+use Rattle.seg_map.specs.Maps.{KeepsLowerKeys}
+use Rattle.seg_map.specs.Trees.{VALUE, NamesTree, KeepsOtherKeys}
 
 -- values of this form are maps
 abbrev pub has_keys : Option Form → Bool
@@ -54,3 +59,15 @@ KindOf table T (Some (Form.flat_map U)) _ = ⊥
 KindOf table T (Some (Form.map U)) _ = ⊥
 KindOf table T form (Ok content) = ⊥
 KindOf table T form (Err error) = error ≡ code.OtherType
+
+-- each path into a map that is a tree leads where it led
+abbrev pub KeepsTreePaths : Option Form → List ℕ → List ℕ → Table → Place → Type 0
+KeepsTreePaths (Some (Form.map U)) old new table map = KeepsPathsInside old new table map
+KeepsTreePaths form old new table map = ⊤
+
+-- each path through another key leads where it led: in a flat map, through a lower one, since the
+-- values of the others moved
+abbrev pub KeepsKeysBut : Option Form → List ℕ → List ℕ → Table → Place → ℤ → Type 0
+KeepsKeysBut (Some (Form.flat_map U)) old new table map key = KeepsLowerKeys old new table map key
+KeepsKeysBut (Some (Form.map U)) old new table map key = KeepsOtherKeys old new table map key
+KeepsKeysBut form old new table map key = ⊤

@@ -4,7 +4,7 @@ ghost use Rattle.seg_spec.specs.Items.{key_place};
 ghost use Rattle.seg_spec.specs.Types.{form_at};
 ghost use Rattle.seg_spec.specs.Window.{KeepsHost};
 ghost use Rattle.seg_value.specs.Places.{place_of};
-ghost use Rattle.seg_map.specs.EitherMap.{has_keys, WhereMaps, key_asks};
+ghost use Rattle.seg_map.specs.EitherMap.{has_keys, WhereMaps, key_asks, KeepsTreePaths, KeepsKeysBut};
 ghost use Rattle.seg_map.specs.Maps.{FindsValue, PutsKey, RemovesKey, first_of, keys_above};
 
 use crate::{flat, tree};
@@ -72,6 +72,9 @@ pub fn put<F: Fit, A: Allocator>(heap: &mut Heap<F, A>, map: Place, key: i64) ->
         heap.old.types (place_of map) U keys vs key blocks
         (key_asks heap.old.window.bytes heap.old.types map.at
         (form_at heap.old.types map.type_id)) (key_place keys key) result) }
+    ensures keeps { WhereMaps F.allocator heap.old.window.bytes heap.old.types (place_of map)
+        (λ U keys vs blocks. KeepsTreePaths (form_at heap.old.types map.type_id)
+        heap.old.window.bytes heap.new.window.bytes heap.old.types (place_of map)) }
 {
     match Kind::of(heap, map)? {
         Kind::Flat(content) => flat::put(heap, &content, map.at, key),
@@ -88,6 +91,9 @@ pub fn remove<F: Fit, A: Allocator>(heap: &mut Heap<F, A>, map: Place, key: i64)
     ensures removes { WhereMaps F.allocator heap.old.window.bytes heap.old.types (place_of map)
         (λ U keys vs blocks. RemovesKey F.allocator heap.old.window.bytes heap.new.window.bytes
         heap.old.types (place_of map) keys vs blocks (key_place keys key) result) }
+    ensures keeps { WhereMaps F.allocator heap.old.window.bytes heap.old.types (place_of map)
+        (λ U keys vs blocks. KeepsKeysBut (form_at heap.old.types map.type_id)
+        heap.old.window.bytes heap.new.window.bytes heap.old.types (place_of map) key) }
 {
     let Ok(kind) = Kind::of(heap, map) else {
         return false;
