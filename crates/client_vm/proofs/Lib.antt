@@ -5,3 +5,4 @@ pub mod Passed
 pub mod Programs
 pub mod Bounds
 pub mod Stepping
+pub mod ReportLaws
