@@ -10,7 +10,8 @@ use Rattle.client_vm.specs.declared.report.Report.{Report}
 use Rattle.client_vm.specs.Reports.{texts_of, IsReportOf, AreReportsOf}
 
 -- one report more
-one_report : (texts : List (List ℕ)) (reports : List Report) (text : List ℕ) (report : Report) → length texts ≡ length reports → AreReportsOf texts reports → IsReportOf text report → AreReportsOf (texts ++ text ∷ []) (reports ++ report ∷ [])
+one_report : (texts : List (List ℕ)) (reports : List Report) (text : List ℕ) (report : Report) → length texts ≡ length reports → AreReportsOf texts reports → IsReportOf text report
+    → AreReportsOf (texts ++ text ∷ []) (reports ++ report ∷ [])
 one_report [] [] text report e h is = (is, tt)
 one_report [] (r ∷ reports) text report e h is = absurd h
 one_report (t ∷ texts) [] text report e h is = absurd (omega arith)
