@@ -1,7 +1,7 @@
 -- What the reports of several clients say, whatever image they ran on.
 --     texts_of programs               the files of verified clients
---     IsReportOf text report          the steps and the ending are those of a run of the client's code,
---                                     within its bound
+--     IsReportOf text report          the steps and the ending are those of a run of the client's
+--                                     code, within its bound
 --     AreReportsOf texts reports      the same of each client that ran, in order
 use Rattle.std.specs.Prelude.{⊤, ℕ, ◌≤◌, List, [], ◌∷◌, map}
 use Rattle.client_spec.specs.Syntax.{Client}
