@@ -8,3 +8,4 @@ pub mod Pairing
 pub mod Paths
 pub mod Places
 pub mod Machines
+pub mod Reports

@@ -1,5 +1,6 @@
-ghost use Rattle.std.specs.Prelude.{◌≡◌, ◌↔◌, ◌≤◌, ◌<◌, ◌+◌, ◌*◌, ◌^◌, true, false, IfOk, IfErr, OnErr, OnOk, length, vec_len};
+ghost use Rattle.std.specs.Prelude.{◌≡◌, ◌↔◌, ◌≤◌, ◌<◌, ◌+◌, ◌*◌, ◌^◌, true, false, IfOk, IfErr, OnErr, OnOk, [], length, map, vec_len, vec_capacity};
 ghost use Rattle.seg_spec.specs.Window.{IsPlace};
+ghost use Rattle.client_vm.specs.Reports.{texts_of, AreReportsOf};
 
 use crate::interpreter::run;
 use crate::moves::{first_bad_move, is_place};
@@ -37,6 +38,10 @@ pub fn run_bytes<A: Allocator + Copy, W: Sink>(
     ensures refused { OnErr result (W.has_failed out.new ≡ false) }
     ensures ended { IfOk result
         (λ o. (o.ended ≡ Ended.OutputFailed) ↔ (W.has_failed out.new ≡ true)) }
+    ensures reports { IfOk result
+        (λ o. AreReportsOf (map (λ c. c.now) clients.now) o.reports.items) }
+    ensures all { IfOk result
+        (λ o. o.ended ≡ Ended.Done → length o.reports.items ≡ length clients.now) }
 {
     let len = fitting(image, schedule)?;
     let region = Region::with_bytes(alloc, schedule.room, schedule.base, image)?;
@@ -56,6 +61,10 @@ pub fn run_image<A: Allocator + Copy, W: Sink>(
     ensures refused { OnErr result (W.has_failed out.new ≡ false) }
     ensures ended { IfOk result
         (λ o. (o.ended ≡ Ended.OutputFailed) ↔ (W.has_failed out.new ≡ true)) }
+    ensures reports { IfOk result
+        (λ o. AreReportsOf (map (λ c. c.now) clients.now) o.reports.items) }
+    ensures all { IfOk result
+        (λ o. o.ended ≡ Ended.Done → length o.reports.items ≡ length clients.now) }
 {
     let len = fitting(image.as_slice(), schedule)?;
     let region = if len == schedule.room {
@@ -80,6 +89,10 @@ fn run_in<A: Allocator + Copy, W: Sink>(
     ensures refused { OnErr result (W.has_failed out.new ≡ false) }
     ensures ended { IfOk result
         (λ o. (o.ended ≡ Ended.OutputFailed) ↔ (W.has_failed out.new ≡ true)) }
+    ensures reports { IfOk result
+        (λ o. AreReportsOf (map (λ c. c.now) clients.now) o.reports.items) }
+    ensures all { IfOk result
+        (λ o. o.ended ≡ Ended.Done → length o.reports.items ≡ length clients.now) }
 {
     let window = Window::place(region, schedule.base, len).map_err(|refused| refused.0)?;
     if window.get32(header::ALLOCATOR) == BestFit::word() {
@@ -102,6 +115,10 @@ fn run_on<F: Fit, A: Allocator + Copy, W: Sink>(
     ensures refused { OnErr result (W.has_failed out.new ≡ false) }
     ensures ended { IfOk result
         (λ o. (o.ended ≡ Ended.OutputFailed) ↔ (W.has_failed out.new ≡ true)) }
+    ensures reports { IfOk result
+        (λ o. AreReportsOf (map (λ c. c.now) clients.now) o.reports.items) }
+    ensures all { IfOk result
+        (λ o. o.ended ≡ Ended.Done → length o.reports.items ≡ length clients.now) }
 {
     let mut segment = open::<F, A, A>(alloc, window).map_err(|refused| refused.0)?;
     let programs = verify_all(alloc, clients, segment.types())?;
@@ -157,7 +174,9 @@ fn verify_all<'a, A: Allocator + Copy>(
     alloc: A,
     clients: &[&'a [u8]],
     types: &TypeTable,
-) -> Result<Vec<Verified<'a>, A>, Refused> {
+) -> Result<Vec<Verified<'a>, A>, Refused>
+    ensures { IfOk result (λ programs. texts_of programs.items ≡ map (λ c. c.now) clients.now) }
+{
     let mut types = types.copy();
     let mut programs = Vec::with_capacity(alloc, clients.len())?;
     for (i, bytes) in clients.iter().enumerate() {
@@ -181,7 +200,12 @@ fn run_all<F: Fit, A: Allocator, B: Allocator, W: Sink>(
     moves: &[Move],
     out: &mut W,
     reports: &mut Vec<Report, B>,
-) {
+)
+    ensures reports { reports.old.items ≡ [] → length programs.now ≤ vec_capacity reports.old →
+        AreReportsOf (texts_of programs.now) reports.new.items }
+    ensures all { reports.old.items ≡ [] → length programs.now ≤ vec_capacity reports.old →
+        W.has_failed out.new ≡ false → length reports.new.items ≡ length programs.now }
+{
     let mut left = input;
     for program in programs {
         if out.failed() {

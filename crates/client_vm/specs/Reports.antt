@@ -1,0 +1,30 @@
+-- What the reports of several clients say, whatever image they ran on.
+--     texts_of programs               the files of verified clients
+--     IsReportOf text report          the steps and the ending are those of a run of the client's
+--                                     code, within its bound
+--     AreReportsOf texts reports      the same of each client that ran, in order
+use Rattle.std.specs.Prelude.{⊤, ℕ, ◌≤◌, List, [], ◌∷◌, map}
+use Rattle.client_spec.specs.Syntax.{Client}
+use Rattle.client_spec.specs.Grammar.{SpellsClient}
+use Rattle.client_spec.specs.Run.{bound}
+use Rattle.client_code.specs.Clients.{bytes_of}
+use Rattle.client_verify.specs.Accepted.{client_of}
+use Rattle.client_verify.specs.declared.verified.Verified.{Verified}
+use Rattle.client_vm.specs.declared.report.Report.{Report}
+use Rattle.client_vm.specs.Runs.{ending_of}
+use Rattle.client_vm.specs.Paths.{IsPath}
+
+abbrev pub texts_of : List Verified → List (List ℕ)
+texts_of programs = map (λ program. bytes_of (client_of program)) programs
+
+pub record IsReportOf (text : List ℕ) (report : Report) : Type 0 where
+  pub path : (client : Client) → SpellsClient text client →
+      IsPath client.code report.steps (ending_of report.ended)
+  pub within : (client : Client) → SpellsClient text client → report.steps ≤ bound client.code
+
+-- those after a failed output didn't run
+abbrev pub AreReportsOf : List (List ℕ) → List Report → Type 0
+AreReportsOf texts [] = ⊤
+AreReportsOf [] (report ∷ reports) = ⊥
+AreReportsOf (text ∷ texts) (report ∷ reports) =
+    IsReportOf text report × AreReportsOf texts reports
