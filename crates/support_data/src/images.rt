@@ -1,5 +1,10 @@
 use std::alloc::{AllocError, Global};
 
+/// The first `n` bytes, or all where there are fewer.
+pub fn front(bytes: &[u8], n: usize) -> &[u8] {
+    &bytes[..n.min(bytes.len())]
+}
+
 /// Writes bytes where they fit.
 pub fn write(to: &mut [u8], at: usize, bytes: &[u8]) {
     for (i, byte) in bytes.iter().enumerate() {

@@ -127,6 +127,17 @@ fn finds_faults_of_the_free_tree(rt: HostRuntime) -> Result<(), Fail> {
     for change in [(904, 1), (760, 2), (764, 1), (908, 1 << 31), (760, 0)] {
         image.finds(&rt, &[change], bad)?;
     }
+    // a link
+    for link in [748, 812, 892] {
+        image.finds(&rt, &[(link, 0)], bad)?;
+    }
+    Ok(())
+}
+
+#[test]
+fn finds_free_trees_of_other_blocks(rt: HostRuntime) -> Result<(), Fail> {
+    let mut image = grown(rt.alloc())?;
+    let bad = Fault::BadFree(24);
     // not all free blocks, one twice, what is no free block, a circle
     for change in [
         null(24),
@@ -141,10 +152,6 @@ fn finds_faults_of_the_free_tree(rt: HostRuntime) -> Result<(), Fail> {
         (896, 0x7fff_ffff),
     ] {
         image.finds(&rt, &[change], bad)?;
-    }
-    // a link
-    for link in [748, 812, 892] {
-        image.finds(&rt, &[(link, 0)], bad)?;
     }
     // larger before smaller
     image.finds(&rt, &[to(896, 816), to(900, 752)], bad)?;

@@ -5,7 +5,7 @@ use seg_raw::Fault;
 use std::alloc::Global;
 use std::process::Abort;
 use std::test::Fail;
-use support_data::{INCREMENT, counter, counter_with, write_words};
+use support_data::{INCREMENT, counter, counter_with, front};
 
 /// The counter's image, the increment client, and that client without its last byte.
 fn files(alloc: Global) -> Result<Stored, Fail> {
@@ -13,7 +13,7 @@ fn files(alloc: Global) -> Result<Stored, Fail> {
     files.add("image", counter(alloc)?.as_slice())?;
     let file = client(alloc, INCREMENT)?;
     files.add("client", file.as_slice())?;
-    files.add("cut", file.as_slice().get(..102).unwrap_or(&[]))?;
+    files.add("cut", front(file.as_slice(), 102))?;
     files.add("text", client(alloc, "type str\nname x\n")?.as_slice())?;
     Ok(files)
 }
@@ -24,38 +24,41 @@ fn refuses(rt: &impl Abort, printed: &Printed, status: u8, line: &str) {
     assert!(rt; printed.out.is_empty(), "the output of {line}");
 }
 
-#[test]
-fn refuses_runs(rt: HostRuntime) -> Result<(), Fail> {
-    for (words, line) in [
-        (
-            ["image", "saved", "client", "cut", "--base", "0"],
-            "client 1 fault 20 95\n",
-        ),
-        (
-            ["image", "saved", "text", "client", "--base", "0"],
-            "client 0 fault 4 0\n",
-        ),
-        (
-            ["image", "saved", "client", "client", "--base", "8"],
-            "fault 2\n",
-        ),
-        (
-            ["image", "saved", "client", "client", "--room", "783"],
-            "fault 2\n",
-        ),
-        (
-            ["client", "saved", "client", "client", "--base", "0"],
-            "fault 10\n",
-        ),
-    ] {
-        let [image, saved, first, second, option, value] = words;
-        let mut files = files(rt.alloc())?;
-        let words = ["segtool", "run", image, saved, first, second, option, value];
-        let printed = run(rt.alloc(), words.as_slice(), &mut files);
-        refuses(&rt, &printed, 1, line);
-        assert!(rt; !files.has("saved"));
-    }
+/// A run on these words is refused, and writes nothing.
+fn refuses_run(rt: &(impl Abort + AllocGlobal), words: &[&str], line: &str) -> Result<(), Fail> {
+    let mut files = files(rt.alloc())?;
+    let printed = run(rt.alloc(), words, &mut files);
+    refuses(rt, &printed, 1, line);
+    assert!(rt; !files.has("saved"));
     Ok(())
+}
+
+#[test]
+fn refuses_clients(rt: HostRuntime) -> Result<(), Fail> {
+    let words = [
+        "segtool", "run", "image", "saved", "client", "cut", "--base", "0",
+    ];
+    refuses_run(&rt, &words, "client 1 fault 20 95\n")?;
+    let words = [
+        "segtool", "run", "image", "saved", "text", "client", "--base", "0",
+    ];
+    refuses_run(&rt, &words, "client 0 fault 4 0\n")
+}
+
+#[test]
+fn refuses_places_and_images(rt: HostRuntime) -> Result<(), Fail> {
+    let words = [
+        "segtool", "run", "image", "saved", "client", "client", "--base", "8",
+    ];
+    refuses_run(&rt, &words, "fault 2\n")?;
+    let words = [
+        "segtool", "run", "image", "saved", "client", "client", "--room", "783",
+    ];
+    refuses_run(&rt, &words, "fault 2\n")?;
+    let words = [
+        "segtool", "run", "client", "saved", "client", "client", "--base", "0",
+    ];
+    refuses_run(&rt, &words, "fault 10\n")
 }
 
 /// A room that ends before the segment, at a base above 0.
@@ -110,7 +113,7 @@ fn says(rt: &(impl Abort + AllocGlobal), changes: &[(usize, u32)], line: &str) -
 }
 
 #[test]
-fn finds_faults_in_images(rt: HostRuntime) -> Result<(), Fail> {
+fn finds_faults_in_headers_and_types(rt: HostRuntime) -> Result<(), Fail> {
     // magic, version, size, and the words for the allocator, the index and zero
     says(&rt, &[(0, 0x4745_4954)], "fault 10\n")?;
     says(&rt, &[(8, 2)], "fault 10\n")?;
@@ -119,7 +122,11 @@ fn finds_faults_in_images(rt: HostRuntime) -> Result<(), Fail> {
     says(&rt, &[(60, 1 << 24)], "fault 10\n")?;
     // a type of an unknown kind, a used entry after an unused one
     says(&rt, &[(64, 9)], "fault 3 0\n")?;
-    says(&rt, &[(96, 1)], "fault 3 2\n")?;
+    says(&rt, &[(96, 1)], "fault 3 2\n")
+}
+
+#[test]
+fn finds_faults_in_blocks(rt: HostRuntime) -> Result<(), Fail> {
     // units too few and too many, of the block before, a tag without its type, a link
     says(&rt, &[(704, 0x8000_0001)], "fault 11 704\n")?;
     says(&rt, &[(704, 0x8000_0006)], "fault 11 704\n")?;
@@ -127,68 +134,78 @@ fn finds_faults_in_images(rt: HostRuntime) -> Result<(), Fail> {
     says(&rt, &[(712, 257)], "fault 11 704\n")?;
     says(&rt, &[(748, 0)], "fault 11 736\n")?;
     // a free list that names a block
-    says(&rt, &[(24, 4)], "fault 12 24\n")?;
+    says(&rt, &[(24, 4)], "fault 12 24\n")
+}
+
+#[test]
+fn finds_faults_in_names_and_owners(rt: HostRuntime) -> Result<(), Fail> {
     // no names beside a buffer, an entry without values, a name that isn't printable
     says(&rt, &[(36, 0)], "fault 13 32\n")?;
     says(&rt, &[(756, 0x0001_0000)], "fault 13 752\n")?;
     says(&rt, &[(728, 0x20)], "fault 13 752\n")?;
-    // pointers: to itself, between blocks, to a block of another kind, past the end, too small a block
+    // two entries that name one object; no index for the blocks that are there
+    let twice = [(36, 2), (760, 0xffff_ffd8), (764, 0x0001_0001)];
+    says(&rt, &twice, "fault 15 704\n")?;
+    says(&rt, &[(32, 1), (36, 0)], "fault 16 704\n")
+}
+
+#[test]
+fn finds_faults_in_pointers(rt: HostRuntime) -> Result<(), Fail> {
+    // to itself, between blocks, to a block of another kind, past the end, too small a block
     says(&rt, &[(752, 0)], "fault 14 752\n")?;
     says(&rt, &[(752, 0xffff_ffe4)], "fault 14 752\n")?;
     says(&rt, &[(32, 688)], "fault 14 32\n")?;
     says(&rt, &[(32, 0x7fff_ffff)], "fault 14 32\n")?;
     says(&rt, &[(756, 0x0001_0002)], "fault 14 752\n")?;
-    says(&rt, &[(576, 144)], "fault 14 576\n")?;
-    // two entries that name one object; no index for the blocks that are there
-    says(
-        &rt,
-        &[(36, 2), (760, 0xffff_ffd8), (764, 0x0001_0001)],
-        "fault 15 704\n",
-    )?;
-    says(&rt, &[(32, 1), (36, 0)], "fault 16 704\n")?;
+    says(&rt, &[(576, 144)], "fault 14 576\n")
+}
+
+/// What `check` says of the first bytes of the counter's image.
+fn says_of_a_cut_image(rt: &(impl Abort + AllocGlobal), len: usize) -> Result<(), Fail> {
+    let image = counter(rt.alloc())?;
+    let mut files = Stored::new(rt.alloc());
+    files.add("image", front(image.as_slice(), len))?;
+    let words = ["segtool", "check", "image"];
+    let printed = run(rt.alloc(), words.as_slice(), &mut files);
+    refuses(rt, &printed, 1, "fault 10\n");
     Ok(())
 }
 
 #[test]
 fn finds_cut_images(rt: HostRuntime) -> Result<(), Fail> {
-    let image = counter(rt.alloc())?;
     for len in [0, 16, 64, 704, 720, 736, 783] {
-        let mut files = Stored::new(rt.alloc());
-        files.add("image", image.as_slice().get(..len).unwrap_or(&[]))?;
-        let printed = run(
-            rt.alloc(),
-            ["segtool", "check", "image"].as_slice(),
-            &mut files,
-        );
-        refuses(&rt, &printed, 1, "fault 10\n");
+        says_of_a_cut_image(&rt, len)?;
     }
     Ok(())
 }
 
-#[test]
-fn refuses_moves(rt: HostRuntime) -> Result<(), Fail> {
-    let alloc = rt.alloc();
-    let image = counter(alloc)?;
-    for (moves, bad) in [
-        ([(2, 0), (2, 0)], 1),
-        ([(0, 0), (2, 0)], 0),
-        ([(1, 16), (3, 32)], 1),
-        ([(1, 8), (2, 0)], 0),
-    ] {
-        let moves = moves.map(|(step, base)| Move { step, base });
-        let schedule = Schedule {
-            room: 800,
-            base: 0,
-            moves: moves.as_slice(),
-        };
-        let mut out = Through::new(Vec::new(alloc));
-        match run_bytes(alloc, image.as_slice(), &[], b"", &schedule, &mut out) {
-            Ok(_) => return Err(Fail::from("ran")),
-            Err(refused) => {
-                assert!(rt; refused.fault == Fault::BadMove(bad));
-                assert!(rt; refused.client.is_none());
-            }
+fn before(step: u64, base: u32) -> Move {
+    Move { step, base }
+}
+
+/// A run with these moves is refused for the one with this index.
+fn refuses_move(rt: &(impl Abort + AllocGlobal), moves: &[Move], bad: u32) -> Result<(), Fail> {
+    let image = counter(rt.alloc())?;
+    let schedule = Schedule {
+        room: 800,
+        base: 0,
+        moves,
+    };
+    let mut out = Through::new(Vec::new(rt.alloc()));
+    match run_bytes(rt.alloc(), image.as_slice(), &[], b"", &schedule, &mut out) {
+        Ok(_) => Err(Fail::from("ran")),
+        Err(refused) => {
+            assert!(rt; refused.fault == Fault::BadMove(bad));
+            assert!(rt; refused.client.is_none());
+            Ok(())
         }
     }
-    Ok(())
+}
+
+#[test]
+fn refuses_moves(rt: HostRuntime) -> Result<(), Fail> {
+    refuses_move(&rt, &[before(2, 0), before(2, 0)], 1)?;
+    refuses_move(&rt, &[before(0, 0), before(2, 0)], 0)?;
+    refuses_move(&rt, &[before(1, 16), before(3, 32)], 1)?;
+    refuses_move(&rt, &[before(1, 8), before(2, 0)], 0)
 }

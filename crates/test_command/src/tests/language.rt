@@ -67,29 +67,31 @@ END
 END
 ";
 
+/// What `verify` says of the client with this text.
+fn verify_says(
+    rt: &(impl Abort + AllocGlobal),
+    text: &str,
+    status: u8,
+    out: &str,
+    err: &str,
+) -> Result<(), Fail> {
+    let mut files = Stored::new(rt.alloc());
+    files.add("image", counter(rt.alloc())?.as_slice())?;
+    files.add("client", client(rt.alloc(), text)?.as_slice())?;
+    let words = ["segtool", "verify", "image", "client"];
+    let printed = run(rt.alloc(), words.as_slice(), &mut files);
+    is(rt, &printed, status, out, err);
+    Ok(())
+}
+
 #[test]
 fn verifies(rt: HostRuntime) -> Result<(), Fail> {
-    let alloc = rt.alloc();
-    for (text, status, out, err) in [
-        (INCREMENT, 0, "steps 6\n", ""),
-        (
-            "CONST r0 0\nWHILE r0 5\nOUTI r0\nEND\n",
-            0,
-            "steps 12\n",
-            "",
-        ),
-        ("type str\n", 1, "", "fault 4 0\n"),
-        ("LOAD r0 r1\n", 1, "", "fault 22 0 1\n"),
-        (TOO_LONG, 1, "", "fault 23\n"),
-    ] {
-        let mut files = Stored::new(alloc);
-        files.add("image", counter(alloc)?.as_slice())?;
-        files.add("client", client(alloc, text)?.as_slice())?;
-        let words = ["segtool", "verify", "image", "client"];
-        let printed = run(alloc, words.as_slice(), &mut files);
-        is(&rt, &printed, status, out, err);
-    }
-    Ok(())
+    verify_says(&rt, INCREMENT, 0, "steps 6\n", "")?;
+    let turns = "CONST r0 0\nWHILE r0 5\nOUTI r0\nEND\n";
+    verify_says(&rt, turns, 0, "steps 12\n", "")?;
+    verify_says(&rt, "type str\n", 1, "", "fault 4 0\n")?;
+    verify_says(&rt, "LOAD r0 r1\n", 1, "", "fault 22 0 1\n")?;
+    verify_says(&rt, TOO_LONG, 1, "", "fault 23\n")
 }
 
 #[test]

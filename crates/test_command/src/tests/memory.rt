@@ -142,7 +142,18 @@ fn perform(
     }
 }
 
-/// Each call is refused for memory until there is enough, and then does what it says.
+/// How often a call is refused for memory until there is enough. It does what it says then.
+fn refusals_of(rt: &(impl Abort + AllocGlobal), call: Call) -> Result<usize, Fail> {
+    for size in 1..256usize {
+        let heap = LocalHeap::new(rt.alloc(), size * 16)?;
+        match perform(rt, &heap, call)? {
+            None => return Ok(size - 1),
+            Some(fault) => assert_eq!(rt; fault, Fault::Memory),
+        }
+    }
+    Err(Fail::from("never enough"))
+}
+
 #[test]
 fn calls_answer_memory_until_there_is_enough(rt: HostRuntime) -> Result<(), Fail> {
     for call in [
@@ -153,19 +164,7 @@ fn calls_answer_memory_until_there_is_enough(rt: HostRuntime) -> Result<(), Fail
         Call::Assemble,
         Call::Print,
     ] {
-        let mut refusals = 0usize;
-        for size in 1..256usize {
-            let heap = LocalHeap::new(rt.alloc(), size * 16)?;
-            match perform(&rt, &heap, call)? {
-                None => break,
-                Some(fault) => assert_eq!(rt; fault, Fault::Memory),
-            }
-            refusals = refusals.saturating_add(1);
-        }
-        assert!(rt;
-            0 < refusals && refusals < 255,
-            "{call:?}: {refusals} refusals"
-        );
+        assert!(rt; refusals_of(&rt, call)? > 0, "{call:?}");
     }
     Ok(())
 }

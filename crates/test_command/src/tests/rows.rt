@@ -20,25 +20,24 @@ fn prints(rt: &impl Abort, printed: &Printed, out: &str) {
     assert!(rt; printed.err.is_empty());
 }
 
+/// The increment client on the counter's image, at a base of a room.
+fn increments_at(rt: &(impl Abort + AllocGlobal), base: &str, room: &str) -> Result<(), Fail> {
+    let mut files = files(rt.alloc())?;
+    let words = [
+        "segtool", "run", "image", "saved", "client", "--base", base, "--room", room,
+    ];
+    let printed = run(rt.alloc(), words.as_slice(), &mut files);
+    prints(rt, &printed, "42\n");
+    let saved = counter_with(rt.alloc(), &[(720, 42)])?;
+    assert_eq!(rt; files.get("saved"), saved.as_slice());
+    Ok(())
+}
+
 #[test]
 fn increments_the_counter(rt: HostRuntime) -> Result<(), Fail> {
-    let alloc = rt.alloc();
-    let saved = counter_with(alloc, &[(720, 42)])?;
-    for words in [
-        ["--base", "0", "--room", "784"],
-        ["--base", "16", "--room", "800"],
-        ["--base", "4096", "--room", "8192"],
-    ] {
-        let [base, at, room, bytes] = words;
-        let mut files = files(alloc)?;
-        let words = [
-            "segtool", "run", "image", "saved", "client", base, at, room, bytes,
-        ];
-        let printed = run(alloc, words.as_slice(), &mut files);
-        prints(&rt, &printed, "42\n");
-        assert_eq!(rt; files.get("saved"), saved.as_slice());
-    }
-    Ok(())
+    increments_at(&rt, "0", "784")?;
+    increments_at(&rt, "16", "800")?;
+    increments_at(&rt, "4096", "8192")
 }
 
 #[test]

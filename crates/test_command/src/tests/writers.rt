@@ -3,7 +3,7 @@ use crate::tests::files::{Stored, run, run_into};
 use std::alloc::Global;
 use std::process::Abort;
 use std::test::Fail;
-use support_data::{INCREMENT, Limited, counter, counter_with};
+use support_data::{INCREMENT, Limited, counter, counter_with, front};
 
 fn files(alloc: Global) -> Result<Stored, Fail> {
     let mut files = Stored::new(alloc);
@@ -14,20 +14,25 @@ fn files(alloc: Global) -> Result<Stored, Fail> {
 
 const RUN: [&str; 5] = ["segtool", "run", "image", "saved", "client"];
 
-/// The output fails at each byte in turn: what came before was taken, and the image is saved, with what the client
-/// did up to there.
+/// An output that takes so many bytes: what came before was taken, and the image is saved, with what the client did up to
+/// there.
+fn stops_after(rt: &(impl Abort + AllocGlobal), limit: usize) -> Result<(), Fail> {
+    let mut files = files(rt.alloc())?;
+    let out = Limited::new(rt.alloc(), usize::MAX, limit);
+    let printed = run_into(rt.alloc(), RUN.as_slice(), &mut files, out);
+    assert_eq!(rt; printed.status, 3);
+    assert_eq!(rt; printed.err.as_slice(), b"file -\n".as_slice());
+    assert_eq!(rt; printed.out.as_slice(), front(b"42\n", limit));
+    let saved = counter_with(rt.alloc(), &[(720, 42)])?;
+    assert_eq!(rt; files.get("saved"), saved.as_slice());
+    Ok(())
+}
+
+/// The output fails at each byte in turn.
 #[test]
 fn stops_at_a_failed_output(rt: HostRuntime) -> Result<(), Fail> {
-    let alloc = rt.alloc();
-    let saved = counter_with(alloc, &[(720, 42)])?;
-    for limit in 0..3usize {
-        let mut files = files(alloc)?;
-        let out = Limited::new(alloc, usize::MAX, limit);
-        let printed = run_into(alloc, RUN.as_slice(), &mut files, out);
-        assert_eq!(rt; printed.status, 3);
-        assert_eq!(rt; printed.err.as_slice(), b"file -\n".as_slice());
-        assert_eq!(rt; printed.out.as_slice(), b"42\n".get(..limit).unwrap_or(b""));
-        assert_eq!(rt; files.get("saved"), saved.as_slice());
+    for limit in 0..3 {
+        stops_after(&rt, limit)?;
     }
     Ok(())
 }
@@ -43,21 +48,33 @@ fn writes_a_byte_at_a_time(rt: HostRuntime) -> Result<(), Fail> {
     Ok(())
 }
 
-/// Each read and the write fail in turn: the file is named, and nothing is written after a read that failed.
+/// A read that fails: the file is named, and nothing is written after it.
+fn tells_of_a_failed_read(
+    rt: &(impl Abort + AllocGlobal),
+    read: usize,
+    line: &str,
+) -> Result<(), Fail> {
+    let mut files = files(rt.alloc())?;
+    files.failing_read = read;
+    let printed = run(rt.alloc(), RUN.as_slice(), &mut files);
+    assert_eq!(rt; printed.status, 3);
+    assert_eq!(rt; printed.err.as_slice(), line.as_bytes());
+    assert!(rt; printed.out.is_empty() && !files.has("saved"));
+    Ok(())
+}
+
+/// Each read fails in turn.
 #[test]
-fn tells_of_a_failed_file(rt: HostRuntime) -> Result<(), Fail> {
-    let alloc = rt.alloc();
-    for (read, line) in [(1, "file image\n"), (2, "file client\n")] {
-        let mut files = files(alloc)?;
-        files.failing_read = read;
-        let printed = run(alloc, RUN.as_slice(), &mut files);
-        assert_eq!(rt; printed.status, 3);
-        assert_eq!(rt; printed.err.as_slice(), line.as_bytes());
-        assert!(rt; printed.out.is_empty() && !files.has("saved"));
-    }
-    let mut files = files(alloc)?;
+fn tells_of_failed_reads(rt: HostRuntime) -> Result<(), Fail> {
+    tells_of_a_failed_read(&rt, 1, "file image\n")?;
+    tells_of_a_failed_read(&rt, 2, "file client\n")
+}
+
+#[test]
+fn tells_of_a_failed_write(rt: HostRuntime) -> Result<(), Fail> {
+    let mut files = files(rt.alloc())?;
     files.failing_write = 1;
-    let printed = run(alloc, RUN.as_slice(), &mut files);
+    let printed = run(rt.alloc(), RUN.as_slice(), &mut files);
     assert_eq!(rt; printed.status, 3);
     assert_eq!(rt; printed.err.as_slice(), b"file saved\n".as_slice());
     assert_eq!(rt; printed.out.as_slice(), b"42\n".as_slice());

@@ -120,12 +120,12 @@ impl<'a> AbstractRun<'a> {
         let Some(constant) = constants.get(i.constant() as usize) else {
             return Err(Fail::from("no such constant"));
         };
-        let mut name = Vec::from_slice(self.alloc, constant.bytes)?;
-        if constant.kind == ConstantKind::Family {
-            name.push(b'#')?;
-            name.extend_from_slice(Buffer::new().format(self.number(i.b)).as_bytes())?;
+        match constant.kind {
+            ConstantKind::Family => family_name(self.alloc, constant.bytes, self.number(i.b)),
+            ConstantKind::Name | ConstantKind::Text => {
+                Ok(Vec::from_slice(self.alloc, constant.bytes)?)
+            }
         }
-        Ok(name)
     }
 
     /// Runs to the end of the code.
@@ -145,31 +145,39 @@ impl<'a> AbstractRun<'a> {
                 self.count_step();
                 self.act(objects, i)?;
                 self.go_after(self.at);
+                Ok(())
             }
-            Role::Opener => {
-                self.count_step();
-                let opens = self.open(objects, i)?;
-                self.parts.push(Part::Opener)?;
-                self.go_after(if opens {
-                    self.at
-                } else {
-                    self.mark(Role::Else)
-                });
-            }
-            Role::Loop => {
-                self.count_step();
-                self.parts.push(Part::Loop {
-                    start: self.at,
-                    turns: i.number,
-                })?;
-                self.at = self.mark(Role::End);
-            }
+            Role::Opener => self.open_part(objects, i),
+            Role::Loop => self.enter(i),
             Role::Else => {
                 let _ = self.parts.pop();
                 self.go_after(self.mark(Role::End));
+                Ok(())
             }
-            Role::End => self.end()?,
+            Role::End => self.end(),
         }
+    }
+
+    fn open_part(&mut self, objects: &mut Objects, i: Instruction) -> Result<(), Fail> {
+        self.count_step();
+        let opens = self.open(objects, i)?;
+        self.parts.push(Part::Opener)?;
+        let at = if opens {
+            self.at
+        } else {
+            self.mark(Role::Else)
+        };
+        self.go_after(at);
+        Ok(())
+    }
+
+    fn enter(&mut self, i: Instruction) -> Result<(), Fail> {
+        self.count_step();
+        self.parts.push(Part::Loop {
+            start: self.at,
+            turns: i.number,
+        })?;
+        self.at = self.mark(Role::End);
         Ok(())
     }
 
@@ -222,4 +230,12 @@ impl<'a> AbstractRun<'a> {
         }
         end
     }
+}
+
+/// The name of a family for a number.
+fn family_name(alloc: Global, front: &[u8], number: i64) -> Result<Vec<u8>, Fail> {
+    let mut name = Vec::from_slice(alloc, front)?;
+    name.push(b'#')?;
+    name.extend_from_slice(Buffer::new().format(number).as_bytes())?;
+    Ok(name)
 }

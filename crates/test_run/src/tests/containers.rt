@@ -1,4 +1,4 @@
-use crate::tests::runs::{BEST_FLAT, KINDS, SEQ_FLAT, leaves, run_anew, run_on};
+use crate::tests::runs::{BEST_FLAT, KINDS, SEQ_FLAT, empty, goes_on, leaves, run_anew, run_on};
 use std::alloc::{AllocError, Global};
 use std::process::Abort;
 use std::test::Fail;
@@ -124,12 +124,12 @@ const EMPTY_TEXT: &str = "type str
 /// A text of 5 bytes has a buffer of 2 units, of 25 bytes one of 3 at its place. Shrinking gives back what it can.
 #[test]
 fn texts_grow_and_shrink_in_place(rt: HostRuntime) -> Result<(), Fail> {
-    let ran = run_anew(rt.alloc(), 1024, SEQ_FLAT, &[GROW_TEXT])?;
-    leaves(&rt, &ran, "5\n25\nhelloabcdefghijklmnopqrst", 192, 1)?;
-    let ran = run_on(rt.alloc(), ran.image.as_slice(), &[SHRINK_TEXT])?;
-    leaves(&rt, &ran, "", 208, 1)?;
-    let ran = run_on(rt.alloc(), ran.image.as_slice(), &[EMPTY_TEXT])?;
-    leaves(&rt, &ran, "0\n6\n", 240, 1)
+    let image = empty(rt.alloc(), 1024, SEQ_FLAT)?;
+    let printed = "5\n25\nhelloabcdefghijklmnopqrst";
+    let image = goes_on(&rt, image.as_slice(), GROW_TEXT, printed, 192, 1)?;
+    let image = goes_on(&rt, image.as_slice(), SHRINK_TEXT, "", 208, 1)?;
+    let _ = goes_on(&rt, image.as_slice(), EMPTY_TEXT, "0\n6\n", 240, 1)?;
+    Ok(())
 }
 
 /// Bytes of a text, one by one.
@@ -242,14 +242,12 @@ const KILL_NUMBERS: &str = "type i64
 /// Each node of a list of numbers has 2 units.
 #[test]
 fn lists_of_numbers(rt: HostRuntime) -> Result<(), Fail> {
-    let ran = run_anew(rt.alloc(), 1024, SEQ_FLAT, &[PUSH_NUMBERS])?;
-    leaves(&rt, &ran, "", 112, 1)?;
-    let ran = run_on(rt.alloc(), ran.image.as_slice(), &[POP_NUMBER])?;
-    leaves(&rt, &ran, "3\n7\n", 144, 1)?;
-    let ran = run_on(rt.alloc(), ran.image.as_slice(), &[CLEAR_NUMBERS])?;
-    leaves(&rt, &ran, "6\n", 240, 1)?;
-    let ran = run_on(rt.alloc(), ran.image.as_slice(), &[KILL_NUMBERS])?;
-    leaves(&rt, &ran, "", 320, 0)
+    let image = empty(rt.alloc(), 1024, SEQ_FLAT)?;
+    let image = goes_on(&rt, image.as_slice(), PUSH_NUMBERS, "", 112, 1)?;
+    let image = goes_on(&rt, image.as_slice(), POP_NUMBER, "3\n7\n", 144, 1)?;
+    let image = goes_on(&rt, image.as_slice(), CLEAR_NUMBERS, "6\n", 240, 1)?;
+    let _ = goes_on(&rt, image.as_slice(), KILL_NUMBERS, "", 320, 0)?;
+    Ok(())
 }
 
 /// Prints the keys of the map m: the first, the next, and the code after the last.

@@ -35,7 +35,22 @@ fn is_untouched(bytes: &[u8]) -> bool {
     bytes.iter().all(|byte| *byte == 0xa5)
 }
 
-/// Runs the increment client at a base with moves. Answers the host's bytes.
+/// Runs the increment client on a segment with moves.
+fn increment(
+    rt: &(impl Abort + AllocGlobal),
+    segment: &mut Segment<SeqFit, Global>,
+    moves: &[Move],
+) -> Result<(), Fail> {
+    let verified = verify(parse(&INCREMENT_FILE)?, segment.types())?;
+    let mut out = Through::new(Limited::new(rt.alloc(), 1, usize::MAX));
+    let report = run(segment, &verified, b"", moves, &mut out);
+    assert_eq!(rt; report.steps, 6);
+    assert!(rt; report.ended == Ended::Done);
+    assert_eq!(rt; out.into_inner().bytes.as_slice(), b"42\n".as_slice());
+    Ok(())
+}
+
+/// Runs the increment client on the counter at a base with moves. Returns the host's bytes.
 fn increments(
     rt: &(impl Abort + AllocGlobal),
     base: u32,
@@ -43,15 +58,17 @@ fn increments(
 ) -> Result<Region<Global>, Fail> {
     let mut segment = placed(rt.alloc(), base)?;
     assert_eq!(rt; moves_fit(&segment, moves), None);
-    let verified = verify(parse(&INCREMENT_FILE)?, segment.types())?;
-    let mut out = Through::new(Limited::new(rt.alloc(), 1, usize::MAX));
-    let report = run(&mut segment, &verified, b"", moves, &mut out);
-    assert_eq!(rt; report.steps, 6);
-    assert!(rt; report.ended == Ended::Done);
-    assert_eq!(rt; out.into_inner().bytes.as_slice(), b"42\n".as_slice());
+    increment(rt, &mut segment, moves)?;
     let saved = counter_with(rt.alloc(), &[(720, 42)])?;
     assert_eq!(rt; segment.window().slice(0, 784), saved.as_slice());
     Ok(segment.into_region())
+}
+
+/// Whether the bytes of a region in a range are those that the host had.
+fn keeps(region: &Region<Global>, from: u32, to: u32) -> bool {
+    from <= to
+        && to <= region.len()
+        && is_untouched(region.slice(from as usize, (to - from) as usize))
 }
 
 /// Where a segment doesn't lie, its host's bytes stay.
@@ -59,39 +76,37 @@ fn increments(
 fn host_bytes_stay(rt: HostRuntime) -> Result<(), Fail> {
     for base in [0u32, 16, 4096, 7408] {
         let region = increments(&rt, base, &[])?;
-        let bytes = region.slice(0, region.len() as usize);
-        let (before, rest) = bytes.split_at_checked(base as usize).ok_or("short")?;
-        let (_, following) = rest.split_at_checked(784).ok_or("short")?;
-        assert!(rt; is_untouched(before) && is_untouched(following));
+        assert!(rt; keeps(&region, 0, base) && keeps(&region, base.saturating_add(784), ROOM));
     }
     Ok(())
 }
 
-/// Moved before each step between two places, it leaves all bytes outside these; where it was before its only move, it
-/// leaves the image as it was then.
+fn before(step: u64, base: u32) -> Move {
+    Move { step, base }
+}
+
+/// Moved before each step between two places, it leaves all bytes outside these.
 #[test]
 fn host_bytes_stay_where_it_moves(rt: HostRuntime) -> Result<(), Fail> {
-    let moves = [1u64, 2, 3, 4, 5, 6].map(|step| Move {
-        step,
-        base: if step % 2 == 1 { 4096 } else { 0 },
-    });
+    let moves = [
+        before(1, 4096),
+        before(2, 0),
+        before(3, 4096),
+        before(4, 0),
+        before(5, 4096),
+        before(6, 0),
+    ];
     let region = increments(&rt, 0, &moves)?;
-    let bytes = region.slice(0, region.len() as usize);
-    assert!(rt; is_untouched(bytes.get(784..4096).unwrap_or(b"short")));
-    assert!(rt; is_untouched(bytes.get(4880..8192).unwrap_or(b"short")));
-    let region = increments(
-        &rt,
-        0,
-        &[Move {
-            step: 5,
-            base: 4096,
-        }],
-    )?;
-    let bytes = region.slice(0, region.len() as usize);
-    assert_eq!(rt;
-        bytes.get(..784).unwrap_or(&[]),
-        counter(rt.alloc())?.as_slice()
-    );
+    assert!(rt; keeps(&region, 784, 4096) && keeps(&region, 4880, ROOM));
+    Ok(())
+}
+
+/// Where it was before its only move, it leaves the image as it was then.
+#[test]
+fn an_image_stays_where_it_was(rt: HostRuntime) -> Result<(), Fail> {
+    let region = increments(&rt, 0, &[before(5, 4096)])?;
+    assert_eq!(rt; region.len(), ROOM);
+    assert_eq!(rt; region.slice(0, 784), counter(rt.alloc())?.as_slice());
     Ok(())
 }
 
@@ -99,27 +114,11 @@ fn host_bytes_stay_where_it_moves(rt: HostRuntime) -> Result<(), Fail> {
 #[test]
 fn moves_that_do_not_fit(rt: HostRuntime) -> Result<(), Fail> {
     let segment = placed(rt.alloc(), 0)?;
-    let fits = Move { step: 2, base: 16 };
-    for (second, wanted) in [
-        (
-            Move {
-                step: 3,
-                base: 7408,
-            },
-            None,
-        ),
-        (Move { step: 2, base: 0 }, Some(1)),
-        (Move { step: 3, base: 8 }, Some(1)),
-        (
-            Move {
-                step: 3,
-                base: 7424,
-            },
-            Some(1),
-        ),
-    ] {
-        assert_eq!(rt; moves_fit(&segment, &[fits, second]), wanted);
+    let fits = before(2, 16);
+    assert_eq!(rt; moves_fit(&segment, &[fits, before(3, 7408)]), None);
+    for second in [before(2, 0), before(3, 8), before(3, 7424)] {
+        assert_eq!(rt; moves_fit(&segment, &[fits, second]), Some(1));
     }
-    assert_eq!(rt; moves_fit(&segment, &[Move { step: 0, base: 0 }]), Some(0));
+    assert_eq!(rt; moves_fit(&segment, &[before(0, 0)]), Some(0));
     Ok(())
 }

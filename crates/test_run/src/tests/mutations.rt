@@ -1,4 +1,4 @@
-use crate::tests::runs::{KINDS, run_anew};
+use crate::tests::runs::{KINDS, Kind, run_anew};
 use crate::tests::sizes::MAKE_EACH_KIND;
 use arrayvec::ArrayVec;
 use seg_bestfit::BestFit;
@@ -11,6 +11,7 @@ use seg_seqfit::SeqFit;
 use std::alloc::Global;
 use std::process::Abort;
 use std::test::Fail;
+use support_data::front;
 
 /// How a byte is changed: one bit, all bits, every second bit.
 const CHANGES: [u8; 11] = [1, 2, 4, 8, 16, 32, 64, 128, 0xff, 0x55, 0xaa];
@@ -66,28 +67,42 @@ fn use_image(rt: &(impl Abort + AllocGlobal), image: &[u8]) -> Result<bool, Fail
     }
 }
 
+/// Tries an image with each byte changed in several ways. How many are accepted.
+fn try_changes(rt: &(impl Abort + AllocGlobal), image: &mut Vec<u8>) -> Result<usize, Fail> {
+    let mut accepted = 0usize;
+    for at in 0..image.len() {
+        for change in CHANGES {
+            flip(image, at, change);
+            if use_image(rt, image.as_slice())? {
+                accepted = accepted.saturating_add(1);
+            }
+            flip(image, at, change);
+        }
+    }
+    Ok(accepted)
+}
+
+/// Whether an image that is cut is refused.
+fn is_refused(rt: &(impl Abort + AllocGlobal), cut: &[u8]) -> Result<bool, Fail> {
+    Ok(!use_up::<SeqFit>(rt, cut)? && !use_up::<BestFit>(rt, cut)?)
+}
+
 /// An image that holds every kind, with each byte changed in several ways, and cut at each length: it is refused, or all
 /// that is in it can be found and destroyed.
+fn changed_images(rt: &(impl Abort + AllocGlobal), kind: Kind) -> Result<(), Fail> {
+    let mut image = run_anew(rt.alloc(), 2048, kind, &[MAKE_EACH_KIND])?.image;
+    assert!(rt; use_image(rt, image.as_slice())?);
+    assert!(rt; try_changes(rt, &mut image)? > 0);
+    for len in 0..image.len() {
+        assert!(rt; is_refused(rt, front(image.as_slice(), len))?);
+    }
+    Ok(())
+}
+
 #[test]
 fn changed_images_are_refused_or_usable(rt: HostRuntime) -> Result<(), Fail> {
     for kind in KINDS {
-        let mut image = run_anew(rt.alloc(), 2048, kind, &[MAKE_EACH_KIND])?.image;
-        assert!(rt; use_image(&rt, image.as_slice())?);
-        let mut accepted = 0usize;
-        for at in 0..image.len() {
-            for change in CHANGES {
-                flip(&mut image, at, change);
-                if use_image(&rt, image.as_slice())? {
-                    accepted = accepted.saturating_add(1);
-                }
-                flip(&mut image, at, change);
-            }
-        }
-        assert!(rt; accepted > 0);
-        for len in 0..image.len() {
-            let cut = image.as_slice().get(..len).unwrap_or(&[]);
-            assert!(rt; !use_up::<SeqFit>(&rt, cut)? && !use_up::<BestFit>(&rt, cut)?);
-        }
+        changed_images(&rt, kind)?;
     }
     Ok(())
 }

@@ -1,5 +1,5 @@
 use crate::tests::runs::{
-    BEST_FLAT, BEST_TREE, KINDS, PLAIN, SEQ_FLAT, SEQ_TREE, Setting, empty, leaves, run_anew,
+    BEST_FLAT, BEST_TREE, KINDS, Kind, PLAIN, SEQ_FLAT, SEQ_TREE, Setting, empty, leaves, run_anew,
     run_in, run_on, statistics_of,
 };
 use std::process::Abort;
@@ -24,78 +24,90 @@ const KILL_TWICE: &str = "type i64
     KILL r0 - t0 k0
     OUTI r0";
 
+/// What making x prints in a segment of a size, and what it leaves: bytes that are free, and names.
+fn makes(
+    rt: &(impl Abort + AllocGlobal),
+    kind: Kind,
+    size: u32,
+    printed: &str,
+    free: u32,
+    named: u32,
+) -> Result<(), Fail> {
+    let ran = run_anew(rt.alloc(), size, kind, &[MAKE])?;
+    leaves(rt, &ran, printed, free, named)
+}
+
 /// The object has 2 units; a flat index asks for 3 and takes 2 at its limit, a node of the tree has 3.
 #[test]
 fn makes_an_object_where_there_is_room(rt: HostRuntime) -> Result<(), Fail> {
+    for kind in KINDS {
+        makes(&rt, kind, 1024, "42\n", 240, 1)?;
+        makes(&rt, kind, 784, "42\n", 0, 1)?;
+        makes(&rt, kind, 752, "2\n", 48, 0)?;
+        makes(&rt, kind, 736, "2\n", 32, 0)?;
+    }
     for kind in [SEQ_FLAT, BEST_FLAT] {
-        for (size, printed, free, named) in [
-            (1024, "42\n", 240, 1),
-            (784, "42\n", 0, 1),
-            (768, "42\n", 0, 1),
-            (752, "2\n", 48, 0),
-            (736, "2\n", 32, 0),
-        ] {
-            let ran = run_anew(rt.alloc(), size, kind, &[MAKE])?;
-            leaves(&rt, &ran, printed, free, named)?;
-        }
+        makes(&rt, kind, 768, "42\n", 0, 1)?;
     }
     for kind in [SEQ_TREE, BEST_TREE] {
-        for (size, printed, free, named) in [
-            (1024, "42\n", 240, 1),
-            (784, "42\n", 0, 1),
-            (768, "2\n", 64, 0),
-            (752, "2\n", 48, 0),
-            (736, "2\n", 32, 0),
-        ] {
-            let ran = run_anew(rt.alloc(), size, kind, &[MAKE])?;
-            leaves(&rt, &ran, printed, free, named)?;
-        }
+        makes(&rt, kind, 768, "2\n", 64, 0)?;
     }
+    Ok(())
+}
+
+fn destroys_once(rt: &(impl Abort + AllocGlobal), kind: Kind) -> Result<(), Fail> {
+    let ran = run_anew(rt.alloc(), 1024, kind, &[MAKE, KILL_TWICE])?;
+    leaves(rt, &ran, "42\n1\n0\n", 320, 0)?;
+    let left = statistics_of(rt.alloc(), ran.image.as_slice())?;
+    assert_eq!(rt; left.largest, 320);
     Ok(())
 }
 
 #[test]
 fn destroys_an_object_once(rt: HostRuntime) -> Result<(), Fail> {
     for kind in KINDS {
-        let ran = run_anew(rt.alloc(), 1024, kind, &[MAKE, KILL_TWICE])?;
-        leaves(&rt, &ran, "42\n1\n0\n", 320, 0)?;
-        let left = statistics_of(rt.alloc(), ran.image.as_slice())?;
-        assert_eq!(rt; left.largest, 320);
+        destroys_once(&rt, kind)?;
     }
     Ok(())
+}
+
+/// Makes y and x, and prints why there is no second x.
+const MAKE_TWO: &str = "type i64
+    name y
+    name x
+    MAKE r0 - - t0 k0
+    ELSE
+    END
+    MAKE r0 - - t0 k1
+    ELSE
+    END
+    MAKE r0 - - t0 k1
+    ELSE
+      OUTI r0
+    END";
+
+/// Destroys both.
+const KILL_TWO: &str = "type i64
+    name x
+    name y
+    KILL r0 - t0 k0
+    KILL r0 - t0 k1";
+
+fn makes_two(rt: &(impl Abort + AllocGlobal), kind: Kind, free: u32) -> Result<(), Fail> {
+    let made = run_anew(rt.alloc(), 1024, kind, &[MAKE_TWO])?;
+    leaves(rt, &made, "1\n", free, 2)?;
+    let killed = run_on(rt.alloc(), made.image.as_slice(), &[KILL_TWO])?;
+    leaves(rt, &killed, "", 320, 0)
 }
 
 /// Two names of numbers: two objects of 2 units, and an index of 3 or two nodes of 3.
 #[test]
 fn makes_two_objects(rt: HostRuntime) -> Result<(), Fail> {
-    let make = "type i64
-        name y
-        name x
-        MAKE r0 - - t0 k0
-        ELSE
-        END
-        MAKE r0 - - t0 k1
-        ELSE
-        END
-        MAKE r0 - - t0 k1
-        ELSE
-          OUTI r0
-        END";
-    let kill = "type i64
-        name x
-        name y
-        KILL r0 - t0 k0
-        KILL r0 - t0 k1";
-    for (kind, free) in [
-        (SEQ_FLAT, 208),
-        (BEST_FLAT, 208),
-        (SEQ_TREE, 160),
-        (BEST_TREE, 160),
-    ] {
-        let made = run_anew(rt.alloc(), 1024, kind, &[make])?;
-        leaves(&rt, &made, "1\n", free, 2)?;
-        let killed = run_on(rt.alloc(), made.image.as_slice(), &[kill])?;
-        leaves(&rt, &killed, "", 320, 0)?;
+    for kind in [SEQ_FLAT, BEST_FLAT] {
+        makes_two(&rt, kind, 208)?;
+    }
+    for kind in [SEQ_TREE, BEST_TREE] {
+        makes_two(&rt, kind, 160)?;
     }
     Ok(())
 }
@@ -210,50 +222,61 @@ const KILL_UNIQUE: &str = "type i64
     UKILL r0 t1
     OUTI r0";
 
+fn makes_and_destroys_unique(rt: &(impl Abort + AllocGlobal), kind: Kind) -> Result<(), Fail> {
+    let made = run_anew(rt.alloc(), 1024, kind, &[MAKE_UNIQUE])?;
+    leaves(rt, &made, "1\n9\n", 288, 0)?;
+    let left = statistics_of(rt.alloc(), made.image.as_slice())?;
+    assert_eq!(rt; left.unique, 1);
+    let texts = [FIND_UNIQUE, KILL_UNIQUE];
+    let killed = run_on(rt.alloc(), made.image.as_slice(), &texts)?;
+    leaves(rt, &killed, "9\n3\n9\n1\n0\n", 320, 0)
+}
+
 #[test]
 fn unique_objects(rt: HostRuntime) -> Result<(), Fail> {
     for kind in KINDS {
-        let made = run_anew(rt.alloc(), 1024, kind, &[MAKE_UNIQUE])?;
-        leaves(&rt, &made, "1\n9\n", 288, 0)?;
-        let left = statistics_of(rt.alloc(), made.image.as_slice())?;
-        assert_eq!(rt; left.unique, 1);
-        let killed = run_on(
-            rt.alloc(),
-            made.image.as_slice(),
-            &[FIND_UNIQUE, KILL_UNIQUE],
-        )?;
-        leaves(&rt, &killed, "9\n3\n9\n1\n0\n", 320, 0)?;
+        makes_and_destroys_unique(&rt, kind)?;
     }
     Ok(())
+}
+
+/// Reads two bytes, and prints each, or why there is none.
+const READ_TWICE: &str = "GETB r0
+      OUTI r0
+      GETB r0
+      ELSE
+        OUTI r0
+      END
+    ELSE
+    END";
+
+/// Reads one.
+const READ_ONCE: &str = "GETB r0
+      OUTI r0
+    ELSE
+      OUTI r0
+    END";
+
+fn reads(
+    rt: &(impl Abort + AllocGlobal),
+    input: &[u8],
+    texts: &[&str],
+    printed: &str,
+) -> Result<(), Fail> {
+    let image = empty(rt.alloc(), 736, SEQ_FLAT)?;
+    let ran = run_in(
+        rt.alloc(),
+        image.as_slice(),
+        texts,
+        Setting { input, ..PLAIN },
+    )?;
+    leaves(rt, &ran, printed, 32, 0)
 }
 
 /// Each client reads the input that the ones before it left.
 #[test]
 fn reads_the_input(rt: HostRuntime) -> Result<(), Fail> {
-    let twice = "GETB r0
-          OUTI r0
-          GETB r0
-          ELSE
-            OUTI r0
-          END
-        ELSE
-        END";
-    let once = "GETB r0
-          OUTI r0
-        ELSE
-          OUTI r0
-        END";
-    let image = empty(rt.alloc(), 736, SEQ_FLAT)?;
-    let setting = Setting {
-        input: b"A",
-        ..PLAIN
-    };
-    let ran = run_in(rt.alloc(), image.as_slice(), &[twice], setting)?;
-    leaves(&rt, &ran, "65\n6\n", 32, 0)?;
-    let setting = Setting {
-        input: b"AB",
-        ..PLAIN
-    };
-    let ran = run_in(rt.alloc(), image.as_slice(), &[once, once, once], setting)?;
-    leaves(&rt, &ran, "65\n66\n6\n", 32, 0)
+    reads(&rt, b"A", &[READ_TWICE], "65\n6\n")?;
+    let texts = [READ_ONCE, READ_ONCE, READ_ONCE];
+    reads(&rt, b"AB", &texts, "65\n66\n6\n")
 }

@@ -1,4 +1,4 @@
-use crate::tests::runs::{KINDS, SEQ_FLAT, run_anew, statistics_of};
+use crate::tests::runs::{KINDS, Kind, SEQ_FLAT, leaves, run_anew, statistics_of};
 use client_vm::Ended;
 use std::process::Abort;
 use std::test::Fail;
@@ -132,63 +132,75 @@ fn codes(rt: &impl Abort, out: &[u8]) -> usize {
     out.len() / 2
 }
 
+/// Makes and destroys an object of each kind in a segment of so many units, after which nothing is left. How many requests
+/// found no room.
+fn leaves_nothing(
+    rt: &(impl Abort + AllocGlobal),
+    text: &str,
+    kind: Kind,
+    units: u32,
+) -> Result<usize, Fail> {
+    let ran = run_anew(rt.alloc(), units.saturating_mul(16), kind, &[text])?;
+    assert!(rt; ran.ended == Ended::Done);
+    let left = statistics_of(rt.alloc(), ran.image.as_slice())?;
+    assert_eq!(rt; left.largest, units.saturating_mul(16).saturating_sub(704));
+    assert_eq!(rt; left.named, 0);
+    assert_eq!(rt; left.unique, 0);
+    Ok(codes(rt, ran.out.as_slice()))
+}
+
 /// On each size there is either room or a code, and nothing is left. The smallest segment has room for nothing but the
 /// objects by themselves, the largest for all.
 #[test]
 fn leaves_nothing_on_each_size(rt: HostRuntime) -> Result<(), Fail> {
     let text = format!(in rt.alloc(); "{MAKE_EACH_KIND}{KILL_EACH_KIND}")?;
     for kind in KINDS {
-        let mut refused = 0;
-        for units in 46..=256 {
-            let ran = run_anew(rt.alloc(), 16 * units, kind, &[text.as_str()])?;
-            refused = codes(&rt, ran.out.as_slice());
-            if units == 46 {
-                // six named objects, the object for the own, and the second unique one
-                assert_eq!(rt; refused, 8);
-            }
-            assert!(rt; ran.ended == Ended::Done);
-            let left = statistics_of(rt.alloc(), ran.image.as_slice())?;
-            assert_eq!(rt; left.largest, 16 * units - 704);
-            assert_eq!(rt; left.named, 0);
-            assert_eq!(rt; left.unique, 0);
+        // six named objects, the object for the own, and the second unique one
+        assert_eq!(rt; leaves_nothing(&rt, text.as_str(), kind, 46)?, 8);
+        for units in 47..256 {
+            let _ = leaves_nothing(&rt, text.as_str(), kind, units)?;
         }
-        assert_eq!(rt; refused, 0);
+        assert_eq!(rt; leaves_nothing(&rt, text.as_str(), kind, 256)?, 0);
     }
     Ok(())
+}
+
+/// Makes a vector of numbers, and prints its length after a push, or why it has none.
+const PUSH_ONE: &str = "type i64
+    type vec t0
+    name v
+    MAKE r0 - - t1 k0
+      PUSH r1 r0
+        LEN r2 r0
+        OUTI r2
+      ELSE
+        OUTI r1
+      END
+    ELSE
+      OUTI r0
+    END";
+
+fn pushes(
+    rt: &(impl Abort + AllocGlobal),
+    size: u32,
+    printed: &str,
+    named: u32,
+    free: u32,
+) -> Result<(), Fail> {
+    let ran = run_anew(rt.alloc(), size, SEQ_FLAT, &[PUSH_ONE])?;
+    leaves(rt, &ran, printed, free, named)
 }
 
 /// The object has 2 units, or 3; the index 2 or 3; the vector's buffer 3 for four numbers, or 2 for one.
 #[test]
 fn first_push_by_size(rt: HostRuntime) -> Result<(), Fail> {
-    let text = "type i64
-        type vec t0
-        name v
-        MAKE r0 - - t1 k0
-          PUSH r1 r0
-            LEN r2 r0
-            OUTI r2
-          ELSE
-            OUTI r1
-          END
-        ELSE
-          OUTI r0
-        END";
-    for (size, printed, named, free) in [
-        (736, "2\n", 0, 32),
-        (752, "2\n", 0, 48),
-        (768, "2\n", 1, 0),
-        (784, "2\n", 1, 0),
-        (800, "2\n", 1, 0),
-        (816, "1\n", 1, 0),
-        (832, "1\n", 1, 0),
-        (848, "1\n", 1, 0),
-        (864, "1\n", 1, 32),
-    ] {
-        let ran = run_anew(rt.alloc(), size, SEQ_FLAT, &[text])?;
-        assert_eq!(rt; ran.out.as_slice(), printed.as_bytes());
-        let left = statistics_of(rt.alloc(), ran.image.as_slice())?;
-        assert_eq!(rt; left.named, named);
-        assert_eq!(rt; left.free, free);
+    pushes(&rt, 736, "2\n", 0, 32)?;
+    pushes(&rt, 752, "2\n", 0, 48)?;
+    for size in [768, 784, 800] {
+        pushes(&rt, size, "2\n", 1, 0)?;
     }
-    Ok(())
+    for size in [816, 832, 848] {
+        pushes(&rt, size, "1\n", 1, 0)?;
+    }
+    pushes(&rt, 864, "1\n", 1, 32)
 }

@@ -24,110 +24,39 @@ fn is_sound<F: Fit>(
     Ok(())
 }
 
-/// Which of these counts a segment of numbers has after `x` was asked for: the code, or none, the names, and free bytes.
-#[derive(Drop)]
-struct Asked {
-    size: u32,
-    refused: Option<Code>,
-    named: u32,
-    free: u32,
-}
-
+/// What asking for `x` says in a segment of a size, and which bytes are free then.
 fn asks_for_x<F: Fit>(
     rt: &(impl Abort + AllocGlobal),
     index: IndexKind,
-    asked: &[Asked],
+    size: u32,
+    refused: Option<Code>,
+    free: u32,
 ) -> Result<(), Fail> {
-    for wanted in asked {
-        let mut segment = segment::<F>(rt.alloc(), wanted.size, index, &[I64])?;
-        let made = segment.construct(b"x", NUMBER, 1);
-        assert_eq!(rt; made.err(), wanted.refused);
-        assert_eq!(rt; segment.num_named(), wanted.named);
-        is_sound(rt, &segment, wanted.free)?;
-    }
-    Ok(())
+    let mut segment = segment::<F>(rt.alloc(), size, index, &[I64])?;
+    let made = segment.construct(b"x", NUMBER, 1);
+    assert_eq!(rt; made.err(), refused);
+    assert_eq!(rt; segment.num_named(), u32::from(refused.is_none()));
+    is_sound(rt, &segment, free)
 }
 
 /// The object has 2 units, a flat index asks for 3 and takes 2 at its limit.
 fn flat_index_takes_what_is_there<F: Fit>(rt: &(impl Abort + AllocGlobal)) -> Result<(), Fail> {
     let no_room = Some(Code::BadAlloc);
-    asks_for_x::<F>(
-        rt,
-        IndexKind::Flat,
-        &[
-            Asked {
-                size: 1024,
-                refused: None,
-                named: 1,
-                free: 240,
-            },
-            Asked {
-                size: 784,
-                refused: None,
-                named: 1,
-                free: 0,
-            },
-            Asked {
-                size: 768,
-                refused: None,
-                named: 1,
-                free: 0,
-            },
-            Asked {
-                size: 752,
-                refused: no_room,
-                named: 0,
-                free: 48,
-            },
-            Asked {
-                size: 736,
-                refused: no_room,
-                named: 0,
-                free: 32,
-            },
-        ],
-    )
+    asks_for_x::<F>(rt, IndexKind::Flat, 1024, None, 240)?;
+    asks_for_x::<F>(rt, IndexKind::Flat, 784, None, 0)?;
+    asks_for_x::<F>(rt, IndexKind::Flat, 768, None, 0)?;
+    asks_for_x::<F>(rt, IndexKind::Flat, 752, no_room, 48)?;
+    asks_for_x::<F>(rt, IndexKind::Flat, 736, no_room, 32)
 }
 
 /// A node of the tree has 3 units.
 fn tree_takes_three_units<F: Fit>(rt: &(impl Abort + AllocGlobal)) -> Result<(), Fail> {
     let no_room = Some(Code::BadAlloc);
-    asks_for_x::<F>(
-        rt,
-        IndexKind::Tree,
-        &[
-            Asked {
-                size: 1024,
-                refused: None,
-                named: 1,
-                free: 240,
-            },
-            Asked {
-                size: 784,
-                refused: None,
-                named: 1,
-                free: 0,
-            },
-            Asked {
-                size: 768,
-                refused: no_room,
-                named: 0,
-                free: 64,
-            },
-            Asked {
-                size: 752,
-                refused: no_room,
-                named: 0,
-                free: 48,
-            },
-            Asked {
-                size: 736,
-                refused: no_room,
-                named: 0,
-                free: 32,
-            },
-        ],
-    )
+    asks_for_x::<F>(rt, IndexKind::Tree, 1024, None, 240)?;
+    asks_for_x::<F>(rt, IndexKind::Tree, 784, None, 0)?;
+    asks_for_x::<F>(rt, IndexKind::Tree, 768, no_room, 64)?;
+    asks_for_x::<F>(rt, IndexKind::Tree, 752, no_room, 48)?;
+    asks_for_x::<F>(rt, IndexKind::Tree, 736, no_room, 32)
 }
 
 #[test]
@@ -216,19 +145,24 @@ fn refuses_types(rt: &impl Abort, segment: &mut Segment<SeqFit, Global>) {
     assert!(rt; !segment.destroy(b"x", 1));
 }
 
+fn refuses_in_order(rt: &(impl Abort + AllocGlobal), index: IndexKind) -> Result<(), Fail> {
+    let mut segment = segment::<SeqFit>(rt.alloc(), 1024, index, &[I64, map(NUMBER)])?;
+    segment.construct(b"x", NUMBER, 2)?;
+    refuses_counts(rt, &mut segment);
+    refuses_names(rt, &mut segment);
+    refuses_what_is_there(rt, &mut segment);
+    refuses_types(rt, &mut segment);
+    assert_eq!(rt; segment.find(b"x", NUMBER)?.count, 2);
+    assert_eq!(rt; segment.num_named(), 1);
+    segment.construct(&[b'a'; 63], NUMBER, 1)?;
+    check(rt.alloc(), segment.window())?;
+    Ok(())
+}
+
 #[test]
 fn refusals_in_order(rt: HostRuntime) -> Result<(), Fail> {
     for index in BOTH {
-        let mut segment = segment::<SeqFit>(rt.alloc(), 1024, index, &[I64, map(NUMBER)])?;
-        segment.construct(b"x", NUMBER, 2)?;
-        refuses_counts(&rt, &mut segment);
-        refuses_names(&rt, &mut segment);
-        refuses_what_is_there(&rt, &mut segment);
-        refuses_types(&rt, &mut segment);
-        assert_eq!(rt; segment.find(b"x", NUMBER)?.count, 2);
-        assert_eq!(rt; segment.num_named(), 1);
-        segment.construct(&[b'a'; 63], NUMBER, 1)?;
-        check(rt.alloc(), segment.window())?;
+        refuses_in_order(&rt, index)?;
     }
     Ok(())
 }
@@ -256,54 +190,68 @@ fn is_filled(bytes: &[u8], with: u8) -> bool {
 }
 
 /// What the library makes anew has none of the bytes that the host had there.
+fn makes_an_empty_one(rt: &(impl Abort + AllocGlobal), index: IndexKind) -> Result<(), Fail> {
+    let segment = segment::<SeqFit>(rt.alloc(), 1024, index, &[])?;
+    is_sound(rt, &segment, 320)?;
+    assert_eq!(rt; segment.largest_gap(), 320);
+    assert_eq!(rt; segment.num_named(), 0);
+    assert!(rt; segment.all_memory_deallocated());
+    assert!(rt; is_filled(segment.window().slice(720, 304), 0));
+    Ok(())
+}
+
 #[test]
 fn new_segments_are_empty(rt: HostRuntime) -> Result<(), Fail> {
     for index in BOTH {
-        let segment = segment::<SeqFit>(rt.alloc(), 1024, index, &[])?;
-        is_sound(&rt, &segment, 320)?;
-        assert_eq!(rt; segment.largest_gap(), 320);
-        assert_eq!(rt; segment.num_named(), 0);
-        assert!(rt; segment.all_memory_deallocated());
-        assert!(rt; is_filled(segment.window().slice(720, 304), 0));
+        makes_an_empty_one(&rt, index)?;
     }
     Ok(())
 }
 
-/// A region in which a segment may not lie comes back as it was.
-#[test]
-fn refused_segments(rt: HostRuntime) -> Result<(), Fail> {
-    for (base, size, fault) in [
-        (0, 720, Fault::BadSize),
-        (0, 1000, Fault::BadSize),
-        (8, 1024, Fault::Misplaced),
-        (16, 1024, Fault::Misplaced),
-    ] {
-        let region = used_region(rt.alloc(), 1024)?;
-        match Segment::<SeqFit, Global>::create(region, base, size, IndexKind::Flat) {
-            Ok(_) => return Err(Fail::from("made")),
-            Err((refused, region)) => {
-                assert_eq!(rt; refused, fault);
-                assert!(rt; is_filled(region.slice(0, region.len() as usize), 0xa5));
-            }
+/// A segment isn't made where this is the fault. The region comes back as it was.
+fn makes_none(
+    rt: &(impl Abort + AllocGlobal),
+    base: u32,
+    size: u32,
+    fault: Fault,
+) -> Result<(), Fail> {
+    let region = used_region(rt.alloc(), 1024)?;
+    match Segment::<SeqFit, Global>::create(region, base, size, IndexKind::Flat) {
+        Ok(_) => Err(Fail::from("made")),
+        Err((refused, region)) => {
+            assert_eq!(rt; refused, fault);
+            assert!(rt; is_filled(region.slice(0, region.len() as usize), 0xa5));
+            Ok(())
         }
     }
-    Ok(())
+}
+
+#[test]
+fn refused_segments(rt: HostRuntime) -> Result<(), Fail> {
+    makes_none(&rt, 0, 720, Fault::BadSize)?;
+    makes_none(&rt, 0, 1000, Fault::BadSize)?;
+    makes_none(&rt, 8, 1024, Fault::Misplaced)?;
+    makes_none(&rt, 16, 1024, Fault::Misplaced)
 }
 
 /// Sequential fit uses no byte of a gap after its header.
+fn zeroes_gaps(rt: &(impl Abort + AllocGlobal), index: IndexKind) -> Result<(), Fail> {
+    let mut segment = segment::<SeqFit>(rt.alloc(), 1024, index, &[I64])?;
+    segment.heap_mut().window_mut().fill(720, 304, 0xa5);
+    segment.zero_free_memory();
+    assert!(rt; is_filled(segment.window().slice(720, 304), 0));
+    is_sound(rt, &segment, 320)?;
+    segment.construct(b"x", NUMBER, 1)?;
+    segment.heap_mut().window_mut().put64(720, u64::MAX);
+    segment.zero_free_memory();
+    assert_eq!(rt; segment.window().get64(720), u64::MAX);
+    is_sound(rt, &segment, 240)
+}
+
 #[test]
 fn free_memory_is_zeroed(rt: HostRuntime) -> Result<(), Fail> {
     for index in BOTH {
-        let mut segment = segment::<SeqFit>(rt.alloc(), 1024, index, &[I64])?;
-        segment.heap_mut().window_mut().fill(720, 304, 0xa5);
-        segment.zero_free_memory();
-        assert!(rt; is_filled(segment.window().slice(720, 304), 0));
-        is_sound(&rt, &segment, 320)?;
-        segment.construct(b"x", NUMBER, 1)?;
-        segment.heap_mut().window_mut().put64(720, u64::MAX);
-        segment.zero_free_memory();
-        assert_eq!(rt; segment.window().get64(720), u64::MAX);
-        is_sound(&rt, &segment, 240)?;
+        zeroes_gaps(&rt, index)?;
     }
     Ok(())
 }
@@ -331,33 +279,46 @@ fn full_segment<F: Fit>(alloc: Global, room: u32) -> Result<Segment<F, Global>, 
     }
 }
 
+/// What growing says in a region of `room` bytes, how many bytes are free then, and the size to which the segment shrinks.
+fn grows_by<F: Fit>(
+    rt: &(impl Abort + AllocGlobal),
+    room: u32,
+    extra: u32,
+    grown: Result<u32, Fault>,
+    free: u32,
+    shrunk: u32,
+) -> Result<(), Fail> {
+    let mut segment = full_segment::<F>(rt.alloc(), room)?;
+    assert_eq!(rt; segment.grow(extra), grown);
+    assert_eq!(rt; segment.window().len(), grown.unwrap_or(784));
+    assert_eq!(rt; segment.num_named(), 1);
+    is_sound(rt, &segment, free)?;
+    assert_eq!(rt; segment.shrink_to_fit(), shrunk);
+    is_sound(rt, &segment, 0)
+}
+
 /// A single unit goes to the last block, two are a gap.
 fn grows<F: Fit>(rt: &(impl Abort + AllocGlobal)) -> Result<(), Fail> {
-    for (room, extra, grown, free, shrunk) in [
-        (1024, 0, Ok(784), 0, 784),
-        (1024, 16, Ok(800), 0, 800),
-        (1024, 32, Ok(816), 32, 784),
-        (1024, 240, Ok(1024), 240, 784),
-        (1024, 24, Err(Fault::BadSize), 0, 784),
-        (1024, 256, Err(Fault::NoHostRoom), 0, 784),
-        (784, 16, Err(Fault::NoHostRoom), 0, 784),
-        (784, 1 << 30, Err(Fault::BadSize), 0, 784),
-    ] {
-        let mut segment = full_segment::<F>(rt.alloc(), room)?;
-        assert_eq!(rt; segment.grow(extra), grown);
-        assert_eq!(rt; segment.window().len(), grown.unwrap_or(784));
-        assert_eq!(rt; segment.num_named(), 1);
-        is_sound(rt, &segment, free)?;
-        assert_eq!(rt; segment.shrink_to_fit(), shrunk);
-        is_sound(rt, &segment, 0)?;
-    }
-    Ok(())
+    grows_by::<F>(rt, 1024, 0, Ok(784), 0, 784)?;
+    grows_by::<F>(rt, 1024, 16, Ok(800), 0, 800)?;
+    grows_by::<F>(rt, 1024, 32, Ok(816), 32, 784)?;
+    grows_by::<F>(rt, 1024, 240, Ok(1024), 240, 784)
+}
+
+/// A size that isn't a multiple of 16, and one past the region's end or the limit, are refused.
+fn stays<F: Fit>(rt: &(impl Abort + AllocGlobal)) -> Result<(), Fail> {
+    grows_by::<F>(rt, 1024, 24, Err(Fault::BadSize), 0, 784)?;
+    grows_by::<F>(rt, 1024, 256, Err(Fault::NoHostRoom), 0, 784)?;
+    grows_by::<F>(rt, 784, 16, Err(Fault::NoHostRoom), 0, 784)?;
+    grows_by::<F>(rt, 784, 1 << 30, Err(Fault::BadSize), 0, 784)
 }
 
 #[test]
 fn segments_grow(rt: HostRuntime) -> Result<(), Fail> {
     grows::<SeqFit>(&rt)?;
-    grows::<BestFit>(&rt)
+    grows::<BestFit>(&rt)?;
+    stays::<SeqFit>(&rt)?;
+    stays::<BestFit>(&rt)
 }
 
 /// An empty segment keeps two units, one with the number x what that needs.
