@@ -1,12 +1,18 @@
 -- What a segment's change of size leaves.
+--     MayGrowTo extra len                        a segment may have so many more bytes
 --     Grows allocator old new picture extra      it has more bytes at its end, and its picture
 --     Shrinks allocator old new picture size     the gap at its end was cut, and it has its picture
-use Rattle.std.specs.Prelude.{◌≡◌, ℕ, ◌+◌, ◌*◌, ◌/◌, ◌≤◌, length, drop}
+use Rattle.std.specs.Prelude.{◌≡◌, ℕ, ◌+◌, ◌*◌, ◌/◌, ◌%◌, ◌≤◌, length, drop}
 use Rattle.seg_spec.specs.Heap.{live, gaps, after_extend, units_to_cut}
 use Rattle.seg_spec.specs.Block.{KeepsBlock}
+use Rattle.seg_spec.specs.Faulty.{IsImageLength}
 use Rattle.seg_spec.specs.Sound.{Picture, times, positions}
 use Rattle.seg_value.specs.Stored.{Stored}
 use Rattle.seg_manager.specs.Segments.{IsSegment}
+
+-- so many more bytes are whole units, and the sum is a length that an image may have
+abbrev pub MayGrowTo : ℕ → ℕ → Type 0
+MayGrowTo extra len = (extra % 16 ≡ 0) × IsImageLength len
 
 -- the picture and every live block are kept; a single new unit goes to a block that ended at the
 -- end; the host's bytes before and after the larger segment are kept

@@ -5,7 +5,7 @@ ghost use Rattle.seg_spec.specs.Header.{allocator_word, index_kind_word, types_s
 ghost use Rattle.seg_spec.specs.Heap.{live};
 ghost use Rattle.seg_spec.specs.Sound.{Picture, IsHeld};
 ghost use Rattle.seg_spec.specs.Types.{IsTable, HasTable, Agree, IsFirstDifference, longer};
-ghost use Rattle.seg_spec.specs.Window.{IsPlace, KeepsHost};
+ghost use Rattle.seg_spec.specs.Window.{region_of, IsPlace, KeepsHost};
 ghost use Rattle.seg_manager.specs.Segments.{IsSegment, nothing, word_of_kind, IsNew, AddsTypes};
 
 use seg_block::{Fit, UNIT};
@@ -127,7 +127,9 @@ impl<F: Fit, A: Allocator> Segment<F, A> {
         self.heap.into_window()
     }
 
-    pub fn into_region(self) -> Region<A> {
+    pub fn into_region(self) -> Region<A>
+        ensures { result ≡ region_of self.window }
+    {
         self.into_window().into_region()
     }
 }

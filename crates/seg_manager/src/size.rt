@@ -1,9 +1,8 @@
-ghost use Rattle.std.specs.Prelude.{◌≡◌, ◌+◌, ◌%◌, ◌≤◌, ◌⊎◌, ◌↔◌, length, IsOk, IfOk, IfErr, OnOk, OnErr};
-ghost use Rattle.seg_spec.specs.Faulty.{IsImageLength};
+ghost use Rattle.std.specs.Prelude.{◌≡◌, ◌+◌, ◌≤◌, ◌⊎◌, ◌↔◌, length, IsOk, IfOk, IfErr, OnOk, OnErr};
 ghost use Rattle.seg_spec.specs.Sound.{Picture};
 ghost use Rattle.seg_spec.specs.Window.{region_of};
 ghost use Rattle.seg_manager.specs.Segments.{IsSegment};
-ghost use Rattle.seg_manager.specs.Sizes.{Grows, Shrinks};
+ghost use Rattle.seg_manager.specs.Sizes.{MayGrowTo, Grows, Shrinks};
 
 use crate::segment::{Segment, is_size};
 use seg_block::{Fit, UNIT};
@@ -17,12 +16,13 @@ impl<F: Fit, A: Allocator> Segment<F, A> {
     pub fn grow(&mut self, extra: u32) -> Result<u32, Fault>
         ensures types { self.new.types ≡ self.old.types }
         ensures size { IfOk result (λ size. size ≡ length self.old.window.bytes + extra) }
-        ensures done { IsOk result ↔ ((extra % UNIT ≡ 0)
-            × IsImageLength (length self.old.window.bytes + extra)
+        ensures done { IsOk result ↔ (MayGrowTo extra (length self.old.window.bytes + extra)
             × (length self.old.window.before + (length self.old.window.bytes + extra)
             ≤ length (region_of self.old.window))) }
-        ensures fault { IfErr result (λ fault. (fault ≡ Fault.BadSize)
-            ⊎ ((fault ≡ Fault.NoHostRoom) × IsImageLength (length self.old.window.bytes + extra))) }
+        ensures fault { IfErr result (λ fault.
+            ((fault ≡ Fault.BadSize) × ¬ MayGrowTo extra (length self.old.window.bytes + extra))
+            ⊎ ((fault ≡ Fault.NoHostRoom)
+            × MayGrowTo extra (length self.old.window.bytes + extra))) }
         ensures unchanged { OnErr result (self.new ≡ self.old) }
         ensures grows { OnOk result ((picture : Picture) →
             IsSegment F.allocator self.old picture →
