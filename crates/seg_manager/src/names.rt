@@ -207,6 +207,10 @@ impl<F: Fit, A: Allocator> Segment<F, A> {
             MatchResult result
             (FindsOrMakesNamed self.old self.new picture.names name.now t)
             (RefusesToFind self.old self.new picture.names name.now t) }
+        ensures makes { (picture : Picture) → (s : IsSegment F.allocator self.old picture) →
+            t < length self.old.types → root_named picture.names name.now ≡ None →
+            IfOk result (MakesNamed F.allocator self.old self.new picture s.held.index_blocks
+            name.now t 1) }
     {
         match look_up(self.heap(), name) {
             Ok(occupied) => match self.found(occupied.entry(), t) {
