@@ -60,7 +60,8 @@ no_blocks bytes table _ holds_no_root = refl
 
 -- ---- an object comes
 
-module _ (allocator : ℕ) (old mid new : List ℕ) (picture : Picture) (held : IsHeld old picture) (allocator_is : word old allocator_word ≡ allocator) (root : Root) (its : List ℕ) (length_kept : length mid ≡ length old) (front : KeepsFront old mid) (back : KeepsBack old mid)
+module _ (allocator : ℕ) (old mid new : List ℕ) (picture : Picture) (held : IsHeld old picture) (allocator_is : word old allocator_word ≡ allocator) (root : Root) (its : List ℕ)
+    (length_kept : length mid ≡ length old) (front : KeepsFront old mid) (back : KeepsBack old mid)
     (kept : (h : ℕ) → 1 ≤ times h (positions (live old)) → KeepsBlock old mid h) (holds : HoldsRoot mid picture.table root its) (counts : (h : ℕ) → times h (positions (live mid)) ≡ times h its + times h (positions (live old)))
     (f : FindsNamesOf allocator mid picture.table picture.names held.index_blocks) (e : EntersName allocator mid new picture.table picture.names held.index_blocks root) where
   abbrev rest : List Root
@@ -81,7 +82,8 @@ module _ (allocator : ℕ) (old mid new : List ℕ) (picture : Picture) (held : 
 
   laid_out : IsLaidOut new (with_names picture (e.before ++ root ∷ e.after)) e.others
   laid_out = laid_out_named mid new picture held.index_blocks e.left (e.before ++ root ∷ e.after) e.others
-      (IsLaidOut-kept old mid picture held.index_blocks held.laid_out length_kept front back (subst (λ a. IsHeap a mid) (sym allocator_is) f.heap) f.ownable (each_there (KeepsBlock old mid) held.index_blocks (λ h some. kept h (let o = owned h in omega arith)))) e.changes
+      (IsLaidOut-kept old mid picture held.index_blocks held.laid_out length_kept front back (subst (λ a. IsHeap a mid) (sym allocator_is) f.heap) f.ownable
+      (each_there (KeepsBlock old mid) held.index_blocks (λ h some. kept h (let o = owned h in omega arith)))) e.changes
 
   others_kept : AllByRecursion (KeepsBlock old new) (apart.left ++ apart.right)
   others_kept = each_there (KeepsBlock old new) (apart.left ++ apart.right) (λ h some.

@@ -64,7 +64,8 @@ module _ (allocator : ℕ) (old mid : List ℕ) (picture : Picture) (held : IsHe
 
   -- calls on the index find the same names beside the new object
   pub finds_mid : FindsNamesOf allocator mid picture.table picture.names held.index_blocks
-  finds_mid = finds_kept allocator old mid picture.table picture.names held.index_blocks finds_old g.front_kept g.back_kept kept g.heap ownable (λ h. let c = counts h in let d = times_cons h (block_of object) (positions (live old)) in omega arith)
+  finds_mid = finds_kept allocator old mid picture.table picture.names held.index_blocks finds_old g.front_kept g.back_kept kept g.heap ownable
+      (λ h. let c = counts h in let d = times_cons h (block_of object) (positions (live old)) in omega arith)
 
   -- and the spot of its name is what it was
   pub vacant_mid : (vacant : Vacant) → IsVacant old picture.table picture.names name vacant → IsVacant mid picture.table picture.names name vacant

@@ -33,7 +33,8 @@ pub record Filled (old now : List ℕ) (table : Table) (at T n k : ℕ) : Type 0
 pub filled_first : (old : List ℕ) (table : Table) (at T n : ℕ) → Filled old old table at T n 0
 filled_first old table at T n = record { changes = record { length_kept = refl; others = λ p m apart. refl }; each = λ i h. absurd (omega arith) }
 
-pub filled_next : (old now next : List ℕ) (table here : Table) (at T n k each p type : ℕ) → HasValuesRoom old table at T n → Filled old now table at T n k → k < n → here ≡ table → type ≡ T → each ≡ size table T → p ≡ (at + k * each) % 2 ^ 32
+pub filled_next : (old now next : List ℕ) (table here : Table) (at T n k each p type : ℕ) → HasValuesRoom old table at T n → Filled old now table at T n k → k < n → here ≡ table → type ≡ T → each ≡ size table T
+    → p ≡ (at + k * each) % 2 ^ 32
     → (IsWithin now p (size here type) → ChangesOnly now next p (size here type)) → (IsWithin now p (size here type) → type < length here → Holds next here (record { at = p; type = type }) (default_of here type) [])
     → Filled old next table at T n (k + 1)
 filled_next old now next table here at T n k each p type room f below here_is type_is each_is p_is changes default =
@@ -53,7 +54,8 @@ filled_next old now next table here at T n k each p type room f below here_is ty
       each = λ i h. go i (cases_lt i k) h changed held;
     }
   where
-    go : (i : ℕ) → (i < k) ⊎ (k ≤ i) → i < k + 1 → ChangesOnly now next (at + k * size table T) (size table T) → Holds next table (value_at table at T k) (default_of table T) [] → Holds next table (value_at table at T i) (default_of table T) []
+    go : (i : ℕ) → (i < k) ⊎ (k ≤ i) → i < k + 1 → ChangesOnly now next (at + k * size table T) (size table T) → Holds next table (value_at table at T k) (default_of table T) []
+        → Holds next table (value_at table at T i) (default_of table T) []
     go i (inl less) h changed held =
         let before = mul-le-mul_right (size table T) less in
         let step : suc i * size table T ≡ i * size table T + size table T = omega arith in
@@ -182,7 +184,8 @@ gives_named_by allocator h units values object old taken tagged_is written_is ne
     let tiny = t.heap.small in
     let more = need_room (n * size table T + length name) in
     let at : object ≡ h + 16 = omega arith in
-    let written : written_is ≡ put (set_word taken (h + 8) (tag_of Kind.named T)) (h + 16 + n * size table T) name = write_is ∙ ap (λ bs. put bs (object + values) name) tag_is ∙ ap (λ q. put (set_word taken (h + 8) (tag_of Kind.named T)) q name) (omega arith) in
+    let written : written_is ≡ put (set_word taken (h + 8) (tag_of Kind.named T)) (h + 16 + n * size table T) name =
+    write_is ∙ ap (λ bs. put bs (object + values) name) tag_is ∙ ap (λ q. put (set_word taken (h + 8) (tag_of Kind.named T)) q name) (omega arith) in
     let same_long : length (put (set_word taken (h + 8) (tag_of Kind.named T)) (h + 16 + n * size table T) name) ≡ length taken =
     length-put (set_word taken (h + 8) (tag_of Kind.named T)) (h + 16 + n * size table T) name ∙ length-set_number 4 taken (h + 8) (tag_of Kind.named T) in
     let room : HasValuesRoom (put (set_word taken (h + 8) (tag_of Kind.named T)) (h + 16 + n * size table T) name) table (h + 16) T n =
@@ -194,8 +197,10 @@ gives_named_by allocator h units values object old taken tagged_is written_is ne
 
 -- no gap has room for it
 pub refuses_named : (allocator u n : ℕ) (old new : List ℕ) (o : Option ℕ) → Takes allocator old new u o → ((h : ℕ) → o ≡ Some h → ⊥) → u ≡ need n → Refuses allocator old new (block_for n ∷ [])
-refuses_named allocator u n old new o t none u_is = go (after_take allocator (live old) (length old) (need n)) refl (subst (λ v. MatchOption (after_take allocator (live old) (length old) v) ((o ≡ None) × (new ≡ old)) (λ r. (o ≡ Some r.0) × (live new ≡ r.1) × (link_at new r.0 ≡ None))) u_is t.taken)
+refuses_named allocator u n old new o t none u_is = go (after_take allocator (live old) (length old) (need n)) refl
+    (subst (λ v. MatchOption (after_take allocator (live old) (length old) v) ((o ≡ None) × (new ≡ old)) (λ r. (o ≡ Some r.0) × (live new ≡ r.1) × (link_at new r.0 ≡ None))) u_is t.taken)
   where
-    go : (x : Option (ℕ × List Span)) → after_take allocator (live old) (length old) (need n) ≡ x → MatchOption x ((o ≡ None) × (new ≡ old)) (λ r. (o ≡ Some r.0) × (live new ≡ r.1) × (link_at new r.0 ≡ None)) → Refuses allocator old new (block_for n ∷ [])
+    go : (x : Option (ℕ × List Span)) → after_take allocator (live old) (length old) (need n) ≡ x
+        → MatchOption x ((o ≡ None) × (new ≡ old)) (λ r. (o ≡ Some r.0) × (live new ≡ r.1) × (link_at new r.0 ≡ None)) → Refuses allocator old new (block_for n ∷ [])
     go None e m = record { no_room = rw e refl; same = m.1 }
     go (Some r) e m = absurd (none r.0 m.0)

@@ -1,8 +1,7 @@
 -- A new named object, before the index lists it.
---     HasValuesRoom bytes table at T n       n values of a type from a position on lie in the segment
+--     HasValuesRoom bytes table at T n       n values of a type lie in the segment
 --     GivesNamed allocator old new table root
---                                            the block of a new object with its name; all other live
---                                            blocks are kept
+--                                            the block of a new object with its name
 --     MakesNamed ..                          the segment holds a new named object
 use Rattle.std.specs.Prelude.{◌≡◌, ℕ, ◌+◌, ◌*◌, ◌<◌, ◌≤◌, List, [], ◌∷◌, ◌++◌, length, Some, None}
 use Rattle.seg_spec.specs.Header.{KeepsFront, KeepsBack}
@@ -30,14 +29,16 @@ root_asks table root =
     block_for (count root.values * size table root.type + length root.name) ∷ []
 
 -- the root holds its values in a new block, and owns no other; all other live blocks are kept
-pub record GivesNamed (allocator : ℕ) (old new : List ℕ) (table : Table) (root : Root) : Type 0 where
+pub record GivesNamed (allocator : ℕ) (old new : List ℕ) (table : Table) (root : Root)
+    : Type 0 where
   pub length_kept : length new ≡ length old
   pub front_kept : KeepsFront old new
   pub back_kept : KeepsBack old new
   pub heap : IsHeap allocator new
   pub holds : HoldsRoot new table root (block_of root.at ∷ [])
   pub link_is : link_at new (block_of root.at) ≡ None
-  pub granted_is : after_asks allocator (live old) (length old) (root_asks table root) ≡ Some (live new)
+  pub granted_is : after_asks allocator (live old) (length old) (root_asks table root)
+      ≡ Some (live new)
   pub was_free : times (block_of root.at) (positions (live old)) ≡ 0
   pub now_live : times (block_of root.at) (positions (live new)) ≡ 1
   pub kept : (h : ℕ) → 1 ≤ times h (positions (live old)) →

@@ -41,5 +41,6 @@ returns-clause-gives g c = λ heap valid known len some.
     let tag_is = bytes_of c.write.new.w (with_bytes c.allocate.new.w (set_word c.allocate.new.w.bytes (c.in-Some.block + 8) (tag_of Kind.named c.args.t))) c.write.ensures in
     let write_is = bytes_of c.copy_in.new.self (with_bytes c.write.new.w (put c.write.new.w.bytes ((c.in-Some.block + 16) % 4294967296 + c.saturating_mul-values.result) c.args.name.bytes.now)) c.copy_in.ensures in
     gives_named_by g.F.Fit.allocator c.in-Some.block c.need-units.result c.saturating_mul-values.result ((c.in-Some.block + 16) % 4294967296) c.args.self.now.window.bytes c.allocate.new.w.bytes c.write.new.w.bytes c.copy_in.new.self.bytes
-    c.init_values.new.self.window.bytes table c.heap_mut.result.now.types c.args.name.bytes.now c.args.t c.args.count heap (omega arith) valid known takes (u.1 ∙ ap (λ k. Rattle.seg_spec.specs.Demand.need (c.args.count * size table c.args.t + k)) len)
+    c.init_values.new.self.window.bytes table c.heap_mut.result.now.types c.args.name.bytes.now c.args.t c.args.count heap (omega arith) valid known takes
+    (u.1 ∙ ap (λ k. Rattle.seg_spec.specs.Demand.need (c.args.count * size table c.args.t + k)) len)
     u.0 refl tag_is write_is (ap (λ (s : Stored). s.types) c.heap_mut.ensures.value) c.init_values.ensures.changes c.init_values.ensures.default
