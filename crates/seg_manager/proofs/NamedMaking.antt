@@ -1,16 +1,21 @@
 -- What making or finding a named object returns.
-use Rattle.std.proofs.Common.{◌≡◌, ℕ, inl, inr, Bool, true, false, List, Option, Some, Result, Ok, Err, MatchResult, refl, sym, ap, ◌∙◌, subst, arith}
+use Rattle.std.proofs.Common.{◌≡◌, ℕ, inl, inr, Bool, true, false, List, Option, Some, None, Result, Ok, Err, MatchResult, IfOk, refl, sym, ap, ◌∙◌, subst, arith}
 use Rattle.std.specs.Prelude.{◌==◌, if◌then◌else◌, IsSome, IsOkUnless}
 use Rattle.std.proofs.lemmas.Bool.Decides.{nat_tests}
 use Rattle.seg_spec.specs.Index.{Root, root_named}
+use Rattle.seg_spec.specs.Sound.{Picture}
 use Rattle.seg_raw.specs.declared.code.Code.{Code}
 use Rattle.seg_raw.specs.declared.code.Code.TheVariants as code
 use Rattle.seg_value.specs.Stored.{Stored}
 use Rattle.seg_manager.specs.NamedObjects.{found_of, found_as, IsMissing, IsCount, RefusesName, FindsOrMakesNamed, RefusesToFind}
+use Rattle.seg_manager.specs.NewNamed.{MakesNamed}
 use Rattle.seg_manager.specs.declared.names.Found.{Found}
 
 pub is_there : (o : Option Root) (root : Root) → o ≡ Some root → IsSome o
 is_there o root e = subst IsSome (sym e) refl
+
+pub not_both : (o : Option Root) (root : Root) → o ≡ None → o ≡ Some root → ⊥
+not_both o root none some = let both : None ≡ Some root = sym none ∙ some in cc
 
 -- a result whose only error is the one of a heap without room
 module _ (r : Result ℕ Code) where
@@ -57,3 +62,9 @@ module _ (T : ℕ) (root : Root) where
   other_is s names name c there e =
       let is = was_other c e in
       subst (RefusesToFind s s names name T) (sym is) (ap (found_as T) there ∙ sym e ∙ ap Err is, refl)
+
+-- an object that was made, by another word for its name and count
+pub made_as : (allocator : ℕ) (old new : Stored) (picture : Picture) (index_blocks : List ℕ) (T : ℕ) (r : Result ℕ Code) (name other : List ℕ) (n m : ℕ) → other ≡ name → m ≡ n
+    → IfOk r (MakesNamed allocator old new picture index_blocks other T m) → IfOk r (MakesNamed allocator old new picture index_blocks name T n)
+made_as allocator old new picture index_blocks T r name other n m e f h =
+    subst (λ k. IfOk r (MakesNamed allocator old new picture index_blocks name T k)) f (subst (λ x. IfOk r (MakesNamed allocator old new picture index_blocks x T m)) e h)

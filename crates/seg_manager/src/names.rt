@@ -1,4 +1,4 @@
-ghost use Rattle.std.specs.Prelude.{◌≡◌, ◌+◌, ◌*◌, ◌%◌, ◌^◌, ◌<◌, ◌≤◌, false, [], length, None, Some, MatchOption, IsSomeAnd, IfSome, IfNone, IfOk, MatchResult, IsOkUnless, slice_get, is_ok};
+ghost use Rattle.std.specs.Prelude.{◌≡◌, ◌+◌, ◌*◌, ◌%◌, ◌^◌, ◌<◌, ◌≤◌, false, [], length, None, Some, MatchOption, IsSomeAnd, IfOk, IfSome, IfNone, MatchResult, IsOkUnless, slice_get, is_ok};
 ghost use Rattle.seg_spec.specs.Bytes.{ChangesOnly};
 ghost use Rattle.seg_spec.specs.Calls.{Refuses};
 ghost use Rattle.seg_spec.specs.Heap.{IsHeap};
@@ -106,8 +106,7 @@ impl<F: Fit, A: Allocator> Segment<F, A> {
         ensures makes { (picture : Picture) → (s : IsSegment F.allocator self.old picture) →
             t < length self.old.types → IsName name.entry.bytes.now →
             name.entry.len ≡ length name.entry.bytes.now → 1 ≤ count →
-            IsVacant self.old.window.bytes self.old.types picture.names name.entry.bytes.now
-            vacant →
+            IsVacant self.old.window.bytes self.old.types picture.names name.entry.bytes.now vacant →
             IfOk result (MakesNamed F.allocator self.old self.new picture s.held.index_blocks
             name.entry.bytes.now t count) }
     {
@@ -208,6 +207,10 @@ impl<F: Fit, A: Allocator> Segment<F, A> {
             MatchResult result
             (FindsOrMakesNamed self.old self.new picture.names name.now t)
             (RefusesToFind self.old self.new picture.names name.now t) }
+        ensures makes { (picture : Picture) → (s : IsSegment F.allocator self.old picture) →
+            t < length self.old.types → root_named picture.names name.now ≡ None →
+            IfOk result (MakesNamed F.allocator self.old self.new picture s.held.index_blocks
+            name.now t 1) }
     {
         match look_up(self.heap(), name) {
             Ok(occupied) => match self.found(occupied.entry(), t) {

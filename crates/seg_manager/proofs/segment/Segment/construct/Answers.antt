@@ -1,12 +1,10 @@
-use Rattle.std.proofs.Common.{◌≡◌, ◌≤◌, length, ap, ◌∙◌, sym, subst, refl, arith}
+use Rattle.std.proofs.Common.{◌≤◌, length, ap, ◌∙◌, sym, subst, refl, arith}
 use Rattle.std.proofs.lemmas.Result.{MatchResult-at_ok, MatchResult-at_err}
-use Rattle.std.specs.Prelude.{IfOk}
 use Rattle.seg_spec.specs.Index.{IsName, root_named}
 use Rattle.seg_value.specs.Stored.{Stored}
 use Rattle.seg_index.specs.Lists.{IsVacant}
-use Rattle.seg_manager.specs.NewNamed.{MakesNamed}
 use Rattle.seg_manager.proofs.NamedReads.{finds_in}
-use Rattle.seg_manager.proofs.NamedMaking.{is_there, made_named}
+use Rattle.seg_manager.proofs.NamedMaking.{is_there, made_named, made_as}
 use Rattle.seg_manager.proofs.segment.Segment.construct.Goals as goal
 
 pub returns-in-Ok-look_up-clause-tells : goal.returns-in-Ok-look_up-clause-tells
@@ -27,13 +25,10 @@ returns-in-Err-clause-tells g c = λ picture is.
     (name.0, ap (root_named picture.names) (sym name.1) ∙ vacant.missing) (some, few)
 
 pub returns-in-Err-clause-makes : goal.returns-in-Err-clause-makes
-returns-in-Err-clause-makes g c = λ picture is known.
-    let allocator = g.F.Fit.allocator in
+returns-in-Err-clause-makes g c = λ picture is small.
     let name = c.in-Some.ensures.name in
-    let found = MatchResult-at_err _ _ _ c.in-Err.is (c.look_up.ensures picture.names is.held.index_blocks (finds_in allocator c.args.self.now picture is c.heap.result.now c.heap.ensures)) in
-    let vacant = subst (λ (h : Stored). IsVacant h.window.bytes h.types picture.names c.in-Some.name.bytes.now c.in-Err.vacant) c.heap.ensures found in
+    let vacant = MatchResult-at_err _ _ _ c.in-Err.is (c.look_up.ensures picture.names is.held.index_blocks (finds_in g.F.Fit.allocator c.args.self.now picture is c.heap.result.now c.heap.ensures)) in
     let some : 1 ≤ c.in-Ok.count = omega (arith, c.if-count-eq0.false) in
-    let count_is : c.in-Ok.count ≡ c.args.count = omega (arith, c.in-Ok.ensures.1) in
-    let made = c.construct_at.ensures.makes picture is known (subst IsName (sym name.1) name.0) (name.2 ∙ ap length (sym name.1)) some vacant in
-    subst (λ n. IfOk c.construct_at.result (MakesNamed allocator c.args.self.now c.construct_at.new.self picture is.held.index_blocks c.args.name.now c.args.t n)) count_is
-    (subst (λ bytes. IfOk c.construct_at.result (MakesNamed allocator c.args.self.now c.construct_at.new.self picture is.held.index_blocks bytes c.args.t c.in-Ok.count)) name.1 made)
+    made_as g.F.Fit.allocator c.args.self.now c.construct_at.new.self picture is.held.index_blocks c.args.t c.construct_at.result c.args.name.now c.in-Some.name.bytes.now c.args.count c.in-Ok.count name.1 c.in-Ok.ensures.1
+    (c.construct_at.ensures.makes picture is small (subst IsName (sym name.1) name.0) (name.2 ∙ ap length (sym name.1)) some
+    (subst (λ (s : Stored). IsVacant s.window.bytes s.types picture.names c.in-Some.name.bytes.now c.in-Err.vacant) c.heap.ensures vacant))

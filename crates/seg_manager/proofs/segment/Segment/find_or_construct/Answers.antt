@@ -1,7 +1,10 @@
-use Rattle.std.proofs.Common.{◌∙◌, sym, refl}
+use Rattle.std.proofs.Common.{◌≤◌, length, ap, ◌∙◌, sym, subst, refl, arith}
+use Rattle.seg_spec.specs.Index.{IsName, root_named}
 use Rattle.std.proofs.lemmas.Result.{MatchResult-at_ok, MatchResult-at_err}
+use Rattle.seg_value.specs.Stored.{Stored}
+use Rattle.seg_index.specs.Lists.{IsVacant}
 use Rattle.seg_manager.proofs.NamedReads.{finds_in, listed_named}
-use Rattle.seg_manager.proofs.NamedMaking.{made_missing, found_is, other_is}
+use Rattle.seg_manager.proofs.NamedMaking.{made_missing, made_as, not_both, found_is, other_is}
 use Rattle.seg_manager.proofs.segment.Segment.find_or_construct.Goals as goal
 
 pub returns-in_default-clause-tells : goal.returns-in_default-clause-tells
@@ -25,3 +28,18 @@ pub returns-in-Some-clause-tells : goal.returns-in-Some-clause-tells
 returns-in-Some-clause-tells g c = λ picture is.
     let vacant = MatchResult-at_err _ _ _ c.in-Err.is (c.look_up.ensures picture.names is.held.index_blocks (finds_in g.F.Fit.allocator c.args.self.now picture is c.heap.result.now c.heap.ensures)) in
     made_missing c.construct_at.result c.args.self.now c.construct_at.new.self picture.names c.args.name.now c.args.t c.construct_at.ensures.code (c.in-Some.ensures.name.0, vacant.missing)
+
+pub returns-in-Ok-found-clause-makes : goal.returns-in-Ok-found-clause-makes
+returns-in-Ok-found-clause-makes g c = λ picture is small none.
+    let it = MatchResult-at_ok _ _ _ c.in-Ok.is (c.look_up.ensures picture.names is.held.index_blocks (finds_in g.F.Fit.allocator c.args.self.now picture is c.heap.result.now c.heap.ensures)) in
+    absurd (not_both (root_named picture.names c.args.name.now) it.0 none it.1.found)
+
+pub returns-in-Some-clause-makes : goal.returns-in-Some-clause-makes
+returns-in-Some-clause-makes g c = λ picture is small none.
+    let name = c.in-Some.ensures.name in
+    let vacant = MatchResult-at_err _ _ _ c.in-Err.is (c.look_up.ensures picture.names is.held.index_blocks (finds_in g.F.Fit.allocator c.args.self.now picture is c.heap.result.now c.heap.ensures)) in
+    let some : 1 ≤ 1 = omega arith in
+    let here = subst (λ (s : Stored). IsVacant s.window.bytes s.types picture.names c.args.name.now c.in-Err.vacant) c.heap.ensures vacant in
+    made_as g.F.Fit.allocator c.args.self.now c.construct_at.new.self picture is.held.index_blocks c.args.t c.construct_at.result c.args.name.now c.in-Some.name.bytes.now 1 1 name.1 refl
+    (c.construct_at.ensures.makes picture is small (subst IsName (sym name.1) name.0) (name.2 ∙ ap length (sym name.1)) some
+    (subst (λ n. IsVacant c.args.self.now.window.bytes c.args.self.now.types picture.names n c.in-Err.vacant) (sym name.1) here))
