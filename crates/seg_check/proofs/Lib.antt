@@ -15,3 +15,4 @@ pub mod PassedTiles
 pub mod FaultOrder
 pub mod WalkLaws
 pub mod WalkSteady
+pub mod FreeWalk
