@@ -26,7 +26,8 @@ module _ (bytes : List ℕ) (known : Known) (old : Stage) (turns : ℕ) (p : Pas
   pub entered : (new : Stage) (less : ℕ) → IsSteady bytes new less → ((height : ℕ) (rest : List ℕ) → Completes bytes height new rest → Completes bytes height old rest) → Passed bytes known new less
   entered new less steady back = record { steady = steady; nodes = p.nodes; whole = λ height rest k. p.whole height rest (back height rest k); free = p.free; unlinked = p.unlinked }
 
-  pub passed : (new : Stage) (less node : ℕ) → IsSteady bytes new less → ((height : ℕ) (rest : List ℕ) → Completes bytes height new rest → Completes bytes height old (node ∷ rest)) → 1 ≤ times (block_of node) known.free → link_at bytes (block_of node) ≡ None
+  pub passed : (new : Stage) (less node : ℕ) → IsSteady bytes new less → ((height : ℕ) (rest : List ℕ) → Completes bytes height new rest → Completes bytes height old (node ∷ rest))
+      → 1 ≤ times (block_of node) known.free → link_at bytes (block_of node) ≡ None
       → Passed bytes known new less
   passed new less node steady back is_free no_link = record {
     steady = steady;

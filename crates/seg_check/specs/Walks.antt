@@ -108,7 +108,8 @@ Proceeds bytes old new None =
     × ((height : ℕ) (rest : List ℕ) → Completes bytes height old rest → rest ≡ [])
 Proceeds bytes old new (Some (Enter pointer)) =
     (pointer ≡ old.pointer)
-    × ((height : ℕ) (rest : List ℕ) → Completes bytes height old rest ↔ Completes bytes height new rest)
+    × ((height : ℕ) (rest : List ℕ) →
+    Completes bytes height old rest ↔ Completes bytes height new rest)
 Proceeds bytes old new (Some (Pass node)) = (height : ℕ) (rest : List ℕ) →
     (Completes bytes height old (node ∷ rest) ↔ Completes bytes height new rest)
     × (Completes bytes height old rest → (more : List ℕ) × (rest ≡ node ∷ more))
