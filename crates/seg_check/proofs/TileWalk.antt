@@ -189,7 +189,8 @@ module _ (bytes : List ℕ) (table : Table) where
   )
 
   -- the free tiles among those passed and one more
-  free_more : (passed : List Tile) (at : ℕ) (old new : FreeList) (b : Bool) → is_live_at bytes at ≡ b → (b ≡ true → new ≡ old) → (b ≡ false → KnowsGaps bytes old (free_of passed) → KnowsGaps bytes new (free_of passed ++ span_of (tile_at at) ∷ [])) → KnowsGaps bytes old (free_of passed)
+  free_more : (passed : List Tile) (at : ℕ) (old new : FreeList) (b : Bool) → is_live_at bytes at ≡ b → (b ≡ true → new ≡ old) → (b ≡ false → KnowsGaps bytes old (free_of passed)
+      → KnowsGaps bytes new (free_of passed ++ span_of (tile_at at) ∷ [])) → KnowsGaps bytes old (free_of passed)
       → KnowsGaps bytes new (free_of passed ++ cond b [] (span_of (tile_at at) ∷ []))
   free_more passed at old new true e same added followed = subst (λ gs. KnowsGaps bytes new gs) (sym (append-nil (free_of passed))) (subst (λ list. KnowsGaps bytes list (free_of passed)) (sym (same refl)) followed)
   free_more passed at old new false e same added followed = added refl followed

@@ -60,7 +60,8 @@ abbrev stands : shapes.Colour → Bool → Bool
 stands shapes.black below_red = true
 stands shapes.red below_red = not below_red
 
-same_colour : (bytes : List ℕ) (node : ℕ) (colour : Option Colour) (c : shapes.Colour) → IsColourOf bytes node colour → HasColour bytes node c → (black_count colour ≡ count_of c) × (is_red colour ≡ reds c) × ((b : Bool) → may_stand colour b ≡ stands c b)
+same_colour : (bytes : List ℕ) (node : ℕ) (colour : Option Colour) (c : shapes.Colour) → IsColourOf bytes node colour → HasColour bytes node c
+    → (black_count colour ≡ count_of c) × (is_red colour ≡ reds c) × ((b : Bool) → may_stand colour b ≡ stands c b)
 same_colour bytes node None c is h = absurd (is c h)
 same_colour bytes node (Some Black) shapes.black is h = (refl, refl, λ b. refl)
 same_colour bytes node (Some Red) shapes.red is h = (refl, refl, λ b. refl)
@@ -181,7 +182,8 @@ module _ (bytes : List ℕ) (height : ℕ) (old new : Stage) (node : ℕ) (rest 
             counted = omega (arith, counted, size, e.nodes_are, e.wanted_is);
           }
 
-      go_back : (parts : List Part) → entered_of parts ≡ new.entered.items → ArePartsOf bytes height parts → rest ≡ nodes_of k.tree ++ after parts → new.nodes + (length (nodes_of k.tree) + unentered parts) ≡ new.wanted → Completes bytes height old rest
+      go_back : (parts : List Part) → entered_of parts ≡ new.entered.items → ArePartsOf bytes height parts → rest ≡ nodes_of k.tree ++ after parts
+          → new.nodes + (length (nodes_of k.tree) + unentered parts) ≡ new.wanted → Completes bytes height old rest
       go_back [] items are rest_is counted = absurd (no_last old.entered.items (record { node = node; above = new.above }) (items ∙ e.entered_is))
       go_back (p ∷ ps) items are rest_is counted =
           let last = last_is (entered_of ps) old.entered.items p.entered (record { node = node; above = new.above }) (items ∙ e.entered_is) in

@@ -46,7 +46,8 @@ module _ (bytes : List ℕ) (old new : Stage) (turns node : ℕ) (s : IsSteady b
       less : node < 2 ^ 32
       less = target_less bytes old.pointer node named
 
-      go : AllByRecursion (λ e. e.node + 4 < 2 ^ 32) old.entered.items ⊎ ((length bytes ≤ old.pointer) × (old.pointer < 2 ^ 32)) → (node + 4 < 2 ^ 32) ⊎ (2 ^ 32 ≤ node + 4) → AllByRecursion (λ e. e.node + 4 < 2 ^ 32) new.entered.items ⊎ ((length bytes ≤ new.pointer) × (new.pointer < 2 ^ 32))
+      go : AllByRecursion (λ e. e.node + 4 < 2 ^ 32) old.entered.items ⊎ ((length bytes ≤ old.pointer) × (old.pointer < 2 ^ 32)) → (node + 4 < 2 ^ 32) ⊎ (2 ^ 32 ≤ node + 4)
+          → AllByRecursion (λ e. e.node + 4 < 2 ^ 32) new.entered.items ⊎ ((length bytes ≤ new.pointer) × (new.pointer < 2 ^ 32))
       go (inl all) (inl low) = inl (subst (AllByRecursion (λ e. e.node + 4 < 2 ^ 32)) (sym items) (all_more (λ e. e.node + 4 < 2 ^ 32) old.entered.items (record { node = node; above = new.above }) all low))
       go (inl all) (inr high) = let small = s.small in let near = less in inr (omega arith, omega arith)
       go (inr past) _ =

@@ -33,4 +33,5 @@ pub record Follows (table : Table) (before header : Header) : Type 0 where
 -- them where nothing wrong was met, and it goes on rightly
 abbrev pub KnowsGaps : List ℕ → FreeList → List Span → Type 0
 KnowsGaps bytes list gs = (more : List Span) →
-    ((list.wrong ≡ None) × Links bytes list.word more None) ↔ Links bytes free_word (gs ++ more) None
+    ((list.wrong ≡ None) × Links bytes list.word more None)
+    ↔ Links bytes free_word (gs ++ more) None

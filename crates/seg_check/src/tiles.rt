@@ -37,7 +37,8 @@ impl<A: Allocator> Image<'_, A> {
         ensures tiles { HasFront self.now.w.now.bytes self.now.types.now
             → IsOk result ↔ HasTiles self.now.w.now.bytes self.now.types.now }
         ensures free_list { HasFront self.now.w.now.bytes self.now.types.now
-            → IfOk result (λ list. KnowsGaps self.now.w.now.bytes list (gaps self.now.w.now.bytes)) }
+            → IfOk result (λ list.
+            KnowsGaps self.now.w.now.bytes list (gaps self.now.w.now.bytes)) }
         ensures known { HasFront self.now.w.now.bytes self.now.types.now
             → claims.old ≡ nothing_known ((length self.now.w.now.bytes - heap_start) / UNIT)
             → OnOk result (KnowsTiles self.now.w.now.bytes claims.new) }

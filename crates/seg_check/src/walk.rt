@@ -28,7 +28,8 @@ impl Tree {
     /// A walk through the tree. Where it isn't a red-black tree of so many nodes, the walk ends with the position of the
     /// pointer to the root as `Err`: at once before a node that would stand too deep, else after the last node.
     pub(crate) fn walk<A: Allocator>(self, w: &Window<A>) -> Walk<'_, A>
-        ensures starts { (height : ℕ) (nodes : List ℕ) → Completes w.now.bytes height result.stage nodes
+        ensures starts { (height : ℕ) (nodes : List ℕ)
+            → Completes w.now.bytes height result.stage nodes
             ↔ Hangs w.now.bytes self.root self.nodes height nodes }
         ensures steady { IsSteady w.now.bytes result.stage result.turns }
         ensures window { result.w.now ≡ w.now }
@@ -153,7 +154,8 @@ impl Stage {
     fn pass(&mut self) -> Option<u32>
         ensures goes_on { IfSome result (λ node. (bytes : List ℕ) (height : ℕ) (rest : List ℕ)
             → target bytes self.old.pointer ≡ None → node + 4 < 2 ^ 32
-            → Completes bytes height self.old (node ∷ rest) ↔ Completes bytes height self.new rest) }
+            → Completes bytes height self.old (node ∷ rest)
+            ↔ Completes bytes height self.new rest) }
         ensures next { IfSome result (λ node. (bytes : List ℕ) (height : ℕ) (rest : List ℕ)
             → target bytes self.old.pointer ≡ None → node + 4 < 2 ^ 32
             → Completes bytes height self.old rest → (more : List ℕ) × (rest ≡ node ∷ more)) }
@@ -175,7 +177,8 @@ impl Stage {
 
     /// Whether the tree is as it is to be, once all of it was walked.
     fn is_right(&self) -> bool
-        ensures { IsTrue result ↔ ((self.now.is_red_black ≡ true) × (self.now.nodes ≡ self.now.wanted)) }
+        ensures { IsTrue result
+            ↔ ((self.now.is_red_black ≡ true) × (self.now.nodes ≡ self.now.wanted)) }
     {
         self.is_red_black && self.nodes == self.wanted
     }
