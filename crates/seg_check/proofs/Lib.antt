@@ -20,3 +20,4 @@ pub mod FaultOrder
 pub mod ListLaws
 pub mod WalkLaws
 pub mod WalkSteady
+pub mod FreeWalk

@@ -3,6 +3,7 @@
 --     Part, entered_of, after, unentered     the nodes above and to the left of the place, each with its right part
 --     Completes bytes height stage rest      a red-black tree goes on like this from the stage on, with the rest of its nodes
 --     Hangs bytes root wanted height nodes   a red-black tree of these nodes, so many as are wanted, hangs at a pointer
+--     HangsFree bytes known                  such a tree of free blocks hangs at the pointer to them, as many as are known
 --     IsAtEnd height old new rest            nothing is left, and all that was met is of such a tree
 --     IsSteady bytes stage turns             counts and positions of the walk don't wrap
 --     Proceeds bytes old new visit           a tree goes on from the new stage on as from the old one
@@ -14,6 +15,11 @@ use Rattle.seg_spec.specs.Shapes as shapes
 use Rattle.seg_spec.specs.Shapes.{HasColour, Tree, nodes_of, IsTree, IsBlack, IsBalanced}
 use Rattle.seg_rbtree.specs.declared.node.Colour.{Colour}
 use Rattle.seg_rbtree.specs.Nodes.{shade}
+use Rattle.seg_spec.specs.Header.{free_word}
+use Rattle.seg_spec.specs.Heap.{link_at}
+use Rattle.seg_spec.specs.Block.{block_of}
+use Rattle.seg_spec.specs.Sound.{times}
+use Rattle.seg_check.specs.Marks.{Known}
 use Rattle.seg_check.specs.declared.walk.Above.{Above}
 use Rattle.seg_check.specs.declared.walk.Entered.{Entered}
 use Rattle.seg_check.specs.declared.walk.Stage.{Stage}
@@ -115,3 +121,12 @@ pub record Hangs (bytes : List ℕ) (root wanted height : ℕ) (nodes : List ℕ
   pub balanced : IsBalanced tree height
   pub nodes_are : nodes_of tree ≡ nodes
   pub counted : length nodes ≡ wanted
+
+-- such a tree hangs at the pointer to the free blocks, of as many nodes as free blocks are known, each
+-- of which is one and has no link
+pub record HangsFree (bytes : List ℕ) (known : Known) : Type 0 where
+  pub height : ℕ
+  pub nodes : List ℕ
+  pub hangs : Hangs bytes free_word known.free_count height nodes
+  pub free : AllByRecursion (λ p. 1 ≤ times (block_of p) known.free) nodes
+  pub unlinked : AllByRecursion (λ p. link_at bytes (block_of p) ≡ None) nodes

@@ -1,3 +1,6 @@
+ghost use Rattle.std.specs.Prelude.{OnOk};
+ghost use Rattle.seg_check.specs.Walks.{HangsFree};
+
 use crate::claims::Claims;
 use crate::image::Image;
 use crate::walk::{Tree, Visit};
@@ -12,7 +15,9 @@ const FREE: u32 = header::FREE as u32;
 impl<A: Allocator> Image<'_, A> {
     /// The tree of best fit: all free blocks, in order of their units, then of their positions. None has a link. `Err` has
     /// the position of the pointer to the root.
-    pub(crate) fn check_free_tree<B: Allocator>(&self, claims: &Claims<B>) -> Result<(), u32> {
+    pub(crate) fn check_free_tree<B: Allocator>(&self, claims: &Claims<B>) -> Result<(), u32>
+        ensures { OnOk result (HangsFree self.now.w.now.bytes claims.now) }
+    {
         let tree = Tree {
             root: FREE,
             nodes: claims.free_count(),
