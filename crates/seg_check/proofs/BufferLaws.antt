@@ -1,5 +1,5 @@
 -- Strings, vectors, flat maps and owns, by the block that each names.
-use Rattle.std.proofs.Common.{◌≡◌, ℕ, zero, suc, ◌+◌, ◌*◌, ◌≤◌, List, [], ◌∷◌, length, Bool, true, false, Option, Some, None, Ok, Err, refl, sym, ap, ◌∙◌, subst, arith}
+use Rattle.std.proofs.Common.{◌≡◌, ℕ, zero, suc, ◌+◌, ◌*◌, ◌≤◌, List, [], ◌∷◌, length, Bool, true, false, Option, Some, None, Ok, refl, sym, ap, ◌∙◌, subst, arith}
 use Rattle.std.specs.Option.{is_some}
 use Rattle.seg_spec.specs.Bytes.{slice}
 use Rattle.seg_spec.specs.Pointer.{target}
@@ -14,16 +14,14 @@ use Rattle.seg_block.specs.Tags.{word_of}
 use Rattle.seg_value.specs.Contents.{IsContent}
 use Rattle.seg_value.specs.declared.content.Content.{Content}
 use Rattle.seg_value.specs.declared.content.Shape.{Shape}
-use Rattle.seg_check.specs.declared.fault.ContentFault.{ContentFault}
-use Rattle.seg_check.specs.declared.fault.ContentFault.TheVariants.{BadPointer, BadValue}
-use Rattle.seg_check.specs.Claiming.{Refuses, CanClaim, ClaimsBlock, turns_where, has_turns}
+use Rattle.seg_check.specs.Claiming.{CanClaim, ClaimsBlock, turns_where, has_turns}
 use Rattle.seg_check.specs.Marks.{Known, ClaimsAll, Within}
 use Rattle.seg_check.specs.Turns.{places_by}
 use Rattle.seg_check.specs.Resolving.{CanResolve, Advances, IsReady}
 use Rattle.seg_check.specs.Cells.{counted_by, blocks_counted_by, NamesBy, HasItems}
 use Rattle.seg_check.proofs.StepLaws.{advance_open, can_open}
 use Rattle.seg_check.proofs.TagLaws.{places_tagged}
-use Rattle.seg_check.proofs.OpenLaws.{named_some, named_none, start_some, names_room, no_room, none_counted, can_claim, advance_block, advance_nothing}
+use Rattle.seg_check.proofs.OpenLaws.{named_some, named_none, start_some, names_room, no_room, can_claim, advance_block, advance_nothing}
 
 -- ---- what a cell counts
 

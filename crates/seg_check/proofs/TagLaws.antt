@@ -5,7 +5,6 @@ use Rattle.seg_spec.specs.Heap.{tag_at}
 use Rattle.seg_spec.specs.Block as block
 use Rattle.seg_spec.specs.Block.{kind_number, tag_of, block_of, IsOwnable, AllowsType}
 use Rattle.seg_spec.specs.Owing.{entries_at}
-use Rattle.seg_spec.proofs.MoreTypes.{below_length}
 use Rattle.seg_block.specs.Tags.{kind_of, word_of}
 use Rattle.seg_block.specs.declared.tag.Kind.{Kind}
 use Rattle.seg_block.specs.declared.tag.Kind.TheVariants as kind
@@ -14,6 +13,7 @@ use Rattle.seg_value.specs.Contents.{IsEntryOf, IsContent, ContentOf, OfBlock}
 use Rattle.seg_value.specs.declared.content.Content.{Content}
 use Rattle.seg_value.specs.declared.content.Shape.TheVariants.{Object}
 use Rattle.seg_value.specs.declared.entry.Entry.{Entry}
+use Rattle.seg_check.proofs.TagNumbers.{number_small, one_tag, type_small, kind_from, kind_of-from}
 use Rattle.seg_check.specs.declared.marks.Turn.{Turn}
 use Rattle.seg_check.specs.Turns.{kind_with, places_by, places_with, places_in, entries_by, IsEntryFor, HasEntries}
 
@@ -25,22 +25,8 @@ kind_again block.Kind.node T = let e : (4 + 256 * T) % 256 ≡ 4 = omega arith i
 kind_again block.Kind.index_buffer T = let e : (5 + 256 * T) % 256 ≡ 5 = omega arith in ap kind_with e
 kind_again block.Kind.index_node T = let e : (6 + 256 * T) % 256 ≡ 6 = omega arith in ap kind_with e
 
-number_small : (k : block.Kind) → kind_number k < 256
-number_small block.Kind.named = omega arith
-number_small block.Kind.object = omega arith
-number_small block.Kind.buffer = omega arith
-number_small block.Kind.node = omega arith
-number_small block.Kind.index_buffer = omega arith
-number_small block.Kind.index_node = omega arith
-
 type_again : (k : block.Kind) (T : ℕ) → tag_of k T / 256 ≡ T
-type_again k T = let s = number_small k in omega arith
-
--- a tag says its kind and type
-one_tag : (j k : block.Kind) (S T : ℕ) → tag_of j S ≡ tag_of k T → (j ≡ k) × (S ≡ T)
-one_tag j k S T e =
-    let kinds : Some j ≡ Some k = sym (kind_again j S) ∙ ap (λ n. kind_with (n % 256)) e ∙ kind_again k T in
-    (cc, sym (type_again j S) ∙ ap (λ n. n / 256) e ∙ type_again k T)
+type_again k T = let s = (number_small k).1 in omega arith
 
 module _ (bytes : List ℕ) (table : Table) (valid : IsTable table) where
   -- the values of a turn, by the tag of its block
@@ -130,36 +116,8 @@ module _ (bytes : List ℕ) (table : Table) (valid : IsTable table) where
 
   -- ---- a block of the table has a tag
 
-  abbrev back_of : block.Kind → Kind
-  back_of block.Kind.named = kind.Named
-  back_of block.Kind.object = kind.Object
-  back_of block.Kind.buffer = kind.Buffer
-  back_of block.Kind.node = kind.Node
-  back_of block.Kind.index_buffer = kind.IndexBuffer
-  back_of block.Kind.index_node = kind.IndexNode
-
-  word_back : (k : block.Kind) (T : ℕ) → word_of (record { kind = back_of k; type_id = T }) ≡ tag_of k T
-  word_back block.Kind.named T = refl
-  word_back block.Kind.object T = refl
-  word_back block.Kind.buffer T = refl
-  word_back block.Kind.node T = refl
-  word_back block.Kind.index_buffer T = refl
-  word_back block.Kind.index_node T = refl
-
-  with_buffer : (T : ℕ) (o : Option Form) → form_at table T ≡ o → (block.has_buffer o ≡ true) ⊎ (block.has_nodes o ≡ true) → T < length table
-  with_buffer T (Some form) f h = below_length table T form f
-  with_buffer T None f (inl h) = cc
-  with_buffer T None f (inr h) = cc
-
-  small_type : (k : block.Kind) (T : ℕ) → AllowsType table k T → T < 256
-  small_type block.Kind.named T a = let few = valid.few in omega arith
-  small_type block.Kind.object T a = let few = valid.few in omega arith
-  small_type block.Kind.buffer T a = let few = valid.few in let l = with_buffer T (form_at table T) refl (inl a) in omega arith
-  small_type block.Kind.node T a = let few = valid.few in let l = with_buffer T (form_at table T) refl (inr a) in omega arith
-  small_type block.Kind.index_buffer T a = omega arith
-  small_type block.Kind.index_node T a = omega arith
-
   pub has_tag : (b : ℕ) → IsOwnable bytes table b → ((t : Tag) → t.type_id < 256 → tag_at bytes b ≡ word_of t → None ≡ Some t) → ⊥
   has_tag b own every =
-      let t : Tag = record { kind = back_of own.kind; type_id = own.type } in
-      none_some t (every t (small_type own.kind own.type own.allowed) (own.tag_is ∙ sym (word_back own.kind own.type)))
+      let t : Tag = record { kind = kind_from own.kind; type_id = own.type } in
+      let small = type_small table valid own.kind own.type own.allowed in
+      none_some t (every t (omega arith) (own.tag_is ∙ sym (ap (λ k. tag_of k own.type) (kind_of-from own.kind))))
