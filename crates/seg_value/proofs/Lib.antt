@@ -21,6 +21,5 @@ pub mod Header
 pub mod Named
 pub mod Indexed
 pub mod IndexGrows
-pub mod NoSpace
 pub mod NewNodes
 pub mod Enlarging
