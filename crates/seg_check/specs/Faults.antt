@@ -97,4 +97,4 @@ FitsHeap bytes (fault.BadMove i) = ⊥
 abbrev pub FitsHeapForOpening : ℕ → List ℕ → Fault → Type 0
 FitsHeapForOpening allocator bytes f =
     FitsHeap bytes f ⊎
-    ((f ≡ fault.BadHeader) × IsHeapRight bytes × (word bytes 16 ≢ allocator))
+    ((f ≡ fault.BadHeader) × IsHeapRight bytes × (word bytes allocator_word ≢ allocator))
