@@ -25,7 +25,7 @@ use Rattle.seg_index.proofs.HeldChanges.{with_names, held_entered}
 use Rattle.seg_index.proofs.Kept.{finds_kept, vacant_kept}
 use Rattle.seg_manager.specs.Segments.{Becomes, new_root}
 use Rattle.seg_manager.specs.NewNamed.{GivesNamed, MakesNamed}
-use Rattle.seg_manager.proofs.OneRequest.{counts_one}
+use Rattle.seg_spec.proofs.OneRequest.{counts_one}
 use Rattle.seg_manager.proofs.NewNamed.{count-copies, named_kind}
 
 times_cons : (h x : ℕ) (xs : List ℕ) → times h (x ∷ xs) ≡ times h (x ∷ []) + times h xs
