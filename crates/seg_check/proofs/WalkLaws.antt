@@ -162,7 +162,8 @@ module _ (bytes : List ℕ) (height : ℕ) (old new : Stage) (node : ℕ) (rest 
       rights : (old.is_red_black ≡ true) × (may_stand colour old.above.is_red ≡ true)
       rights = both_true old.is_red_black (may_stand colour old.above.is_red) (sym e.right_is ∙ k.is_right)
 
-      up : (c : shapes.Colour) → HasColour bytes node c → (p : Part) (ps : List Part) → p.entered ≡ record { node = node; above = new.above } → entered_of ps ≡ old.entered.items → ArePartsOf bytes height (p ∷ ps) → rest ≡ nodes_of k.tree ++ after (p ∷ ps)
+      up : (c : shapes.Colour) → HasColour bytes node c → (p : Part) (ps : List Part) → p.entered ≡ record { node = node; above = new.above } → entered_of ps ≡ old.entered.items
+          → ArePartsOf bytes height (p ∷ ps) → rest ≡ nodes_of k.tree ++ after (p ∷ ps)
           → new.nodes + (length (nodes_of k.tree) + unentered (p ∷ ps)) ≡ new.wanted → Completes bytes height old rest
       up c has p ps own others are rest_is counted =
           let same = same_colour bytes node colour c is has in

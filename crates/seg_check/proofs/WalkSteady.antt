@@ -34,7 +34,8 @@ target_past bytes at past near =
     ap (λ w. cond (w == 1) None (Some ((at + w) % 2 ^ 32))) none ∙ ap Some same
 
 module _ (bytes : List ℕ) (old new : Stage) (turns node : ℕ) (s : IsSteady bytes old turns) (some : 1 ≤ turns) where
-  pub steady_enter : target bytes old.pointer ≡ Some node → new.pointer ≡ node → new.entered.items ≡ old.entered.items ++ record { node = node; above = new.above } ∷ [] → new.nodes ≤ old.nodes + 1 → IsShallow new.above → IsSteady bytes new (turns - 1)
+  pub steady_enter : target bytes old.pointer ≡ Some node → new.pointer ≡ node → new.entered.items ≡ old.entered.items ++ record { node = node; above = new.above } ∷ []
+      → new.nodes ≤ old.nodes + 1 → IsShallow new.above → IsSteady bytes new (turns - 1)
   steady_enter named pointer_is items nodes shallow = record {
     above = shallow;
     entered = subst (AllByRecursion (λ e. IsShallow e.above)) (sym items) (all_more (λ e. IsShallow e.above) old.entered.items (record { node = node; above = new.above }) s.entered shallow);

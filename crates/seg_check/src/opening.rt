@@ -19,7 +19,8 @@ pub fn open<F: Fit, A: Allocator, B: Allocator>(
     window: Window<A>,
 ) -> Result<Segment<F, A>, (Fault, Window<A>)>
     ensures opened { IfOk result (λ segment. segment.window ≡ window) }
-    ensures types { IfOk result (λ segment. IsTable segment.types × HasTable window.bytes 64 segment.types) }
+    ensures types { IfOk result (λ segment.
+        IsTable segment.types × HasTable window.bytes 64 segment.types) }
     ensures header { OnOk result (HasHeader window.bytes × (word window.bytes 16 ≡ F.allocator)) }
     ensures heap { IfOk result
         (λ segment. HasTiles window.bytes segment.types × HasList window.bytes) }

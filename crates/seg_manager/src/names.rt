@@ -106,7 +106,8 @@ impl<F: Fit, A: Allocator> Segment<F, A> {
         ensures makes { (picture : Picture) → (s : IsSegment F.allocator self.old picture) →
             t < length self.old.types → IsName name.entry.bytes.now →
             name.entry.len ≡ length name.entry.bytes.now → 1 ≤ count →
-            IsVacant self.old.window.bytes self.old.types picture.names name.entry.bytes.now vacant →
+            IsVacant self.old.window.bytes self.old.types picture.names name.entry.bytes.now
+            vacant →
             IfOk result (MakesNamed F.allocator self.old self.new picture s.held.index_blocks
             name.entry.bytes.now t count) }
     {

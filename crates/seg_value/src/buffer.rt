@@ -181,8 +181,8 @@ impl<F: Fit, A: Allocator> Heap<F, A> {
             Stands F.allocator before self.old.types (place_at cell T) v blocks →
             Takes F.allocator before self.old.window.bytes u (Some block) → 2 ≤ u →
             count_at before cell * content.now.entry.size + 16 ≤ 16 * u →
-            MovesBuffer F.allocator before self.old.window.bytes self.new.window.bytes self.old.types
-            (place_at cell T) v blocks u }
+            MovesBuffer F.allocator before self.old.window.bytes self.new.window.bytes
+            self.old.types (place_at cell T) v blocks u }
         ensures moves_index { (u : ℕ) (before : List ℕ) →
             FindsIndex F.allocator before self.old.types content.now cell →
             Takes F.allocator before self.old.window.bytes u (Some block) → 2 ≤ u →

@@ -113,8 +113,9 @@ pub(crate) fn point_each_again<A: Allocator>(
     ensures values { (t : ℕ) → entry.held ≡ Held.Value t →
         entry.before + size types.now t ≤ entry.size →
         IsWithin w.old.bytes start (n * entry.size) →
-        ChangesEach (λ old new at form. IsFurther old new distance at form) w.old.bytes w.new.bytes types.now
-        t start (n * entry.size) (map (λ p. p + entry.before) (spaced start entry.size n)) }
+        ChangesEach (λ old new at form. IsFurther old new distance at form)
+        w.old.bytes w.new.bytes types.now t start (n * entry.size)
+        (map (λ p. p + entry.before) (spaced start entry.size n)) }
     ensures pointers { entry.held ≡ Held.Pointer → entry.before + 4 ≤ entry.size →
         IsWithin w.old.bytes start (n * entry.size) →
         PointsAgain distance w.old.bytes w.new.bytes start entry.size entry.before n }
@@ -157,8 +158,9 @@ fn point_values_again<A: Allocator>(
     ensures host { KeepsHost w.old w.new }
     ensures pointed { entry.before + size types.now t ≤ entry.size →
         IsWithin w.old.bytes start (n * entry.size) →
-        ChangesEach (λ old new at form. IsFurther old new distance at form) w.old.bytes w.new.bytes types.now
-        t start (n * entry.size) (map (λ p. p + entry.before) (spaced start entry.size n)) }
+        ChangesEach (λ old new at form. IsFurther old new distance at form)
+        w.old.bytes w.new.bytes types.now t start (n * entry.size)
+        (map (λ p. p + entry.before) (spaced start entry.size n)) }
 {
     if !types.has_pointers(t) {
         return;

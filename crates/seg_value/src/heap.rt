@@ -57,7 +57,8 @@ impl<F: Fit, A: Allocator> Heap<F, A> {
     pub fn window_mut(&mut self) -> &mut Window<A>
         ensures value { result.now ≡ self.old.window }
         ensures* writes_back { sem 𝓛 (Lends (the_row F.row A.row F.Fit A.Allocator)
-            (the_window.the_row A.row A.Allocator) self.entry result (λ w. record self.old { window = w })) }
+            (the_window.the_row A.row A.Allocator) self.entry result
+            (λ w. record self.old { window = w })) }
     {
         &mut self.window
     }
@@ -73,7 +74,8 @@ impl<F: Fit, A: Allocator> Heap<F, A> {
         ensures window { result.0.now ≡ self.old.window }
         ensures types { result.1.now ≡ self.old.types }
         ensures* writes_back { sem 𝓛 (Lends (the_row F.row A.row F.Fit A.Allocator)
-            (the_window.the_row A.row A.Allocator) self.entry result.0 (λ w. record self.old { window = w })) }
+            (the_window.the_row A.row A.Allocator) self.entry result.0
+            (λ w. record self.old { window = w })) }
     {
         (&mut self.window, &self.types)
     }

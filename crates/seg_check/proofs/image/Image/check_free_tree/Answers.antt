@@ -39,7 +39,8 @@ loop-visit-preserved-in-Pass g c =
     let steady : IsSteady new.w.now.bytes new.stage new.turns = subst (λ (o : Option Visit). IfSome o (λ _. IsSteady new.w.now.bytes new.stage new.turns)) is (c.in_ok-visit.ensures.steady p.steady) in
     let block : c.block_of-block.result ≡ c.in-Pass.node - 16 = c.block_of-block.ensures in
     let free : 1 ≤ times (c.in-Pass.node - 16) c.args.claims.now.free = subst (λ b. 1 ≤ times b c.args.claims.now.free) block (c.is_free.ensures.0 c.if-not-is_free.false) in
-    let link : link_at bytes (c.in-Pass.node - 16) ≡ None = ap (λ (q : Placement). link_at q.bytes (c.in-Pass.node - 16)) same ∙ ap (link_at c.args.self.now.w.now.bytes) (sym block) ∙ sym c.link.ensures ∙ not_some c.link.result c.if-is_some.ensures in
+    let link : link_at bytes (c.in-Pass.node - 16) ≡ None = ap (λ (q : Placement). link_at q.bytes (c.in-Pass.node - 16)) same
+    ∙ ap (link_at c.args.self.now.w.now.bytes) (sym block) ∙ sym c.link.ensures ∙ not_some c.link.result c.if-is_some.ensures in
     let now = passed bytes c.args.claims.now old.stage old.turns p new.stage new.turns c.in-Pass.node (subst (λ (q : Placement). IsSteady q.bytes new.stage new.turns) window steady) (λ height rest. (step height rest).0.1) free link in
     record { same = window ∙ same; passed = subst (λ (q : Placement). Passed q.bytes c.args.claims.now new.stage new.turns) (sym window) now }
 

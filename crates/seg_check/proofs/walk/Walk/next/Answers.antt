@@ -6,7 +6,8 @@ use Rattle.seg_check.proofs.walk.Walk.next.Goals as goal
 pub returns-then-enter-clause-steady : goal.returns-then-enter-clause-steady
 returns-then-enter-clause-steady g c = λ s.
     let few : c.args.self.now.stage.nodes < 2 ^ 32 = omega (arith, s.counted) in
-    steady_enter c.args.self.now.w.now.bytes c.args.self.now.stage c.enter.new.self c.args.self.now.turns c.in-Some.node s (omega arith) (sym c.in-Some.ensures) (c.enter.ensures.pointer c.if-enter.true) (c.enter.ensures.entered c.if-enter.true) (c.enter.ensures.nodes few)
+    steady_enter c.args.self.now.w.now.bytes c.args.self.now.stage c.enter.new.self c.args.self.now.turns c.in-Some.node s (omega arith)
+    (sym c.in-Some.ensures) (c.enter.ensures.pointer c.if-enter.true) (c.enter.ensures.entered c.if-enter.true) (c.enter.ensures.nodes few)
     (c.enter.ensures.above c.if-enter.true s.above)
 
 pub returns-in-Some-pass-clause-steady : goal.returns-in-Some-pass-clause-steady
