@@ -41,7 +41,7 @@ def height(name, lists):
 
 
 def jobs(name, lists):
-    """How many jobs a crate's check gets: all processors where hardly another crate can be built beside it."""
+    """The words that say how many jobs a crate's check gets: one for each processor where hardly another crate is built beside it."""
     program = [*below(PROGRAM, lists), PROGRAM]
     beside = [it for it in program if it != name and it not in below(name, lists) and name not in below(it, lists)]
     return ["--jobs", str(os.cpu_count())] if len(beside) <= 3 else []
