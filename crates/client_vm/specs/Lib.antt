@@ -3,9 +3,5 @@ pub mod Writes
 pub mod Sinks
 pub mod Runs
 pub mod Outcomes
-pub mod Lines
-pub mod Pairing
-pub mod Paths
-pub mod Places
 pub mod Machines
 pub mod Reports
