@@ -14,3 +14,4 @@ pub mod NamedMaking
 pub mod NewNamed
 pub mod NamedEnters
 pub mod UniqueCount
+pub mod ObjectAsks
