@@ -14,3 +14,5 @@ pub mod NamedMaking
 pub mod NewNamed
 pub mod NamedEnters
 pub mod UniqueCount
+pub mod ClearedItems
+pub mod NamedLeaves
