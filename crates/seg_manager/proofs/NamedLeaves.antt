@@ -1,11 +1,10 @@
 -- A named object goes: its entry leaves the index, then its blocks are given back.
-use Rattle.std.proofs.Common.{◌≡◌, ◌≢◌, ℕ, ◌+◌, ◌≤◌, ◌⊎◌, inl, inr, true, false, List, [], ◌∷◌, ◌++◌, length, Some, None, Ok, Err, eqb, cond, refl, sym, ap, ◌∙◌, subst, append_assoc, arith}
+use Rattle.std.proofs.Common.{◌≡◌, ◌≢◌, ℕ, ◌+◌, ◌≤◌, ◌⊎◌, inl, inr, true, false, List, [], ◌∷◌, ◌++◌, Option, Some, None, Ok, Err, is_ok, eqb, refl, sym, ap, ◌∙◌, subst, append_assoc, arith}
 use Rattle.std.proofs.lemmas.Bool.Decides.{nat_tests}
 use Rattle.std.proofs.lemmas.Bool.{cases_eq}
 use Rattle.std.specs.List.{AllByRecursion}
 use Rattle.seg_spec.specs.Bytes.{word}
-use Rattle.seg_spec.specs.Header.{allocator_word, free_word}
-use Rattle.seg_spec.specs.Types.{Table}
+use Rattle.seg_spec.specs.Header.{allocator_word}
 use Rattle.seg_spec.specs.Heap.{IsHeap, live}
 use Rattle.seg_spec.specs.Block.{KeepsBlock}
 use Rattle.seg_spec.specs.Index.{Root, root_named}
@@ -13,14 +12,11 @@ use Rattle.seg_spec.specs.Sound.{Picture, HoldsRoot, IsHeld, times, positions}
 use Rattle.seg_spec.specs.Roots.{RootsComeApart}
 use Rattle.seg_spec.specs.Demand.{after_gives}
 use Rattle.seg_spec.specs.Spending.{killed}
-use Rattle.seg_spec.proofs.SliceLaws.{IsSame-part}
-use Rattle.seg_spec.proofs.Frame.{word-same}
 use Rattle.seg_spec.proofs.LiveLaws.{each_there, times-append, live-once}
 use Rattle.seg_spec.proofs.RootFrame.{HoldsRoot-kept}
 use Rattle.seg_spec.proofs.RootLaws.{roots_come_apart, HoldsRoots-only}
 use Rattle.seg_spec.proofs.Composing.{kept_twice}
 use Rattle.seg_spec.proofs.GiveOrder.{in_any_order}
-use Rattle.seg_raw.specs.declared.code.Code.{Code}
 use Rattle.seg_raw.specs.declared.code.Code.TheVariants as code
 use Rattle.seg_value.specs.Stored.{Stored}
 use Rattle.seg_index.specs.Lists.{LeavesName}
@@ -50,6 +46,20 @@ is_found T root found e = go (cases_eq root.type T)
         let test : eqb root.type T ≡ false = grind (arith, nat_tests) in
         let none : Ok found ≡ Err code.OtherType = rw test at e in
         absurd (let no : Ok found ≡ Err code.OtherType = none in cc)
+
+-- a search that found none of the type
+pub not_killed : (T : ℕ) (o : Option Root) → is_ok (found_as T o) ≡ false → killed o T ≡ None
+not_killed T None e = refl
+not_killed T (Some root) e = go (cases_eq root.type T)
+  where
+    go : (root.type ≡ T) ⊎ (root.type ≢ T) → killed (Some root) T ≡ None
+    go (inl same) =
+        let test : eqb root.type T ≡ true = grind (arith, nat_tests) in
+        let is : true ≡ false = rw test at e in
+        absurd (let no : true ≡ false = is in cc)
+    go (inr other) =
+        let test : eqb root.type T ≡ false = grind (arith, nat_tests) in
+        rw test refl
 
 module _ (allocator : ℕ) (old mid : Stored) (picture : Picture) (is : IsSegment allocator old picture) (root : Root)
     (e : LeavesName old.window.bytes mid.window.bytes picture.table picture.names is.held.index_blocks root) where

@@ -257,7 +257,8 @@ impl<F: Fit, A: Allocator> Segment<F, A> {
         ensures frees { (root : Root) (blocks : List ℕ) →
             IsUnlisted F.allocator self.old.window.bytes self.old.types root blocks →
             found ≡ found_of root → root.type ≡ t →
-            GivesBack F.allocator self.old.window.bytes self.new.window.bytes self.old.types blocks }
+            GivesBack F.allocator self.old.window.bytes self.new.window.bytes self.old.types
+            blocks }
     {
         let size = self.types().size(t);
         for index in 0..found.count {

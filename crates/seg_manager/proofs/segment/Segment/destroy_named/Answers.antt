@@ -1,4 +1,4 @@
-use Rattle.std.proofs.Common.{◌≡◌, ◌≤◌, ◌∙◌, ℕ, List, [], ap, subst, rules, arith}
+use Rattle.std.proofs.Common.{◌≤◌, ◌∙◌, ℕ, List, [], ap, subst, rules, arith}
 use Rattle.seg_spec.specs.Types.{size}
 use Rattle.seg_spec.specs.Value.{Value, default_of}
 use Rattle.seg_spec.specs.Heap.{live, IsHeap, IsLive, Gives}
