@@ -15,3 +15,5 @@ pub mod NewNamed
 pub mod NamedEnters
 pub mod UniqueCount
 pub mod ObjectAsks
+pub mod ClearedItems
+pub mod NamedLeaves

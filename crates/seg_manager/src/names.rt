@@ -1,4 +1,4 @@
-ghost use Rattle.std.specs.Prelude.{◌≡◌, ◌+◌, ◌*◌, ◌%◌, ◌^◌, ◌<◌, ◌≤◌, false, [], length, None, Some, Err, MatchOption, IsSomeAnd, IfOk, IfSome, IfNone, MatchResult, IsOkUnless, slice_get, is_ok};
+ghost use Rattle.std.specs.Prelude.{◌≡◌, ◌+◌, ◌*◌, ◌%◌, ◌^◌, ◌<◌, ◌≤◌, false, [], length, None, Some, Err, MatchOption, IsSomeAnd, IfOk, IfSome, IfNone, MatchResult, IsOkUnless, slice_get, is_ok, ℕ, List, IsTrue};
 ghost use Rattle.seg_spec.specs.Bytes.{ChangesOnly};
 ghost use Rattle.seg_spec.specs.Calls.{Refuses};
 ghost use Rattle.seg_spec.specs.Heap.{IsHeap};
@@ -10,8 +10,9 @@ ghost use Rattle.seg_spec.specs.Types.{IsTable, size};
 ghost use Rattle.seg_spec.specs.Value.{copies, default_of};
 ghost use Rattle.seg_spec.specs.Window.{KeepsHost};
 ghost use Rattle.seg_index.specs.Lists.{IsNamed, IsVacant, entry_of, root_after};
-ghost use Rattle.seg_manager.specs.NamedObjects.{found_as, Says, IsMissing, IsCount, RefusesName, FindsOrMakesNamed, RefusesToFind};
+ghost use Rattle.seg_manager.specs.NamedObjects.{found_as, Says, IsMissing, IsCount, RefusesName, FindsOrMakesNamed, RefusesToFind, found_of};
 ghost use Rattle.seg_manager.specs.NewNamed.{HasValuesRoom, GivesNamed, MakesNamed, LacksRoom, root_asks};
+ghost use Rattle.seg_manager.specs.LeavingNamed.{IsUnlisted, GivesBack, LosesNamed};
 ghost use Rattle.seg_manager.specs.Segments.{IsSegment, new_root};
 
 use crate::segment::Segment;
@@ -245,6 +246,9 @@ impl<F: Fit, A: Allocator> Segment<F, A> {
         ensures types { self.new.types ≡ self.old.types }
         ensures tells { (picture : Picture) → IsSegment F.allocator self.old picture →
             result ≡ is_ok (found_as t (root_named picture.names name.now)) }
+        ensures loses { (picture : Picture) → (s : IsSegment F.allocator self.old picture) →
+            IsTrue result → LosesNamed F.allocator self.old self.new picture s.held.index_blocks
+            name.now t }
         ensures unchanged { result ≡ false → self.new ≡ self.old }
     {
         let Ok(occupied) = look_up(self.heap(), name) else {
@@ -262,6 +266,11 @@ impl<F: Fit, A: Allocator> Segment<F, A> {
     fn destroy_named(&mut self, found: Found, t: TypeId)
         ensures window { KeepsHost self.old.window self.new.window }
         ensures types { self.new.types ≡ self.old.types }
+        ensures frees { (root : Root) (blocks : List ℕ) →
+            IsUnlisted F.allocator self.old.window.bytes self.old.types root blocks →
+            found ≡ found_of root → root.type ≡ t →
+            GivesBack F.allocator self.old.window.bytes self.new.window.bytes self.old.types
+            blocks }
     {
         let size = self.types().size(t);
         for index in 0..found.count {
