@@ -32,7 +32,7 @@ use Rattle.seg_index.proofs.HeldNames.{finds_held}
 use Rattle.seg_index.proofs.HeldChanges.{with_names, held_entered}
 use Rattle.seg_index.proofs.Kept.{finds_kept, vacant_kept}
 use Rattle.seg_manager.specs.Segments.{IsSegment, Becomes, new_root}
-use Rattle.seg_manager.specs.NewNamed.{GivesNamed, MakesNamed, LacksRoom}
+use Rattle.seg_manager.specs.NewNamed.{GivesNamed, MakesNamed, FindsNoRoom}
 use Rattle.seg_spec.proofs.OneRequest.{counts_one}
 use Rattle.seg_manager.proofs.NewNamed.{count-copies, named_kind}
 use Rattle.seg_manager.proofs.ObjectAsks.{entry_asks_kept, spent_after, asks_after, returned_one, no_room_first}
@@ -200,7 +200,7 @@ module _ (allocator : ℕ) (old mid : List ℕ) (picture : Picture) (held : IsHe
         ∙ ap (λ end. after_asks allocator (live mid) end (its_asks mid)) (sym g.length_kept) ∙ refused.no_room
 
     pub returned : (was now : Stored) → was.window.bytes ≡ old → was.types ≡ picture.table → now.window.bytes ≡ new → now.types ≡ was.types
-        → LacksRoom allocator was now picture (object_asks was.window.bytes was.types T n name)
+        → FindsNoRoom allocator was now picture (object_asks was.window.bytes was.types T n name)
     returned was now old_is table_is new_is types_are = record {
       no_room = rw (old_is, table_is) lacking;
       becomes = record {
@@ -219,7 +219,7 @@ module _ (allocator : ℕ) (old mid : List ℕ) (picture : Picture) (held : IsHe
 -- ---- the heap has no room for its block
 
 pub unmade : (allocator : ℕ) (was now : Stored) (picture : Picture) → IsSegment allocator was picture → (name : List ℕ) (T n : ℕ) → Refuses allocator was.window.bytes now.window.bytes (block_for (n * size was.types T + length name) ∷ [])
-    → now.types ≡ was.types → LacksRoom allocator was now picture (object_asks was.window.bytes was.types T n name)
+    → now.types ≡ was.types → FindsNoRoom allocator was now picture (object_asks was.window.bytes was.types T n name)
 unmade allocator was now picture s name T n refused types_are = record {
   no_room = no_room_first allocator (live was.window.bytes) (length was.window.bytes) (need (n * size was.types T + length name)) (entry_asks (word was.window.bytes index_kind_word) was.window.bytes) refused.no_room;
   becomes = record {

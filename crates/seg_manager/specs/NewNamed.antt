@@ -3,7 +3,7 @@
 --     GivesNamed allocator old new table root
 --                                            the block of a new object with its name
 --     MakesNamed ..                          the segment holds a new named object
---     LacksRoom allocator old new picture asks
+--     FindsNoRoom allocator old new picture asks
 --                                            a request gets nothing, and the segment is as before
 use Rattle.std.specs.Prelude.{◌≡◌, ℕ, ◌+◌, ◌*◌, ◌<◌, ◌≤◌, List, [], ◌∷◌, ◌++◌, length, Some, None}
 use Rattle.seg_spec.specs.Header.{KeepsFront, KeepsBack}
@@ -62,7 +62,7 @@ pub record MakesNamed (allocator : ℕ) (old new : Stored) (picture : Picture)
 
 -- one of the requests gets nothing; the segment has its picture, and all live blocks with their
 -- bytes, as before: what was taken for it was given back
-pub record LacksRoom (allocator : ℕ) (old new : Stored) (picture : Picture) (asks : List Ask)
+pub record FindsNoRoom (allocator : ℕ) (old new : Stored) (picture : Picture) (asks : List Ask)
     : Type 0 where
   pub no_room : NoRoom allocator (live old.window.bytes) (length old.window.bytes) asks
   pub becomes : Becomes allocator old new picture []

@@ -11,7 +11,7 @@ ghost use Rattle.seg_spec.specs.Value.{copies, default_of};
 ghost use Rattle.seg_spec.specs.Window.{KeepsHost};
 ghost use Rattle.seg_index.specs.Lists.{IsNamed, IsVacant, entry_of, root_after};
 ghost use Rattle.seg_manager.specs.NamedObjects.{found_as, Says, IsMissing, IsCount, RefusesName, FindsOrMakesNamed, RefusesToFind, found_of};
-ghost use Rattle.seg_manager.specs.NewNamed.{HasValuesRoom, GivesNamed, MakesNamed, LacksRoom, root_asks};
+ghost use Rattle.seg_manager.specs.NewNamed.{HasValuesRoom, GivesNamed, MakesNamed, FindsNoRoom, root_asks};
 ghost use Rattle.seg_manager.specs.LeavingNamed.{IsUnlisted, GivesBack, LosesNamed};
 ghost use Rattle.seg_manager.specs.Segments.{IsSegment, new_root};
 
@@ -80,7 +80,7 @@ impl<F: Fit, A: Allocator> Segment<F, A> {
             name.now t count) }
         ensures no_room { (picture : Picture) → IsSegment F.allocator self.old picture →
             t < length self.old.types → result ≡ Err Code.BadAlloc →
-            LacksRoom F.allocator self.old self.new picture
+            FindsNoRoom F.allocator self.old self.new picture
             (object_asks self.old.window.bytes self.old.types t count name.now) }
     {
         let Ok(count) = u16::try_from(count) else {
@@ -117,7 +117,7 @@ impl<F: Fit, A: Allocator> Segment<F, A> {
             MatchResult result
             (MakesNamed F.allocator self.old self.new picture s.held.index_blocks
             name.entry.bytes.now t count)
-            (λ _. LacksRoom F.allocator self.old self.new picture
+            (λ _. FindsNoRoom F.allocator self.old self.new picture
             (object_asks self.old.window.bytes self.old.types t count name.entry.bytes.now)) }
     {
         let object = self.new_named(name, t, count)?;
@@ -223,7 +223,7 @@ impl<F: Fit, A: Allocator> Segment<F, A> {
             name.now t 1) }
         ensures no_room { (picture : Picture) → IsSegment F.allocator self.old picture →
             t < length self.old.types → result ≡ Err Code.BadAlloc →
-            LacksRoom F.allocator self.old self.new picture
+            FindsNoRoom F.allocator self.old self.new picture
             (object_asks self.old.window.bytes self.old.types t 1 name.now) }
     {
         match look_up(self.heap(), name) {

@@ -85,5 +85,7 @@ returns-in-Err-clause-makes g c = λ picture s known is_name len some vacant.
     let Freed : List ℕ → Type 0 = λ bs. IsHeap allocator bs → IsLive bs (block_of object) → Gives allocator bs c.free_block.new.self.window.bytes (block_of object) in
     let freed = subst Freed (ap (λ (h : Stored). h.window.bytes) c.heap_mut-in-Err.ensures.value ∙ r.same) c.free_block.ensures.gives in
     let gives = freed given.heap (is_live_mid allocator old mid picture s.held s.allocator_is name T n object given known' is_name some few) in
-    returned allocator old mid picture s.held s.allocator_is name T n object given known' is_name some few (record { no_room = r.no_room; same = refl }) c.free_block.new.self.window.bytes gives c.args.self.now c.free_block.new.self refl s.table_is refl
+    let refused : Refuses allocator mid mid (entry_asks (word mid index_kind_word) mid) = record { no_room = r.no_room; same = refl } in
+    returned allocator old mid picture s.held s.allocator_is name T n object given known' is_name some few refused c.free_block.new.self.window.bytes gives
+    c.args.self.now c.free_block.new.self refl s.table_is refl
     (c.free_block.ensures.types ∙ ap (λ (h : Stored). h.types) c.heap_mut-in-Err.ensures.value ∙ c.insert.ensures.types ∙ ap (λ (h : Stored). h.types) c.heap_mut.ensures.value ∙ c.new_named.ensures.types)
