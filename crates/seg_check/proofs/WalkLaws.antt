@@ -14,7 +14,7 @@ use Rattle.seg_check.specs.declared.walk.Above.{Above}
 use Rattle.seg_check.specs.declared.walk.Entered.{Entered}
 use Rattle.seg_check.specs.declared.walk.Stage.{Stage}
 use Rattle.seg_check.specs.Colours.{is_red, may_stand, is_height}
-use Rattle.seg_check.specs.Walks.{Fits, Part, entered_of, after, unentered, ArePartsOf, Completes, IsColourOf, IsAtEnd, Hangs}
+use Rattle.seg_check.specs.Walks.{Fits, Part, entering_of, entered_of, after, coming, unentered, ArePartsOf, Completes, IsColourOf, IsAtEnd, Hangs}
 
 true_false : (X : Type 0) → true ≡ false → X
 true_false X e = absurd (let no : true ≡ false = e in cc)
@@ -131,17 +131,29 @@ last_is (a ∷ xs) (b ∷ ys) x y e =
 no_last : (xs : List Entered) (x : Entered) → [] ≡ xs ++ x ∷ [] → ⊥
 no_last xs x e = let n = ap length e in let m = length-append xs (x ∷ []) in omega arith
 
-module _ (bytes : List ℕ) (height : ℕ) (old new : Stage) (node : ℕ) (rest : List ℕ) where
+tails : (x y : ℕ) (xs ys : List ℕ) → x ∷ xs ≡ y ∷ ys → xs ≡ ys
+tails x y xs ys same = cc
+
+-- what hangs at a place that names a node is entered at this one
+pub enter_next : (bytes : List ℕ) (height : ℕ) (old : Stage) (node : ℕ) (rest entering : List ℕ) → target bytes old.pointer ≡ Some node → Completes bytes height old rest entering → (more : List ℕ) × (entering ≡ node ∷ more)
+enter_next bytes height old node rest entering named k = go k.tree (subst (λ o. IsTree bytes o k.tree) named k.is_tree) k.entering_is
+  where
+    go : (t : Tree) → IsTree bytes (Some node) t → entering ≡ entering_of t ++ coming k.parts → (more : List ℕ) × (entering ≡ node ∷ more)
+    go leaf b is = absurd b
+    go (fork l x c r) b is = ((entering_of l ++ entering_of r) ++ coming k.parts, is ∙ ap (λ y. y ∷ ((entering_of l ++ entering_of r) ++ coming k.parts)) b.0)
+
+module _ (bytes : List ℕ) (height : ℕ) (old new : Stage) (node : ℕ) (rest entering : List ℕ) where
   module _ (colour : Option Colour) (named : target bytes old.pointer ≡ Some node) (is : IsColourOf bytes node colour) (e : Enters old new node colour) where
     abbrev part_of : Tree → Part
     part_of r = record { entered = record { node = node; above = new.above }; right = r }
 
-    pub enter_forth : Completes bytes height old rest → Completes bytes height new rest
-    enter_forth k = go k.tree (subst (λ o. IsTree bytes o k.tree) named k.is_tree) k.fits k.rest_is k.counted
+    pub enter_forth : Completes bytes height old rest (node ∷ entering) → Completes bytes height new rest entering
+    enter_forth k = go k.tree (subst (λ o. IsTree bytes o k.tree) named k.is_tree) k.fits k.rest_is k.entering_is k.counted
       where
-        go : (t : Tree) → IsTree bytes (Some node) t → Fits height old.above t → rest ≡ nodes_of t ++ after k.parts → old.nodes + (length (nodes_of t) + unentered k.parts) ≡ old.wanted → Completes bytes height new rest
-        go leaf b f rest_is counted = absurd b
-        go (fork l x c r) b f rest_is counted =
+        go : (t : Tree) → IsTree bytes (Some node) t → Fits height old.above t → rest ≡ nodes_of t ++ after k.parts → node ∷ entering ≡ entering_of t ++ coming k.parts
+            → old.nodes + (length (nodes_of t) + unentered k.parts) ≡ old.wanted → Completes bytes height new rest entering
+        go leaf b f rest_is entering_is counted = absurd b
+        go (fork l x c r) b f rest_is entering_is counted =
             let same = same_colour bytes node colour c is b.1 in
             let down = fit_down height old.above new.above l r x c (e.blacks_are ∙ ap (λ n. old.above.blacks + n) same.0) (e.red_is ∙ same.1) f in
             let size = nodes_in_fork l r x in
@@ -155,17 +167,18 @@ module _ (bytes : List ℕ) (height : ℕ) (old new : Stage) (node : ℕ) (rest 
               parts_are = ap (λ es. es ++ record { node = node; above = new.above } ∷ []) k.parts_are ∙ sym e.entered_is;
               are_parts = (b.3, down.1, k.are_parts);
               rest_is = rest_is ∙ append_assoc (nodes_of l) (x ∷ nodes_of r) (after k.parts) ∙ ap (λ y. nodes_of l ++ (y ∷ (nodes_of r ++ after k.parts))) b.0;
+              entering_is = tails node x entering ((entering_of l ++ entering_of r) ++ coming k.parts) entering_is ∙ append_assoc (entering_of l) (entering_of r) (coming k.parts);
               counted = omega (arith, counted, size, e.nodes_are, e.wanted_is);
             }
 
-    module _ (k : Completes bytes height new rest) where
+    module _ (k : Completes bytes height new rest entering) where
       rights : (old.is_red_black ≡ true) × (may_stand colour old.above.is_red ≡ true)
       rights = both_true old.is_red_black (may_stand colour old.above.is_red) (sym e.right_is ∙ k.is_right)
 
       up : (c : shapes.Colour) → HasColour bytes node c → (p : Part) (ps : List Part) → p.entered ≡ record { node = node; above = new.above } → entered_of ps ≡ old.entered.items
-          → ArePartsOf bytes height (p ∷ ps) → rest ≡ nodes_of k.tree ++ after (p ∷ ps)
-          → new.nodes + (length (nodes_of k.tree) + unentered (p ∷ ps)) ≡ new.wanted → Completes bytes height old rest
-      up c has p ps own others are rest_is counted =
+          → ArePartsOf bytes height (p ∷ ps) → rest ≡ nodes_of k.tree ++ after (p ∷ ps) → entering ≡ entering_of k.tree ++ coming (p ∷ ps)
+          → new.nodes + (length (nodes_of k.tree) + unentered (p ∷ ps)) ≡ new.wanted → Completes bytes height old rest (node ∷ entering)
+      up c has p ps own others are rest_is entering_is counted =
           let same = same_colour bytes node colour c is has in
           let right = subst (λ (x : Entered). Fits height x.above p.right) own are.1 in
           let size = nodes_in_fork k.tree p.right node in
@@ -180,19 +193,20 @@ module _ (bytes : List ℕ) (height : ℕ) (old new : Stage) (node : ℕ) (rest 
             parts_are = others;
             are_parts = are.2;
             rest_is = rest_is ∙ ap (λ (x : Entered). nodes_of k.tree ++ (x.node ∷ (nodes_of p.right ++ after ps))) own ∙ sym (append_assoc (nodes_of k.tree) (node ∷ nodes_of p.right) (after ps));
+            entering_is = ap (λ xs. node ∷ xs) (entering_is ∙ sym (append_assoc (entering_of k.tree) (entering_of p.right) (coming ps)));
             counted = omega (arith, counted, size, e.nodes_are, e.wanted_is);
           }
 
-      go_back : (parts : List Part) → entered_of parts ≡ new.entered.items → ArePartsOf bytes height parts → rest ≡ nodes_of k.tree ++ after parts
-          → new.nodes + (length (nodes_of k.tree) + unentered parts) ≡ new.wanted → Completes bytes height old rest
-      go_back [] items are rest_is counted = absurd (no_last old.entered.items (record { node = node; above = new.above }) (items ∙ e.entered_is))
-      go_back (p ∷ ps) items are rest_is counted =
+      go_back : (parts : List Part) → entered_of parts ≡ new.entered.items → ArePartsOf bytes height parts → rest ≡ nodes_of k.tree ++ after parts → entering ≡ entering_of k.tree ++ coming parts
+          → new.nodes + (length (nodes_of k.tree) + unentered parts) ≡ new.wanted → Completes bytes height old rest (node ∷ entering)
+      go_back [] items are rest_is entering_is counted = absurd (no_last old.entered.items (record { node = node; above = new.above }) (items ∙ e.entered_is))
+      go_back (p ∷ ps) items are rest_is entering_is counted =
           let last = last_is (entered_of ps) old.entered.items p.entered (record { node = node; above = new.above }) (items ∙ e.entered_is) in
           let has = has_colour bytes node colour old.above.is_red is rights.1 in
-          up has.0 has.1 p ps last.1 last.0 are rest_is counted
+          up has.0 has.1 p ps last.1 last.0 are rest_is entering_is counted
 
-      pub enter_back : Completes bytes height old rest
-      enter_back = go_back k.parts k.parts_are k.are_parts k.rest_is k.counted
+      pub enter_back : Completes bytes height old rest (node ∷ entering)
+      enter_back = go_back k.parts k.parts_are k.are_parts k.rest_is k.entering_is k.counted
 
 -- ---- on from an empty place
 
@@ -230,24 +244,26 @@ none_of es (p ∷ ps) e none = absurd (no_last (entered_of ps) p.entered (sym (e
 
 module _ (bytes : List ℕ) (height : ℕ) (old new : Stage) (empty : target bytes old.pointer ≡ None) where
   -- nothing hangs at the place
-  pub record IsEmpty (rest : List ℕ) (parts : List Part) : Type 0 where
+  pub record IsEmpty (rest entering : List ℕ) (parts : List Part) : Type 0 where
     pub blacks_are : old.above.blacks ≡ height
     pub rest_is : rest ≡ after parts
+    pub entering_is : entering ≡ coming parts
     pub counted : old.nodes + unentered parts ≡ old.wanted
 
-  is_empty : (rest : List ℕ) (parts : List Part) (t : Tree) → IsTree bytes None t → Fits height old.above t → rest ≡ nodes_of t ++ after parts → old.nodes + (length (nodes_of t) + unentered parts) ≡ old.wanted → IsEmpty rest parts
-  is_empty rest parts leaf b f rest_is counted = record { blacks_are = omega (arith, f.blacks_are, f.balanced); rest_is = rest_is; counted = omega (arith, counted) }
-  is_empty rest parts (fork l x c r) b f rest_is counted = absurd b
+  is_empty : (rest entering : List ℕ) (parts : List Part) (t : Tree) → IsTree bytes None t → Fits height old.above t → rest ≡ nodes_of t ++ after parts → entering ≡ entering_of t ++ coming parts
+      → old.nodes + (length (nodes_of t) + unentered parts) ≡ old.wanted → IsEmpty rest entering parts
+  is_empty rest entering parts leaf b f rest_is entering_is counted = record { blacks_are = omega (arith, f.blacks_are, f.balanced); rest_is = rest_is; entering_is = entering_is; counted = omega (arith, counted) }
+  is_empty rest entering parts (fork l x c r) b f rest_is entering_is counted = absurd b
 
-  empty_at : (rest : List ℕ) (k : Completes bytes height old rest) → IsEmpty rest k.parts
-  empty_at rest k = is_empty rest k.parts k.tree (subst (λ o. IsTree bytes o k.tree) empty k.is_tree) k.fits k.rest_is k.counted
+  empty_at : (rest entering : List ℕ) (k : Completes bytes height old rest entering) → IsEmpty rest entering k.parts
+  empty_at rest entering k = is_empty rest entering k.parts k.tree (subst (λ o. IsTree bytes o k.tree) empty k.is_tree) k.fits k.rest_is k.entering_is k.counted
 
   is_leaf : old.above.blacks ≡ height → Fits height old.above leaf
   is_leaf e = record { blacks = 0; blacks_are = omega arith; balanced = refl; below_red = λ _. tt }
 
   module _ (node : ℕ) (above : Above) (e : Passes old new node above) where
-    first_part : (rest : List ℕ) (k : Completes bytes height old rest) → (p : Part) × (ps : List Part) × (k.parts ≡ p ∷ ps) × (p.entered ≡ record { node = node; above = above }) × (entered_of ps ≡ new.entered.items)
-    first_part rest k = go k.parts k.parts_are
+    first_part : (rest entering : List ℕ) (k : Completes bytes height old rest entering) → (p : Part) × (ps : List Part) × (k.parts ≡ p ∷ ps) × (p.entered ≡ record { node = node; above = above }) × (entered_of ps ≡ new.entered.items)
+    first_part rest entering k = go k.parts k.parts_are
       where
         go : (parts : List Part) → entered_of parts ≡ old.entered.items → (p : Part) × (ps : List Part) × (parts ≡ p ∷ ps) × (p.entered ≡ record { node = node; above = above }) × (entered_of ps ≡ new.entered.items)
         go [] items = absurd (no_last new.entered.items (record { node = node; above = above }) (items ∙ e.entered_is))
@@ -255,19 +271,16 @@ module _ (bytes : List ℕ) (height : ℕ) (old new : Stage) (empty : target byt
             let last = last_is (entered_of ps) new.entered.items p.entered (record { node = node; above = above }) (items ∙ e.entered_is) in
             (p, ps, refl, last.1, last.0)
 
-    pub pass_next : (rest : List ℕ) → Completes bytes height old rest → (more : List ℕ) × (rest ≡ node ∷ more)
-    pass_next rest k =
-        let f = first_part rest k in
-        let at = empty_at rest k in
+    pub pass_next : (rest entering : List ℕ) → Completes bytes height old rest entering → (more : List ℕ) × (rest ≡ node ∷ more)
+    pass_next rest entering k =
+        let f = first_part rest entering k in
+        let at = empty_at rest entering k in
         (nodes_of f.0.right ++ after f.1, at.rest_is ∙ ap after f.2 ∙ ap (λ (x : Entered). x.node ∷ (nodes_of f.0.right ++ after f.1)) f.3)
 
-    tails : (x y : ℕ) (xs ys : List ℕ) → x ∷ xs ≡ y ∷ ys → xs ≡ ys
-    tails x y xs ys same = cc
-
-    pub pass_forth : (rest : List ℕ) → Completes bytes height old (node ∷ rest) → Completes bytes height new rest
-    pass_forth rest k =
-        let f = first_part (node ∷ rest) k in
-        let at = empty_at (node ∷ rest) k in
+    pub pass_forth : (rest entering : List ℕ) → Completes bytes height old (node ∷ rest) entering → Completes bytes height new rest entering
+    pass_forth rest entering k =
+        let f = first_part (node ∷ rest) entering k in
+        let at = empty_at (node ∷ rest) entering k in
         let are = subst (ArePartsOf bytes height) f.2 k.are_parts in
         let counted : old.nodes + (length (nodes_of f.0.right) + unentered f.1) ≡ old.wanted = ap (λ ps. old.nodes + unentered ps) (sym f.2) ∙ at.counted in
         record {
@@ -280,11 +293,12 @@ module _ (bytes : List ℕ) (height : ℕ) (old new : Stage) (empty : target byt
           parts_are = f.4;
           are_parts = are.2;
           rest_is = tails node f.0.entered.node rest (nodes_of f.0.right ++ after f.1) (at.rest_is ∙ ap after f.2);
+          entering_is = at.entering_is ∙ ap coming f.2;
           counted = omega (arith, counted, e.nodes_are, e.wanted_is);
         }
 
-    pub pass_back : (rest : List ℕ) → Completes bytes height new rest → Completes bytes height old (node ∷ rest)
-    pass_back rest k =
+    pub pass_back : (rest entering : List ℕ) → Completes bytes height new rest entering → Completes bytes height old (node ∷ rest) entering
+    pass_back rest entering k =
         let rights = both_true old.is_red_black (is_height old.height old.above.blacks) (sym e.right_is ∙ k.is_right) in
         let blacks : old.above.blacks ≡ height = subst (λ (h : Option ℕ). MatchOption h ⊤ (λ n. n ≡ height)) e.height_is k.height_is in
         record {
@@ -297,22 +311,25 @@ module _ (bytes : List ℕ) (height : ℕ) (old new : Stage) (empty : target byt
           parts_are = ap (λ es. es ++ record { node = node; above = above } ∷ []) k.parts_are ∙ sym e.entered_is;
           are_parts = (subst (λ p. IsTree bytes (target bytes p) k.tree) e.pointer_is k.is_tree, subst (λ (a : Above). Fits height a k.tree) e.above_is k.fits, k.are_parts);
           rest_is = ap (λ ns. node ∷ ns) k.rest_is;
+          entering_is = k.entering_is;
           counted = omega (arith, k.counted, e.nodes_are, e.wanted_is);
         }
 
   module _ (e : Ends old new) where
-    pub end_forth : (rest : List ℕ) → Completes bytes height old rest → (rest ≡ []) × (old.above.blacks ≡ height) × (new.is_red_black ≡ true) × (new.nodes ≡ new.wanted)
-    end_forth rest k =
-        let at = empty_at rest k in
+    pub end_forth : (rest entering : List ℕ) → Completes bytes height old rest entering → IsAtEnd height old new rest entering
+    end_forth rest entering k =
+        let at = empty_at rest entering k in
         let none = none_of old.entered.items k.parts k.parts_are e.entered_is in
-        let counted : old.nodes + 0 ≡ old.wanted = ap (λ ps. old.nodes + unentered ps) (sym none) ∙ at.counted in (
-          at.rest_is ∙ ap after none,
-          at.blacks_are,
-          e.right_is ∙ (λ i. k.is_right i && height_true old.height height old.above.blacks at.blacks_are k.height_is i),
-          omega (arith, counted, e.nodes_are, e.wanted_is),
-        )
+        let counted : old.nodes + 0 ≡ old.wanted = ap (λ ps. old.nodes + unentered ps) (sym none) ∙ at.counted in
+        record {
+          rest_is = at.rest_is ∙ ap after none;
+          entering_is = at.entering_is ∙ ap coming none;
+          height_is = at.blacks_are;
+          is_right = e.right_is ∙ (λ i. k.is_right i && height_true old.height height old.above.blacks at.blacks_are k.height_is i);
+          counted = omega (arith, counted, e.nodes_are, e.wanted_is);
+        }
 
-    pub end_back : old.above.blacks ≡ height → new.is_red_black ≡ true → new.nodes ≡ new.wanted → Completes bytes height old []
+    pub end_back : old.above.blacks ≡ height → new.is_red_black ≡ true → new.nodes ≡ new.wanted → Completes bytes height old [] []
     end_back blacks right all =
         let rights = both_true old.is_red_black (is_height old.height old.above.blacks) (sym e.right_is ∙ right) in
         record {
@@ -325,13 +342,15 @@ module _ (bytes : List ℕ) (height : ℕ) (old new : Stage) (empty : target byt
           parts_are = sym e.entered_is;
           are_parts = tt;
           rest_is = refl;
+          entering_is = refl;
           counted = omega (arith, all, e.nodes_are, e.wanted_is);
         }
 
-pub ends : (old new : Stage) → Ends old new → (bytes : List ℕ) (height : ℕ) (rest : List ℕ) → target bytes old.pointer ≡ None → Completes bytes height old rest ↔ IsAtEnd height old new rest
-ends old new e bytes height rest empty = (
-  λ k. let at = end_forth bytes height old new empty e rest k in record { rest_is = at.0; height_is = at.1; is_right = at.2; counted = at.3 },
-  λ at. subst (Completes bytes height old) (sym at.rest_is) (end_back bytes height old new empty e at.height_is at.is_right at.counted),
+pub ends : (old new : Stage) → Ends old new → (bytes : List ℕ) (height : ℕ) (rest entering : List ℕ) → target bytes old.pointer ≡ None → Completes bytes height old rest entering ↔ IsAtEnd height old new rest entering
+ends old new e bytes height rest entering empty = (
+  end_forth bytes height old new empty e rest entering,
+  λ at. let whole = end_back bytes height old new empty e at.height_is at.is_right at.counted in
+  subst (λ xs. Completes bytes height old rest xs) (sym at.entering_is) (subst (λ xs. Completes bytes height old xs []) (sym at.rest_is) whole),
 )
 
 -- ---- the start
@@ -346,8 +365,8 @@ pub record Starts (stage : Stage) (root wanted : ℕ) : Type 0 where
   pub blacks_are : stage.above.blacks ≡ 0
   pub red_is : stage.above.is_red ≡ true
 
-module _ (bytes : List ℕ) (stage : Stage) (root wanted : ℕ) (s : Starts stage root wanted) (height : ℕ) (nodes : List ℕ) where
-  start_forth : Completes bytes height stage nodes → Hangs bytes root wanted height nodes
+module _ (bytes : List ℕ) (stage : Stage) (root wanted : ℕ) (s : Starts stage root wanted) (height : ℕ) (nodes entering : List ℕ) where
+  start_forth : Completes bytes height stage nodes entering → Hangs bytes root wanted height nodes entering
   start_forth k =
       let none = none_of stage.entered.items k.parts k.parts_are s.entered_is in
       let same : nodes ≡ nodes_of k.tree = k.rest_is ∙ ap (λ ps. nodes_of k.tree ++ after ps) none ∙ append-nil (nodes_of k.tree) in
@@ -359,10 +378,11 @@ module _ (bytes : List ℕ) (stage : Stage) (root wanted : ℕ) (s : Starts stag
         black = k.fits.below_red s.red_is;
         balanced = subst (IsBalanced k.tree) high k.fits.balanced;
         nodes_are = sym same;
+        entering_are = sym (k.entering_is ∙ ap (λ ps. entering_of k.tree ++ coming ps) none ∙ append-nil (entering_of k.tree));
         counted = ap length same ∙ omega (arith, all, s.nodes_are, s.wanted_is);
       }
 
-  start_back : Hangs bytes root wanted height nodes → Completes bytes height stage nodes
+  start_back : Hangs bytes root wanted height nodes entering → Completes bytes height stage nodes entering
   start_back h =
       let size = ap length h.nodes_are in
       record {
@@ -375,8 +395,9 @@ module _ (bytes : List ℕ) (stage : Stage) (root wanted : ℕ) (s : Starts stag
         parts_are = sym s.entered_is;
         are_parts = tt;
         rest_is = sym h.nodes_are ∙ sym (append-nil (nodes_of h.tree));
+        entering_is = sym h.entering_are ∙ sym (append-nil (entering_of h.tree));
         counted = omega (arith, size, h.counted, s.nodes_are, s.wanted_is);
       }
 
-  pub starts : Completes bytes height stage nodes ↔ Hangs bytes root wanted height nodes
+  pub starts : Completes bytes height stage nodes entering ↔ Hangs bytes root wanted height nodes entering
   starts = (start_forth, start_back)

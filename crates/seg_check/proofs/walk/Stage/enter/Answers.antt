@@ -13,7 +13,7 @@ black_sum (Some Black) b n old sum red_is byte is near = let one : n ≡ 1 = byt
 black_sum (Some Red) b n old sum red_is byte is near = let none : n ≡ 0 = byte ∙ ap (λ x. bool_byte (not x)) red_is in omega arith
 
 pub returns-clause-goes_on : goal.returns-clause-goes_on
-returns-clause-goes_on c = λ yes bytes height rest named is few near.
+returns-clause-goes_on c = λ yes bytes height rest entering named is few near.
     let e : Enters c.args.self.now _ c.args.node c.args.colour = record {
       wanted_is = refl;
       pointer_is = c.child_pointer-self.ensures c.ranges.node.fits;
@@ -27,4 +27,4 @@ returns-clause-goes_on c = λ yes bytes height rest named is few near.
         | else-self w ↦ w.self-is ∙ w.if-self.false ∙ sym (ap (λ b. b && may_stand c.args.colour c.args.self.now.above.is_red) w.if-self.false)
       ];
     } in
-    (enter_forth bytes height c.args.self.now _ c.args.node rest c.args.colour named is e, enter_back bytes height c.args.self.now _ c.args.node rest c.args.colour named is e)
+    (enter_forth bytes height c.args.self.now _ c.args.node rest entering c.args.colour named is e, enter_back bytes height c.args.self.now _ c.args.node rest entering c.args.colour named is e)
