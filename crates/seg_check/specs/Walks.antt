@@ -13,7 +13,7 @@
 --     IsSteady bytes stage turns             counts and positions of the walk don't wrap
 --     Proceeds bytes old new visit           a tree goes on from the new stage on as from the old one
 --     IsColourOf bytes node colour           this is the colour of a node, or it has none
-use Rattle.std.specs.Prelude.{◌≡◌, None, Some, ◌↔◌, ℕ, ◌+◌, ◌^◌, ◌<◌, ◌≤◌, ◌⊎◌, true, ⊤, List, [], ◌∷◌, ◌++◌, length, Option, MatchOption}
+use Rattle.std.specs.Prelude.{false, suc, ◌*◌, ◌≡◌, None, Some, ◌↔◌, ℕ, ◌+◌, ◌^◌, ◌<◌, ◌≤◌, ◌⊎◌, true, ⊤, List, [], ◌∷◌, ◌++◌, length, Option, MatchOption}
 use Rattle.std.specs.List.{AllByRecursion}
 use Rattle.seg_spec.specs.Pointer.{target}
 use Rattle.seg_spec.specs.Shapes as shapes
@@ -109,6 +109,16 @@ pub record IsShallow (above : Above) : Type 0 where
   pub few : above.nodes ≤ 60
   pub blacks_few : above.blacks ≤ above.nodes
 
+-- no more red nodes are above a place than black ones, and fewer where the nearest is black
+pub record AreFewRed (above : Above) : Type 0 where
+  pub few : above.nodes ≤ 2 * above.blacks
+  pub fewer : above.is_red ≡ false → above.nodes + 1 ≤ 2 * above.blacks
+
+-- each of these nodes stands deeper than so many and those before it
+abbrev pub AreDeep : ℕ → List Entered → Type 0
+AreDeep n [] = ⊤
+AreDeep n (e ∷ es) = (n < e.above.nodes) × AreDeep (suc n) es
+
 -- counts and positions of a walk with so many turns to come don't wrap: no node was entered that reaches
 -- beyond all positions, or the walk is past the end of the bytes, where it finds nodes for ever
 pub record IsSteady (bytes : List ℕ) (stage : Stage) (turns : ℕ) : Type 0 where
@@ -116,6 +126,10 @@ pub record IsSteady (bytes : List ℕ) (stage : Stage) (turns : ℕ) : Type 0 wh
   pub entered : AllByRecursion (λ e. IsShallow e.above) stage.entered.items
   pub low : AllByRecursion (λ e. e.node + 4 < 2 ^ 32) stage.entered.items
       ⊎ ((length bytes ≤ stage.pointer) × (stage.pointer < 2 ^ 32))
+  pub few_red : stage.is_red_black ≡ true →
+      AreFewRed stage.above × AllByRecursion (λ e. AreFewRed e.above) stage.entered.items
+  pub deep : length stage.entered.items ≤ stage.above.nodes
+  pub deeper : AreDeep 0 stage.entered.items
   pub counted : stage.nodes + turns < 2 ^ 32
   pub small : length bytes ≤ 2 ^ 30
 

@@ -90,9 +90,9 @@ struct Stage {
 }
 
 impl Stage {
-    ghost use Rattle.std.specs.Prelude.{ℕ, ◌+◌, ◌^◌, ◌≤◌, ◌↔◌, List, ◌∷◌, ◌++◌, Some, IsTrue, IfSome, IfNone};
+    ghost use Rattle.std.specs.Prelude.{ℕ, ◌+◌, ◌^◌, ◌≤◌, ◌⊎◌, ◌↔◌, false, List, ◌∷◌, ◌++◌, length, Some, IsTrue, IfSome, IfNone};
     ghost use Rattle.seg_spec.specs.Pointer.{target};
-    ghost use Rattle.seg_check.specs.Walks.{Completes, IsColourOf, IsAtEnd, IsShallow};
+    ghost use Rattle.seg_check.specs.Walks.{Completes, IsColourOf, IsAtEnd, IsShallow, AreFewRed};
 
     /// At the root.
     fn new(tree: Tree) -> Stage
@@ -105,6 +105,7 @@ impl Stage {
         ensures blacks { result.above.blacks ≡ 0 }
         ensures is_red { result.above.is_red ≡ true }
         ensures shallow { IsShallow result.above }
+        ensures few_red { AreFewRed result.above }
     {
         Stage {
             wanted: tree.nodes,
@@ -138,6 +139,13 @@ impl Stage {
             ≡ self.old.entered.items ++ record { node = node; above = self.new.above } ∷ [] }
         ensures nodes { self.old.nodes < 2 ^ 32 → self.new.nodes ≤ self.old.nodes + 1 }
         ensures above { IsTrue result → IsShallow self.old.above → IsShallow self.new.above }
+        ensures deeper { IsTrue result → IsShallow self.old.above
+            → self.new.above.nodes ≡ self.old.above.nodes + 1 }
+        ensures few_red { IsTrue result → IsShallow self.old.above
+            → self.new.is_red_black ≡ true → (self.old.is_red_black ≡ true)
+            × (AreFewRed self.old.above → AreFewRed self.new.above) }
+        ensures deep { result ≡ false → (60 ≤ self.old.above.nodes)
+            ⊎ (60 ≤ length self.old.entered.items) }
     {
         let is_red = is_red(colour);
         let above = Above {
@@ -175,6 +183,7 @@ impl Stage {
         ensures left { IfSome result (λ node. self.old.entered.items
             ≡ self.new.entered.items ++ record { node = node; above = self.new.above } ∷ []) }
         ensures nodes { self.new.nodes ≡ self.old.nodes }
+        ensures kept { self.new.is_red_black ≡ true → self.old.is_red_black ≡ true }
     {
         let blacks = self.above.blacks;
         self.is_red_black = self.is_red_black && is_height(self.height, blacks);

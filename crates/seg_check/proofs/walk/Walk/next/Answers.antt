@@ -1,6 +1,6 @@
 use Rattle.std.proofs.Common.{◌≡◌, ◌<◌, ◌^◌, true, false, [], None, refl, sym, ◌∙◌, arith, rules}
 use Rattle.seg_spec.specs.Pointer.{target}
-use Rattle.seg_check.proofs.WalkSteady.{steady_enter, steady_pass, node_low}
+use Rattle.seg_check.proofs.WalkSteady.{steady_enter, steady_pass, node_low, never_deep}
 use Rattle.seg_check.proofs.walk.Walk.next.Goals as goal
 
 pub returns-then-enter-clause-steady : goal.returns-then-enter-clause-steady
@@ -8,12 +8,12 @@ returns-then-enter-clause-steady g c = λ s.
     let few : c.args.self.now.stage.nodes < 2 ^ 32 = omega (arith, s.counted) in
     steady_enter c.args.self.now.w.now.bytes c.args.self.now.stage c.enter.new.self c.args.self.now.turns c.in-Some.node s (omega arith)
     (sym c.in-Some.ensures) (c.enter.ensures.pointer c.if-enter.true) (c.enter.ensures.entered c.if-enter.true) (c.enter.ensures.nodes few)
-    (c.enter.ensures.above c.if-enter.true s.above)
+    (c.enter.ensures.above c.if-enter.true s.above) (c.enter.ensures.deeper c.if-enter.true s.above) (c.enter.ensures.few_red c.if-enter.true s.above)
 
 pub returns-in-Some-pass-clause-steady : goal.returns-in-Some-pass-clause-steady
 returns-in-Some-pass-clause-steady g c = λ s.
     let empty : target c.args.self.now.w.now.bytes c.args.self.now.stage.pointer ≡ None = sym c.target.ensures ∙ c.in_default.is in
-    steady_pass c.args.self.now.w.now.bytes c.args.self.now.stage c.pass.new.self c.args.self.now.turns c.in-Some-pass.node s (omega arith) empty c.in-Some-pass.ensures.left c.pass.ensures.nodes
+    steady_pass c.args.self.now.w.now.bytes c.args.self.now.stage c.pass.new.self c.args.self.now.turns c.in-Some-pass.node s (omega arith) empty c.in-Some-pass.ensures.left c.pass.ensures.nodes c.pass.ensures.kept
 
 pub returns-in-Some-pass-clause-goes_on : goal.returns-in-Some-pass-clause-goes_on
 returns-in-Some-pass-clause-goes_on g c = λ s height rest entering.
@@ -52,4 +52,5 @@ returns-in-None-2-clause-refused g c = λ s height rest entering k low few.
     true_false (sym (c.is_right.ensures.1 (at.is_right, at.counted)) ∙ c.if-is_right.false)
 
 pub returns-in-Some-clause-refused : goal.returns-in-Some-clause-refused
-returns-in-Some-clause-refused g c = ?
+returns-in-Some-clause-refused g c = λ s height rest entering k low few.
+    never_deep c.args.self.now.w.now.bytes c.args.self.now.stage c.args.self.now.turns height rest entering s k low (c.enter.ensures.deep c.if-enter.false)
