@@ -1,14 +1,17 @@
 -- How far a walk has come through the tree at a pointer.
-use Rattle.std.proofs.Common.{◌≡◌, ℕ, ◌+◌, ◌*◌, ◌/◌, ◌^◌, ◌<◌, ◌≤◌, ◌⊎◌, inl, inr, ◌↔◌, List, [], ◌∷◌, ◌++◌, length, length-append, Some, None, refl, sym, ap, ◌∙◌, subst, arith}
+use Rattle.std.proofs.Common.{◌≡◌, ℕ, ◌+◌, ◌*◌, ◌/◌, ◌^◌, ◌<◌, ◌≤◌, ◌⊎◌, inl, inr, ◌↔◌, List, [], ◌∷◌, ◌++◌, length, length-append, Option, Some, None, Result, Ok, OnOk, refl, sym, ap, ◌∙◌, subst, arith}
+use Rattle.std.specs.Prelude.{IfOk, IfSome}
 use Rattle.std.proofs.lemmas.Bool.{cases_lt}
 use Rattle.std.proofs.lemmas.List.{append_assoc, append-nil}
 use Rattle.std.proofs.Math.Pow.{pow_mono}
 use Rattle.seg_spec.specs.Pointer.{target}
 use Rattle.seg_spec.specs.Shapes.{Tree, leaf, fork, nodes_of}
 use Rattle.seg_spec.specs.Sound.{times, SameBlocks}
+use Rattle.seg_spec.specs.Window.{Placement}
 use Rattle.seg_spec.proofs.LiveLaws.{times-append}
 use Rattle.seg_spec.proofs.SearchLaws.{many_nodes}
 use Rattle.seg_check.specs.declared.walk.Stage.{Stage}
+use Rattle.seg_check.specs.declared.walk.Visit.{Visit}
 use Rattle.seg_check.specs.declared.walk.Visit.TheVariants.{Enter, Pass}
 use Rattle.seg_check.specs.Walks.{Completes, Hangs, IsSteady, Proceeds, entering_of}
 use Rattle.seg_check.proofs.SameLength.{same_length}
@@ -124,3 +127,18 @@ module _ (bytes : List ℕ) (root wanted : ℕ) where
             let size = ap length w.nodes_are in
             let small = f.steady.small in
             absurd (omega arith)
+
+-- what a walk over the same bytes says of a step to a visit
+pub steps_on : {E : Type 0} (bytes : List ℕ) (was now same : Placement) (old new : Stage) (turns less : ℕ) (r : Result (Option Visit) E) (visit : Visit) → r ≡ Ok (Some visit) → same.bytes ≡ bytes → now ≡ was → was ≡ same
+    → IsSteady bytes old turns → OnOk r (less + 1 ≡ turns)
+    → (IsSteady was.bytes old turns → IfOk r (λ v. IfSome v (λ _. IsSteady now.bytes new less)))
+    → (IsSteady was.bytes old turns → IfOk r (Proceeds was.bytes old new))
+    → IsSteady bytes new less × (less + 1 ≡ turns) × Proceeds bytes old new (Some visit)
+steps_on bytes was now same old new turns less r visit is here window as_was steady fewer keeps goes =
+    let old_bytes : was.bytes ≡ bytes = ap (λ (p : Placement). p.bytes) as_was ∙ here in
+    let new_bytes : now.bytes ≡ bytes = ap (λ (p : Placement). p.bytes) window ∙ old_bytes in
+    let before = subst (λ bs. IsSteady bs old turns) (sym old_bytes) steady in
+    let kept = subst (λ x. IfOk x (λ v. IfSome v (λ _. IsSteady now.bytes new less))) is (keeps before) in
+    let gone = subst (λ x. IfOk x (Proceeds was.bytes old new)) is (goes before) in
+    let spent = subst (λ x. OnOk x (less + 1 ≡ turns)) is fewer in
+    (subst (λ bs. IsSteady bs new less) new_bytes kept, spent, subst (λ bs. Proceeds bs old new (Some visit)) old_bytes gone)

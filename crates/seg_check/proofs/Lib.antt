@@ -23,3 +23,4 @@ pub mod WalkLaws
 pub mod WalkSteady
 pub mod Followed
 pub mod FreeWalk
+pub mod MapLaws

@@ -103,7 +103,7 @@ module _ (bytes : List ℕ) (table : Table) (old : Known) (ready : IsReady bytes
   abbrev pub values_of : List ℕ → List Place
   values_of nodes = places_of U (map (λ p. p + before) nodes)
 
-  within_rest : (p : ℕ) (ps : List ℕ) → Within (map block_of (p ∷ ps)) old.unclaimed → Within (map block_of ps) old.unclaimed
+  pub within_rest : (p : ℕ) (ps : List ℕ) → Within (map block_of (p ∷ ps)) old.unclaimed → Within (map block_of ps) old.unclaimed
   within_rest p ps w h = omega (arith, w h, times-more h (block_of p) (map block_of ps))
 
   cells_more : (p : ℕ) (ps : List ℕ) → with_cells table (values_of (p ∷ ps)) ≡ with_cells table (record { at = p + before; type = U } ∷ []) ++ with_cells table (values_of ps)

@@ -37,10 +37,14 @@ returns-then-enter-clause-goes_on g c = λ s.
     let bytes = c.args.self.now.w.now.bytes in
     let stage = c.args.self.now.stage in
     let few : stage.nodes < 2 ^ 32 = omega (arith, s.counted) in
-    let near : stage.above.blacks < 255 = omega (arith, s.above.few, s.above.blacks_few) in
-    (c.in-Some.node, sym c.in-Some.ensures, λ height rest entering.
-    (c.enter.ensures.goes_on c.if-enter.true bytes height rest entering (sym c.in-Some.ensures) c.node_colour.ensures few near,
-    c.enter.ensures.next bytes height rest entering (sym c.in-Some.ensures)))
+    let near : stage.above.blacks < 255 = omega (arith, s.above.few, s.above.blacks_few) in (
+      c.in-Some.node,
+      sym c.in-Some.ensures,
+      λ height rest entering. (
+        c.enter.ensures.goes_on c.if-enter.true bytes height rest entering (sym c.in-Some.ensures) c.node_colour.ensures few near,
+        c.enter.ensures.next bytes height rest entering (sym c.in-Some.ensures),
+      ),
+    )
 
 true_false : true ≡ false → ⊥
 true_false e = cc
