@@ -13,7 +13,7 @@ use Rattle.seg_spec.specs.Roots.{Listed, roots_in, roots_before, roots_after, it
 use Rattle.seg_spec.specs.Shrinking.{KeepsPathsInside, ShrinksPlace}
 use Rattle.seg_spec.proofs.OneReading.{Opens-one}
 use Rattle.seg_spec.proofs.Paths.{Leads-append}
-use Rattle.test_definitions.proofs.RootPaths.{place_paths}
+use Rattle.client_sim.proofs.RootPaths.{place_paths}
 
 -- a path from the part that a selector names
 same_part : (bytes : List ℕ) (table : Table) (form other_form : Form) (opened other : Opened) (place : Place) (s : Selector) (i k : ℕ) (part other_part : Place) → form ≡ other_form → Opens bytes table place form opened
