@@ -67,4 +67,5 @@ pub mod Placements
 pub mod AddTypes
 pub mod UniqueLaws
 pub mod LooseRoots
+pub mod Failures
 pub mod OneRequest
