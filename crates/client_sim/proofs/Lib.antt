@@ -1,9 +1,5 @@
 pub mod FirstRoots
 pub mod OwnedRoots
 pub mod RootPuts
-pub mod PartLaw
-pub mod RootPaths
-pub mod PathsAfter
-pub mod MoveLaw
 pub mod Placed
 pub mod Giving

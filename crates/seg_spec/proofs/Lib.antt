@@ -69,3 +69,7 @@ pub mod UniqueLaws
 pub mod LooseRoots
 pub mod Failures
 pub mod OneRequest
+pub mod PartLaw
+pub mod RootPaths
+pub mod PathsAfter
+pub mod MoveLaw
