@@ -9,3 +9,6 @@ pub mod Standing
 pub mod Stepping
 pub mod Ending
 pub mod ReportLaws
+pub mod TextsLaws
+pub mod Failures
+pub mod Refusing

@@ -9,3 +9,5 @@ pub mod Paths
 pub mod Places
 pub mod Machines
 pub mod Reports
+pub mod Texts
+pub mod Admitted
