@@ -1,13 +1,4 @@
 pub mod MovesLaws
-pub mod Laying
-pub mod Paired
-pub mod Passed
-pub mod Programs
-pub mod Bounds
-pub mod Leading
-pub mod Standing
-pub mod Stepping
-pub mod Ending
 pub mod ReportLaws
 pub mod TextsLaws
 pub mod Failures

@@ -3,10 +3,6 @@ pub mod Writes
 pub mod Sinks
 pub mod Runs
 pub mod Outcomes
-pub mod Lines
-pub mod Pairing
-pub mod Paths
-pub mod Places
 pub mod Machines
 pub mod Reports
 pub mod Texts

@@ -14,7 +14,7 @@ use Rattle.client_verify.specs.declared.verified.Verified.{Verified}
 use Rattle.client_vm.specs.declared.report.Report.{Report}
 use Rattle.client_vm.specs.declared.report.Ended.{Ended}
 use Rattle.client_vm.specs.Runs.{ending_of}
-use Rattle.client_vm.specs.Paths.{IsPath}
+use Rattle.client_program.specs.Paths.{IsPath}
 
 abbrev pub texts_of : List Verified → List (List ℕ)
 texts_of programs = map (λ program. bytes_of (client_of program)) programs
