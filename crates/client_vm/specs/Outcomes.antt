@@ -16,7 +16,7 @@ use Rattle.client_verify.specs.Refusals.{IsRefused}
 use Rattle.client_vm.specs.declared.report.Report.{Report}
 use Rattle.client_vm.specs.declared.report.Ended.{Ended}
 use Rattle.client_vm.specs.declared.report.Refused.{Refused}
-use Rattle.client_vm.specs.Writes.{Took}
+use Rattle.client_sim.specs.Writes.{Took}
 use Rattle.client_vm.specs.Runs.{ending_of}
 
 -- ---- the clients ran

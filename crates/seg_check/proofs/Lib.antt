@@ -17,7 +17,10 @@ pub mod AscendLaws
 pub mod FlatMapLaws
 pub mod PassedTiles
 pub mod FaultOrder
+pub mod NodeLaws
 pub mod ListLaws
 pub mod WalkLaws
 pub mod WalkSteady
+pub mod Followed
 pub mod FreeWalk
+pub mod MapLaws

@@ -25,7 +25,7 @@ entries_low table start before U (suc n) h =
     let parts : start + suc n * (before + size table U) ≡ (start + (before + size table U)) + n * (before + size table U) = omega arith in
     (omega arith, entries_low table (start + (before + size table U)) before U n (omega arith))
 
-known_places : (table : Table) (U : ℕ) (ps : List ℕ) → U < length table → AreKnown table (places_of U ps)
+pub known_places : (table : Table) (U : ℕ) (ps : List ℕ) → U < length table → AreKnown table (places_of U ps)
 known_places table U [] l = tt
 known_places table U (p ∷ ps) l = (l, known_places table U ps l)
 

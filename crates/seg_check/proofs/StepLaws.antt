@@ -1,5 +1,6 @@
 -- How places that wait give way to the places inside them.
 use Rattle.std.proofs.Common.{◌≡◌, ℕ, ◌<◌, ◌≤◌, zero, suc, Bool, true, false, cond, List, [], ◌∷◌, ◌++◌, length, Option, Some, None, Err, Result, refl, sym, ap, ◌∙◌, subst, arith}
+use Rattle.std.specs.Prelude.{◌↔◌}
 use Rattle.std.proofs.lemmas.List.{append_assoc, append-nil}
 use Rattle.seg_spec.specs.Bytes.{signed_long}
 use Rattle.seg_spec.specs.Types.{Form, Table, form_at}
@@ -17,6 +18,7 @@ use Rattle.seg_check.specs.Claiming.{Refuses}
 use Rattle.seg_check.specs.Marks.{Known, ClaimsAll, Within}
 use Rattle.seg_check.specs.Turns.{places_in, waiting, with_cells, AreKnown, AreTurns}
 use Rattle.seg_check.specs.Resolving.{Resolves, CanResolve, Advances, IsReady, Steps}
+use Rattle.seg_check.proofs.SameLength.{within_length}
 
 -- what refuses one claim refuses each that leads to it
 pub refuses_map : (f : ContentFault) (P Q : Type 0) → (Q → P) → Refuses f P → Refuses f Q
@@ -218,20 +220,26 @@ module _ (bytes : List ℕ) (table : Table) where
     back = (λ left others r. number_back known.unclaimed left place others f r);
   }
 
-  -- a place opens: the blocks that it names were claimed, and those of the values in them that have cells wait
-  pub advance_open : (old new : Known) (place : Place) (form : Form) (opened : Opened) (turns : List Turn) → form_at table place.type ≡ Some form → Opens bytes table place form opened
-      → ClaimsAll old new opened.blocks turns → AreTurns bytes table turns → AreKnown table opened.parts → waiting bytes table turns ≡ with_cells table opened.parts → Advances bytes table old new (place ∷ [])
-  advance_open old new place form opened turns f o c are known parts = record {
+  -- a place opens: the blocks that it names were claimed, and those of the values in them that have cells wait, in any order
+  pub advance_mixed : (old new : Known) (place : Place) (form : Form) (opened : Opened) (parts : List Place) (turns : List Turn) → form_at table place.type ≡ Some form → Opens bytes table place form opened
+      → ((u left : List ℕ) (others : List Place) → Resolves bytes table u left (opened.parts ++ others) ↔ Resolves bytes table u left (parts ++ others))
+      → ClaimsAll old new opened.blocks turns → AreTurns bytes table turns → AreKnown table parts → waiting bytes table turns ≡ with_cells table parts → Advances bytes table old new (place ∷ [])
+  advance_mixed old new place form opened parts turns f o mixed c are known waits = record {
     turns = turns;
     turns_are = c.turns_are;
     are_turns = are;
     within = within_taken old.unclaimed new.unclaimed opened.blocks c.claimed;
     counted = c.counted;
-    forth = (λ left others r. subst (λ ps. Resolves bytes table new.unclaimed left (ps ++ others)) (sym parts)
-        (cells_forth new.unclaimed left opened.parts others known (open_forth old.unclaimed new.unclaimed left place form opened others f o c.claimed r)));
+    forth = (λ left others r. subst (λ ps. Resolves bytes table new.unclaimed left (ps ++ others)) (sym waits)
+        (cells_forth new.unclaimed left parts others known ((mixed new.unclaimed left others).0 (open_forth old.unclaimed new.unclaimed left place form opened others f o c.claimed r))));
     back = (λ left others r. open_back old.unclaimed new.unclaimed left place form opened others f o c.claimed
-        (cells_back new.unclaimed left opened.parts others known (subst (λ ps. Resolves bytes table new.unclaimed left (ps ++ others)) parts r)));
+        ((mixed new.unclaimed left others).1 (cells_back new.unclaimed left parts others known (subst (λ ps. Resolves bytes table new.unclaimed left (ps ++ others)) waits r))));
   }
+
+  -- and in the order in which they stand
+  pub advance_open : (old new : Known) (place : Place) (form : Form) (opened : Opened) (turns : List Turn) → form_at table place.type ≡ Some form → Opens bytes table place form opened
+      → ClaimsAll old new opened.blocks turns → AreTurns bytes table turns → AreKnown table opened.parts → waiting bytes table turns ≡ with_cells table opened.parts → Advances bytes table old new (place ∷ [])
+  advance_open old new place form opened turns f o c are known waits = advance_mixed old new place form opened opened.parts turns f o (λ u left others. (λ r. r, λ r. r)) c are known waits
 
   -- a struct has become what waits where its fields have
   pub advance_struct : (old new : Known) (at T : ℕ) (Us : List ℕ) → form_at table T ≡ Some (Form.struct Us) → Advances bytes table old new (fields table at Us) → Advances bytes table old new (record { at = at; type = T } ∷ [])
@@ -288,13 +296,16 @@ module _ (bytes : List ℕ) (table : Table) where
   pub can_front : (u : List ℕ) (ps qs : List Place) → CanResolve bytes table u (ps ++ qs) → CanResolve bytes table u ps
   can_front u ps qs r = record { left = r.left; others = qs ++ r.others; resolves = subst (λ xs. Resolves bytes table u r.left xs) (append_assoc ps qs r.others) r.resolves }
 
-  pub ready_now : (old new : Known) (ps : List Place) → IsReady bytes table old → Advances bytes table old new ps → IsReady bytes table new
-  ready_now old new ps ready a = record {
+  pub ready_within : (old new : Known) → IsReady bytes table old → Within new.unclaimed old.unclaimed → IsReady bytes table new
+  ready_within old new ready within = record {
     is_table = ready.is_table;
-    lacks_maps = ready.lacks_maps;
-    blocks = (λ h some. ready.blocks h (omega (arith, a.within h)));
+    blocks = (λ h some. ready.blocks h (omega (arith, within h)));
+    few = omega (arith, ready.few, within_length new.unclaimed old.unclaimed within);
     small = ready.small;
   }
+
+  pub ready_now : (old new : Known) (ps : List Place) → IsReady bytes table old → Advances bytes table old new ps → IsReady bytes table new
+  ready_now old new ps ready a = ready_within old new ready a.within
 
   pub steps_refused : {A : Type 0} (old new : Known) (places : List Place) (r : Result A ContentFault) (e : ContentFault) (P : Type 0) → r ≡ Err e → (CanResolve bytes table old.unclaimed places → P) → Refuses e P
       → Steps bytes table old new places r

@@ -53,7 +53,7 @@ module _ (bytes : List ℕ) (table : Table) (valid : IsTable table) where
       → IsContent table Object (tag_of block.Kind.object T) 0 T content → HasEntries bytes table b content.entry
   stands_object b k T content are known e c = has_entries b 0 T content.entry c.entry_is known (λ turn same. tagged_at b turn k T e same ∙ are turn.start turn.count)
 
-  allowed_as : (b : ℕ) (k : block.Kind) (T : ℕ) → IsOwnable bytes table b → tag_at bytes b ≡ tag_of k T → AllowsType table k T
+  pub allowed_as : (b : ℕ) (k : block.Kind) (T : ℕ) → IsOwnable bytes table b → tag_at bytes b ≡ tag_of k T → AllowsType table k T
   allowed_as b k T own e =
       let one = one_tag own.kind k own.type T (sym own.tag_is ∙ e) in
       subst (λ j. AllowsType table j T) one.0 (subst (λ S. AllowsType table own.kind S) one.1 own.allowed)

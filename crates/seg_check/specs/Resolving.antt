@@ -6,8 +6,9 @@
 --     Advances bytes table old new places            these places have become what waits now
 --     IsReady bytes table known                      what each step rests on
 --     Steps bytes table old new places result        a step did that, or the places can't be resolved
-use Rattle.std.specs.Prelude.{◌≡◌, ℕ, ◌^◌, ◌≤◌, List, ◌++◌, length, Some, Result, Ok, Err}
-use Rattle.seg_spec.specs.Types.{Form, Table, IsTable, form_at}
+use Rattle.std.specs.Prelude.{◌≡◌, ℕ, ◌+◌, ◌*◌, ◌^◌, ◌≤◌, List, ◌++◌, length, Result, Ok, Err}
+use Rattle.seg_spec.specs.Types.{Table, IsTable}
+use Rattle.seg_spec.specs.Header.{heap_start}
 use Rattle.seg_spec.specs.Value.{Values}
 use Rattle.seg_spec.specs.Reads.{Place, HoldsEach}
 use Rattle.seg_spec.specs.Sound.{SameBlocks}
@@ -47,16 +48,12 @@ pub record Advances (bytes : List ℕ) (table : Table) (old new : Known)
       Resolves bytes table new.unclaimed left (waiting bytes table turns ++ others) →
       Resolves bytes table old.unclaimed left (places ++ others)
 
--- no type of the table is a map
-abbrev pub LacksMaps : Table → Type 0
-LacksMaps table = (T U : ℕ) → form_at table T ≡ Some (Form.map U) → ⊥
-
--- a valid table without maps, and unclaimed blocks that it allows, in an image that
--- is not too long
+-- a valid table, and unclaimed blocks that it allows and that the heap has room for, in an
+-- image that is not too long
 pub record IsReady (bytes : List ℕ) (table : Table) (known : Known) : Type 0 where
   pub is_table : IsTable table
-  pub lacks_maps : LacksMaps table
   pub blocks : AreBlocks bytes table known.unclaimed
+  pub few : heap_start + 32 * length known.unclaimed ≤ length bytes
   pub small : length bytes ≤ 2 ^ 30
 
 -- the places have become what waits now, or they can't be resolved

@@ -22,15 +22,16 @@ pub(crate) struct Tree {
 }
 
 impl Tree {
-    ghost use Rattle.std.specs.Prelude.{ℕ, ◌↔◌, List};
+    ghost use Rattle.std.specs.Prelude.{ℕ, ◌/◌, ◌↔◌, List, length};
     ghost use Rattle.seg_check.specs.Walks.{Completes, Hangs, IsSteady};
 
     /// A walk through the tree. Where it isn't a red-black tree of so many nodes, the walk ends with the position of the
     /// pointer to the root as `Err`: at once before a node that would stand too deep, else after the last node.
     pub(crate) fn walk<A: Allocator>(self, w: &Window<A>) -> Walk<'_, A>
-        ensures starts { (height : ℕ) (nodes : List ℕ)
-            → Completes w.now.bytes height result.stage nodes
-            ↔ Hangs w.now.bytes self.root self.nodes height nodes }
+        ensures starts { (height : ℕ) (nodes entering : List ℕ)
+            → Completes w.now.bytes height result.stage nodes entering
+            ↔ Hangs w.now.bytes self.root self.nodes height nodes entering }
+        ensures turns { result.turns ≡ length w.now.bytes / UNIT }
         ensures steady { IsSteady w.now.bytes result.stage result.turns }
         ensures window { result.w.now ≡ w.now }
     {
@@ -89,9 +90,9 @@ struct Stage {
 }
 
 impl Stage {
-    ghost use Rattle.std.specs.Prelude.{ℕ, ◌+◌, ◌^◌, ◌≤◌, ◌↔◌, List, ◌∷◌, ◌++◌, Some, IsTrue, IfSome, IfNone};
+    ghost use Rattle.std.specs.Prelude.{ℕ, ◌+◌, ◌^◌, ◌≤◌, ◌⊎◌, ◌↔◌, false, List, ◌∷◌, ◌++◌, length, Some, IsTrue, IfSome, IfNone};
     ghost use Rattle.seg_spec.specs.Pointer.{target};
-    ghost use Rattle.seg_check.specs.Walks.{Completes, IsColourOf, IsAtEnd, IsShallow};
+    ghost use Rattle.seg_check.specs.Walks.{Completes, IsColourOf, IsAtEnd, IsShallow, AreFewRed};
 
     /// At the root.
     fn new(tree: Tree) -> Stage
@@ -104,6 +105,7 @@ impl Stage {
         ensures blacks { result.above.blacks ≡ 0 }
         ensures is_red { result.above.is_red ≡ true }
         ensures shallow { IsShallow result.above }
+        ensures few_red { AreFewRed result.above }
     {
         Stage {
             wanted: tree.nodes,
@@ -123,15 +125,27 @@ impl Stage {
 
     /// Goes on from the node of this colour at the place to its left part. False before a node that would stand too deep.
     fn enter(&mut self, node: u32, colour: Option<Colour>) -> bool
-        ensures goes_on { IsTrue result → (bytes : List ℕ) (height : ℕ) (rest : List ℕ)
+        ensures goes_on { IsTrue result → (bytes : List ℕ) (height : ℕ) (rest entering : List ℕ)
             → target bytes self.old.pointer ≡ Some node → IsColourOf bytes node colour
             → self.old.nodes < 2 ^ 32 → self.old.above.blacks < 255
-            → Completes bytes height self.old rest ↔ Completes bytes height self.new rest }
+            → Completes bytes height self.old rest (node ∷ entering)
+            ↔ Completes bytes height self.new rest entering }
+        ensures next { (bytes : List ℕ) (height : ℕ) (rest entering : List ℕ)
+            → target bytes self.old.pointer ≡ Some node
+            → Completes bytes height self.old rest entering
+            → (more : List ℕ) × (entering ≡ node ∷ more) }
         ensures pointer { IsTrue result → self.new.pointer ≡ node }
         ensures entered { IsTrue result → self.new.entered.items
             ≡ self.old.entered.items ++ record { node = node; above = self.new.above } ∷ [] }
         ensures nodes { self.old.nodes < 2 ^ 32 → self.new.nodes ≤ self.old.nodes + 1 }
         ensures above { IsTrue result → IsShallow self.old.above → IsShallow self.new.above }
+        ensures deeper { IsTrue result → IsShallow self.old.above
+            → self.new.above.nodes ≡ self.old.above.nodes + 1 }
+        ensures few_red { IsTrue result → IsShallow self.old.above
+            → self.new.is_red_black ≡ true → (self.old.is_red_black ≡ true)
+            × (AreFewRed self.old.above → AreFewRed self.new.above) }
+        ensures deep { result ≡ false → (60 ≤ self.old.above.nodes)
+            ⊎ (60 ≤ length self.old.entered.items) }
     {
         let is_red = is_red(colour);
         let above = Above {
@@ -152,19 +166,24 @@ impl Stage {
 
     /// Goes on from an empty place to the right part of the next node in order, and returns this node.
     fn pass(&mut self) -> Option<u32>
-        ensures goes_on { IfSome result (λ node. (bytes : List ℕ) (height : ℕ) (rest : List ℕ)
+        ensures goes_on { IfSome result (λ node. (bytes : List ℕ) (height : ℕ)
+            → (rest entering : List ℕ)
             → target bytes self.old.pointer ≡ None → node + 4 < 2 ^ 32
-            → Completes bytes height self.old (node ∷ rest)
-            ↔ Completes bytes height self.new rest) }
-        ensures next { IfSome result (λ node. (bytes : List ℕ) (height : ℕ) (rest : List ℕ)
+            → Completes bytes height self.old (node ∷ rest) entering
+            ↔ Completes bytes height self.new rest entering) }
+        ensures next { IfSome result (λ node. (bytes : List ℕ) (height : ℕ)
+            → (rest entering : List ℕ)
             → target bytes self.old.pointer ≡ None → node + 4 < 2 ^ 32
-            → Completes bytes height self.old rest → (more : List ℕ) × (rest ≡ node ∷ more)) }
-        ensures end { IfNone result ((bytes : List ℕ) (height : ℕ) (rest : List ℕ)
+            → Completes bytes height self.old rest entering
+            → (more : List ℕ) × (rest ≡ node ∷ more)) }
+        ensures end { IfNone result ((bytes : List ℕ) (height : ℕ) (rest entering : List ℕ)
             → target bytes self.old.pointer ≡ None
-            → Completes bytes height self.old rest ↔ IsAtEnd height self.old self.new rest) }
+            → Completes bytes height self.old rest entering
+            ↔ IsAtEnd height self.old self.new rest entering) }
         ensures left { IfSome result (λ node. self.old.entered.items
             ≡ self.new.entered.items ++ record { node = node; above = self.new.above } ∷ []) }
         ensures nodes { self.new.nodes ≡ self.old.nodes }
+        ensures kept { self.new.is_red_black ≡ true → self.old.is_red_black ≡ true }
     {
         let blacks = self.above.blacks;
         self.is_red_black = self.is_red_black && is_height(self.height, blacks);
@@ -196,17 +215,21 @@ pub(crate) struct Walk<'w, A: Allocator> {
 }
 
 impl<A: Allocator> Walk<'_, A> {
-    ghost use Rattle.std.specs.Prelude.{IfOk, IfSome};
-    ghost use Rattle.seg_check.specs.Walks.{IsSteady, Proceeds};
+    ghost use Rattle.std.specs.Prelude.{ℕ, ◌+◌, List, length, IfErr, IfOk, IfSome};
+    ghost use Rattle.seg_check.specs.Walks.{Completes, IsSteady, Proceeds};
 
     /// What the walk comes to next, until it has come to the end.
     pub(crate) fn next(&mut self) -> Result<Option<Visit>, u32>
-        ensures fewer { OnOk result (self.new.turns < self.old.turns) }
+        ensures fewer { OnOk result (self.new.turns + 1 ≡ self.old.turns) }
         ensures steady { IsSteady self.old.w.now.bytes self.old.stage self.old.turns
             → IfOk result (λ visit. IfSome visit (λ _.
             IsSteady self.new.w.now.bytes self.new.stage self.new.turns)) }
         ensures goes_on { IsSteady self.old.w.now.bytes self.old.stage self.old.turns
             → IfOk result (Proceeds self.old.w.now.bytes self.old.stage self.new.stage) }
+        ensures refused { IsSteady self.old.w.now.bytes self.old.stage self.old.turns
+            → IfErr result (λ _. (height : ℕ) (rest entering : List ℕ)
+            → Completes self.old.w.now.bytes height self.old.stage rest entering → height < 30
+            → length rest + length entering < self.old.turns → ⊥) }
         ensures window { self.new.w.now ≡ self.old.w.now }
     {
         if self.turns == 0 {

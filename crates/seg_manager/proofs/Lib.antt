@@ -14,3 +14,6 @@ pub mod NamedMaking
 pub mod NewNamed
 pub mod NamedEnters
 pub mod UniqueCount
+pub mod ObjectAsks
+pub mod ClearedItems
+pub mod NamedLeaves

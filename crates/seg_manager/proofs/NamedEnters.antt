@@ -1,32 +1,41 @@
 -- A new object beside the image, which its index comes to list.
-use Rattle.std.proofs.Common.{◌≡◌, ◌≢◌, ℕ, ◌+◌, ◌*◌, ◌<◌, ◌≤◌, ◌⊎◌, inl, inr, List, [], ◌∷◌, ◌++◌, length, sym, ap, ◌∙◌, subst, arith}
+use Rattle.std.proofs.Common.{◌≡◌, ◌≢◌, ℕ, ◌+◌, ◌*◌, ◌<◌, ◌≤◌, ◌⊎◌, inl, inr, List, [], ◌∷◌, ◌++◌, length, Some, None, refl, sym, ap, ◌∙◌, subst, arith}
 use Rattle.std.proofs.lemmas.Bool.{cases_eq}
 use Rattle.std.specs.List.{AllByRecursion}
-use Rattle.seg_spec.specs.Bytes.{word, IsSame}
-use Rattle.seg_spec.specs.Header.{allocator_word}
+use Rattle.std.specs.Prelude.{Contains}
+use Rattle.seg_spec.specs.Bytes.{word, slice, IsSame}
+use Rattle.seg_spec.specs.Header.{allocator_word, index_kind_word, index_cell, free_word, back_start, back_size, KeepsFront, KeepsBack}
 use Rattle.seg_spec.specs.Types.{size}
 use Rattle.seg_spec.specs.Value.{count, default_of}
-use Rattle.seg_spec.specs.Heap.{live}
+use Rattle.seg_spec.specs.Heap.{live, IsLive, Gives}
 use Rattle.seg_spec.specs.Block.{Kind, tag_of, block_of, IsBlock, KeepsBlock, IsOwnable}
 use Rattle.seg_spec.specs.Index.{Root, IsName}
-use Rattle.seg_spec.specs.Sound.{Picture, IsHeld, times, positions}
+use Rattle.seg_spec.specs.Sound.{Picture, HoldsRoots, holds_no_root, IsHeld, times, positions}
 use Rattle.seg_spec.specs.Roots.{Listed, with_roots}
-use Rattle.seg_spec.specs.Demand.{need}
+use Rattle.seg_spec.specs.Demand.{Ask, need, block_for, units_for, after_asks}
+use Rattle.seg_spec.specs.Spending.{entry_asks, object_asks, spent}
+use Rattle.seg_spec.specs.Owing.{KeepsLinked}
+use Rattle.seg_spec.specs.Calls.{Refuses}
 use Rattle.seg_spec.proofs.SliceLaws.{IsSame-part, IsSame-trans}
 use Rattle.seg_spec.proofs.Composing.{kept_twice}
 use Rattle.seg_spec.proofs.Frame.{word-same}
 use Rattle.seg_spec.proofs.LiveLaws.{times-append, times-other}
-use Rattle.seg_spec.proofs.Standing.{each_live_at, live_at}
+use Rattle.seg_spec.proofs.Standing.{each_live_at, live_at, ownable_linked}
+use Rattle.seg_spec.proofs.KeptLaws.{front_kept}
+use Rattle.seg_spec.proofs.Giving.{found, given_kept}
+use Rattle.seg_spec.proofs.Destruction.{linked_twice, linked_same}
+use Rattle.seg_spec.proofs.LooseRoots.{Trades, its, holds_its, loose_traded}
 use Rattle.seg_value.specs.Stored.{Stored}
 use Rattle.seg_index.specs.Lists.{FindsNamesOf, IsVacant, MayEnter, EntersName}
 use Rattle.seg_index.specs.declared.lookup.Vacant.{Vacant}
 use Rattle.seg_index.proofs.HeldNames.{finds_held}
 use Rattle.seg_index.proofs.HeldChanges.{with_names, held_entered}
 use Rattle.seg_index.proofs.Kept.{finds_kept, vacant_kept}
-use Rattle.seg_manager.specs.Segments.{Becomes, new_root}
-use Rattle.seg_manager.specs.NewNamed.{GivesNamed, MakesNamed}
+use Rattle.seg_manager.specs.Segments.{IsSegment, Becomes, new_root}
+use Rattle.seg_manager.specs.NewNamed.{GivesNamed, MakesNamed, FindsNoRoom}
 use Rattle.seg_spec.proofs.OneRequest.{counts_one}
 use Rattle.seg_manager.proofs.NewNamed.{count-copies, named_kind}
+use Rattle.seg_manager.proofs.ObjectAsks.{entry_asks_kept, spent_after, asks_after, returned_one, no_room_first}
 
 times_cons : (h x : ℕ) (xs : List ℕ) → times h (x ∷ xs) ≡ times h (x ∷ []) + times h xs
 times_cons h x xs = times-append h (x ∷ []) xs
@@ -43,7 +52,7 @@ module _ (allocator : ℕ) (old mid : List ℕ) (picture : Picture) (held : IsHe
   counts h = counts_one allocator (live old) (live mid) (length old) (need (count root.values * size picture.table T + length name)) g.granted_is (block_of object) g.was_free g.now_live h
 
   kept : (h : ℕ) → 1 ≤ times h (positions (live old)) → KeepsBlock old mid h
-  kept h is_live = (g.kept h is_live).0
+  kept h is_live = (g.kept h is_live).whole.kept
 
   object_block : IsBlock mid object (tag_of Kind.named T) (count root.values * size picture.table T + length name)
   object_block = subst (λ kind. IsBlock mid object (tag_of kind T) (count root.values * size picture.table T + length name)) (named_kind name is_name.not_empty) g.holds.block
@@ -58,9 +67,7 @@ module _ (allocator : ℕ) (old mid : List ℕ) (picture : Picture) (held : IsHe
       go h is_live (inl e) = subst (IsOwnable mid picture.table) e own_ownable
       go h is_live (inr ne) =
           let was : 1 ≤ times h (positions (live old)) = (let c = counts h in let o = times-other h (block_of object) (positions (live old)) ne in omega arith) in
-          let o = live_at (IsOwnable old picture.table) (live old) h held.laid_out.blocks was in
-          let k = g.kept h was in
-          record { kind = o.kind; type = o.type; allowed = o.allowed; tag_is = k.0.has_tag ∙ o.tag_is; link_is = k.1 ∙ o.link_is }
+          ownable_linked old mid picture.table h (g.kept h was) (live_at (IsOwnable old picture.table) (live old) h held.laid_out.blocks was)
 
   -- calls on the index find the same names beside the new object
   pub finds_mid : FindsNamesOf allocator mid picture.table picture.names held.index_blocks
@@ -82,6 +89,23 @@ module _ (allocator : ℕ) (old mid : List ℕ) (picture : Picture) (held : IsHe
         other = let o = finds_old.owned (block_of object) in let free = g.was_free in omega arith;
       }
 
+  -- ---- the requests
+
+  abbrev units : ℕ
+  units = need (n * size picture.table T + length name)
+
+  granted_first : after_asks allocator (live old) (length old) (units_for units ∷ []) ≡ Some (live mid)
+  granted_first = let c = count-copies n (default_of picture.table T) in rw c at g.granted_is
+
+  abbrev its_asks : List ℕ → List Ask
+  its_asks bytes = entry_asks (word bytes index_kind_word) bytes
+
+  -- the entry's request is the same beside the object
+  asks_kept : its_asks mid ≡ its_asks old
+  asks_kept =
+      entry_asks_kept old mid picture.names held.index_blocks finds_old.lists (word-same old mid index_kind_word (IsSame-part old mid 0 24 index_kind_word 4 (omega arith) (omega arith) g.front_kept))
+      (IsSame-part old mid back_start back_size index_cell 8 (omega arith) (omega arith) g.back_kept) (λ h some. (g.kept h (let o = finds_old.owned h in omega arith)).whole.size_kept)
+
   -- ---- the index lists it
 
   module _ (new : List ℕ) (e : EntersName allocator mid new picture.table picture.names held.index_blocks root) where
@@ -97,6 +121,11 @@ module _ (allocator : ℕ) (old mid : List ℕ) (picture : Picture) (held : IsHe
     allocator_then : word new allocator_word ≡ allocator
     allocator_then = word-same old new allocator_word (IsSame-part old new 0 24 allocator_word 4 (omega arith) (omega arith) front_then) ∙ allocator_is
 
+    granted : spent allocator (live old) (length old) (object_asks old picture.table T n name) [] ≡ Some (live new)
+    granted =
+        spent_after allocator (live old) (live mid) (length old) units (its_asks old) granted_first ∙ ap (λ asks. spent allocator (live mid) (length old) asks []) (sym asks_kept)
+        ∙ ap (λ end. spent allocator (live mid) end (its_asks mid) []) (sym g.length_kept) ∙ e.left_is ∙ ap Some (sym e.changes.live_is)
+
     pub made : (was now : Stored) → was.window.bytes ≡ old → was.types ≡ picture.table → now.window.bytes ≡ new → now.types ≡ was.types → MakesNamed allocator was now picture held.index_blocks name T n object
     made was now old_is table_is new_is types_are =
         let root_is : new_root picture.table name T n object ≡ new_root was.types name T n object = ap (λ t. new_root t name T n object) (sym table_is) in
@@ -110,4 +139,98 @@ module _ (allocator : ℕ) (old mid : List ℕ) (picture : Picture) (held : IsHe
             front_kept = rw (new_is, old_is) front_then;
             kept = rw (new_is, old_is) kept_then;
           });
+          spends = rw (new_is, old_is, table_is) granted;
         }
+
+  -- ---- the index has no room for it, and its block is given back
+
+  pub is_live_mid : IsLive mid (block_of object)
+  is_live_mid =
+      let f = found (block_of object) (live mid) (let one = g.now_live in omega arith) in
+      (f.block.units, subst (λ h. Contains (live mid) (record { at = h; units = f.block.units })) f.at_is f.among)
+
+  module _ (refused : Refuses allocator mid mid (its_asks mid)) (new : List ℕ) (gives : Gives allocator mid new (block_of object)) where
+    left_live : live new ≡ live old
+    left_live = gives.given ∙ returned_one allocator (live old) (live mid) (length old) units [] granted_first (block_of object) g.was_free g.now_live
+
+    left_kept : (h : ℕ) → 1 ≤ times h (positions (live old)) → KeepsLinked old new h
+    left_kept h is_live =
+        linked_twice old mid new h (g.kept h is_live)
+        (given_kept allocator mid new (block_of object) g.heap gives h (let c = counts h in let d = times_cons h (block_of object) (positions (live old)) in omega arith)
+        (λ e. let free : times h (positions (live old)) ≡ 0 = ap (λ x. times x (positions (live old))) e ∙ g.was_free in absurd (omega arith)))
+
+    fronts : KeepsFront mid new × KeepsBack mid new
+    fronts = front_kept mid new gives.kept (let long = held.laid_out.header.not_small in omega (arith, g.length_kept))
+
+    front_left : KeepsFront old new
+    front_left = IsSame-trans old mid new 0 free_word g.front_kept fronts.0
+
+    ownable_left : AllByRecursion (λ b. IsOwnable new picture.table b.at) (live new)
+    ownable_left = each_live_at (IsOwnable new picture.table) (live new) (λ h some.
+        let was : 1 ≤ times h (positions (live old)) = subst (λ bs. 1 ≤ times h (positions bs)) left_live some in
+        ownable_linked old new picture.table h (left_kept h was) (live_at (IsOwnable old picture.table) (live old) h held.laid_out.blocks was))
+
+    abbrev gone : List ℕ
+    gone = its old new picture held [] [] picture.loose refl
+
+    none_gone : (xs : List ℕ) → HoldsRoots old picture.table [] xs → (h : ℕ) → times h xs ≡ 0
+    none_gone [] k h = refl
+    none_gone (x ∷ xs) k h = elim k [ ]
+
+    trades : Trades old new picture gone []
+    trades = record {
+      length_kept = gives.kept.length_kept ∙ g.length_kept;
+      front_kept = front_left;
+      back_kept = IsSame-trans old mid new back_start back_size g.back_kept fronts.1;
+      heap = rw allocator_is gives.heap;
+      ownable = ownable_left;
+      kept = λ h some none. (left_kept h some).whole.kept;
+      counts = λ h.
+          let n = none_gone gone (holds_its old new picture held [] [] picture.loose refl) h in
+          let l = ap (λ bs. times h (positions bs)) left_live in
+          omega arith;
+    }
+
+    held_left : IsHeld new picture
+    held_left = loose_traded old new picture held [] [] picture.loose refl [] [] trades holds_no_root tt
+
+    lacking : after_asks allocator (live old) (length old) (object_asks old picture.table T n name) ≡ None
+    lacking =
+        asks_after allocator (live old) (live mid) (length old) units (its_asks old) granted_first ∙ ap (λ asks. after_asks allocator (live mid) (length old) asks) (sym asks_kept)
+        ∙ ap (λ end. after_asks allocator (live mid) end (its_asks mid)) (sym g.length_kept) ∙ refused.no_room
+
+    pub returned : (was now : Stored) → was.window.bytes ≡ old → was.types ≡ picture.table → now.window.bytes ≡ new → now.types ≡ was.types
+        → FindsNoRoom allocator was now picture (object_asks was.window.bytes was.types T n name)
+    returned was now old_is table_is new_is types_are = record {
+      no_room = rw (old_is, table_is) lacking;
+      becomes = record {
+        segment = record {
+          held = rw new_is held_left;
+          table_is = types_are ∙ table_is;
+          allocator_is = rw new_is (word-same old new allocator_word (IsSame-part old new 0 24 allocator_word 4 (omega arith) (omega arith) front_left) ∙ allocator_is);
+        };
+        length_kept = rw (new_is, old_is) (gives.kept.length_kept ∙ g.length_kept);
+        front_kept = rw (new_is, old_is) front_left;
+        kept = rw (new_is, old_is) (λ h some none. (left_kept h some).whole.kept);
+      };
+      live_is = rw (new_is, old_is) left_live;
+    }
+
+-- ---- the heap has no room for its block
+
+pub unmade : (allocator : ℕ) (was now : Stored) (picture : Picture) → IsSegment allocator was picture → (name : List ℕ) (T n : ℕ) → Refuses allocator was.window.bytes now.window.bytes (block_for (n * size was.types T + length name) ∷ [])
+    → now.types ≡ was.types → FindsNoRoom allocator was now picture (object_asks was.window.bytes was.types T n name)
+unmade allocator was now picture s name T n refused types_are = record {
+  no_room = no_room_first allocator (live was.window.bytes) (length was.window.bytes) (need (n * size was.types T + length name)) (entry_asks (word was.window.bytes index_kind_word) was.window.bytes) refused.no_room;
+  becomes = record {
+    segment = record {
+      held = subst (λ bs. IsHeld bs picture) (sym refused.same) s.held;
+      table_is = types_are ∙ s.table_is;
+      allocator_is = ap (λ bs. word bs allocator_word) refused.same ∙ s.allocator_is;
+    };
+    length_kept = ap length refused.same;
+    front_kept = ap (λ bs. slice bs 0 free_word) refused.same;
+    kept = λ h some none. subst (λ bs. KeepsBlock was.window.bytes bs h) (sym refused.same) (linked_same was.window.bytes h).whole.kept;
+  };
+  live_is = ap live refused.same;
+}

@@ -2,13 +2,15 @@
 use Rattle.std.proofs.Common.{◌≡◌, ℕ, inl, inr, Bool, true, false, List, Option, Some, None, Result, Ok, Err, MatchResult, IfOk, refl, sym, ap, ◌∙◌, subst, arith}
 use Rattle.std.specs.Prelude.{◌==◌, if◌then◌else◌, IsSome, IsOkUnless}
 use Rattle.std.proofs.lemmas.Bool.Decides.{nat_tests}
+use Rattle.std.proofs.lemmas.Result.{MatchResult-at_err}
 use Rattle.seg_spec.specs.Index.{Root, root_named}
 use Rattle.seg_spec.specs.Sound.{Picture}
+use Rattle.seg_spec.specs.Spending.{object_asks}
 use Rattle.seg_raw.specs.declared.code.Code.{Code}
 use Rattle.seg_raw.specs.declared.code.Code.TheVariants as code
 use Rattle.seg_value.specs.Stored.{Stored}
 use Rattle.seg_manager.specs.NamedObjects.{found_of, found_as, IsMissing, IsCount, RefusesName, FindsOrMakesNamed, RefusesToFind}
-use Rattle.seg_manager.specs.NewNamed.{MakesNamed}
+use Rattle.seg_manager.specs.NewNamed.{MakesNamed, FindsNoRoom}
 use Rattle.seg_manager.specs.declared.names.Found.{Found}
 
 pub is_there : (o : Option Root) (root : Root) → o ≡ Some root → IsSome o
@@ -63,8 +65,17 @@ module _ (T : ℕ) (root : Root) where
       let is = was_other c e in
       subst (RefusesToFind s s names name T) (sym is) (ap (found_as T) there ∙ sym e ∙ ap Err is, refl)
 
--- an object that was made, by another word for its name and count
-pub made_as : (allocator : ℕ) (old new : Stored) (picture : Picture) (index_blocks : List ℕ) (T : ℕ) (r : Result ℕ Code) (name other : List ℕ) (n m : ℕ) → other ≡ name → m ≡ n
-    → IfOk r (MakesNamed allocator old new picture index_blocks other T m) → IfOk r (MakesNamed allocator old new picture index_blocks name T n)
-made_as allocator old new picture index_blocks T r name other n m e f h =
-    subst (λ k. IfOk r (MakesNamed allocator old new picture index_blocks name T k)) f (subst (λ x. IfOk r (MakesNamed allocator old new picture index_blocks x T m)) e h)
+-- what making an object leaves, by other words for its name and count
+module _ (allocator : ℕ) (old new : Stored) (picture : Picture) (index_blocks : List ℕ) (T : ℕ) (r : Result ℕ Code) (name other : List ℕ) (n m : ℕ) (e : other ≡ name) (f : m ≡ n)
+    (h : MatchResult r (MakesNamed allocator old new picture index_blocks other T m) (λ _. FindsNoRoom allocator old new picture (object_asks old.window.bytes old.types T m other))) where
+  pub made_as : IfOk r (MakesNamed allocator old new picture index_blocks name T n)
+  made_as =
+      subst (λ k. IfOk r (MakesNamed allocator old new picture index_blocks name T k)) f (subst (λ x. IfOk r (MakesNamed allocator old new picture index_blocks x T m)) e (go r h))
+    where
+      go : (s : Result ℕ Code) → MatchResult s (MakesNamed allocator old new picture index_blocks other T m) (λ _. FindsNoRoom allocator old new picture (object_asks old.window.bytes old.types T m other))
+          → IfOk s (MakesNamed allocator old new picture index_blocks other T m)
+      go (Ok x) k = k
+      go (Err c) k = tt
+
+  pub lacks_as : r ≡ Err code.BadAlloc → FindsNoRoom allocator old new picture (object_asks old.window.bytes old.types T n name)
+  lacks_as is = rw (← e, ← f) (MatchResult-at_err _ _ _ is h)

@@ -158,7 +158,7 @@ module _ (allocator h : ℕ) (old taken new : List ℕ) (table : Table) (name : 
           granted_is = rw c (asks_granted allocator old new (values + length name) h (taken_units allocator u h tag old taken new heap t (h + 16) (values + length name) low high changes));
           was_free = rw own (was_free allocator u h tag old taken new heap t);
           now_live = rw own (now_live allocator u h tag old taken new heap t (h + 16) (values + length name) low high changes);
-          kept = λ k some. let r = all_kept allocator u h tag old taken new heap t (h + 16) (values + length name) low high changes k some in (r.whole.kept, r.link_kept);
+          kept = all_kept allocator u h tag old taken new heap t (h + 16) (values + length name) low high changes;
         }
 
 -- the numbers that the code computes

@@ -3,19 +3,23 @@
 --     GivesNamed allocator old new table root
 --                                            the block of a new object with its name
 --     MakesNamed ..                          the segment holds a new named object
+--     FindsNoRoom allocator old new picture asks
+--                                            a request gets nothing, and the segment is as before
 use Rattle.std.specs.Prelude.{◌≡◌, ℕ, ◌+◌, ◌*◌, ◌<◌, ◌≤◌, List, [], ◌∷◌, ◌++◌, length, Some, None}
 use Rattle.seg_spec.specs.Header.{KeepsFront, KeepsBack}
 use Rattle.seg_spec.specs.Types.{Table, IsTable, size}
 use Rattle.seg_spec.specs.Value.{count}
 use Rattle.seg_spec.specs.Heap.{IsHeap, live, link_at}
-use Rattle.seg_spec.specs.Block.{block_of, KeepsBlock}
+use Rattle.seg_spec.specs.Block.{block_of}
 use Rattle.seg_spec.specs.Cells.{IsWithin}
 use Rattle.seg_spec.specs.Index.{Root}
 use Rattle.seg_spec.specs.Sound.{Picture, HoldsRoot, times, positions}
 use Rattle.seg_spec.specs.Roots.{Listed, with_roots}
-use Rattle.seg_spec.specs.Demand.{Ask, block_for, after_asks}
+use Rattle.seg_spec.specs.Demand.{Ask, block_for, after_asks, NoRoom}
+use Rattle.seg_spec.specs.Spending.{object_asks}
+use Rattle.seg_spec.specs.Owing.{KeepsLinked}
 use Rattle.seg_value.specs.Stored.{Stored}
-use Rattle.seg_manager.specs.Segments.{Becomes, new_root}
+use Rattle.seg_manager.specs.Segments.{Becomes, Spends, new_root}
 
 -- n values of a type of the table lie in the segment, from a position on
 pub record HasValuesRoom (bytes : List ℕ) (table : Table) (at T n : ℕ) : Type 0 where
@@ -41,11 +45,11 @@ pub record GivesNamed (allocator : ℕ) (old new : List ℕ) (table : Table) (ro
       ≡ Some (live new)
   pub was_free : times (block_of root.at) (positions (live old)) ≡ 0
   pub now_live : times (block_of root.at) (positions (live new)) ≡ 1
-  pub kept : (h : ℕ) → 1 ≤ times h (positions (live old)) →
-      KeepsBlock old new h × (link_at new h ≡ link_at old h)
+  pub kept : (h : ℕ) → 1 ≤ times h (positions (live old)) → KeepsLinked old new h
 
--- the segment holds a new named object of n default values at this position, among the others in
--- order; each live block that isn't the index's is kept
+-- the requests for a new named object of n default values and for its entry were granted, and the
+-- segment holds it at this position, among the others in order; each live block that isn't the
+-- index's is kept
 pub record MakesNamed (allocator : ℕ) (old new : Stored) (picture : Picture)
     (index_blocks name : List ℕ) (T n at : ℕ) : Type 0 where
   pub before : List Root
@@ -54,3 +58,12 @@ pub record MakesNamed (allocator : ℕ) (old new : Stored) (picture : Picture)
   pub becomes : Becomes allocator old new
       (with_roots picture Listed.by_name (before ++ new_root old.types name T n at ∷ after))
       index_blocks
+  pub spends : Spends allocator old new (object_asks old.window.bytes old.types T n name) []
+
+-- one of the requests gets nothing; the segment has its picture, and all live blocks with their
+-- bytes, as before: what was taken for it was given back
+pub record FindsNoRoom (allocator : ℕ) (old new : Stored) (picture : Picture) (asks : List Ask)
+    : Type 0 where
+  pub no_room : NoRoom allocator (live old.window.bytes) (length old.window.bytes) asks
+  pub becomes : Becomes allocator old new picture []
+  pub live_is : live new.window.bytes ≡ live old.window.bytes

@@ -1,16 +1,18 @@
-ghost use Rattle.std.specs.Prelude.{◌≡◌, ◌+◌, ◌*◌, ◌%◌, ◌^◌, ◌<◌, ◌≤◌, false, [], length, None, Some, MatchOption, IsSomeAnd, IfOk, IfSome, IfNone, MatchResult, IsOkUnless, slice_get, is_ok};
+ghost use Rattle.std.specs.Prelude.{◌≡◌, ◌+◌, ◌*◌, ◌%◌, ◌^◌, ◌<◌, ◌≤◌, false, [], length, None, Some, Err, MatchOption, IsSomeAnd, IfOk, IfSome, IfNone, MatchResult, IsOkUnless, slice_get, is_ok, ℕ, List, IsTrue};
 ghost use Rattle.seg_spec.specs.Bytes.{ChangesOnly};
 ghost use Rattle.seg_spec.specs.Calls.{Refuses};
 ghost use Rattle.seg_spec.specs.Heap.{IsHeap};
 ghost use Rattle.seg_spec.specs.Index.{Root, IsName, root_named};
 ghost use Rattle.seg_spec.specs.Reads.{items, HoldsEach};
 ghost use Rattle.seg_spec.specs.Sound.{Picture};
+ghost use Rattle.seg_spec.specs.Spending.{object_asks};
 ghost use Rattle.seg_spec.specs.Types.{IsTable, size};
 ghost use Rattle.seg_spec.specs.Value.{copies, default_of};
 ghost use Rattle.seg_spec.specs.Window.{KeepsHost};
 ghost use Rattle.seg_index.specs.Lists.{IsNamed, IsVacant, entry_of, root_after};
-ghost use Rattle.seg_manager.specs.NamedObjects.{found_as, Says, IsMissing, IsCount, RefusesName, FindsOrMakesNamed, RefusesToFind};
-ghost use Rattle.seg_manager.specs.NewNamed.{HasValuesRoom, GivesNamed, MakesNamed, root_asks};
+ghost use Rattle.seg_manager.specs.NamedObjects.{found_as, Says, IsMissing, IsCount, RefusesName, FindsOrMakesNamed, RefusesToFind, found_of};
+ghost use Rattle.seg_manager.specs.NewNamed.{HasValuesRoom, GivesNamed, MakesNamed, FindsNoRoom, root_asks};
+ghost use Rattle.seg_manager.specs.LeavingNamed.{IsUnlisted, GivesBack, LosesNamed};
 ghost use Rattle.seg_manager.specs.Segments.{IsSegment, new_root};
 
 use crate::segment::Segment;
@@ -76,6 +78,10 @@ impl<F: Fit, A: Allocator> Segment<F, A> {
             t < length self.old.types →
             IfOk result (MakesNamed F.allocator self.old self.new picture s.held.index_blocks
             name.now t count) }
+        ensures no_room { (picture : Picture) → IsSegment F.allocator self.old picture →
+            t < length self.old.types → result ≡ Err Code.BadAlloc →
+            FindsNoRoom F.allocator self.old self.new picture
+            (object_asks self.old.window.bytes self.old.types t count name.now) }
     {
         let Ok(count) = u16::try_from(count) else {
             return Err(Code::OutOfRange);
@@ -108,8 +114,11 @@ impl<F: Fit, A: Allocator> Segment<F, A> {
             name.entry.len ≡ length name.entry.bytes.now → 1 ≤ count →
             IsVacant self.old.window.bytes self.old.types picture.names name.entry.bytes.now
             vacant →
-            IfOk result (MakesNamed F.allocator self.old self.new picture s.held.index_blocks
-            name.entry.bytes.now t count) }
+            MatchResult result
+            (MakesNamed F.allocator self.old self.new picture s.held.index_blocks
+            name.entry.bytes.now t count)
+            (λ _. FindsNoRoom F.allocator self.old self.new picture
+            (object_asks self.old.window.bytes self.old.types t count name.entry.bytes.now)) }
     {
         let object = self.new_named(name, t, count)?;
         match vacant.insert(self.heap_mut(), object, count, name.len) {
@@ -212,6 +221,10 @@ impl<F: Fit, A: Allocator> Segment<F, A> {
             t < length self.old.types → root_named picture.names name.now ≡ None →
             IfOk result (MakesNamed F.allocator self.old self.new picture s.held.index_blocks
             name.now t 1) }
+        ensures no_room { (picture : Picture) → IsSegment F.allocator self.old picture →
+            t < length self.old.types → result ≡ Err Code.BadAlloc →
+            FindsNoRoom F.allocator self.old self.new picture
+            (object_asks self.old.window.bytes self.old.types t 1 name.now) }
     {
         match look_up(self.heap(), name) {
             Ok(occupied) => match self.found(occupied.entry(), t) {
@@ -233,6 +246,9 @@ impl<F: Fit, A: Allocator> Segment<F, A> {
         ensures types { self.new.types ≡ self.old.types }
         ensures tells { (picture : Picture) → IsSegment F.allocator self.old picture →
             result ≡ is_ok (found_as t (root_named picture.names name.now)) }
+        ensures loses { (picture : Picture) → (s : IsSegment F.allocator self.old picture) →
+            IsTrue result → LosesNamed F.allocator self.old self.new picture s.held.index_blocks
+            name.now t }
         ensures unchanged { result ≡ false → self.new ≡ self.old }
     {
         let Ok(occupied) = look_up(self.heap(), name) else {
@@ -250,6 +266,11 @@ impl<F: Fit, A: Allocator> Segment<F, A> {
     fn destroy_named(&mut self, found: Found, t: TypeId)
         ensures window { KeepsHost self.old.window self.new.window }
         ensures types { self.new.types ≡ self.old.types }
+        ensures frees { (root : Root) (blocks : List ℕ) →
+            IsUnlisted F.allocator self.old.window.bytes self.old.types root blocks →
+            found ≡ found_of root → root.type ≡ t →
+            GivesBack F.allocator self.old.window.bytes self.new.window.bytes self.old.types
+            blocks }
     {
         let size = self.types().size(t);
         for index in 0..found.count {

@@ -67,4 +67,9 @@ pub mod Placements
 pub mod AddTypes
 pub mod UniqueLaws
 pub mod LooseRoots
+pub mod Failures
 pub mod OneRequest
+pub mod PartLaw
+pub mod RootPaths
+pub mod PathsAfter
+pub mod MoveLaw

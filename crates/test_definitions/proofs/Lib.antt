@@ -5,10 +5,6 @@ pub mod UnsoundImages
 pub mod Parts
 pub mod EveryImage
 pub mod NoRoots
-pub mod PartLaw
-pub mod RootPaths
-pub mod PathsAfter
 pub mod Denials
 pub mod CutBuffers
 pub mod WorkedCalls
-pub mod MoveLaw

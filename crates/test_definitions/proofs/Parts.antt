@@ -1,19 +1,18 @@
 -- Parts of an image by themselves, and the image from its parts.
-use Rattle.std.proofs.Common.{◌≡◌, ℕ, ◌%◌, ◌^◌, ◌≤◌, true, List, [], ◌∷◌, ◌++◌, length, get_or, refl, sym, ap, ◌∙◌, subst, lit<, lit≤, arith, inl, inr}
+use Rattle.std.proofs.Common.{◌≡◌, ℕ, ◌^◌, ◌≤◌, true, List, [], ◌∷◌, ◌++◌, length, get_or, refl, sym, ap, ◌∙◌, subst, lit<, lit≤, arith, inl, inr}
 use Rattle.std.specs.Prelude.{flat_map}
 use Rattle.std.proofs.lemmas.Bool.{cases_lt}
 use Rattle.std.specs.List.{AllByRecursion}
 use Rattle.seg_spec.specs.Bytes.{slice, put, number, number_of, set_number}
 use Rattle.seg_spec.specs.Pointer.{target}
-use Rattle.seg_spec.specs.Types.{Form, Table, size, form_bytes, padded, Spells, IsRight, IsFirstWrong}
+use Rattle.seg_spec.specs.Types.{Form, Table, size, form_bytes, IsRight, IsFirstWrong}
 use Rattle.seg_spec.specs.Heap.{Tile, Fill, AreHeaders, AreApart, heap_start, live, live_of, gaps, gaps_of, HoldsGaps, IsHeap}
 use Rattle.seg_spec.specs.Block.{Kind, IsOwnable}
-use Rattle.seg_spec.specs.Sound.{HasHeader, IsLaidOut, holds_no_root, Picture, IsHeld, IsSound, SameBlocks, times, positions}
+use Rattle.seg_spec.specs.Sound.{HasHeader, IsLaidOut, holds_no_root, IsSound, SameBlocks, times, positions}
 use Rattle.seg_spec.specs.Faulty.{IsImageLength, HasTiles, HoldsAll, HasFront, LacksHeader, LacksType, LacksTiles, LacksGaps, LacksContent, LacksOwner, Failure, Lacks}
 use Rattle.seg_spec.specs.Fixtures.{counter, empty, neighbours, linked, odd_kind, lost_gap, two_owners, no_owner, other_magic, odd_type, empty_picture}
-use Rattle.seg_spec.proofs.BytesLaws.{length-slice}
+use Rattle.seg_spec.proofs.Failures.{right_types}
 use Rattle.seg_spec.proofs.OneTable.{HasTable-one}
-use Rattle.seg_spec.proofs.RightTables.{valid_right}
 use Rattle.seg_spec.proofs.TileLaws.{tiles-unique}
 use Rattle.seg_spec.proofs.LiveLaws.{each_there}
 use Rattle.test_definitions.proofs.Evaluating.{live_evaluated, gaps_evaluated, heap_evaluated, uniques_evaluated, numbers-valid}
@@ -22,11 +21,6 @@ use Rattle.test_definitions.proofs.UnsoundImages.{linked_live, odd_kind_live, no
 
 pub image_length : (bytes : List ℕ) → HasHeader bytes → IsImageLength (length bytes)
 image_length bytes h = record { not_small = h.not_small; not_large = h.not_large; whole_units = h.whole_units }
-
-pub tiles_held : (bytes : List ℕ) (picture : Picture) → IsHeld bytes picture → HasTiles bytes picture.table
-tiles_held bytes picture held =
-    let l = held.laid_out in
-    record { filled = l.heap.filled; headers = l.heap.headers; apart = l.heap.apart; ownable = l.blocks }
 
 pub heap_of_tiles : (bytes : List ℕ) (table : Table) (allocator : ℕ) → HasTiles bytes table → HoldsGaps allocator bytes (gaps bytes) → length bytes ≤ 2 ^ 30 → IsHeap allocator bytes
 heap_of_tiles bytes table allocator t free small = record { filled = t.filled; headers = t.headers; apart = t.apart; free = free; small = small }
@@ -53,33 +47,8 @@ sound_of_all bytes h owners = record {
 
 -- ---- what is wrong excludes a sound image, and what is wrong before
 
--- the table of an image that is in order at the front is that of its picture
-front_table : (bytes : List ℕ) (table : Table) (s : IsSound bytes) → HasFront bytes table → s.picture.table ≡ table
-front_table bytes table s f = HasTable-one bytes 64 s.picture.table table s.held.laid_out.is_table f.is_table s.held.laid_out.types f.types
-
-no_tiles : (bytes : List ℕ) → LacksTiles bytes → IsSound bytes → ⊥
-no_tiles bytes l s = l.2 (subst (HasTiles bytes) (front_table bytes l.0 s l.1) (tiles_held bytes s.picture s.held))
-
 tiles_there : (bytes : List ℕ) (t u : Table) → HasFront bytes t → HasFront bytes u → HasTiles bytes t → HasTiles bytes u
 tiles_there bytes t u f g tiles = subst (HasTiles bytes) (HasTable-one bytes 64 t u f.is_table g.is_table f.types g.types) tiles
-
--- a table in order has no first wrong entry
-pub right_types : (bytes : List ℕ) (table : Table) (k : ℕ) → HasFront bytes table → LacksType bytes k → ⊥
-right_types bytes table k f l =
-    let h = f.header in
-    let long : length (slice bytes 64 512) ≡ 512 = length-slice bytes 64 512 (let small = h.not_small in omega arith) in
-    let spelled : Spells (slice bytes 64 512) table = f.types ∙ ap (λ n. padded n (flat_map form_bytes table)) (sym long) in
-    valid_right (slice bytes 64 512) table f.is_table spelled (ap (λ n. n % 16) long) (omega arith) k l.1.wrong
-
-front_held : (bytes : List ℕ) (s : IsSound bytes) → HasFront bytes s.picture.table
-front_held bytes s = record { header = s.held.laid_out.header; types = s.held.laid_out.types; is_table = s.held.laid_out.is_table }
-
-pub unsound : (bytes : List ℕ) (failure : Failure) → Lacks bytes failure → IsSound bytes → ⊥
-unsound bytes Failure.bad_header l s = l s.held.laid_out.header
-unsound bytes (Failure.bad_type k) l s = right_types bytes s.picture.table k (front_held bytes s) l
-unsound bytes Failure.bad_tiles l s = no_tiles bytes l s
-unsound bytes Failure.bad_gaps l s = l.3 s.held.laid_out.heap.free
-unsound bytes Failure.bad_content l s = l.4 s
 
 one_entry : (bytes : List ℕ) (j k : ℕ) → IsFirstWrong bytes j → IsFirstWrong bytes k → j ≡ k
 one_entry bytes j k f g = elim (cases_lt j k) [

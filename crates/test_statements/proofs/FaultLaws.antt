@@ -6,7 +6,7 @@ use Rattle.seg_spec.specs.Sound.{IsSound}
 use Rattle.seg_spec.specs.Faulty.{Failure}
 use Rattle.seg_spec.specs.Fixtures.{counter, counter_picture}
 use Rattle.test_definitions.proofs.OnePicture.{Held-one}
-use Rattle.test_definitions.proofs.Parts.{unsound}
+use Rattle.seg_spec.proofs.Failures.{unsound}
 use Rattle.test_definitions.proofs.SoundImages.{counter_held, counter_sound}
 use Rattle.seg_raw.specs.declared.fault.Fault.{Fault}
 use Rattle.seg_raw.specs.declared.fault.Fault.TheVariants as fault

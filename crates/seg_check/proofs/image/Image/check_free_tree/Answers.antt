@@ -6,7 +6,8 @@ use Rattle.seg_spec.specs.Heap.{link_at}
 use Rattle.seg_spec.specs.Sound.{times}
 use Rattle.seg_check.specs.declared.walk.Visit.{Visit}
 use Rattle.seg_check.specs.declared.walk.Visit.TheVariants.{Enter, Pass}
-use Rattle.seg_check.specs.Walks.{Proceeds, IsSteady, Hangs}
+use Rattle.seg_check.specs.Walks.{Proceeds, IsSteady}
+use Rattle.seg_check.proofs.Followed.{Followed, follow_start}
 use Rattle.seg_check.proofs.FreeWalk.{Passed, entered, passed}
 use Rattle.seg_check.proofs.image.Image.check_free_tree.Goals as goal
 
@@ -18,9 +19,10 @@ pub loop-visit-init : goal.loop-visit-init
 loop-visit-init g c =
     let w = c.walk-walk.ensures in
     let start : Passed c.args.self.now.w.now.bytes c.args.claims.now c.walk-walk.result.stage c.walk-walk.result.turns = record {
-      steady = w.steady;
       nodes = [];
-      whole = λ height rest k. subst (λ n. Hangs c.args.self.now.w.now.bytes 24 n height rest) c.free_count.ensures ((w.starts height rest).0 k);
+      entered = [];
+      followed = subst (λ n. Followed c.args.self.now.w.now.bytes 24 n c.walk-walk.result.stage c.walk-walk.result.turns [] []) c.free_count.ensures
+          (follow_start c.args.self.now.w.now.bytes 24 _ c.walk-walk.result.stage c.walk-walk.result.turns w.steady w.turns w.starts);
       free = tt;
       unlinked = tt;
     } in
@@ -35,13 +37,13 @@ loop-visit-preserved-in-Pass g c =
     let same = c.loop-visit.invariant.same in
     let window : new.w.now ≡ old.w.now = c.next.ensures.window in
     let is : c.in_ok-visit.field-0 ≡ Some (Pass c.in-Pass.node) = c.in-Some.is ∙ ap Some c.in-Pass.is in
-    let step : Proceeds bytes old.stage new.stage (Some (Pass c.in-Pass.node)) = subst (Proceeds bytes old.stage new.stage) is (c.in_ok-visit.ensures.goes_on p.steady) in
-    let steady : IsSteady new.w.now.bytes new.stage new.turns = subst (λ (o : Option Visit). IfSome o (λ _. IsSteady new.w.now.bytes new.stage new.turns)) is (c.in_ok-visit.ensures.steady p.steady) in
+    let step : Proceeds bytes old.stage new.stage (Some (Pass c.in-Pass.node)) = subst (Proceeds bytes old.stage new.stage) is (c.in_ok-visit.ensures.goes_on p.followed.steady) in
+    let steady : IsSteady new.w.now.bytes new.stage new.turns = subst (λ (o : Option Visit). IfSome o (λ _. IsSteady new.w.now.bytes new.stage new.turns)) is (c.in_ok-visit.ensures.steady p.followed.steady) in
     let block : c.block_of-block.result ≡ c.in-Pass.node - 16 = c.block_of-block.ensures in
     let free : 1 ≤ times (c.in-Pass.node - 16) c.args.claims.now.free = subst (λ b. 1 ≤ times b c.args.claims.now.free) block (c.is_free.ensures.0 c.if-not-is_free.false) in
     let link : link_at bytes (c.in-Pass.node - 16) ≡ None = ap (λ (q : Placement). link_at q.bytes (c.in-Pass.node - 16)) same
     ∙ ap (link_at c.args.self.now.w.now.bytes) (sym block) ∙ sym c.link.ensures ∙ not_some c.link.result c.if-is_some.ensures in
-    let now = passed bytes c.args.claims.now old.stage old.turns p new.stage new.turns c.in-Pass.node (subst (λ (q : Placement). IsSteady q.bytes new.stage new.turns) window steady) (λ height rest. (step height rest).0.1) free link in
+    let now = passed bytes c.args.claims.now old.stage old.turns p new.stage new.turns (subst (λ (q : Placement). IsSteady q.bytes new.stage new.turns) window steady) c.in_ok-visit.ensures.fewer c.in-Pass.node step free link in
     record { same = window ∙ same; passed = subst (λ (q : Placement). Passed q.bytes c.args.claims.now new.stage new.turns) (sym window) now }
 
 pub loop-visit-preserved : goal.loop-visit-preserved
@@ -53,7 +55,7 @@ loop-visit-preserved g c =
     let same = c.loop-visit.invariant.same in
     let window : new.w.now ≡ old.w.now = c.next.ensures.window in
     let is : c.in_ok-visit.field-0 ≡ Some (Enter c.in_default-visit.field-0) = c.in-Some.is ∙ ap Some c.in_default-visit.is in
-    let step : Proceeds bytes old.stage new.stage (Some (Enter c.in_default-visit.field-0)) = subst (Proceeds bytes old.stage new.stage) is (c.in_ok-visit.ensures.goes_on p.steady) in
-    let steady : IsSteady new.w.now.bytes new.stage new.turns = subst (λ (o : Option Visit). IfSome o (λ _. IsSteady new.w.now.bytes new.stage new.turns)) is (c.in_ok-visit.ensures.steady p.steady) in
-    let now = entered bytes c.args.claims.now old.stage old.turns p new.stage new.turns (subst (λ (q : Placement). IsSteady q.bytes new.stage new.turns) window steady) (λ height rest. (step.1 height rest).1) in
+    let step : Proceeds bytes old.stage new.stage (Some (Enter c.in_default-visit.field-0)) = subst (Proceeds bytes old.stage new.stage) is (c.in_ok-visit.ensures.goes_on p.followed.steady) in
+    let steady : IsSteady new.w.now.bytes new.stage new.turns = subst (λ (o : Option Visit). IfSome o (λ _. IsSteady new.w.now.bytes new.stage new.turns)) is (c.in_ok-visit.ensures.steady p.followed.steady) in
+    let now = entered bytes c.args.claims.now old.stage old.turns p new.stage new.turns (subst (λ (q : Placement). IsSteady q.bytes new.stage new.turns) window steady) c.in_ok-visit.ensures.fewer c.in_default-visit.field-0 step in
     record { same = window ∙ same; passed = subst (λ (q : Placement). Passed q.bytes c.args.claims.now new.stage new.turns) (sym window) now }

@@ -10,7 +10,7 @@ use Rattle.seg_check.specs.Claiming.{AreLive, has_turns}
 use Rattle.seg_check.proofs.StepLaws.{steps_refused}
 use Rattle.seg_check.proofs.OpenLaws.{ready_live}
 use Rattle.seg_check.proofs.BufferLaws.{blocks_none, blocks_some, blocks_names}
-use Rattle.seg_check.proofs.ListLaws.{walked_first, walked_more, walked_ready, ring_advance, ring_nothing, first_can, ring_closed, next_can, owner_claimed, owner_can, first_low, next_low}
+use Rattle.seg_check.proofs.ListLaws.{walked_first, walked_more, walked_live, ring_advance, ring_nothing, first_can, ring_closed, next_can, owner_claimed, owner_can, first_low, next_low}
 use Rattle.seg_check.proofs.image.Image.check_list.Goals as goal
 use Rattle.seg_check.proofs.image.Image.check_list.Goals.{then-is_linked, else-is_linked, then-eq, else-eq, else-is_linked-2-via-then-is_linked-2+else-is_closed, else-is_linked-2-via-else-is_linked-2}
 
@@ -57,7 +57,7 @@ loop-preserved g c = record {
       let o = c.owner-owner.ensures in
       let is = by.content_of in
       let w = c.loop.invariant.walked T U by ready in
-      let live : AreLive bytes mid.unclaimed = (λ h some. (ready.blocks h (omega (arith, walked_ready bytes table old ready c.args.cell T U by.form_is mid first last n c.loop.is_linked w h))).0) in
+      let live : AreLive bytes mid.unclaimed = walked_live bytes table old ready c.args.cell T U by.form_is mid first last n c.loop.is_linked w in
       let k = owner_claimed bytes table old ready c.args.cell T U by.form_is c.owner-owner.result.bytes.bytes.now (word_of c.owner-owner.result.tag) c.owner-owner.result.entry_size c.owner-owner.result.has_turns
       o.bytes (ap word_of o.tag ∙ is.tag_is) (o.entry_size ∙ is.entry_is.size_is) (o.has_turns ∙ ap (has_turns table) is.entry_is.held_is) mid new last next
       (c.in_ok-next.ensures.claimed (subst (λ bs. AreLive bs mid.unclaimed) (sym o.bytes) live)) in
@@ -117,7 +117,7 @@ returns-in_err-next-clause-steps g c = λ T U by ready.
     let same : failed.0 ≡ e = failed.2 in
     let n_is = blocks_some at (count_at bytes at) c.in-Some.count (target bytes at) (sym c.counted_blocks.ensures ∙ c.in_ok-count.was ∙ ap Ok c.in-Some.is) in
     let names = subst (λ bs. target bs at ≡ Some first) o.bytes (c.in_ok-first.ensures.claimed (subst (λ bs. AreLive bs old.unclaimed) (sym o.bytes) (ready_live bytes table old ready))).names in
-    let live : AreLive bytes mid.unclaimed = (λ h some. (ready.blocks h (omega (arith, walked_ready bytes table old ready at T U by.form_is mid first c.loop.last c.loop.counter c.loop.is_linked w h))).0) in
+    let live : AreLive bytes mid.unclaimed = walked_live bytes table old ready at T U by.form_is mid first c.loop.last c.loop.counter c.loop.is_linked w in
     steps_refused bytes table old c.claim-in-loop.new.claims (object_at at T ∷ []) c.from_residual-in_err-next.result e _ (failed.1 ∙ ap Err same)
     (λ r. owner_can bytes table old ready at T U by.form_is c.owner-owner.result.bytes.bytes.now (word_of c.owner-owner.result.tag) c.owner-owner.result.entry_size
     o.bytes (ap word_of o.tag ∙ is.tag_is) (o.entry_size ∙ is.entry_is.size_is) mid c.loop.last

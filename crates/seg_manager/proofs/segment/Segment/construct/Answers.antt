@@ -4,7 +4,7 @@ use Rattle.seg_spec.specs.Index.{IsName, root_named}
 use Rattle.seg_value.specs.Stored.{Stored}
 use Rattle.seg_index.specs.Lists.{IsVacant}
 use Rattle.seg_manager.proofs.NamedReads.{finds_in}
-use Rattle.seg_manager.proofs.NamedMaking.{is_there, made_named, made_as}
+use Rattle.seg_manager.proofs.NamedMaking.{is_there, made_named, made_as, lacks_as}
 use Rattle.seg_manager.proofs.segment.Segment.construct.Goals as goal
 
 pub returns-in-Ok-look_up-clause-tells : goal.returns-in-Ok-look_up-clause-tells
@@ -32,3 +32,12 @@ returns-in-Err-clause-makes g c = λ picture is small.
     made_as g.F.Fit.allocator c.args.self.now c.construct_at.new.self picture is.held.index_blocks c.args.t c.construct_at.result c.args.name.now c.in-Some.name.bytes.now c.args.count c.in-Ok.count name.1 c.in-Ok.ensures.1
     (c.construct_at.ensures.makes picture is small (subst IsName (sym name.1) name.0) (name.2 ∙ ap length (sym name.1)) some
     (subst (λ (s : Stored). IsVacant s.window.bytes s.types picture.names c.in-Some.name.bytes.now c.in-Err.vacant) c.heap.ensures vacant))
+
+pub returns-in-Err-clause-no_room : goal.returns-in-Err-clause-no_room
+returns-in-Err-clause-no_room g c = λ picture is small e.
+    let name = c.in-Some.ensures.name in
+    let vacant = MatchResult-at_err _ _ _ c.in-Err.is (c.look_up.ensures picture.names is.held.index_blocks (finds_in g.F.Fit.allocator c.args.self.now picture is c.heap.result.now c.heap.ensures)) in
+    let some : 1 ≤ c.in-Ok.count = omega (arith, c.if-count-eq0.false) in
+    lacks_as g.F.Fit.allocator c.args.self.now c.construct_at.new.self picture is.held.index_blocks c.args.t c.construct_at.result c.args.name.now c.in-Some.name.bytes.now c.args.count c.in-Ok.count name.1 c.in-Ok.ensures.1
+    (c.construct_at.ensures.makes picture is small (subst IsName (sym name.1) name.0) (name.2 ∙ ap length (sym name.1)) some
+    (subst (λ (s : Stored). IsVacant s.window.bytes s.types picture.names c.in-Some.name.bytes.now c.in-Err.vacant) c.heap.ensures vacant)) e

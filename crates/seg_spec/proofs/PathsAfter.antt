@@ -13,7 +13,7 @@ use Rattle.seg_spec.specs.Roots.{Listed, roots_in, roots_before, roots_after, it
 use Rattle.seg_spec.specs.Shrinking.{KeepsPathsInside, ShrinksPlace}
 use Rattle.seg_spec.proofs.OneReading.{Opens-one}
 use Rattle.seg_spec.proofs.Paths.{Leads-append}
-use Rattle.test_definitions.proofs.RootPaths.{place_paths}
+use Rattle.seg_spec.proofs.RootPaths.{place_paths}
 
 -- a path from the part that a selector names
 same_part : (bytes : List ℕ) (table : Table) (form other_form : Form) (opened other : Opened) (place : Place) (s : Selector) (i k : ℕ) (part other_part : Place) → form ≡ other_form → Opens bytes table place form opened
@@ -33,7 +33,7 @@ Leads-after bytes table {place = place} {target = target} {more = more} (into {s
     let same = same_part bytes table form other_form opened other place s i k part other_part same_form o p index index' part_is other_is in
     Leads-after bytes table rest (subst (λ (x : Place). Leads bytes table x (path ++ more) target) same l)
 
-not_after_itself : (path : List Selector) → GoesOnAfter path path → ⊥
+pub not_after_itself : (path : List Selector) → GoesOnAfter path path → ⊥
 not_after_itself path g =
     let n : length path ≡ length (path ++ g.0 ∷ g.1) = ap length g.2 in
     absurd (omega (arith, length-append path (g.0 ∷ g.1)))

@@ -13,7 +13,7 @@ use Rattle.seg_spec.proofs.Frame.{each_left, each_right, payload-same, places-sa
 use Rattle.seg_spec.proofs.Leading.{Leads-each}
 use Rattle.seg_spec.proofs.LiveLaws.{each_there}
 use Rattle.seg_spec.proofs.OneReading.{Holds-one}
-use Rattle.test_definitions.proofs.PartLaw.{outside, around}
+use Rattle.seg_spec.proofs.PartLaw.{outside, around}
 use Rattle.seg_spec.proofs.RootPart.{items_nth, part_comes_apart}
 use Rattle.seg_spec.proofs.RootLaws.{root_comes_apart}
 use Rattle.seg_spec.proofs.SliceLaws.{IsSame-part}

@@ -1,0 +1,5 @@
+pub mod FirstRoots
+pub mod OwnedRoots
+pub mod RootPuts
+pub mod Placed
+pub mod Giving

@@ -1,0 +1,3 @@
+pub mod Writes
+pub mod Shows
+pub mod Acting

@@ -1,0 +1,62 @@
+-- A named object that goes.
+--     IsUnlisted allocator bytes table root blocks
+--                                            an object that no index lists owns these live blocks
+--     GivesBack allocator old new table gives
+--                                            these blocks were given back, all others are kept
+--     LosesNamed ..                          the object of a name and a type goes, with its entry
+use Rattle.std.specs.Prelude.{◌≡◌, ℕ, ◌+◌, ◌≤◌, List, ◌∷◌, ◌++◌, length, Some}
+use Rattle.std.specs.List.{AllByRecursion}
+use Rattle.seg_spec.specs.Bytes.{word}
+use Rattle.seg_spec.specs.Header.{allocator_word, index_kind_word, KeepsFront, KeepsBack}
+use Rattle.seg_spec.specs.Types.{Table, IsTable}
+use Rattle.seg_spec.specs.Heap.{IsHeap, live}
+use Rattle.seg_spec.specs.Block.{IsOwnable, KeepsBlock}
+use Rattle.seg_spec.specs.Index.{Root, root_named}
+use Rattle.seg_spec.specs.Sound.{Picture, HoldsRoot, times, positions}
+use Rattle.seg_spec.specs.Roots.{Listed, with_roots}
+use Rattle.seg_spec.specs.Demand.{after_gives}
+use Rattle.seg_spec.specs.Spending.{EntryBlocks, killed}
+use Rattle.seg_value.specs.Stored.{Stored}
+use Rattle.seg_manager.specs.Segments.{Becomes}
+
+-- an object that no index lists: the root holds its values in these live blocks, each once
+pub record IsUnlisted (allocator : ℕ) (bytes : List ℕ) (table : Table) (root : Root)
+    (blocks : List ℕ) : Type 0 where
+  pub heap : IsHeap allocator bytes
+  pub allocator_is : word bytes allocator_word ≡ allocator
+  pub is_table : IsTable table
+  pub ownable : AllByRecursion (λ b. IsOwnable bytes table b.at) (live bytes)
+  pub holds_it : HoldsRoot bytes table root blocks
+  pub owned : (h : ℕ) → times h blocks ≤ times h (positions (live bytes))
+
+-- these blocks were given back, and each other live block is kept
+pub record GivesBack (allocator : ℕ) (old new : List ℕ) (table : Table) (gives : List ℕ)
+    : Type 0 where
+  pub length_kept : length new ≡ length old
+  pub front_kept : KeepsFront old new
+  pub back_kept : KeepsBack old new
+  pub heap : IsHeap allocator new
+  pub ownable : AllByRecursion (λ b. IsOwnable new table b.at) (live new)
+  pub live_is : live new ≡ after_gives (live old) gives
+  pub live_are : (h : ℕ) →
+      times h (positions (live new)) + times h gives ≡ times h (positions (live old))
+  pub kept : (h : ℕ) → 1 ≤ times h (positions (live old)) → times h gives ≡ 0 →
+      KeepsBlock old new h
+
+-- the object of the name and type goes, with its blocks and those that went with its entry; the
+-- others are where they were, and each live block that isn't the index's is kept
+pub record LosesNamed (allocator : ℕ) (old new : Stored) (picture : Picture)
+    (index_blocks name : List ℕ) (T : ℕ) : Type 0 where
+  pub before : List Root
+  pub root : Root
+  pub after : List Root
+  pub names_are : picture.names ≡ before ++ root ∷ after
+  pub root_is : killed (root_named picture.names name) T ≡ Some root
+  pub objects : List ℕ
+  pub entries : List ℕ
+  pub holds_it : HoldsRoot old.window.bytes old.types root objects
+  pub entry : EntryBlocks (word old.window.bytes index_kind_word) old.window.bytes index_blocks
+      root entries
+  pub becomes : Becomes allocator old new
+      (with_roots picture Listed.by_name (before ++ after)) (objects ++ index_blocks)
+  pub live_is : live new.window.bytes ≡ after_gives (live old.window.bytes) (objects ++ entries)
