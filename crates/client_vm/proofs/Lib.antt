@@ -1,5 +1,4 @@
 pub mod MovesLaws
 pub mod ReportLaws
 pub mod TextsLaws
-pub mod Failures
 pub mod Refusing

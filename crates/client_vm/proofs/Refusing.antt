@@ -1,6 +1,6 @@
 -- Why no client runs: the faults of an image and of clients as the reasons of the definitions.
-use Rattle.std.proofs.Common.{◌≡◌, ℕ, ◌+◌, ◌-◌, ◌≤◌, List, ◌++◌, length, Option, Some, None, sym, ap, ◌∙◌, subst, inl, inr, arith, length-append}
-use Rattle.std.specs.Prelude.{replicate}
+use Rattle.std.proofs.Common.{◌≡◌, ℕ, ◌+◌, ◌-◌, ◌≤◌, List, ◌++◌, length, Option, Some, None, Result, Ok, Err, sym, ap, ◌∙◌, subst, inl, inr, arith, length-append}
+use Rattle.std.specs.Prelude.{replicate, IfErr, OnOk}
 use Rattle.std.proofs.lemmas.List.{length-replicate}
 use Rattle.seg_spec.specs.Bytes.{word, slice, IsPlaced}
 use Rattle.seg_spec.specs.Window.{Placement, region_of, IsPlace}
@@ -20,9 +20,9 @@ use Rattle.client_spec.specs.Outcome.{CanMove, IsTurnOf}
 use Rattle.client_verify.specs.Refusals.{IsRefused}
 use Rattle.client_vm.specs.declared.report.Refused.{Refused}
 use Rattle.client_vm.specs.Texts.{IsWrongAt, IsWrongBy}
-use Rattle.client_vm.specs.Admitted.{LiesIn, AreAcceptedOn, IsWrongFor}
-use Rattle.client_vm.specs.Outcomes.{IsBadImage, IsBadClient, IsFault, IsFaultOfCall, IsFaultOfClient}
-use Rattle.client_vm.proofs.Failures.{unsound}
+use Rattle.client_vm.specs.Admitted.{LiesIn, AreAcceptedOn, IsAdmitted, IsWrongFor, IsWrong}
+use Rattle.client_vm.specs.Outcomes.{IsBadImage, IsBadClient, IsFault, IsFaultOfCall, IsFaultOfClient, IsRefusedFor}
+use Rattle.seg_spec.proofs.Failures.{unsound}
 
 refused_client : (table : Table) (client : Client) (f : Fault) → IsRefused table client f → IsVerified table client → ⊥
 refused_client table client (fault.TypeMismatch k) h v = no_agreement table client.types k h v.agree
@@ -118,3 +118,18 @@ among_zeros image base room place =
       subst (λ n. IsPlace n base (length image)) (sym long) place,
       ap (λ b. slice ((replicate base 0 ++ image) ++ zeros) b (length image)) (sym (length-replicate base 0)) ∙ region-placed (replicate base 0) image zeros,
     )
+
+-- ---- what calls return
+
+-- an error that is passed on
+pub err_is : {A E : Type 0} (result : Result A E) (e : E) (P : E → Type 0) → P e → (x : E) × (result ≡ Err x) × (x ≡ e) → IfErr result P
+err_is {A = A} {E = E} result e P p r = subst (λ (x : Result A E). IfErr x P) (sym r.1) (subst P (sym r.2) p)
+
+module _ {A : Type 0} (image : List ℕ) (texts : List (List ℕ)) (room base : ℕ) (moves : List Move) (can : CanMove image room base moves) where
+  pub refused_for : (result : Result A Refused) → IfErr result (λ refused. IsWrong image texts refused) → IfErr result (λ refused. IsRefusedFor image texts room base moves refused)
+  refused_for (Ok a) h = tt
+  refused_for (Err refused) h = why image texts room base moves can refused.client refused.fault h
+
+  pub admitted : (result : Result A Refused) → OnOk result (AreAcceptedOn image texts) → OnOk result (IsAdmitted image texts room base moves)
+  admitted (Ok a) h = record { can_move = can; accepted = h }
+  admitted (Err refused) h = tt
