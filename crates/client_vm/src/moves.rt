@@ -1,6 +1,7 @@
-ghost use Rattle.std.specs.Prelude.{◌≡◌, ◌+◌, ◌%◌, ◌^◌, ◌<◌, ◌≤◌, ◌↔◌, length, IsTrue, MatchOption};
+ghost use Rattle.std.specs.Prelude.{◌≡◌, ℕ, ◌+◌, ◌-◌, ◌%◌, ◌^◌, ◌<◌, ◌≤◌, ◌↔◌, length, IsTrue, MatchOption};
 ghost use Rattle.seg_spec.specs.Window.{region_of, IsPlace};
 ghost use Rattle.client_spec.specs.Clients.{AreMoves, IsFirstBadMove};
+ghost use Rattle.client_stages.specs.Moving.{first_step, MakesNext, MakesDue, Waits};
 ghost use Rattle.client_vm.specs.Moves.{moves_of};
 
 use crate::report::Move;
@@ -51,15 +52,21 @@ pub(crate) struct Moves<'a> {
 }
 
 impl<'a> Moves<'a> {
-    pub(crate) fn new(moves: &'a [Move]) -> Moves<'a> {
+    pub(crate) fn new(moves: &'a [Move]) -> Moves<'a>
+        ensures { result.rest.now ≡ moves.now }
+    {
         Moves { rest: moves }
     }
 
     /// How many steps come before the next move, and more than any run has where there is no move.
-    fn due(&self) -> u64 {
+    #[tactic(auto, using(crate::proofs::MovesLaws::first_is))]
+    fn due(&self) -> u64
+        ensures { 0 < first_step (moves_of self.now.rest.now) →
+            result ≡ first_step (moves_of self.now.rest.now) - 1 }
+    {
         match self.rest.first() {
-            Some(next) => next.step.wrapping_sub(1),
-            None => u64::MAX,
+            Some(next) if next.step > 0 => next.step - 1,
+            _ => u64::MAX,
         }
     }
 
@@ -71,7 +78,13 @@ impl<'a> Moves<'a> {
         steps: u64,
         is_step: bool,
         w: &mut Window<A>,
-    ) -> u64 {
+    ) -> u64
+        ensures made { (room len : ℕ) → AreMoves room len steps (moves_of self.old.rest.now) →
+            MakesDue (moves_of self.old.rest.now) steps is_step w.old
+            (moves_of self.new.rest.now) w.new }
+        ensures waits { (room len : ℕ) → AreMoves room len steps (moves_of self.old.rest.now) →
+            Waits steps (moves_of self.new.rest.now) result }
+    {
         if steps == self.due() && is_step {
             self.make(w);
         }
@@ -79,7 +92,9 @@ impl<'a> Moves<'a> {
     }
 
     /// Makes the next move.
-    fn make<A: Allocator>(&mut self, w: &mut Window<A>) {
+    fn make<A: Allocator>(&mut self, w: &mut Window<A>)
+        ensures { MakesNext (moves_of self.old.rest.now) w.old (moves_of self.new.rest.now) w.new }
+    {
         if let Some((next, rest)) = self.rest.split_first() {
             let _ = w.relocate(next.base);
             self.rest = rest;

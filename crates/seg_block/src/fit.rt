@@ -24,7 +24,8 @@ pub trait Fit {
 
     /// What the word [`ALLOCATOR`](seg_ptr::header::ALLOCATOR) of an image holds for this allocator.
     fn word() -> u32
-        ensures { result ≡ allocator };
+        ensures value { result ≡ allocator }
+        ensures small { result ≤ 1 };
 
     /// How many bytes at the start of a free block's payload the allocator uses.
     fn free_words() -> u32

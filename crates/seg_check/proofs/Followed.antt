@@ -4,7 +4,6 @@ use Rattle.std.specs.Prelude.{IfOk, IfSome}
 use Rattle.std.proofs.lemmas.Bool.{cases_lt}
 use Rattle.std.proofs.lemmas.List.{append_assoc, append-nil}
 use Rattle.std.proofs.Math.Pow.{pow_mono}
-use Rattle.seg_spec.specs.Pointer.{target}
 use Rattle.seg_spec.specs.Shapes.{Tree, leaf, fork, nodes_of}
 use Rattle.seg_spec.specs.Sound.{times, SameBlocks}
 use Rattle.seg_spec.specs.Window.{Placement}

@@ -22,5 +22,6 @@ pub mod ListLaws
 pub mod WalkLaws
 pub mod WalkSteady
 pub mod Followed
+pub mod GapLaws
 pub mod FreeWalk
 pub mod MapLaws

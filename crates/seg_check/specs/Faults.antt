@@ -2,15 +2,15 @@
 --     IsImageOf bytes table                    a sound image with these types
 --     IsFaultOf bytes fault                    what is wrong, where all that is looked at before it is right
 --     IsFaultOfOpening allocator bytes fault   or the image names another allocator
---     HasList bytes                            where the image is one of sequential fit, its list holds the gaps
---     FitsHeap bytes fault                     what of it is about the header, the types, the tiles and this list
+--     HasGaps bytes                            the free structure of the image's allocator holds the gaps
+--     FitsHeap bytes fault                     what of it is about the header, the types, the tiles and the gaps
 --     FitsHeapForOpening allocator bytes fault
 use Rattle.std.specs.Prelude.{◌≡◌, ◌≢◌, ◌⊎◌, ⊤, ℕ, List, []}
 use Rattle.seg_spec.specs.Bytes.{word}
 use Rattle.seg_spec.specs.Types.{Table}
 use Rattle.seg_spec.specs.Sound.{Picture, IsHeld, IsSound}
 use Rattle.seg_spec.specs.Header.{allocator_word}
-use Rattle.seg_spec.specs.Heap.{IsFreeList, gaps}
+use Rattle.seg_spec.specs.Heap.{HoldsGaps, gaps}
 use Rattle.seg_spec.specs.Faulty.{HasFront, HasTiles, LacksHeader, LacksType, LacksTiles, LacksGaps, LacksContent, LacksOwner}
 use Rattle.seg_raw.specs.declared.fault.Fault.{Fault}
 use Rattle.seg_raw.specs.declared.fault.Fault.TheVariants as fault
@@ -56,19 +56,14 @@ IsFaultOfOpening allocator bytes f =
 abbrev pub IsFrontRight : List ℕ → Type 0
 IsFrontRight bytes = (table : Table) × HasFront bytes table
 
--- where the image is one of sequential fit, its list holds the gaps
-abbrev pub HasList : List ℕ → Type 0
-HasList bytes = word bytes allocator_word ≡ 0 → IsFreeList bytes (gaps bytes)
+-- the free structure of the image's allocator holds the gaps
+abbrev pub HasGaps : List ℕ → Type 0
+HasGaps bytes = HoldsGaps (word bytes allocator_word) bytes (gaps bytes)
 
--- the front and the tiles are in order, and the list
+-- the front, the tiles and the free structure are in order
 abbrev pub IsHeapRight : List ℕ → Type 0
 IsHeapRight bytes =
-    (table : Table) × HasFront bytes table × HasTiles bytes table × HasList bytes
-
--- the front and the tiles are in order, and where the image is one of sequential fit its list is not
-abbrev pub LacksList : List ℕ → Type 0
-LacksList bytes = (table : Table) × HasFront bytes table × HasTiles bytes table ×
-    (word bytes allocator_word ≡ 0 → IsFreeList bytes (gaps bytes) → ⊥)
+    (table : Table) × HasFront bytes table × HasTiles bytes table × HasGaps bytes
 
 -- What is wrong with these parts where the bytes get this fault, and all before it is right. Memory is
 -- asked for, and the heap looked at, only where the front is right.
@@ -77,7 +72,7 @@ FitsHeap bytes fault.BadHeader = LacksHeader bytes
 FitsHeap bytes (fault.BadType k) = LacksType bytes k
 FitsHeap bytes fault.Memory = IsFrontRight bytes
 FitsHeap bytes (fault.BadBlock at) = LacksTiles bytes
-FitsHeap bytes (fault.BadFree at) = LacksList bytes
+FitsHeap bytes (fault.BadFree at) = LacksGaps bytes
 FitsHeap bytes (fault.BadIndex at) = IsHeapRight bytes
 FitsHeap bytes (fault.BadPointer at) = IsHeapRight bytes
 FitsHeap bytes (fault.DoubleOwner at) = IsHeapRight bytes

@@ -2,7 +2,7 @@ ghost use Rattle.std.specs.Prelude.{IfErr, IfOk, OnOk};
 ghost use Rattle.seg_spec.specs.Types.{IsTable, HasTable};
 ghost use Rattle.seg_spec.specs.Sound.{HasHeader};
 ghost use Rattle.seg_spec.specs.Faulty.{HasFront, HasTiles};
-ghost use Rattle.seg_check.specs.Faults.{FitsHeap, HasList};
+ghost use Rattle.seg_check.specs.Faults.{FitsHeap, HasGaps};
 
 use crate::claims::Claims;
 use crate::header::check_header;
@@ -19,7 +19,7 @@ use std::alloc::Allocator;
 pub fn check<A: Allocator, B: Allocator>(alloc: B, w: &Window<A>) -> Result<TypeTable, Fault>
     ensures header { OnOk result (HasHeader w.now.bytes) }
     ensures types { IfOk result (λ types. IsTable types × HasTable w.now.bytes 64 types) }
-    ensures heap { IfOk result (λ types. HasTiles w.now.bytes types × HasList w.now.bytes) }
+    ensures heap { IfOk result (λ types. HasTiles w.now.bytes types × HasGaps w.now.bytes) }
     ensures fault { IfErr result (FitsHeap w.now.bytes) }
 {
     check_header(w)?;
@@ -35,7 +35,7 @@ fn check_heap<A: Allocator, B: Allocator + Copy>(
     types: &TypeTable,
 ) -> Result<(), Fault>
     ensures heap { HasFront w.now.bytes types.now
-        → OnOk result (HasTiles w.now.bytes types.now × HasList w.now.bytes) }
+        → OnOk result (HasTiles w.now.bytes types.now × HasGaps w.now.bytes) }
     ensures fault { HasFront w.now.bytes types.now → IfErr result (FitsHeap w.now.bytes) }
 {
     let mut claims = Claims::new(alloc, w)?;

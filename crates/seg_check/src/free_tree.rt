@@ -1,5 +1,9 @@
-ghost use Rattle.std.specs.Prelude.{OnOk};
-ghost use Rattle.seg_check.specs.Walks.{HangsFree};
+ghost use Rattle.std.specs.Prelude.{◌≡◌, ◌↔◌, IsOk};
+ghost use Rattle.seg_spec.specs.Types.{Table};
+ghost use Rattle.seg_spec.specs.Heap.{IsFreeTree, gaps};
+ghost use Rattle.seg_spec.specs.Faulty.{HasTiles};
+ghost use Rattle.seg_check.specs.Marks.{KnowsTiles};
+ghost use Rattle.seg_check.specs.Walks.{is_above};
 
 use crate::claims::Claims;
 use crate::image::Image;
@@ -7,7 +11,6 @@ use crate::walk::{Tree, Visit};
 use seg_block::{block_of, link, units};
 use seg_ptr::{Window, header};
 use std::alloc::Allocator;
-use std::cmp::Ordering;
 
 /// The pointer to the root.
 const FREE: u32 = header::FREE as u32;
@@ -16,7 +19,9 @@ impl<A: Allocator> Image<'_, A> {
     /// The tree of best fit: all free blocks, in order of their units, then of their positions. None has a link. `Err` has
     /// the position of the pointer to the root.
     pub(crate) fn check_free_tree<B: Allocator>(&self, claims: &Claims<B>) -> Result<(), u32>
-        ensures { OnOk result (HangsFree self.now.w.now.bytes claims.now) }
+        ensures { (table : Table) → HasTiles self.now.w.now.bytes table
+            → KnowsTiles self.now.w.now.bytes claims.now
+            → IsOk result ↔ IsFreeTree self.now.w.now.bytes (gaps self.now.w.now.bytes) }
     {
         let tree = Tree {
             root: FREE,
@@ -41,10 +46,12 @@ impl<A: Allocator> Image<'_, A> {
 }
 
 /// Whether a free block is above the one before it in the tree, if there is one.
-fn is_above<A: Allocator>(w: &Window<A>, before: Option<u32>, block: u32) -> bool {
+fn is_above<A: Allocator>(w: &Window<A>, before: Option<u32>, block: u32) -> bool
+    ensures { result ≡ is_above w.now.bytes before block }
+{
     let Some(before) = before else {
         return true;
     };
-    let order = units(w, before).cmp(&units(w, block));
-    order.then(before.cmp(&block)) == Ordering::Less
+    let (smaller, larger) = (units(w, before), units(w, block));
+    smaller < larger || (smaller == larger && before < block)
 }

@@ -1,7 +1,9 @@
 ghost use Rattle.std.specs.Prelude.{◌≡◌, ◌↔◌, IsOk};
 ghost use Rattle.seg_spec.specs.Bytes.{word};
 ghost use Rattle.seg_spec.specs.Header.{allocator_word};
-ghost use Rattle.seg_spec.specs.Heap.{IsFreeList, gaps};
+ghost use Rattle.seg_spec.specs.Heap.{HoldsGaps, gaps};
+ghost use Rattle.seg_spec.specs.Faulty.{HasFront, HasTiles};
+ghost use Rattle.seg_check.specs.Marks.{KnowsTiles};
 ghost use Rattle.seg_check.specs.Tiles.{KnowsGaps};
 
 use crate::claims::Claims;
@@ -31,9 +33,12 @@ impl<A: Allocator> Image<'_, A> {
         claims: &Claims<B>,
         free_list: FreeList,
     ) -> Result<(), u32>
-        ensures list { word self.now.w.now.bytes allocator_word ≡ 0
+        ensures gaps { HasFront self.now.w.now.bytes self.now.types.now
+            → HasTiles self.now.w.now.bytes self.now.types.now
+            → KnowsTiles self.now.w.now.bytes claims.now
             → KnowsGaps self.now.w.now.bytes free_list (gaps self.now.w.now.bytes)
-            → IsOk result ↔ IsFreeList self.now.w.now.bytes (gaps self.now.w.now.bytes) }
+            → IsOk result ↔ HoldsGaps (word self.now.w.now.bytes allocator_word)
+            self.now.w.now.bytes (gaps self.now.w.now.bytes) }
     {
         match self.w.get32(header::ALLOCATOR) {
             0 => free_list.end(self.bytes),

@@ -3,7 +3,7 @@ ghost use Rattle.seg_spec.specs.Bytes.{word};
 ghost use Rattle.seg_spec.specs.Types.{IsTable, HasTable};
 ghost use Rattle.seg_spec.specs.Sound.{HasHeader};
 ghost use Rattle.seg_spec.specs.Faulty.{HasTiles};
-ghost use Rattle.seg_check.specs.Faults.{FitsHeapForOpening, HasList};
+ghost use Rattle.seg_check.specs.Faults.{FitsHeapForOpening, HasGaps};
 
 use crate::checker::check;
 use seg_block::Fit;
@@ -23,7 +23,7 @@ pub fn open<F: Fit, A: Allocator, B: Allocator>(
         IsTable segment.types × HasTable window.bytes 64 segment.types) }
     ensures header { OnOk result (HasHeader window.bytes × (word window.bytes 16 ≡ F.allocator)) }
     ensures heap { IfOk result
-        (λ segment. HasTiles window.bytes segment.types × HasList window.bytes) }
+        (λ segment. HasTiles window.bytes segment.types × HasGaps window.bytes) }
     ensures fault { IfErr result
         (λ refused. FitsHeapForOpening F.allocator window.bytes refused.0) }
     ensures refused { IfErr result (λ refused. refused.1 ≡ window) }

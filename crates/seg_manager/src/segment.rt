@@ -88,8 +88,8 @@ impl<F: Fit, A: Allocator> Segment<F, A> {
         size: u32,
         index: IndexKind,
     ) -> Result<Segment<F, A>, (Fault, Region<A>)>
-        ensures empty { F.allocator ≤ 1 →
-            IfOk result (λ segment. IsNew F.allocator segment region base size index) }
+        ensures empty { IfOk result
+            (λ segment. IsNew F.allocator segment region base size index) }
         ensures placed { IsOk result ↔ (IsImageLength size × IsPlace (length region) base size) }
         ensures size { IfErr result (λ refused. (refused.0 ≡ Fault.BadSize × ¬ IsImageLength size)
             ⊎ (refused.0 ≡ Fault.Misplaced × IsImageLength size)) }
@@ -157,7 +157,7 @@ fn write_types<A: Allocator>(w: &mut Window<A>, types: &TypeTable)
 /// Writes the image of an empty segment.
 fn write_empty<F: Fit, A: Allocator>(w: &mut Window<A>, size: u32, index: IndexKind)
     ensures host { KeepsHost w.old w.new }
-    ensures empty { F.allocator ≤ 1 → IsImageLength size → length w.old.bytes ≡ size →
+    ensures empty { IsImageLength size → length w.old.bytes ≡ size →
         IsHeld w.new.bytes nothing × (live w.new.bytes ≡ [])
         × (length w.new.bytes ≡ size)
         × (word w.new.bytes allocator_word ≡ F.allocator)

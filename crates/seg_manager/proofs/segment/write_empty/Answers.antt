@@ -49,7 +49,8 @@ loop-t-preserved g c =
     }
 
 pub returns-clause-empty : goal.returns-clause-empty
-returns-clause-empty g c = λ few sized long.
+returns-clause-empty g c = λ sized long.
+    let few : g.F.Fit.allocator ≤ 1 = omega (arith, c.word.ensures.value, c.word.ensures.small) in
     let w0 = c.args.w.now in
     let w1 = c.fill.new.self in
     let w2 = c.begin.new.w in
@@ -67,7 +68,7 @@ returns-clause-empty g c = λ few sized long.
     let e2 = bytes_in w2 _ c.begin.ensures in
     let e3 = bytes_in w3 _ c.put32.ensures in
     let e4a = bytes_in w4 _ c.put32-2.ensures in
-    let e4 = rw c.word.ensures at e4a in
+    let e4 = rw c.word.ensures.value at e4a in
     let kind_is = kind_word c.args.index c.word-2.result c.word-2.ensures.flat c.word-2.ensures.tree in
     let e5a = bytes_in w5 _ c.put32-3.ensures in
     let e5 = rw kind_is at e5a in

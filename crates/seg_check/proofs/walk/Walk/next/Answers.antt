@@ -1,4 +1,4 @@
-use Rattle.std.proofs.Common.{◌≡◌, ◌<◌, ◌^◌, true, false, [], None, refl, sym, ◌∙◌, arith, rules}
+use Rattle.std.proofs.Common.{◌≡◌, ◌<◌, ◌^◌, true, false, [], None, refl, sym, ◌∙◌, arith}
 use Rattle.seg_spec.specs.Pointer.{target}
 use Rattle.seg_check.proofs.WalkSteady.{steady_enter, steady_pass, node_low, never_deep}
 use Rattle.seg_check.proofs.walk.Walk.next.Goals as goal

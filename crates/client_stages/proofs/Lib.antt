@@ -1,0 +1,4 @@
+pub mod MovingLaws
+pub mod Staging
+pub mod Performing
+pub mod Looping
