@@ -1,6 +1,7 @@
 -- Why no client runs: the faults of an image and of clients as the reasons of the definitions.
 use Rattle.std.proofs.Common.{◌≡◌, ℕ, ◌+◌, ◌-◌, ◌≤◌, List, ◌++◌, length, Option, Some, None, Result, Ok, Err, sym, ap, ◌∙◌, subst, inl, inr, arith, length-append}
 use Rattle.std.specs.Prelude.{replicate, IfErr, OnOk}
+use Rattle.std.proofs.Math.Seq.{take-length}
 use Rattle.std.proofs.lemmas.List.{length-replicate}
 use Rattle.seg_spec.specs.Bytes.{word, slice, IsPlaced}
 use Rattle.seg_spec.specs.Window.{Placement, region_of, IsPlace}
@@ -103,6 +104,10 @@ module _ (image : List ℕ) (texts : List (List ℕ)) (room base : ℕ) (moves :
 
 -- ---- where the image lies
 
+slice_whole : (image : List ℕ) → slice image 0 (length image) ≡ image
+unfolding slice
+slice_whole image = take-length image
+
 -- what a window of its size shows there
 pub shows : (w : Placement) (host : List ℕ) (base len : ℕ) (image : List ℕ) → region_of w ≡ host → length w.before ≡ base → length w.bytes ≡ len → len ≡ length image → IsPlaced host base image → w.bytes ≡ image
 shows w host base len image is at size same placed =
@@ -118,6 +123,12 @@ among_zeros image base room place =
       subst (λ n. IsPlace n base (length image)) (sym long) place,
       ap (λ b. slice ((replicate base 0 ++ image) ++ zeros) b (length image)) (sym (length-replicate base 0)) ∙ region-placed (replicate base 0) image zeros,
     )
+
+-- an image that is the whole region
+pub whole_region : (image : List ℕ) (base room : ℕ) → IsPlace room base (length image) → length image ≡ room → LiesIn image base image
+whole_region image base room place same =
+    let start : base ≡ 0 = (let fits = place.1 in omega (arith, fits, same)) in
+    (subst (λ n. IsPlace n base (length image)) (sym same) place, ap (λ b. slice image b (length image)) start ∙ slice_whole image)
 
 -- ---- what calls return
 

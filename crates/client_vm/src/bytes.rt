@@ -1,4 +1,4 @@
-ghost use Rattle.std.specs.Prelude.{ℕ, List, ◌≡◌, ◌↔◌, ◌≤◌, ◌<◌, ◌+◌, ◌*◌, ◌^◌, true, false, IfOk, IfErr, OnErr, OnOk, [], length, map, vec_len, vec_capacity};
+ghost use Rattle.std.specs.Prelude.{ℕ, List, ◌≡◌, ◌↔◌, ◌≤◌, ◌<◌, ◌+◌, ◌*◌, ◌^◌, true, false, IfOk, IfErr, OnErr, OnOk, IsOkUnless, [], length, map, vec_len, vec_capacity};
 ghost use Rattle.seg_spec.specs.Bytes.{word};
 ghost use Rattle.seg_spec.specs.Faulty.{IsImageLength};
 ghost use Rattle.seg_spec.specs.Header.{allocator_word};
@@ -77,12 +77,25 @@ pub fn run_image<A: Allocator + Copy, W: Sink>(
         o.reports.items o.ended) }
 {
     let len = fitting(image.as_slice(), schedule)?;
-    let region = if len == schedule.room {
-        Region::from_vec(image)
-    } else {
-        Region::with_bytes(alloc, schedule.room, schedule.base, image.as_slice())?
-    };
+    let region = placed(alloc, image, schedule)?;
     run_in(alloc, region, len, clients, input, schedule, out)
+}
+
+/// A region with the image at its base: the image's own memory where it fills the region.
+fn placed<A: Allocator>(
+    alloc: A,
+    image: Vec<u8, A>,
+    schedule: &Schedule,
+) -> Result<Region<A>, Fault>
+    requires place { IsPlace schedule.now.room schedule.now.base (length image.items) }
+    requires at_most { schedule.now.room ≤ 2 ^ 31 }
+    ensures lies { IfOk result (λ region. LiesIn region schedule.now.base image.items) }
+    ensures refused { IsOkUnless result Fault.Memory }
+{
+    if image.len() == schedule.room as usize {
+        return Ok(Region::from_vec(image));
+    }
+    Region::with_bytes(alloc, schedule.room, schedule.base, image.as_slice())
 }
 
 /// Runs clients on the image of `len` bytes at its place in a region, with the allocator that it names.
