@@ -2,3 +2,4 @@ pub mod MovingLaws
 pub mod Staging
 pub mod Performing
 pub mod Looping
+pub mod Walking

@@ -7,9 +7,13 @@ pub mod MarkLaws
 pub mod KnownLaws
 pub mod ClaimLaws
 pub mod StepLaws
+pub mod RootSteps
 pub mod PlaceLoop
 pub mod TagLaws
 pub mod OpenLaws
+pub mod NameSteps
+pub mod UniqueSteps
+pub mod IndexSteps
 pub mod BufferLaws
 pub mod StructLaws
 pub mod EntryLoop
@@ -25,3 +29,6 @@ pub mod Followed
 pub mod GapLaws
 pub mod FreeWalk
 pub mod MapLaws
+pub mod TreeIndex
+pub mod HeapLaws
+pub mod WholeLaws

@@ -1,5 +1,5 @@
 -- Nodes that are claimed one after the other, each with a value that may wait.
-use Rattle.std.proofs.Common.{◌≡◌, ℕ, ◌+◌, ◌*◌, ◌^◌, ◌<◌, ◌≤◌, Bool, true, false, List, [], ◌∷◌, ◌++◌, length, map, Some, refl, sym, ap, ◌∙◌, subst, arith}
+use Rattle.std.proofs.Common.{◌≡◌, ℕ, ◌+◌, ◌*◌, ◌^◌, ◌<◌, ◌≤◌, Bool, true, false, List, [], ◌∷◌, ◌++◌, length, map, Option, Some, None, refl, sym, ap, ◌∙◌, subst, arith}
 use Rattle.std.proofs.lemmas.List.{append-nil, append_assoc, map-append}
 use Rattle.std.specs.List.{AllByRecursion}
 use Rattle.seg_spec.specs.Types.{Form, Table, form_at, size}
@@ -35,14 +35,14 @@ both_claimed h u v w bs cs e f =
     let l = times-append h bs cs in
     omega arith
 
-claims_both : (old mid new : Known) (bs cs : List ℕ) (ts us : List Turn) → ClaimsAll old mid bs ts → ClaimsAll mid new cs us → ClaimsAll old new (bs ++ cs) (ts ++ us)
+pub claims_both : (old mid new : Known) (bs cs : List ℕ) (ts us : List Turn) → ClaimsAll old mid bs ts → ClaimsAll mid new cs us → ClaimsAll old new (bs ++ cs) (ts ++ us)
 claims_both old mid new bs cs ts us a b = record {
   claimed = (λ h. both_claimed h old.unclaimed mid.unclaimed new.unclaimed bs cs (a.claimed h) (b.claimed h));
   counted = (λ c. b.counted (a.counted c));
   turns_are = b.turns_are ∙ ap (λ xs. xs ++ us) a.turns_are ∙ append_assoc old.turns ts us;
 }
 
-nodes_both : (bytes : List ℕ) (tag each : ℕ) (ps qs : List ℕ) → AreNodes bytes tag each ps → AreNodes bytes tag each qs → AreNodes bytes tag each (ps ++ qs)
+pub nodes_both : (bytes : List ℕ) (tag each : ℕ) (ps qs : List ℕ) → AreNodes bytes tag each ps → AreNodes bytes tag each qs → AreNodes bytes tag each (ps ++ qs)
 nodes_both bytes tag each [] qs a b = b
 nodes_both bytes tag each (p ∷ ps) qs a b = (a.0, nodes_both bytes tag each ps qs a.1 b)
 

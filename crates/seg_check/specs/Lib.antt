@@ -6,6 +6,7 @@ pub mod Marks
 pub mod Claiming
 pub mod Turns
 pub mod Resolving
+pub mod Roots
 pub mod Cells
 pub mod Keys
 pub mod Walks

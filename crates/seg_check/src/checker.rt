@@ -1,8 +1,7 @@
-ghost use Rattle.std.specs.Prelude.{IfErr, IfOk, OnOk};
-ghost use Rattle.seg_spec.specs.Types.{IsTable, HasTable};
-ghost use Rattle.seg_spec.specs.Sound.{HasHeader};
-ghost use Rattle.seg_spec.specs.Faulty.{HasFront, HasTiles};
-ghost use Rattle.seg_check.specs.Faults.{FitsHeap, HasGaps};
+ghost use Rattle.std.specs.Prelude.{◌≡◌, Err, IfErr, IfOk, OnOk};
+ghost use Rattle.seg_spec.specs.Faulty.{HasFront};
+ghost use Rattle.seg_raw.specs.declared.fault.Fault.TheVariants.{Memory};
+ghost use Rattle.seg_check.specs.Faults.{IsImageOf, IsFaultOf, IsFrontRight};
 
 use crate::claims::Claims;
 use crate::header::check_header;
@@ -17,10 +16,9 @@ use std::alloc::Allocator;
 ///
 /// It takes its memory, five bytes for each unit of the heap at most, before it looks at the heap.
 pub fn check<A: Allocator, B: Allocator>(alloc: B, w: &Window<A>) -> Result<TypeTable, Fault>
-    ensures header { OnOk result (HasHeader w.now.bytes) }
-    ensures types { IfOk result (λ types. IsTable types × HasTable w.now.bytes 64 types) }
-    ensures heap { IfOk result (λ types. HasTiles w.now.bytes types × HasGaps w.now.bytes) }
-    ensures fault { IfErr result (FitsHeap w.now.bytes) }
+    ensures image { IfOk result (IsImageOf w.now.bytes) }
+    ensures fault { IfErr result (IsFaultOf w.now.bytes) }
+    ensures memory { result ≡ Err Memory → IsFrontRight w.now.bytes }
 {
     check_header(w)?;
     let types = TypeTable::read(w.slice(header::TYPES, ENTRY * MAX_TYPES))?;
@@ -34,9 +32,9 @@ fn check_heap<A: Allocator, B: Allocator + Copy>(
     w: &Window<A>,
     types: &TypeTable,
 ) -> Result<(), Fault>
-    ensures heap { HasFront w.now.bytes types.now
-        → OnOk result (HasTiles w.now.bytes types.now × HasGaps w.now.bytes) }
-    ensures fault { HasFront w.now.bytes types.now → IfErr result (FitsHeap w.now.bytes) }
+    ensures image { HasFront w.now.bytes types.now →
+        OnOk result (IsImageOf w.now.bytes types.now) }
+    ensures fault { HasFront w.now.bytes types.now → IfErr result (IsFaultOf w.now.bytes) }
 {
     let mut claims = Claims::new(alloc, w)?;
     let image = Image {

@@ -1,11 +1,22 @@
+ghost use Rattle.std.specs.Prelude.{◌≡◌, ℕ, ◌+◌, ◌*◌, ◌^◌, ◌≤◌, ◌↔◌, List, [], ◌∷◌, length, All, IsTrue, IfOk, IfErr, OnOk, Some};
+ghost use Rattle.seg_spec.specs.Bytes.{word, half, byte};
+ghost use Rattle.seg_spec.specs.Pointer.{target};
+ghost use Rattle.seg_spec.specs.Header.{index_kind_word, index_cell};
+ghost use Rattle.seg_spec.specs.Index.{Precedes, index_node_size};
+ghost use Rattle.seg_spec.specs.Shapes.{tree_words};
+ghost use Rattle.seg_spec.specs.Reads.{count_at};
+ghost use Rattle.seg_check.specs.Claiming.{Refuses};
+ghost use Rattle.seg_check.specs.Resolving.{IsReady};
+ghost use Rattle.seg_check.specs.Roots.{StepsIndex, AdvancesRoots, CanResolveRoots, names_ahead, ClaimsNamed, CanClaimNamed, ClaimsTree, CanClaimTree};
+
 use crate::claims::Claims;
 use crate::fault::ContentFault;
 use crate::image::Image;
 use crate::marks::Turn;
 use crate::walk::{Tree, Visit};
-use seg_index::{IndexKind, NameEntry, name_count, named_tag, node_content};
+use seg_index::{ENTRY, IndexKind, NameEntry, name_count, named_tag, node_content};
 use seg_manager::MAX_NAME;
-use seg_ptr::header;
+use seg_ptr::{Window, header};
 use seg_value::Content;
 use std::alloc::Allocator;
 
@@ -17,7 +28,11 @@ impl<'w, A: Allocator> Image<'w, A> {
     pub(crate) fn check_index<B: Allocator>(
         &self,
         claims: &mut Claims<B>,
-    ) -> Result<(), ContentFault> {
+    ) -> Result<(), ContentFault>
+        ensures { IsReady self.now.w.now.bytes self.now.types.now claims.old →
+            word self.now.w.now.bytes index_kind_word ≤ 1 →
+            StepsIndex self.now.w.now.bytes self.now.types.now claims.old claims.new result }
+    {
         let count = name_count(self.w);
         match (self.w.target(header::INDEX), count) {
             (None, 0) => Ok(()),
@@ -33,7 +48,13 @@ impl<'w, A: Allocator> Image<'w, A> {
         &self,
         claims: &mut Claims<B>,
         count: u32,
-    ) -> Result<(), ContentFault> {
+    ) -> Result<(), ContentFault>
+        ensures { (p : ℕ) → target self.now.w.now.bytes index_cell ≡ Some p →
+            count ≡ count_at self.now.w.now.bytes index_cell →
+            IsReady self.now.w.now.bytes self.now.types.now claims.old →
+            word self.now.w.now.bytes index_kind_word ≡ 0 →
+            StepsIndex self.now.w.now.bytes self.now.types.now claims.old claims.new result }
+    {
         let content = Content::index_buffer();
         let start = self.claim_entries(claims, INDEX, &content, count)?;
         if count == 0 {
@@ -50,18 +71,22 @@ impl<'w, A: Allocator> Image<'w, A> {
         &self,
         claims: &mut Claims<B>,
         count: u32,
-    ) -> Result<(), ContentFault> {
+    ) -> Result<(), ContentFault>
+        ensures { count ≡ count_at self.now.w.now.bytes index_cell →
+            IsReady self.now.w.now.bytes self.now.types.now claims.old →
+            word self.now.w.now.bytes index_kind_word ≡ 1 →
+            StepsIndex self.now.w.now.bytes self.now.types.now claims.old claims.new result }
+    {
         let tree = Tree {
             root: INDEX,
             nodes: count as usize,
         };
         self.claim_index_nodes(claims, tree)?;
-        let entry = node_content().entry;
         let mut walk = tree.walk(self.w);
         let mut before: &[u8] = &[];
         while let Some(visit) = walk.next().map_err(ContentFault::BadIndex)? {
             if let Visit::Pass(node) = visit {
-                before = self.check_entry(claims, entry.value_at(node, 0), before)?;
+                before = self.check_entry(claims, entry_in(node), before)?;
             }
         }
         Ok(())
@@ -72,7 +97,17 @@ impl<'w, A: Allocator> Image<'w, A> {
         &self,
         claims: &mut Claims<B>,
         tree: Tree,
-    ) -> Result<(), ContentFault> {
+    ) -> Result<(), ContentFault>
+        ensures claimed { tree.root ≡ index_cell →
+            tree.nodes ≡ count_at self.now.w.now.bytes index_cell →
+            IsReady self.now.w.now.bytes self.now.types.now claims.old →
+            OnOk result (ClaimsTree self.now.w.now.bytes claims.old claims.new) }
+        ensures refused { tree.root ≡ index_cell →
+            tree.nodes ≡ count_at self.now.w.now.bytes index_cell →
+            IsReady self.now.w.now.bytes self.now.types.now claims.old →
+            IfErr result (λ fault. Refuses fault
+            (CanClaimTree self.now.w.now.bytes claims.old.unclaimed)) }
+    {
         let content = node_content();
         let mut walk = tree.walk(self.w);
         while let Some(visit) = walk.next().map_err(ContentFault::BadIndex)? {
@@ -89,14 +124,26 @@ impl<'w, A: Allocator> Image<'w, A> {
         claims: &mut Claims<B>,
         at: u32,
         before: &[u8],
-    ) -> Result<&'w [u8], ContentFault> {
-        let entry = NameEntry::read(self.w, at as usize);
-        if entry.count == 0 || !(1..=MAX_NAME).contains(&entry.name_len) || entry.zero != 0 {
+    ) -> Result<&'w [u8], ContentFault>
+        ensures claimed { (rest : List ℕ) →
+            IsReady self.now.w.now.bytes self.now.types.now claims.old →
+            at + 8 ≤ length self.now.w.now.bytes → IfOk result (λ name.
+            AdvancesRoots self.now.w.now.bytes self.now.types.now claims.old claims.new
+            (names_ahead (at ∷ rest) before.now) (names_ahead rest name.now)) }
+        ensures refused { (rest : List ℕ) →
+            IsReady self.now.w.now.bytes self.now.types.now claims.old →
+            at + 8 ≤ length self.now.w.now.bytes → IfErr result (λ fault. Refuses fault
+            (CanResolveRoots self.now.w.now.bytes self.now.types.now claims.old.unclaimed
+            (names_ahead (at ∷ rest) before.now))) }
+    {
+        let entry = entry_at(self.w, at);
+        let len = entry.name_len;
+        if entry.count == 0 || len == 0 || len > MAX_NAME || entry.zero != 0 {
             return Err(ContentFault::BadIndex(at));
         }
         self.claim_named(claims, at, &entry)?;
         let name = entry.name(self.w, self.types);
-        if before < name && name.iter().all(|byte| byte.is_ascii_graphic()) {
+        if is_before(before, name) && is_printable(name) {
             Ok(name)
         } else {
             Err(ContentFault::BadIndex(at))
@@ -109,8 +156,19 @@ impl<'w, A: Allocator> Image<'w, A> {
         claims: &mut Claims<B>,
         at: u32,
         entry: &NameEntry,
-    ) -> Result<(), ContentFault> {
-        let type_id = entry.type_id(self.w).ok_or(ContentFault::BadPointer(at))?;
+    ) -> Result<(), ContentFault>
+        ensures claimed { IsReady self.now.w.now.bytes self.now.types.now claims.old →
+            entry.now.object ≡ target self.now.w.now.bytes at →
+            OnOk result (ClaimsNamed self.now.w.now.bytes self.now.types.now claims.old claims.new
+            at entry.now.count entry.now.name_len) }
+        ensures refused { IsReady self.now.w.now.bytes self.now.types.now claims.old →
+            entry.now.object ≡ target self.now.w.now.bytes at →
+            IfErr result (λ fault. Refuses fault (CanClaimNamed self.now.w.now.bytes
+            self.now.types.now claims.old at entry.now.count entry.now.name_len)) }
+    {
+        let Some(type_id) = entry.type_id(self.w) else {
+            return Err(ContentFault::BadPointer(at));
+        };
         let size = entry.values_len(self.types.size(type_id)) as u64 + u64::from(entry.name_len);
         let start = claims.claim(self.bytes, at, named_tag(type_id), size)?;
         if self.has_turns(Content::object(self.types, type_id).entry) {
@@ -121,4 +179,42 @@ impl<'w, A: Allocator> Image<'w, A> {
         }
         Ok(())
     }
+}
+
+/// The entry at a position, each part by its own bytes.
+fn entry_at<A: Allocator>(w: &Window<A>, at: u32) -> NameEntry
+    ensures object { result.object ≡ target w.now.bytes at }
+    ensures small { result.count ≤ 65535 }
+    ensures count { at + 8 ≤ length w.now.bytes → result.count ≡ half w.now.bytes (at + 4) }
+    ensures name_len { result.name_len ≡ byte w.now.bytes (at + 6) }
+    ensures zero { result.zero ≡ byte w.now.bytes (at + 7) }
+{
+    let at = at as usize;
+    NameEntry {
+        object: w.target(at),
+        count: u16::from(w.get8(at + 4)) + 256 * u16::from(w.get8(at + 5)),
+        name_len: w.get8(at + 6),
+        zero: w.get8(at + 7),
+    }
+}
+
+/// The position of the entry in a node of the index, at the node's end.
+fn entry_in(node: u32) -> u32
+    ensures { node + index_node_size ≤ 2 ^ 32 → result ≡ node + tree_words }
+{
+    node.wrapping_add(node_content().entry.size - ENTRY)
+}
+
+/// Whether a name comes before another.
+fn is_before(name: &[u8], other: &[u8]) -> bool
+    ensures { IsTrue result ↔ Precedes name.now other.now }
+{
+    name.cmp(other).is_lt()
+}
+
+/// Whether all bytes of a name can be printed, and none is a space.
+fn is_printable(name: &[u8]) -> bool
+    ensures { IsTrue result ↔ All (λ b. (33 ≤ b) × (b ≤ 126)) name.now }
+{
+    name.iter().all(|byte| byte.is_ascii_graphic())
 }

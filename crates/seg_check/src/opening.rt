@@ -1,9 +1,8 @@
 ghost use Rattle.std.specs.Prelude.{◌≡◌, IfErr, IfOk, OnOk};
 ghost use Rattle.seg_spec.specs.Bytes.{word};
-ghost use Rattle.seg_spec.specs.Types.{IsTable, HasTable};
-ghost use Rattle.seg_spec.specs.Sound.{HasHeader};
-ghost use Rattle.seg_spec.specs.Faulty.{HasTiles};
-ghost use Rattle.seg_check.specs.Faults.{FitsHeapForOpening, HasGaps};
+ghost use Rattle.seg_spec.specs.Header.{allocator_word};
+ghost use Rattle.seg_raw.specs.declared.fault.Fault.TheVariants.{Memory};
+ghost use Rattle.seg_check.specs.Faults.{IsImageOf, IsFaultOfOpening, IsFrontRight};
 
 use crate::checker::check;
 use seg_block::Fit;
@@ -19,13 +18,11 @@ pub fn open<F: Fit, A: Allocator, B: Allocator>(
     window: Window<A>,
 ) -> Result<Segment<F, A>, (Fault, Window<A>)>
     ensures opened { IfOk result (λ segment. segment.window ≡ window) }
-    ensures types { IfOk result (λ segment.
-        IsTable segment.types × HasTable window.bytes 64 segment.types) }
-    ensures header { OnOk result (HasHeader window.bytes × (word window.bytes 16 ≡ F.allocator)) }
-    ensures heap { IfOk result
-        (λ segment. HasTiles window.bytes segment.types × HasGaps window.bytes) }
-    ensures fault { IfErr result
-        (λ refused. FitsHeapForOpening F.allocator window.bytes refused.0) }
+    ensures image { IfOk result (λ segment. IsImageOf window.bytes segment.types) }
+    ensures allocator { OnOk result (word window.bytes allocator_word ≡ F.allocator) }
+    ensures fault { IfErr result (λ refused.
+        IsFaultOfOpening F.allocator window.bytes refused.0) }
+    ensures memory { IfErr result (λ refused. refused.0 ≡ Memory → IsFrontRight window.bytes) }
     ensures refused { IfErr result (λ refused. refused.1 ≡ window) }
 {
     match check(alloc, &window) {

@@ -1,3 +1,6 @@
+ghost use Rattle.seg_check.specs.Resolving.{IsReady};
+ghost use Rattle.seg_check.specs.Roots.{StepsUniques};
+
 use crate::claims::Claims;
 use crate::fault::ContentFault;
 use crate::image::Image;
@@ -11,7 +14,10 @@ impl<A: Allocator> Image<'_, A> {
     pub(crate) fn check_uniques<B: Allocator>(
         &self,
         claims: &mut Claims<B>,
-    ) -> Result<(), ContentFault> {
+    ) -> Result<(), ContentFault>
+        ensures { IsReady self.now.w.now.bytes self.now.types.now claims.old →
+            StepsUniques self.now.w.now.bytes self.now.types.now claims.old claims.new result }
+    {
         for t in 0..MAX_TYPES {
             let t = t as TypeId;
             if unique(self.w, t).is_some() {

@@ -13,11 +13,6 @@ has_table bytes read table header is spells =
     let enough : 64 + 512 ≤ length bytes = let large = header.not_small in omega (arith, large) in
     sym is ∙ spells ∙ ap (λ n. padded n (flat_map_list form_bytes table)) (ap length is ∙ length-slice bytes 64 512 enough)
 
-pub returns-clause-types : goal.returns-clause-types
-returns-clause-types g c =
-    let table = c.in_ok-types.ensures.table in
-    (table.0, has_table c.args.w.now.bytes c.slice.result.now c.in_ok-types.types c.in_ok-check_header.ensures.header c.slice.ensures table.1)
-
 pub returns-in_err-check_heap-clause-fault : goal.returns-in_err-check_heap-clause-fault
 returns-in_err-check_heap-clause-fault g c =
     let header = c.in_ok-check_header.ensures.header in
@@ -26,9 +21,16 @@ returns-in_err-check_heap-clause-fault g c =
     let p = err_from_is_err_and c.from_residual-in_err-check_heap.result c.from_residual-in_err-check_heap.ensures.1 in
     rw (p.1, p.2) (c.in_err-check_heap.ensures.fault (record { header = header; types = types; is_table = table.0 }))
 
-pub returns-clause-heap : goal.returns-clause-heap
-returns-clause-heap g c =
+pub returns-in_err-check_heap-clause-memory : goal.returns-in_err-check_heap-clause-memory
+returns-in_err-check_heap-clause-memory g c = λ e.
     let header = c.in_ok-check_header.ensures.header in
     let table = c.in_ok-types.ensures.table in
     let types = has_table c.args.w.now.bytes c.slice.result.now c.in_ok-types.types header c.slice.ensures table.1 in
-    c.in_ok-check_heap.ensures.heap (record { header = header; types = types; is_table = table.0 })
+    (c.in_ok-types.types, record { header = header; types = types; is_table = table.0 })
+
+pub returns-clause-image : goal.returns-clause-image
+returns-clause-image g c =
+    let header = c.in_ok-check_header.ensures.header in
+    let table = c.in_ok-types.ensures.table in
+    let types = has_table c.args.w.now.bytes c.slice.result.now c.in_ok-types.types header c.slice.ensures table.1 in
+    c.in_ok-check_heap.ensures.image (record { header = header; types = types; is_table = table.0 })

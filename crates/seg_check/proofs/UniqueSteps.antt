@@ -1,0 +1,290 @@
+-- The word of a type, and the type's unique object, which was claimed, or can't be.
+use Rattle.std.proofs.Common.{◌≡◌, ◌≢◌, ℕ, zero, suc, ◌+◌, ◌*◌, ◌<◌, ◌≤◌, ◌⊎◌, inl, inr, List, [], ◌∷◌, ◌++◌, length, map, Some, None, refl, sym, ap, ◌∙◌, subst, arith}
+use Rattle.std.proofs.lemmas.List.{append-nil}
+use Rattle.std.proofs.lemmas.Bool.{cases_eq}
+use Rattle.std.specs.List.{AllByRecursion}
+use Rattle.seg_spec.specs.Bytes.{slice}
+use Rattle.seg_spec.specs.Pointer.{target}
+use Rattle.seg_spec.specs.Types.{Table, form_at, size}
+use Rattle.seg_spec.specs.Value.{Value, Values, nil, cons, count}
+use Rattle.seg_spec.specs.Block.{Kind, IsBlock, block_of, tag_of}
+use Rattle.seg_spec.specs.Reads.{Place, items}
+use Rattle.seg_spec.specs.Index.{Root, AreEntries, AreAscending, position_of, AreRising, unique_word}
+use Rattle.seg_spec.specs.Sound.{IsPlain, HoldsRoots, holds_no_root, holds_more_roots, kind_by_name, times, SameBlocks}
+use Rattle.seg_spec.proofs.LiveLaws.{times-append, times-same}
+use Rattle.seg_spec.proofs.RootLaws.{HoldsRoots-split, HoldsRoots-only}
+use Rattle.seg_spec.proofs.UniqueLaws.{at_head, past_head, none_below}
+use Rattle.seg_layout.specs.Forms.{has_cells}
+use Rattle.seg_check.specs.Claiming.{CanClaim, ClaimsBlock, turns_where}
+use Rattle.seg_check.specs.Marks.{Known, Within}
+use Rattle.seg_check.specs.Turns.{waiting}
+use Rattle.seg_check.specs.Resolving.{Resolves, IsReady}
+use Rattle.seg_check.specs.Roots.{Ahead, uniques_ahead, ResolvesRoots, CanResolveRoots, AdvancesRoots, AdvancesUniques}
+use Rattle.seg_check.proofs.StepLaws.{within_taken}
+use Rattle.seg_check.proofs.RootSteps.{Joined, joined, Rooted, rooted}
+use Rattle.seg_check.proofs.NameSteps.{object_are_turns, values_forth, values_back}
+use Rattle.seg_check.proofs.BufferLaws.{content_claimed, content_can}
+use Rattle.seg_block.specs.Tags.{word_of}
+use Rattle.seg_value.specs.Contents.{IsContent}
+use Rattle.seg_value.specs.declared.content.Content.{Content}
+use Rattle.seg_value.specs.declared.content.Shape.{Shape}
+use Rattle.seg_check.specs.Claiming.{has_turns}
+
+-- the unique objects of the types from one on
+abbrev pub from_type : ℕ → Ahead
+from_type T = record { entries = []; last = []; type = T }
+
+-- no bytes
+slice_none : (bytes : List ℕ) (at : ℕ) → slice bytes at 0 ≡ []
+unfolding slice
+slice_none bytes at = refl
+
+-- without entries there are no names
+no_names : (bytes : List ℕ) (names : List Root) → AreEntries bytes [] names → names ≡ []
+no_names bytes [] e = refl
+no_names bytes (root ∷ names) e = absurd e
+
+one_value : (vs : Values) → count vs ≡ 1 → (v : Value) × (vs ≡ cons v nil)
+one_value nil e = absurd (omega arith)
+one_value (cons v nil) e = (v, refl)
+one_value (cons v (cons w vs)) e = absurd (omega arith)
+
+lower : (U V : ℕ) (roots : List Root) → U ≤ V → AreRising V roots → AreRising U roots
+lower U V [] le r = tt
+lower U V (root ∷ roots) le r = (omega (arith, r.0), r.1, r.2)
+
+-- a type that has no unique object
+higher : (T : ℕ) (roots : List Root) → AreRising T roots → position_of roots T ≡ None → AreRising (suc T) roots
+higher T [] r none = tt
+higher T (root ∷ roots) r none = go (cases_eq root.type T)
+  where
+    go : (root.type ≡ T) ⊎ (root.type ≢ T) → AreRising (suc T) (root ∷ roots)
+    go (inl same) = absurd (let both : Some root.at ≡ None = sym (at_head root roots) ∙ ap (position_of (root ∷ roots)) same ∙ none in cc)
+    go (inr other) = (let low = r.0 in omega arith, r.1, r.2)
+
+-- the first root is that of the least type, where it has one
+pub record First (T p : ℕ) (roots : List Root) : Type 0 where
+  pub root : Root
+  pub others : List Root
+  pub roots_are : roots ≡ root ∷ others
+  pub type_is : root.type ≡ T
+  pub at_is : root.at ≡ p
+
+first : (T p : ℕ) (roots : List Root) → AreRising T roots → position_of roots T ≡ Some p → First T p roots
+first T p [] r some = absurd (let both : None ≡ Some p = some in cc)
+first T p (root ∷ roots) r some = go (cases_eq root.type T)
+  where
+    go : (root.type ≡ T) ⊎ (root.type ≢ T) → First T p (root ∷ roots)
+    go (inl same) =
+        let both : Some root.at ≡ Some p = sym (at_head root roots) ∙ ap (position_of (root ∷ roots)) same ∙ some in
+        record { root = root; others = roots; roots_are = refl; type_is = same; at_is = cc }
+    go (inr other) =
+        let low = r.0 in
+        absurd (let both : None ≡ Some p = sym (none_below (suc root.type) T roots r.2 (omega arith)) ∙ sym (past_head root roots T other) ∙ some in cc)
+
+module _ (bytes : List ℕ) (table : Table) where
+  -- ---- a type without a unique object
+
+  module _ (known : Known) (T : ℕ) (small : T < 32) (none : target bytes (unique_word T) ≡ None) where
+    pub advance_unused : AdvancesRoots bytes table known known (from_type T) (from_type (suc T))
+    advance_unused = record {
+      turns = [];
+      turns_are = sym (append-nil known.turns);
+      are_turns = tt;
+      within = λ h. omega arith;
+      counted = λ c. c;
+      forth = λ left places r. record {
+        names = r.names;
+        uniques = r.uniques;
+        root_blocks = r.root_blocks;
+        rest = r.rest;
+        are_entries = r.are_entries;
+        ascending = r.ascending;
+        words = λ U low less. r.words U (omega arith) less;
+        rising = higher T r.uniques r.rising (sym (r.words T (omega arith) small) ∙ none);
+        plain = r.plain;
+        roots = r.roots;
+        resolves = r.resolves;
+        owners = r.owners;
+      };
+      back = λ left places r. record {
+        names = r.names;
+        uniques = r.uniques;
+        root_blocks = r.root_blocks;
+        rest = r.rest;
+        are_entries = r.are_entries;
+        ascending = r.ascending;
+        words = λ U low less. word_of r.uniques r.rising r.words U (cases_eq T U) low less;
+        rising = lower T (suc T) r.uniques (omega arith) r.rising;
+        plain = r.plain;
+        roots = r.roots;
+        resolves = r.resolves;
+        owners = r.owners;
+      };
+    }
+      where
+        word_of : (uniques : List Root) → AreRising (suc T) uniques → ((U : ℕ) → suc T ≤ U → U < 32 → target bytes (unique_word U) ≡ position_of uniques U) → (U : ℕ) → (T ≡ U) ⊎ (T ≢ U) → T ≤ U → U < 32
+            → target bytes (unique_word U) ≡ position_of uniques U
+        word_of uniques rising words U (inl same) low less = subst (λ V. target bytes (unique_word V) ≡ position_of uniques V) same (none ∙ sym (none_below (suc T) T uniques rising (omega arith)))
+        word_of uniques rising words U (inr other) low less = words U (omega arith) less
+
+  -- ---- a type with one
+
+  module _ (old new : Known) (ready : IsReady bytes table old) (T p : ℕ) (small : T < 32) (named : target bytes (unique_word T) ≡ Some p)
+      (c : ClaimsBlock bytes old new (unique_word T) (tag_of (kind_by_name []) T) (1 * size table T + 0) (turns_where (has_cells (form_at table T)) p 1) p) where
+    unique_forth : (l : List ℕ) (places : List Place) → ResolvesRoots bytes table old.unclaimed l (from_type T) places
+        → ResolvesRoots bytes table new.unclaimed l (from_type (suc T)) (waiting bytes table (turns_where (has_cells (form_at table T)) p 1) ++ places)
+    unique_forth l places r =
+        let f = first T p r.uniques r.rising (sym (r.words T (omega arith) small) ∙ named) in
+        let both : r.names ++ r.uniques ≡ f.root ∷ f.others = ap (λ ns. ns ++ r.uniques) (no_names bytes r.names r.are_entries) ∙ f.roots_are in
+        let j = joined bytes table f.root f.others old.unclaimed new.unclaimed l r.root_blocks r.rest places (subst (λ rs. HoldsRoots bytes table rs r.root_blocks) both r.roots) r.resolves r.owners in
+        let plain : AllByRecursion IsPlain (f.root ∷ f.others) = subst (AllByRecursion IsPlain) f.roots_are r.plain in
+        let rising : AreRising T (f.root ∷ f.others) = subst (AreRising T) f.roots_are r.rising in
+        let one : count f.root.values ≡ 1 = ap count plain.0.values_are in
+        record {
+          names = [];
+          uniques = f.others;
+          root_blocks = j.root_blocks;
+          rest = j.rest;
+          are_entries = tt;
+          ascending = tt;
+          words = λ U low less.
+              let type_is = f.type_is in
+              r.words U (omega arith) less ∙ ap (λ rs. position_of rs U) f.roots_are ∙ past_head f.root f.others U (λ e. omega arith);
+          rising = subst (λ V. AreRising (suc V) f.others) f.type_is rising.2;
+          plain = plain.1;
+          roots = j.held;
+          resolves = values_forth bytes table old new ready (unique_word T) p T 1 [] c j.rest l places
+              (subst (λ k. Resolves bytes table j.rest l (items table p T k ++ places)) one
+              (subst (λ k. Resolves bytes table j.rest l (items table p k (count f.root.values) ++ places)) f.type_is
+              (subst (λ k. Resolves bytes table j.rest l (items table k f.root.type (count f.root.values) ++ places)) f.at_is j.resolves)));
+          owners = j.owners (subst (λ q. SameBlocks old.unclaimed (block_of q ∷ new.unclaimed)) (sym f.at_is) c.claims.claimed);
+        }
+
+    unique_back : (l : List ℕ) (places : List Place) → ResolvesRoots bytes table new.unclaimed l (from_type (suc T)) (waiting bytes table (turns_where (has_cells (form_at table T)) p 1) ++ places)
+        → ResolvesRoots bytes table old.unclaimed l (from_type T) places
+    unique_back l places r =
+        let none = no_names bytes r.names r.are_entries in
+        let k = rooted bytes table [] p T 1 r.uniques old.unclaimed new.unclaimed l r.root_blocks r.rest places c.is_block (slice_none bytes (p + 1 * size table T)) c.claims.claimed
+        (subst (λ ns. HoldsRoots bytes table (ns ++ r.uniques) r.root_blocks) none r.roots)
+        (values_back bytes table old new ready (unique_word T) p T 1 [] c r.rest l places r.resolves) r.owners in
+        let root : Root = record { name = []; at = p; type = T; values = k.values } in
+        let value = one_value k.values k.count_is in
+        record {
+          names = [];
+          uniques = root ∷ r.uniques;
+          root_blocks = k.root_blocks;
+          rest = k.rest;
+          are_entries = tt;
+          ascending = tt;
+          words = λ U low less. word_of root r.uniques refl refl r.words U (cases_eq T U) low less;
+          rising = (omega arith, small, r.rising);
+          plain = (record { no_name = refl; value = value.0; values_are = value.1 }, r.plain);
+          roots = k.held;
+          resolves = k.resolves;
+          owners = k.owners;
+        }
+      where
+        word_of : (root : Root) (others : List Root) → root.type ≡ T → root.at ≡ p → ((U : ℕ) → suc T ≤ U → U < 32 → target bytes (unique_word U) ≡ position_of others U) → (U : ℕ) → (T ≡ U) ⊎ (T ≢ U) → T ≤ U → U < 32
+            → target bytes (unique_word U) ≡ position_of (root ∷ others) U
+        word_of root others type_is at_is words U (inl same) low less = ap (λ V. target bytes (unique_word V)) (sym same) ∙ named ∙ ap Some (sym at_is) ∙ sym (at_head root others) ∙ ap (position_of (root ∷ others)) (type_is ∙ same)
+        word_of root others type_is at_is words U (inr other) low less = words U (omega arith) less ∙ sym (past_head root others U (λ e. other (sym type_is ∙ e)))
+
+    pub advance_unique : AdvancesRoots bytes table old new (from_type T) (from_type (suc T))
+    advance_unique = record {
+      turns = turns_where (has_cells (form_at table T)) p 1;
+      turns_are = c.claims.turns_are;
+      are_turns = object_are_turns bytes table old new ready (unique_word T) p T 1 [] c;
+      within = within_taken old.unclaimed new.unclaimed (block_of p ∷ []) c.claims.claimed;
+      counted = c.claims.counted;
+      forth = λ left places r. unique_forth left places r;
+      back = λ left places r. unique_back left places r;
+    }
+
+  pub can_unique : (old : Known) (T p : ℕ) → T < 32 → target bytes (unique_word T) ≡ Some p → CanResolveRoots bytes table old.unclaimed (from_type T) → CanClaim bytes old (unique_word T) (tag_of Kind.object T) (1 * size table T)
+  can_unique old T p small named can =
+      let r = can.resolves in
+      let f = first T p r.uniques r.rising (sym (r.words T (omega arith) small) ∙ named) in
+      let both : r.names ++ r.uniques ≡ f.root ∷ f.others = ap (λ ns. ns ++ r.uniques) (no_names bytes r.names r.are_entries) ∙ f.roots_are in
+      let s = HoldsRoots-split bytes table (f.root ∷ []) f.others r.root_blocks (subst (λ rs. HoldsRoots bytes table rs r.root_blocks) both r.roots) in
+      let it = HoldsRoots-only bytes table f.root s.left s.lefts in
+      let plain : AllByRecursion IsPlain (f.root ∷ f.others) = subst (AllByRecursion IsPlain) f.roots_are r.plain in
+      let one : count f.root.values ≡ 1 = ap count plain.0.values_are in
+      let no_name = plain.0.no_name in
+      let exact : count f.root.values * size table f.root.type + length f.root.name ≡ 1 * size table T =
+      (λ i. one i * size table (f.type_is i) + length (no_name i)) ∙ (let e : 1 * size table T + 0 ≡ 1 * size table T = omega arith in e) in
+      record {
+        start = p;
+        names = named;
+        is_block = subst (λ q. IsBlock bytes q (tag_of Kind.object T) (1 * size table T)) f.at_is
+            (subst (λ m. IsBlock bytes f.root.at (tag_of Kind.object T) m) exact
+            (subst (λ t. IsBlock bytes f.root.at t (count f.root.values * size table f.root.type + length f.root.name)) (λ i. tag_of (kind_by_name (no_name i)) (f.type_is i)) it.block));
+        unclaimed = subst (λ q. 1 ≤ times (block_of q) old.unclaimed) f.at_is
+            (let i = r.owners (block_of f.root.at) in
+            let j = times-append (block_of f.root.at) r.root_blocks r.rest in
+            let k : times (block_of f.root.at) r.root_blocks ≡ times (block_of f.root.at) s.left + times (block_of f.root.at) s.right = ap (times (block_of f.root.at)) s.blocks_are ∙ times-append (block_of f.root.at) s.left s.right in
+            let m : times (block_of f.root.at) s.left ≡ times (block_of f.root.at) (block_of f.root.at ∷ it.inside) = ap (times (block_of f.root.at)) it.blocks_are in
+            let n = times-same (block_of f.root.at) it.inside in
+            omega arith);
+      }
+
+  -- ---- what the content of an object says of it
+
+  zero_size : (T : ℕ) → size table T ≡ 0 + size table T
+  zero_size T = omega arith
+
+  module _ (old new : Known) (T at next : ℕ) (shape : Shape) (content : Content) (ready : IsReady bytes table old) (small : T < 32) (at_is : at ≡ unique_word T) (is : IsContent table shape (tag_of Kind.object T) 0 T content) where
+    pub unique_advance : (p : ℕ) → next ≡ suc T → ClaimsBlock bytes old new at (word_of content.tag) (1 * content.entry.size) (turns_where (has_turns table content.entry.held) p 1) p
+        → AdvancesRoots bytes table old new (from_type T) (from_type next)
+    unique_advance p next_is c =
+        let d = content_claimed bytes table old new at 1 p shape (tag_of Kind.object T) 0 T content is c in
+        let room : 1 * (0 + size table T) ≡ 1 * size table T + 0 = omega arith in
+        let e = subst (λ m. ClaimsBlock bytes old new at (tag_of Kind.object T) m (turns_where (has_cells (form_at table T)) p 1) p) room d in
+        let f = subst (λ a. ClaimsBlock bytes old new a (tag_of Kind.object T) (1 * size table T + 0) (turns_where (has_cells (form_at table T)) p 1) p) at_is e in
+        subst (λ U. AdvancesRoots bytes table old new (from_type T) (from_type U)) (sym next_is) (advance_unique old new ready T p small f.names f)
+
+    pub unique_can : (p : ℕ) → target bytes (unique_word T) ≡ Some p → CanResolveRoots bytes table old.unclaimed (from_type T) → CanClaim bytes old at (word_of content.tag) (1 * content.entry.size)
+    unique_can p named can =
+        subst (λ a. CanClaim bytes old a (word_of content.tag) (1 * content.entry.size)) (sym at_is)
+        (content_can bytes table old (unique_word T) 1 shape (tag_of Kind.object T) 0 T (size table T) content is (zero_size T) (can_unique old T p small named can))
+
+  pub unused_advance : (known : Known) (T next : ℕ) → T < 32 → next ≡ suc T → target bytes (unique_word T) ≡ None → AdvancesRoots bytes table known known (from_type T) (from_type next)
+  unused_advance known T next small next_is none = subst (λ U. AdvancesRoots bytes table known known (from_type T) (from_type U)) (sym next_is) (advance_unused known T small none)
+
+  -- ---- all types
+
+  none_rising : (T : ℕ) (roots : List Root) → 32 ≤ T → AreRising T roots → roots ≡ []
+  none_rising T [] high r = refl
+  none_rising T (root ∷ roots) high r = absurd (let low = r.0 in let less = r.1 in omega arith)
+
+  no_blocks : {roots : List Root} {blocks : List ℕ} → HoldsRoots bytes table roots blocks → roots ≡ [] → blocks ≡ []
+  no_blocks holds_no_root e = refl
+  no_blocks (holds_more_roots h hs) e = cc
+
+  pub all_unique : (old new : Known) (T : ℕ) → 32 ≤ T → AdvancesRoots bytes table old new uniques_ahead (from_type T) → AdvancesUniques bytes table old new
+  all_unique old new T high a = record {
+    turns = a.turns;
+    turns_are = a.turns_are;
+    are_turns = a.are_turns;
+    within = a.within;
+    counted = a.counted;
+    forth = λ left places r.
+        let s = a.forth left places r in
+        let none : s.names ++ s.uniques ≡ [] = (λ i. no_names bytes s.names s.are_entries i ++ none_rising T s.uniques high s.rising i) in
+        let no_block = no_blocks s.roots none in
+        record { values = s.resolves.values; blocks = s.resolves.blocks; holds = s.resolves.holds; owners = λ h. s.owners h ∙ ap (λ bs. times h (bs ++ s.rest)) no_block ∙ s.resolves.owners h };
+    back = λ left places r. a.back left places (record {
+      names = [];
+      uniques = [];
+      root_blocks = [];
+      rest = new.unclaimed;
+      are_entries = tt;
+      ascending = tt;
+      words = λ U low less. absurd (omega arith);
+      rising = tt;
+      plain = tt;
+      roots = holds_no_root;
+      resolves = r;
+      owners = λ h. refl;
+    });
+  }
