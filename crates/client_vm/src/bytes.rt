@@ -3,7 +3,6 @@ ghost use Rattle.seg_spec.specs.Bytes.{word};
 ghost use Rattle.seg_spec.specs.Faulty.{IsImageLength};
 ghost use Rattle.seg_spec.specs.Header.{allocator_word};
 ghost use Rattle.seg_spec.specs.Window.{IsPlace};
-ghost use Rattle.seg_check.specs.Faults.{IsImageOf, IsFaultOfOpening};
 ghost use Rattle.client_spec.specs.Outcome.{CanMove};
 ghost use Rattle.client_vm.specs.Admitted.{LiesIn, IsAdmitted, AreAcceptedOn, IsWrong};
 ghost use Rattle.client_vm.specs.Moves.{moves_of};
@@ -18,6 +17,7 @@ use crate::sink::Sink;
 use client_verify::Verified;
 use seg_bestfit::BestFit;
 use seg_block::Fit;
+use seg_check::open;
 use seg_manager::{MIN_LEN, Segment};
 use seg_ptr::{MAX_LEN, Window, header};
 use seg_raw::{Fault, Region};
@@ -148,7 +148,7 @@ fn run_on<F: Fit, A: Allocator + Copy, W: Sink>(
     ensures reports { IfOk result (λ o. HasReportsOf (map (λ c. c.now) clients.now)
         o.reports.items o.ended) }
 {
-    let mut segment = open_image::<F, A, A>(alloc, window).map_err(|refused| refused.0)?;
+    let mut segment = open::<F, A, A>(alloc, window).map_err(|refused| refused.0)?;
     let programs = verify_all(alloc, clients, segment.types())?;
     let mut reports = Vec::with_capacity(alloc, clients.len())?;
     run_all(
@@ -226,20 +226,4 @@ fn run_all<F: Fit, A: Allocator, B: Allocator, W: Sink>(
         // there is room for it
         let _ = reports.push(report);
     }
-}
-
-// TEMPORARY
-fn open_image<F: Fit, A: Allocator, B: Allocator>(
-    alloc: B,
-    window: Window<A>,
-) -> Result<Segment<F, A>, (Fault, Window<A>)>
-    ensures opened { IfOk result (λ segment. segment.window ≡ window) }
-    ensures image { IfOk result (λ segment. IsImageOf window.bytes segment.types) }
-    ensures allocator { OnOk result (word window.bytes allocator_word ≡ F.allocator) }
-    ensures fault { IfErr result
-        (λ refused. IsFaultOfOpening F.allocator window.bytes refused.0) }
-    ensures refused { IfErr result (λ refused. refused.1 ≡ window) }
-{
-    let _ = alloc;
-    Err((Fault::Memory, window))
 }
