@@ -139,7 +139,7 @@ module _ (bytes : List ℕ) (table : Table) (old : Known) (ready : IsReady bytes
           };
           claims = record {
             claimed = λ h. t.claims.claimed h ∙ times-append h (map block_of t.entered) mid.unclaimed ∙ ap (λ n. n + times h mid.unclaimed) (blocks h ∙ ap (λ xs. times h (map block_of xs)) (sym w.nodes_are)) ∙
-              sym (times-append h (map block_of (nodes_of w.tree)) mid.unclaimed);
+                sym (times-append h (map block_of (nodes_of w.tree)) mid.unclaimed);
             counted = t.claims.counted;
             turns_are = t.claims.turns_are;
           };
@@ -205,8 +205,14 @@ module _ (bytes : List ℕ) (table : Table) (old : Known) (ready : IsReady bytes
         mapped_some xs some = in_map (splits node xs some)
           where
             in_map : Splits node xs → 1 ≤ times (block_of node) (map block_of xs)
-            in_map s = omega (arith, ap (λ ys. times (block_of node) (map block_of ys)) s.parts, ap (times (block_of node)) (map-append block_of s.before (node ∷ s.after)), times-append (block_of node) (map block_of s.before)
-                (block_of node ∷ map block_of s.after), times-same (block_of node) (map block_of s.after))
+            in_map s = omega (
+              arith,
+              ap (λ ys. times (block_of node) (map block_of ys)) s.parts,
+              ap (times (block_of node)) (map-append block_of s.before (node ∷ s.after)),
+              times-append (block_of node) (map block_of s.before)
+                  (block_of node ∷ map block_of s.after),
+              times-same (block_of node) (map block_of s.after),
+            )
 
     module _ (now : Known) (last : List ℕ) (stage : Stage) (turns : ℕ) (t : Named now last stage turns) where
       -- the next node is the next one of the tree
@@ -278,7 +284,7 @@ module _ (bytes : List ℕ) (table : Table) (old : Known) (ready : IsReady bytes
       tree_one other o =
           let its : OpensTreeIndex bytes other = subst (λ k. OpensIndex bytes k other) tree o in
           its.index_is ∙ ap (λ t. record { blocks = map block_of (nodes_of t); entries = map (λ p. p + tree_words) (nodes_of t) }) (IsTree-one bytes (target bytes index_cell) its.tree c.opens.tree its.is_tree c.opens.is_tree) ∙
-            sym c.opens.index_is
+          sym c.opens.index_is
 
       pub tree_names : CanResolveIndex bytes table old.unclaimed → CanResolveRoots bytes table start.unclaimed (names_ahead c.index.entries [])
       tree_names = index_names bytes table old start c.index tree_opens tree_one c.claims

@@ -24,7 +24,7 @@ loop-visit-init g c = record {
       let turns = c.walk-walk.result.turns in
       traced_start bytes c.args.self.now.types.now c.args.claims.now ready stage turns
       (subst (λ n. Followed bytes index_cell n stage turns [] []) nodes (subst (λ r. Followed bytes r c.args.tree.nodes stage turns [] []) root
-          (follow_start bytes c.args.tree.root c.args.tree.nodes stage turns w.steady w.turns w.starts))));
+      (follow_start bytes c.args.tree.root c.args.tree.nodes stage turns w.steady w.turns w.starts))));
 }
 
 pub returns-in_err-visit-clause-refused : goal.returns-in_err-visit-clause-refused
