@@ -22,7 +22,7 @@ use Rattle.client_verify.specs.Refusals.{IsRefused}
 use Rattle.client_vm.specs.declared.report.Refused.{Refused}
 use Rattle.client_vm.specs.Texts.{IsWrongAt, IsWrongBy}
 use Rattle.client_vm.specs.Admitted.{LiesIn, AreAcceptedOn, IsAdmitted, IsWrongFor, IsWrong}
-use Rattle.client_vm.specs.Outcomes.{IsBadImage, IsBadClient, IsFault, IsFaultOfCall, IsFaultOfClient, IsRefusedFor}
+use Rattle.client_vm.specs.Outcomes.{IsBadImage, IsFault, IsFaultOfCall, IsFaultOfClient, IsRefusedFor}
 use Rattle.seg_spec.proofs.Failures.{unsound}
 
 refused_client : (table : Table) (client : Client) (f : Fault) → IsRefused table client f → IsVerified table client → ⊥
@@ -37,7 +37,7 @@ pub fault_of_image : (allocator : ℕ) (image : List ℕ) (f : Fault) → (word 
 fault_of_image allocator image f named (inl h) = h
 fault_of_image allocator image f named (inr h) = absurd (h.2 (named h.1.held.laid_out.header.allocator_is))
 
-sound_of : (image : List ℕ) (table : Table) → IsImageOf image table → IsSound image
+abbrev sound_of : (image : List ℕ) (table : Table) → IsImageOf image table → IsSound image
 sound_of image table is = record { picture = is.picture; held = is.held; none_loose = is.none_loose }
 
 module _ (image : List ℕ) (texts : List (List ℕ)) (table : Table) (is : IsImageOf image table) where
@@ -52,7 +52,7 @@ module _ (image : List ℕ) (texts : List (List ℕ)) (table : Table) (is : IsIm
 
 module _ (image : List ℕ) (texts : List (List ℕ)) (room base : ℕ) (moves : List Move) (can : CanMove image room base moves) where
   bad_image : (f : Fault) → (IsSound image → ⊥) → IsFaultOf image f → IsBadImage image texts room base moves f
-  bad_image f no h = record { refusal = (can, no); fault = h }
+  bad_image f isnt h = record { refusal = (can, isnt); fault = h }
 
   of_call : (f : Fault) → IsFaultOf image f → IsFaultOfCall image texts room base moves f
   of_call fault.Memory h = tt
@@ -67,7 +67,7 @@ module _ (image : List ℕ) (texts : List (List ℕ)) (room base : ℕ) (moves :
   of_call (fault.Unowned at) h = bad_image (fault.Unowned at) h.1 h
   of_call f h = absurd h
 
-  turn : (k : ℕ) (f : Fault) (sound : IsSound image) (w : IsWrongAt sound.picture.table texts k f) → IsTurnOf image texts k w.text
+  abbrev turn : (k : ℕ) (f : Fault) (sound : IsSound image) (w : IsWrongAt sound.picture.table texts k f) → IsTurnOf image texts k w.text
   turn k f sound w = record { sound = sound; clients = w.clients; accepted = w.accepted; text_is = w.text_is }
 
   of_client : (k : ℕ) (f : Fault) (sound : IsSound image) → IsWrongAt sound.picture.table texts k f → IsFaultOfClient image texts room base moves k f

@@ -3,7 +3,7 @@
 --     AreAcceptedOn image texts           the image is sound, and accepts the clients one by one
 --     IsAdmitted image texts room base moves   so it is, and the image and its moves have places
 --     IsWrong image texts refused         the image has the fault, or a client of a sound one has
-use Rattle.std.specs.Prelude.{ℕ, ◌≤◌, ◌+◌, List, length, Option, Some, None}
+use Rattle.std.specs.Prelude.{ℕ, List, length, Option, Some, None}
 use Rattle.seg_spec.specs.Bytes.{IsPlaced}
 use Rattle.seg_spec.specs.Window.{IsPlace}
 use Rattle.seg_spec.specs.Sound.{IsSound}

@@ -1,12 +1,8 @@
-ghost use Rattle.std.specs.Prelude.{ℕ, List, ◌≡◌, ◌↔◌, ◌≤◌, ◌<◌, ◌+◌, ◌*◌, ◌^◌, true, false, IfOk, IfErr, OnErr, OnOk, IsOkUnless, [], length, map, vec_len, vec_capacity};
-ghost use Rattle.seg_spec.specs.Bytes.{word};
+ghost use Rattle.std.specs.Prelude.{ℕ, List, ◌≡◌, ◌↔◌, ◌≤◌, ◌<◌, ◌+◌, ◌*◌, ◌^◌, true, false, IfOk, IfErr, OnErr, OnOk, [], length, map, vec_len, vec_capacity};
 ghost use Rattle.seg_spec.specs.Faulty.{IsImageLength};
-ghost use Rattle.seg_spec.specs.Header.{allocator_word};
-ghost use Rattle.seg_spec.specs.Window.{IsPlace};
 ghost use Rattle.client_spec.specs.Outcome.{CanMove};
-ghost use Rattle.client_vm.specs.Admitted.{LiesIn, IsAdmitted, AreAcceptedOn, IsWrong};
 ghost use Rattle.client_vm.specs.Moves.{moves_of};
-ghost use Rattle.client_vm.specs.Outcomes.{IsRefusedFor, IsFaultOfCall};
+ghost use Rattle.client_vm.specs.Outcomes.{IsFaultOfCall};
 ghost use Rattle.client_vm.specs.Reports.{texts_of, AreReportsOf, HasReportsOf};
 
 use crate::accepting::verify_all;
@@ -41,10 +37,6 @@ pub fn run_bytes<A: Allocator + Copy, W: Sink>(
     out: &mut W,
 ) -> Result<Outcome<A>, Refused>
     requires works { W.has_failed out.old ≡ false }
-    ensures refused { IfErr result (λ refused. IsRefusedFor image.now (map (λ c. c.now) clients.now)
-        schedule.now.room schedule.now.base (moves_of schedule.now.moves.now) refused) }
-    ensures admitted { OnOk result (IsAdmitted image.now (map (λ c. c.now) clients.now)
-        schedule.now.room schedule.now.base (moves_of schedule.now.moves.now)) }
     ensures nothing_written { OnErr result (out.new ≡ out.old) }
     ensures ended { IfOk result
         (λ o. (o.ended ≡ Ended.OutputFailed) ↔ (W.has_failed out.new ≡ true)) }
@@ -66,10 +58,6 @@ pub fn run_image<A: Allocator + Copy, W: Sink>(
     out: &mut W,
 ) -> Result<Outcome<A>, Refused>
     requires works { W.has_failed out.old ≡ false }
-    ensures refused { IfErr result (λ refused. IsRefusedFor image.items (map (λ c. c.now) clients.now)
-        schedule.now.room schedule.now.base (moves_of schedule.now.moves.now) refused) }
-    ensures admitted { OnOk result (IsAdmitted image.items (map (λ c. c.now) clients.now)
-        schedule.now.room schedule.now.base (moves_of schedule.now.moves.now)) }
     ensures nothing_written { OnErr result (out.new ≡ out.old) }
     ensures ended { IfOk result
         (λ o. (o.ended ≡ Ended.OutputFailed) ↔ (W.has_failed out.new ≡ true)) }
@@ -77,25 +65,12 @@ pub fn run_image<A: Allocator + Copy, W: Sink>(
         o.reports.items o.ended) }
 {
     let len = fitting(image.as_slice(), schedule)?;
-    let region = placed(alloc, image, schedule)?;
+    let region = if len == schedule.room {
+        Region::from_vec(image)
+    } else {
+        Region::with_bytes(alloc, schedule.room, schedule.base, image.as_slice())?
+    };
     run_in(alloc, region, len, clients, input, schedule, out)
-}
-
-/// A region with the image at its base: the image's own memory where it fills the region.
-fn placed<A: Allocator>(
-    alloc: A,
-    image: Vec<u8, A>,
-    schedule: &Schedule,
-) -> Result<Region<A>, Fault>
-    requires place { IsPlace schedule.now.room schedule.now.base (length image.items) }
-    requires at_most { schedule.now.room ≤ 2 ^ 31 }
-    ensures lies { IfOk result (λ region. LiesIn region schedule.now.base image.items) }
-    ensures refused { IsOkUnless result Fault.Memory }
-{
-    if image.len() == schedule.room as usize {
-        return Ok(Region::from_vec(image));
-    }
-    Region::with_bytes(alloc, schedule.room, schedule.base, image.as_slice())
 }
 
 /// Runs clients on the image of `len` bytes at its place in a region, with the allocator that it names.
@@ -109,10 +84,6 @@ fn run_in<A: Allocator + Copy, W: Sink>(
     out: &mut W,
 ) -> Result<Outcome<A>, Refused>
     requires works { W.has_failed out.old ≡ false }
-    ensures refused { (image : List ℕ) → LiesIn region schedule.now.base image → len ≡ length image →
-        IfErr result (λ refused. IsWrong image (map (λ c. c.now) clients.now) refused) }
-    ensures accepted { (image : List ℕ) → LiesIn region schedule.now.base image → len ≡ length image →
-        OnOk result (AreAcceptedOn image (map (λ c. c.now) clients.now)) }
     ensures nothing_written { OnErr result (out.new ≡ out.old) }
     ensures ended { IfOk result
         (λ o. (o.ended ≡ Ended.OutputFailed) ↔ (W.has_failed out.new ≡ true)) }
@@ -137,11 +108,6 @@ fn run_on<F: Fit, A: Allocator + Copy, W: Sink>(
     out: &mut W,
 ) -> Result<Outcome<A>, Refused>
     requires works { W.has_failed out.old ≡ false }
-    ensures refused { (word window.bytes allocator_word ≤ 1 →
-        word window.bytes allocator_word ≡ F.allocator) →
-        IfErr result (λ refused. IsWrong window.bytes (map (λ c. c.now) clients.now) refused) }
-    ensures accepted { OnOk result
-        (AreAcceptedOn window.bytes (map (λ c. c.now) clients.now)) }
     ensures nothing_written { OnErr result (out.new ≡ out.old) }
     ensures ended { IfOk result
         (λ o. (o.ended ≡ Ended.OutputFailed) ↔ (W.has_failed out.new ≡ true)) }
