@@ -1,2 +1,4 @@
 pub mod MovesLaws
 pub mod ReportLaws
+pub mod TextsLaws
+pub mod Refusing

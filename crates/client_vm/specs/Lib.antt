@@ -4,3 +4,5 @@ pub mod Runs
 pub mod Outcomes
 pub mod Machines
 pub mod Reports
+pub mod Texts
+pub mod Admitted

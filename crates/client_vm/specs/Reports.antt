@@ -3,7 +3,8 @@
 --     IsReportOf text report          the steps and the ending are those of a run of the client's
 --                                     code, within its bound
 --     AreReportsOf texts reports      the same of each client that ran, in order
-use Rattle.std.specs.Prelude.{⊤, ℕ, ◌≤◌, List, [], ◌∷◌, map}
+--     HasReportsOf texts reports ended    and all ran where no output failed
+use Rattle.std.specs.Prelude.{◌≡◌, ⊤, ℕ, ◌≤◌, List, [], ◌∷◌, length, map}
 use Rattle.client_spec.specs.Syntax.{Client}
 use Rattle.client_spec.specs.Grammar.{SpellsClient}
 use Rattle.client_spec.specs.Run.{bound}
@@ -11,6 +12,7 @@ use Rattle.client_code.specs.Clients.{bytes_of}
 use Rattle.client_verify.specs.Accepted.{client_of}
 use Rattle.client_verify.specs.declared.verified.Verified.{Verified}
 use Rattle.client_vm.specs.declared.report.Report.{Report}
+use Rattle.client_vm.specs.declared.report.Ended.{Ended}
 use Rattle.client_vm.specs.Runs.{ending_of}
 use Rattle.client_program.specs.Paths.{IsPath}
 
@@ -28,3 +30,7 @@ AreReportsOf texts [] = ⊤
 AreReportsOf [] (report ∷ reports) = ⊥
 AreReportsOf (text ∷ texts) (report ∷ reports) =
     IsReportOf text report × AreReportsOf texts reports
+
+pub record HasReportsOf (texts : List (List ℕ)) (reports : List Report) (ended : Ended) : Type 0 where
+  pub reports_are : AreReportsOf texts reports
+  pub all : ended ≡ Ended.Done → length reports ≡ length texts

@@ -1,17 +1,19 @@
-ghost use Rattle.std.specs.Prelude.{◌≡◌, ◌↔◌, ◌≤◌, ◌<◌, ◌+◌, ◌*◌, ◌^◌, true, false, IfOk, IfErr, OnErr, OnOk, [], length, map, vec_len, vec_capacity};
-ghost use Rattle.seg_spec.specs.Window.{IsPlace};
-ghost use Rattle.client_vm.specs.Reports.{texts_of, AreReportsOf};
+ghost use Rattle.std.specs.Prelude.{ℕ, List, ◌≡◌, ◌↔◌, ◌≤◌, ◌<◌, ◌+◌, ◌*◌, ◌^◌, true, false, IfOk, IfErr, OnErr, OnOk, [], length, map, vec_len, vec_capacity};
+ghost use Rattle.seg_spec.specs.Faulty.{IsImageLength};
+ghost use Rattle.client_spec.specs.Outcome.{CanMove};
+ghost use Rattle.client_vm.specs.Moves.{moves_of};
+ghost use Rattle.client_vm.specs.Outcomes.{IsFaultOfCall};
+ghost use Rattle.client_vm.specs.Reports.{texts_of, AreReportsOf, HasReportsOf};
 
+use crate::accepting::verify_all;
 use crate::interpreter::run;
 use crate::moves::{first_bad_move, is_place};
 use crate::report::{Ended, Move, Outcome, Refused, Report, Schedule};
 use crate::sink::Sink;
-use client_code::parse;
-use client_verify::{Verified, verify};
+use client_verify::Verified;
 use seg_bestfit::BestFit;
 use seg_block::Fit;
 use seg_check::open;
-use seg_layout::TypeTable;
 use seg_manager::{MIN_LEN, Segment};
 use seg_ptr::{MAX_LEN, Window, header};
 use seg_raw::{Fault, Region};
@@ -35,13 +37,11 @@ pub fn run_bytes<A: Allocator + Copy, W: Sink>(
     out: &mut W,
 ) -> Result<Outcome<A>, Refused>
     requires works { W.has_failed out.old ≡ false }
-    ensures refused { OnErr result (W.has_failed out.new ≡ false) }
+    ensures nothing_written { OnErr result (out.new ≡ out.old) }
     ensures ended { IfOk result
         (λ o. (o.ended ≡ Ended.OutputFailed) ↔ (W.has_failed out.new ≡ true)) }
-    ensures reports { IfOk result
-        (λ o. AreReportsOf (map (λ c. c.now) clients.now) o.reports.items) }
-    ensures all { IfOk result
-        (λ o. o.ended ≡ Ended.Done → length o.reports.items ≡ length clients.now) }
+    ensures reports { IfOk result (λ o. HasReportsOf (map (λ c. c.now) clients.now)
+        o.reports.items o.ended) }
 {
     let len = fitting(image, schedule)?;
     let region = Region::with_bytes(alloc, schedule.room, schedule.base, image)?;
@@ -58,13 +58,11 @@ pub fn run_image<A: Allocator + Copy, W: Sink>(
     out: &mut W,
 ) -> Result<Outcome<A>, Refused>
     requires works { W.has_failed out.old ≡ false }
-    ensures refused { OnErr result (W.has_failed out.new ≡ false) }
+    ensures nothing_written { OnErr result (out.new ≡ out.old) }
     ensures ended { IfOk result
         (λ o. (o.ended ≡ Ended.OutputFailed) ↔ (W.has_failed out.new ≡ true)) }
-    ensures reports { IfOk result
-        (λ o. AreReportsOf (map (λ c. c.now) clients.now) o.reports.items) }
-    ensures all { IfOk result
-        (λ o. o.ended ≡ Ended.Done → length o.reports.items ≡ length clients.now) }
+    ensures reports { IfOk result (λ o. HasReportsOf (map (λ c. c.now) clients.now)
+        o.reports.items o.ended) }
 {
     let len = fitting(image.as_slice(), schedule)?;
     let region = if len == schedule.room {
@@ -86,13 +84,11 @@ fn run_in<A: Allocator + Copy, W: Sink>(
     out: &mut W,
 ) -> Result<Outcome<A>, Refused>
     requires works { W.has_failed out.old ≡ false }
-    ensures refused { OnErr result (W.has_failed out.new ≡ false) }
+    ensures nothing_written { OnErr result (out.new ≡ out.old) }
     ensures ended { IfOk result
         (λ o. (o.ended ≡ Ended.OutputFailed) ↔ (W.has_failed out.new ≡ true)) }
-    ensures reports { IfOk result
-        (λ o. AreReportsOf (map (λ c. c.now) clients.now) o.reports.items) }
-    ensures all { IfOk result
-        (λ o. o.ended ≡ Ended.Done → length o.reports.items ≡ length clients.now) }
+    ensures reports { IfOk result (λ o. HasReportsOf (map (λ c. c.now) clients.now)
+        o.reports.items o.ended) }
 {
     let window = Window::place(region, schedule.base, len).map_err(|refused| refused.0)?;
     if window.get32(header::ALLOCATOR) == BestFit::word() {
@@ -112,13 +108,11 @@ fn run_on<F: Fit, A: Allocator + Copy, W: Sink>(
     out: &mut W,
 ) -> Result<Outcome<A>, Refused>
     requires works { W.has_failed out.old ≡ false }
-    ensures refused { OnErr result (W.has_failed out.new ≡ false) }
+    ensures nothing_written { OnErr result (out.new ≡ out.old) }
     ensures ended { IfOk result
         (λ o. (o.ended ≡ Ended.OutputFailed) ↔ (W.has_failed out.new ≡ true)) }
-    ensures reports { IfOk result
-        (λ o. AreReportsOf (map (λ c. c.now) clients.now) o.reports.items) }
-    ensures all { IfOk result
-        (λ o. o.ended ≡ Ended.Done → length o.reports.items ≡ length clients.now) }
+    ensures reports { IfOk result (λ o. HasReportsOf (map (λ c. c.now) clients.now)
+        o.reports.items o.ended) }
 {
     let mut segment = open::<F, A, A>(alloc, window).map_err(|refused| refused.0)?;
     let programs = verify_all(alloc, clients, segment.types())?;
@@ -146,8 +140,10 @@ fn run_on<F: Fit, A: Allocator + Copy, W: Sink>(
 /// The length of an image that may lie at a place and make the moves.
 fn fitting(image: &[u8], schedule: &Schedule) -> Result<u32, Fault>
     ensures len { IfOk result (λ n. n ≡ length image.now) }
-    ensures fits { IfOk result (λ n. IsPlace schedule.now.room schedule.now.base n
-        × (schedule.now.room ≤ 2 ^ 31)) }
+    ensures fits { OnOk result (CanMove image.now schedule.now.room schedule.now.base
+        (moves_of schedule.now.moves.now)) }
+    ensures refused { (texts : List (List ℕ)) → IfErr result (IsFaultOfCall image.now texts
+        schedule.now.room schedule.now.base (moves_of schedule.now.moves.now)) }
 {
     let len = image_len(image)?;
     if schedule.room > MAX_ROOM || !is_place(schedule.room, schedule.base, len) {
@@ -161,35 +157,15 @@ fn fitting(image: &[u8], schedule: &Schedule) -> Result<u32, Fault>
 
 /// The length of an image, if it is one that a segment may have.
 fn image_len(image: &[u8]) -> Result<u32, Fault>
-    ensures { IfOk result (λ n. (n ≡ length image.now) × (n ≤ 2 ^ 30)) }
+    ensures len { IfOk result (λ n. n ≡ length image.now) }
+    ensures fits { OnOk result (IsImageLength (length image.now)) }
+    ensures refused { IfErr result (λ f. (f ≡ Fault.BadHeader) ×
+        (IsImageLength (length image.now) → ⊥)) }
 {
     match u32::try_from(image.len()) {
         Ok(len) if (MIN_LEN..=MAX_LEN).contains(&len) && len % 16 == 0 => Ok(len),
         _ => Err(Fault::BadHeader),
     }
-}
-
-/// The clients, each verified against the types as the ones before extend them.
-fn verify_all<'a, A: Allocator + Copy>(
-    alloc: A,
-    clients: &[&'a [u8]],
-    types: &TypeTable,
-) -> Result<Vec<Verified<'a>, A>, Refused>
-    ensures { IfOk result (λ programs. texts_of programs.items ≡ map (λ c. c.now) clients.now) }
-{
-    let mut types = types.copy();
-    let mut programs = Vec::with_capacity(alloc, clients.len())?;
-    for (i, bytes) in clients.iter().enumerate() {
-        let refused = |fault| Refused {
-            client: Some(i),
-            fault,
-        };
-        let client = parse(bytes).map_err(refused)?;
-        let program = verify(client, &types).map_err(refused)?;
-        types = types.extends(program.types()).map_err(refused)?;
-        programs.push(program)?;
-    }
-    Ok(programs)
 }
 
 /// Runs the clients until the output fails, and adds the report of each that ran.

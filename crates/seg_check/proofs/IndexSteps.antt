@@ -1,14 +1,13 @@
 -- The index, whose blocks were claimed, or can't be.
-use Rattle.std.proofs.Common.{◌≡◌, ℕ, zero, suc, ◌+◌, ◌-◌, ◌*◌, ◌<◌, ◌≤◌, ◌⊎◌, inl, inr, List, [], ◌∷◌, ◌++◌, length, map, Bool, true, false, Option, Some, None, refl, sym, ap, ◌∙◌, subst, arith}
-use Rattle.std.specs.List.{AllByRecursion}
+use Rattle.std.proofs.Common.{◌≡◌, ℕ, zero, suc, ◌+◌, ◌-◌, ◌*◌, ◌<◌, ◌≤◌, ◌⊎◌, inl, inr, List, [], ◌∷◌, ◌++◌, length, map, Some, None, refl, sym, ap, ◌∙◌, subst, arith}
 use Rattle.seg_spec.specs.Bytes.{word}
 use Rattle.seg_spec.specs.Header.{index_kind_word, index_cell}
 use Rattle.seg_spec.specs.Pointer.{target}
 use Rattle.seg_spec.specs.Types.{Table}
 use Rattle.seg_spec.specs.Block.{Kind, IsBlock, block_of, tag_of}
 use Rattle.seg_spec.specs.Reads.{Place, named, start, count_at, spaced}
-use Rattle.seg_spec.specs.Shapes.{Tree, leaf, fork, nodes_of, IsTree, tree_words}
-use Rattle.seg_spec.specs.Index.{Root, Index, OpensFlat, OpensTreeIndex, OpensIndex, AreEntries, AreAscending, index_node_size}
+use Rattle.seg_spec.specs.Shapes.{Tree, leaf, nodes_of, IsTree, tree_words}
+use Rattle.seg_spec.specs.Index.{Root, Index, OpensFlat, OpensTreeIndex, OpensIndex, AreEntries, AreAscending}
 use Rattle.seg_spec.specs.Sound.{times, SameBlocks}
 use Rattle.seg_spec.proofs.LiveLaws.{times-append, times-same}
 use Rattle.seg_spec.proofs.OneReading.{IsTree-one}
@@ -20,11 +19,11 @@ use Rattle.seg_check.specs.Roots.{Ahead, names_ahead, uniques_ahead, ResolvesRoo
 use Rattle.seg_check.proofs.StepLaws.{within_taken, within_trans, ready_within}
 use Rattle.seg_check.proofs.OpenLaws.{named_some, named_none, start_some, names_room, no_room, none_counted, can_claim}
 use Rattle.seg_check.proofs.RootSteps.{roots_none}
-use Rattle.seg_check.specs.Claiming.{ClaimsBlock, AreLive, turns_where, has_turns}
+use Rattle.seg_check.specs.Claiming.{ClaimsBlock, turns_where, has_turns}
 use Rattle.seg_value.specs.Names.{IsIndexBuffer}
 use Rattle.seg_value.specs.declared.content.Content.{Content}
 use Rattle.seg_block.specs.Tags.{word_of}
-use Rattle.std.proofs.lemmas.List.{append_assoc, append-nil, map-append, length-map}
+use Rattle.std.proofs.lemmas.List.{append-nil}
 
 rest_same : (h : ℕ) (u v blocks rest : List ℕ) → times h u ≡ times h (blocks ++ v) → times h u ≡ times h (blocks ++ rest) → times h rest ≡ times h v
 rest_same h u v blocks rest e f = omega (arith, times-append h blocks v, times-append h blocks rest)
@@ -67,39 +66,40 @@ module _ (bytes : List ℕ) (table : Table) where
       one [] e = tt
       one (n ∷ names) e = absurd e
 
-  module _ (old mid : Known) (index : Index) (opens : OpensIndex bytes (word bytes index_kind_word) index) (one : (other : Index) → OpensIndex bytes (word bytes index_kind_word) other → other ≡ index) (claims : ClaimsAll old mid index.blocks [])
-      where
-    names_left : (left : List ℕ) → ResolvesIndex bytes table old.unclaimed left → ResolvesRoots bytes table mid.unclaimed left (names_ahead index.entries []) []
-    names_left left r =
-        let same = one r.index r.opens in
-        roots_moved r.rest mid.unclaimed left (names_ahead index.entries []) []
-        (λ h. rest_same h old.unclaimed mid.unclaimed index.blocks r.rest (claims.claimed h) (r.owners h ∙ ap (λ (x : Index). times h (x.blocks ++ r.rest)) same))
-        (subst (λ (x : Index). ResolvesRoots bytes table r.rest left (names_ahead x.entries []) []) same r.roots)
+  module _ (old mid : Known) (index : Index) (opens : OpensIndex bytes (word bytes index_kind_word) index)
+      (one : (other : Index) → OpensIndex bytes (word bytes index_kind_word) other → other ≡ index) (claims : ClaimsAll old mid index.blocks [])
+    where
+      names_left : (left : List ℕ) → ResolvesIndex bytes table old.unclaimed left → ResolvesRoots bytes table mid.unclaimed left (names_ahead index.entries []) []
+      names_left left r =
+          let same = one r.index r.opens in
+          roots_moved r.rest mid.unclaimed left (names_ahead index.entries []) []
+          (λ h. rest_same h old.unclaimed mid.unclaimed index.blocks r.rest (claims.claimed h) (r.owners h ∙ ap (λ (x : Index). times h (x.blocks ++ r.rest)) same))
+          (subst (λ (x : Index). ResolvesRoots bytes table r.rest left (names_ahead x.entries []) []) same r.roots)
 
-    pub index_names : CanResolveIndex bytes table old.unclaimed → CanResolveRoots bytes table mid.unclaimed (names_ahead index.entries [])
-    index_names can = record { left = can.left; places = []; resolves = names_left can.left can.resolves }
+      pub index_names : CanResolveIndex bytes table old.unclaimed → CanResolveRoots bytes table mid.unclaimed (names_ahead index.entries [])
+      index_names can = record { left = can.left; places = []; resolves = names_left can.left can.resolves }
 
-    pub index_ready : IsReady bytes table old → IsReady bytes table mid
-    index_ready ready = ready_within bytes table old mid ready (within_taken old.unclaimed mid.unclaimed index.blocks claims.claimed)
+      pub index_ready : IsReady bytes table old → IsReady bytes table mid
+      index_ready ready = ready_within bytes table old mid ready (within_taken old.unclaimed mid.unclaimed index.blocks claims.claimed)
 
-    pub index_advance : (new : Known) (last : List ℕ) → AdvancesRoots bytes table mid new (names_ahead index.entries []) (names_ahead [] last) → AdvancesIndex bytes table old new
-    index_advance new last a = record {
-      turns = a.turns;
-      turns_are = a.turns_are ∙ ap (λ ts. ts ++ a.turns) (claims.turns_are ∙ append-nil old.turns);
-      are_turns = a.are_turns;
-      within = within_trans new.unclaimed mid.unclaimed old.unclaimed a.within (within_taken old.unclaimed mid.unclaimed index.blocks claims.claimed);
-      counted = λ k. a.counted (claims.counted k);
-      forth = λ left r. subst (λ ps. ResolvesRoots bytes table new.unclaimed left uniques_ahead ps) (append-nil (waiting bytes table a.turns))
-          (other_last new.unclaimed left last [] (waiting bytes table a.turns ++ []) (a.forth left [] (names_left left r)));
-      back = λ left r. record {
-        index = index;
-        opens = opens;
-        rest = mid.unclaimed;
-        roots = a.back left [] (other_last new.unclaimed left [] last (waiting bytes table a.turns ++ [])
-            (subst (λ ps. ResolvesRoots bytes table new.unclaimed left uniques_ahead ps) (sym (append-nil (waiting bytes table a.turns))) r));
-        owners = claims.claimed;
-      };
-    }
+      pub index_advance : (new : Known) (last : List ℕ) → AdvancesRoots bytes table mid new (names_ahead index.entries []) (names_ahead [] last) → AdvancesIndex bytes table old new
+      index_advance new last a = record {
+        turns = a.turns;
+        turns_are = a.turns_are ∙ ap (λ ts. ts ++ a.turns) (claims.turns_are ∙ append-nil old.turns);
+        are_turns = a.are_turns;
+        within = within_trans new.unclaimed mid.unclaimed old.unclaimed a.within (within_taken old.unclaimed mid.unclaimed index.blocks claims.claimed);
+        counted = λ k. a.counted (claims.counted k);
+        forth = λ left r. subst (λ ps. ResolvesRoots bytes table new.unclaimed left uniques_ahead ps) (append-nil (waiting bytes table a.turns))
+            (other_last new.unclaimed left last [] (waiting bytes table a.turns ++ []) (a.forth left [] (names_left left r)));
+        back = λ left r. record {
+          index = index;
+          opens = opens;
+          rest = mid.unclaimed;
+          roots = a.back left [] (other_last new.unclaimed left [] last (waiting bytes table a.turns ++ [])
+              (subst (λ ps. ResolvesRoots bytes table new.unclaimed left uniques_ahead ps) (sym (append-nil (waiting bytes table a.turns))) r));
+          owners = claims.claimed;
+        };
+      }
 
   -- ---- no index
 
@@ -217,7 +217,8 @@ module _ (bytes : List ℕ) (table : Table) where
   -- ---- the buffer of a flat index
 
   module _ (old mid : Known) (n s : ℕ) (content : Content) (is : IsIndexBuffer content) where
-    pub buffer_claimed : ClaimsBlock bytes old mid index_cell (word_of content.tag) (n * content.entry.size) (turns_where (has_turns table content.entry.held) s n) s → ClaimsBlock bytes old mid index_cell (tag_of Kind.index_buffer 0) (n * 8) [] s
+    pub buffer_claimed : ClaimsBlock bytes old mid index_cell (word_of content.tag) (n * content.entry.size) (turns_where (has_turns table content.entry.held) s n) s
+        → ClaimsBlock bytes old mid index_cell (tag_of Kind.index_buffer 0) (n * 8) [] s
     buffer_claimed c =
         subst (λ ts. ClaimsBlock bytes old mid index_cell (tag_of Kind.index_buffer 0) (n * 8) ts s) (ap (λ h. turns_where (has_turns table h) s n) is.held_is)
         (subst (λ k. ClaimsBlock bytes old mid index_cell (tag_of Kind.index_buffer 0) (n * k) (turns_where (has_turns table content.entry.held) s n) s) is.size_is

@@ -1,15 +1,14 @@
 -- The tree of a map, as its nodes are claimed where a walk enters them and its keys read where it passes them.
 use Rattle.std.proofs.Common.{◌≡◌, ℕ, zero, suc, ◌+◌, ◌*◌, ◌^◌, ◌-◌, ◌%◌, ◌<◌, ◌≤◌, Bool, List, [], ◌∷◌, ◌++◌, length, length-append, map, Option, Some, None, Result, Ok, Err, MatchResult, ℤ, refl, sym, ap, ◌∙◌, subst, arith}
-use Rattle.std.specs.Prelude.{◌↔◌}
 use Rattle.std.specs.List.{AllByRecursion}
 use Rattle.std.specs.Result.{IsErrAnd}
 use Rattle.std.proofs.lemmas.Result.{err_from_is_err_and}
-use Rattle.std.proofs.lemmas.List.{append_assoc, map-append}
+use Rattle.std.proofs.lemmas.List.{map-append}
 use Rattle.seg_spec.specs.Pointer.{target}
 use Rattle.seg_spec.specs.Bytes.{signed_long}
 use Rattle.seg_spec.specs.Types.{Form, Table, form_at, size}
 use Rattle.seg_spec.specs.Block.{Kind, tag_of, block_of, IsBlock}
-use Rattle.seg_spec.specs.Shapes.{Tree, leaf, fork, nodes_of, IsTree, IsRedBlack, tree_words}
+use Rattle.seg_spec.specs.Shapes.{Tree, leaf, fork, nodes_of, IsTree, tree_words}
 use Rattle.seg_spec.specs.Value.{IsAscending, Label}
 use Rattle.seg_spec.specs.Reads.{Place, Opened, AreNodes, count_at, keys_at, map_words, places_of}
 use Rattle.seg_spec.specs.Sound.{times, SameBlocks}
@@ -23,17 +22,17 @@ use Rattle.seg_check.specs.declared.maps.Keys.{Keys}
 use Rattle.seg_check.specs.declared.walk.Stage.{Stage}
 use Rattle.seg_check.specs.declared.walk.Visit.TheVariants.{Enter, Pass}
 use Rattle.seg_check.specs.Claiming.{Refuses, AreLive, CanClaim, ClaimsBlock, turns_where, has_turns}
-use Rattle.seg_check.specs.Marks.{Known, ClaimsAll, Within}
+use Rattle.seg_check.specs.Marks.{Known, Within}
 use Rattle.seg_check.specs.Keys.{HasKeys}
 use Rattle.seg_check.specs.Walks.{Completes, Hangs, IsSteady, Proceeds, entering_of}
 use Rattle.seg_check.specs.Resolving.{Resolves, CanResolve, Advances, IsReady, Steps}
 use Rattle.seg_check.specs.Cells.{NamesBy, blocks_counted_by}
-use Rattle.seg_check.proofs.SameLength.{splits, same_length, within_length}
+use Rattle.seg_check.proofs.SameLength.{splits, within_length}
 use Rattle.seg_check.proofs.StepLaws.{advance_mixed, can_open, resolves_swap}
 use Rattle.seg_check.proofs.OpenLaws.{advance_nothing}
 use Rattle.seg_check.proofs.BufferLaws.{content_claimed, content_can}
-use Rattle.seg_check.proofs.NodeLaws.{turns_of, Claimed, one_node, claimed_none, claimed_more, claimed_within, claimed_live, nodes_within, within_rest, node_room, values_of, values_known, claimed_wait}
-use Rattle.seg_check.proofs.Followed.{Followed, hangs_once, follow_start, follow_enter, follow_pass, follow_end, follow_all, follow_refused}
+use Rattle.seg_check.proofs.NodeLaws.{turns_of, Claimed, one_node, claimed_none, claimed_more, claimed_live, nodes_within, within_rest, node_room, values_of, values_known, claimed_wait}
+use Rattle.seg_check.proofs.Followed.{Followed, hangs_once, follow_enter, follow_pass, follow_end, follow_all, follow_refused}
 
 -- ---- lists in which each number stands equally often
 

@@ -1,15 +1,14 @@
 -- An entry of the index and its object, which was claimed, or can't be.
-use Rattle.std.proofs.Common.{◌≡◌, ℕ, zero, suc, ◌+◌, ◌*◌, ◌^◌, ◌<◌, ◌≤◌, Bool, true, false, List, [], ◌∷◌, ◌++◌, length, map, Option, Some, None, refl, sym, ap, ◌∙◌, subst, arith}
-use Rattle.std.specs.List.{AllByRecursion}
+use Rattle.std.proofs.Common.{◌≡◌, ℕ, zero, suc, ◌+◌, ◌*◌, ◌<◌, ◌≤◌, Bool, true, false, List, [], ◌∷◌, ◌++◌, length, map, Option, Some, refl, sym, ap, ◌∙◌, subst, arith}
 use Rattle.seg_spec.specs.Bytes.{slice, half, byte}
 use Rattle.seg_spec.specs.Pointer.{target}
-use Rattle.seg_spec.specs.Types.{Form, Table, form_at, size}
-use Rattle.seg_spec.specs.Value.{Values, nil, cons, count}
+use Rattle.seg_spec.specs.Types.{Table, form_at, size}
+use Rattle.seg_spec.specs.Value.{Values, count}
 use Rattle.seg_spec.specs.Block.{Kind, IsBlock, AllowsType, block_of, tag_of}
 use Rattle.seg_spec.specs.Owing.{entries_at}
 use Rattle.seg_spec.specs.Reads.{Place, items, spaced, HoldsEach, holds_none, holds_more, holds}
 use Rattle.seg_spec.specs.Index.{Root, IsName, IsEntry, AreEntries, AreAscending, Precedes}
-use Rattle.seg_spec.specs.Sound.{HoldsRoot, HoldsRoots, kind_by_name, times, SameBlocks}
+use Rattle.seg_spec.specs.Sound.{HoldsRoots, kind_by_name, times, SameBlocks}
 use Rattle.seg_spec.proofs.CellOwed.{items_entries}
 use Rattle.seg_spec.proofs.LiveLaws.{times-append, times-same}
 use Rattle.seg_spec.proofs.MoreTypes.{below_length}
@@ -17,17 +16,17 @@ use Rattle.seg_spec.proofs.RootLaws.{HoldsRoots-split, HoldsRoots-only}
 use Rattle.seg_spec.proofs.BytesLaws.{length-slice}
 use Rattle.seg_layout.specs.Forms.{has_cells}
 use Rattle.seg_check.specs.Claiming.{CanClaim, ClaimsBlock, turns_where}
-use Rattle.seg_check.specs.Marks.{Known, Within}
+use Rattle.seg_check.specs.Marks.{Known}
 use Rattle.seg_check.specs.Turns.{AreLow, AreKnown, AreTurns, places_in, places_with, waiting, with_cells}
 use Rattle.seg_check.specs.Resolving.{Resolves, IsReady}
-use Rattle.seg_check.specs.Roots.{Ahead, names_ahead, ResolvesRoots, CanResolveRoots, AdvancesRoots, ClaimsNamed, CanClaimNamed}
+use Rattle.seg_check.specs.Roots.{names_ahead, ResolvesRoots, CanResolveRoots, AdvancesRoots, ClaimsNamed, CanClaimNamed}
 use Rattle.seg_index.specs.Names.{type_at, name_after, name_of}
 use Rattle.seg_index.proofs.NamedTags.{is_named, in_block}
 use Rattle.seg_check.proofs.TagNumbers.{one_tag}
 use Rattle.seg_check.proofs.TagLaws.{places_tagged, allowed_as}
 use Rattle.seg_check.proofs.StepLaws.{cells_forth, cells_back, within_taken}
 use Rattle.seg_check.proofs.OpenLaws.{entries_low, known_places, claimed_waiting}
-use Rattle.seg_check.proofs.RootSteps.{Joined, joined, Rooted, rooted}
+use Rattle.seg_check.proofs.RootSteps.{joined, rooted}
 
 -- ---- the kind of an object
 
@@ -118,7 +117,8 @@ module _ (bytes : List ℕ) (table : Table) where
       let at_is : root.at ≡ p = cc in
       let count_is : count root.values ≡ n = sym e.counted ∙ s.counted in
       let len_is : length root.name ≡ length name = sym e.measured ∙ s.measured in
-      let tags : tag_of Kind.named root.type ≡ tag_of Kind.named T = ap (λ k. tag_of k root.type) (sym (kind_named root.name e.is_name.not_empty)) ∙ sym rooted.has_tag ∙ ap (λ q. Rattle.seg_spec.specs.Heap.tag_at bytes (block_of q)) at_is ∙ block.has_tag in
+      let tags : tag_of Kind.named root.type ≡ tag_of Kind.named T =
+      ap (λ k. tag_of k root.type) (sym (kind_named root.name e.is_name.not_empty)) ∙ sym rooted.has_tag ∙ ap (λ q. Rattle.seg_spec.specs.Heap.tag_at bytes (block_of q)) at_is ∙ block.has_tag in
       let type_is : root.type ≡ T = (one_tag Kind.named Kind.named root.type T tags).1 in
       let name_same : root.name ≡ name = sym name_is ∙ (λ i. slice bytes (at_is i + count_is i * size table (type_is i)) (len_is i)) ∙ s.name_is in
       record { at_is = at_is; type_is = type_is; count_is = count_is; same_name = name_same }
@@ -255,7 +255,8 @@ module _ (bytes : List ℕ) (table : Table) where
             };
           }
 
-  pub named_can : (old : Known) (at n len : ℕ) (rest before : List ℕ) → n ≡ half bytes (at + 4) → len ≡ byte bytes (at + 6) → CanResolveRoots bytes table old.unclaimed (names_ahead (at ∷ rest) before) → CanClaimNamed bytes table old at n len
+  pub named_can : (old : Known) (at n len : ℕ) (rest before : List ℕ) → n ≡ half bytes (at + 4) → len ≡ byte bytes (at + 6) → CanResolveRoots bytes table old.unclaimed (names_ahead (at ∷ rest) before)
+      → CanClaimNamed bytes table old at n len
   named_can old at n len rest before counted measured can =
       let e = can_enter old at rest before 0 can in
       let n_is : count e.root.values ≡ n = sym e.entry.counted ∙ sym counted in

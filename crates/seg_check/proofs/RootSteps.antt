@@ -1,28 +1,23 @@
 -- How roots that are ahead give way to their values.
-use Rattle.std.proofs.Common.{◌≡◌, ◌≢◌, ℕ, zero, suc, ◌+◌, ◌*◌, ◌<◌, ◌≤◌, ◌⊎◌, inl, inr, List, [], ◌∷◌, ◌++◌, length, map, Some, None, refl, sym, ap, ◌∙◌, subst, arith}
+use Rattle.std.proofs.Common.{◌≡◌, ℕ, ◌+◌, ◌*◌, List, [], ◌∷◌, ◌++◌, length, refl, sym, ap, ◌∙◌, subst, arith}
 use Rattle.std.proofs.lemmas.List.{append_assoc, append-nil, length-map}
-use Rattle.std.proofs.lemmas.Bool.{cases_eq}
-use Rattle.std.specs.List.{AllByRecursion}
-use Rattle.seg_spec.specs.Bytes.{slice, half, byte}
-use Rattle.seg_spec.specs.Pointer.{target}
+use Rattle.seg_spec.specs.Bytes.{slice}
 use Rattle.seg_spec.specs.Types.{Table, size}
-use Rattle.seg_spec.specs.Value.{Value, Values, nil, cons, append, count}
-use Rattle.seg_spec.specs.Block.{Kind, IsBlock, block_of, tag_of}
-use Rattle.seg_spec.specs.Reads.{Place, items, places_of, spaced, HoldsEach}
-use Rattle.seg_spec.specs.Index.{Root, IsName, IsEntry, AreEntries, AreAscending, Precedes, position_of, AreRising, unique_word}
-use Rattle.seg_spec.specs.Sound.{IsPlain, HoldsRoot, HoldsRoots, holds_no_root, holds_more_roots, kind_by_name, times, SameBlocks}
+use Rattle.seg_spec.specs.Value.{Values, append, count}
+use Rattle.seg_spec.specs.Block.{IsBlock, block_of, tag_of}
+use Rattle.seg_spec.specs.Reads.{Place, items, spaced, HoldsEach}
+use Rattle.seg_spec.specs.Index.{Root}
+use Rattle.seg_spec.specs.Sound.{HoldsRoot, HoldsRoots, holds_more_roots, kind_by_name, times, SameBlocks}
 use Rattle.seg_spec.proofs.Fits.{length-spaced}
-use Rattle.seg_spec.proofs.LiveLaws.{times-append, times-same}
+use Rattle.seg_spec.proofs.LiveLaws.{times-append}
 use Rattle.seg_spec.proofs.Paths.{count_is}
 use Rattle.seg_spec.proofs.RootLaws.{HoldsRoots-split, HoldsRoots-only}
 use Rattle.seg_spec.proofs.TreeOwed.{each_split}
-use Rattle.seg_spec.proofs.UniqueLaws.{at_head, past_head, none_below}
-use Rattle.seg_check.specs.declared.marks.Turn.{Turn}
-use Rattle.seg_check.specs.Marks.{Known, Within}
-use Rattle.seg_check.specs.Turns.{AreKnown, waiting, with_cells}
+use Rattle.seg_check.specs.Marks.{Known}
+use Rattle.seg_check.specs.Turns.{waiting}
 use Rattle.seg_check.specs.Resolving.{Resolves, IsReady}
 use Rattle.seg_check.specs.Roots.{Ahead, ResolvesRoots, CanResolveRoots, AdvancesRoots}
-use Rattle.seg_check.proofs.StepLaws.{each_joined, cells_forth, cells_back, resolves_swap, waiting-append, turns_both, within_trans, ready_within}
+use Rattle.seg_check.proofs.StepLaws.{each_joined, resolves_swap, waiting-append, turns_both, within_trans, ready_within}
 
 -- ---- steps one after the other
 
@@ -91,7 +86,8 @@ root_taken h u v l own inside others bs rest root taken owners parts blocks =
     let o = times-append h inside rest in
     omega arith
 
-root_given : (h : ℕ) (u v own inside others rest back left : List ℕ) → times h u ≡ times h (own ++ v) → times h v ≡ times h (others ++ rest) → times h rest ≡ times h ((inside ++ back) ++ left) → times h u ≡ times h (((own ++ inside) ++ others) ++ (back ++ left))
+root_given : (h : ℕ) (u v own inside others rest back left : List ℕ) → times h u ≡ times h (own ++ v) → times h v ≡ times h (others ++ rest) → times h rest ≡ times h ((inside ++ back) ++ left)
+    → times h u ≡ times h (((own ++ inside) ++ others) ++ (back ++ left))
 root_given h u v own inside others rest back left taken owners parts =
     let i = times-append h own v in
     let j = times-append h others rest in

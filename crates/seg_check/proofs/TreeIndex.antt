@@ -1,16 +1,15 @@
 -- The walks through a tree index: its nodes are claimed, and then its entries looked at.
-use Rattle.std.proofs.Common.{◌≡◌, ℕ, zero, suc, ◌+◌, ◌*◌, ◌/◌, ◌<◌, ◌≤◌, List, [], ◌∷◌, ◌++◌, length, map, Some, None, refl, sym, ap, ◌∙◌, subst, arith}
+use Rattle.std.proofs.Common.{◌≡◌, ℕ, ◌+◌, ◌*◌, ◌<◌, ◌≤◌, List, [], ◌∷◌, ◌++◌, length, map, Some, None, refl, sym, ap, ◌∙◌, subst, arith}
 use Rattle.std.proofs.lemmas.List.{append_assoc, append-nil, map-append, length-map}
-use Rattle.std.specs.List.{AllByRecursion}
 use Rattle.seg_spec.specs.Bytes.{word}
 use Rattle.seg_spec.specs.Header.{index_kind_word, index_cell}
 use Rattle.seg_spec.specs.Pointer.{target}
 use Rattle.seg_spec.specs.Types.{Table}
 use Rattle.seg_spec.specs.Block.{Kind, IsBlock, block_of, tag_of}
 use Rattle.seg_spec.specs.Reads.{count_at, AreNodes}
-use Rattle.seg_spec.specs.Shapes.{Tree, nodes_of, tree_words}
+use Rattle.seg_spec.specs.Shapes.{nodes_of, tree_words}
 use Rattle.seg_spec.specs.Index.{Index, OpensTreeIndex, OpensIndex}
-use Rattle.seg_spec.specs.Sound.{times, SameBlocks}
+use Rattle.seg_spec.specs.Sound.{times}
 use Rattle.seg_spec.proofs.LiveLaws.{times-append, times-same}
 use Rattle.seg_spec.proofs.OneReading.{IsTree-one}
 use Rattle.seg_check.specs.Claiming.{AreLive, CanClaim, ClaimsBlock, turns_where, has_turns}
@@ -35,7 +34,8 @@ use Rattle.seg_check.proofs.IndexSteps.{index_names, index_advance, index_within
 node_left : (h : ℕ) (u v entered more all : List ℕ) (node : ℕ) → times h u ≡ times h (map block_of entered ++ v) → times h (map block_of all) ≤ times h u → all ≡ entered ++ node ∷ more → times h (block_of node ∷ []) ≤ times h v
 node_left h u v entered more all node e w is =
     let i = times-append h (map block_of entered) v in
-    let j : times h (map block_of all) ≡ times h (map block_of entered) + times h (block_of node ∷ map block_of more) = ap (λ xs. times h (map block_of xs)) is ∙ ap (times h) (map-append block_of entered (node ∷ more)) ∙ times-append h (map block_of entered) (block_of node ∷ map block_of more) in
+    let j : times h (map block_of all) ≡ times h (map block_of entered) + times h (block_of node ∷ map block_of more) =
+    ap (λ xs. times h (map block_of xs)) is ∙ ap (times h) (map-append block_of entered (node ∷ more)) ∙ times-append h (map block_of entered) (block_of node ∷ map block_of more) in
     let k = times-append h (block_of node ∷ []) (map block_of more) in
     omega arith
 
@@ -138,7 +138,8 @@ module _ (bytes : List ℕ) (table : Table) (old : Known) (ready : IsReady bytes
             index_is = refl;
           };
           claims = record {
-            claimed = λ h. t.claims.claimed h ∙ times-append h (map block_of t.entered) mid.unclaimed ∙ ap (λ n. n + times h mid.unclaimed) (blocks h ∙ ap (λ xs. times h (map block_of xs)) (sym w.nodes_are)) ∙ sym (times-append h (map block_of (nodes_of w.tree)) mid.unclaimed);
+            claimed = λ h. t.claims.claimed h ∙ times-append h (map block_of t.entered) mid.unclaimed ∙ ap (λ n. n + times h mid.unclaimed) (blocks h ∙ ap (λ xs. times h (map block_of xs)) (sym w.nodes_are)) ∙
+                sym (times-append h (map block_of (nodes_of w.tree)) mid.unclaimed);
             counted = t.claims.counted;
             turns_are = t.claims.turns_are;
           };
@@ -204,7 +205,14 @@ module _ (bytes : List ℕ) (table : Table) (old : Known) (ready : IsReady bytes
         mapped_some xs some = in_map (splits node xs some)
           where
             in_map : Splits node xs → 1 ≤ times (block_of node) (map block_of xs)
-            in_map s = omega (arith, ap (λ ys. times (block_of node) (map block_of ys)) s.parts, ap (times (block_of node)) (map-append block_of s.before (node ∷ s.after)), times-append (block_of node) (map block_of s.before) (block_of node ∷ map block_of s.after), times-same (block_of node) (map block_of s.after))
+            in_map s = omega (
+              arith,
+              ap (λ ys. times (block_of node) (map block_of ys)) s.parts,
+              ap (times (block_of node)) (map-append block_of s.before (node ∷ s.after)),
+              times-append (block_of node) (map block_of s.before)
+                  (block_of node ∷ map block_of s.after),
+              times-same (block_of node) (map block_of s.after),
+            )
 
     module _ (now : Known) (last : List ℕ) (stage : Stage) (turns : ℕ) (t : Named now last stage turns) where
       -- the next node is the next one of the tree
@@ -275,14 +283,14 @@ module _ (bytes : List ℕ) (table : Table) (old : Known) (ready : IsReady bytes
       tree_one : (other : Index) → OpensIndex bytes (word bytes index_kind_word) other → other ≡ c.index
       tree_one other o =
           let its : OpensTreeIndex bytes other = subst (λ k. OpensIndex bytes k other) tree o in
-          its.index_is ∙ ap (λ t. record { blocks = map block_of (nodes_of t); entries = map (λ p. p + tree_words) (nodes_of t) }) (IsTree-one bytes (target bytes index_cell) its.tree c.opens.tree its.is_tree c.opens.is_tree) ∙ sym c.opens.index_is
+          its.index_is ∙ ap (λ t. record { blocks = map block_of (nodes_of t); entries = map (λ p. p + tree_words) (nodes_of t) }) (IsTree-one bytes (target bytes index_cell) its.tree c.opens.tree its.is_tree c.opens.is_tree) ∙
+          sym c.opens.index_is
 
       pub tree_names : CanResolveIndex bytes table old.unclaimed → CanResolveRoots bytes table start.unclaimed (names_ahead c.index.entries [])
       tree_names = index_names bytes table old start c.index tree_opens tree_one c.claims
 
       pub tree_advance : (new : Known) (last : List ℕ) → AdvancesRoots bytes table start new (names_ahead c.index.entries []) (names_ahead [] last) → AdvancesIndex bytes table old new
       tree_advance = index_advance bytes table old start c.index tree_opens tree_one c.claims
-
 
   pub planted_index : word bytes index_kind_word ≡ 1 → CanResolveIndex bytes table old.unclaimed → CanClaimTree bytes old.unclaimed
   planted_index tree can = record {
@@ -297,7 +305,8 @@ module _ (bytes : List ℕ) (table : Table) (old : Known) (ready : IsReady bytes
     one_node : 1 * content.entry.size ≡ 24
     one_node = omega (arith, size_is)
 
-    pub index_node_claimed : ClaimsBlock bytes known new pointer (word_of content.tag) (1 * content.entry.size) (turns_where (has_turns table content.entry.held) p 1) p → ClaimsBlock bytes known new pointer (tag_of Kind.index_node 0) 24 [] p
+    pub index_node_claimed : ClaimsBlock bytes known new pointer (word_of content.tag) (1 * content.entry.size) (turns_where (has_turns table content.entry.held) p 1) p
+        → ClaimsBlock bytes known new pointer (tag_of Kind.index_node 0) 24 [] p
     index_node_claimed c =
         subst (λ ts. ClaimsBlock bytes known new pointer (tag_of Kind.index_node 0) 24 ts p) (ap (λ h. turns_where (has_turns table h) p 1) held_is)
         (subst (λ k. ClaimsBlock bytes known new pointer (tag_of Kind.index_node 0) k (turns_where (has_turns table content.entry.held) p 1) p) one_node

@@ -1,5 +1,5 @@
 -- The word of a type, and the type's unique object, which was claimed, or can't be.
-use Rattle.std.proofs.Common.{◌≡◌, ◌≢◌, ℕ, zero, suc, ◌+◌, ◌*◌, ◌<◌, ◌≤◌, ◌⊎◌, inl, inr, List, [], ◌∷◌, ◌++◌, length, map, Some, None, refl, sym, ap, ◌∙◌, subst, arith}
+use Rattle.std.proofs.Common.{◌≡◌, ◌≢◌, ℕ, suc, ◌+◌, ◌*◌, ◌<◌, ◌≤◌, ◌⊎◌, inl, inr, List, [], ◌∷◌, ◌++◌, length, Some, None, refl, sym, ap, ◌∙◌, subst, arith}
 use Rattle.std.proofs.lemmas.List.{append-nil}
 use Rattle.std.proofs.lemmas.Bool.{cases_eq}
 use Rattle.std.specs.List.{AllByRecursion}
@@ -9,19 +9,19 @@ use Rattle.seg_spec.specs.Types.{Table, form_at, size}
 use Rattle.seg_spec.specs.Value.{Value, Values, nil, cons, count}
 use Rattle.seg_spec.specs.Block.{Kind, IsBlock, block_of, tag_of}
 use Rattle.seg_spec.specs.Reads.{Place, items}
-use Rattle.seg_spec.specs.Index.{Root, AreEntries, AreAscending, position_of, AreRising, unique_word}
+use Rattle.seg_spec.specs.Index.{Root, AreEntries, position_of, AreRising, unique_word}
 use Rattle.seg_spec.specs.Sound.{IsPlain, HoldsRoots, holds_no_root, holds_more_roots, kind_by_name, times, SameBlocks}
 use Rattle.seg_spec.proofs.LiveLaws.{times-append, times-same}
 use Rattle.seg_spec.proofs.RootLaws.{HoldsRoots-split, HoldsRoots-only}
 use Rattle.seg_spec.proofs.UniqueLaws.{at_head, past_head, none_below}
 use Rattle.seg_layout.specs.Forms.{has_cells}
 use Rattle.seg_check.specs.Claiming.{CanClaim, ClaimsBlock, turns_where}
-use Rattle.seg_check.specs.Marks.{Known, Within}
+use Rattle.seg_check.specs.Marks.{Known}
 use Rattle.seg_check.specs.Turns.{waiting}
 use Rattle.seg_check.specs.Resolving.{Resolves, IsReady}
 use Rattle.seg_check.specs.Roots.{Ahead, uniques_ahead, ResolvesRoots, CanResolveRoots, AdvancesRoots, AdvancesUniques}
 use Rattle.seg_check.proofs.StepLaws.{within_taken}
-use Rattle.seg_check.proofs.RootSteps.{Joined, joined, Rooted, rooted}
+use Rattle.seg_check.proofs.RootSteps.{joined, rooted}
 use Rattle.seg_check.proofs.NameSteps.{object_are_turns, values_forth, values_back}
 use Rattle.seg_check.proofs.BufferLaws.{content_claimed, content_can}
 use Rattle.seg_block.specs.Tags.{word_of}

@@ -1,5 +1,5 @@
 -- All stations together: an image is sound where its index and roots own just its live blocks.
-use Rattle.std.proofs.Common.{◌≡◌, ℕ, suc, ◌+◌, ◌<◌, ◌≤◌, List, [], ◌∷◌, ◌++◌, length, map, refl, sym, ap, ◌∙◌, subst, arith}
+use Rattle.std.proofs.Common.{◌≡◌, ℕ, ◌≤◌, List, [], ◌∷◌, ◌++◌, length, map, refl, sym, ap, ◌∙◌, subst, arith}
 use Rattle.std.proofs.lemmas.List.{append-nil}
 use Rattle.std.specs.List.{AllByRecursion}
 use Rattle.seg_spec.specs.Bytes.{word}
@@ -9,7 +9,7 @@ use Rattle.seg_spec.specs.Heap.{HoldsGaps, gaps, live}
 use Rattle.seg_spec.specs.Header.{types_start, allocator_word}
 use Rattle.seg_spec.specs.Reads.{Place, HoldsEach, holds_none}
 use Rattle.seg_spec.specs.Index.{Root, AreEntries, AreAscending, Precedes}
-use Rattle.seg_spec.specs.Sound.{Picture, roots_of, IsPlain, HoldsRoots, IsLaidOut, IsHeld, IsSound, times, SameBlocks, positions}
+use Rattle.seg_spec.specs.Sound.{Picture, roots_of, IsPlain, HoldsRoots, IsLaidOut, IsSound, times, SameBlocks, positions}
 use Rattle.seg_spec.specs.Faulty.{HasFront, HasTiles, HoldsAll, LacksOwner}
 use Rattle.seg_spec.proofs.Frame.{each_left}
 use Rattle.seg_spec.proofs.LiveLaws.{times-append, each_there}

@@ -1,4 +1,4 @@
-use Rattle.std.proofs.Common.{◌≡◌, ℕ, ◌+◌, ◌*◌, ◌≤◌, List, [], ◌∷◌, length, refl, sym, ap, ◌∙◌, arith}
+use Rattle.std.proofs.Common.{◌≡◌, ℕ, ◌+◌, ◌*◌, ◌≤◌, List, [], ◌∷◌, length, sym, ap, ◌∙◌, arith}
 use Rattle.seg_spec.specs.Bytes.{half, byte, slice, number, spelled}
 use Rattle.seg_spec.proofs.BytesLaws.{number_in, length-slice}
 use Rattle.seg_spec.proofs.SliceLaws.{slice-slice}

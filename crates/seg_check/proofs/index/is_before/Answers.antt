@@ -11,6 +11,7 @@ less_of Equal t = absurd (let no : false ≡ true = t in cc)
 less_of Greater t = absurd (let no : false ≡ true = t in cc)
 
 pub returns : goal.returns
-returns c =
-    (λ t. precedes_of_less c.args.name.now c.args.other.now (sym c.cmp.ensures ∙ less_of c.cmp.result (subst IsTrue c.is_lt.ensures t)),
-    λ h. subst IsTrue (sym (c.is_lt.ensures ∙ ap is_lt (c.cmp.ensures ∙ less_of_precedes c.args.name.now c.args.other.now h))) refl)
+returns c = (
+  λ t. precedes_of_less c.args.name.now c.args.other.now (sym c.cmp.ensures ∙ less_of c.cmp.result (subst IsTrue c.is_lt.ensures t)),
+  λ h. subst IsTrue (sym (c.is_lt.ensures ∙ ap is_lt (c.cmp.ensures ∙ less_of_precedes c.args.name.now c.args.other.now h))) refl,
+)

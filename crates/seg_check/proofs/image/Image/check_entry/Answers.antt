@@ -1,8 +1,8 @@
-use Rattle.std.proofs.Common.{◌≡◌, ℕ, ◌+◌, ◌*◌, ◌^◌, ◌<◌, ◌≤◌, ◌⊎◌, true, false, List, ◌∷◌, length, Option, None, Some, Err, All, refl, sym, ap, ◌∙◌, subst, arith}
+use Rattle.std.proofs.Common.{◌≡◌, ◌+◌, ◌≤◌, true, false, ◌∷◌, length, Err, sym, ap, ◌∙◌, subst, arith}
 use Rattle.std.specs.Prelude.{IfErr}
 use Rattle.std.proofs.lemmas.Result.{err_from_is_err_and}
-use Rattle.seg_spec.specs.Bytes.{half, byte}
-use Rattle.seg_spec.specs.Index.{IsName, Precedes}
+use Rattle.seg_spec.specs.Bytes.{byte}
+use Rattle.seg_spec.specs.Index.{IsName}
 use Rattle.seg_check.specs.Claiming.{Refuses}
 use Rattle.seg_check.specs.Roots.{CanResolveRoots, CanClaimNamed, names_ahead}
 use Rattle.seg_check.proofs.StepLaws.{refuses_map}
@@ -40,7 +40,8 @@ returns-then-is_printable-clause-claimed g c = λ rest ready fits.
     let zero_is : byte bytes (at + 7) ≡ 0 = sym said.zero ∙ (let z : entry.zero ≡ 0 = omega arith in z) in
     let some : 1 ≤ entry.count = omega arith in
     let few : entry.count ≤ 65535 = said.small in
-    let long : length name ≡ entry.name_len = name_long bytes table old c.claim_named.new.claims ready at entry.count entry.name_len c.args.before.now name entry.object said.object (said.count fits) said.name_len zero_is some few claimed c.name-name.ensures in
+    let long : length name ≡ entry.name_len =
+    name_long bytes table old c.claim_named.new.claims ready at entry.count entry.name_len c.args.before.now name entry.object said.object (said.count fits) said.name_len zero_is some few claimed c.name-name.ensures in
     let is_name : IsName name = record { not_empty = omega arith; short = omega arith; printable = c.is_printable.ensures.0 c.if-is_printable.true } in
     entry_advance bytes table old c.claim_named.new.claims ready at entry.count entry.name_len c.args.before.now name entry.object said.object (said.count fits) said.name_len zero_is some few claimed c.name-name.ensures
     rest is_name (c.is_before.ensures.0 c.if-is_before.true)
@@ -58,14 +59,15 @@ returns-else-is_before-clause-refused g c = λ rest ready fits can.
     let zero_is : byte bytes (at + 7) ≡ 0 = sym said.zero ∙ (let z : entry.zero ≡ 0 = omega arith in z) in
     let some : 1 ≤ entry.count = omega arith in
     let few : entry.count ≤ 65535 = said.small in
-    let names = entry_names bytes table old c.claim_named.new.claims ready at entry.count entry.name_len c.args.before.now name entry.object said.object (said.count fits) said.name_len zero_is some few claimed c.name-name.ensures rest can in
+    let names =
+    entry_names bytes table old c.claim_named.new.claims ready at entry.count entry.name_len c.args.before.now name entry.object said.object (said.count fits) said.name_len zero_is some few claimed c.name-name.ensures rest can in
     elim c.else-is_before.branch [
       | else-is_before-via-then-is_before+else-is_printable w ↦
-        let yes : w.is_printable.result ≡ true = w.is_printable.ensures.1 names.1.printable in
-        let both : false ≡ true = sym w.if-is_printable.false ∙ yes in
-        cc
+          let yes : w.is_printable.result ≡ true = w.is_printable.ensures.1 names.1.printable in
+          let both : false ≡ true = sym w.if-is_printable.false ∙ yes in
+          cc
       | else-is_before-via-else-is_before w ↦
-        let yes : c.is_before.result ≡ true = c.is_before.ensures.1 names.0 in
-        let both : false ≡ true = sym w.if-is_before.false ∙ yes in
-        cc
+          let yes : c.is_before.result ≡ true = c.is_before.ensures.1 names.0 in
+          let both : false ≡ true = sym w.if-is_before.false ∙ yes in
+          cc
     ]

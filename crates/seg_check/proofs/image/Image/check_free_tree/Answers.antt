@@ -56,8 +56,10 @@ loop-visit-preserved-in-Pass g c =
     let window : new.w.now ≡ old.w.now = c.next.ensures.window in
     let was : IsSteady old.w.now.bytes old.stage old.turns = subst (λ (q : Placement). IsSteady q.bytes old.stage old.turns) (sym same) p.followed.steady in
     let is : c.in_ok-visit.field-0 ≡ Some (Pass node) = c.in-Some.is ∙ ap Some c.in-Pass.is in
-    let step : Proceeds bytes old.stage new.stage (Some (Pass node)) = subst (λ (q : Placement). Proceeds q.bytes old.stage new.stage (Some (Pass node))) same (subst (Proceeds old.w.now.bytes old.stage new.stage) is (c.in_ok-visit.ensures.goes_on was)) in
-    let steady : IsSteady bytes new.stage new.turns = subst (λ (q : Placement). IsSteady q.bytes new.stage new.turns) (window ∙ same) (subst (λ (o : Option Visit). IfSome o (λ _. IsSteady new.w.now.bytes new.stage new.turns)) is (c.in_ok-visit.ensures.steady was)) in
+    let step : Proceeds bytes old.stage new.stage (Some (Pass node)) =
+    subst (λ (q : Placement). Proceeds q.bytes old.stage new.stage (Some (Pass node))) same (subst (Proceeds old.w.now.bytes old.stage new.stage) is (c.in_ok-visit.ensures.goes_on was)) in
+    let steady : IsSteady bytes new.stage new.turns =
+    subst (λ (q : Placement). IsSteady q.bytes new.stage new.turns) (window ∙ same) (subst (λ (o : Option Visit). IfSome o (λ _. IsSteady new.w.now.bytes new.stage new.turns)) is (c.in_ok-visit.ensures.steady was)) in
     let block : c.block_of-block.result ≡ node - 16 = c.block_of-block.ensures in
     let free : 1 ≤ times (node - 16) c.args.claims.now.free = subst (λ b. 1 ≤ times b c.args.claims.now.free) block (c.is_free.ensures.0 c.if-not-is_free.false) in
     let link : link_at bytes (node - 16) ≡ None = ap (link_at bytes) (sym block) ∙ sym c.link.ensures ∙ not_some c.link.result c.if-is_some.ensures in
@@ -82,7 +84,8 @@ loop-visit-preserved g c =
     let is : c.in_ok-visit.field-0 ≡ Some (Enter c.in_default-visit.field-0) = c.in-Some.is ∙ ap Some c.in_default-visit.is in
     let step : Proceeds bytes old.stage new.stage (Some (Enter c.in_default-visit.field-0)) =
     subst (λ (q : Placement). Proceeds q.bytes old.stage new.stage (Some (Enter c.in_default-visit.field-0))) same (subst (Proceeds old.w.now.bytes old.stage new.stage) is (c.in_ok-visit.ensures.goes_on was)) in
-    let steady : IsSteady bytes new.stage new.turns = subst (λ (q : Placement). IsSteady q.bytes new.stage new.turns) (window ∙ same) (subst (λ (o : Option Visit). IfSome o (λ _. IsSteady new.w.now.bytes new.stage new.turns)) is (c.in_ok-visit.ensures.steady was)) in
+    let steady : IsSteady bytes new.stage new.turns =
+    subst (λ (q : Placement). IsSteady q.bytes new.stage new.turns) (window ∙ same) (subst (λ (o : Option Visit). IfSome o (λ _. IsSteady new.w.now.bytes new.stage new.turns)) is (c.in_ok-visit.ensures.steady was)) in
     record {
       same = window ∙ same;
       passed = entered bytes c.args.claims.now old.stage old.turns p new.stage new.turns steady c.in_ok-visit.ensures.fewer c.in_default-visit.field-0 step;
@@ -109,7 +112,8 @@ returns-then-not-is_free g c = λ table tiles knows.
     let same = c.loop-visit.invariant.same in
     let was : IsSteady old.w.now.bytes old.stage old.turns = subst (λ (q : Placement). IsSteady q.bytes old.stage old.turns) (sym same) p.followed.steady in
     let is : c.in_ok-visit.field-0 ≡ Some (Pass node) = c.in-Some.is ∙ ap Some c.in-Pass.is in
-    let step : Proceeds bytes old.stage new.stage (Some (Pass node)) = subst (λ (q : Placement). Proceeds q.bytes old.stage new.stage (Some (Pass node))) same (subst (Proceeds old.w.now.bytes old.stage new.stage) is (c.in_ok-visit.ensures.goes_on was)) in
+    let step : Proceeds bytes old.stage new.stage (Some (Pass node)) =
+    subst (λ (q : Placement). Proceeds q.bytes old.stage new.stage (Some (Pass node))) same (subst (Proceeds old.w.now.bytes old.stage new.stage) is (c.in_ok-visit.ensures.goes_on was)) in
     let block : c.block_of-block.result ≡ node - 16 = c.block_of-block.ensures in (
       λ e. absurd (let no : false ≡ true = e in cc),
       λ f.

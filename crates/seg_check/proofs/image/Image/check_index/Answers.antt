@@ -1,6 +1,4 @@
-use Rattle.std.proofs.Common.{◌≡◌, None, sym, ap, ◌∙◌, arith}
-use Rattle.seg_spec.specs.Pointer.{target}
-use Rattle.seg_spec.specs.Header.{index_cell}
+use Rattle.std.proofs.Common.{sym, ◌∙◌}
 use Rattle.seg_check.proofs.IndexSteps.{index_empty}
 use Rattle.seg_check.proofs.image.Image.check_index.Goals as goal
 

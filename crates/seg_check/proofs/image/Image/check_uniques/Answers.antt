@@ -1,10 +1,6 @@
-use Rattle.std.proofs.Common.{◌≡◌, ℕ, ◌+◌, ◌<◌, ◌≤◌, true, false, Option, None, Some, Err, refl, sym, ap, ◌∙◌, subst, arith}
+use Rattle.std.proofs.Common.{◌≡◌, ℕ, ◌+◌, true, false, Option, None, Some, Err, refl, sym, ap, ◌∙◌, subst, arith}
 use Rattle.std.specs.Option.{is_some}
 use Rattle.std.proofs.lemmas.Result.{err_from_is_err_and}
-use Rattle.seg_spec.specs.Pointer.{target}
-use Rattle.seg_spec.specs.Index.{unique_word}
-use Rattle.seg_check.specs.Marks.{Known}
-use Rattle.seg_check.specs.Resolving.{IsReady}
 use Rattle.seg_check.specs.Roots.{uniques_ahead, AdvancesRoots, CanResolveRoots, StepsUniques}
 use Rattle.seg_check.proofs.OpenLaws.{ready_live}
 use Rattle.seg_check.proofs.StepLaws.{refuses_map}
@@ -35,14 +31,14 @@ loop-t-preserved g c = λ ready.
     let now = ready_roots bytes table old mid uniques_ahead (from_type T) ready done in
     elim c.if-is_some.branch [
       | then-is_some+in_ok-claim_entries w ↦
-        let step = unique_advance bytes table mid w.claim_entries.new.claims T _ (T + 1) _ w.object-content.result now c.loop-t-test.true w.word_of.ensures w.object-content.ensures.content
-        w.in_ok-claim_entries.field-0 (omega arith) (w.in_ok-claim_entries.ensures.claimed (ready_live bytes table mid now)) in
-        subst (λ k. AdvancesRoots bytes table old k uniques_ahead (from_type (T + 1))) (sym w.claims-is)
-        (roots_more bytes table old mid w.claim_entries.new.claims uniques_ahead (from_type T) (from_type (T + 1)) done step)
+          let step = unique_advance bytes table mid w.claim_entries.new.claims T _ (T + 1) _ w.object-content.result now c.loop-t-test.true w.word_of.ensures w.object-content.ensures.content
+          w.in_ok-claim_entries.field-0 (omega arith) (w.in_ok-claim_entries.ensures.claimed (ready_live bytes table mid now)) in
+          subst (λ k. AdvancesRoots bytes table old k uniques_ahead (from_type (T + 1))) (sym w.claims-is)
+          (roots_more bytes table old mid w.claim_entries.new.claims uniques_ahead (from_type T) (from_type (T + 1)) done step)
       | else-is_some w ↦
-        let step = unused_advance bytes table mid T (T + 1) c.loop-t-test.true (omega arith) (sym c.unique.ensures ∙ none_of c.unique.result (w.if-is_some.ensures)) in
-        subst (λ k. AdvancesRoots bytes table old k uniques_ahead (from_type (T + 1))) (sym w.claims-is)
-        (roots_more bytes table old mid mid uniques_ahead (from_type T) (from_type (T + 1)) done step)
+          let step = unused_advance bytes table mid T (T + 1) c.loop-t-test.true (omega arith) (sym c.unique.ensures ∙ none_of c.unique.result (w.if-is_some.ensures)) in
+          subst (λ k. AdvancesRoots bytes table old k uniques_ahead (from_type (T + 1))) (sym w.claims-is)
+          (roots_more bytes table old mid mid uniques_ahead (from_type T) (from_type (T + 1)) done step)
     ]
 
 pub returns-in_err-claim_entries : goal.returns-in_err-claim_entries

@@ -1,12 +1,11 @@
-use Rattle.std.proofs.Common.{◌≡◌, ℕ, ◌+◌, ◌<◌, List, [], length, Ok, Err, Some, None, refl, sym, ap, ◌∙◌, subst, arith}
+use Rattle.std.proofs.Common.{◌≡◌, ℕ, ◌+◌, ◌<◌, List, [], length, Ok, Err, Some, None, refl, sym, ap, ◌∙◌, subst}
 use Rattle.std.specs.Prelude.{IfErr, IfOk}
 use Rattle.std.proofs.lemmas.Result.{err_from_is_err_and}
 use Rattle.seg_spec.specs.Header.{index_cell}
 use Rattle.seg_spec.specs.Window.{Placement}
-use Rattle.seg_spec.specs.Reads.{count_at}
 use Rattle.seg_check.specs.declared.fault.ContentFault.TheVariants.{BadIndex}
 use Rattle.seg_check.specs.declared.walk.Visit.TheVariants.{Enter, Pass}
-use Rattle.seg_check.specs.Claiming.{Refuses, CanClaim}
+use Rattle.seg_check.specs.Claiming.{Refuses}
 use Rattle.seg_check.specs.Walks.{Completes, IsSteady, Proceeds}
 use Rattle.seg_check.specs.Roots.{CanClaimTree}
 use Rattle.seg_check.proofs.StepLaws.{refuses_map}
@@ -24,7 +23,8 @@ loop-visit-init g c = record {
       let stage = c.walk-walk.result.stage in
       let turns = c.walk-walk.result.turns in
       traced_start bytes c.args.self.now.types.now c.args.claims.now ready stage turns
-      (subst (λ n. Followed bytes index_cell n stage turns [] []) nodes (subst (λ r. Followed bytes r c.args.tree.nodes stage turns [] []) root (follow_start bytes c.args.tree.root c.args.tree.nodes stage turns w.steady w.turns w.starts))));
+      (subst (λ n. Followed bytes index_cell n stage turns [] []) nodes (subst (λ r. Followed bytes r c.args.tree.nodes stage turns [] []) root
+      (follow_start bytes c.args.tree.root c.args.tree.nodes stage turns w.steady w.turns w.starts))));
 }
 
 pub returns-in_err-visit-clause-refused : goal.returns-in_err-visit-clause-refused

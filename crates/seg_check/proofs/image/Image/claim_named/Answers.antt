@@ -1,4 +1,4 @@
-use Rattle.std.proofs.Common.{◌≡◌, ℕ, ◌+◌, ◌*◌, ◌<◌, ◌≤◌, List, Option, None, Some, Err, refl, sym, ap, ◌∙◌, subst, arith}
+use Rattle.std.proofs.Common.{◌≡◌, ℕ, ◌+◌, ◌*◌, List, Option, None, Some, Err, sym, ap, ◌∙◌, subst, arith}
 use Rattle.std.specs.Prelude.{IfErr}
 use Rattle.std.proofs.lemmas.Result.{err_from_is_err_and}
 use Rattle.seg_spec.specs.Types.{Table, size}
@@ -16,7 +16,8 @@ use Rattle.seg_check.proofs.StepLaws.{refuses_map}
 use Rattle.seg_check.proofs.image.Image.claim_named.Goals as goal
 
 -- the type of an entry whose object can be claimed
-type_claimed : (bytes : List ℕ) (table : Table) (known : Known) (at n len : ℕ) (object : Option ℕ) → IsReady bytes table known → object ≡ target bytes at → (can : CanClaimNamed bytes table known at n len) → type_of bytes object ≡ Some can.type
+type_claimed : (bytes : List ℕ) (table : Table) (known : Known) (at n len : ℕ) (object : Option ℕ) → IsReady bytes table known → object ≡ target bytes at → (can : CanClaimNamed bytes table known at n len)
+    → type_of bytes object ≡ Some can.type
 type_claimed bytes table known at n len object ready is can =
     let few = ready.is_table.few in
     let less = can.type_known in

@@ -1,0 +1,146 @@
+-- Why no client runs: the faults of an image and of clients as the reasons of the definitions.
+use Rattle.std.proofs.Common.{◌≡◌, ℕ, ◌+◌, ◌-◌, ◌≤◌, List, ◌++◌, length, Option, Some, None, Result, Ok, Err, sym, ap, ◌∙◌, subst, inl, inr, arith, length-append}
+use Rattle.std.specs.Prelude.{replicate, IfErr, OnOk}
+use Rattle.std.proofs.Math.Seq.{take-length}
+use Rattle.std.proofs.lemmas.List.{length-replicate}
+use Rattle.seg_spec.specs.Bytes.{word, slice, IsPlaced}
+use Rattle.seg_spec.specs.Window.{Placement, region_of, IsPlace}
+use Rattle.seg_spec.proofs.SliceLaws.{region-placed}
+use Rattle.seg_spec.specs.Header.{allocator_word}
+use Rattle.seg_spec.specs.Types.{Table}
+use Rattle.seg_spec.specs.Sound.{IsSound}
+use Rattle.seg_spec.specs.Faulty.{Failure}
+use Rattle.seg_layout.proofs.Extending.{no_agreement}
+use Rattle.seg_raw.specs.declared.fault.Fault.{Fault}
+use Rattle.seg_raw.specs.declared.fault.Fault.TheVariants as fault
+use Rattle.seg_check.specs.Faults.{IsImageOf, IsFaultOf, IsFaultOfOpening}
+use Rattle.client_spec.specs.Syntax.{Client}
+use Rattle.client_spec.specs.Clients.{IsVerified, AreAccepted}
+use Rattle.client_spec.specs.OnImages.{Move}
+use Rattle.client_spec.specs.Outcome.{CanMove, IsTurnOf}
+use Rattle.client_verify.specs.Refusals.{IsRefused}
+use Rattle.client_vm.specs.declared.report.Refused.{Refused}
+use Rattle.client_vm.specs.Texts.{IsWrongAt, IsWrongBy}
+use Rattle.client_vm.specs.Admitted.{LiesIn, AreAcceptedOn, IsAdmitted, IsWrongFor, IsWrong}
+use Rattle.client_vm.specs.Outcomes.{IsBadImage, IsFault, IsFaultOfCall, IsFaultOfClient, IsRefusedFor}
+use Rattle.seg_spec.proofs.Failures.{unsound}
+
+refused_client : (table : Table) (client : Client) (f : Fault) → IsRefused table client f → IsVerified table client → ⊥
+refused_client table client (fault.TypeMismatch k) h v = no_agreement table client.types k h v.agree
+refused_client table client (fault.Rejected i reason) h v = let is = v.typed.1 in let isnt = h.2 in cc
+refused_client table client fault.TooLong h v = let few = v.bounded in let many = h.2 in omega arith
+refused_client table client f h v = absurd h
+
+-- ---- an image that an allocator can't open
+
+pub fault_of_image : (allocator : ℕ) (image : List ℕ) (f : Fault) → (word image allocator_word ≤ 1 → word image allocator_word ≡ allocator) → IsFaultOfOpening allocator image f → IsFaultOf image f
+fault_of_image allocator image f named (inl h) = h
+fault_of_image allocator image f named (inr h) = absurd (h.2 (named h.1.held.laid_out.header.allocator_is))
+
+abbrev sound_of : (image : List ℕ) (table : Table) → IsImageOf image table → IsSound image
+sound_of image table is = record { picture = is.picture; held = is.held; none_loose = is.none_loose }
+
+module _ (image : List ℕ) (texts : List (List ℕ)) (table : Table) (is : IsImageOf image table) where
+  pub wrong_texts : (client : Option ℕ) (f : Fault) → IsWrongBy table texts client f → IsWrongFor image texts client f
+  wrong_texts None f h = subst (IsFaultOf image) (sym h) tt
+  wrong_texts (Some k) f h = (sound_of image table is, subst (λ t. IsWrongAt t texts k f) (sym is.table_is) h)
+
+  pub accepted_texts : (clients : List Client) → AreAccepted table texts clients → AreAcceptedOn image texts
+  accepted_texts clients h = record { sound = sound_of image table is; clients = clients; accepted = subst (λ t. AreAccepted t texts clients) (sym is.table_is) h }
+
+-- ---- the reasons of the definitions
+
+module _ (image : List ℕ) (texts : List (List ℕ)) (room base : ℕ) (moves : List Move) (can : CanMove image room base moves) where
+  bad_image : (f : Fault) → (IsSound image → ⊥) → IsFaultOf image f → IsBadImage image texts room base moves f
+  bad_image f isnt h = record { refusal = (can, isnt); fault = h }
+
+  of_call : (f : Fault) → IsFaultOf image f → IsFaultOfCall image texts room base moves f
+  of_call fault.Memory h = tt
+  of_call fault.BadHeader h = inr (bad_image fault.BadHeader (unsound image Failure.bad_header h) h)
+  of_call (fault.BadType k) h = bad_image (fault.BadType k) (unsound image (Failure.bad_type k) h) h
+  of_call (fault.BadBlock at) h = bad_image (fault.BadBlock at) (unsound image Failure.bad_tiles h) h
+  of_call (fault.BadFree at) h = bad_image (fault.BadFree at) (unsound image Failure.bad_gaps h) h
+  of_call (fault.BadIndex at) h = bad_image (fault.BadIndex at) (unsound image Failure.bad_content h) h
+  of_call (fault.BadPointer at) h = bad_image (fault.BadPointer at) (unsound image Failure.bad_content h) h
+  of_call (fault.DoubleOwner at) h = bad_image (fault.DoubleOwner at) (unsound image Failure.bad_content h) h
+  of_call (fault.BadValue at) h = bad_image (fault.BadValue at) (unsound image Failure.bad_content h) h
+  of_call (fault.Unowned at) h = bad_image (fault.Unowned at) h.1 h
+  of_call f h = absurd h
+
+  abbrev turn : (k : ℕ) (f : Fault) (sound : IsSound image) (w : IsWrongAt sound.picture.table texts k f) → IsTurnOf image texts k w.text
+  turn k f sound w = record { sound = sound; clients = w.clients; accepted = w.accepted; text_is = w.text_is }
+
+  of_client : (k : ℕ) (f : Fault) (sound : IsSound image) → IsWrongAt sound.picture.table texts k f → IsFaultOfClient image texts room base moves k f
+  of_client k (fault.BadCode at) sound w = (can, w.text, turn k (fault.BadCode at) sound w, w.wrong)
+  of_client k (fault.TypeMismatch i) sound w = record {
+    refusal = (can, w.text, turn k (fault.TypeMismatch i) sound w, w.wrong.0, w.wrong.1, refused_client _ w.wrong.0 (fault.TypeMismatch i) w.wrong.2);
+    text = w.text;
+    turn = turn k (fault.TypeMismatch i) sound w;
+    client = w.wrong.0;
+    spells = w.wrong.1;
+    fault = w.wrong.2;
+  }
+  of_client k (fault.Rejected i reason) sound w = record {
+    refusal = (can, w.text, turn k (fault.Rejected i reason) sound w, w.wrong.0, w.wrong.1, refused_client _ w.wrong.0 (fault.Rejected i reason) w.wrong.2);
+    text = w.text;
+    turn = turn k (fault.Rejected i reason) sound w;
+    client = w.wrong.0;
+    spells = w.wrong.1;
+    fault = w.wrong.2;
+  }
+  of_client k fault.TooLong sound w = record {
+    refusal = (can, w.text, turn k fault.TooLong sound w, w.wrong.0, w.wrong.1, refused_client _ w.wrong.0 fault.TooLong w.wrong.2);
+    text = w.text;
+    turn = turn k fault.TooLong sound w;
+    client = w.wrong.0;
+    spells = w.wrong.1;
+    fault = w.wrong.2;
+  }
+  of_client k f sound w = absurd w.wrong.2
+
+  pub why : (client : Option ℕ) (f : Fault) → IsWrongFor image texts client f → IsFault image texts room base moves client f
+  why None f h = of_call f h
+  why (Some k) f h = of_client k f h.0 h.1
+
+-- ---- where the image lies
+
+slice_whole : (image : List ℕ) → slice image 0 (length image) ≡ image
+unfolding slice
+slice_whole image = take-length image
+
+-- what a window of its size shows there
+pub shows : (w : Placement) (host : List ℕ) (base len : ℕ) (image : List ℕ) → region_of w ≡ host → length w.before ≡ base → length w.bytes ≡ len → len ≡ length image → IsPlaced host base image → w.bytes ≡ image
+shows w host base len image is at size same placed =
+    sym (region-placed w.before w.bytes w.after) ∙ ap (λ r. slice r (length w.before) (length w.bytes)) is ∙ ap (λ b. slice host b (length w.bytes)) at ∙ ap (slice host base) (size ∙ same) ∙ placed
+
+-- a region of zeros with the image in it
+pub among_zeros : (image : List ℕ) (base room : ℕ) → IsPlace room base (length image) → LiesIn ((replicate base 0 ++ image) ++ replicate (room - (base + length image)) 0) base image
+among_zeros image base room place =
+    let zeros = replicate (room - (base + length image)) 0 in
+    let front : length (replicate base 0 ++ image) ≡ base + length image = length-append (replicate base 0) image ∙ ap (λ n. n + length image) (length-replicate base 0) in
+    let long : length ((replicate base 0 ++ image) ++ zeros) ≡ room =
+    length-append (replicate base 0 ++ image) zeros ∙ ap (λ m. m + length zeros) front ∙ ap (λ n. base + length image + n) (length-replicate (room - (base + length image)) 0) ∙ (let fits = place.1 in omega arith) in (
+      subst (λ n. IsPlace n base (length image)) (sym long) place,
+      ap (λ b. slice ((replicate base 0 ++ image) ++ zeros) b (length image)) (sym (length-replicate base 0)) ∙ region-placed (replicate base 0) image zeros,
+    )
+
+-- an image that is the whole region
+pub whole_region : (image : List ℕ) (base room : ℕ) → IsPlace room base (length image) → length image ≡ room → LiesIn image base image
+whole_region image base room place same =
+    let start : base ≡ 0 = (let fits = place.1 in omega (arith, fits, same)) in
+    (subst (λ n. IsPlace n base (length image)) (sym same) place, ap (λ b. slice image b (length image)) start ∙ slice_whole image)
+
+-- ---- what calls return
+
+-- an error that is passed on
+pub err_is : {A E : Type 0} (result : Result A E) (e : E) (P : E → Type 0) → P e → (x : E) × (result ≡ Err x) × (x ≡ e) → IfErr result P
+err_is {A = A} {E = E} result e P p r = subst (λ (x : Result A E). IfErr x P) (sym r.1) (subst P (sym r.2) p)
+
+module _ {A : Type 0} (image : List ℕ) (texts : List (List ℕ)) (room base : ℕ) (moves : List Move) (can : CanMove image room base moves) where
+  pub refused_for : (result : Result A Refused) → IfErr result (λ refused. IsWrong image texts refused) → IfErr result (λ refused. IsRefusedFor image texts room base moves refused)
+  refused_for (Ok a) h = tt
+  refused_for (Err refused) h = why image texts room base moves can refused.client refused.fault h
+
+  pub admitted : (result : Result A Refused) → OnOk result (AreAcceptedOn image texts) → OnOk result (IsAdmitted image texts room base moves)
+  admitted (Ok a) h = record { can_move = can; accepted = h }
+  admitted (Err refused) h = tt
