@@ -313,10 +313,21 @@ fn stays<F: Fit>(rt: &(impl Abort + AllocGlobal)) -> Result<(), Fail> {
     grows_by::<F>(rt, 784, 1 << 30, Err(Fault::BadSize), 0, 784)
 }
 
+/// What the host had where a segment grows doesn't get into it: after a header and the allocator's words the bytes are 0.
+fn takes_in_zeros<F: Fit>(rt: &(impl Abort + AllocGlobal)) -> Result<(), Fail> {
+    let mut segment = full_segment::<F>(rt.alloc(), 1024)?;
+    assert_eq!(rt; segment.grow(240), Ok(1024));
+    let taken = segment.window().slice(784 + 32, 240 - 32);
+    assert!(rt; taken.len() == 208 && taken.iter().all(|byte| *byte == 0));
+    Ok(())
+}
+
 #[test]
 fn segments_grow(rt: HostRuntime) -> Result<(), Fail> {
     grows::<SeqFit>(&rt)?;
     grows::<BestFit>(&rt)?;
+    takes_in_zeros::<SeqFit>(&rt)?;
+    takes_in_zeros::<BestFit>(&rt)?;
     stays::<SeqFit>(&rt)?;
     stays::<BestFit>(&rt)
 }
