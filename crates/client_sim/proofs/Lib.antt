@@ -3,3 +3,4 @@ pub mod OwnedRoots
 pub mod RootPuts
 pub mod Placed
 pub mod Giving
+pub mod Aligned
