@@ -4,3 +4,4 @@ pub mod RootPuts
 pub mod Placed
 pub mod Giving
 pub mod Aligned
+pub mod Led
