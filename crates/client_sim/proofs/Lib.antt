@@ -5,3 +5,4 @@ pub mod Placed
 pub mod Giving
 pub mod Aligned
 pub mod Led
+pub mod LeafPuts
