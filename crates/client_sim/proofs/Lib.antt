@@ -6,3 +6,4 @@ pub mod Giving
 pub mod Aligned
 pub mod Led
 pub mod LeafPuts
+pub mod NumberPlaces
