@@ -83,7 +83,8 @@ module _ (bytes : List ℕ) (table : Table) (valid : IsTable table) where
       leads_aligned rest m.holds_it (each_at (λ (q : Place). Aligned q.at) opened.parts i part parts part_is) (each_left _ m.zs m.ys (each_right _ m.xs (m.zs ++ m.ys) inside))
 
   -- a path from an item of a root
-  pub root_aligned : (root : Root) (blocks : List ℕ) → HoldsRoot bytes table root blocks → AreAligned blocks → (j : ℕ) → j < count root.values → {path : List Selector} {inner : Place} → Leads bytes table (item_of table root j) path inner → Aligned inner.at
+  pub root_aligned : (root : Root) (blocks : List ℕ) → HoldsRoot bytes table root blocks → AreAligned blocks → (j : ℕ) → j < count root.values
+      → {path : List Selector} {inner : Place} → Leads bytes table (item_of table root j) path inner → Aligned inner.at
   root_aligned root blocks o b j within leads =
       let all : AreAligned (block_of root.at ∷ o.inside) = subst AreAligned o.blocks_are b in
       let start : Aligned root.at = (let e = all.0 in let low = o.block.after_header in omega arith) in

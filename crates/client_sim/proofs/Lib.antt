@@ -7,3 +7,4 @@ pub mod Aligned
 pub mod Led
 pub mod LeafPuts
 pub mod NumberPlaces
+pub mod NumberActs
