@@ -3,3 +3,6 @@ pub mod OwnedRoots
 pub mod RootPuts
 pub mod Placed
 pub mod Giving
+pub mod Numbers
+pub mod Copying
+pub mod Streams
