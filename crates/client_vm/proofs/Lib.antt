@@ -2,3 +2,4 @@ pub mod MovesLaws
 pub mod ReportLaws
 pub mod TextsLaws
 pub mod Refusing
+pub mod NumberLaws

@@ -6,3 +6,4 @@ pub mod Machines
 pub mod Reports
 pub mod Texts
 pub mod Admitted
+pub mod Worlds
