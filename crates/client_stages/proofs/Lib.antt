@@ -3,3 +3,4 @@ pub mod Staging
 pub mod Performing
 pub mod Looping
 pub mod Walking
+pub mod Running
