@@ -3,3 +3,8 @@ pub mod OwnedRoots
 pub mod RootPuts
 pub mod Placed
 pub mod Giving
+pub mod Aligned
+pub mod Led
+pub mod LeafPuts
+pub mod NumberPlaces
+pub mod NumberActs

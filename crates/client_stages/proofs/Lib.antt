@@ -1,4 +1,5 @@
 pub mod MovingLaws
+pub mod Weakening
 pub mod Staging
 pub mod Performing
 pub mod Looping

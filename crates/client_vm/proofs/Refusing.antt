@@ -1,6 +1,7 @@
 -- Why no client runs: the faults of an image and of clients as the reasons of the definitions.
-use Rattle.std.proofs.Common.{◌≡◌, ℕ, ◌+◌, ◌-◌, ◌≤◌, List, ◌++◌, length, Option, Some, None, Result, Ok, Err, sym, ap, ◌∙◌, subst, inl, inr, arith, length-append}
-use Rattle.std.specs.Prelude.{replicate, IfErr, OnOk}
+use Rattle.std.proofs.Common.{◌≡◌, ℕ, zero, suc, ◌+◌, ◌-◌, ◌≤◌, List, ◌++◌, length, Option, Some, None, Result, Ok, Err, refl, sym, ap, ◌∙◌, subst, inl, inr, arith, length-append}
+use Rattle.std.specs.Result.{IsErrAnd}
+use Rattle.std.specs.Prelude.{replicate, IfOk, IfErr, OnOk}
 use Rattle.std.proofs.Math.Seq.{take-length}
 use Rattle.std.proofs.lemmas.List.{length-replicate}
 use Rattle.seg_spec.specs.Bytes.{word, slice, IsPlaced}
@@ -20,7 +21,7 @@ use Rattle.client_spec.specs.OnImages.{Move}
 use Rattle.client_spec.specs.Outcome.{CanMove, IsTurnOf}
 use Rattle.client_verify.specs.Refusals.{IsRefused}
 use Rattle.client_vm.specs.declared.report.Refused.{Refused}
-use Rattle.client_vm.specs.Texts.{IsWrongAt, IsWrongBy}
+use Rattle.client_vm.specs.Texts.{IsWrongAt, IsWrongBy, AreWrong}
 use Rattle.client_vm.specs.Admitted.{LiesIn, AreAcceptedOn, IsAdmitted, IsWrongFor, IsWrong}
 use Rattle.client_vm.specs.Outcomes.{IsBadImage, IsFault, IsFaultOfCall, IsFaultOfClient, IsRefusedFor}
 use Rattle.seg_spec.proofs.Failures.{unsound}
@@ -41,12 +42,20 @@ abbrev sound_of : (image : List ℕ) (table : Table) → IsImageOf image table �
 sound_of image table is = record { picture = is.picture; held = is.held; none_loose = is.none_loose }
 
 module _ (image : List ℕ) (texts : List (List ℕ)) (table : Table) (is : IsImageOf image table) where
-  pub wrong_texts : (client : Option ℕ) (f : Fault) → IsWrongBy table texts client f → IsWrongFor image texts client f
+  wrong_texts : (client : Option ℕ) (f : Fault) → IsWrongBy table texts client f → IsWrongFor image texts client f
   wrong_texts None f h = subst (IsFaultOf image) (sym h) tt
   wrong_texts (Some k) f h = (sound_of image table is, subst (λ t. IsWrongAt t texts k f) (sym is.table_is) h)
 
-  pub accepted_texts : (clients : List Client) → AreAccepted table texts clients → AreAcceptedOn image texts
+  pub if_wrong : {A : Type 0} (result : Result A Refused) → IfErr result (AreWrong table texts) → IfErr result (IsWrong image texts)
+  if_wrong (Ok a) h = tt
+  if_wrong (Err refused) h = wrong_texts refused.client refused.fault h
+
+  accepted_texts : (clients : List Client) → AreAccepted table texts clients → AreAcceptedOn image texts
   accepted_texts clients h = record { sound = sound_of image table is; clients = clients; accepted = subst (λ t. AreAccepted t texts clients) (sym is.table_is) h }
+
+  pub if_accepted : {A : Type 0} (result : Result A Refused) → OnOk result ((clients : List Client) × AreAccepted table texts clients) → OnOk result (AreAcceptedOn image texts)
+  if_accepted (Ok a) h = accepted_texts h.0 h.1
+  if_accepted (Err refused) h = tt
 
 -- ---- the reasons of the definitions
 
@@ -132,9 +141,21 @@ whole_region image base room place same =
 
 -- ---- what calls return
 
+-- an image that names an allocator which isn't the second names the first
+pub other_allocator : (n : ℕ) → n ≤ 1 → (n ≡ 1 → ⊥) → n ≡ 0
+other_allocator zero small isnt = refl
+other_allocator (suc zero) small isnt = absurd (isnt refl)
+other_allocator (suc (suc n)) small isnt = absurd (omega (arith, small))
+
+-- a value of which all is known
+pub ok_is : {A E : Type 0} (result : Result A E) (x : A) (P : A → Type 0) → P x → IfOk result (λ y. y ≡ x) → IfOk result P
+ok_is (Ok a) x P p is = subst P (sym is) p
+ok_is (Err e) x P p is = tt
+
 -- an error that is passed on
-pub err_is : {A E : Type 0} (result : Result A E) (e : E) (P : E → Type 0) → P e → (x : E) × (result ≡ Err x) × (x ≡ e) → IfErr result P
-err_is {A = A} {E = E} result e P p r = subst (λ (x : Result A E). IfErr x P) (sym r.1) (subst P (sym r.2) p)
+pub err_is : {A E : Type 0} (result : Result A E) (e : E) (P : E → Type 0) → P e → IsErrAnd result (λ x. x ≡ e) → IfErr result P
+err_is (Ok a) e P p is = absurd is
+err_is (Err x) e P p is = subst P (sym is) p
 
 module _ {A : Type 0} (image : List ℕ) (texts : List (List ℕ)) (room base : ℕ) (moves : List Move) (can : CanMove image room base moves) where
   pub refused_for : (result : Result A Refused) → IfErr result (λ refused. IsWrong image texts refused) → IfErr result (λ refused. IsRefusedFor image texts room base moves refused)

@@ -40,8 +40,8 @@ module _ {X : Type 0} (f : X → List ℕ) (xs : List X) (i : ℕ) (d : X) (ther
   text_added programs program same is =
       map-append (λ (p : Verified). bytes_of (client_of p)) programs (program ∷ []) ∙ ap (λ ts. ts ++ bytes_of (client_of program) ∷ []) same ∙ ap (λ t. map f (take i xs) ++ t ∷ []) is ∙ sym front
 
-  pub client_added : (table types longer_types : Table) (clients : List Client) (client : Client) → AreAccepted table (map f (take i xs)) clients → types ≡ table_after table clients → SpellsClient (f (get_or xs i d)) client → IsVerified types client
-      → longer_types ≡ longer types client.types → (trees : List Client) × AreAccepted table (map f (take (i + 1) xs)) trees × (longer_types ≡ table_after table trees)
+  pub client_added : (table types longer_types : Table) (clients : List Client) (client : Client) → AreAccepted table (map f (take i xs)) clients → types ≡ table_after table clients → SpellsClient (f (get_or xs i d)) client
+      → IsVerified types client → longer_types ≡ longer types client.types → (trees : List Client) × AreAccepted table (map f (take (i + 1) xs)) trees × (longer_types ≡ table_after table trees)
   client_added table types longer_types clients client h same spells is more = (
     clients ++ client ∷ [],
     subst (λ ts. AreAccepted table ts (clients ++ client ∷ [])) (sym front) (accepted_more table (map f (take i xs)) clients (f (get_or xs i d)) client h spells (subst (λ t. IsVerified t client) same is)),
@@ -49,7 +49,8 @@ module _ {X : Type 0} (f : X → List ℕ) (xs : List X) (i : ℕ) (d : X) (ther
   )
 
   -- a file with a fault after others that were accepted
-  pub first_wrong : (table types : Table) (fault : Fault) (clients : List Client) → AreAccepted table (map f (take i xs)) clients → types ≡ table_after table clients → IsWrongText types (f (get_or xs i d)) fault → IsWrongAt table (map f xs) i fault
+  pub first_wrong : (table types : Table) (fault : Fault) (clients : List Client) → AreAccepted table (map f (take i xs)) clients → types ≡ table_after table clients → IsWrongText types (f (get_or xs i d)) fault
+      → IsWrongAt table (map f xs) i fault
   first_wrong table types fault clients h same wrong = record {
     clients = clients;
     accepted = subst (λ ts. AreAccepted table ts clients) (sym (take-map f i xs)) h;

@@ -36,8 +36,8 @@ AreReports (report ∷ reports) (left ∷ lefts) = IsReport report left × AreRe
 
 -- The clients were accepted, one after the other, on a sound image, and ran, each within its bound. What they leave is a sound
 -- image again.
-pub record HasOutcome (image : List ℕ) (texts : List (List ℕ)) (input : List ℕ) (room base : ℕ)
-    (moves : List Move) (taken taken_then : Option (List ℕ))
+pub record HasOutcome (image : List ℕ) (texts : List (List ℕ)) (input : List ℕ)
+    (room base : ℕ) (moves : List Move) (taken taken_then : Option (List ℕ))
     (saved : List ℕ) (reports : List Report) (ended : Ended) : Type 0 where
   pub lefts : List Left
   pub outcome : IsOutcome image texts input room base moves lefts

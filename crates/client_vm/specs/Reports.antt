@@ -31,6 +31,7 @@ AreReportsOf [] (report ∷ reports) = ⊥
 AreReportsOf (text ∷ texts) (report ∷ reports) =
     IsReportOf text report × AreReportsOf texts reports
 
-pub record HasReportsOf (texts : List (List ℕ)) (reports : List Report) (ended : Ended) : Type 0 where
+pub record HasReportsOf (texts : List (List ℕ)) (reports : List Report) (ended : Ended) :
+    Type 0 where
   pub reports_are : AreReportsOf texts reports
   pub all : ended ≡ Ended.Done → length reports ≡ length texts

@@ -1,8 +1,15 @@
 ghost use Rattle.std.specs.Prelude.{ℕ, List, ◌≡◌, ◌↔◌, ◌≤◌, ◌<◌, ◌+◌, ◌*◌, ◌^◌, true, false, IfOk, IfErr, OnErr, OnOk, [], length, map, vec_len, vec_capacity};
+ghost use Rattle.std.specs.Result.{IsOkUnless};
+ghost use Rattle.seg_spec.specs.Bytes.{word};
+ghost use Rattle.seg_spec.specs.Header.{allocator_word};
 ghost use Rattle.seg_spec.specs.Faulty.{IsImageLength};
+ghost use Rattle.client_spec.specs.Syntax as syntax;
+ghost use Rattle.client_spec.specs.Clients.{AreAccepted};
 ghost use Rattle.client_spec.specs.Outcome.{CanMove};
+ghost use Rattle.client_vm.specs.Admitted.{LiesIn, AreAcceptedOn, IsAdmitted, IsWrong};
 ghost use Rattle.client_vm.specs.Moves.{moves_of};
-ghost use Rattle.client_vm.specs.Outcomes.{IsFaultOfCall};
+ghost use Rattle.client_vm.specs.Outcomes.{IsFaultOfCall, IsRefusedFor};
+ghost use Rattle.client_vm.specs.Texts.{AreWrong};
 ghost use Rattle.client_vm.specs.Reports.{texts_of, AreReportsOf, HasReportsOf};
 
 use crate::accepting::verify_all;
@@ -37,6 +44,10 @@ pub fn run_bytes<A: Allocator + Copy, W: Sink>(
     out: &mut W,
 ) -> Result<Outcome<A>, Refused>
     requires works { W.has_failed out.old ≡ false }
+    ensures refused { IfErr result (IsRefusedFor image.now (map (λ c. c.now) clients.now)
+        schedule.now.room schedule.now.base (moves_of schedule.now.moves.now)) }
+    ensures admitted { OnOk result (IsAdmitted image.now (map (λ c. c.now) clients.now)
+        schedule.now.room schedule.now.base (moves_of schedule.now.moves.now)) }
     ensures nothing_written { OnErr result (out.new ≡ out.old) }
     ensures ended { IfOk result
         (λ o. (o.ended ≡ Ended.OutputFailed) ↔ (W.has_failed out.new ≡ true)) }
@@ -44,7 +55,7 @@ pub fn run_bytes<A: Allocator + Copy, W: Sink>(
         o.reports.items o.ended) }
 {
     let len = fitting(image, schedule)?;
-    let region = Region::with_bytes(alloc, schedule.room, schedule.base, image)?;
+    let region = copied(alloc, image, schedule)?;
     run_in(alloc, region, len, clients, input, schedule, out)
 }
 
@@ -58,6 +69,10 @@ pub fn run_image<A: Allocator + Copy, W: Sink>(
     out: &mut W,
 ) -> Result<Outcome<A>, Refused>
     requires works { W.has_failed out.old ≡ false }
+    ensures refused { IfErr result (IsRefusedFor image.items (map (λ c. c.now) clients.now)
+        schedule.now.room schedule.now.base (moves_of schedule.now.moves.now)) }
+    ensures admitted { OnOk result (IsAdmitted image.items (map (λ c. c.now) clients.now)
+        schedule.now.room schedule.now.base (moves_of schedule.now.moves.now)) }
     ensures nothing_written { OnErr result (out.new ≡ out.old) }
     ensures ended { IfOk result
         (λ o. (o.ended ≡ Ended.OutputFailed) ↔ (W.has_failed out.new ≡ true)) }
@@ -65,11 +80,7 @@ pub fn run_image<A: Allocator + Copy, W: Sink>(
         o.reports.items o.ended) }
 {
     let len = fitting(image.as_slice(), schedule)?;
-    let region = if len == schedule.room {
-        Region::from_vec(image)
-    } else {
-        Region::with_bytes(alloc, schedule.room, schedule.base, image.as_slice())?
-    };
+    let region = placed(alloc, image, len, schedule)?;
     run_in(alloc, region, len, clients, input, schedule, out)
 }
 
@@ -84,13 +95,19 @@ fn run_in<A: Allocator + Copy, W: Sink>(
     out: &mut W,
 ) -> Result<Outcome<A>, Refused>
     requires works { W.has_failed out.old ≡ false }
+    ensures refused { (image : List ℕ) → LiesIn region schedule.now.base image →
+        len ≡ length image → IfErr result (IsWrong image (map (λ c. c.now) clients.now)) }
+    ensures accepted { (image : List ℕ) → LiesIn region schedule.now.base image →
+        len ≡ length image → OnOk result (AreAcceptedOn image (map (λ c. c.now) clients.now)) }
     ensures nothing_written { OnErr result (out.new ≡ out.old) }
     ensures ended { IfOk result
         (λ o. (o.ended ≡ Ended.OutputFailed) ↔ (W.has_failed out.new ≡ true)) }
     ensures reports { IfOk result (λ o. HasReportsOf (map (λ c. c.now) clients.now)
         o.reports.items o.ended) }
 {
-    let window = Window::place(region, schedule.base, len).map_err(|refused| refused.0)?;
+    let Ok(window) = Window::place(region, schedule.base, len) else {
+        return Err(Refused::from(Fault::Misplaced));
+    };
     if window.get32(header::ALLOCATOR) == BestFit::word() {
         run_on::<BestFit, A, W>(alloc, window, clients, input, schedule.moves, out)
     } else {
@@ -108,13 +125,42 @@ fn run_on<F: Fit, A: Allocator + Copy, W: Sink>(
     out: &mut W,
 ) -> Result<Outcome<A>, Refused>
     requires works { W.has_failed out.old ≡ false }
+    ensures refused { (word window.bytes allocator_word ≤ 1 →
+        word window.bytes allocator_word ≡ F.allocator) →
+        IfErr result (IsWrong window.bytes (map (λ c. c.now) clients.now)) }
+    ensures accepted { OnOk result (AreAcceptedOn window.bytes (map (λ c. c.now) clients.now)) }
     ensures nothing_written { OnErr result (out.new ≡ out.old) }
     ensures ended { IfOk result
         (λ o. (o.ended ≡ Ended.OutputFailed) ↔ (W.has_failed out.new ≡ true)) }
     ensures reports { IfOk result (λ o. HasReportsOf (map (λ c. c.now) clients.now)
         o.reports.items o.ended) }
 {
-    let mut segment = open::<F, A, A>(alloc, window).map_err(|refused| refused.0)?;
+    match open::<F, A, A>(alloc, window) {
+        Ok(segment) => run_opened(alloc, segment, clients, input, moves, out),
+        Err((fault, _)) => Err(Refused::from(fault)),
+    }
+}
+
+/// Verifies the clients, and runs them on an open segment.
+fn run_opened<F: Fit, A: Allocator + Copy, W: Sink>(
+    alloc: A,
+    mut segment: Segment<F, A>,
+    clients: &[&[u8]],
+    input: &[u8],
+    moves: &[Move],
+    out: &mut W,
+) -> Result<Outcome<A>, Refused>
+    requires works { W.has_failed out.old ≡ false }
+    ensures refused { IfErr result (λ refused.
+        AreWrong segment.types (map (λ c. c.now) clients.now) refused) }
+    ensures accepted { OnOk result ((trees : List syntax.Client) ×
+        AreAccepted segment.types (map (λ c. c.now) clients.now) trees) }
+    ensures nothing_written { OnErr result (out.new ≡ out.old) }
+    ensures ended { IfOk result
+        (λ o. (o.ended ≡ Ended.OutputFailed) ↔ (W.has_failed out.new ≡ true)) }
+    ensures reports { IfOk result (λ o. HasReportsOf (map (λ c. c.now) clients.now)
+        o.reports.items o.ended) }
+{
     let programs = verify_all(alloc, clients, segment.types())?;
     let mut reports = Vec::with_capacity(alloc, clients.len())?;
     run_all(
@@ -135,6 +181,36 @@ fn run_on<F: Fit, A: Allocator + Copy, W: Sink>(
         reports,
         ended,
     })
+}
+
+/// A region with the image of `len` bytes at its base; the image's own memory where it is the whole region.
+fn placed<A: Allocator>(
+    alloc: A,
+    image: Vec<u8, A>,
+    len: u32,
+    schedule: &Schedule,
+) -> Result<Region<A>, Fault>
+    requires len { len ≡ length image.items }
+    requires can_move { CanMove image.items schedule.now.room schedule.now.base
+        (moves_of schedule.now.moves.now) }
+    ensures lies { IfOk result (λ region. LiesIn region schedule.now.base image.items) }
+    ensures refused { IsOkUnless result Fault.Memory }
+{
+    if len == schedule.room {
+        Ok(Region::from_vec(image))
+    } else {
+        copied(alloc, image.as_slice(), schedule)
+    }
+}
+
+/// A region of zeros with the image at its base.
+fn copied<A: Allocator>(alloc: A, image: &[u8], schedule: &Schedule) -> Result<Region<A>, Fault>
+    requires can_move { CanMove image.now schedule.now.room schedule.now.base
+        (moves_of schedule.now.moves.now) }
+    ensures lies { IfOk result (λ region. LiesIn region schedule.now.base image.now) }
+    ensures refused { IsOkUnless result Fault.Memory }
+{
+    Region::with_bytes(alloc, schedule.room, schedule.base, image)
 }
 
 /// The length of an image that may lie at a place and make the moves.
@@ -177,7 +253,8 @@ fn run_all<F: Fit, A: Allocator, B: Allocator, W: Sink>(
     out: &mut W,
     reports: &mut Vec<Report, B>,
 )
-    ensures reports { reports.old.items ≡ [] → length programs.now ≤ vec_capacity reports.old →
+    ensures reports { reports.old.items ≡ [] →
+        length programs.now ≤ vec_capacity reports.old →
         AreReportsOf (texts_of programs.now) reports.new.items }
     ensures all { reports.old.items ≡ [] → length programs.now ≤ vec_capacity reports.old →
         W.has_failed out.new ≡ false → length reports.new.items ≡ length programs.now }

@@ -82,7 +82,8 @@ impl<'a> Moves<'a> {
         ensures made { (room len : ℕ) → AreMoves room len steps (moves_of self.old.rest.now) →
             MakesDue (moves_of self.old.rest.now) steps is_step w.old
             (moves_of self.new.rest.now) w.new }
-        ensures waits { (room len : ℕ) → AreMoves room len steps (moves_of self.old.rest.now) →
+        ensures waits { (room len : ℕ) →
+            AreMoves room len steps (moves_of self.old.rest.now) →
             Waits steps (moves_of self.new.rest.now) result }
     {
         if steps == self.due() && is_step {

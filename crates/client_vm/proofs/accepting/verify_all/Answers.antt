@@ -12,6 +12,7 @@ pub loop-i-preserved : goal.loop-i-preserved
 loop-i-preserved g c =
     let h = c.loop-i.invariant.1 in
     let a = c.in-Ok.ensures.accepted in (
-      ap texts_of {x = c.push.new.self.items} {y = c.loop-i.programs.items ++ c.in-Ok.program ∷ []} c.in_ok-push-in-Ok.ensures.items ∙ text_added (λ x. x.now) c.args.clients.now c.loop-i.i (record { ref_ptr = (0, 0); now = [] }) c.loop-i-test.true c.loop-i.programs.items c.in-Ok.program c.loop-i.invariant.0 c.in-Ok.ensures.text,
+      ap texts_of {x = c.push.new.self.items} {y = c.loop-i.programs.items ++ c.in-Ok.program ∷ []} c.in_ok-push-in-Ok.ensures.items
+          ∙ text_added (λ x. x.now) c.args.clients.now c.loop-i.i (record { ref_ptr = (0, 0); now = [] }) c.loop-i-test.true c.loop-i.programs.items c.in-Ok.program c.loop-i.invariant.0 c.in-Ok.ensures.text,
       client_added (λ x. x.now) c.args.clients.now c.loop-i.i (record { ref_ptr = (0, 0); now = [] }) c.loop-i-test.true c.args.types.now c.loop-i.types c.in-Ok.extended h.0 a.0 h.1 h.2 a.1 a.2 a.3,
     )
