@@ -5,3 +5,5 @@ pub mod Performing
 pub mod Looping
 pub mod Walking
 pub mod Running
+pub mod Beginning
+pub mod Leaving
