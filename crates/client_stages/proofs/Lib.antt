@@ -4,3 +4,6 @@ pub mod Staging
 pub mod Performing
 pub mod Looping
 pub mod Walking
+pub mod Running
+pub mod Beginning
+pub mod Leaving
