@@ -8,3 +8,6 @@ pub mod Led
 pub mod LeafPuts
 pub mod NumberPlaces
 pub mod NumberActs
+pub mod Numbers
+pub mod Copying
+pub mod Streams
