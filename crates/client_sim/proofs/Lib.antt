@@ -11,3 +11,4 @@ pub mod NumberActs
 pub mod Numbers
 pub mod Copying
 pub mod Streams
+pub mod Printing
