@@ -10,5 +10,6 @@ pub mod NumberPlaces
 pub mod NumberActs
 pub mod Numbers
 pub mod Copying
+pub mod Forgetting
 pub mod Streams
 pub mod Printing
