@@ -13,3 +13,5 @@ pub mod Copying
 pub mod Forgetting
 pub mod Streams
 pub mod Printing
+pub mod Answering
+pub mod Changing
