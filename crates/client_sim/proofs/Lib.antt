@@ -16,3 +16,5 @@ pub mod Printing
 pub mod Answering
 pub mod Changing
 pub mod Referring
+pub mod Granting
+pub mod Texts
