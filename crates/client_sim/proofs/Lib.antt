@@ -17,4 +17,5 @@ pub mod Answering
 pub mod Changing
 pub mod Referring
 pub mod Granting
+pub mod TextLengths
 pub mod Texts
