@@ -15,3 +15,6 @@ pub mod Streams
 pub mod Printing
 pub mod Answering
 pub mod Changing
+pub mod Parts
+pub mod Lengths
+pub mod Keys
