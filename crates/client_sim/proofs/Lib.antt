@@ -19,3 +19,6 @@ pub mod Referring
 pub mod Granting
 pub mod TextLengths
 pub mod Texts
+pub mod Parts
+pub mod Lengths
+pub mod Keys
