@@ -22,3 +22,4 @@ pub mod Texts
 pub mod Parts
 pub mod Lengths
 pub mod Keys
+pub mod Finding

@@ -5,3 +5,4 @@ pub mod Refusing
 pub mod NumberLaws
 pub mod WritingLaws
 pub mod PartLaws
+pub mod ObjectLaws
