@@ -15,3 +15,4 @@ pub mod Streams
 pub mod Printing
 pub mod Answering
 pub mod Changing
+pub mod Granting
