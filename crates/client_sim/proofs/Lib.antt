@@ -16,3 +16,4 @@ pub mod Printing
 pub mod Answering
 pub mod Changing
 pub mod Granting
+pub mod Items
