@@ -23,3 +23,5 @@ pub mod Parts
 pub mod Lengths
 pub mod Keys
 pub mod Finding
+pub mod Granting
+pub mod Items
