@@ -23,5 +23,4 @@ pub mod Parts
 pub mod Lengths
 pub mod Keys
 pub mod Finding
-pub mod Granting
 pub mod Items
