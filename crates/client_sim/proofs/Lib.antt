@@ -16,4 +16,5 @@ pub mod Printing
 pub mod Answering
 pub mod Changing
 pub mod Granting
+pub mod Counts
 pub mod Items

@@ -3,3 +3,4 @@ pub mod ReportLaws
 pub mod TextsLaws
 pub mod Refusing
 pub mod NumberLaws
+pub mod ItemLaws
