@@ -18,3 +18,4 @@ pub mod Changing
 pub mod Granting
 pub mod Counts
 pub mod Items
+pub mod Entries
