@@ -129,6 +129,31 @@ module _ {others : List Root} {types : Table} {constants : List Constant} (one :
         (subst (λ m. Acts others types constants first allocator i code (slice_set known_then i.a RegisterType.Int) s w (with_number w i.a (pos m))) (sym n_is)
         (refuses_with others types constants first allocator known_then s w (shows_ended r.class i.b) i code room i.a within free row blocks))
 
+    -- a number or a reference to a part, where nothing changed
+    pub kept_number : (n : ℤ) (new : List ℕ) → new ≡ w.image → i.a < 16 → is_owner (known known_then i.a) ≡ false → outcome constants i true s ≡ give i.a (Register.Int n) s → ChangesBlocks constants i h.pictured success w.image
+        → Acts others types constants first allocator i success (slice_set known_then i.a RegisterType.Int) s w (with_number (with_image w new) i.a n)
+    kept_number n new same within free row blocks =
+        let after = shows_ended r.class i.b in
+        subst (λ m. Acts others types constants first allocator i success (slice_set known_then i.a RegisterType.Int) s w (with_number (with_image w m) i.a n)) (sym same)
+        (acts_so others types constants first allocator ks s w h i success true (slice_set known_then i.a RegisterType.Int) (set_register s i.a (Register.Int n)) (with_number w i.a n)
+        (row ∙ answer_is types constants known_then s after.as_known success i.a (Register.Int n) free) blocks refl refl refl (shows_number others types constants first allocator known_then s w after i.a n within free))
+
+    pub kept_reference : (x : Selector) (T : ℕ) (part : Value) (target : Place) (new : List ℕ) → new ≡ w.image → i.a < 16 → is_owner (known known_then i.a) ≡ false
+        → part_type x r.form ≡ Some T → selected r.its.value x ≡ Some part → target.type ≡ T → Leads w.image w.table (place_in w i.b) (x ∷ []) target
+        → outcome constants i true s ≡ refer i.a (extend r.its.path x) s → ChangesBlocks constants i h.pictured success w.image
+        → Acts others types constants first allocator i success (slice_set known_then i.a (RegisterType.Reference r.class T)) s w (with_place (with_image w new) i.a target)
+    unfolding shows_ended
+    kept_reference x T part target new same within free of_part is typed leads row blocks =
+        let after = shows_ended r.class i.b in
+        let x_path = extend r.its.path x in
+        let to : LeadsToType s x_path T = leads_extend s r.its.path r.type T x r.form part (record { value = r.its.value; there = r.its.there; typed = r.its.typed }) r.machine_form of_part is in
+        let in_image : LeadsInImage h.pictured x_path target =
+        leads_part h.pictured r.its.path x (place_in w i.b) target r.its.in_image (subst (λ (t : Table). Leads w.image t (place_in w i.b) (x ∷ []) target) (h.table_is ∙ sym h.pictured.types) leads) in
+        subst (λ m. Acts others types constants first allocator i success (slice_set known_then i.a (RegisterType.Reference r.class T)) s w (with_place (with_image w m) i.a target)) (sym same)
+        (acts_so others types constants first allocator ks s w h i success true (slice_set known_then i.a (RegisterType.Reference r.class T)) (set_register s i.a (Register.Reference x_path)) (with_place w i.a target)
+        (row ∙ answer_is types constants known_then s after.as_known success i.a (Register.Reference x_path) free) blocks refl refl refl
+        (shows_reference others types constants first allocator known_then s w after i.a r.class T x_path target within free r.its.within to typed in_image))
+
     -- another value was put there
     module _ (v : Value) (fits : IsOf s.types r.form v) (new : List ℕ) (asks : List Ask) (gives blocks : List ℕ) (c : Succeeds allocator w.image new w.table (place_in w i.b) v asks gives r.its.found.blocks blocks) where
       abbrev state_then : State

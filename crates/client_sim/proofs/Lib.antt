@@ -23,4 +23,6 @@ pub mod Parts
 pub mod Lengths
 pub mod Keys
 pub mod Finding
+pub mod Counts
 pub mod Items
+pub mod Entries

@@ -6,3 +6,4 @@ pub mod NumberLaws
 pub mod WritingLaws
 pub mod PartLaws
 pub mod ObjectLaws
+pub mod ItemLaws

@@ -1,0 +1,141 @@
+-- Keys that come to a map, or go, whatever state the world stands for.
+use Rattle.std.proofs.Common.{◌≡◌, ◌≢◌, ℕ, suc, ◌+◌, ◌<◌, ℤ, pos, length, List, [], ◌∷◌, ◌++◌, Bool, true, false, Option, Some, None, refl, sym, ◌∙◌, ap, subst, arith}
+use Rattle.std.specs.Prelude.{⊤, Ok, take, drop, insert, remove, slice_set}
+use Rattle.std.specs.Option.{option_map_or}
+use Rattle.seg_spec.specs.Types.{Form, Table, form_at, size}
+use Rattle.seg_spec.specs.Value.{Value, Values, count, Map, default_of, Selector, selected}
+use Rattle.seg_spec.specs.Items.{keys_below, key_place, insert_nth, remove_nth, with_entry, without_entry}
+use Rattle.seg_spec.specs.Index.{Root}
+use Rattle.seg_spec.specs.Reads.{Place, Leads, count_at, map_words}
+use Rattle.seg_spec.specs.Owning.{Stands}
+use Rattle.seg_spec.specs.Demand.{Ask, block_for}
+use Rattle.seg_spec.specs.Calls.{Refuses}
+use Rattle.seg_spec.specs.Growing.{Succeeds}
+use Rattle.seg_spec.specs.Spending.{buffer_asks, PartBlocks}
+use Rattle.client_spec.specs.declared.table.Operation.{Operation}
+use Rattle.client_spec.specs.declared.table.Role.{Role}
+use Rattle.client_spec.specs.Syntax.{Constant, Instruction}
+use Rattle.client_spec.specs.Machine.{◌>>=◌, Path, extend, Register, State, path_value, put_at, part_type}
+use Rattle.client_spec.specs.Answer.{success, bad_alloc, Outcome, path_of, path_form, integer_at, give, give_count, fail, refer, entries_in, map_value, with_room}
+use Rattle.client_spec.specs.Effect.{outcome, effect, truth}
+use Rattle.client_spec.specs.Shape.{HasShape, AllHaveShape}
+use Rattle.client_spec.specs.Asks.{ChangesBlocks, GrantsAsks, KeyBlocks, cell_asks, found_key, if_absent}
+use Rattle.client_spec.specs.Typed.{Class, RegisterType, RegisterTypes, Rule, known, is_owner, integer_needed, is_map, others_ended, gives, opens, rule}
+use Rattle.client_spec.specs.Typed as typed
+use Rattle.client_spec.proofs.Values.{Some_inj}
+use Rattle.client_spec.proofs.Shapes.{IsOf, all_insert, all_remove}
+use Rattle.client_spec.proofs.Defaults.{default_has, part_is_entry}
+use Rattle.client_spec.proofs.Classes.{OneEach}
+use Rattle.client_spec.proofs.FirstRows.{bind_ok}
+use Rattle.client_spec.proofs.Cases.{entries_value, map_has_value, key_part, key_in, value_at_key, count_insert, length_insert, remove_length}
+use Rattle.client_spec.proofs.Spelled.{one_each}
+use Rattle.client_sim.specs.Shows.{World, number_in, place_in, Shows, Acts}
+use Rattle.client_sim.specs.Acting.{ActsAs, IsRefusedAs}
+use Rattle.client_sim.proofs.LeafPuts.{with_image}
+use Rattle.client_sim.proofs.Numbers.{with_number, quiet, gives_both, number_shown}
+use Rattle.client_sim.proofs.Answering.{with_place}
+use Rattle.client_sim.proofs.Granting.{grants_asks, denies}
+use Rattle.client_sim.proofs.Items.{Reaches, reaches, led_to, code_acts, kept_number, kept_reference, number_acts, reference_acts, opens_then}
+
+-- the rows
+delete_row : (constants : List Constant) (a b c : ℕ) (number : ℤ) (room : Bool) (s : State) (path : Path) (key : ℤ) (keys : List ℤ) (vs : Values) → path_of s b ≡ Some path → integer_at s c ≡ Some key
+    → (path_value s path >>= entries_in) ≡ Some (keys, vs)
+    → effect constants Operation.DeleteKey a b c number room s ≡ option_map_or (λ i. give_count a 1 (put_at s path (without_entry (keys, vs) i))) (key_place keys key) (give_count a 0 s)
+unfolding effect
+delete_row constants a b c number room s path key keys vs is key_is there =
+    let last = λ (p : Path) (k : ℤ) (es : List ℤ × Values). option_map_or (λ i. give_count a 1 (put_at s p (without_entry es i))) (key_place es.0 k) (give_count a 0 s) in
+    ap (λ x. x >>= λ p. integer_at s c >>= λ k. (path_value s p >>= entries_in) >>= λ es. last p k es) is
+    ∙ ap (λ x. x >>= λ k. (path_value s path >>= entries_in) >>= λ es. last path k es) key_is
+    ∙ ap (λ x. x >>= λ es. last path key es) there
+
+put_row : (constants : List Constant) (a b c : ℕ) (number : ℤ) (room : Bool) (s : State) (path : Path) (form : Form) (U : ℕ) (key : ℤ) (keys : List ℤ) (vs : Values) → path_of s b ≡ Some path → integer_at s c ≡ Some key
+    → path_form s path ≡ Some form → map_value form ≡ Some U → (path_value s path >>= entries_in) ≡ Some (keys, vs)
+    → effect constants Operation.PutKey a b c number room s
+    ≡ option_map_or (λ _. refer a (extend path (Selector.key key)) s) (key_place keys key) (with_room room a s (refer a (extend path (Selector.key key)) (put_at s path (with_entry (keys, vs) key (default_of s.types U)))))
+unfolding effect
+put_row constants a b c number room s path form U key keys vs is key_is form_is value there =
+    let last = λ (p : Path) (k : ℤ) (t : ℕ) (es : List ℤ × Values). option_map_or (λ _. refer a (extend p (Selector.key k)) s) (key_place es.0 k) (with_room room a s (refer a (extend p (Selector.key k)) (put_at s p (with_entry es k (default_of s.types t))))) in
+    ap (λ x. x >>= λ p. integer_at s c >>= λ k. (path_form s p >>= map_value) >>= λ t. (path_value s p >>= entries_in) >>= λ es. last p k t es) is
+    ∙ ap (λ x. x >>= λ k. (path_form s path >>= map_value) >>= λ t. (path_value s path >>= entries_in) >>= λ es. last path k t es) key_is
+    ∙ ap (λ x. x >>= λ t. (path_value s path >>= entries_in) >>= λ es. last path key t es) (ap (λ x. x >>= map_value) form_is ∙ value)
+    ∙ ap (λ x. x >>= λ es. last path key U es) there
+
+found_is : (i : Instruction) (s : State) (path : Path) (key : ℤ) (keys : List ℤ) (vs : Values) → path_of s i.b ≡ Some path → integer_at s i.c ≡ Some key → (path_value s path >>= entries_in) ≡ Some (keys, vs)
+    → found_key i s ≡ key_place keys key
+found_is i s path key keys vs is key_is there =
+    ap (λ x. x >>= λ p. integer_at s i.c >>= λ k. (path_value s p >>= entries_in) >>= λ es. key_place es.0 k) is
+    ∙ ap (λ x. x >>= λ k. (path_value s path >>= entries_in) >>= λ es. key_place es.0 k) key_is
+    ∙ ap (λ x. x >>= λ es. key_place es.0 key) there
+
+module _ (allocator : ℕ) (constants : List Constant) (role : Role) (a b c : ℕ) (number : ℤ) (w : World) where
+  abbrev of : Operation → Instruction
+  of operation = record { operation = operation; a = a; b = b; c = c; number = number }
+
+  abbrev place : Place
+  place = place_in w b
+
+  abbrev key : ℤ
+  key = number_in w c
+
+  -- each map at the place
+  abbrev pub EachMap : (Form → ℕ → List ℤ → Values → List ℕ → Type 0) → Type 0
+  EachMap claim = (form : Form) (U : ℕ) (keys : List ℤ) (vs : Values) (blocks : List ℕ) → form_at w.table place.type ≡ Some form → map_value form ≡ Some U
+      → Stands allocator w.image w.table place (Map keys vs) blocks → claim form U keys vs blocks
+
+  -- ---- a key goes
+
+  -- the key at a place went, with its value
+  pub record TakesEntry (new : List ℕ) (keys : List ℤ) (vs : Values) (blocks : List ℕ) (j : ℕ) : Type 0 where
+    pub gives : List ℕ
+    pub part : PartBlocks w.image w.table place j gives
+    pub others : List ℕ
+    pub succeeds : Succeeds allocator w.image new w.table place (without_entry (keys, vs) j) [] gives blocks others
+
+  -- what becomes of a map, by the place of the key
+  abbrev pub Deletes : List ℕ → Bool → List ℤ → Values → List ℕ → Option ℕ → Type 0
+  Deletes new gone keys vs blocks None = (gone ≡ false) × (new ≡ w.image)
+  Deletes new gone keys vs blocks (Some j) = (gone ≡ true) × TakesEntry new keys vs blocks j
+
+  module _ {others : List Root} {types : Table} (one : OneEach constants) {first : Option (List ℕ)} {ks : RegisterTypes} {s : State} (h : Shows others types constants first allocator ks s w)
+      {g : Class × ℕ → ⊤ → Rule} {good bad : RegisterTypes} (r : Reaches one h is_map g b good bad) (U : ℕ) (keys : List ℤ) (vs : Values)
+      (value_is : r.its.value ≡ Map keys vs) (all : AllHaveShape s.types U vs) (long : length keys ≡ count vs) (fits : (ks : List ℤ) (ws : Values) → AllHaveShape s.types U ws → length ks ≡ count ws → IsOf s.types r.form (Map ks ws))
+      (key_is : integer_at s c ≡ Some key) (within : a < 16) (free : is_owner (known (others_ended r.class b ks) a) ≡ false) where
+    there : (path_value s r.its.path >>= entries_in) ≡ Some (keys, vs)
+    there = ap (λ x. x >>= entries_in) r.its.there ∙ ap entries_in value_is
+
+    row : (o : Option ℕ) → key_place keys key ≡ o → effect constants Operation.DeleteKey a b c number true s ≡ option_map_or (λ i. give_count a 1 (put_at s r.its.path (without_entry (keys, vs) i))) o (give_count a 0 s)
+    row o e = delete_row constants a b c number true s r.its.path key keys vs r.path_is key_is there
+        ∙ ap (λ x. option_map_or (λ i. give_count a 1 (put_at s r.its.path (without_entry (keys, vs) i))) x (give_count a 0 s)) e
+
+    blocks_by : (o : Option ℕ) → key_place keys key ≡ o → (given : List ℕ) → KeyBlocks constants (of Operation.DeleteKey) h.pictured place o given → KeyBlocks constants (of Operation.DeleteKey) h.pictured place (found_key (of Operation.DeleteKey) s) given
+    blocks_by o e given k = subst (λ x. KeyBlocks constants (of Operation.DeleteKey) h.pictured place x given) (sym (found_is (of Operation.DeleteKey) s r.its.path key keys vs r.path_is key_is there ∙ e)) k
+
+    deleted : (new : List ℕ) (gone : Bool) (o : Option ℕ) → key_place keys key ≡ o → Deletes new gone keys vs r.its.found.blocks o
+        → Acts others types constants first allocator (of Operation.DeleteKey) success (slice_set (others_ended r.class b ks) a RegisterType.Int) s w (with_number (with_image w new) a (truth gone))
+    deleted new gone None e d =
+        let i = of Operation.DeleteKey in
+        subst (λ t. Acts others types constants first allocator i success (slice_set (others_ended r.class b ks) a RegisterType.Int) s w (with_number (with_image w new) a (truth t))) (sym d.0)
+        (kept_number one h i r (pos 0) new d.1 within free (row None e) (quiet constants i h.pictured refl (place, r.form, led_to one h i r, blocks_by None e [] refl)))
+    deleted new gone (Some j) e d =
+        let i = of Operation.DeleteKey in
+        let t = d.1 in
+        let later = without_entry (keys, vs) j in
+        subst (λ t. Acts others types constants first allocator i success (slice_set (others_ended r.class b ks) a RegisterType.Int) s w (with_number (with_image w new) a (truth t))) (sym d.0)
+        (number_acts one h i r later (fits (remove keys j) (remove_nth vs j) (all_remove s.types U vs j all) (remove_length keys vs j long)) new [] t.gives t.others t.succeeds (pos 1) within free (row (Some j) e)
+        (grants_asks constants i h.pictured allocator h.allocator_is [] refl new w.table place later t.gives r.its.found.blocks t.others
+        (place, r.form, led_to one h i r, blocks_by (Some j) e t.gives (subst (λ (x : Table). PartBlocks w.image x place j t.gives) h.table_is t.part)) t.succeeds))
+
+  pub delete_key_acts : (new : List ℕ) (gone : Bool) → EachMap (λ form U keys vs blocks. Deletes new gone keys vs blocks (key_place keys key)) → ActsAs allocator constants role (of Operation.DeleteKey) w (with_number (with_image w new) a (truth gone))
+  unfolding rule
+  delete_key_acts new gone maps = λ types others first ks good bad s right valid e h.
+      let one = one_each constants right.each right.different in
+      let i = of Operation.DeleteKey in
+      let g = λ (x : Class × ℕ) (u : ⊤). typed.◌>>=◌ (integer_needed (known ks c)) (λ _. gives a RegisterType.Int (others_ended x.0 b ks)) in
+      let r = reaches one h is_map g b good bad e in
+      let q = bind_ok (integer_needed (known ks c)) (λ _. gives a RegisterType.Int (others_ended r.class b ks)) (good, bad) r.rest in
+      let o = gives_both a RegisterType.Int (others_ended r.class b ks) good bad q.2 in
+      let t = map_has_value r.form r.what r.is in
+      let v = entries_value s.types r.form r.its.value t.0 t.1 r.fits in
+      let d = maps r.form t.0 v.0 v.1 r.its.found.blocks r.form_is t.1 (subst (λ u. Stands allocator w.image w.table place u r.its.found.blocks) v.2 r.its.stands) in
+      subst (λ k. Acts others types constants first allocator i success k s w (with_number (with_image w new) a (truth gone))) (sym o.1)
+      (deleted one h r t.0 v.0 v.1 v.2 v.3 v.4 v.5 (number_shown others types constants first allocator ks s w h c q.0 q.1) valid.a o.0 new gone (key_place v.0 key) refl d)
