@@ -4,3 +4,4 @@ pub mod TextsLaws
 pub mod Refusing
 pub mod NumberLaws
 pub mod ObjectLaws
+pub mod NamedLaws
