@@ -7,3 +7,4 @@ pub mod WritingLaws
 pub mod PartLaws
 pub mod ObjectLaws
 pub mod ItemLaws
+pub mod NamedLaws

@@ -7,3 +7,4 @@ pub mod Reports
 pub mod Texts
 pub mod Admitted
 pub mod Worlds
+pub mod Named
