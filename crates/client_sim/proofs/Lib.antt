@@ -18,3 +18,4 @@ pub mod Changing
 pub mod Granting
 pub mod TextLengths
 pub mod Texts
+pub mod Clearing
