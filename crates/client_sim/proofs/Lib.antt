@@ -26,3 +26,4 @@ pub mod Finding
 pub mod Counts
 pub mod Items
 pub mod Entries
+pub mod Clearing
