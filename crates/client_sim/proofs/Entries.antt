@@ -139,3 +139,114 @@ module _ (allocator : ℕ) (constants : List Constant) (role : Role) (a b c : �
       let d = maps r.form t.0 v.0 v.1 r.its.found.blocks r.form_is t.1 (subst (λ u. Stands allocator w.image w.table place u r.its.found.blocks) v.2 r.its.stands) in
       subst (λ k. Acts others types constants first allocator i success k s w (with_number (with_image w new) a (truth gone))) (sym o.1)
       (deleted one h r t.0 v.0 v.1 v.2 v.3 v.4 v.5 (number_shown others types constants first allocator ks s w h c q.0 q.1) valid.a o.0 new gone (key_place v.0 key) refl d)
+
+  -- ---- a key comes
+
+  -- the requests for one more key
+  abbrev pub entry_asks : Form → ℕ → List Ask
+  entry_asks (Form.flat_map V) U = buffer_asks w.image place.at (8 + size w.table U) (count_at w.image place.at + 1)
+  entry_asks form U = block_for (map_words + size w.table U) ∷ []
+
+  -- a key came, with the default of a value, which stands at p
+  pub record AddsEntry (new : List ℕ) (form : Form) (U : ℕ) (keys : List ℤ) (vs : Values) (blocks : List ℕ) (p : ℕ) : Type 0 where
+    pub others : List ℕ
+    pub succeeds : Succeeds allocator w.image new w.table place (with_entry (keys, vs) key (default_of w.table U)) (entry_asks form U) [] blocks others
+    pub leads : Leads new w.table place (Selector.key key ∷ []) (record { at = p; type = U })
+
+  form_asks : {others : List Root} {types : Table} {first : Option (List ℕ)} {ks : RegisterTypes} {s : State} (h : Shows others types constants first allocator ks s w) (o : Option ℕ) → found_key (of Operation.PutKey) s ≡ o
+      → (form : Form) (U : ℕ) → map_value form ≡ Some U → if_absent o (entry_asks form U) ≡ cell_asks Operation.PutKey constants (of Operation.PutKey) s w.image place.at form
+  form_asks {s = s} h o e (Form.flat_map V) U f =
+      ap (λ (t : Table). if_absent o (buffer_asks w.image place.at (8 + size t U) (count_at w.image place.at + 1))) h.table_is
+      ∙ ap (λ n. if_absent o (buffer_asks w.image place.at (8 + size s.types n) (count_at w.image place.at + 1))) (sym (Some_inj f))
+      ∙ ap (λ y. if_absent y (buffer_asks w.image place.at (8 + size s.types V) (count_at w.image place.at + 1))) (sym e)
+  form_asks {s = s} h o e (Form.map V) U f =
+      ap (λ (t : Table). if_absent o (block_for (map_words + size t U) ∷ [])) h.table_is ∙ ap (λ n. if_absent o (block_for (map_words + size s.types n) ∷ [])) (sym (Some_inj f))
+      ∙ ap (λ y. if_absent y (block_for (map_words + size s.types V) ∷ [])) (sym e)
+  form_asks h o e form U f = cc
+
+  -- what becomes of a map, by the place of the key
+  abbrev pub Puts : List ℕ → Form → ℕ → List ℤ → Values → List ℕ → ℕ → Option ℕ → Type 0
+  Puts new form U keys vs blocks p None = AddsEntry new form U keys vs blocks p
+  Puts new form U keys vs blocks p (Some j) = (new ≡ w.image) × Leads w.image w.table place (Selector.key key ∷ []) (record { at = p; type = U })
+
+  module _ {others : List Root} {types : Table} (one : OneEach constants) {first : Option (List ℕ)} {ks : RegisterTypes} {s : State} (h : Shows others types constants first allocator ks s w)
+      {g : Class × ℕ → ℕ → Rule} {good bad : RegisterTypes} (r : Reaches one h map_value g b good bad) (keys : List ℤ) (vs : Values)
+      (value_is : r.its.value ≡ Map keys vs) (all : AllHaveShape s.types r.what vs) (long : length keys ≡ count vs)
+      (fits : (ks : List ℤ) (ws : Values) → AllHaveShape s.types r.what ws → length ks ≡ count ws → IsOf s.types r.form (Map ks ws))
+      (key_is : integer_at s c ≡ Some key) (within : a < 16) (free : is_owner (known (others_ended r.class b ks) a) ≡ false) where
+    there_put : (path_value s r.its.path >>= entries_in) ≡ Some (keys, vs)
+    there_put = ap (λ x. x >>= entries_in) r.its.there ∙ ap entries_in value_is
+
+    -- the requests, by the place of the key
+    asks_by : (o : Option ℕ) → key_place keys key ≡ o → if_absent o (entry_asks r.form r.what) ≡ cell_asks Operation.PutKey constants (of Operation.PutKey) s w.image place.at r.form
+    asks_by o e = form_asks h o (found_is (of Operation.PutKey) s r.its.path key keys vs r.path_is key_is there_put ∙ e) r.form r.what r.is
+
+    put_is : (room : Bool) (o : Option ℕ) → key_place keys key ≡ o → effect constants Operation.PutKey a b c number room s
+        ≡ option_map_or (λ _. refer a (extend r.its.path (Selector.key key)) s) o (with_room room a s (refer a (extend r.its.path (Selector.key key)) (put_at s r.its.path (with_entry (keys, vs) key (default_of s.types r.what)))))
+    put_is room o e = put_row constants a b c number room s r.its.path r.form r.what key keys vs r.path_is key_is r.path_form_is r.is there_put
+        ∙ ap (λ y. option_map_or (λ _. refer a (extend r.its.path (Selector.key key)) s) y (with_room room a s (refer a (extend r.its.path (Selector.key key)) (put_at s r.its.path (with_entry (keys, vs) key (default_of s.types r.what)))))) e
+
+    put_by : (new : List ℕ) (p : ℕ) (o : Option ℕ) → key_place keys key ≡ o → Puts new r.form r.what keys vs r.its.found.blocks p o
+        → Acts others types constants first allocator (of Operation.PutKey) success (slice_set (others_ended r.class b ks) a (RegisterType.Reference r.class r.what)) s w (with_place (with_image w new) a (record { at = p; type = r.what }))
+    put_by new p (Some j) e d =
+        let i = of Operation.PutKey in
+        let part = value_at_key keys vs key j long e in
+        kept_reference one h i r (Selector.key key) r.what part.0 (record { at = p; type = r.what }) new d.0 within free (key_part r.form r.what key r.is) (ap (λ u. selected u (Selector.key key)) value_is ∙ part.1) refl d.1
+        (put_is true (Some j) e) (quiet constants i h.pictured (place, r.form, led_to one h i r, asks_by (Some j) e) refl)
+    put_by new p None e d =
+        let i = of Operation.PutKey in
+        let m = keys_below keys key in
+        let v = default_of s.types r.what in
+        let entry = part_is_entry s.types h.as_known.typed.forms r.type r.what r.form (Selector.key key) r.machine_form (key_part r.form r.what key r.is) in
+        let v_fits : HasShape s.types r.what v = default_has s.types h.as_known.typed.forms r.what entry.0 entry.1 in
+        let new_keys = insert keys m key in
+        let new_items = insert_nth vs m v in
+        let new_length : length new_keys ≡ count new_items = length_insert keys m key ∙ ap suc long ∙ sym (count_insert vs m v) in
+        let later = Map new_keys new_items in
+        let j = key_in (take m keys) (drop m keys) key in
+        let part = value_at_key new_keys new_items key j.0 new_length j.1 in
+        let succeeds : Succeeds allocator w.image new w.table place later (entry_asks r.form r.what) [] r.its.found.blocks d.others =
+        subst (λ (t : Table). Succeeds allocator w.image new w.table place (with_entry (keys, vs) key (default_of t r.what)) (entry_asks r.form r.what) [] r.its.found.blocks d.others) h.table_is d.succeeds in
+        reference_acts one h i r later (fits new_keys new_items (all_insert s.types r.what vs m v all v_fits) new_length) new (entry_asks r.form r.what) [] d.others succeeds
+        (Selector.key key) r.what part.0 (record { at = p; type = r.what }) within free (key_part r.form r.what key r.is) part.1 refl d.leads (put_is true None e)
+        (grants_asks constants i h.pictured allocator h.allocator_is (entry_asks r.form r.what) (place, r.form, led_to one h i r, asks_by None e) new w.table place later [] r.its.found.blocks d.others refl succeeds)
+
+    put_denied : (new : List ℕ) (n : ℕ) → n ≡ 2 → key_place keys key ≡ None → Refuses allocator w.image new (entry_asks r.form r.what)
+        → Acts others types constants first allocator (of Operation.PutKey) bad_alloc (slice_set (others_ended r.class b ks) a RegisterType.Int) s w (with_number (with_image w new) a (pos n))
+    put_denied new n n_is e d =
+        let i = of Operation.PutKey in
+        code_acts one h i r bad_alloc false new n d.same n_is within free (put_is false None e)
+        (denies constants i h.pictured allocator h.allocator_is (entry_asks r.form r.what) (place, r.form, led_to one h i r, asks_by None e) w.image
+        (subst (λ m. Refuses allocator w.image m (entry_asks r.form r.what)) d.same d))
+
+  pub put_key_acts : (new : List ℕ) (p T : ℕ) → EachMap (λ form U keys vs blocks. (U ≡ T) × Puts new form U keys vs blocks p (key_place keys key))
+      → ActsAs allocator constants role (of Operation.PutKey) w (with_place (with_image w new) a (record { at = p; type = T }))
+  unfolding rule
+  put_key_acts new p T maps = λ types others first ks good bad s right valid e h.
+      let one = one_each constants right.each right.different in
+      let i = of Operation.PutKey in
+      let g = λ (x : Class × ℕ) (t : ℕ). typed.◌>>=◌ (integer_needed (known ks c)) (λ _. opens a (RegisterType.Reference x.0 t) (others_ended x.0 b ks)) in
+      let r = reaches one h map_value g b good bad e in
+      let q = bind_ok (integer_needed (known ks c)) (λ _. opens a (RegisterType.Reference r.class r.what) (others_ended r.class b ks)) (good, bad) r.rest in
+      let o = opens_then one h r.class b a (RegisterType.Reference r.class r.what) good bad q.2 in
+      let v = entries_value s.types r.form r.its.value r.what r.is r.fits in
+      let d = maps r.form r.what v.0 v.1 r.its.found.blocks r.form_is r.is (subst (λ u. Stands allocator w.image w.table place u r.its.found.blocks) v.2 r.its.stands) in
+      subst (λ k. Acts others types constants first allocator i success k s w (with_place (with_image w new) a (record { at = p; type = T }))) (sym o.1)
+      (subst (λ n. Acts others types constants first allocator i success (slice_set (others_ended r.class b ks) a (RegisterType.Reference r.class r.what)) s w (with_place (with_image w new) a (record { at = p; type = n }))) d.0
+      (put_by one h r v.0 v.1 v.2 v.3 v.4 v.5 (number_shown others types constants first allocator ks s w h c q.0 q.1) valid.a o.0 new p (key_place v.0 key) refl d.1))
+
+  pub put_key_refused : (new : List ℕ) (n : ℕ) → EachMap (λ form U keys vs blocks. (n ≡ 2) × (key_place keys key ≡ None) × Refuses allocator w.image new (entry_asks form U))
+      → IsRefusedAs allocator constants role (of Operation.PutKey) w (with_number (with_image w new) a (pos n))
+  unfolding rule
+  put_key_refused new n maps = λ types others first ks good bad s right valid e h.
+      let one = one_each constants right.each right.different in
+      let i = of Operation.PutKey in
+      let g = λ (x : Class × ℕ) (t : ℕ). typed.◌>>=◌ (integer_needed (known ks c)) (λ _. opens a (RegisterType.Reference x.0 t) (others_ended x.0 b ks)) in
+      let r = reaches one h map_value g b good bad e in
+      let q = bind_ok (integer_needed (known ks c)) (λ _. opens a (RegisterType.Reference r.class r.what) (others_ended r.class b ks)) (good, bad) r.rest in
+      let o = opens_then one h r.class b a (RegisterType.Reference r.class r.what) good bad q.2 in
+      let v = entries_value s.types r.form r.its.value r.what r.is r.fits in
+      let d = maps r.form r.what v.0 v.1 r.its.found.blocks r.form_is r.is (subst (λ u. Stands allocator w.image w.table place u r.its.found.blocks) v.2 r.its.stands) in
+      let number = number_shown others types constants first allocator ks s w h c q.0 q.1 in
+      (bad_alloc, (λ q. cc), subst (λ k. Acts others types constants first allocator i bad_alloc k s w (with_number (with_image w new) a (pos n))) (sym o.2)
+      (put_denied one h r v.0 v.1 v.2 v.3 v.4 v.5 number valid.a o.0 new n d.0 d.1 d.2))
