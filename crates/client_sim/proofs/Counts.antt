@@ -1,14 +1,13 @@
 -- The number in a cell is the length of the text or the number of the items that stand there.
-use Rattle.std.proofs.Common.{◌≡◌, ℕ, zero, suc, ◌+◌, ◌*◌, ◌≤◌, List, [], ◌∷◌, ◌++◌, length, Option, Some, None, refl, sym, ◌∙◌, ap, arith}
+use Rattle.std.proofs.Common.{◌≡◌, ℕ, zero, suc, ◌+◌, ◌*◌, ◌≤◌, List, [], ◌∷◌, length, Option, Some, None, refl, sym, ◌∙◌, ap, arith}
 use Rattle.std.specs.Prelude.{map}
-use Rattle.std.proofs.Math.Nat.{mul-one}
 use Rattle.seg_spec.specs.Bytes.{slice}
 use Rattle.seg_spec.specs.Pointer.{target}
 use Rattle.seg_spec.specs.Types.{Form, Table, form_at, size}
-use Rattle.seg_spec.specs.Value.{Label, Value, node, Values, count, Text, Seq}
+use Rattle.seg_spec.specs.Value.{Values, count, Text, Seq}
 use Rattle.seg_spec.specs.Heap.{live, heap_start}
 use Rattle.seg_spec.specs.Block.{Kind, tag_of, block_of, IsBlock}
-use Rattle.seg_spec.specs.Reads.{Place, Opened, count_at, start, spaced, places_of, items, Opens, Holds, holds, HoldsEach}
+use Rattle.seg_spec.specs.Reads.{Place, Opened, count_at, start, spaced, places_of, Opens, Holds, holds, HoldsEach}
 use Rattle.seg_spec.specs.Sound.{times, positions}
 use Rattle.seg_spec.specs.Owning.{Stands}
 use Rattle.seg_spec.proofs.BytesLaws.{length-slice}
@@ -34,12 +33,14 @@ module _ (bytes : List ℕ) (table : Table) where
   counted_by : (place : Place) (form : Form) (U : ℕ) (opened : Opened) (inside : Values) (owned : List ℕ) → vec_or_list_item form ≡ Some U → Opens bytes table place form opened → HoldsEach bytes table opened.parts inside owned
       → count inside ≡ count_at bytes place.at
   counted_by place (Form.vec V) U opened inside owned e o hs =
-      sym (count_is bytes table hs) ∙ ap (λ (x : Opened). length x.parts) o.opened_is ∙ places_many V (spaced (start bytes place.at) (size table V) (count_at bytes place.at)) ∙ length_spaced (start bytes place.at) (size table V) (count_at bytes place.at)
+      sym (count_is bytes table hs) ∙ ap (λ (x : Opened). length x.parts) o.opened_is ∙ places_many V (spaced (start bytes place.at) (size table V) (count_at bytes place.at))
+      ∙ length_spaced (start bytes place.at) (size table V) (count_at bytes place.at)
   counted_by place (Form.list V) U opened inside owned e o hs =
       sym (count_is bytes table hs) ∙ ap (λ (x : Opened). length x.parts) o.opened_is ∙ places_many V (map (λ p. p + 8) o.nodes) ∙ length_mapped (λ p. p + 8) o.nodes ∙ o.counted
   counted_by place form U opened inside owned e o hs = cc
 
-  pub items_counted : (place : Place) (form : Form) (U : ℕ) (vs : Values) (blocks : List ℕ) → form_at table place.type ≡ Some form → vec_or_list_item form ≡ Some U → Holds bytes table place (Seq vs) blocks → count vs ≡ count_at bytes place.at
+  pub items_counted : (place : Place) (form : Form) (U : ℕ) (vs : Values) (blocks : List ℕ) → form_at table place.type ≡ Some form → vec_or_list_item form ≡ Some U → Holds bytes table place (Seq vs) blocks
+      → count vs ≡ count_at bytes place.at
   items_counted place form U vs blocks f e (holds form' opened inside owned f' o hs v_is blocks_is) =
       let same : form' ≡ form = Some_inj (sym f' ∙ f) in
       let items : vs ≡ inside = cc in

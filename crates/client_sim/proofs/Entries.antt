@@ -1,9 +1,9 @@
 -- Keys that come to a map, or go, whatever state the world stands for.
-use Rattle.std.proofs.Common.{◌≡◌, ◌≢◌, ℕ, suc, ◌+◌, ◌<◌, ℤ, pos, length, List, [], ◌∷◌, ◌++◌, Bool, true, false, Option, Some, None, refl, sym, ◌∙◌, ap, subst, arith}
-use Rattle.std.specs.Prelude.{⊤, Ok, take, drop, insert, remove, slice_set}
+use Rattle.std.proofs.Common.{◌≡◌, ℕ, suc, ◌+◌, ◌<◌, ℤ, pos, length, List, [], ◌∷◌, Bool, true, false, Option, Some, None, refl, sym, ◌∙◌, ap, subst}
+use Rattle.std.specs.Prelude.{⊤, take, drop, insert, remove, slice_set}
 use Rattle.std.specs.Option.{option_map_or}
 use Rattle.seg_spec.specs.Types.{Form, Table, form_at, size}
-use Rattle.seg_spec.specs.Value.{Value, Values, count, Map, default_of, Selector, selected}
+use Rattle.seg_spec.specs.Value.{Values, count, Map, default_of, Selector, selected}
 use Rattle.seg_spec.specs.Items.{keys_below, key_place, insert_nth, remove_nth, with_entry, without_entry}
 use Rattle.seg_spec.specs.Index.{Root}
 use Rattle.seg_spec.specs.Reads.{Place, Leads, count_at, map_words}
@@ -15,11 +15,11 @@ use Rattle.seg_spec.specs.Spending.{buffer_asks, PartBlocks}
 use Rattle.client_spec.specs.declared.table.Operation.{Operation}
 use Rattle.client_spec.specs.declared.table.Role.{Role}
 use Rattle.client_spec.specs.Syntax.{Constant, Instruction}
-use Rattle.client_spec.specs.Machine.{◌>>=◌, Path, extend, Register, State, path_value, put_at, part_type}
-use Rattle.client_spec.specs.Answer.{success, bad_alloc, Outcome, path_of, path_form, integer_at, give, give_count, fail, refer, entries_in, map_value, with_room}
-use Rattle.client_spec.specs.Effect.{outcome, effect, truth}
+use Rattle.client_spec.specs.Machine.{◌>>=◌, Path, extend, State, path_value, put_at}
+use Rattle.client_spec.specs.Answer.{success, bad_alloc, path_of, path_form, integer_at, give_count, refer, entries_in, map_value, with_room}
+use Rattle.client_spec.specs.Effect.{effect, truth}
 use Rattle.client_spec.specs.Shape.{HasShape, AllHaveShape}
-use Rattle.client_spec.specs.Asks.{ChangesBlocks, GrantsAsks, KeyBlocks, cell_asks, found_key, if_absent}
+use Rattle.client_spec.specs.Asks.{KeyBlocks, cell_asks, found_key, if_absent}
 use Rattle.client_spec.specs.Typed.{Class, RegisterType, RegisterTypes, Rule, known, is_owner, integer_needed, is_map, others_ended, gives, opens, rule}
 use Rattle.client_spec.specs.Typed as typed
 use Rattle.client_spec.proofs.Values.{Some_inj}
@@ -54,7 +54,8 @@ put_row : (constants : List Constant) (a b c : ℕ) (number : ℤ) (room : Bool)
     ≡ option_map_or (λ _. refer a (extend path (Selector.key key)) s) (key_place keys key) (with_room room a s (refer a (extend path (Selector.key key)) (put_at s path (with_entry (keys, vs) key (default_of s.types U)))))
 unfolding effect
 put_row constants a b c number room s path form U key keys vs is key_is form_is value there =
-    let last = λ (p : Path) (k : ℤ) (t : ℕ) (es : List ℤ × Values). option_map_or (λ _. refer a (extend p (Selector.key k)) s) (key_place es.0 k) (with_room room a s (refer a (extend p (Selector.key k)) (put_at s p (with_entry es k (default_of s.types t))))) in
+    let last = λ (p : Path) (k : ℤ) (t : ℕ) (es : List ℤ × Values). option_map_or (λ _. refer a (extend p (Selector.key k)) s) (key_place es.0 k)
+    (with_room room a s (refer a (extend p (Selector.key k)) (put_at s p (with_entry es k (default_of s.types t))))) in
     ap (λ x. x >>= λ p. integer_at s c >>= λ k. (path_form s p >>= map_value) >>= λ t. (path_value s p >>= entries_in) >>= λ es. last p k t es) is
     ∙ ap (λ x. x >>= λ k. (path_form s path >>= map_value) >>= λ t. (path_value s path >>= entries_in) >>= λ es. last path k t es) key_is
     ∙ ap (λ x. x >>= λ t. (path_value s path >>= entries_in) >>= λ es. last path key t es) (ap (λ x. x >>= map_value) form_is ∙ value)
@@ -107,7 +108,8 @@ module _ (allocator : ℕ) (constants : List Constant) (role : Role) (a b c : �
     row o e = delete_row constants a b c number true s r.its.path key keys vs r.path_is key_is there
         ∙ ap (λ x. option_map_or (λ i. give_count a 1 (put_at s r.its.path (without_entry (keys, vs) i))) x (give_count a 0 s)) e
 
-    blocks_by : (o : Option ℕ) → key_place keys key ≡ o → (given : List ℕ) → KeyBlocks constants (of Operation.DeleteKey) h.pictured place o given → KeyBlocks constants (of Operation.DeleteKey) h.pictured place (found_key (of Operation.DeleteKey) s) given
+    blocks_by : (o : Option ℕ) → key_place keys key ≡ o → (given : List ℕ) → KeyBlocks constants (of Operation.DeleteKey) h.pictured place o given
+        → KeyBlocks constants (of Operation.DeleteKey) h.pictured place (found_key (of Operation.DeleteKey) s) given
     blocks_by o e given k = subst (λ x. KeyBlocks constants (of Operation.DeleteKey) h.pictured place x given) (sym (found_is (of Operation.DeleteKey) s r.its.path key keys vs r.path_is key_is there ∙ e)) k
 
     deleted : (new : List ℕ) (gone : Bool) (o : Option ℕ) → key_place keys key ≡ o → Deletes new gone keys vs r.its.found.blocks o
@@ -125,7 +127,8 @@ module _ (allocator : ℕ) (constants : List Constant) (role : Role) (a b c : �
         (grants_asks constants i h.pictured allocator h.allocator_is [] refl new w.table place later t.gives r.its.found.blocks t.others
         (place, r.form, led_to one h i r, blocks_by (Some j) e t.gives (subst (λ (x : Table). PartBlocks w.image x place j t.gives) h.table_is t.part)) t.succeeds))
 
-  pub delete_key_acts : (new : List ℕ) (gone : Bool) → EachMap (λ form U keys vs blocks. Deletes new gone keys vs blocks (key_place keys key)) → ActsAs allocator constants role (of Operation.DeleteKey) w (with_number (with_image w new) a (truth gone))
+  pub delete_key_acts : (new : List ℕ) (gone : Bool) → EachMap (λ form U keys vs blocks. Deletes new gone keys vs blocks (key_place keys key))
+      → ActsAs allocator constants role (of Operation.DeleteKey) w (with_number (with_image w new) a (truth gone))
   unfolding rule
   delete_key_acts new gone maps = λ types others first ks good bad s right valid e h.
       let one = one_each constants right.each right.different in
@@ -184,7 +187,8 @@ module _ (allocator : ℕ) (constants : List Constant) (role : Role) (a b c : �
     put_is : (room : Bool) (o : Option ℕ) → key_place keys key ≡ o → effect constants Operation.PutKey a b c number room s
         ≡ option_map_or (λ _. refer a (extend r.its.path (Selector.key key)) s) o (with_room room a s (refer a (extend r.its.path (Selector.key key)) (put_at s r.its.path (with_entry (keys, vs) key (default_of s.types r.what)))))
     put_is room o e = put_row constants a b c number room s r.its.path r.form r.what key keys vs r.path_is key_is r.path_form_is r.is there_put
-        ∙ ap (λ y. option_map_or (λ _. refer a (extend r.its.path (Selector.key key)) s) y (with_room room a s (refer a (extend r.its.path (Selector.key key)) (put_at s r.its.path (with_entry (keys, vs) key (default_of s.types r.what)))))) e
+        ∙ ap (λ y. option_map_or (λ _. refer a (extend r.its.path (Selector.key key)) s) y
+        (with_room room a s (refer a (extend r.its.path (Selector.key key)) (put_at s r.its.path (with_entry (keys, vs) key (default_of s.types r.what)))))) e
 
     put_by : (new : List ℕ) (p : ℕ) (o : Option ℕ) → key_place keys key ≡ o → Puts new r.form r.what keys vs r.its.found.blocks p o
         → Acts others types constants first allocator (of Operation.PutKey) success (slice_set (others_ended r.class b ks) a (RegisterType.Reference r.class r.what)) s w (with_place (with_image w new) a (record { at = p; type = r.what }))
@@ -247,6 +251,9 @@ module _ (allocator : ℕ) (constants : List Constant) (role : Role) (a b c : �
       let o = opens_then one h r.class b a (RegisterType.Reference r.class r.what) good bad q.2 in
       let v = entries_value s.types r.form r.its.value r.what r.is r.fits in
       let d = maps r.form r.what v.0 v.1 r.its.found.blocks r.form_is r.is (subst (λ u. Stands allocator w.image w.table place u r.its.found.blocks) v.2 r.its.stands) in
-      let number = number_shown others types constants first allocator ks s w h c q.0 q.1 in
-      (bad_alloc, (λ q. cc), subst (λ k. Acts others types constants first allocator i bad_alloc k s w (with_number (with_image w new) a (pos n))) (sym o.2)
-      (put_denied one h r v.0 v.1 v.2 v.3 v.4 v.5 number valid.a o.0 new n d.0 d.1 d.2))
+      let number = number_shown others types constants first allocator ks s w h c q.0 q.1 in (
+        bad_alloc,
+        (λ q. cc),
+        subst (λ k. Acts others types constants first allocator i bad_alloc k s w (with_number (with_image w new) a (pos n))) (sym o.2)
+            (put_denied one h r v.0 v.1 v.2 v.3 v.4 v.5 number valid.a o.0 new n d.0 d.1 d.2),
+      )

@@ -188,7 +188,8 @@ module _ {others : List Root} {types : Table} {constants : List Constant} (one :
           let in_image : LeadsInImage after.pictured x_path target =
           leads_part after.pictured r.its.path x (place_in w i.b) target (leads_changed one h i.b r.class r.type r.known_as r.its v shape new blocks c.changes)
           (subst (λ (t : Table). Leads new t (place_in w i.b) (x ∷ []) target) (sym table) leads) in
-          acts_so others types constants first allocator ks s w h i success true (slice_set known_then i.a (RegisterType.Reference r.class T)) (set_register state_then i.a (Register.Reference x_path)) (with_place (with_image w new) i.a target)
+          acts_so others types constants first allocator ks s w h i success true (slice_set known_then i.a (RegisterType.Reference r.class T)) (set_register state_then i.a (Register.Reference x_path))
+          (with_place (with_image w new) i.a target)
           (row ∙ answer_is types constants known_then state_then after.as_known success i.a (Register.Reference x_path) free) changes c.changes.length_kept c.changes.front_kept refl
           (shows_reference others types constants first allocator known_then state_then (with_image w new) after i.a r.class T x_path target within free r.its.within to typed in_image)
 
@@ -430,7 +431,8 @@ module _ (allocator : ℕ) (constants : List Constant) (role : Role) (a b c : �
 
   module _ {others : List Root} {types : Table} {first : Option (List ℕ)} {ks : RegisterTypes} {s : State} (h : Shows others types constants first allocator ks s w) where
     back_asks : (k : Form) (U : ℕ) → vec_or_list_item k ≡ Some U → item_asks k U ≡ cell_asks Operation.PushBack constants (of Operation.PushBack) s w.image place.at k
-    back_asks (Form.vec V) U e = ap (λ (t : Table). buffer_asks w.image place.at (size t U) (count_at w.image place.at + 1)) h.table_is ∙ ap (λ n. buffer_asks w.image place.at (size s.types n) (count_at w.image place.at + 1)) (sym (Some_inj e))
+    back_asks (Form.vec V) U e = ap (λ (t : Table). buffer_asks w.image place.at (size t U) (count_at w.image place.at + 1)) h.table_is
+        ∙ ap (λ n. buffer_asks w.image place.at (size s.types n) (count_at w.image place.at + 1)) (sym (Some_inj e))
     back_asks (Form.list V) U e = ap (λ (t : Table). block_for (8 + size t U) ∷ []) h.table_is ∙ ap (λ n. block_for (8 + size s.types n) ∷ []) (sym (Some_inj e))
     back_asks k U e = cc
 
@@ -468,7 +470,8 @@ module _ (allocator : ℕ) (constants : List Constant) (role : Role) (a b c : �
       refl pushed.succeeds)))
 
   -- it had no room
-  pub push_back_refused : (new : List ℕ) (n : ℕ) → EachForm (λ form U vs blocks. (n ≡ 2) × Refuses allocator w.image new (item_asks form U)) → IsRefusedAs allocator constants role (of Operation.PushBack) w (with_number (with_image w new) a (pos n))
+  pub push_back_refused : (new : List ℕ) (n : ℕ) → EachForm (λ form U vs blocks. (n ≡ 2) × Refuses allocator w.image new (item_asks form U))
+      → IsRefusedAs allocator constants role (of Operation.PushBack) w (with_number (with_image w new) a (pos n))
   unfolding rule effect
   push_back_refused new n items = λ types others first ks good bad s right valid e h.
       let one = one_each constants right.each right.different in

@@ -13,9 +13,9 @@ returns-clause-does g c =
     let removed = c.remove-is_removed in
     let after = removed.new.heap in
     let allocator = g.F.Fit.allocator in
+    let number : to_z w64 (of_z w64 c.number.result) ≡ number_at old.numbers i.c = search (rules, c.number.ensures, c.number.type_inv) in
     let told : TellsRemoval allocator c.heap_mut.result.now after (place_of c.place.result) (to_z w64 (of_z w64 c.number.result)) removed.result = removed.ensures.removes in
     let here = ap (λ (at : ℕ). record { at = at; type = c.place.result.type_id }) c.place.ensures.at ∙ ap (λ (type : ℕ). record { at = (place_at old i.b).at; type = type }) c.place.ensures.type_id in
-    let number : to_z w64 (of_z w64 c.number.result) ≡ number_at old.numbers i.c = search (rules, c.number.ensures, c.number.type_inv) in
     let same = c.heap_mut.ensures.value in
     delete_key_acts_on allocator i old c.give_flag.new.self c.args.segment.now after (removed.ensures.types ∙ ap (λ (h : Stored). h.types) same) removed.result
     (subst (λ (h : Stored). TellsRemoval allocator h after (place_at old i.b) (number_at old.numbers i.c) removed.result) same

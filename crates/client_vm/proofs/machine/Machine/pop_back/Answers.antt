@@ -11,7 +11,8 @@ returns-clause-does g c =
     let old = c.args.self.now in
     let popped = c.pop_back-popped in
     let after = popped.new.heap in
-    let told : TellsPop g.F.Fit.allocator c.heap_mut.result.now after (place_of c.place.result) popped.result = record { text = popped.ensures.text; vector = popped.ensures.vector; list = popped.ensures.list; counted = popped.ensures.counted } in
+    let told : TellsPop g.F.Fit.allocator c.heap_mut.result.now after (place_of c.place.result) popped.result =
+    record { text = popped.ensures.text; vector = popped.ensures.vector; list = popped.ensures.list; counted = popped.ensures.counted } in
     let here = ap (λ (at : ℕ). record { at = at; type = c.place.result.type_id }) c.place.ensures.at ∙ ap (λ (type : ℕ). record { at = (place_at old i.b).at; type = type }) c.place.ensures.type_id in
     let same = c.heap_mut.ensures.value in
     pop_back_opens g.F.Fit.allocator i c.try_length.result old c.try_length.new.self c.args.segment.now after (popped.ensures.types ∙ ap (λ (h : Stored). h.types) same) popped.result

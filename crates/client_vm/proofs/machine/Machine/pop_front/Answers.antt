@@ -15,4 +15,5 @@ returns-clause-does g c =
     let here = ap (λ (at : ℕ). record { at = at; type = c.place.result.type_id }) c.place.ensures.at ∙ ap (λ (type : ℕ). record { at = (place_at old i.b).at; type = type }) c.place.ensures.type_id in
     let same = c.heap_mut.ensures.value in
     pop_front_opens g.F.Fit.allocator i c.try_length.result old c.try_length.new.self c.args.segment.now after (popped.ensures.types ∙ ap (λ (h : Stored). h.types) same) popped.result
-    (subst (λ (h : Stored). TellsPopFront g.F.Fit.allocator h after (place_at old i.b) popped.result) same (subst (λ (p : Place). TellsPopFront g.F.Fit.allocator c.heap_mut.result.now after p popped.result) here told)) c.try_length.ensures.gives
+    (subst (λ (h : Stored). TellsPopFront g.F.Fit.allocator h after (place_at old i.b) popped.result) same
+    (subst (λ (p : Place). TellsPopFront g.F.Fit.allocator c.heap_mut.result.now after p popped.result) here told)) c.try_length.ensures.gives
