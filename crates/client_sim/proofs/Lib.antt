@@ -19,3 +19,4 @@ pub mod Granting
 pub mod TextLengths
 pub mod Texts
 pub mod Clearing
+pub mod Shrinking
