@@ -27,3 +27,4 @@ pub mod Counts
 pub mod Items
 pub mod Entries
 pub mod Clearing
+pub mod Shrinking
