@@ -1,6 +1,6 @@
 use Rattle.client_vm.proofs.ObjectLaws.{named_same, item_absent, item_large, item_huge, item_there}
 use Rattle.client_vm.proofs.machine.Machine.item.Goals as goal
-use Rattle.std.proofs.Common.{rules, ◌≡◌, ◌∙◌, ◌<◌, ap, arith}
+use Rattle.std.proofs.Common.{◌∙◌, ap, arith}
 use Rattle.seg_spec.specs.Types.{Table, size}
 
 pub returns-in-Err : goal.returns-in-Err

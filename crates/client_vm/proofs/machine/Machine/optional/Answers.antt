@@ -1,6 +1,6 @@
 use Rattle.client_vm.proofs.ObjectLaws.{optional_none, optional_ok, optional_err}
 use Rattle.client_vm.proofs.machine.Machine.optional.Goals as goal
-use Rattle.std.proofs.Common.{rules, arith}
+use Rattle.std.proofs.Common.{rules}
 
 pub returns-then-c-eq-NONE : goal.returns-then-c-eq-NONE
 returns-then-c-eq-NONE c = optional_none c.args.self.now c.args.c c.args.none c.if-c-eq-NONE.true
