@@ -18,3 +18,4 @@ pub mod Changing
 pub mod Parts
 pub mod Lengths
 pub mod Keys
+pub mod ItemsAt
