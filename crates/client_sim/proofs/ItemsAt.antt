@@ -1,6 +1,6 @@
 -- AT: the byte of a text that a number counts, or a reference to the item of a vector or a list.
 use Rattle.std.proofs.Common.{◌≡◌, ◌≢◌, ℕ, ◌<◌, ℤ, pos, List, [], ◌∷◌, length, true, Option, Some, None, refl, sym, ◌∙◌, ap, subst, inl, inr}
-use Rattle.std.specs.Prelude.{⊤, Ok, slice_index}
+use Rattle.std.specs.Prelude.{Ok, slice_index}
 use Rattle.std.specs.Option.{option_map_or}
 use Rattle.seg_spec.specs.Types.{Form, Table, form_at}
 use Rattle.seg_spec.specs.Value.{Value, Values, Text, Seq, Selector, count}
@@ -10,7 +10,7 @@ use Rattle.seg_spec.specs.Reads.{Place, Leads}
 use Rattle.client_spec.specs.declared.table.Operation.{Operation}
 use Rattle.client_spec.specs.declared.table.Role.{Role}
 use Rattle.client_spec.specs.Syntax.{Constant, Instruction}
-use Rattle.client_spec.specs.Machine.{◌>>=◌, Path, extend, Register, State, register, set_register, path_value}
+use Rattle.client_spec.specs.Machine.{◌>>=◌, Path, extend, Register, State, register, path_value}
 use Rattle.client_spec.specs.Answer.{Answer, success, out_of_range, answer_number, path_in, integer_at, refer, fail, give_count, index_below, vec_or_list_item}
 use Rattle.client_spec.specs.Effect.{outcome, item_of_value, effect}
 use Rattle.client_spec.specs.Typed.{Class, RegisterType, RegisterTypes, known, reference_needed, integer_needed, form_needed, item_known, opens, rule}
