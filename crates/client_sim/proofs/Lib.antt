@@ -28,3 +28,4 @@ pub mod Items
 pub mod Entries
 pub mod Clearing
 pub mod Shrinking
+pub mod ItemsAt
