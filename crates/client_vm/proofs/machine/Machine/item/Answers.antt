@@ -11,7 +11,8 @@ returns-in-Err g c =
 pub returns-in-Err-optional : goal.returns-in-Err-optional
 returns-in-Err-optional g c =
     let named = named_same c.args.self.now c.args.i.now c.name.result.items c.as_slice.result.now c.as_slice.ensures.value c.name.ensures in
-    item_huge g.F.Fit.allocator c.args.self.now c.args.i.now c.args.segment.now c.args.type_id c.as_slice.result.now named c.find.result c.find.ensures c.in-Ok.found c.in-Ok.is c.in-Err-optional.code c.in-Err-optional.ensures (omega (arith, c.from-count.type_inv, c.from-count.ensures))
+    item_huge g.F.Fit.allocator c.args.self.now c.args.i.now c.args.segment.now c.args.type_id c.as_slice.result.now named c.find.result c.find.ensures c.in-Ok.found c.in-Ok.is
+    c.in-Err-optional.code c.in-Err-optional.ensures (omega (arith, c.from-count.type_inv, c.from-count.ensures))
 
 pub returns-then-item-count : goal.returns-then-item-count
 returns-then-item-count g c =
