@@ -1,6 +1,7 @@
 -- A call changed the value at a place: the image pictures the state with this value. References into the same root end, but for the one that led there.
-use Rattle.std.proofs.Common.{◌≡◌, ◌⊎◌, ℕ, suc, length, List, [], ◌∷◌, ◌++◌, Bool, true, false, Some, refl, sym, ◌∙◌, ap, subst, arith, inl, inr, Option}
-use Rattle.std.specs.Prelude.{map, if◌then◌else◌}
+use Rattle.std.proofs.Common.{◌≡◌, ◌⊎◌, ℕ, List, [], ◌∷◌, ◌++◌, Bool, true, false, Some, refl, sym, ◌∙◌, ap, subst, arith, inl, inr, Option}
+use Rattle.std.specs.Prelude.{if◌then◌else◌}
+use Rattle.std.proofs.lemmas.List.{length-map}
 use Rattle.seg_spec.specs.Header.{allocator_word, free_word}
 use Rattle.seg_spec.specs.Types.{Table}
 use Rattle.seg_spec.specs.Value.{Value, Selector}
@@ -29,10 +30,6 @@ use Rattle.client_sim.specs.Shows.{World, place_in, Shown, Shows}
 use Rattle.client_sim.proofs.Placed.{PlacePut, place_put}
 use Rattle.client_sim.proofs.Led.{Led}
 use Rattle.client_sim.proofs.LeafPuts.{with_image, origin_streams}
-
-length_mapped : {A B : Type 0} (f : A → B) (xs : List A) → length (map f xs) ≡ length xs
-length_mapped f [] = refl
-length_mapped f (x ∷ xs) = ap suc (length_mapped f xs)
 
 module _ {others : List Root} {types : Table} {constants : List Constant} (one : OneEach constants) {first : Option (List ℕ)} {allocator : ℕ} {ks : RegisterTypes} {s : State} {w : World}
     (h : Shows others types constants first allocator ks s w) (b : ℕ) (class : Class) (T : ℕ) (is : known ks b ≡ RegisterType.Reference class T) (l : Led h b class T) (v : Value) (fits : HasShape s.types T v)
@@ -105,7 +102,7 @@ module _ {others : List Root} {types : Table} {constants : List Constant} (one :
       record {
         pictured = put.later;
         as_known = agrees_put_others types constants one class b T ks s h.as_known is refers v fits;
-        sixteen = length_set (ended class ks) b (known ks b) ∙ length_mapped (without_class class) ks ∙ h.sixteen;
+        sixteen = length_set (ended class ks) b (known ks b) ∙ length-map ks (without_class class) ∙ h.sixteen;
         registers = record { numbers = registers.numbers; positions = registers.positions; type_ids = registers.type_ids; owns = registers.owns };
         shown = λ r. elim (known_others types constants one class b ks r) [
           | inl p ↦ subst (λ k. Shown put.later (with_image w new) r k (register state_then r)) (sym p.1) (shown_by r (known ks r) (inl p.0) (h.as_known.each r) (h.shown r))

@@ -17,13 +17,11 @@ pub mod Answering
 pub mod Changing
 pub mod Referring
 pub mod Granting
-pub mod TextLengths
 pub mod Texts
 pub mod Parts
 pub mod Lengths
 pub mod Keys
 pub mod Finding
-pub mod Counts
 pub mod Items
 pub mod Entries
 pub mod Clearing
