@@ -8,3 +8,4 @@ pub mod PartLaws
 pub mod ObjectLaws
 pub mod ItemLaws
 pub mod NamedLaws
+pub mod PositionLaws

@@ -8,3 +8,4 @@ pub mod Texts
 pub mod Admitted
 pub mod Worlds
 pub mod Named
+pub mod Positions
