@@ -27,3 +27,4 @@ pub mod Entries
 pub mod Clearing
 pub mod Shrinking
 pub mod ItemsAt
+pub mod Rooted
