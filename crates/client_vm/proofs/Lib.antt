@@ -10,3 +10,4 @@ pub mod ItemLaws
 pub mod NamedLaws
 pub mod PositionLaws
 pub mod IndexLaws
+pub mod TogetherLaws

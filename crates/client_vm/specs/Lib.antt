@@ -9,3 +9,4 @@ pub mod Admitted
 pub mod Worlds
 pub mod Named
 pub mod Positions
+pub mod Together

@@ -1,4 +1,4 @@
-ghost use Rattle.std.specs.Prelude.{ℕ, List, ◌≡◌, ◌↔◌, ◌≤◌, ◌<◌, ◌+◌, ◌*◌, ◌^◌, true, false, IfOk, IfErr, OnErr, OnOk, [], length, map, vec_len, vec_capacity};
+ghost use Rattle.std.specs.Prelude.{ℕ, List, ◌≡◌, ◌↔◌, ◌≤◌, ◌<◌, ◌+◌, ◌*◌, ◌^◌, true, false, IfOk, IfErr, OnErr, OnOk, [], length, drop, map, vec_len, vec_capacity};
 ghost use Rattle.std.specs.Result.{IsOkUnless};
 ghost use Rattle.seg_spec.specs.Bytes.{word};
 ghost use Rattle.seg_spec.specs.Header.{allocator_word};
@@ -9,6 +9,8 @@ ghost use Rattle.client_spec.specs.Outcome.{CanMove};
 ghost use Rattle.client_vm.specs.Admitted.{LiesIn, AreAcceptedOn, IsAdmitted, IsWrong};
 ghost use Rattle.client_vm.specs.Moves.{moves_of};
 ghost use Rattle.client_vm.specs.Outcomes.{IsFaultOfCall, IsRefusedFor};
+ghost use Rattle.client_vm.specs.Runs.{IsReady};
+ghost use Rattle.client_vm.specs.Together.{HaveRun};
 ghost use Rattle.client_vm.specs.Texts.{AreWrong};
 ghost use Rattle.client_vm.specs.Reports.{texts_of, AreReportsOf, HasReportsOf};
 
@@ -258,6 +260,12 @@ fn run_all<F: Fit, A: Allocator, B: Allocator, W: Sink>(
         AreReportsOf (texts_of programs.now) reports.new.items }
     ensures all { reports.old.items ≡ [] → length programs.now ≤ vec_capacity reports.old →
         W.has_failed out.new ≡ false → length reports.new.items ≡ length programs.now }
+    ensures runs { reports.old.items ≡ [] → length programs.now ≤ vec_capacity reports.old →
+        W.has_failed out.old ≡ false → (trees : List syntax.Client) →
+        AreAccepted segment.old.types (texts_of programs.now) trees →
+        IsReady F.allocator [] segment.old.window segment.old.types (moves_of moves.now) →
+        HaveRun trees (moves_of moves.now) input.now segment.old.window (W.taken out.old)
+        segment.new.window (W.taken out.new) reports.new.items (W.has_failed out.new) }
 {
     let mut left = input;
     for program in programs {
@@ -265,8 +273,18 @@ fn run_all<F: Fit, A: Allocator, B: Allocator, W: Sink>(
             break;
         }
         let report = run(segment, program, left, moves, out);
-        left = left.get(report.read..).unwrap_or(&[]);
+        left = rest(left, report.read);
         // there is room for it
         let _ = reports.push(report);
+    }
+}
+
+/// What an input has after its first bytes.
+fn rest(input: &[u8], read: usize) -> &[u8]
+    ensures { result.now ≡ drop read input.now }
+{
+    match input.get(read..) {
+        Some(rest) => rest,
+        None => &[],
     }
 }

@@ -1,0 +1,168 @@
+-- Clients one after the other: what those that ran have left, and that the next one goes on from there.
+use Rattle.std.proofs.Common.{◌≡◌, ◌≢◌, ℕ, suc, ◌+◌, ◌<◌, ◌↔◌, Bool, true, false, List, [], ◌∷◌, ◌++◌, length, map, take, drop, get_or, Option, Some, None, refl, sym, ap, ◌∙◌, subst, arith, append_assoc}
+use Rattle.std.specs.Prelude.{if◌then◌else◌}
+use Rattle.std.proofs.lemmas.List.{append-nil}
+use Rattle.seg_spec.specs.Types.{Table, longer}
+use Rattle.seg_spec.specs.Window.{Placement, region_of}
+use Rattle.client_spec.specs.Syntax.{Client}
+use Rattle.client_spec.specs.Grammar.{SpellsClient}
+use Rattle.client_spec.specs.Run.{Ending, finished, stopped, stuck, bound}
+use Rattle.client_spec.specs.OnImages.{Move, Given, Left, RunsClient}
+use Rattle.client_spec.specs.Clients.{IsVerified, AreAccepted, GoesOn, RunClients, StayWithin, outputs, image_after, ending_after}
+use Rattle.client_code.specs.Clients.{bytes_of}
+use Rattle.client_verify.specs.Accepted.{client_of}
+use Rattle.client_verify.specs.declared.verified.Verified.{Verified}
+use Rattle.client_sim.specs.Writes.{Took}
+use Rattle.client_sim.proofs.Printing.{took_more}
+use Rattle.client_vm.specs.declared.report.Report.{Report}
+use Rattle.client_vm.specs.declared.report.Ended.{Ended}
+use Rattle.client_vm.specs.declared.report.Ended.TheVariants as ended
+use Rattle.client_vm.specs.Reports.{texts_of}
+use Rattle.client_vm.specs.Runs.{ending_of, given_of, left_of, IsReady, MayRun, HasRun}
+use Rattle.client_vm.specs.Outcomes.{AreReports}
+use Rattle.client_vm.specs.Together.{HaveRun}
+
+-- ---- what is left together, with one more
+
+outputs_more : (lefts : List Left) (left : Left) → outputs (lefts ++ left ∷ []) ≡ outputs lefts ++ left.output
+outputs_more [] left = append-nil left.output
+outputs_more (l ∷ lefts) left = ap (λ out. l.output ++ out) (outputs_more lefts left) ∙ sym (append_assoc l.output (outputs lefts) left.output)
+
+image_more : (image : List ℕ) (lefts : List Left) (left : Left) → image_after image (lefts ++ left ∷ []) ≡ left.image
+image_more image [] left = refl
+image_more image (l ∷ lefts) left = image_more l.image lefts left
+
+ending_more : (lefts : List Left) (left : Left) → ending_after (lefts ++ left ∷ []) ≡ left.ending
+ending_more [] left = refl
+ending_more (l ∷ []) left = refl
+ending_more (l ∷ next ∷ lefts) left = ending_more (next ∷ lefts) left
+
+reports_more : (reports : List Report) (lefts : List Left) (report : Report) (left : Left) → AreReports reports lefts → report.steps ≡ left.steps → report.read ≡ left.read → ending_of report.ended ≡ left.ending
+    → AreReports (reports ++ report ∷ []) (lefts ++ left ∷ [])
+reports_more [] [] report left h steps read ending = (record { steps = steps; read = read; ending = ending }, tt)
+reports_more [] (l ∷ lefts) report left h steps read ending = absurd h
+reports_more (r ∷ reports) [] report left h steps read ending = absurd h
+reports_more (r ∷ reports) (l ∷ lefts) report left h steps read ending = (h.0, reports_more reports lefts report left h.1 steps read ending)
+
+-- ---- midway
+
+-- what is still to run, where no output has failed
+abbrev GoOn : Bool → List Client → Given → List Left → Type 0
+GoOn true rest given more = more ≡ []
+GoOn false rest given more = RunClients rest given more
+
+module _ (allocator : ℕ) (clients : List Client) (moves : List Move) (input : List ℕ) (old : Placement) (taken : Option (List ℕ)) where
+  -- some have run, on the segment that is now this one, and these are left with their input
+  pub record Midway (texts : List (List ℕ)) (left : List ℕ) (now : Placement) (table : Table) (taken_now : Option (List ℕ)) (reports : List Report) (failed : Bool) : Type 0 where
+    pub lefts : List Left
+    pub rest : List Client
+    pub accepted : AreAccepted table texts rest
+    pub ready : IsReady allocator [] now table moves
+    pub runs : (more : List Left) → GoOn failed rest (given_of [] moves left now) more → RunClients clients (given_of [] moves input old) (lefts ++ more)
+    pub within : (more : List Left) → StayWithin rest more → StayWithin clients (lefts ++ more)
+    pub reports_are : AreReports reports lefts
+    pub ending_is : (if failed then stopped else finished) ≡ ending_after lefts
+    pub took : Took taken taken_now (outputs lefts)
+    pub saved_is : now.bytes ≡ image_after old.bytes lefts
+
+  took_nothing : (before : Option (List ℕ)) → Took before before []
+  took_nothing None = tt
+  took_nothing (Some front) = ap Some (sym (append-nil front))
+
+  pub begins : (texts : List (List ℕ)) (table : Table) → AreAccepted table texts clients → IsReady allocator [] old table moves → Midway texts input old table taken [] false
+  begins texts table accepted ready = record {
+    lefts = [];
+    rest = clients;
+    accepted = accepted;
+    ready = ready;
+    runs = λ more h. h;
+    within = λ more h. h;
+    reports_are = tt;
+    ending_is = refl;
+    took = took_nothing taken;
+    saved_is = refl;
+  }
+
+  -- one more ran
+  module _ (text : List ℕ) (texts : List (List ℕ)) (left left_then : List ℕ) (now new : Placement) (table table_then : Table) (taken_now taken_then : Option (List ℕ)) (reports : List Report) (report : Report) (failed : Bool)
+      (ran : (tree : Client) → SpellsClient text tree → MayRun allocator [] now table tree moves → HasRun allocator tree [] moves left now table taken_now new table_then taken_then report)
+      (left_is : left_then ≡ drop report.read left) (how : (report.ended ≡ ended.OutputFailed) ↔ (failed ≡ true)) where
+    ending_so : (if failed then stopped else finished) ≡ ending_of report.ended
+    ending_so = go failed report.ended how
+      where
+        go : (b : Bool) (e : Ended) → (e ≡ ended.OutputFailed) ↔ (b ≡ true) → (if b then stopped else finished) ≡ ending_of e
+        go true ended.OutputFailed h = refl
+        go true ended.Done h = (let z = h.1 refl in cc)
+        go false ended.OutputFailed h = (let z = h.0 refl in cc)
+        go false ended.Done h = refl
+
+    not_stuck : (e : Ended) → ending_of e ≢ stuck
+    not_stuck ended.Done e = cc
+    not_stuck ended.OutputFailed e = cc
+
+    module _ (m : Midway (text ∷ texts) left now table taken_now reports false) (client : Client) (clients_then : List Client) (accepted : AreAccepted table (text ∷ texts) (client ∷ clients_then)) (rest_is : m.rest ≡ client ∷ clients_then) where
+      has : HasRun allocator client [] moves left now table taken_now new table_then taken_then report
+      has = ran client accepted.0 (record { ready = m.ready; agree = accepted.1.agree })
+
+      abbrev its : Left
+      its = left_of report has.output new
+
+      given_then : Given
+      given_then = given_of [] moves left_then new
+
+      goes_on : (more : List Left) → GoOn failed clients_then (given_of [] moves left_then new) more → RunClients (client ∷ clients_then) (given_of [] moves left now) (its ∷ more)
+      goes_on more h = (has.runs, go failed (ending_of report.ended) ending_so h)
+        where
+          go : (b : Bool) (e : Ending) → (if b then stopped else finished) ≡ e → GoOn b clients_then (given_of [] moves left_then new) more
+              → GoesOn e (RunClients clients_then (given_of [] moves (drop report.read left) new) more) more
+          go true e is h = subst (λ x. GoesOn x (RunClients clients_then (given_of [] moves (drop report.read left) new) more) more) is h
+          go false e is h = subst (λ x. GoesOn x (RunClients clients_then (given_of [] moves (drop report.read left) new) more) more) is (subst (λ xs. RunClients clients_then (given_of [] moves xs new) more) left_is h)
+
+      next_of : Midway texts left_then new table_then taken_then (reports ++ report ∷ []) failed
+      next_of = record {
+        lefts = m.lefts ++ its ∷ [];
+        rest = clients_then;
+        accepted = subst (λ t. AreAccepted t texts clients_then) (sym has.types_are) accepted.2;
+        ready = has.ready;
+        runs = λ more h. subst (RunClients clients (given_of [] moves input old)) (sym (append_assoc m.lefts (its ∷ []) more))
+            (m.runs (its ∷ more) (subst (λ cs. RunClients cs (given_of [] moves left now) (its ∷ more)) (sym rest_is) (goes_on more h)));
+        within = λ more h. subst (StayWithin clients) (sym (append_assoc m.lefts (its ∷ []) more))
+            (m.within (its ∷ more) (subst (λ cs. StayWithin cs (its ∷ more)) (sym rest_is) (has.within, not_stuck report.ended, h)));
+        reports_are = reports_more reports m.lefts report its m.reports_are refl refl refl;
+        ending_is = ending_so ∙ sym (ending_more m.lefts its);
+        took = subst (Took taken taken_then) (sym (outputs_more m.lefts its)) (took_more taken taken_now taken_then (outputs m.lefts) has.output m.took has.took);
+        saved_is = sym (image_more old.bytes m.lefts its);
+      }
+
+    pub next_ran : Midway (text ∷ texts) left now table taken_now reports false → Midway texts left_then new table_then taken_then (reports ++ report ∷ []) failed
+    next_ran m = by m.rest m.accepted refl
+      where
+        by : (rest : List Client) → AreAccepted table (text ∷ texts) rest → m.rest ≡ rest → Midway texts left_then new table_then taken_then (reports ++ report ∷ []) failed
+        by [] accepted is = absurd accepted
+        by (client ∷ clients_then) accepted is = next_of m client clients_then accepted is
+
+  -- ---- the end
+
+  module _ (texts : List (List ℕ)) (left : List ℕ) (now : Placement) (table : Table) (taken_now : Option (List ℕ)) (reports : List Report) (failed : Bool) (m : Midway texts left now table taken_now reports failed) where
+    over : GoOn failed m.rest (given_of [] moves left now) [] → HaveRun clients moves input old taken now taken_now reports failed
+    over h = record {
+      lefts = m.lefts;
+      runs = subst (RunClients clients (given_of [] moves input old)) (append-nil m.lefts) (m.runs [] h);
+      within = subst (StayWithin clients) (append-nil m.lefts) (m.within [] tt);
+      reports_are = m.reports_are;
+      ending_is = m.ending_is;
+      took = m.took;
+      saved_is = m.saved_is;
+      sound = record { picture = m.ready.picture; held = m.ready.held; none_loose = m.ready.loose_are };
+    }
+
+    pub stops : failed ≡ true → HaveRun clients moves input old taken now taken_now reports failed
+    stops is = over (subst (λ b. GoOn b m.rest (given_of [] moves left now) []) (sym is) refl)
+
+    pub ends : texts ≡ [] → HaveRun clients moves input old taken now taken_now reports failed
+    ends none = over (go failed m.rest (subst (λ ts. AreAccepted table ts m.rest) none m.accepted))
+      where
+        go : (b : Bool) (rest : List Client) → AreAccepted table [] rest → GoOn b rest (given_of [] moves left now) []
+        go true rest a = refl
+        go false [] a = tt
+        go false (c ∷ cs) a = absurd a
