@@ -1,6 +1,10 @@
 -- Clients one after the other: what those that ran have left, and that the next one goes on from there.
-use Rattle.std.proofs.Common.{◌≡◌, ◌≢◌, ℕ, suc, ◌+◌, ◌<◌, ◌↔◌, Bool, true, false, List, [], ◌∷◌, ◌++◌, length, map, take, drop, get_or, Option, Some, None, refl, sym, ap, ◌∙◌, subst, arith, append_assoc}
-use Rattle.std.specs.Prelude.{if◌then◌else◌}
+use Rattle.std.proofs.Common.{◌≡◌, ◌≢◌, ℕ, suc, ◌+◌, ◌<◌, ◌↔◌, Bool, true, false, List, [], ◌∷◌, ◌++◌, length, map, take, drop, get_or, Option, Some, None, Result, Ok, Err, refl, sym, ap, ◌∙◌, subst, arith, append_assoc}
+use Rattle.std.specs.Prelude.{if◌then◌else◌, IfOk, OnOk}
+use Rattle.seg_spec.specs.Bytes.{word}
+use Rattle.seg_spec.specs.Header.{allocator_word}
+use Rattle.seg_check.specs.Faults.{IsImageOf}
+use Rattle.client_spec.specs.Outcome.{CanMove}
 use Rattle.std.proofs.lemmas.List.{append-nil}
 use Rattle.seg_spec.specs.Types.{Table, longer}
 use Rattle.seg_spec.specs.Window.{Placement, region_of}
@@ -19,8 +23,8 @@ use Rattle.client_vm.specs.declared.report.Ended.{Ended}
 use Rattle.client_vm.specs.declared.report.Ended.TheVariants as ended
 use Rattle.client_vm.specs.Reports.{texts_of}
 use Rattle.client_vm.specs.Runs.{ending_of, given_of, left_of, IsReady, MayRun, HasRun}
-use Rattle.client_vm.specs.Outcomes.{AreReports}
-use Rattle.client_vm.specs.Together.{HaveRun}
+use Rattle.client_vm.specs.Outcomes.{AreReports, HasOutcome}
+use Rattle.client_vm.specs.Together.{ending_if, HaveRun, HaveRunOn}
 
 -- ---- what is left together, with one more
 
@@ -61,7 +65,7 @@ module _ (allocator : ℕ) (clients : List Client) (moves : List Move) (input : 
     pub runs : (more : List Left) → GoOn failed rest (given_of [] moves left now) more → RunClients clients (given_of [] moves input old) (lefts ++ more)
     pub within : (more : List Left) → StayWithin rest more → StayWithin clients (lefts ++ more)
     pub reports_are : AreReports reports lefts
-    pub ending_is : (if failed then stopped else finished) ≡ ending_after lefts
+    pub ending_is : ending_if failed ≡ ending_after lefts
     pub took : Took taken taken_now (outputs lefts)
     pub saved_is : now.bytes ≡ image_after old.bytes lefts
 
@@ -87,7 +91,7 @@ module _ (allocator : ℕ) (clients : List Client) (moves : List Move) (input : 
   module _ (text : List ℕ) (texts : List (List ℕ)) (left left_then : List ℕ) (now new : Placement) (table table_then : Table) (taken_now taken_then : Option (List ℕ)) (reports : List Report) (report : Report) (failed : Bool)
       (ran : (tree : Client) → SpellsClient text tree → MayRun allocator [] now table tree moves → HasRun allocator tree [] moves left now table taken_now new table_then taken_then report)
       (left_is : left_then ≡ drop report.read left) (how : (report.ended ≡ ended.OutputFailed) ↔ (failed ≡ true)) where
-    ending_so : (if failed then stopped else finished) ≡ ending_of report.ended
+    ending_so : ending_if failed ≡ ending_of report.ended
     ending_so = go failed report.ended how
       where
         go : (b : Bool) (e : Ended) → (e ≡ ended.OutputFailed) ↔ (b ≡ true) → (if b then stopped else finished) ≡ ending_of e
@@ -144,7 +148,7 @@ module _ (allocator : ℕ) (clients : List Client) (moves : List Move) (input : 
   -- ---- the end
 
   module _ (texts : List (List ℕ)) (left : List ℕ) (now : Placement) (table : Table) (taken_now : Option (List ℕ)) (reports : List Report) (failed : Bool) (m : Midway texts left now table taken_now reports failed) where
-    over : GoOn failed m.rest (given_of [] moves left now) [] → HaveRun clients moves input old taken now taken_now reports failed
+    over : GoOn failed m.rest (given_of [] moves left now) [] → HaveRun clients moves input old taken now.bytes taken_now reports (ending_if failed)
     over h = record {
       lefts = m.lefts;
       runs = subst (RunClients clients (given_of [] moves input old)) (append-nil m.lefts) (m.runs [] h);
@@ -156,13 +160,74 @@ module _ (allocator : ℕ) (clients : List Client) (moves : List Move) (input : 
       sound = record { picture = m.ready.picture; held = m.ready.held; none_loose = m.ready.loose_are };
     }
 
-    pub stops : failed ≡ true → HaveRun clients moves input old taken now taken_now reports failed
+    pub stops : failed ≡ true → HaveRun clients moves input old taken now.bytes taken_now reports (ending_if failed)
     stops is = over (subst (λ b. GoOn b m.rest (given_of [] moves left now) []) (sym is) refl)
 
-    pub ends : texts ≡ [] → HaveRun clients moves input old taken now taken_now reports failed
+    pub ends : texts ≡ [] → HaveRun clients moves input old taken now.bytes taken_now reports (ending_if failed)
     ends none = over (go failed m.rest (subst (λ ts. AreAccepted table ts m.rest) none m.accepted))
       where
         go : (b : Bool) (rest : List Client) → AreAccepted table [] rest → GoOn b rest (given_of [] moves left now) []
         go true rest a = refl
         go false [] a = tt
         go false (c ∷ cs) a = absurd a
+
+-- ---- from a segment to bytes
+
+pub if_ok : {A E : Type 0} (P Q : A → Type 0) (result : Result A E) → ((x : A) → P x → Q x) → IfOk result P → IfOk result Q
+if_ok P Q (Ok x) f h = f x h
+if_ok P Q (Err e) f h = tt
+
+pub both_ok : {A E : Type 0} (B : Type 0) (P Q : A → Type 0) (result : Result A E) → ((x : A) → B → P x → Q x) → OnOk result B → IfOk result P → IfOk result Q
+both_ok B P Q (Ok x) f b h = f x b h
+both_ok B P Q (Err e) f b h = tt
+
+pub ending_failed : (failed : Bool) (how : Ended) → (failed ≡ true → how ≡ ended.OutputFailed) → (failed ≡ false → how ≡ ended.Done) → ending_if failed ≡ ending_of how
+ending_failed true how t f = ap ending_of (sym (t refl))
+ending_failed false how t f = ap ending_of (sym (f refl))
+
+-- on a sound image, with its types
+pub ran_on : (texts : List (List ℕ)) (moves : List Move) (input : List ℕ) (window : Placement) (taken : Option (List ℕ)) (saved : List ℕ) (taken_then : Option (List ℕ)) (reports : List Report) (ending : Ending)
+    (table : Table) (allocator : ℕ) → IsImageOf window.bytes table → word window.bytes allocator_word ≡ allocator → (clients : List Client) → AreAccepted table texts clients
+    → ((clients : List Client) → AreAccepted table texts clients → IsReady allocator [] window table moves → HaveRun clients moves input window taken saved taken_then reports ending)
+    → HaveRunOn texts moves input window taken saved taken_then reports ending
+ran_on texts moves input window taken saved taken_then reports ending table allocator is named clients accepted runs = record {
+  accepted = record {
+    sound = record { picture = is.picture; held = is.held; none_loose = is.none_loose };
+    clients = clients;
+    accepted = subst (λ t. AreAccepted t texts clients) (sym is.table_is) accepted;
+  };
+  runs = λ may. runs clients accepted (record { picture = is.picture; held = is.held; loose_are = is.none_loose; table_is = is.table_is; allocator_is = named; moves_may = may });
+}
+
+module _ (texts : List (List ℕ)) (moves : List Move) (input : List ℕ) (window : Placement) (taken : Option (List ℕ)) (saved : List ℕ) (taken_then : Option (List ℕ)) (reports : List Report) (how : Ended)
+    (h : HaveRunOn texts moves input window taken saved taken_then reports (ending_of how)) where
+  outcome_here : CanMove window.bytes (length (region_of window)) (length window.before) moves
+      → HasOutcome window.bytes texts input (length (region_of window)) (length window.before) moves taken taken_then saved reports how
+  outcome_here can =
+      let r = h.runs can.fit in
+      record {
+        lefts = r.lefts;
+        outcome = record {
+          can_move = can;
+          sound = h.accepted.sound;
+          clients = h.accepted.clients;
+          accepted = h.accepted.accepted;
+          host = region_of window;
+          host_is = refl;
+          runs = r.runs;
+        };
+        within = r.within;
+        reports_are = r.reports_are;
+        ended_is = r.ending_is;
+        took = r.took;
+        saved_is = r.saved_is;
+        sound = r.sound;
+      }
+
+  pub has_outcome : (image : List ℕ) (room base : ℕ) → window.bytes ≡ image → length (region_of window) ≡ room → length window.before ≡ base → CanMove image room base moves
+      → HasOutcome image texts input room base moves taken taken_then saved reports how
+  has_outcome image room base bytes region before can =
+      subst (λ (i : List ℕ). HasOutcome i texts input room base moves taken taken_then saved reports how) bytes
+      (subst (λ n. HasOutcome window.bytes texts input n base moves taken taken_then saved reports how) region
+      (subst (λ n. HasOutcome window.bytes texts input (length (region_of window)) n moves taken taken_then saved reports how) before
+      (outcome_here (subst (λ n. CanMove window.bytes (length (region_of window)) n moves) (sym before) (subst (λ n. CanMove window.bytes n base moves) (sym region) (subst (λ (i : List ℕ). CanMove i room base moves) (sym bytes) can))))))

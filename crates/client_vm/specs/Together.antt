@@ -1,27 +1,40 @@
 -- Several clients on a segment, one after the other.
 --     HaveRun ..       what they leave together, where the segment was one that clients run on
-use Rattle.std.specs.Prelude.{◌≡◌, ℕ, List, [], Bool, Option, if◌then◌else◌}
-use Rattle.seg_spec.specs.Window.{Placement}
+--     ending_if failed         how the last one ended
+--     HaveRunOn ..     so it is on a sound image in a window, where the moves may be made
+use Rattle.std.specs.Prelude.{◌≡◌, ℕ, List, [], length, Bool, Option, if◌then◌else◌}
+use Rattle.seg_spec.specs.Window.{Placement, region_of}
 use Rattle.seg_spec.specs.Sound.{IsSound}
 use Rattle.client_spec.specs.Syntax.{Client}
-use Rattle.client_spec.specs.Run.{finished, stopped}
+use Rattle.client_spec.specs.Run.{Ending, finished, stopped}
 use Rattle.client_spec.specs.OnImages.{Move, Left}
-use Rattle.client_spec.specs.Clients.{RunClients, StayWithin, outputs, image_after, ending_after}
+use Rattle.client_spec.specs.Clients.{AreMoves, RunClients, StayWithin, outputs, image_after, ending_after}
 use Rattle.client_sim.specs.Writes.{Took}
 use Rattle.client_vm.specs.declared.report.Report.{Report}
 use Rattle.client_vm.specs.Runs.{given_of}
+use Rattle.client_vm.specs.Admitted.{AreAcceptedOn}
 use Rattle.client_vm.specs.Outcomes.{AreReports}
 
--- the clients ran until an output failed; the segment has the image that the last one left, which
--- is sound again
+abbrev pub ending_if : Bool → Ending
+ending_if failed = if failed then stopped else finished
+
+-- the clients ran until an output failed, and the saved image, which the last one left, is sound
 pub record HaveRun (clients : List Client) (moves : List Move) (input : List ℕ)
-    (old : Placement) (taken : Option (List ℕ)) (new : Placement) (taken_then : Option (List ℕ))
-    (reports : List Report) (failed : Bool) : Type 0 where
+    (old : Placement) (taken : Option (List ℕ)) (saved : List ℕ) (taken_then : Option (List ℕ))
+    (reports : List Report) (ending : Ending) : Type 0 where
   pub lefts : List Left
   pub runs : RunClients clients (given_of [] moves input old) lefts
   pub within : StayWithin clients lefts
   pub reports_are : AreReports reports lefts
-  pub ending_is : (if failed then stopped else finished) ≡ ending_after lefts
+  pub ending_is : ending ≡ ending_after lefts
   pub took : Took taken taken_then (outputs lefts)
-  pub saved_is : new.bytes ≡ image_after old.bytes lefts
-  pub sound : IsSound new.bytes
+  pub saved_is : saved ≡ image_after old.bytes lefts
+  pub sound : IsSound saved
+
+-- the texts' clients were accepted on the sound image of a window, and ran
+pub record HaveRunOn (texts : List (List ℕ)) (moves : List Move) (input : List ℕ)
+    (window : Placement) (taken : Option (List ℕ)) (saved : List ℕ)
+    (taken_then : Option (List ℕ)) (reports : List Report) (ending : Ending) : Type 0 where
+  pub accepted : AreAcceptedOn window.bytes texts
+  pub runs : AreMoves (length (region_of window)) (length window.bytes) 0 moves →
+      HaveRun accepted.clients moves input window taken saved taken_then reports ending

@@ -6,11 +6,11 @@ ghost use Rattle.seg_spec.specs.Faulty.{IsImageLength};
 ghost use Rattle.client_spec.specs.Syntax as syntax;
 ghost use Rattle.client_spec.specs.Clients.{AreAccepted};
 ghost use Rattle.client_spec.specs.Outcome.{CanMove};
-ghost use Rattle.client_vm.specs.Admitted.{LiesIn, AreAcceptedOn, IsAdmitted, IsWrong};
+ghost use Rattle.client_vm.specs.Admitted.{LiesIn, IsWrong};
 ghost use Rattle.client_vm.specs.Moves.{moves_of};
-ghost use Rattle.client_vm.specs.Outcomes.{IsFaultOfCall, IsRefusedFor};
-ghost use Rattle.client_vm.specs.Runs.{IsReady};
-ghost use Rattle.client_vm.specs.Together.{HaveRun};
+ghost use Rattle.client_vm.specs.Outcomes.{IsFaultOfCall, IsRefusedFor, HasOutcome};
+ghost use Rattle.client_vm.specs.Runs.{ending_of, IsReady};
+ghost use Rattle.client_vm.specs.Together.{ending_if, HaveRun, HaveRunOn};
 ghost use Rattle.client_vm.specs.Texts.{AreWrong};
 ghost use Rattle.client_vm.specs.Reports.{texts_of, AreReportsOf, HasReportsOf};
 
@@ -48,8 +48,9 @@ pub fn run_bytes<A: Allocator + Copy, W: Sink>(
     requires works { W.has_failed out.old ≡ false }
     ensures refused { IfErr result (IsRefusedFor image.now (map (λ c. c.now) clients.now)
         schedule.now.room schedule.now.base (moves_of schedule.now.moves.now)) }
-    ensures admitted { OnOk result (IsAdmitted image.now (map (λ c. c.now) clients.now)
-        schedule.now.room schedule.now.base (moves_of schedule.now.moves.now)) }
+    ensures outcome { IfOk result (λ o. HasOutcome image.now (map (λ c. c.now) clients.now)
+        input.now schedule.now.room schedule.now.base (moves_of schedule.now.moves.now)
+        (W.taken out.old) (W.taken out.new) o.image.items o.reports.items o.ended) }
     ensures nothing_written { OnErr result (out.new ≡ out.old) }
     ensures ended { IfOk result
         (λ o. (o.ended ≡ Ended.OutputFailed) ↔ (W.has_failed out.new ≡ true)) }
@@ -73,8 +74,9 @@ pub fn run_image<A: Allocator + Copy, W: Sink>(
     requires works { W.has_failed out.old ≡ false }
     ensures refused { IfErr result (IsRefusedFor image.items (map (λ c. c.now) clients.now)
         schedule.now.room schedule.now.base (moves_of schedule.now.moves.now)) }
-    ensures admitted { OnOk result (IsAdmitted image.items (map (λ c. c.now) clients.now)
-        schedule.now.room schedule.now.base (moves_of schedule.now.moves.now)) }
+    ensures outcome { IfOk result (λ o. HasOutcome image.items (map (λ c. c.now) clients.now)
+        input.now schedule.now.room schedule.now.base (moves_of schedule.now.moves.now)
+        (W.taken out.old) (W.taken out.new) o.image.items o.reports.items o.ended) }
     ensures nothing_written { OnErr result (out.new ≡ out.old) }
     ensures ended { IfOk result
         (λ o. (o.ended ≡ Ended.OutputFailed) ↔ (W.has_failed out.new ≡ true)) }
@@ -99,8 +101,12 @@ fn run_in<A: Allocator + Copy, W: Sink>(
     requires works { W.has_failed out.old ≡ false }
     ensures refused { (image : List ℕ) → LiesIn region schedule.now.base image →
         len ≡ length image → IfErr result (IsWrong image (map (λ c. c.now) clients.now)) }
-    ensures accepted { (image : List ℕ) → LiesIn region schedule.now.base image →
-        len ≡ length image → OnOk result (AreAcceptedOn image (map (λ c. c.now) clients.now)) }
+    ensures runs { (image : List ℕ) → LiesIn region schedule.now.base image →
+        len ≡ length image → length region ≡ schedule.now.room →
+        CanMove image schedule.now.room schedule.now.base (moves_of schedule.now.moves.now) →
+        IfOk result (λ o. HasOutcome image (map (λ c. c.now) clients.now) input.now
+        schedule.now.room schedule.now.base (moves_of schedule.now.moves.now)
+        (W.taken out.old) (W.taken out.new) o.image.items o.reports.items o.ended) }
     ensures nothing_written { OnErr result (out.new ≡ out.old) }
     ensures ended { IfOk result
         (λ o. (o.ended ≡ Ended.OutputFailed) ↔ (W.has_failed out.new ≡ true)) }
@@ -130,7 +136,9 @@ fn run_on<F: Fit, A: Allocator + Copy, W: Sink>(
     ensures refused { (word window.bytes allocator_word ≤ 1 →
         word window.bytes allocator_word ≡ F.allocator) →
         IfErr result (IsWrong window.bytes (map (λ c. c.now) clients.now)) }
-    ensures accepted { OnOk result (AreAcceptedOn window.bytes (map (λ c. c.now) clients.now)) }
+    ensures runs { IfOk result (λ o. HaveRunOn (map (λ c. c.now) clients.now)
+        (moves_of moves.now) input.now window (W.taken out.old) o.image.items (W.taken out.new)
+        o.reports.items (ending_of o.ended)) }
     ensures nothing_written { OnErr result (out.new ≡ out.old) }
     ensures ended { IfOk result
         (λ o. (o.ended ≡ Ended.OutputFailed) ↔ (W.has_failed out.new ≡ true)) }
@@ -157,6 +165,11 @@ fn run_opened<F: Fit, A: Allocator + Copy, W: Sink>(
         AreWrong segment.types (map (λ c. c.now) clients.now) refused) }
     ensures accepted { OnOk result ((trees : List syntax.Client) ×
         AreAccepted segment.types (map (λ c. c.now) clients.now) trees) }
+    ensures runs { IfOk result (λ o. (trees : List syntax.Client) →
+        AreAccepted segment.types (map (λ c. c.now) clients.now) trees →
+        IsReady F.allocator [] segment.window segment.types (moves_of moves.now) →
+        HaveRun trees (moves_of moves.now) input.now segment.window (W.taken out.old)
+        o.image.items (W.taken out.new) o.reports.items (ending_of o.ended)) }
     ensures nothing_written { OnErr result (out.new ≡ out.old) }
     ensures ended { IfOk result
         (λ o. (o.ended ≡ Ended.OutputFailed) ↔ (W.has_failed out.new ≡ true)) }
@@ -196,6 +209,7 @@ fn placed<A: Allocator>(
     requires can_move { CanMove image.items schedule.now.room schedule.now.base
         (moves_of schedule.now.moves.now) }
     ensures lies { IfOk result (λ region. LiesIn region schedule.now.base image.items) }
+    ensures room { IfOk result (λ region. length region ≡ schedule.now.room) }
     ensures refused { IsOkUnless result Fault.Memory }
 {
     if len == schedule.room {
@@ -210,6 +224,7 @@ fn copied<A: Allocator>(alloc: A, image: &[u8], schedule: &Schedule) -> Result<R
     requires can_move { CanMove image.now schedule.now.room schedule.now.base
         (moves_of schedule.now.moves.now) }
     ensures lies { IfOk result (λ region. LiesIn region schedule.now.base image.now) }
+    ensures room { IfOk result (λ region. length region ≡ schedule.now.room) }
     ensures refused { IsOkUnless result Fault.Memory }
 {
     Region::with_bytes(alloc, schedule.room, schedule.base, image)
@@ -265,7 +280,8 @@ fn run_all<F: Fit, A: Allocator, B: Allocator, W: Sink>(
         AreAccepted segment.old.types (texts_of programs.now) trees →
         IsReady F.allocator [] segment.old.window segment.old.types (moves_of moves.now) →
         HaveRun trees (moves_of moves.now) input.now segment.old.window (W.taken out.old)
-        segment.new.window (W.taken out.new) reports.new.items (W.has_failed out.new) }
+        segment.new.window.bytes (W.taken out.new) reports.new.items
+        (ending_if (W.has_failed out.new)) }
 {
     let mut left = input;
     for program in programs {

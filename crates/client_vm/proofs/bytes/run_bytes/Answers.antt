@@ -16,3 +16,6 @@ returns-clause-refused g c =
     let schedule = c.args.schedule.now in
     refused_for c.args.image.now (map (λ x. x.now) c.args.clients.now) schedule.room schedule.base (moves_of schedule.moves.now) c.in_ok-len.ensures.fits c.run_in.result
     (c.run_in.ensures.refused c.args.image.now c.in_ok-region.ensures.lies c.in_ok-len.ensures.len)
+
+pub returns-clause-outcome : goal.returns-clause-outcome
+returns-clause-outcome g c = c.run_in.ensures.runs c.args.image.now c.in_ok-region.ensures.lies c.in_ok-len.ensures.len c.in_ok-region.ensures.room c.in_ok-len.ensures.fits

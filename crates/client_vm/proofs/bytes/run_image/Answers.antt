@@ -18,3 +18,9 @@ returns-clause-refused g c =
     refused_for c.args.image.items (map (λ x. x.now) c.args.clients.now) schedule.room schedule.base (moves_of schedule.moves.now)
     (subst (λ i. CanMove i schedule.room schedule.base (moves_of schedule.moves.now)) c.as_slice.ensures.value c.in_ok-len.ensures.fits) c.run_in.result
     (c.run_in.ensures.refused c.args.image.items c.in_ok-region.ensures.lies (c.in_ok-len.ensures.len ∙ ap length c.as_slice.ensures.value))
+
+pub returns-clause-outcome : goal.returns-clause-outcome
+returns-clause-outcome g c =
+    let schedule = c.args.schedule.now in
+    c.run_in.ensures.runs c.args.image.items c.in_ok-region.ensures.lies (c.in_ok-len.ensures.len ∙ ap length c.as_slice.ensures.value) c.in_ok-region.ensures.room
+    (subst (λ i. CanMove i schedule.room schedule.base (moves_of schedule.moves.now)) c.as_slice.ensures.value c.in_ok-len.ensures.fits)
