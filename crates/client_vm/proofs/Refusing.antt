@@ -22,7 +22,7 @@ use Rattle.client_spec.specs.Outcome.{CanMove, IsTurnOf}
 use Rattle.client_verify.specs.Refusals.{IsRefused}
 use Rattle.client_vm.specs.declared.report.Refused.{Refused}
 use Rattle.client_vm.specs.Texts.{IsWrongAt, IsWrongBy, AreWrong}
-use Rattle.client_vm.specs.Admitted.{LiesIn, AreAcceptedOn, IsAdmitted, IsWrongFor, IsWrong}
+use Rattle.client_vm.specs.Admitted.{LiesIn, AreAcceptedOn, IsWrongFor, IsWrong}
 use Rattle.client_vm.specs.Outcomes.{IsBadImage, IsFault, IsFaultOfCall, IsFaultOfClient, IsRefusedFor}
 use Rattle.seg_spec.proofs.Failures.{unsound}
 
@@ -49,13 +49,6 @@ module _ (image : List ℕ) (texts : List (List ℕ)) (table : Table) (is : IsIm
   pub if_wrong : {A : Type 0} (result : Result A Refused) → IfErr result (AreWrong table texts) → IfErr result (IsWrong image texts)
   if_wrong (Ok a) h = tt
   if_wrong (Err refused) h = wrong_texts refused.client refused.fault h
-
-  accepted_texts : (clients : List Client) → AreAccepted table texts clients → AreAcceptedOn image texts
-  accepted_texts clients h = record { sound = sound_of image table is; clients = clients; accepted = subst (λ t. AreAccepted t texts clients) (sym is.table_is) h }
-
-  pub if_accepted : {A : Type 0} (result : Result A Refused) → OnOk result ((clients : List Client) × AreAccepted table texts clients) → OnOk result (AreAcceptedOn image texts)
-  if_accepted (Ok a) h = accepted_texts h.0 h.1
-  if_accepted (Err refused) h = tt
 
 -- ---- the reasons of the definitions
 
@@ -123,13 +116,16 @@ shows w host base len image is at size same placed =
     sym (region-placed w.before w.bytes w.after) ∙ ap (λ r. slice r (length w.before) (length w.bytes)) is ∙ ap (λ b. slice host b (length w.bytes)) at ∙ ap (slice host base) (size ∙ same) ∙ placed
 
 -- a region of zeros with the image in it
-pub among_zeros : (image : List ℕ) (base room : ℕ) → IsPlace room base (length image) → LiesIn ((replicate base 0 ++ image) ++ replicate (room - (base + length image)) 0) base image
-among_zeros image base room place =
+pub zeros_around : (image : List ℕ) (base room : ℕ) → IsPlace room base (length image) → length ((replicate base 0 ++ image) ++ replicate (room - (base + length image)) 0) ≡ room
+zeros_around image base room place =
     let zeros = replicate (room - (base + length image)) 0 in
     let front : length (replicate base 0 ++ image) ≡ base + length image = length-append (replicate base 0) image ∙ ap (λ n. n + length image) (length-replicate base 0) in
-    let long : length ((replicate base 0 ++ image) ++ zeros) ≡ room =
-    length-append (replicate base 0 ++ image) zeros ∙ ap (λ m. m + length zeros) front ∙ ap (λ n. base + length image + n) (length-replicate (room - (base + length image)) 0) ∙ (let fits = place.1 in omega arith) in (
-      subst (λ n. IsPlace n base (length image)) (sym long) place,
+    length-append (replicate base 0 ++ image) zeros ∙ ap (λ m. m + length zeros) front ∙ ap (λ n. base + length image + n) (length-replicate (room - (base + length image)) 0) ∙ (let fits = place.1 in omega arith)
+
+pub among_zeros : (image : List ℕ) (base room : ℕ) → IsPlace room base (length image) → LiesIn ((replicate base 0 ++ image) ++ replicate (room - (base + length image)) 0) base image
+among_zeros image base room place =
+    let zeros = replicate (room - (base + length image)) 0 in (
+      subst (λ n. IsPlace n base (length image)) (sym (zeros_around image base room place)) place,
       ap (λ b. slice ((replicate base 0 ++ image) ++ zeros) b (length image)) (sym (length-replicate base 0)) ∙ region-placed (replicate base 0) image zeros,
     )
 
@@ -161,7 +157,3 @@ module _ {A : Type 0} (image : List ℕ) (texts : List (List ℕ)) (room base : 
   pub refused_for : (result : Result A Refused) → IfErr result (λ refused. IsWrong image texts refused) → IfErr result (λ refused. IsRefusedFor image texts room base moves refused)
   refused_for (Ok a) h = tt
   refused_for (Err refused) h = why image texts room base moves can refused.client refused.fault h
-
-  pub admitted : (result : Result A Refused) → OnOk result (AreAcceptedOn image texts) → OnOk result (IsAdmitted image texts room base moves)
-  admitted (Ok a) h = record { can_move = can; accepted = h }
-  admitted (Err refused) h = tt

@@ -1,7 +1,6 @@
 -- Clients that may run on an image, and what is wrong where none may.
 --     LiesIn host base image              the image lies at a base of a region
 --     AreAcceptedOn image texts           the image is sound, and accepts the clients one by one
---     IsAdmitted image texts room base moves   so it is, and the image and its moves have places
 --     IsWrong image texts refused         the image has the fault, or a client of a sound one has
 use Rattle.std.specs.Prelude.{ℕ, List, length, Option, Some, None}
 use Rattle.seg_spec.specs.Bytes.{IsPlaced}
@@ -10,9 +9,7 @@ use Rattle.seg_spec.specs.Sound.{IsSound}
 use Rattle.seg_raw.specs.declared.fault.Fault.{Fault}
 use Rattle.seg_check.specs.Faults.{IsFaultOf}
 use Rattle.client_spec.specs.Syntax.{Client}
-use Rattle.client_spec.specs.OnImages.{Move}
 use Rattle.client_spec.specs.Clients.{AreAccepted}
-use Rattle.client_spec.specs.Outcome.{CanMove}
 use Rattle.client_vm.specs.declared.report.Refused.{Refused}
 use Rattle.client_vm.specs.Texts.{IsWrongAt}
 
@@ -23,11 +20,6 @@ pub record AreAcceptedOn (image : List ℕ) (texts : List (List ℕ)) : Type 0 w
   pub sound : IsSound image
   pub clients : List Client
   pub accepted : AreAccepted sound.picture.table texts clients
-
-pub record IsAdmitted (image : List ℕ) (texts : List (List ℕ)) (room base : ℕ)
-    (moves : List Move) : Type 0 where
-  pub can_move : CanMove image room base moves
-  pub accepted : AreAcceptedOn image texts
 
 abbrev pub IsWrongFor : List ℕ → List (List ℕ) → Option ℕ → Fault → Type 0
 IsWrongFor image texts None f = IsFaultOf image f
