@@ -30,3 +30,4 @@ pub mod ItemsAt
 pub mod Rooted
 pub mod Naming
 pub mod NameBytes
+pub mod NamedActs

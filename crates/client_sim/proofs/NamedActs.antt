@@ -1,0 +1,279 @@
+-- Named objects that are made, or found or made, and those that are destroyed, whatever state the world stands for.
+use Rattle.std.proofs.Common.{◌≡◌, ◌≢◌, ℕ, zero, suc, ◌+◌, ◌^◌, ◌<◌, ◌≤◌, ◌⊎◌, inl, inr, ℤ, pos, negsuc, List, [], ◌∷◌, ◌++◌, length, Bool, true, false, Option, Some, None, refl, sym, ◌∙◌, ap, subst, arith}
+use Rattle.std.specs.Prelude.{◌/◌, ◌%◌, ◌==◌, ◌&&◌, ⊤, Ok, if◌then◌else◌, option_map, slice_get, slice_set, slice_index_or, nat_lt, nat_le}
+use Rattle.std.specs.Option.{option_map_or}
+use Rattle.std.specs.Int.Signed.{mag}
+use Rattle.std.proofs.lemmas.Bool.{eqb-true, lt-ltb, ltb-true, le-leb, leb-true}
+use Rattle.std.proofs.lemmas.Option.{slice_get_within}
+use Rattle.std.proofs.lemmas.List.{length-map}
+use Rattle.seg_spec.specs.Bytes.{word}
+use Rattle.seg_spec.specs.Header.{allocator_word, index_kind_word, KeepsFront}
+use Rattle.seg_spec.specs.Types.{Table}
+use Rattle.seg_spec.specs.Value.{Value, Values, nil, cons, nth, count, copies, default_of}
+use Rattle.seg_spec.specs.Heap.{live}
+use Rattle.seg_spec.specs.Block.{KeepsBlock}
+use Rattle.seg_spec.specs.Index.{Root, IsName, root_named}
+use Rattle.seg_spec.specs.Reads.{Place, Leads, here}
+use Rattle.seg_spec.specs.Sound.{Picture, IsHeld, HoldsRoot, times, positions}
+use Rattle.seg_spec.specs.Roots.{Listed, with_roots, item_of}
+use Rattle.seg_spec.specs.Demand.{Ask, NoRoom, after_gives}
+use Rattle.seg_spec.specs.Spending.{object_asks, spent, EntryBlocks, killed}
+use Rattle.seg_spec.proofs.LiveLaws.{times-append}
+use Rattle.client_spec.specs.declared.table.Operation.{Operation}
+use Rattle.client_spec.specs.declared.table.Role.{Role}
+use Rattle.client_spec.specs.Syntax.{Constant, Instruction}
+use Rattle.client_spec.specs.Machine.{◌>>=◌, Origin, Path, Register, Object, State, with_name, register, set_register, at_origin}
+use Rattle.client_spec.specs.Answer.{Answer, success, already_exists, bad_alloc, other_type, out_of_range, answer_number, integer_at, integer_or, object_count, path_from, refer, fail, give_count, type_operand, constant_operand}
+use Rattle.client_spec.specs.Effect.{add_object, find_or_add, destroy_object, effect, outcome}
+use Rattle.client_spec.specs.Typed.{Class, RegisterType, RegisterTypes, known, is_owner, same_class, without_class, ended, integer_needed, integer_or_none, name_needed, opens, gives, rule}
+use Rattle.client_spec.specs.Typed as typed
+use Rattle.client_spec.specs.Meaning.{IsNamedBy, InClass, LeadsToType, IsAsKnown}
+use Rattle.client_spec.specs.Pictures.{Pictures, LeadsInImage, object_of}
+use Rattle.client_spec.specs.Asks.{NamedBlocks, GrantsAsks, Denies, ChangesBlocks, named_asks, name_operand, if_absent}
+use Rattle.client_spec.proofs.Cases.{first_of_many}
+use Rattle.client_spec.proofs.Changes.{agrees_make, agrees_kill}
+use Rattle.client_spec.proofs.Classes.{OneEach, origins_apart, known_ended, agrees_ended}
+use Rattle.client_spec.proofs.Defaults.{default_has}
+use Rattle.client_spec.proofs.FirstRows.{bind_ok, opens_ok, answer_is, item_below, nth_below}
+use Rattle.client_spec.proofs.Shapes.{all_copies}
+use Rattle.client_spec.proofs.Spelled.{one_each}
+use Rattle.client_spec.proofs.States.{name_there}
+use Rattle.client_sim.specs.Shows.{World, number_in, place_in, owns_in, HasRegisters, Shown, Shows, Acts}
+use Rattle.client_sim.specs.Acting.{AreRight, ActsAs, IsRefusedAs}
+use Rattle.client_sim.proofs.Answering.{with_place, acts_so, shows_reference, shows_number, refuses_with}
+use Rattle.client_sim.proofs.Finding.{IsNameFor, name_at, first_place}
+use Rattle.client_sim.proofs.Granting.{grants_spent}
+use Rattle.client_sim.proofs.LeafPuts.{with_image}
+use Rattle.client_sim.proofs.NameBytes.{name_right}
+use Rattle.client_sim.proofs.Naming.{Comes, Goes, Stays, EndsAt, named_comes, named_goes, picture_stays}
+use Rattle.client_sim.proofs.Numbers.{with_number, quiet, gives_both, number_shown, unowned}
+use Rattle.client_sim.proofs.Rooted.{BeginsFrom, KeepsRoots, Remains, SameBesides, all_paths, other_paths, shows_rooted, pictured_rooted}
+
+-- ---- what calls say
+
+-- what a call says of each picture that the world's image has, and of how it has it
+abbrev pub OfHeld : (allocator : ℕ) (w : World) → ((p : Picture) → IsHeld w.image p → Type 0) → Type 0
+OfHeld allocator w P = (picture : Picture) (held : IsHeld w.image picture) → w.table ≡ picture.table → word w.image allocator_word ≡ allocator → P picture held
+
+-- a new object of n default values
+abbrev pub object_root : Table → List ℕ → ℕ → ℕ → ℕ → Root
+object_root table name T n at = record { name = name; at = at; type = T; values = copies n (default_of table T) }
+
+module _ (allocator : ℕ) (old : List ℕ) (table : Table) (name : List ℕ) (T : ℕ) (picture : Picture) (index_blocks new : List ℕ) where
+  -- the requests for a new object and its entry were granted, and it stands here
+  pub record IsMade (n at : ℕ) : Type 0 where
+    pub before : List Root
+    pub after : List Root
+    pub names_are : picture.names ≡ before ++ after
+    pub held : IsHeld new (with_roots picture Listed.by_name (before ++ object_root table name T n at ∷ after))
+    pub long : length new ≡ length old
+    pub front : KeepsFront old new
+    pub kept : (h : ℕ) → 1 ≤ times h (positions (live old)) → times h index_blocks ≡ 0 → KeepsBlock old new h
+    pub left : spent allocator (live old) (length old) (object_asks old table T n name) [] ≡ Some (live new)
+
+  -- one of the requests got nothing
+  pub record IsDenied (n : ℕ) : Type 0 where
+    pub no_room : NoRoom allocator (live old) (length old) (object_asks old table T n name)
+    pub held : IsHeld new picture
+    pub long : length new ≡ length old
+    pub front : KeepsFront old new
+    pub kept : (h : ℕ) → 1 ≤ times h (positions (live old)) → KeepsBlock old new h
+    pub left : live new ≡ live old
+
+  -- the object of the name and type went
+  pub record IsLost : Type 0 where
+    pub before : List Root
+    pub root : Root
+    pub after : List Root
+    pub names_are : picture.names ≡ before ++ root ∷ after
+    pub root_is : killed (root_named picture.names name) T ≡ Some root
+    pub objects : List ℕ
+    pub entries : List ℕ
+    pub holds : HoldsRoot old table root objects
+    pub entry : EntryBlocks (word old index_kind_word) old index_blocks root entries
+    pub held : IsHeld new (with_roots picture Listed.by_name (before ++ after))
+    pub long : length new ≡ length old
+    pub front : KeepsFront old new
+    pub kept : (h : ℕ) → 1 ≤ times h (positions (live old)) → times h (objects ++ index_blocks) ≡ 0 → KeepsBlock old new h
+    pub left : live new ≡ after_gives (live old) (objects ++ entries)
+
+-- the number that an operand stands for
+abbrev pub number_for : ℤ → ℕ → ℤ → ℤ
+number_for d c given = if c == 16 then d else given
+
+-- ---- counts
+
+counted : (n : ℕ) → 1 ≤ n → n ≤ 65535 → object_count (pos n) ≡ Some n
+counted n some few =
+    ap (λ p. if p && nat_le n 65535 then Some n else None) (lt-ltb 0 n some) ∙ ap (λ q. if true && q then Some n else None) (le-leb n 65535 few)
+
+uncounted : (x : ℤ) → ((n : ℕ) → 1 ≤ n → n ≤ 65535 → x ≢ pos n) → object_count x ≡ None
+uncounted (negsuc n) h = refl
+uncounted (pos n) h = choose (nat_lt 0 n) (nat_le n 65535) refl refl
+  where
+    choose : (p q : Bool) → nat_lt 0 n ≡ p → nat_le n 65535 ≡ q → object_count (pos n) ≡ None
+    choose true true f g = absurd (h n (ltb-true 0 n f) (leb-true n 65535 g) refl)
+    choose true false f g = ap (λ p. if p && nat_le n 65535 then Some n else None) f ∙ ap (λ q. if true && q then Some n else None) g
+    choose false q f g = ap (λ p. if p && nat_le n 65535 then Some n else None) f
+
+-- no root of the name has the type
+why_kept : (T : ℕ) (o : Option Root) → killed o T ≡ None → (o ≡ None) ⊎ ((root : Root) × (o ≡ Some root) × ((root.type == T) ≡ false))
+why_kept T None e = inl refl
+why_kept T (Some root) e = choose (root.type == T) refl e
+  where
+    choose : (t : Bool) → (root.type == T) ≡ t → (if t then Some root else None) ≡ None → (Some root ≡ None) ⊎ ((r : Root) × (Some root ≡ Some r) × ((r.type == T) ≡ false))
+    choose true f g = cc
+    choose false f g = inr (root, refl, f)
+
+why_killed : (T : ℕ) (o : Option Root) (root : Root) → killed o T ≡ Some root → (o ≡ Some root) × ((root.type == T) ≡ true)
+why_killed T None root e = cc
+why_killed T (Some r) root e = choose (r.type == T) refl e
+  where
+    choose : (t : Bool) → (r.type == T) ≡ t → (if t then Some r else None) ≡ Some root → (Some r ≡ Some root) × ((root.type == T) ≡ true)
+    choose true f g = (g, (let same : r ≡ root = cc in ap (λ (x : Root). x.type == T) (sym same) ∙ f))
+    choose false f g = cc
+
+owner_ended : (class : Class) (k : RegisterType) → is_owner (without_class class k) ≡ is_owner k
+owner_ended class RegisterType.Undefined = refl
+owner_ended class RegisterType.Int = refl
+owner_ended class (RegisterType.Owner t) = refl
+owner_ended class (RegisterType.Reference c t) = choose (same_class class c)
+  where
+    choose : (b : Bool) → is_owner (if b then RegisterType.Undefined else RegisterType.Reference c t) ≡ false
+    choose true = refl
+    choose false = refl
+
+-- ---- worlds whose image is another one
+
+module _ {others : List Root} {types : Table} {constants : List Constant} {first : Option (List ℕ)} {allocator : ℕ} {ks : RegisterTypes} {s : State} {w : World} (h : Shows others types constants first allocator ks s w) where
+  pub of_held : (P : (p : Picture) → IsHeld w.image p → Type 0) → OfHeld allocator w P → P h.pictured.picture h.pictured.held
+  of_held P f = f h.pictured.picture h.pictured.held (h.table_is ∙ sym h.pictured.types) h.allocator_is
+
+  -- nothing is known any more of the references of a class, whose paths may end
+  pub class_ends : (one : OneEach constants) (class : Class) (Ends : Origin → Type 0) → ((o : Origin) → Ends o → InClass constants class o) → ((r : ℕ) → InClass constants class (Origin.Owned r) → ⊥)
+      → (s' : State) (w' : World) → s'.registers ≡ s.registers → w'.numbers ≡ w.numbers → w'.positions ≡ w.positions → w'.type_ids ≡ w.type_ids → w'.owns ≡ w.owns → (later : Pictures others s' w'.image) (r : ℕ)
+      → Remains constants Ends ks (ended class ks) s s' w w' r ⊎ Shown later w' r (known (ended class ks) r) (register s' r)
+  class_ends one class Ends ending none s' w' registers numbers positions type_ids owns later r = by (known ks r) refl
+    where
+      stays : (k : RegisterType) → known ks r ≡ k → without_class class k ≡ k → ((o : Origin) → BeginsFrom constants r k o → Ends o → ⊥) → Remains constants Ends ks (ended class ks) s s' w w' r
+      stays k e same apart = record {
+        known_is = known_ended class ks r ∙ ap (without_class class) e ∙ same ∙ sym e;
+        register_is = ap (λ (rs : List Register). slice_index_or rs r Register.Undefined) registers;
+        number_is = ap (λ (ns : List ℤ). slice_index_or ns r (pos 0)) numbers;
+        place_is = ap (λ (at : List ℕ). record { at = slice_index_or at r 0; type = slice_index_or w'.type_ids r 0 }) positions ∙ ap (λ (ts : List ℕ). record { at = slice_index_or w.positions r 0; type = slice_index_or ts r 0 }) type_ids;
+        owns_is = ap (λ (os : List Bool). slice_index_or os r false) owns;
+        goes_on = λ o b x. apart o (subst (λ z. BeginsFrom constants r z o) e b) x;
+      }
+
+      by : (k : RegisterType) → known ks r ≡ k → Remains constants Ends ks (ended class ks) s s' w w' r ⊎ Shown later w' r (known (ended class ks) r) (register s' r)
+      by RegisterType.Undefined e = inl (stays RegisterType.Undefined e refl (λ o b x. b))
+      by RegisterType.Int e = inl (stays RegisterType.Int e refl (λ o b x. b))
+      by (RegisterType.Owner T) e = inl (stays (RegisterType.Owner T) e refl (λ o b x. none r (subst (InClass constants class) b (ending o x))))
+      by (RegisterType.Reference c T) e = choose (same_class class c) refl
+        where
+          choose : (t : Bool) → same_class class c ≡ t → Remains constants Ends ks (ended class ks) s s' w w' r ⊎ Shown later w' r (known (ended class ks) r) (register s' r)
+          choose true g = inr (subst (λ z. Shown later w' r z (register s' r)) (sym (known_ended class ks r ∙ ap (without_class class) e ∙ ap (λ t. if t then RegisterType.Undefined else RegisterType.Reference c T) g))
+              (ap (λ (os : List Bool). slice_index_or os r false) owns ∙ unowned others types constants first allocator ks s w h r (ap is_owner e)))
+          choose false g = inl (stays (RegisterType.Reference c T) e (ap (λ t. if t then RegisterType.Undefined else RegisterType.Reference c T) g)
+              (λ o b x. origins_apart constants one class c o o g (ending o x) b refl))
+
+  registers_then : (new : List ℕ) → HasRegisters (with_image w new)
+  registers_then new = record { numbers = h.registers.numbers; positions = h.registers.positions; type_ids = h.registers.type_ids; owns = h.registers.owns }
+
+  -- what is known stays known, where no path ends
+  pub all_stays : (s' : State) (new : List ℕ) (later : Pictures others s' new) → KeepsRoots h.pictured later (λ o. ⊥) → KeepsFront w.image new → IsAsKnown types constants ks s' → s'.registers ≡ s.registers → SameBesides w (with_image w new) s s'
+      → (shows : Shows others types constants first allocator ks s' (with_image w new)) × (shows.pictured ≡ later)
+  all_stays s' new later keeps front as_known registers besides =
+      let each : (r : ℕ) → Remains constants (λ o. ⊥) ks ks s s' w (with_image w new) r ⊎ Shown later (with_image w new) r (known ks r) (register s' r) = λ r. inl (record {
+        known_is = refl;
+        register_is = ap (λ (rs : List Register). slice_index_or rs r Register.Undefined) registers;
+        number_is = refl;
+        place_is = refl;
+        owns_is = refl;
+        goes_on = λ o b x. x;
+      }) in (
+        shows_rooted h ks s' (with_image w new) later (λ o. ⊥) keeps front as_known h.sixteen (registers_then new) besides each,
+        pictured_rooted h ks s' (with_image w new) later (λ o. ⊥) keeps front as_known h.sixteen (registers_then new) besides each,
+      )
+
+  -- but for references of a class
+  pub all_but_class : (one : OneEach constants) (class : Class) (Ends : Origin → Type 0) → ((o : Origin) → Ends o → InClass constants class o) → ((r : ℕ) → InClass constants class (Origin.Owned r) → ⊥)
+      → (s' : State) (new : List ℕ) (later : Pictures others s' new) → KeepsRoots h.pictured later Ends → KeepsFront w.image new → IsAsKnown types constants (ended class ks) s' → s'.registers ≡ s.registers
+      → SameBesides w (with_image w new) s s' → Shows others types constants first allocator (ended class ks) s' (with_image w new)
+  all_but_class one class Ends ending none s' new later keeps front as_known registers besides =
+      shows_rooted h (ended class ks) s' (with_image w new) later Ends keeps front as_known (length-map ks (without_class class) ∙ h.sixteen) (registers_then new) besides
+      (class_ends one class Ends ending none s' (with_image w new) registers refl refl refl refl later)
+
+-- ---- a new object, or none
+
+module _ {others : List Root} {types : Table} {constants : List Constant} {first : Option (List ℕ)} {allocator : ℕ} {ks : RegisterTypes} {s : State} {w : World} (right : AreRight types constants)
+    (h : Shows others types constants first allocator ks s w) (a k T : ℕ) (bytes : List ℕ) (by : IsNamedBy (slice_get constants k) bytes) (below : T < length types) (within : a < 16) (free : is_owner (known ks a) ≡ false) (i : Instruction) (new : List ℕ) where
+  one : OneEach constants
+  one = one_each constants right.each right.different
+
+  abbrev pub object_then : ℕ → Object
+  object_then n = record { type = T; values = copies n (default_of s.types T) }
+
+  abbrev pub state_then : ℕ → State
+  state_then n = record s { names = with_name s.names bytes (Some (object_then n)) }
+
+  abbrev path : Path
+  path = path_from (Origin.Name bytes 0)
+
+  -- what is known goes on with the new object
+  known_then : (n : ℕ) → 1 ≤ n → root_named h.pictured.picture.names bytes ≡ None → IsAsKnown types constants ks (state_then n)
+  known_then n some missing =
+      let d = default_of s.types T in
+      let f = item_below types T below in
+      let fits = default_has s.types h.as_known.typed.forms T f.0 (h.as_known.same_types T f.0 f.1) in
+      agrees_make types constants one ks s bytes (object_then n) (h.pictured.names bytes ∙ ap (option_map object_of) missing) (all_copies s.types T n d fits) (positive n d some) h.as_known
+    where
+      positive : (m : ℕ) (d : Value) → 1 ≤ m → 0 < count (copies m d)
+      positive zero d some = absurd (omega (arith, some))
+      positive (suc m) d some = omega arith
+
+  pub made : (n at : ℕ) → 1 ≤ n → root_named h.pictured.picture.names bytes ≡ None → IsMade allocator w.image s.types bytes T h.pictured.picture h.pictured.held.index_blocks new n at
+      → outcome constants i true s ≡ refer a path (state_then n) → ChangesBlocks constants i h.pictured success new
+      → Acts others types constants first allocator i success (slice_set ks a (RegisterType.Reference (Class.Name k) T)) s w (with_place (with_image w new) a (record { at = at; type = T }))
+  made n at some missing m row blocks =
+      let root = object_root s.types bytes T n at in
+      let place : Place = record { at = at; type = T } in
+      let paths = all_paths w.image new h.pictured.picture h.pictured.held h.pictured.held.index_blocks m.kept (λ x. omega arith) in
+      let comes : Comes h.pictured new m.before root m.after m.names_are missing = named_comes h.pictured new m.before root m.after m.names_are missing m.held paths in
+      let known_now = known_then n some missing in
+      let shows = all_stays h (state_then n) new comes.later comes.keeps m.front known_now refl (record { table = refl; input = refl; read = refl; taken = refl; types = refl; state_input = refl; state_output = refl }) in
+      let some_value = first_of_many n (default_of s.types T) some in
+      let there : at_origin (state_then n) (Origin.Name bytes 0) ≡ Some (some_value.0, T) =
+      ap (λ (o : Option Object). o >>= λ y. nth y.values 0 >>= λ v. Some (v, y.type)) (name_there s.names bytes (Some (object_then n))) ∙ ap (λ (o : Option Value). o >>= λ v. Some (v, T)) some_value.1 in
+      let typed_so : LeadsToType (state_then n) path T = record {
+        value = some_value.0;
+        there = ap (λ (o : Option (Value × ℕ)). o >>= λ r. Some r.0) there;
+        typed = ap (λ (o : Option (Value × ℕ)). o >>= λ r. Some r.1) there;
+      } in
+      let table = comes.later.picture.table in
+      let led : LeadsInImage comes.later path place = record { root = root; item = 0; begins = comes.begins; leads = subst (λ p. Leads new table (item_of table root 0) [] p) (first_place table root at T refl refl) here } in
+      acts_so others types constants first allocator ks s w h i success true (slice_set ks a (RegisterType.Reference (Class.Name k) T)) (set_register (state_then n) a (Register.Reference path))
+      (with_place (with_image w new) a place) (row ∙ answer_is types constants ks (state_then n) known_now success a (Register.Reference path) free) blocks m.long m.front refl
+      (shows_reference others types constants first allocator ks (state_then n) (with_image w new) shows.0 a (Class.Name k) T path place within free by typed_so refl
+      (subst (λ p. LeadsInImage p path place) (sym shows.1) led))
+
+  pub not_made : (n code : ℕ) → code ≡ answer_number bad_alloc → IsDenied allocator w.image s.types bytes T h.pictured.picture h.pictured.held.index_blocks new n
+      → outcome constants i false s ≡ fail a bad_alloc s → ChangesBlocks constants i h.pictured bad_alloc new
+      → Acts others types constants first allocator i bad_alloc (slice_set ks a RegisterType.Int) s w (with_number (with_image w new) a (pos code))
+  not_made n code code_is d row blocks =
+      let paths = all_paths w.image new h.pictured.picture h.pictured.held [] (λ x some gone. d.kept x some) (λ x. omega arith) in
+      let stays : Stays h.pictured new = picture_stays h.pictured new d.held paths in
+      let shows = all_stays h s new stays.later stays.keeps d.front h.as_known refl (record { table = refl; input = refl; read = refl; taken = refl; types = refl; state_input = refl; state_output = refl }) in
+      let x : Register = Register.Int (pos 2) in
+      subst (λ m. Acts others types constants first allocator i bad_alloc (slice_set ks a RegisterType.Int) s w (with_number (with_image w new) a (pos m))) (sym code_is)
+      (acts_so others types constants first allocator ks s w h i bad_alloc false (slice_set ks a RegisterType.Int) (set_register s a x) (with_number (with_image w new) a (pos 2))
+      (row ∙ answer_is types constants ks s h.as_known bad_alloc a x free) blocks d.long d.front refl
+      (shows_number others types constants first allocator ks s (with_image w new) shows.0 a (pos 2) within free))
+
+  -- a code for which nothing changed
+  pub refused : (answer : Answer) (code : ℕ) → code ≡ answer_number answer → new ≡ w.image → outcome constants i true s ≡ fail a answer s → ChangesBlocks constants i h.pictured answer w.image
+      → Acts others types constants first allocator i answer (slice_set ks a RegisterType.Int) s w (with_number (with_image w new) a (pos code))
+  refused answer code code_is same row blocks =
+      subst (λ m. Acts others types constants first allocator i answer (slice_set ks a RegisterType.Int) s w (with_number (with_image w new) a (pos m))) (sym code_is)
+      (subst (λ z. Acts others types constants first allocator i answer (slice_set ks a RegisterType.Int) s w (with_number (with_image w z) a (pos (answer_number answer)))) (sym same)
+      (refuses_with others types constants first allocator ks s w h i answer true a within free row blocks))
