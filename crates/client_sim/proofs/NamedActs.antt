@@ -417,14 +417,15 @@ module _ (allocator : ℕ) (constants : List Constant) (role : Role) (a b c : �
   -- there was none to be, or there was one, or no room
   abbrev pub RefusesToMake : (code : ℕ) (picture : Picture) (index_blocks new : List ℕ) → Type 0
   RefusesToMake code picture index_blocks new =
-      ((code ≡ answer_number out_of_range) × (new ≡ w.image) × (IsName bytes → (n : ℕ) → 1 ≤ n → n ≤ 65535 → wanted ≢ pos n))
+      ((code ≡ answer_number out_of_range) × (new ≡ w.image) × (((n : ℕ) → 1 ≤ n → n ≤ 65535 → wanted ≢ pos n)
+      ⊎ ((mag (number_in w b) < 2 ^ 63) × (IsName bytes → (n : ℕ) → 1 ≤ n → n ≤ 65535 → wanted ≢ pos n))))
       ⊎ (((n : ℕ) × (wanted ≡ pos n) × (1 ≤ n) × (n ≤ 65535) × (code ≡ answer_number already_exists) × (new ≡ w.image) × ((root : Root) × (root_named picture.names bytes ≡ Some root)))
       ⊎ ((n : ℕ) × (wanted ≡ pos n) × (1 ≤ n) × (n ≤ 65535) × (code ≡ answer_number bad_alloc) × (root_named picture.names bytes ≡ None) × IsDenied allocator w.image w.table bytes T picture index_blocks new n))
 
-  pub make_refused : (new : List ℕ) (code : ℕ) → mag (number_in w b) < 2 ^ 63 → OfHeld allocator w (λ p held. T < length w.table → RefusesToMake code p held.index_blocks new)
+  pub make_refused : (new : List ℕ) (code : ℕ) → OfHeld allocator w (λ p held. T < length w.table → RefusesToMake code p held.index_blocks new)
       → IsRefusedAs allocator constants role (on Operation.Make) w (with_number (with_image w new) a (pos code))
   unfolding rule
-  make_refused new code small says = λ types others first ks good bad s right valid e h.
+  make_refused new code says = λ types others first ks good bad s right valid e h.
       let i = on Operation.Make in
       let t = type_operand number in
       let p = bind_ok (name_needed (slice_get constants k) (known ks b)) (λ _. typed.◌>>=◌ (integer_or_none c ks) (λ _. opens a (RegisterType.Reference (Class.Name k) t) ks)) (good, bad) e in
@@ -436,11 +437,12 @@ module _ (allocator : ℕ) (constants : List Constant) (role : Role) (a b c : �
       let after = λ (o : Option ℕ) (room : Bool). option_map_or (λ n. add_object a bytes T (s.names bytes) n room s) o (fail a out_of_range s) in
       let bad_is = λ (answer : Answer) (x : Acts others types constants first allocator i answer (slice_set ks a RegisterType.Int) s w (with_number (with_image w new) a (pos code))). subst (λ z. Acts others types constants first allocator i answer z s w (with_number (with_image w new) a (pos code))) (sym g.2) x in
       elim (of_held h (λ p held. T < length w.table → RefusesToMake code p held.index_blocks new) says (in_table h right n.below)) [
-        | inl f ↦ (
+        | inl f ↦
+            let none : (m : ℕ) → 1 ≤ m → m ≤ 65535 → wanted ≢ pos m = elim f.2 [ inl x ↦ x | inr x ↦ x.1 (name_right n.constant (number_in w b) bytes n.is_constant x.0 n.shown) ] in (
           out_of_range,
-          λ q. cc,
+          (λ q. cc),
           bad_is out_of_range (refused right h a k T bytes n.by n.below valid.a g.0 i new out_of_range code f.0 f.1
-              (row true ∙ ap (λ o. after o true) (uncounted wanted (f.2 (name_right n.constant (number_in w b) bytes n.is_constant small n.shown)))) refl),
+              (row true ∙ ap (λ o. after o true) (uncounted wanted none)) refl),
         )
         | inr (inl f) ↦ (
           already_exists,
