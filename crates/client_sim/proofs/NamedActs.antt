@@ -1,22 +1,22 @@
 -- Named objects that are made, or found or made, and those that are destroyed, whatever state the world stands for.
-use Rattle.std.proofs.Common.{◌≡◌, ◌≢◌, ℕ, zero, suc, ◌+◌, ◌^◌, ◌<◌, ◌≤◌, ◌⊎◌, inl, inr, ℤ, pos, negsuc, List, [], ◌∷◌, ◌++◌, length, Bool, true, false, Option, Some, None, refl, sym, ◌∙◌, ap, subst, arith}
+use Rattle.std.proofs.Common.{◌≡◌, ◌≢◌, ℕ, zero, suc, ◌^◌, ◌<◌, ◌≤◌, ◌⊎◌, inl, inr, ℤ, pos, negsuc, List, [], ◌∷◌, ◌++◌, length, Bool, true, false, Option, Some, None, refl, sym, ◌∙◌, ap, subst, arith}
 use Rattle.std.specs.Prelude.{◌/◌, ◌%◌, ◌==◌, ◌&&◌, ⊤, Ok, if◌then◌else◌, option_map, slice_get, slice_set, slice_index_or, nat_lt, nat_le, unwrap_or}
 use Rattle.std.specs.Option.{option_map_or}
 use Rattle.std.specs.Int.Signed.{mag}
-use Rattle.std.proofs.lemmas.Bool.{eqb-true, eq-eqb, lt-ltb, ltb-true, le-leb, leb-true}
+use Rattle.std.proofs.lemmas.Bool.{eq-eqb, lt-ltb, ltb-true, le-leb, leb-true}
 use Rattle.std.proofs.lemmas.Option.{slice_get_within}
 use Rattle.std.proofs.lemmas.List.{length-map}
 use Rattle.seg_spec.specs.Bytes.{word}
 use Rattle.seg_spec.specs.Header.{allocator_word, index_kind_word, KeepsFront}
 use Rattle.seg_spec.specs.Types.{Table}
-use Rattle.seg_spec.specs.Value.{Value, Values, nil, cons, nth, count, copies, default_of}
+use Rattle.seg_spec.specs.Value.{Value, nth, count, copies, default_of}
 use Rattle.seg_spec.specs.Heap.{live}
 use Rattle.seg_spec.specs.Block.{KeepsBlock}
 use Rattle.seg_spec.specs.Index.{Root, IsName, root_named}
 use Rattle.seg_spec.specs.Reads.{Place, Leads, here}
 use Rattle.seg_spec.specs.Sound.{Picture, IsHeld, HoldsRoot, times, positions}
 use Rattle.seg_spec.specs.Roots.{Listed, with_roots, item_of}
-use Rattle.seg_spec.specs.Demand.{Ask, NoRoom, after_gives}
+use Rattle.seg_spec.specs.Demand.{NoRoom, after_gives}
 use Rattle.seg_spec.specs.Spending.{object_asks, spent, EntryBlocks, killed}
 use Rattle.seg_spec.proofs.LiveLaws.{times-append}
 use Rattle.client_spec.specs.declared.table.Operation.{Operation}
@@ -38,14 +38,14 @@ use Rattle.client_spec.proofs.FirstRows.{bind_ok, opens_ok, answer_is, item_belo
 use Rattle.client_spec.proofs.Shapes.{all_copies}
 use Rattle.client_spec.proofs.Spelled.{one_each}
 use Rattle.client_spec.proofs.States.{name_there}
-use Rattle.client_sim.specs.Shows.{World, number_in, place_in, owns_in, HasRegisters, Shown, Shows, Acts}
+use Rattle.client_sim.specs.Shows.{World, number_in, HasRegisters, Shown, Shows, Acts}
 use Rattle.client_sim.specs.Acting.{AreRight, ActsAs, IsRefusedAs}
 use Rattle.client_sim.proofs.Answering.{with_place, acts_so, shows_reference, shows_number, refuses_with}
 use Rattle.client_sim.proofs.Finding.{IsNameFor, name_at, first_place}
 use Rattle.client_sim.proofs.Granting.{grants_spent}
 use Rattle.client_sim.proofs.LeafPuts.{with_image}
 use Rattle.client_sim.proofs.NameBytes.{name_right}
-use Rattle.client_sim.proofs.Naming.{Comes, Goes, Stays, EndsAt, named_comes, named_goes, picture_stays}
+use Rattle.client_sim.proofs.Naming.{Comes, Goes, Stays, named_comes, named_goes, picture_stays}
 use Rattle.client_sim.proofs.Numbers.{with_number, quiet, gives_both, number_shown, unowned}
 use Rattle.client_sim.proofs.Rooted.{BeginsFrom, KeepsRoots, Remains, SameBesides, all_paths, other_paths, shows_rooted, pictured_rooted}
 
@@ -187,8 +187,8 @@ module _ {others : List Root} {types : Table} {constants : List Constant} {first
   registers_then new = record { numbers = h.registers.numbers; positions = h.registers.positions; type_ids = h.registers.type_ids; owns = h.registers.owns }
 
   -- what is known stays known, where no path ends
-  pub all_stays : (s' : State) (new : List ℕ) (later : Pictures others s' new) → KeepsRoots h.pictured later (λ o. ⊥) → KeepsFront w.image new → IsAsKnown types constants ks s' → s'.registers ≡ s.registers → SameBesides w (with_image w new) s s'
-      → (shows : Shows others types constants first allocator ks s' (with_image w new)) × (shows.pictured ≡ later)
+  pub all_stays : (s' : State) (new : List ℕ) (later : Pictures others s' new) → KeepsRoots h.pictured later (λ o. ⊥) → KeepsFront w.image new → IsAsKnown types constants ks s' → s'.registers ≡ s.registers
+      → SameBesides w (with_image w new) s s' → (shows : Shows others types constants first allocator ks s' (with_image w new)) × (shows.pictured ≡ later)
   all_stays s' new later keeps front as_known registers besides =
       let each : (r : ℕ) → Remains constants (λ o. ⊥) ks ks s s' w (with_image w new) r ⊎ Shown later (with_image w new) r (known ks r) (register s' r) = λ r. inl (record {
         known_is = refl;
@@ -213,7 +213,8 @@ module _ {others : List Root} {types : Table} {constants : List Constant} {first
 -- ---- a new object, or none
 
 module _ {others : List Root} {types : Table} {constants : List Constant} {first : Option (List ℕ)} {allocator : ℕ} {ks : RegisterTypes} {s : State} {w : World} (right : AreRight types constants)
-    (h : Shows others types constants first allocator ks s w) (a k T : ℕ) (bytes : List ℕ) (by : IsNamedBy (slice_get constants k) bytes) (below : T < length types) (within : a < 16) (free : is_owner (known ks a) ≡ false) (i : Instruction) (new : List ℕ) where
+    (h : Shows others types constants first allocator ks s w) (a k T : ℕ) (bytes : List ℕ) (by : IsNamedBy (slice_get constants k) bytes) (below : T < length types) (within : a < 16)
+    (free : is_owner (known ks a) ≡ false) (i : Instruction) (new : List ℕ) where
   one : OneEach constants
   one = one_each constants right.each right.different
 
@@ -435,7 +436,8 @@ module _ (allocator : ℕ) (constants : List Constant) (role : Role) (a b c : �
       let index = wanted_shown others types first ks s h q.0 q.1 in
       let row = λ (room : Bool). make_row s room n.name_is n.type_is index in
       let after = λ (o : Option ℕ) (room : Bool). option_map_or (λ n. add_object a bytes T (s.names bytes) n room s) o (fail a out_of_range s) in
-      let bad_is = λ (answer : Answer) (x : Acts others types constants first allocator i answer (slice_set ks a RegisterType.Int) s w (with_number (with_image w new) a (pos code))). subst (λ z. Acts others types constants first allocator i answer z s w (with_number (with_image w new) a (pos code))) (sym g.2) x in
+      let bad_is = λ (answer : Answer) (x : Acts others types constants first allocator i answer (slice_set ks a RegisterType.Int) s w (with_number (with_image w new) a (pos code))).
+      subst (λ z. Acts others types constants first allocator i answer z s w (with_number (with_image w new) a (pos code))) (sym g.2) x in
       elim (of_held h (λ p held. T < length w.table → RefusesToMake code p held.index_blocks new) says (in_table h right n.below)) [
         | inl f ↦
             let none : (m : ℕ) → 1 ≤ m → m ≤ 65535 → wanted ≢ pos m = elim f.2 [ inl x ↦ x | inr x ↦ x.1 (name_right n.constant (number_in w b) bytes n.is_constant x.0 n.shown) ] in (
@@ -548,8 +550,8 @@ module _ (allocator : ℕ) (constants : List Constant) (role : Role) (a b c : �
       let g = opens_ok types constants ks s h.as_known a (RegisterType.Reference (Class.Name k) t) good bad p.2 in
       let n = name_at allocator constants role a b c number w T bytes names named right valid.number h p.0 p.1 in
       let row = λ (room : Bool). find_or_row s room n.name_is n.type_is in
-      let bad_is = λ (answer : Answer) (x : Acts others types constants first allocator i answer (slice_set ks a RegisterType.Int) s w (with_number (with_image w new) a (pos code))). subst
-      (λ z. Acts others types constants first allocator i answer z s w (with_number (with_image w new) a (pos code))) (sym g.2) x in
+      let bad_is = λ (answer : Answer) (x : Acts others types constants first allocator i answer (slice_set ks a RegisterType.Int) s w (with_number (with_image w new) a (pos code))).
+      subst (λ z. Acts others types constants first allocator i answer z s w (with_number (with_image w new) a (pos code))) (sym g.2) x in
       elim (of_held h (λ p held. T < length w.table → RefusesToFind code p held.index_blocks new) says (in_table h right n.below)) [
         | inl f ↦ absurd (f (name_right n.constant (number_in w b) bytes n.is_constant small n.shown))
         | inr (inl f) ↦ (

@@ -1,11 +1,11 @@
 -- A named object comes or goes: the image pictures the state with the name more or less, and paths from all other roots lead on.
-use Rattle.std.proofs.Common.{◌≡◌, ℕ, zero, suc, ◌<◌, ◌⊎◌, inl, inr, Bool, true, false, List, [], ◌∷◌, ◌++◌, map, Option, Some, None, refl, sym, ◌∙◌, ap, subst, arith, append_assoc}
-use Rattle.std.specs.Prelude.{◌==◌, ◌&&◌, if◌then◌else◌, option_map}
+use Rattle.std.proofs.Common.{◌≡◌, ℕ, ◌⊎◌, inl, inr, Bool, true, false, List, [], ◌∷◌, ◌++◌, map, Option, Some, None, refl, sym, ◌∙◌, ap, subst, arith, append_assoc}
+use Rattle.std.specs.Prelude.{if◌then◌else◌, option_map}
 use Rattle.std.specs.List.{AllByRecursion}
 use Rattle.seg_spec.specs.Index.{Root, Precedes, AreAscending, same_name, root_named, root_of_type}
 use Rattle.seg_spec.specs.Sound.{IsHeld, roots_of}
 use Rattle.seg_spec.specs.Roots.{Listed, with_roots, KeepsPaths}
-use Rattle.client_spec.specs.Machine.{Origin, Object, State, with_name}
+use Rattle.client_spec.specs.Machine.{Origin, State, with_name}
 use Rattle.client_spec.specs.Pictures.{Pictures, object_of, root_at, root_of_register}
 use Rattle.client_spec.proofs.States.{same_name_is, same_name_refl}
 use Rattle.client_sim.proofs.FirstRoots.{Among, among_left, among_right, first_of, first_split, first_among, first_here, first_beside, is_named, is_of_type, named_first, typed_first, each_among}
