@@ -28,3 +28,6 @@ pub mod Clearing
 pub mod Shrinking
 pub mod ItemsAt
 pub mod Rooted
+pub mod Naming
+pub mod NameBytes
+pub mod NamedActs

@@ -10,4 +10,4 @@ returns-clause-does g c =
       | in-Ok w ↦ count_found c.find.result c.match-find.count w.in-Ok.object _ w.from.result w.in-Ok.is w.count-is (search rules) w.from.ensures
       | in-Err w ↦ count_code c.find.result c.match-find.count w.in-Err.code w.in-Err.is w.count-is
     ])
-    c.try_give.ensures.gives c.type_id.ensures.before (named_same c.args.self.now c.args.i.now c.name.result.items c.as_slice.result.now c.as_slice.ensures.value c.name.ensures) c.find.ensures
+    c.try_give.ensures.gives c.type_id.ensures.before (named_same c.args.self.now c.args.i.now c.name.result.items c.as_slice.result.now c.as_slice.ensures.value c.name.ensures.named) c.find.ensures
