@@ -1,5 +1,6 @@
 pub mod FirstRoots
 pub mod OwnedRoots
+pub mod Looks
 pub mod RootPuts
 pub mod Placed
 pub mod Giving
