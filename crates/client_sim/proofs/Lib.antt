@@ -29,3 +29,4 @@ pub mod Clearing
 pub mod Shrinking
 pub mod ItemsAt
 pub mod Rooted
+pub mod MovedPlaces
