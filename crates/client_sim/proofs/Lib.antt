@@ -28,3 +28,4 @@ pub mod Clearing
 pub mod Shrinking
 pub mod ItemsAt
 pub mod Rooted
+pub mod Owning
