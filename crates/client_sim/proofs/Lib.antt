@@ -30,3 +30,4 @@ pub mod Shrinking
 pub mod ItemsAt
 pub mod Rooted
 pub mod MovedPlaces
+pub mod Owning
