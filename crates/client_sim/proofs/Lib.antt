@@ -31,3 +31,5 @@ pub mod ItemsAt
 pub mod Rooted
 pub mod MovedPlaces
 pub mod Owning
+pub mod OwnedLooks
+pub mod MovingOwned
