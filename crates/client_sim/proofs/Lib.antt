@@ -33,3 +33,4 @@ pub mod MovedPlaces
 pub mod Owning
 pub mod OwnedLooks
 pub mod MovingOwned
+pub mod MovingShows

@@ -29,22 +29,22 @@ use Rattle.client_sim.proofs.MovedPlaces.{Moves, goes_beside, comes_beside, move
 
 -- ---- a put beside a register that owns nothing any more
 
-set_order : {A : Type 0} (xs : List A) (i j : ℕ) (x y : A) → i ≢ j → slice_set (slice_set xs i x) j y ≡ slice_set (slice_set xs j y) i x
+pub set_order : {A : Type 0} (xs : List A) (i j : ℕ) (x y : A) → i ≢ j → slice_set (slice_set xs i x) j y ≡ slice_set (slice_set xs j y) i x
 set_order [] i j x y far = refl
 set_order (z ∷ xs) zero zero x y far = absurd (far refl)
 set_order (z ∷ xs) zero (suc j) x y far = refl
 set_order (z ∷ xs) (suc i) zero x y far = refl
 set_order (z ∷ xs) (suc i) (suc j) x y far = ap (λ ys. z ∷ ys) (set_order xs i j x y (λ e. far (ap suc e)))
 
-register_beside : (s : State) (c q : ℕ) (x : Register) → c ≢ q → register (set_register s c x) q ≡ register s q
+pub register_beside : (s : State) (c q : ℕ) (x : Register) → c ≢ q → register (set_register s c x) q ≡ register s q
 register_beside s c q x far = elim (register_set s c q x) [ inl p ↦ absurd (far p.1) | inr p ↦ p ]
 
-origin_beside : (s : State) (c : ℕ) (x : Register) (o : Origin) → o ≢ Origin.Owned c → at_origin (set_register s c x) o ≡ at_origin s o
+pub origin_beside : (s : State) (c : ℕ) (x : Register) (o : Origin) → o ≢ Origin.Owned c → at_origin (set_register s c x) o ≡ at_origin s o
 origin_beside s c x (Origin.Name name i) far = refl
 origin_beside s c x (Origin.Unique t) far = refl
 origin_beside s c x (Origin.Owned q) far = ap owned_by (register_beside s c q x (λ e. far (ap Origin.Owned (sym e))))
 
-put_order : (s : State) (c : ℕ) (x : Register) (o : Origin) (v : Value) → o ≢ Origin.Owned c → put_origin (set_register s c x) o v ≡ set_register (put_origin s o v) c x
+pub put_order : (s : State) (c : ℕ) (x : Register) (o : Origin) (v : Value) → o ≢ Origin.Owned c → put_origin (set_register s c x) o v ≡ set_register (put_origin s o v) c x
 put_order s c x (Origin.Name name i) v far = go (s.names name)
   where
     go : (o : Option Object)
