@@ -34,3 +34,5 @@ pub mod Owning
 pub mod OwnedLooks
 pub mod MovingOwned
 pub mod MovingShows
+pub mod OwnedObjects
+pub mod Putting
