@@ -23,7 +23,7 @@ use Rattle.client_spec.specs.Effect.{outcome, effect}
 use Rattle.client_spec.specs.Shape.{HasShape}
 use Rattle.client_spec.specs.Asks.{GrantsAsks, LedTo}
 use Rattle.client_spec.specs.Meaning.{InClass}
-use Rattle.client_spec.specs.Typed.{Class, RegisterType, Reason, RegisterTypes, known, same_class, owner_needed, required, known_after, ended, others_ended, rule}
+use Rattle.client_spec.specs.Typed.{Class, RegisterType, Reason, RegisterTypes, known, same_class, owner_needed, required, known_after, without_class, ended, others_ended, rule}
 use Rattle.client_spec.specs.Typed as typed
 use Rattle.client_spec.proofs.Cases.{own_value, own_fits, not_is, required_is}
 use Rattle.client_spec.proofs.Changes.{agrees_release}
@@ -64,11 +64,25 @@ module _ (allocator : ℕ) (constants : List Constant) (role : Role) (a b c : �
       → owned_by (register s c) ≡ Some (new_value, U) → path_value s p ≡ Some old → content_in old ≡ Some inside → begins_at c p.origin ≡ false
       → outcome constants put true s ≡ Some (success, set_register (put_at s p (Full new_value)) c Register.Undefined)
   unfolding effect
-  put_row s p form U old new_value inside path_is form_is own_is owned there content far = ?
+  put_row s p form U old new_value inside path_is form_is own_is owned there content far =
+      let last = λ (p : Path) (t : ℕ) (n : Value × ℕ). provided (t == n.1 && not (begins_at c p.origin)) (proceed (set_register (put_at s p (Full n.0)) c Register.Undefined)) in
+      let test : (U == U && not (begins_at c p.origin)) ≡ true = ap (λ x. x && not (begins_at c p.origin)) (eq-eqb U U refl) ∙ ap not far in
+      ap (λ o. o >>= λ p. (path_form s p >>= owned_type) >>= λ t. owned_by (register s c) >>= λ n. (path_value s p >>= content_in) >>= λ _. last p t n) path_is
+      ∙ ap (λ o. (o >>= owned_type) >>= λ t. owned_by (register s c) >>= λ n. (path_value s p >>= content_in) >>= λ _. last p t n) form_is
+      ∙ ap (λ o. o >>= λ t. owned_by (register s c) >>= λ n. (path_value s p >>= content_in) >>= λ _. last p t n) own_is
+      ∙ ap (λ o. o >>= λ n. (path_value s p >>= content_in) >>= λ _. last p U n) owned
+      ∙ ap (λ o. (o >>= content_in) >>= λ _. last p U (new_value, U)) there
+      ∙ ap (λ o. o >>= λ _. last p U (new_value, U)) content
+      ∙ ap (λ t. provided t (proceed (set_register (put_at s p (Full new_value)) c Register.Undefined))) test
 
-  pub put_acts : ((U : ℕ) (v x : Value) (blocks inside : List ℕ) → form_at w.table (place_in w b).type ≡ Some (Form.own U) → (stands : Stands allocator w.image w.table (place_in w b) v blocks)
-      → IsLoose w.image w.table (record { at = (place_in w c).at; type = U }) x inside → AreLive w.image (stands.home ∷ (blocks ++ block_of (place_in w c).at ∷ inside))
-      → ChangesPlace w.image new w.table (place_in w b) (Full x) (block_of (place_in w c).at ∷ inside) (after_gives (live w.image) blocks) blocks [])
+  -- what the call makes of an own that stands at register b's place, with the object that stands at that of register c
+  abbrev pub PutsOwn : Table → Type 0
+  PutsOwn table =
+      (U : ℕ) (v x : Value) (blocks inside : List ℕ) → form_at table (place_in w b).type ≡ Some (Form.own U) → (stands : Stands allocator w.image table (place_in w b) v blocks)
+      → IsLoose w.image table (record { at = (place_in w c).at; type = U }) x inside → AreLive w.image (stands.home ∷ (blocks ++ block_of (place_in w c).at ∷ inside))
+      → ChangesPlace w.image new table (place_in w b) (Full x) (block_of (place_in w c).at ∷ inside) (after_gives (live w.image) blocks) blocks []
+
+  pub put_acts : PutsOwn w.table
       → ActsAs allocator constants role put w (with_owner w new c false w.positions w.type_ids)
   unfolding rule
   put_acts call types others first ks good bad s right valid e h =
@@ -90,6 +104,36 @@ module _ (allocator : ℕ) (constants : List Constant) (role : Role) (a b c : �
       let table : w.table ≡ h.pictured.picture.table = h.table_is ∙ sym h.pictured.types in
       let stands = subst (λ (t : Table). Stands allocator w.image t (place_in w b) l.value l.found.blocks) table l.stands in
       let apart = owns_apart h c r.what o l.in_image l.found far stands in
-      let changes = ? in
+      let picture_table = h.pictured.picture.table in
+      let form : form_at picture_table (place_in w b).type ≡ Some (Form.own r.what) =
+          subst (λ (t : Table). form_at t (place_in w b).type ≡ Some (Form.own r.what)) table (r.form_is ∙ ap Some (own_is r.form r.what r.is)) in
+      let loose = subst (λ n. IsLoose w.image picture_table (record { at = n; type = r.what }) o.value apart.0) (sym o.at_is)
+          (subst (λ t. IsLoose w.image picture_table (record { at = o.root.at; type = t }) o.value apart.0) o.type_is apart.2) in
+      let alive = subst (λ n. AreLive w.image (stands.home ∷ (l.found.blocks ++ block_of n ∷ apart.0))) (sym o.at_is) apart.3 in
+      let changes : ChangesPlace w.image new picture_table (place_in w b) (Full o.value) (block_of o.root.at ∷ apart.0) (after_gives (live w.image) l.found.blocks) l.found.blocks [] =
+          subst (λ n. ChangesPlace w.image new picture_table (place_in w b) (Full o.value) (block_of n ∷ apart.0) (after_gives (live w.image) l.found.blocks) l.found.blocks []) o.at_is
+          (subst PutsOwn table call r.what l.value o.value l.found.blocks apart.0 form stands loose alive) in
       let moved = put_moves h.pictured l.in_image l.value l.found new (Full o.value) c o.root (block_of o.root.at ∷ apart.0) far o.root_is apart.1 changes in
-      ?
+      let fits : HasShape s.types r.type (Full o.value) =
+          value_of_form s.types r.type r.form (Full o.value) r.machine_form ((own_fits s.types r.form r.what r.is).1 o.value (h.as_known.typed.owned c o.value r.what o.register_is)) in
+      let sixteen : length ks' ≡ 16 = length-map after (without_class (Class.Register c)) ∙ length_set (ended r.class ks) b (known ks b) ∙ length-map ks (without_class r.class) ∙ h.sixteen in
+      let owns_none : owns_in (with_owner w new c false w.positions w.type_ids) c ≡ false = set_there w.owns c false false (let n = h.registers.owns in omega (arith, n, valid.c)) in
+      let shows = shows_moved one h b r.class r.type r.known_as l (Full o.value) fits new c Register.Undefined (λ o. o ≡ Origin.Owned c) moved RegisterType.Undefined ks' false w.positions w.type_ids valid.c sixteen
+          h.registers.positions h.registers.type_ids (λ n far. refl) changes.front_kept
+          (agrees_release types constants one after (put_at s l.path (Full o.value)) c (put_known one h b r.class r.type r.known_as l (Full o.value) fits new c Register.Undefined (λ o. o ≡ Origin.Owned c) moved))
+          (stays_released one h b r.class r.type r.known_as l (Full o.value) fits new c Register.Undefined (λ o. o ≡ Origin.Owned c) moved (λ o e. e)) owns_none in
+      let content : (x : Option Value) × (content_in l.value ≡ Some x) = elim (own_value s.types r.form l.value r.what r.is r.fits) [ inl none ↦ (None, none) | inr some ↦ (Some some.0, ap content_in some.1) ] in
+      let row = put_row s l.path r.form r.what l.value o.value content.0 r.path_is r.path_form_is r.is (ap owned_by o.register_is) l.there content.1 (begins_elsewhere c l.path.origin far) in
+      let held : Holds w.image s.types (place_in w b) l.value l.found.blocks = subst (λ (t : Table). Holds w.image t (place_in w b) l.value l.found.blocks) h.table_is l.stands.holds_it in
+      let blocks : GrantsAsks constants put h.pictured new = record {
+        asks = [];
+        asked = refl;
+        gives = l.found.blocks;
+        returned = (place_in w b, r.form, led_to one h put r, (l.value, held));
+        blocks = live w.image;
+        granted = refl;
+        left = changes.live_is;
+      } in
+      subst (λ k. Acts others types constants first allocator put success k s w (with_owner w new c false w.positions w.type_ids)) (ap (λ (k : RegisterTypes × RegisterTypes). k.0) pair)
+      (acts_so others types constants first allocator ks s w h put success true (slice_set ks' c RegisterType.Undefined) (set_register (put_at s l.path (Full o.value)) c Register.Undefined)
+      (with_owner w new c false w.positions w.type_ids) row blocks changes.length_kept changes.front_kept refl shows)
