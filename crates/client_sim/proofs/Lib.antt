@@ -36,3 +36,4 @@ pub mod MovingOwned
 pub mod MovingShows
 pub mod OwnedObjects
 pub mod Putting
+pub mod Taking

@@ -36,6 +36,10 @@ no_bytes : (bytes : List ℕ) (at : ℕ) → slice bytes at 0 ≡ []
 unfolding slice
 no_bytes bytes at = refl
 
+-- the root of a loose object
+abbrev pub root_of : Place → Value → Root
+root_of object v = record { name = []; at = object.at; type = object.type; values = cons v nil }
+
 module _ (bytes : List ℕ) (table : Table) where
   only_value : (place : Place) (v : Value) (xs : List ℕ) → HoldsEach bytes table (place ∷ []) (cons v nil) xs → Holds bytes table place v xs
   only_value place v xs (holds_more {blocks = mine} h holds_none) = rw (append-nil mine) h
@@ -50,10 +54,6 @@ module _ (bytes : List ℕ) (table : Table) where
         h.blocks_are,
         record { block = block; holds_it = only_value (record { at = root.at; type = root.type }) v h.inside each; owned = λ n. let l = owned n in rw h.blocks_are at l },
       )
-
-  -- the root of a loose object
-  abbrev pub root_of : Place → Value → Root
-  root_of object v = record { name = []; at = object.at; type = object.type; values = cons v nil }
 
   pub root_of_loose : (object : Place) (v : Value) (inside : List ℕ) → IsLoose bytes table object v inside → HoldsRoot bytes table (root_of object v) (block_of object.at ∷ inside)
   root_of_loose object v inside h =

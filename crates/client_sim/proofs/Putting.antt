@@ -52,7 +52,7 @@ begins_elsewhere c (Origin.Owned q) far = choose (c == q) refl
     choose true e = absurd (far (ap Origin.Owned (sym (eqb-true c q e))))
     choose false e = refl
 
-own_is : (form : Form) (U : ℕ) → owned_type form ≡ Some U → form ≡ Form.own U
+pub own_is : (form : Form) (U : ℕ) → owned_type form ≡ Some U → form ≡ Form.own U
 own_is (Form.own V) U e = ap Form.own (let same : V ≡ U = cc in same)
 own_is form U e = cc
 
