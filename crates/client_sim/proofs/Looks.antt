@@ -1,5 +1,5 @@
 -- What an image pictures of a state, without the bytes that hold it: so objects may move in steps, of which only the last is in the image.
-use Rattle.std.proofs.Common.{◌≡◌, ℕ, List, ◌++◌, Option, Some, refl, sym, ◌∙◌}
+use Rattle.std.proofs.Common.{◌≡◌, ℕ, List, ◌++◌, Option, refl}
 use Rattle.std.specs.Prelude.{option_map}
 use Rattle.seg_spec.specs.Index.{Root, root_named, root_of_type}
 use Rattle.seg_spec.specs.Sound.{Picture, IsHeld}

@@ -1,14 +1,14 @@
 -- A call on a place inside one root where a loose object comes or goes: the image holds the roots then, and paths beside the place lead where they led.
-use Rattle.std.proofs.Common.{◌≡◌, ◌≢◌, ℕ, ◌+◌, ◌*◌, ◌<◌, ◌≤◌, ◌⊎◌, inl, inr, List, [], ◌∷◌, ◌++◌, refl, sym, ◌∙◌, ap, subst, append_assoc, arith}
+use Rattle.std.proofs.Common.{◌≡◌, ℕ, ◌+◌, ◌<◌, ◌≤◌, ◌⊎◌, inl, inr, List, [], ◌∷◌, ◌++◌, refl, sym, ◌∙◌, ap, subst, append_assoc, arith}
 use Rattle.std.proofs.lemmas.Bool.{cases_eq}
 use Rattle.std.specs.List.{AllByRecursion}
 use Rattle.seg_spec.specs.Bytes.{word}
 use Rattle.seg_spec.specs.Header.{allocator_word}
 use Rattle.seg_spec.specs.Types.{size}
 use Rattle.seg_spec.specs.Value.{Value, count, Selector, with_value_at}
-use Rattle.seg_spec.specs.Heap.{Span, live, units_at}
+use Rattle.seg_spec.specs.Heap.{Span, live}
 use Rattle.seg_spec.specs.Block.{KeepsBlock}
-use Rattle.seg_spec.specs.Apart.{Separate, BlocksApart, KeepsBlockAround}
+use Rattle.seg_spec.specs.Apart.{BlocksApart, KeepsBlockAround}
 use Rattle.seg_spec.specs.Index.{Root}
 use Rattle.seg_spec.specs.Reads.{Place, Holds, Leads}
 use Rattle.seg_spec.specs.Sound.{Picture, roots_of, HoldsRoot, HoldsRoots, IsLaidOut, IsHeld, times, positions}

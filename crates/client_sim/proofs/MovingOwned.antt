@@ -1,18 +1,17 @@
 -- An own takes the object that a register owns, or a register what an own held: the image pictures the state then, and paths that still begin somewhere lead where they led.
-use Rattle.std.proofs.Common.{◌≡◌, ◌≢◌, ℕ, zero, suc, ◌+◌, ◌<◌, ◌≤◌, ◌⊎◌, inl, inr, List, [], ◌∷◌, ◌++◌, length, Option, Some, None, refl, sym, ◌∙◌, ap, subst, arith}
+use Rattle.std.proofs.Common.{◌≡◌, ◌≢◌, ℕ, zero, suc, ◌<◌, ◌⊎◌, inl, inr, List, [], ◌∷◌, ◌++◌, length, Option, Some, None, refl, sym, ◌∙◌, ap, subst, arith}
 use Rattle.std.proofs.lemmas.List.{append-nil}
-use Rattle.std.specs.Prelude.{slice_set, slice_index_or}
+use Rattle.std.specs.Prelude.{slice_set}
 use Rattle.std.specs.Option.{option_map_or}
 use Rattle.std.specs.List.{AllByRecursion}
 use Rattle.seg_spec.specs.Types.{Table}
 use Rattle.seg_spec.specs.Value.{Value, nil, cons, count, Selector, with_value_at}
-use Rattle.seg_spec.specs.Heap.{Span, live}
-use Rattle.seg_spec.specs.Block.{block_of}
-use Rattle.seg_spec.specs.Apart.{GoesOnAfter, KeepsBlockAround}
+use Rattle.seg_spec.specs.Heap.{Span}
+use Rattle.seg_spec.specs.Apart.{GoesOnAfter}
 use Rattle.seg_spec.specs.Index.{Root}
 use Rattle.seg_spec.specs.Reads.{Place, Leads}
-use Rattle.seg_spec.specs.Sound.{Picture, IsPlain, roots_of, HoldsRoot, holds_no_root, IsLaidOut, IsHeld, times, positions}
-use Rattle.seg_spec.specs.Roots.{with_roots, roots_before, roots_after, item_of, with_item, KeepsPaths, KeepsPathsBeside, ChangesPlace}
+use Rattle.seg_spec.specs.Sound.{IsPlain, roots_of, HoldsRoot, holds_no_root, IsLaidOut, IsHeld}
+use Rattle.seg_spec.specs.Roots.{roots_before, roots_after, item_of, with_item, KeepsPaths, KeepsPathsBeside, ChangesPlace}
 use Rattle.seg_spec.proofs.LiveLaws.{times-append}
 use Rattle.seg_spec.proofs.RootLaws.{HoldsRoots-one, IsLaidOut-kept, IsLaidOut-faced, roots_with, roots_are}
 use Rattle.seg_spec.proofs.Writing.{faced}
@@ -22,10 +21,10 @@ use Rattle.client_spec.proofs.Puts.{put_at_is, put_length}
 use Rattle.client_spec.proofs.States.{register_set}
 use Rattle.client_sim.proofs.FirstRoots.{each_among}
 use Rattle.client_sim.proofs.Looks.{Looks, root_in, looks_of, held_by, begins_in, begins_at}
-use Rattle.client_sim.proofs.RootPuts.{HasPut, RootFound, root_for, all_others}
+use Rattle.client_sim.proofs.RootPuts.{root_for}
 use Rattle.client_sim.proofs.Placed.{PlaceFound, item_within}
 use Rattle.client_sim.proofs.OwnedLooks.{goes, comes}
-use Rattle.client_sim.proofs.MovedPlaces.{Moves, goes_beside, comes_beside, moved_held, moved_paths}
+use Rattle.client_sim.proofs.MovedPlaces.{goes_beside, comes_beside, moved_held, moved_paths}
 
 -- ---- a put beside a register that owns nothing any more
 

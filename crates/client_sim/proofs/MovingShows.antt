@@ -1,7 +1,6 @@
 -- Where an object moves between a register and an own, a world that stood for the state stands for the one then.
 use Rattle.std.proofs.Common.{◌≡◌, ◌≢◌, ℕ, ◌<◌, ◌⊎◌, inl, inr, List, [], ◌∷◌, ◌++◌, length, Bool, true, false, Option, Some, None, refl, sym, ◌∙◌, ap, subst, arith}
-use Rattle.std.specs.Prelude.{if◌then◌else◌, slice_set, slice_index_or}
-use Rattle.std.proofs.lemmas.List.{length-map}
+use Rattle.std.specs.Prelude.{if◌then◌else◌, slice_set}
 use Rattle.seg_spec.specs.Header.{allocator_word, free_word, KeepsFront}
 use Rattle.seg_spec.specs.Types.{Table}
 use Rattle.seg_spec.specs.Value.{Value, Selector}
@@ -16,17 +15,17 @@ use Rattle.client_spec.specs.Syntax.{Constant}
 use Rattle.client_spec.specs.Machine.{◌>>=◌, Origin, Path, Register, State, register, set_register, owned_by, with_owned, path_value, put_at}
 use Rattle.client_spec.specs.Answer.{path_from}
 use Rattle.client_spec.specs.Shape.{HasShape}
-use Rattle.client_spec.specs.Meaning.{InClass, LeadsToType, Refers, IsAsKnown, Meets}
+use Rattle.client_spec.specs.Meaning.{InClass, Refers, IsAsKnown, Meets}
 use Rattle.client_spec.specs.Pictures.{LeadsInImage}
 use Rattle.client_spec.specs.Typed.{Class, RegisterType, RegisterTypes, known, is_owner, same_class, without_class, ended, others_ended}
 use Rattle.client_spec.proofs.Classes.{OneEach, known_ended, known_others, origins_apart}
 use Rattle.client_spec.proofs.Values.{length_set}
-use Rattle.client_spec.proofs.Changes.{agrees_put_others, agrees_release, agrees_own}
+use Rattle.client_spec.proofs.Changes.{agrees_put_others}
 use Rattle.client_spec.proofs.Puts.{put_types, put_length, put_register, put_at_is}
 use Rattle.client_sim.specs.Writes.{Took}
-use Rattle.client_sim.specs.Shows.{World, number_in, place_in, owns_in, HasRegisters, Shown, Shows}
+use Rattle.client_sim.specs.Shows.{World, number_in, place_in, owns_in, Shown, Shows}
 use Rattle.client_sim.proofs.Led.{Led}
-use Rattle.client_sim.proofs.LeafPuts.{with_image, origin_streams}
+use Rattle.client_sim.proofs.LeafPuts.{origin_streams}
 use Rattle.client_sim.proofs.Giving.{set_there, set_beside, same_or_not}
 use Rattle.client_sim.proofs.Rooted.{BeginsFrom}
 use Rattle.client_sim.proofs.MovingOwned.{Moved, register_beside}

@@ -1,11 +1,10 @@
 -- The object that a register owns, as a call finds it: loose, with its value, apart from what stands at another root's place.
-use Rattle.std.proofs.Common.{◌≡◌, ◌≢◌, ℕ, zero, suc, ◌+◌, ◌*◌, ◌<◌, ◌≤◌, ◌⊎◌, inl, inr, List, [], ◌∷◌, ◌++◌, length, Option, Some, refl, sym, ◌∙◌, ap, subst, arith}
+use Rattle.std.proofs.Common.{◌≡◌, ◌≢◌, ℕ, ◌+◌, ◌*◌, ◌<◌, ◌≤◌, inl, inr, List, [], ◌∷◌, ◌++◌, Option, Some, refl, sym, ◌∙◌, ap, subst, arith}
 use Rattle.std.proofs.lemmas.List.{append-nil}
 use Rattle.std.specs.Prelude.{option_map}
-use Rattle.std.specs.List.{AllByRecursion}
 use Rattle.seg_spec.specs.Bytes.{slice}
 use Rattle.seg_spec.specs.Types.{Table, size}
-use Rattle.seg_spec.specs.Value.{Value, nil, cons, count, nth}
+use Rattle.seg_spec.specs.Value.{Value, nil, cons, count}
 use Rattle.seg_spec.specs.Heap.{live}
 use Rattle.seg_spec.specs.Block.{IsBlock, Kind, tag_of, block_of}
 use Rattle.seg_spec.specs.Index.{Root}
@@ -18,14 +17,13 @@ use Rattle.seg_spec.proofs.LiveLaws.{times-append, times-more}
 use Rattle.seg_spec.proofs.RootLaws.{roots_are}
 use Rattle.client_spec.specs.Syntax.{Constant}
 use Rattle.client_spec.specs.Machine.{Origin, Path, Register, State, register}
-use Rattle.client_spec.specs.Answer.{path_from}
 use Rattle.client_spec.specs.Meaning.{Meets}
-use Rattle.client_spec.specs.Pictures.{root_of_register, Pictures, LeadsInImage}
+use Rattle.client_spec.specs.Pictures.{root_of_register, LeadsInImage}
 use Rattle.client_spec.specs.Typed.{RegisterType, RegisterTypes, known}
-use Rattle.client_sim.specs.Shows.{World, place_in, owns_in, Shown, Shows}
+use Rattle.client_sim.specs.Shows.{World, place_in, Shown, Shows}
 use Rattle.client_sim.proofs.FirstRoots.{Among, each_among, among_right}
 use Rattle.client_sim.proofs.OwnedRoots.{owned_split}
-use Rattle.client_sim.proofs.Looks.{looks_of, begins_in}
+use Rattle.client_sim.proofs.Looks.{looks_of}
 use Rattle.client_sim.proofs.RootPuts.{root_of_pair, among_loose}
 use Rattle.client_sim.proofs.Placed.{PlaceFound}
 use Rattle.client_sim.proofs.MovedPlaces.{other_root}

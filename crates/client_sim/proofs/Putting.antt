@@ -1,14 +1,13 @@
 -- PUT: an own takes the object that a register owns, and what it held goes.
-use Rattle.std.proofs.Common.{◌≡◌, ◌≢◌, ◌≤◌, ℕ, ℤ, List, [], ◌∷◌, ◌++◌, length, Bool, true, false, inl, inr, Option, Some, None, refl, sym, ◌∙◌, ap, subst, arith}
-use Rattle.std.specs.Prelude.{⊤, Ok, not, ◌&&◌, ◌==◌, slice_set}
+use Rattle.std.proofs.Common.{◌≡◌, ◌≢◌, ℕ, ℤ, List, [], ◌∷◌, ◌++◌, length, Bool, true, false, inl, inr, Option, Some, None, refl, sym, ◌∙◌, ap, subst, arith}
+use Rattle.std.specs.Prelude.{not, ◌&&◌, ◌==◌, slice_set}
 use Rattle.std.proofs.lemmas.Bool.{eqb-true, eq-eqb}
 use Rattle.std.proofs.lemmas.List.{length-map}
 use Rattle.seg_spec.specs.Types.{Form, Table, form_at}
-use Rattle.seg_spec.specs.Value.{Value, Empty, Full}
+use Rattle.seg_spec.specs.Value.{Value, Full}
 use Rattle.seg_spec.specs.Heap.{live}
 use Rattle.seg_spec.specs.Block.{block_of}
 use Rattle.seg_spec.specs.Reads.{Holds}
-use Rattle.seg_spec.specs.Sound.{times, positions}
 use Rattle.seg_spec.specs.Owning.{Stands}
 use Rattle.seg_spec.specs.Calls.{IsLoose}
 use Rattle.seg_spec.specs.Destroying.{AreLive}
@@ -18,16 +17,15 @@ use Rattle.client_spec.specs.declared.table.Operation.{Operation}
 use Rattle.client_spec.specs.declared.table.Role.{Role}
 use Rattle.client_spec.specs.Syntax.{Constant, Instruction}
 use Rattle.client_spec.specs.Machine.{◌>>=◌, Origin, Path, Register, State, register, set_register, owned_by, path_value, put_at}
-use Rattle.client_spec.specs.Answer.{success, path_in, path_of, path_form, content_in, owned_type, begins_at, provided, proceed}
+use Rattle.client_spec.specs.Answer.{success, path_of, path_form, content_in, owned_type, begins_at, provided, proceed}
 use Rattle.client_spec.specs.Effect.{outcome, effect}
 use Rattle.client_spec.specs.Shape.{HasShape}
-use Rattle.client_spec.specs.Asks.{GrantsAsks, LedTo}
-use Rattle.client_spec.specs.Meaning.{InClass}
+use Rattle.client_spec.specs.Asks.{GrantsAsks}
 use Rattle.client_spec.specs.Typed.{Class, RegisterType, Reason, RegisterTypes, known, same_class, owner_needed, required, known_after, without_class, ended, others_ended, rule}
 use Rattle.client_spec.specs.Typed as typed
 use Rattle.client_spec.proofs.Cases.{own_value, own_fits, not_is, required_is}
 use Rattle.client_spec.proofs.Changes.{agrees_release}
-use Rattle.client_spec.proofs.Classes.{OneEach, origins_apart}
+use Rattle.client_spec.proofs.Classes.{origins_apart}
 use Rattle.client_spec.proofs.FirstRows.{bind_ok, Ok_inj}
 use Rattle.client_spec.proofs.RowSteps.{owner_found}
 use Rattle.client_spec.proofs.Shapes.{value_of_form}

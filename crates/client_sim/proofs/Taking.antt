@@ -1,9 +1,9 @@
 -- TAKE: a register comes to own what an own held, or gets a code where it held nothing.
-use Rattle.std.proofs.Common.{◌≡◌, ◌≢◌, ℕ, zero, suc, ◌<◌, ℤ, pos, List, [], ◌∷◌, ◌++◌, length, Bool, true, false, inl, inr, Option, Some, None, refl, sym, ◌∙◌, ap, subst, arith}
-use Rattle.std.specs.Prelude.{Ok, slice_set, slice_index_or}
+use Rattle.std.proofs.Common.{◌≡◌, ◌≢◌, ℕ, zero, suc, ◌<◌, ℤ, pos, List, [], ◌∷◌, length, Bool, true, false, inl, inr, Option, Some, None, refl, sym, ◌∙◌, ap, subst, arith}
+use Rattle.std.specs.Prelude.{slice_set, slice_index_or}
 use Rattle.std.proofs.lemmas.List.{length-map}
 use Rattle.seg_spec.specs.Types.{Form, Table, form_at}
-use Rattle.seg_spec.specs.Value.{Value, node, Label, Values, nil, cons, Empty, Full}
+use Rattle.seg_spec.specs.Value.{Value, node, Label, nil, cons, Empty, Full}
 use Rattle.seg_spec.specs.Heap.{live}
 use Rattle.seg_spec.specs.Block.{block_of}
 use Rattle.seg_spec.specs.Index.{Root}
@@ -16,14 +16,14 @@ use Rattle.client_spec.specs.declared.table.Operation.{Operation}
 use Rattle.client_spec.specs.declared.table.Role.{Role}
 use Rattle.client_spec.specs.Syntax.{Constant, Instruction}
 use Rattle.client_spec.specs.Machine.{◌>>=◌, Origin, Path, Register, State, register, set_register, owned_by, path_value, put_at}
-use Rattle.client_spec.specs.Answer.{Outcome, success, null_or_none, answer_number, path_in, path_of, path_form, path_from, content_in, owned_type, give, fail}
+use Rattle.client_spec.specs.Answer.{success, null_or_none, answer_number, path_of, path_form, path_from, content_in, owned_type}
 use Rattle.client_spec.specs.Effect.{outcome, effect}
 use Rattle.client_spec.specs.Effect as effects
 use Rattle.client_spec.specs.Shape.{HasShape}
 use Rattle.client_spec.specs.Asks.{GrantsAsks}
 use Rattle.client_spec.specs.Meaning.{LeadsToType, IsAsKnown}
 use Rattle.client_spec.specs.Pictures.{LeadsInImage}
-use Rattle.client_spec.specs.Typed.{Class, RegisterType, RegisterTypes, known, without_class, ended, others_ended, opens, rule}
+use Rattle.client_spec.specs.Typed.{Class, RegisterType, known, without_class, ended, others_ended, opens, rule}
 use Rattle.client_spec.proofs.Cases.{own_value, own_fits}
 use Rattle.client_spec.proofs.Changes.{agrees_put_others, agrees_own}
 use Rattle.client_spec.proofs.FirstRows.{answer_is}
@@ -35,12 +35,11 @@ use Rattle.client_spec.proofs.Values.{length_set}
 use Rattle.client_sim.specs.Shows.{World, place_in, owns_in, Acts}
 use Rattle.client_sim.specs.Acting.{ActsAs, IsRefusedAs}
 use Rattle.client_sim.proofs.Giving.{set_there, set_beside}
-use Rattle.client_sim.proofs.LeafPuts.{with_image}
-use Rattle.client_sim.proofs.Numbers.{with_number, unowned}
+use Rattle.client_sim.proofs.Numbers.{unowned}
 use Rattle.client_sim.proofs.Answering.{acts_so}
 use Rattle.client_sim.proofs.Items.{reaches, opens_then, shows_ended, code_acts}
 use Rattle.client_sim.proofs.MovingOwned.{take_moves}
-use Rattle.client_sim.proofs.MovingShows.{with_owner, shows_moved, put_known, stays_put}
+use Rattle.client_sim.proofs.MovingShows.{with_owner, shows_moved, stays_put}
 use Rattle.client_sim.proofs.OwnedObjects.{root_of, root_of_loose}
 use Rattle.client_sim.proofs.Putting.{own_is}
 
