@@ -29,3 +29,5 @@ pub mod Shrinking
 pub mod ItemsAt
 pub mod Rooted
 pub mod Owning
+pub mod Ended
+pub mod Owners
