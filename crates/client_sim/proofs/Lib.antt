@@ -31,3 +31,4 @@ pub mod Rooted
 pub mod Owning
 pub mod Ended
 pub mod Owners
+pub mod Uniques
