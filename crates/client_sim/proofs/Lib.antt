@@ -32,3 +32,4 @@ pub mod Owning
 pub mod Ended
 pub mod Owners
 pub mod Uniques
+pub mod UniqueRows

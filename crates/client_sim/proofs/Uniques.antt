@@ -1,6 +1,6 @@
 -- Unique objects come and go: the image pictures the state then, and paths that still begin somewhere lead where they led.
-use Rattle.std.proofs.Common.{◌≡◌, ◌≢◌, ℕ, suc, ◌<◌, ◌≤◌, ◌⊎◌, inl, inr, Bool, true, false, List, [], ◌∷◌, ◌++◌, eqb, Option, Some, None, refl, sym, ◌∙◌, ap, subst, arith, append_assoc}
-use Rattle.std.specs.Prelude.{◌==◌, if◌then◌else◌, option_map, option_and_then}
+use Rattle.std.proofs.Common.{◌≡◌, ℕ, suc, ◌≤◌, ◌⊎◌, inl, inr, Bool, true, false, List, [], ◌∷◌, ◌++◌, eqb, Option, Some, None, refl, sym, ◌∙◌, ap, subst, arith, append_assoc}
+use Rattle.std.specs.Prelude.{◌==◌, if◌then◌else◌, option_and_then}
 use Rattle.std.specs.List.{AllByRecursion}
 use Rattle.std.proofs.lemmas.Bool.{eqb-true}
 use Rattle.std.proofs.lemmas.Bool.Decides.{nat_tests}
@@ -10,7 +10,7 @@ use Rattle.seg_spec.specs.Sound.{roots_of, IsHeld}
 use Rattle.seg_spec.specs.Roots.{Listed, with_roots, roots_before, roots_after, KeepsPaths}
 use Rattle.seg_spec.proofs.UniqueLaws.{none_below, none_root}
 use Rattle.client_spec.specs.Machine.{Origin, State, with_unique}
-use Rattle.client_spec.specs.Pictures.{Pictures, root_at}
+use Rattle.client_spec.specs.Pictures.{Pictures}
 use Rattle.client_sim.proofs.FirstRoots.{first_of, first_split, first_here, first_beside, is_of_type, typed_first}
 use Rattle.client_sim.proofs.Rooted.{KeepsRoots}
 use Rattle.client_sim.proofs.Owning.{found_again, keeps_all, keeps_others}
