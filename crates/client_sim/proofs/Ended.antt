@@ -41,7 +41,8 @@ type_known {types = types} {constants = constants} {s = s} as_known b number T f
     (ap nat_abs m.1 ∙ sym is, (slice_there s.types T k.0 there).0, (k.0, there))
 
 module _ {others : List Root} {types : Table} {constants : List Constant} (one : OneEach constants) {first : Option (List ℕ)} {allocator : ℕ} {ks : RegisterTypes} {s : State} {w : World}
-    (h : Shows others types constants first allocator ks s w) (class : Class) (ks' : RegisterTypes) (s' : State) (w' : World) (later : Pictures others s' w'.image) (Ends : Origin → Type 0) (within : (o : Origin) → Ends o → InClass constants class o) where
+    (h : Shows others types constants first allocator ks s w) (class : Class) (ks' : RegisterTypes) (s' : State) (w' : World) (later : Pictures others s' w'.image) (Ends : Origin → Type 0)
+    (within : (o : Origin) → Ends o → InClass constants class o) where
   -- a register that holds what it held, where only paths of the class end
   pub ended_shown : (r : ℕ) → known ks' r ≡ without_class class (known ks r) → register s' r ≡ register s r → number_in w' r ≡ number_in w r → place_in w' r ≡ place_in w r → owns_in w' r ≡ owns_in w r
       → (Ends (Origin.Owned r) → ⊥) → Remains constants Ends ks ks' s s' w w' r ⊎ Shown later w' r (known ks' r) (register s' r)

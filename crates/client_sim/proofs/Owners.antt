@@ -220,7 +220,8 @@ module _ (allocator : ℕ) (constants : List Constant) (role : Role) (a b c : �
       let asked : (block_for (size w.table T) ∷ []) ≡ (block_for (size s.types (nat_abs number)) ∷ []) = ap (λ (z : Table). block_for (size z T) ∷ []) h.table_is ∙ ap (λ u. block_for (size s.types u) ∷ []) (sym t.0) in
       let blocks : GrantsAsks constants i h.pictured new = grants_spent constants i h.pictured allocator h.allocator_is (block_for (size w.table T) ∷ []) asked new [] refl (live new) call.spends refl in
       subst (λ k. Acts others types constants first allocator i success k s w (with_owner w new a place)) (sym good_is)
-      (acts_so others types constants first allocator ks s w h i success true (slice_set ks a (RegisterType.Owner T)) (set_register s a (Register.Owner d T)) (with_owner w new a place) row blocks alone.length_kept alone.front_kept refl shows)
+      (acts_so others types constants first allocator ks s w h i success true (slice_set ks a (RegisterType.Owner T)) (set_register s a (Register.Owner d T)) (with_owner w new a place) row blocks
+      alone.length_kept alone.front_kept refl shows)
 
   -- there is no room for one
   pub new_refused : (T code : ℕ) → ((n : ℕ) → number ≡ pos n → T ≡ n % 256) → OfPicture allocator w (λ p. T < length w.table → (code ≡ answer_number bad_alloc) × Refuses allocator w.image new (block_for (size w.table T) ∷ []))

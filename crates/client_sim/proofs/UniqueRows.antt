@@ -65,6 +65,20 @@ pub record LeavesUniques (old new : List ℕ) (table : Table) (picture : Picture
 abbrev pub FindsNoRoomFor : ℕ → List ℕ → List ℕ → Table → ℕ → ℕ → Picture → Type 0
 FindsNoRoomFor allocator old new table T code picture = (code ≡ answer_number bad_alloc) × (begins_unique picture T ≡ None) × Refuses allocator old new (block_for (size table T) ∷ [])
 
+-- there is one already, or no room
+abbrev pub FindsOneOrNoRoom : ℕ → List ℕ → List ℕ → Table → ℕ → ℕ → Picture → Type 0
+FindsOneOrNoRoom allocator old new table T code picture =
+    ((code ≡ answer_number already_exists) × ((at : ℕ) × (begins_unique picture T ≡ Some at)) × (new ≡ old)) ⊎ FindsNoRoomFor allocator old new table T code picture
+
+-- it is found at this position, or made there
+abbrev pub IsFoundOrJoins : ℕ → List ℕ → List ℕ → Table → ℕ → ℕ → Picture → Type 0
+IsFoundOrJoins allocator old new table T at picture = ((begins_unique picture T ≡ Some at) × (new ≡ old)) ⊎ JoinsUniques allocator old new table picture T at
+
+-- it goes, or there was none
+abbrev pub LeavesOrLacks : List ℕ → List ℕ → Table → ℕ → Bool → Picture → Type 0
+LeavesOrLacks old new table T true picture = LeavesUniques old new table picture T
+LeavesOrLacks old new table T false picture = (begins_unique picture T ≡ None) × (new ≡ old)
+
 module _ {others : List Root} {types : Table} {constants : List Constant} (one : OneEach constants) {first : Option (List ℕ)} {allocator : ℕ} {ks : RegisterTypes} {s : State} {w : World}
     (h : Shows others types constants first allocator ks s w) where
   -- ---- it comes
@@ -183,7 +197,8 @@ module _ (allocator : ℕ) (constants : List Constant) (role : Role) (a b c : �
         (row u.plain.value u.there ∙ answer_is types constants ks s h.as_known success a (Register.Reference path_is) its.0) (changes (granted u.plain.value u.there)) refl refl refl shows))
 
     -- none, with a code
-    refused : (operation : Operation) (answer : Answer) (room : Bool) (code : ℕ) → code ≡ answer_number answer → new ≡ w.image → ChangesBlocks constants (of operation) h.pictured answer w.image → outcome constants (of operation) room s ≡ fail a answer s
+    refused : (operation : Operation) (answer : Answer) (room : Bool) (code : ℕ) → code ≡ answer_number answer → new ≡ w.image → ChangesBlocks constants (of operation) h.pictured answer w.image
+        → outcome constants (of operation) room s ≡ fail a answer s
         → Acts others types constants first allocator (of operation) answer bad s w (with_number (with_image w new) a (pos code))
     refused operation answer room code code_is same blocks row =
         let i = of operation in
@@ -227,13 +242,11 @@ module _ (allocator : ℕ) (constants : List Constant) (role : Role) (a b c : �
       (row_none right valid.number valid.a e h (λ n. fail a already_exists s) (λ n. add_unique a n true s) none)
 
   -- there is one, or no room
-  abbrev pub WhyNotUnique : ℕ → Picture → Type 0
-  WhyNotUnique code p = ((code ≡ answer_number already_exists) × ((at : ℕ) × (begins_unique p T ≡ Some at)) × (new ≡ w.image)) ⊎ FindsNoRoomFor allocator w.image new w.table T code p
-
-  pub make_unique_refused : (code : ℕ) → OfPicture allocator w (λ p. T < length w.table → WhyNotUnique code p) → IsRefusedAs allocator constants role (of Operation.MakeUnique) w (with_number (with_image w new) a (pos code))
+  pub make_unique_refused : (code : ℕ) → OfPicture allocator w (λ p. T < length w.table → FindsOneOrNoRoom allocator w.image new w.table T code p)
+      → IsRefusedAs allocator constants role (of Operation.MakeUnique) w (with_number (with_image w new) a (pos code))
   unfolding rule effect
   make_unique_refused code says = λ types others first ks good bad s right valid e h.
-      elim (said right valid.number valid.a e h {P = WhyNotUnique code} says) [
+      elim (said right valid.number valid.a e h {P = FindsOneOrNoRoom allocator w.image new w.table T code} says) [
         | inl r ↦
             let u = unique_found h T r.1.0 r.1.1 in (
               already_exists,
@@ -251,15 +264,12 @@ module _ (allocator : ℕ) (constants : List Constant) (role : Role) (a b c : �
       ]
 
   -- one is found, or made
-  abbrev pub IsFoundOrMade : ℕ → Picture → Type 0
-  IsFoundOrMade at p = ((begins_unique p T ≡ Some at) × (new ≡ w.image)) ⊎ JoinsUniques allocator w.image new w.table p T at
-
-  pub find_or_make_unique_acts : (at : ℕ) → OfPicture allocator w (λ p. T < length w.table → IsFoundOrMade at p)
+  pub find_or_make_unique_acts : (at : ℕ) → OfPicture allocator w (λ p. T < length w.table → IsFoundOrJoins allocator w.image new w.table T at p)
       → ActsAs allocator constants role (of Operation.FindOrMakeUnique) w (with_place (with_image w new) a (record { at = at; type = T }))
   unfolding rule effect
   find_or_make_unique_acts at says = λ types others first ks good bad s right valid e h.
       let i = of Operation.FindOrMakeUnique in
-      elim (said right valid.number valid.a e h {P = IsFoundOrMade at} says) [
+      elim (said right valid.number valid.a e h {P = IsFoundOrJoins allocator w.image new w.table T at} says) [
         | inl r ↦ found right valid.number valid.a e h Operation.FindOrMakeUnique at r.0 r.1 (λ v there. quiet constants i h.pictured (asks_none right valid.number valid.a e h v there) refl) (λ g. g)
             (λ v there. row_there right valid.number valid.a e h (λ n. refer a (path_from (Origin.Unique n)) s) (λ n. add_unique a n true s) v there)
         | inr call ↦
@@ -281,11 +291,7 @@ module _ (allocator : ℕ) (constants : List Constant) (role : Role) (a b c : �
       )
 
   -- it goes, or there is none
-  abbrev pub IsKilled : Bool → Picture → Type 0
-  IsKilled true p = LeavesUniques w.image new w.table p T
-  IsKilled false p = (begins_unique p T ≡ None) × (new ≡ w.image)
-
-  pub kill_unique_acts : (gone : Bool) → OfPicture allocator w (λ p. T < 32 → IsKilled gone p) → ActsAs allocator constants role (of Operation.KillUnique) w (with_number (with_image w new) a (truth gone))
+  pub kill_unique_acts : (gone : Bool) → OfPicture allocator w (λ p. T < 32 → LeavesOrLacks w.image new w.table T gone p) → ActsAs allocator constants role (of Operation.KillUnique) w (with_number (with_image w new) a (truth gone))
   unfolding rule effect
   kill_unique_acts gone says = λ types others first ks good bad s right valid e h.
       let i = of Operation.KillUnique in
@@ -298,7 +304,7 @@ module _ (allocator : ℕ) (constants : List Constant) (role : Role) (a b c : �
       let row = λ (o : Option Value) (is : s.uniques T ≡ o).
       ap (λ n. if is_some (s.uniques n) then give_count a 1 (record s { uniques = with_unique s.uniques n None }) else give_count a 0 s) t.0
       ∙ ap (λ (o : Option Value). if is_some o then give_count a 1 (record s { uniques = with_unique s.uniques T None }) else give_count a 0 s) is in
-      let call = of_picture h (λ p. T < 32 → IsKilled gone p) says (few right valid) in
+      let call = of_picture h (λ p. T < 32 → LeavesOrLacks w.image new w.table T gone p) says (few right valid) in
       subst (λ k. Acts others types constants first allocator i success k s w (with_number (with_image w new) a (truth gone))) (sym good_is)
       (by types others first ks s right valid.a h one t.0 free row gone call)
     where
@@ -310,10 +316,11 @@ module _ (allocator : ℕ) (constants : List Constant) (role : Role) (a b c : �
           let is = names m.0 m.1 in
           omega (arith, less, small, is)
 
-      by : (types : Table) (others : List Root) (first : Option (List ℕ)) (ks : RegisterTypes) (s : State) → AreRight types constants → a < 16 → (h : Shows others types constants first allocator ks s w) → OneEach constants → nat_abs number ≡ T
+      by : (types : Table) (others : List Root) (first : Option (List ℕ)) (ks : RegisterTypes) (s : State) → AreRight types constants → a < 16 → (h : Shows others types constants first allocator ks s w) → OneEach constants
+          → nat_abs number ≡ T
           → is_owner (known (ended (Class.Unique T) ks) a) ≡ false
           → ((o : Option Value) → s.uniques T ≡ o → outcome constants (of Operation.KillUnique) true s ≡ (if is_some o then give_count a 1 (record s { uniques = with_unique s.uniques T None }) else give_count a 0 s))
-          → (gone : Bool) → IsKilled gone h.pictured.picture
+          → (gone : Bool) → LeavesOrLacks w.image new w.table T gone h.pictured.picture
           → Acts others types constants first allocator (of Operation.KillUnique) success (slice_set (ended (Class.Unique T) ks) a RegisterType.Int) s w (with_number (with_image w new) a (truth gone))
       by types others first ks s right within h one operand free row true call =
           let i = of Operation.KillUnique in

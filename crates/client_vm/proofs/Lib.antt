@@ -6,6 +6,7 @@ pub mod NumberLaws
 pub mod WritingLaws
 pub mod PartLaws
 pub mod ObjectLaws
+pub mod OwnerLaws
 pub mod ItemLaws
 pub mod NamedLaws
 pub mod PositionLaws
