@@ -37,3 +37,7 @@ pub mod MovingShows
 pub mod OwnedObjects
 pub mod Putting
 pub mod Taking
+pub mod Ended
+pub mod Owners
+pub mod Uniques
+pub mod UniqueRows

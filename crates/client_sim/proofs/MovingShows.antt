@@ -30,7 +30,7 @@ use Rattle.client_sim.proofs.Giving.{set_there, set_beside, same_or_not}
 use Rattle.client_sim.proofs.Rooted.{BeginsFrom}
 use Rattle.client_sim.proofs.MovingOwned.{Moved, register_beside}
 
-pub with_owned_none : (v : Value) (x : Register) → owned_by x ≡ None → with_owned v x ≡ x
+with_owned_none : (v : Value) (x : Register) → owned_by x ≡ None → with_owned v x ≡ x
 with_owned_none v Register.Undefined e = refl
 with_owned_none v (Register.Int k) e = refl
 with_owned_none v (Register.Reference p) e = refl
@@ -41,8 +41,8 @@ not_after_none x [] ys e = cc
 not_after_none x (z ∷ xs) ys e = cc
 
 -- the world where register a owns something or nothing, at this place
-abbrev pub with_owner : World → List ℕ → ℕ → Bool → List ℕ → List ℕ → World
-with_owner w new a owns positions type_ids = record w { image = new; owns = slice_set w.owns a owns; positions = positions; type_ids = type_ids }
+abbrev pub with_owning : World → List ℕ → ℕ → Bool → List ℕ → List ℕ → World
+with_owning w new a owns positions type_ids = record w { image = new; owns = slice_set w.owns a owns; positions = positions; type_ids = type_ids }
 
 module _ {others : List Root} {types : Table} {constants : List Constant} (one : OneEach constants) {first : Option (List ℕ)} {allocator : ℕ} {ks : RegisterTypes} {s : State} {w : World}
     (h : Shows others types constants first allocator ks s w) (b : ℕ) (class : Class) (T : ℕ) (is : known ks b ≡ RegisterType.Reference class T) (l : Led h b class T) (v : Value) (fits : HasShape s.types T v) (new : List ℕ)
@@ -133,11 +133,11 @@ module _ {others : List Root} {types : Table} {constants : List Constant} (one :
 
   -- the world then, where register a and what is known of it are others
   pub shows_moved : (k : RegisterType) (ks' : RegisterTypes) (owns : Bool) (positions type_ids : List ℕ) → a < 16 → length ks' ≡ 16 → length positions ≡ 256 → length type_ids ≡ 256
-      → ((r : ℕ) → a ≢ r → place_in (with_owner w new a owns positions type_ids) r ≡ place_in w r)
+      → ((r : ℕ) → a ≢ r → place_in (with_owning w new a owns positions type_ids) r ≡ place_in w r)
       → KeepsFront w.image new → IsAsKnown types constants (slice_set ks' a k) moved_then
       → ((r : ℕ) → a ≢ r → Stays r (known ks r) (known ks' r))
-      → Shown m.later (with_owner w new a owns positions type_ids) a k y
-      → Shows others types constants first allocator (slice_set ks' a k) moved_then (with_owner w new a owns positions type_ids)
+      → Shown m.later (with_owning w new a owns positions type_ids) a k y
+      → Shows others types constants first allocator (slice_set ks' a k) moved_then (with_owning w new a owns positions type_ids)
   shows_moved k ks' owns positions type_ids within sixteen at_length id_length places front as_known rest here =
       let then_is = put_at_is s l.path l.found.whole v l.found.type l.found.at in
       let whole = values.with_value_at l.path.selectors v l.found.whole in
@@ -148,11 +148,11 @@ module _ {others : List Root} {types : Table} {constants : List Constant} (one :
         sixteen = length_set ks' a k ∙ sixteen;
         registers = record { numbers = h.registers.numbers; positions = at_length; type_ids = id_length; owns = length_set w.owns a owns ∙ h.registers.owns };
         shown = λ r. elim (same_or_not a r) [
-          | inl same ↦ subst (λ n. Shown m.later (with_owner w new a owns positions type_ids) n (known (slice_set ks' a k) n) (register moved_then n)) same
-              (subst (λ x. Shown m.later (with_owner w new a owns positions type_ids) a (known (slice_set ks' a k) a) x) (sym register_is)
-              (subst (λ z. Shown m.later (with_owner w new a owns positions type_ids) a z y) (sym (set_there ks' a k RegisterType.Undefined (omega (arith, sixteen, within)))) here))
-          | inr far ↦ subst (λ z. Shown m.later (with_owner w new a owns positions type_ids) r z (register moved_then r)) (sym (set_beside ks' a r k RegisterType.Undefined far))
-              (shown_beside (with_owner w new a owns positions type_ids) r far refl (places r far) (set_beside w.owns a r owns false far) (known ks' r) (rest r far))
+          | inl same ↦ subst (λ n. Shown m.later (with_owning w new a owns positions type_ids) n (known (slice_set ks' a k) n) (register moved_then n)) same
+              (subst (λ x. Shown m.later (with_owning w new a owns positions type_ids) a (known (slice_set ks' a k) a) x) (sym register_is)
+              (subst (λ z. Shown m.later (with_owning w new a owns positions type_ids) a z y) (sym (set_there ks' a k RegisterType.Undefined (omega (arith, sixteen, within)))) here))
+          | inr far ↦ subst (λ z. Shown m.later (with_owning w new a owns positions type_ids) r z (register moved_then r)) (sym (set_beside ks' a r k RegisterType.Undefined far))
+              (shown_beside (with_owning w new a owns positions type_ids) r far refl (places r far) (set_beside w.owns a r owns false far) (known ks' r) (rest r far))
         ];
         table_is = h.table_is ∙ sym (ap (λ (z : State). z.types) then_is ∙ put_types s l.path.origin l.found.whole whole l.found.type l.found.at);
         input_is = ap (λ (z : State). z.input) then_is ∙ streams.0 ∙ h.input_is;

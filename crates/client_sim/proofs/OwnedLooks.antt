@@ -1,6 +1,7 @@
 -- An object that a register owns goes from what an image pictures, or comes: the roots then, and where paths begin.
 use Rattle.std.proofs.Common.{◌≡◌, ℕ, ◌<◌, ◌⊎◌, inl, inr, List, ◌∷◌, ◌++◌, length, Some, None, refl, sym, ◌∙◌, ap, subst, append_assoc}
 use Rattle.std.proofs.lemmas.Bool.{cases_eq}
+use Rattle.std.proofs.lemmas.List.{set-get_or}
 use Rattle.std.specs.Prelude.{option_map}
 use Rattle.std.specs.List.{AllByRecursion}
 use Rattle.seg_spec.specs.Value.{Value, nil, cons}
@@ -15,7 +16,7 @@ use Rattle.client_spec.specs.Pictures.{root_of_register}
 use Rattle.client_sim.proofs.Looks.{Looks, root_in}
 use Rattle.client_sim.proofs.OwnedRoots.{owned_split}
 use Rattle.client_sim.proofs.RootPuts.{root_of_pair}
-use Rattle.client_sim.proofs.Owning.{free_seat, taken_seat, set_itself}
+use Rattle.client_sim.proofs.Owning.{free_seat, taken_seat}
 
 -- four parts before the last
 parts : (a b c d e : List Root) → a ++ (b ++ (c ++ (d ++ e))) ≡ (a ++ (b ++ (c ++ d))) ++ e
@@ -108,7 +109,7 @@ module _ {others : List Root} {s : State} (looks : Looks others s) where
       } in
       let found : (o : Origin) (r : Root) (i : ℕ) → root_in looks o ≡ Some (r, i) → ⊥ ⊎ (root_in later o ≡ Some (r, i)) = found_in looks later (λ o. ⊥) refl refl (λ q r f.
           inr (m.seat.beside q (λ g. vacant r (sym (ap (root_of_register s.registers looks.owned) g) ∙ f)) (register s a) none v t root
-          ∙ ap (λ rs. root_of_register rs (m.before ++ m.after) q) (set_itself s.registers a) ∙ ap (λ xs. root_of_register s.registers xs q) (sym m.among) ∙ f)) in
+          ∙ ap (λ rs. root_of_register rs (m.before ++ m.after) q) (set-get_or s.registers a Register.Undefined) ∙ ap (λ xs. root_of_register s.registers xs q) (sym m.among) ∙ f)) in
       record {
         left = picture.names ++ (picture.uniques ++ (others ++ m.before));
         right = m.after;

@@ -124,7 +124,9 @@ module _ {others : List Root} {types : Table} {constants : List Constant} {first
           ] in
       let it = other_root w.image picture h.pictured.held (roots_before picture f.root.which f.root.before) led.root (roots_after picture f.root.which f.root.after)
           (roots_are picture f.root.which f.root.before (led.root ∷ []) f.root.after f.root.among) led.item f.within path.selectors place led.leads v f.blocks f.holds_it allocator stands o.root among in
-      let l = loose_of_root w.image picture.table o.root o.value it.0 o.no_name o.values_are it.1 (λ n. (let m = it.2 n in let k = times-append n f.blocks it.0 in let j = times-more n stands.home (f.blocks ++ it.0) in omega (arith, m, k, j))) in (
+      let live_there : (n : ℕ) → times n it.0 ≤ times n (positions (live w.image)) = λ n.
+          (let m = it.2 n in let k = times-append n f.blocks it.0 in let j = times-more n stands.home (f.blocks ++ it.0) in omega (arith, m, k, j)) in
+      let l = loose_of_root w.image picture.table o.root o.value it.0 o.no_name o.values_are it.1 live_there in (
         l.0,
         subst (HoldsRoot w.image picture.table o.root) l.1 it.1,
         l.2,

@@ -1,8 +1,9 @@
 -- Objects that registers own come and go: the image pictures the state then, and paths that still begin somewhere lead where they led.
-use Rattle.std.proofs.Common.{◌≡◌, ◌≢◌, ℕ, zero, suc, ◌<◌, ◌⊎◌, inl, inr, List, [], ◌∷◌, ◌++◌, length, Some, None, refl, sym, ◌∙◌, ap, subst, arith, append_assoc}
+use Rattle.std.proofs.Common.{◌≡◌, ◌≢◌, ℕ, zero, suc, ◌<◌, ◌⊎◌, inl, inr, List, [], ◌∷◌, ◌++◌, length, Option, Some, None, refl, sym, ◌∙◌, ap, subst, arith, append_assoc}
 use Rattle.std.specs.Prelude.{slice_set, slice_index_or, option_map}
 use Rattle.std.specs.List.{AllByRecursion}
 use Rattle.std.proofs.lemmas.Bool.{cases_eq}
+use Rattle.std.proofs.lemmas.List.{set-get_or}
 use Rattle.seg_spec.specs.Value.{Value, nil, cons}
 use Rattle.seg_spec.specs.Index.{Root, root_named, root_of_type}
 use Rattle.seg_spec.specs.Sound.{roots_of, IsHeld}
@@ -140,11 +141,6 @@ taken_seat (Register.Undefined ∷ rs) owned (suc a) root h e = taken_after Regi
 taken_seat (Register.Int k ∷ rs) owned (suc a) root h e = taken_after (Register.Int k) rs owned a root refl (taken_seat rs owned a root h e)
 taken_seat (Register.Reference p ∷ rs) owned (suc a) root h e = taken_after (Register.Reference p) rs owned a root refl (taken_seat rs owned a root h e)
 
-pub set_itself : (rs : List Register) (a : ℕ) → slice_set rs a (slice_index_or rs a Register.Undefined) ≡ rs
-set_itself [] a = refl
-set_itself (y ∷ rs) zero = refl
-set_itself (y ∷ rs) (suc a) = ap (λ xs. y ∷ xs) (set_itself rs a)
-
 -- ---- what pictures the state then
 
 module _ {others : List Root} {s : State} {old : List ℕ} (pictured : Pictures others s old) where
@@ -227,7 +223,7 @@ module _ {others : List Root} {s : State} {old : List ℕ} (pictured : Pictures 
       } in
       let there : (q : ℕ) (r : Root) → root_of_register s.registers pictured.owned q ≡ Some r → ⊥ ⊎ (root_of_register (slice_set s.registers a (Register.Owner v t)) (m.before ++ root ∷ m.after) q ≡ Some r) = λ q r e.
           inr (m.seat.beside q (λ f. vacant r (sym (ap (root_of_register s.registers pictured.owned) f) ∙ e)) (register s a) none v t root
-          ∙ ap (λ rs. root_of_register rs (m.before ++ m.after) q) (set_itself s.registers a) ∙ ap (λ xs. root_of_register s.registers xs q) (sym m.among) ∙ e) in
+          ∙ ap (λ rs. root_of_register rs (m.before ++ m.after) q) (set-get_or s.registers a Register.Undefined) ∙ ap (λ xs. root_of_register s.registers xs q) (sym m.among) ∙ e) in
       record {
         later = later;
         keeps = keeps_all pictured later (λ o. ⊥) refl (found_again pictured later (λ o. ⊥) (λ name i r e. inr e) (λ T r e. inr e) there) paths;
@@ -235,7 +231,7 @@ module _ {others : List Root} {s : State} {old : List ℕ} (pictured : Pictures 
       }
     where
       vacant : (r : Root) → root_of_register s.registers pictured.owned a ≡ Some r → ⊥
-      vacant r e = let o = owned_split s.registers pictured.owned a r pictured.are_owned e in (let f : None ≡ Some (o.value, r.type) = sym none ∙ ap owned_by o.is in cc)
+      vacant r e = let o = owned_split s.registers pictured.owned a r pictured.are_owned e in (let f : ◌≡◌ {A = Option (Value × ℕ)} None (Some (o.value, r.type)) = sym none ∙ ap owned_by o.is in cc)
 
   -- ---- a register owns an object no more
 

@@ -37,7 +37,7 @@ use Rattle.client_sim.proofs.Giving.{set_there}
 use Rattle.client_sim.proofs.Answering.{acts_so}
 use Rattle.client_sim.proofs.Items.{reaches, led_to}
 use Rattle.client_sim.proofs.MovingOwned.{put_moves}
-use Rattle.client_sim.proofs.MovingShows.{with_owner, shows_moved, put_known, stays_released}
+use Rattle.client_sim.proofs.MovingShows.{with_owning, shows_moved, put_known, stays_released}
 use Rattle.client_sim.proofs.OwnedObjects.{owns_here, owns_apart}
 
 -- a path from elsewhere doesn't begin at the register
@@ -81,7 +81,7 @@ module _ (allocator : ℕ) (constants : List Constant) (role : Role) (a b c : �
       → ChangesPlace w.image new table (place_in w b) (Full x) (block_of (place_in w c).at ∷ inside) (after_gives (live w.image) blocks) blocks []
 
   pub put_acts : PutsOwn w.table
-      → ActsAs allocator constants role put w (with_owner w new c false w.positions w.type_ids)
+      → ActsAs allocator constants role put w (with_owning w new c false w.positions w.type_ids)
   unfolding rule
   put_acts call types others first ks good bad s right valid e h =
       let one = one_each constants right.each right.different in
@@ -115,7 +115,7 @@ module _ (allocator : ℕ) (constants : List Constant) (role : Role) (a b c : �
       let fits : HasShape s.types r.type (Full o.value) =
           value_of_form s.types r.type r.form (Full o.value) r.machine_form ((own_fits s.types r.form r.what r.is).1 o.value (h.as_known.typed.owned c o.value r.what o.register_is)) in
       let sixteen : length ks' ≡ 16 = length-map after (without_class (Class.Register c)) ∙ length_set (ended r.class ks) b (known ks b) ∙ length-map ks (without_class r.class) ∙ h.sixteen in
-      let owns_none : owns_in (with_owner w new c false w.positions w.type_ids) c ≡ false = set_there w.owns c false false (let n = h.registers.owns in omega (arith, n, valid.c)) in
+      let owns_none : owns_in (with_owning w new c false w.positions w.type_ids) c ≡ false = set_there w.owns c false false (let n = h.registers.owns in omega (arith, n, valid.c)) in
       let shows = shows_moved one h b r.class r.type r.known_as l (Full o.value) fits new c Register.Undefined (λ o. o ≡ Origin.Owned c) moved RegisterType.Undefined ks' false w.positions w.type_ids valid.c sixteen
           h.registers.positions h.registers.type_ids (λ n far. refl) changes.front_kept
           (agrees_release types constants one after (put_at s l.path (Full o.value)) c (put_known one h b r.class r.type r.known_as l (Full o.value) fits new c Register.Undefined (λ o. o ≡ Origin.Owned c) moved))
@@ -132,6 +132,6 @@ module _ (allocator : ℕ) (constants : List Constant) (role : Role) (a b c : �
         granted = refl;
         left = changes.live_is;
       } in
-      subst (λ k. Acts others types constants first allocator put success k s w (with_owner w new c false w.positions w.type_ids)) (ap (λ (k : RegisterTypes × RegisterTypes). k.0) pair)
+      subst (λ k. Acts others types constants first allocator put success k s w (with_owning w new c false w.positions w.type_ids)) (ap (λ (k : RegisterTypes × RegisterTypes). k.0) pair)
       (acts_so others types constants first allocator ks s w h put success true (slice_set ks' c RegisterType.Undefined) (set_register (put_at s l.path (Full o.value)) c Register.Undefined)
-      (with_owner w new c false w.positions w.type_ids) row blocks changes.length_kept changes.front_kept refl shows)
+      (with_owning w new c false w.positions w.type_ids) row blocks changes.length_kept changes.front_kept refl shows)

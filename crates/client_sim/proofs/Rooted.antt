@@ -142,3 +142,8 @@ module _ {others : List Root} {types : Table} {constants : List Constant} {first
     took = subst (λ out. Took first w'.taken out) (sym besides.state_output) (subst (λ taken. Took first taken s.output) (sym besides.taken) h.took);
     allocator_is = word-same w.image w'.image allocator_word (IsSame-part w.image w'.image 0 free_word allocator_word 4 (omega arith) (omega arith) front) ∙ h.allocator_is;
   }
+
+  pub pictured_rooted : (front : KeepsFront w.image w'.image) (as_known : IsAsKnown types constants ks' s') (sixteen : length ks' ≡ 16) (registers : HasRegisters w') (besides : SameBesides w w' s s')
+      (each : (r : ℕ) → Remains constants Ends ks ks' s s' w w' r ⊎ Shown later w' r (known ks' r) (register s' r)) → (shows_rooted front as_known sixteen registers besides each).pictured ≡ later
+  unfolding shows_rooted
+  pictured_rooted front as_known sixteen registers besides each = refl

@@ -39,7 +39,7 @@ use Rattle.client_sim.proofs.Numbers.{unowned}
 use Rattle.client_sim.proofs.Answering.{acts_so}
 use Rattle.client_sim.proofs.Items.{reaches, opens_then, shows_ended, code_acts}
 use Rattle.client_sim.proofs.MovingOwned.{take_moves}
-use Rattle.client_sim.proofs.MovingShows.{with_owner, shows_moved, stays_put}
+use Rattle.client_sim.proofs.MovingShows.{with_owning, shows_moved, stays_put}
 use Rattle.client_sim.proofs.OwnedObjects.{root_of, root_of_loose}
 use Rattle.client_sim.proofs.Putting.{own_is}
 
@@ -94,9 +94,9 @@ module _ (allocator : ℕ) (constants : List Constant) (role : Role) (a b c : �
       ((v : Value) → Stands allocator w.image table (place_in w b) (Full v) blocks → ⊥)
 
   abbrev owner_then : ℕ → ℕ → World
-  owner_then at T = with_owner w new a true (slice_set w.positions a at) (slice_set w.type_ids a T)
+  owner_then at T = with_owning w new a true (slice_set w.positions a at) (slice_set w.type_ids a T)
 
-  others_placed : (w : World) (at T r : ℕ) → a ≢ r → place_in (with_owner w new a true (slice_set w.positions a at) (slice_set w.type_ids a T)) r ≡ place_in w r
+  others_placed : (w : World) (at T r : ℕ) → a ≢ r → place_in (with_owning w new a true (slice_set w.positions a at) (slice_set w.type_ids a T)) r ≡ place_in w r
   others_placed w at T r far = ap (λ (n : ℕ). record { at = n; type = slice_index_or (slice_set w.type_ids a T) r 0 }) (set_beside w.positions a r at 0 far)
       ∙ ap (λ (n : ℕ). record { at = slice_index_or w.positions r 0; type = n }) (set_beside w.type_ids a r T 0 far)
 
@@ -139,7 +139,7 @@ module _ (allocator : ℕ) (constants : List Constant) (role : Role) (a b c : �
             let state = set_register after_put a owner in
             let positions = slice_set w.positions a at in
             let type_ids = slice_set w.type_ids a U in
-            let w' = with_owner w new a true positions type_ids in
+            let w' = with_owning w new a true positions type_ids in
             let typed : HasShape after_put.types U v = subst (λ (ts : Table). HasShape ts U v) (sym (put_at_types s l.path r.type Empty leads)) some.2 in
             let sixteen : length after ≡ 16 = length_set (ended r.class ks) b (known ks b) ∙ length-map ks (without_class r.class) ∙ h.sixteen in
             let as_known = agrees_own types constants one after after_put a v U known_then o.0 typed in

@@ -6,7 +6,9 @@ pub mod NumberLaws
 pub mod WritingLaws
 pub mod PartLaws
 pub mod ObjectLaws
+pub mod OwnerLaws
 pub mod ItemLaws
 pub mod NamedLaws
 pub mod PositionLaws
 pub mod OwningLaws
+pub mod IndexLaws
