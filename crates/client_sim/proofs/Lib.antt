@@ -1,5 +1,6 @@
 pub mod FirstRoots
 pub mod OwnedRoots
+pub mod Looks
 pub mod RootPuts
 pub mod Placed
 pub mod Giving
@@ -31,3 +32,15 @@ pub mod Rooted
 pub mod Naming
 pub mod NameBytes
 pub mod NamedActs
+pub mod MovedPlaces
+pub mod Owning
+pub mod OwnedLooks
+pub mod MovingOwned
+pub mod MovingShows
+pub mod OwnedObjects
+pub mod Putting
+pub mod Taking
+pub mod Ended
+pub mod Owners
+pub mod Uniques
+pub mod UniqueRows

@@ -7,8 +7,10 @@ pub mod WritingLaws
 pub mod PartLaws
 pub mod ObjectLaws
 pub mod MakingLaws
+pub mod OwnerLaws
 pub mod ItemLaws
 pub mod NamedLaws
 pub mod PositionLaws
+pub mod OwningLaws
 pub mod IndexLaws
 pub mod TogetherLaws

@@ -1,0 +1,71 @@
+-- What is still shown of a register where the references of a class have ended; and the type that an instruction names, in the world's table.
+use Rattle.std.proofs.Common.{◌≡◌, ℕ, ◌<◌, ◌≤◌, ◌⊎◌, inl, inr, List, length, Bool, true, false, Option, Some, refl, sym, ◌∙◌, ap, subst, arith, ℤ, pos}
+use Rattle.std.specs.Prelude.{nat_abs, if◌then◌else◌, ◌%◌}
+use Rattle.seg_spec.specs.Types.{Form, Table, form_at}
+use Rattle.seg_spec.specs.Heap.{live}
+use Rattle.seg_spec.specs.Header.{KeepsFront}
+use Rattle.seg_spec.specs.Block.{KeepsBlock}
+use Rattle.seg_spec.specs.Index.{Root}
+use Rattle.seg_spec.specs.Sound.{Picture, IsHeld, times, positions}
+use Rattle.client_spec.specs.declared.table.Number.{Number}
+use Rattle.client_spec.specs.Syntax.{Constant}
+use Rattle.client_spec.specs.Machine.{Origin, State, register}
+use Rattle.client_spec.specs.Grammar.{IsNumber}
+use Rattle.client_spec.specs.Typed.{Class, RegisterType, RegisterTypes, known, same_class, without_class}
+use Rattle.client_spec.specs.Meaning.{InClass, IsAsKnown}
+use Rattle.client_spec.specs.Pictures.{Pictures}
+use Rattle.client_spec.proofs.Classes.{OneEach, origins_apart}
+use Rattle.client_spec.proofs.FirstRows.{item_below}
+use Rattle.client_sim.specs.Shows.{World, number_in, place_in, owns_in, Shown, Shows}
+use Rattle.client_sim.proofs.Rooted.{BeginsFrom, Remains}
+use Rattle.client_sim.proofs.Finding.{type_number, slice_there}
+
+-- a call leaves an image that holds this picture, and each live block that isn't gone
+pub record LeavesPicture (old new : List ℕ) (other : Picture) (gone : List ℕ) : Type 0 where
+  pub held : IsHeld new other
+  pub length_kept : length new ≡ length old
+  pub front_kept : KeepsFront old new
+  pub kept : (h : ℕ) → 1 ≤ times h (positions (live old)) → times h gone ≡ 0 → KeepsBlock old new h
+
+-- the type that the number names is in the table
+pub type_known : {types : Table} {constants : List Constant} {ks : RegisterTypes} {s : State} → IsAsKnown types constants ks s → (b : ℕ) (number : ℤ) (T : ℕ) → length types ≤ 32 → ((n : ℕ) → number ≡ pos n → T ≡ n % 256)
+    → IsNumber types constants b Number.TypeId number → (nat_abs number ≡ T) × (T < length s.types) × ((form : Form) × (form_at s.types T ≡ Some form))
+type_known {types = types} {constants = constants} {s = s} as_known b number T few names valid =
+    let m = type_number types constants b number valid in
+    let less = m.2 in
+    let same : m.0 % 256 ≡ m.0 = omega (arith, few, less) in
+    let is : T ≡ m.0 = names m.0 m.1 ∙ same in
+    let below : T < length types = omega (arith, is, less) in
+    let k = item_below types T below in
+    let there = as_known.same_types T k.0 k.1 in
+    (ap nat_abs m.1 ∙ sym is, (slice_there s.types T k.0 there).0, (k.0, there))
+
+module _ {others : List Root} {types : Table} {constants : List Constant} (one : OneEach constants) {first : Option (List ℕ)} {allocator : ℕ} {ks : RegisterTypes} {s : State} {w : World}
+    (h : Shows others types constants first allocator ks s w) (class : Class) (ks' : RegisterTypes) (s' : State) (w' : World) (later : Pictures others s' w'.image) (Ends : Origin → Type 0)
+    (within : (o : Origin) → Ends o → InClass constants class o) where
+  -- a register that holds what it held, where only paths of the class end
+  pub ended_shown : (r : ℕ) → known ks' r ≡ without_class class (known ks r) → register s' r ≡ register s r → number_in w' r ≡ number_in w r → place_in w' r ≡ place_in w r → owns_in w' r ≡ owns_in w r
+      → (Ends (Origin.Owned r) → ⊥) → Remains constants Ends ks ks' s s' w w' r ⊎ Shown later w' r (known ks' r) (register s' r)
+  ended_shown r known_is register_is number_is place_is owns_is apart = by (known ks r) refl (h.shown r)
+    where
+      kept : (k : RegisterType) → known ks r ≡ k → without_class class k ≡ k → ((o : Origin) → BeginsFrom constants r k o → Ends o → ⊥) → Remains constants Ends ks ks' s s' w w' r ⊎ Shown later w' r (known ks' r) (register s' r)
+      kept k e same on = inl (record {
+        known_is = known_is ∙ ap (without_class class) e ∙ same ∙ sym e;
+        register_is = register_is;
+        number_is = number_is;
+        place_is = place_is;
+        owns_is = owns_is;
+        goes_on = λ o f. on o (subst (λ x. BeginsFrom constants r x o) e f);
+      })
+
+      by : (k : RegisterType) → known ks r ≡ k → Shown h.pictured w r k (register s r) → Remains constants Ends ks ks' s s' w w' r ⊎ Shown later w' r (known ks' r) (register s' r)
+      by RegisterType.Undefined e m = kept RegisterType.Undefined e refl (λ o f. absurd f)
+      by RegisterType.Int e m = kept RegisterType.Int e refl (λ o f. absurd f)
+      by (RegisterType.Owner T) e m = kept (RegisterType.Owner T) e refl (λ o f g. apart (subst Ends f g))
+      by (RegisterType.Reference c T) e m = choose (same_class class c) refl
+        where
+          choose : (t : Bool) → same_class class c ≡ t → Remains constants Ends ks ks' s s' w w' r ⊎ Shown later w' r (known ks' r) (register s' r)
+          choose true f =
+              let gone : known ks' r ≡ RegisterType.Undefined = known_is ∙ ap (without_class class) e ∙ ap (λ t. if t then RegisterType.Undefined else RegisterType.Reference c T) f in
+              inr (subst (λ k. Shown later w' r k (register s' r)) (sym gone) (owns_is ∙ m.0))
+          choose false f = kept (RegisterType.Reference c T) e (ap (λ t. if t then RegisterType.Undefined else RegisterType.Reference c T) f) (λ o g ends. origins_apart constants one class c o o f (within o ends) g refl)

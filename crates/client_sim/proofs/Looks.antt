@@ -1,0 +1,57 @@
+-- What an image pictures of a state, without the bytes that hold it: so objects may move in steps, of which only the last is in the image.
+use Rattle.std.proofs.Common.{◌≡◌, ℕ, List, ◌++◌, Option, refl}
+use Rattle.std.specs.Prelude.{option_map}
+use Rattle.seg_spec.specs.Index.{Root, root_named, root_of_type}
+use Rattle.seg_spec.specs.Sound.{Picture, IsHeld}
+use Rattle.client_spec.specs.Machine.{Origin, State}
+use Rattle.client_spec.specs.Pictures.{root_of_register, AreOwned, names_in, uniques_in, Pictures, root_at}
+
+-- the picture has the state's types, names and unique objects, and what registers own beside the others
+pub record Looks (others : List Root) (s : State) : Type 0 where
+  pub picture : Picture
+  pub types : picture.table ≡ s.types
+  pub names : (name : List ℕ) → s.names name ≡ names_in picture name
+  pub uniques : (T : ℕ) → s.uniques T ≡ uniques_in picture T
+  pub owned : List Root
+  pub are_owned : AreOwned s.registers owned
+  pub loose : picture.loose ≡ others ++ owned
+
+-- the root at which paths begin, and which of its items
+abbrev pub root_in : {others : List Root} {s : State} → Looks others s → Origin → Option (Root × ℕ)
+root_in looks (Origin.Name name i) = option_map (λ root. (root, i)) (root_named looks.picture.names name)
+root_in looks (Origin.Unique T) = option_map (λ root. (root, 0)) (root_of_type looks.picture.uniques T)
+root_in {s = s} looks (Origin.Owned r) = option_map (λ root. (root, 0)) (root_of_register s.registers looks.owned r)
+
+abbrev pub looks_of : {others : List Root} {s : State} {bytes : List ℕ} → Pictures others s bytes → Looks others s
+looks_of pictured = record {
+  picture = pictured.picture;
+  types = pictured.types;
+  names = pictured.names;
+  uniques = pictured.uniques;
+  owned = pictured.owned;
+  are_owned = pictured.are_owned;
+  loose = pictured.loose;
+}
+
+-- bytes that hold the picture
+abbrev pub held_by : {others : List Root} {s : State} {bytes : List ℕ} → (looks : Looks others s) → IsHeld bytes looks.picture → Pictures others s bytes
+held_by looks held = record {
+  picture = looks.picture;
+  held = held;
+  types = looks.types;
+  names = looks.names;
+  uniques = looks.uniques;
+  owned = looks.owned;
+  are_owned = looks.are_owned;
+  loose = looks.loose;
+}
+
+pub begins_in : {others : List Root} {s : State} {bytes : List ℕ} (pictured : Pictures others s bytes) (o : Origin) → root_at pictured o ≡ root_in (looks_of pictured) o
+begins_in pictured (Origin.Name name i) = refl
+begins_in pictured (Origin.Unique T) = refl
+begins_in pictured (Origin.Owned r) = refl
+
+pub begins_at : {others : List Root} {s : State} {bytes : List ℕ} (looks : Looks others s) (held : IsHeld bytes looks.picture) (o : Origin) → root_in looks o ≡ root_at (held_by looks held) o
+begins_at looks held (Origin.Name name i) = refl
+begins_at looks held (Origin.Unique T) = refl
+begins_at looks held (Origin.Owned r) = refl
