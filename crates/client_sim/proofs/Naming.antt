@@ -9,6 +9,7 @@ use Rattle.client_spec.specs.Machine.{Origin, State, with_name}
 use Rattle.client_spec.specs.Pictures.{Pictures, object_of, root_at, root_of_register}
 use Rattle.client_spec.proofs.States.{same_name_is, same_name_refl}
 use Rattle.client_sim.proofs.FirstRoots.{Among, among_left, among_right, first_of, first_split, first_among, first_here, first_beside, is_named, is_of_type, named_first, typed_first, each_among}
+use Rattle.client_sim.proofs.Looks.{looks_of}
 use Rattle.client_sim.proofs.RootPuts.{root_of_pair, among_loose}
 use Rattle.client_sim.proofs.Rooted.{KeepsRoots}
 
@@ -101,7 +102,7 @@ origin_among pictured (Origin.Unique U) r i h =
     (among_left pictured.picture.uniques pictured.picture.loose r (first_among (is_of_type U) pictured.picture.uniques r (sym (typed_first pictured.picture.uniques U) ∙ p.0)))
 origin_among {s = s} pictured (Origin.Owned k) r i h =
     let p = root_of_pair (root_of_register s.registers pictured.owned k) 0 r i h in
-    among_right pictured.picture.names (pictured.picture.uniques ++ pictured.picture.loose) r (among_right pictured.picture.uniques pictured.picture.loose r (among_loose pictured k r p.0))
+    among_right pictured.picture.names (pictured.picture.uniques ++ pictured.picture.loose) r (among_right pictured.picture.uniques pictured.picture.loose r (among_loose (looks_of pictured) k r p.0))
 
 abbrev named_place : ℕ → Option Root → Option (Root × ℕ)
 named_place k o = option_map {T = Root} {U = Root × ℕ} (λ root. (root, k)) o
@@ -267,7 +268,7 @@ module _ {others : List Root} {s : State} {old : List ℕ} (pictured : Pictures 
         inr (e, kept r (behind r (among_left pictured.picture.uniques pictured.picture.loose r (first_among (is_of_type U) pictured.picture.uniques r (sym (typed_first pictured.picture.uniques U) ∙ p.0)))))
     begins_without (Origin.Owned k) r i e =
         let p = root_of_pair (root_of_register s.registers pictured.owned k) 0 r i e in
-        inr (e, kept r (behind r (among_right pictured.picture.uniques pictured.picture.loose r (among_loose pictured k r p.0))))
+        inr (e, kept r (behind r (among_right pictured.picture.uniques pictured.picture.loose r (among_loose (looks_of pictured) k r p.0))))
     begins_without (Origin.Name m k) r i e = by_name (same_name m name) refl
       where
         by_name : (b : Bool) → same_name m name ≡ b → EndsAt (Origin.Name m k) ⊎ ((root_at without_then (Origin.Name m k) ≡ Some (r, i)) × KeepsPaths old new pictured.picture.table r)
