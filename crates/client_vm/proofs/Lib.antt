@@ -9,3 +9,4 @@ pub mod ObjectLaws
 pub mod ItemLaws
 pub mod NamedLaws
 pub mod PositionLaws
+pub mod IndexLaws
