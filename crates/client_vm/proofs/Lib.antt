@@ -10,3 +10,5 @@ pub mod ItemLaws
 pub mod NamedLaws
 pub mod PositionLaws
 pub mod IndexLaws
+pub mod CourseLaws
+pub mod OwnerLaws

@@ -9,3 +9,5 @@ pub mod Admitted
 pub mod Worlds
 pub mod Named
 pub mod Positions
+pub mod Courses
+pub mod Owners
