@@ -14,3 +14,5 @@ pub mod PositionLaws
 pub mod OwningLaws
 pub mod IndexLaws
 pub mod TogetherLaws
+pub mod CourseLaws
+pub mod UnnamedLaws

@@ -10,3 +10,5 @@ pub mod Worlds
 pub mod Named
 pub mod Positions
 pub mod Together
+pub mod Courses
+pub mod Owners

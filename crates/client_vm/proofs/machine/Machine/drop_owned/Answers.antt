@@ -1,4 +1,4 @@
-use Rattle.client_vm.proofs.OwnerLaws.{drop_acts_on}
+use Rattle.client_vm.proofs.UnnamedLaws.{drop_acts_on}
 use Rattle.client_vm.proofs.machine.Machine.drop_owned.Goals as goal
 
 pub returns-clause-does : goal.returns-clause-does

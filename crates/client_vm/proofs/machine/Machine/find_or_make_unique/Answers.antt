@@ -1,4 +1,4 @@
-use Rattle.client_vm.proofs.OwnerLaws.{find_or_make_unique_opens}
+use Rattle.client_vm.proofs.UnnamedLaws.{find_or_make_unique_opens}
 use Rattle.client_vm.proofs.machine.Machine.find_or_make_unique.Goals as goal
 
 pub returns-clause-does : goal.returns-clause-does

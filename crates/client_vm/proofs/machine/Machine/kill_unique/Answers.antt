@@ -1,4 +1,4 @@
-use Rattle.client_vm.proofs.OwnerLaws.{kill_unique_acts_on}
+use Rattle.client_vm.proofs.UnnamedLaws.{kill_unique_acts_on}
 use Rattle.client_vm.proofs.machine.Machine.kill_unique.Goals as goal
 
 pub returns-clause-does : goal.returns-clause-does

@@ -1,4 +1,4 @@
-use Rattle.client_vm.proofs.OwnerLaws.{make_unique_opens}
+use Rattle.client_vm.proofs.UnnamedLaws.{make_unique_opens}
 use Rattle.client_vm.proofs.machine.Machine.make_unique.Goals as goal
 
 pub returns-clause-does : goal.returns-clause-does

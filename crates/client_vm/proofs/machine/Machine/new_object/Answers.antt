@@ -1,4 +1,4 @@
-use Rattle.client_vm.proofs.OwnerLaws.{new_opens}
+use Rattle.client_vm.proofs.UnnamedLaws.{new_opens}
 use Rattle.client_vm.proofs.machine.Machine.new_object.Goals as goal
 
 pub returns-clause-does : goal.returns-clause-does
