@@ -1,25 +1,18 @@
 -- A heap is in order still where its headers stay, and the words of its free structure.
-use Rattle.std.proofs.Common.{◌≡◌, ℕ, zero, suc, ◌+◌, ◌≤◌, true, false, List, [], ◌∷◌, length, cond, Option, None, refl, sym, ap, ◌∙◌, subst, arith}
+use Rattle.std.proofs.Common.{◌≡◌, ℕ, zero, suc, ◌+◌, ◌≤◌, List, [], ◌∷◌, length, Option, None, refl, sym, ap, ◌∙◌, subst, arith}
 use Rattle.std.specs.List.{AllByRecursion}
 use Rattle.seg_spec.specs.Bytes.{IsSame}
 use Rattle.seg_spec.specs.Header.{free_word}
 use Rattle.seg_spec.specs.Pointer.{target}
-use Rattle.seg_spec.specs.Heap.{Span, Tile, span_of, tiles, AreHeaders, IsHeap, live, live_of, free_of, gaps, Links, HoldsGaps}
+use Rattle.seg_spec.specs.Heap.{Span, tiles, AreHeaders, IsHeap, live, live_of, gaps, Links, HoldsGaps}
 use Rattle.seg_spec.proofs.Frame.{target-same}
 use Rattle.seg_spec.proofs.TileLaws.{tiles-unique}
-use Rattle.seg_spec.proofs.HeapFrame.{AreHeaders-kept, HoldsGaps-kept, link-kept}
+use Rattle.seg_spec.proofs.HeapFrame.{each_free, AreHeaders-kept, HoldsGaps-kept, link-kept}
 use Rattle.seg_spec.proofs.FreeLaws.{gaps-free}
 
 Links_same : (old new : List ℕ) (at : ℕ) (gs : List Span) (last : Option ℕ) → target new at ≡ target old at → AllByRecursion (λ g. IsSame old new g.at 16) gs → Links old at gs last → Links new at gs last
 Links_same old new at [] last e a l = e ∙ l
 Links_same old new at (g ∷ gs) last e a l = (e ∙ l.0, Links_same old new (g.at + 12) gs last (link-kept old new g.at a.0) a.1 l.1)
-
--- what holds of each tile, said of the free ones
-pub each_free_tile : (P : Tile → Type 0) (Q : Span → Type 0) → ((t : Tile) → P t → Q (span_of t)) → (ts : List Tile) → AllByRecursion P ts → AllByRecursion Q (free_of ts)
-each_free_tile P Q f [] a = tt
-each_free_tile P Q f (t ∷ ts) a =
-    let rest = each_free_tile P Q f ts a.1 in
-    elim t.live as (λ b. AllByRecursion Q (cond b (free_of ts) (span_of t ∷ free_of ts))) [ true ↦ rest | false ↦ (f t a.0, rest) ]
 
 -- the pointer to the free blocks, each header, and what the allocator has of its own in each gap
 pub record KeepsOrder (a : ℕ) (old new : List ℕ) : Type 0 where
@@ -43,7 +36,7 @@ module _ (a : ℕ) (old new : List ℕ) (heap : IsHeap a old) (k : KeepsOrder a 
   gaps_same = rw (order_live, k.length_kept) refl
 
   gap_headers : AllByRecursion (λ g. IsSame old new g.at 16) (gaps old)
-  gap_headers = subst (AllByRecursion (λ g. IsSame old new g.at 16)) (sym (gaps-free old a heap)) (each_free_tile (λ t. IsSame old new t.at 16) (λ g. IsSame old new g.at 16) (λ t s. s) (tiles old) k.headers)
+  gap_headers = subst (AllByRecursion (λ g. IsSame old new g.at 16)) (sym (gaps-free old a heap)) (each_free (λ p. IsSame old new p 16) (tiles old) k.headers)
 
   holds_gaps : (b : ℕ) → b ≡ a → HoldsGaps b old (gaps old) → HoldsGaps b new (gaps old)
   holds_gaps zero e h = Links_same old new free_word (gaps old) None (target-same old new free_word k.root) gap_headers h

@@ -45,12 +45,18 @@ several_extended (b ∷ bs) end n two =
     let off : eqb n 1 ≡ false = grind (arith, nat_tests) in
     rw off (ap (λ cs. b ∷ cs) (several_extended bs end n two))
 
--- a heap that ends a unit later: what is two units below its end still is, of gaps too
+-- where the units after a block begin, and where they do once the heap ends a unit later: a block
+-- that ended at the end has that unit
 abbrev Moved : ℕ → ℕ → ℕ → Type 0
 Moved end from later = ((later ≡ from) × (from < end)) ⊎ (later ≡ end + 16)
 
-gaps_moved : (bs : List Span) (end from later : ℕ) → Moved end from later → AllByRecursion (λ b. (2 ≤ b.units) × (end_of b ≤ end)) bs → AllByRecursion (λ g. g.at + 32 ≤ end) (gaps_between from bs end)
-    → AllByRecursion (λ g. g.at + 32 ≤ end) (gaps_between later (after_extend bs end 1) (end + 16))
+-- each gap begins two units before the end, or earlier
+abbrev Early : ℕ → List Span → Type 0
+Early end gs = AllByRecursion (λ g. g.at + 32 ≤ end) gs
+
+-- so where all gaps were early, they all still are
+gaps_moved : (bs : List Span) (end from later : ℕ) → Moved end from later → AllByRecursion (λ b. (2 ≤ b.units) × (end_of b ≤ end)) bs → Early end (gaps_between from bs end)
+    → Early end (gaps_between later (after_extend bs end 1) (end + 16))
 gaps_moved [] end from later (inl e) a g =
     let on : nat_lt from end ≡ true = grind (arith, nat_tests) in
     let low : AllByRecursion {X = Span} (λ g. g.at + 32 ≤ end) (record { at = from; units = (end - from) / 16 } ∷ []) = rw on at g in
@@ -60,20 +66,20 @@ gaps_moved [] end from later (inr e) a g =
     rw off tt
 gaps_moved (b ∷ bs) end from later m a g = go (cases_eq (end_of b) end) (λ next c. gaps_moved bs end (end_of b) next c a.1 after)
   where
-    before : Moved end from later → AllByRecursion (λ g. g.at + 32 ≤ end) (run later b.at)
+    before : Moved end from later → Early end (run later b.at)
     before (inl e) = rw e.0 (each_left (λ g. g.at + 32 ≤ end) (run from b.at) (gaps_between (end_of b) bs end) g)
     before (inr e) =
         let high = a.0 in
         let off : nat_lt later b.at ≡ false = grind (arith, nat_tests) in
         rw off tt
 
-    after : AllByRecursion (λ g. g.at + 32 ≤ end) (gaps_between (end_of b) bs end)
+    after : Early end (gaps_between (end_of b) bs end)
     after = each_right (λ g. g.at + 32 ≤ end) (run from b.at) (gaps_between (end_of b) bs end) g
 
     below : end_of b ≢ end → end_of b ≤ end → end_of b < end
     below ne high = grind (arith)
 
-    go : (end_of b ≡ end) ⊎ (end_of b ≢ end) → ((next : ℕ) → Moved end (end_of b) next → AllByRecursion (λ g. g.at + 32 ≤ end) (gaps_between next (after_extend bs end 1) (end + 16))) → AllByRecursion (λ g. g.at + 32 ≤ end) (gaps_between later (after_extend (b ∷ bs) end 1) (end + 16))
+    go : (end_of b ≡ end) ⊎ (end_of b ≢ end) → ((next : ℕ) → Moved end (end_of b) next → Early end (gaps_between next (after_extend bs end 1) (end + 16))) → Early end (gaps_between later (after_extend (b ∷ bs) end 1) (end + 16))
     go (inl e) others =
         let on : eqb (end_of b) end ≡ true = grind (arith, nat_tests) in
         let next = others (b.at + 16 * (b.units + 1)) (inr (omega arith)) in
@@ -86,7 +92,8 @@ gaps_moved (b ∷ bs) end from later m a g = go (cases_eq (end_of b) end) (λ ne
 
 -- ---- the heap
 
-module _ (a : ℕ) (old mid : List ℕ) (extra end : ℕ) (heap : IsHeap a (without_end old (extra / 16))) (e : Extends a old mid (extra / 16)) (long : length old ≡ end + extra) (high : min_length ≤ end) (more : 0 < extra) (whole : extra % 16 ≡ 0) where
+module _ (a : ℕ) (old mid : List ℕ) (extra end : ℕ) (heap : IsHeap a (without_end old (extra / 16))) (e : Extends a old mid (extra / 16))
+    (long : length old ≡ end + extra) (high : min_length ≤ end) (more : 0 < extra) (whole : extra % 16 ≡ 0) where
   abbrev front : List ℕ
   front = without_end old (extra / 16)
 
@@ -107,13 +114,14 @@ module _ (a : ℕ) (old mid : List ℕ) (extra end : ℕ) (heap : IsHeap a (with
     units_one : extra / 16 ≡ 1
     units_one = omega arith
 
-    front_gaps : AllByRecursion (λ g. g.at + 32 ≤ end) (gaps front)
-    front_gaps = subst (AllByRecursion (λ g. g.at + 32 ≤ end)) (sym (gaps-free front a heap)) (each_weaker _ (λ g. g.at + 32 ≤ end) (λ g h. omega (arith, h.1, front_long)) (free_of (tiles front)) (free_before (tiles front) heap_start (length front) heap.filled))
+    front_gaps : Early end (gaps front)
+    front_gaps = subst (Early end) (sym (gaps-free front a heap))
+        (each_weaker _ (λ g. g.at + 32 ≤ end) (λ g h. omega (arith, h.1, front_long)) (free_of (tiles front)) (free_before (tiles front) heap_start (length front) heap.filled))
 
-    one_gaps : AllByRecursion (λ g. g.at + 32 ≤ end) (gaps mid)
+    one_gaps : Early end (gaps mid)
     one_gaps =
         let one_longer : length mid ≡ end + 16 = omega (arith, e.length_kept) in
-        let old_gaps : AllByRecursion (λ g. g.at + 32 ≤ end) (gaps_between heap_start (live front) end) = subst (λ k. AllByRecursion (λ g. g.at + 32 ≤ end) (gaps_between heap_start (live front) k)) front_long front_gaps in
+        let old_gaps : Early end (gaps_between heap_start (live front) end) = subst (λ k. Early end (gaps_between heap_start (live front) k)) front_long front_gaps in
         let moved = gaps_moved (live front) end heap_start heap_start (inl (refl, omega arith)) blocks old_gaps in
         let live_one : live mid ≡ after_extend (live front) end 1 = live_then ∙ ap (after_extend (live front) end) units_one in
         rw (live_one, one_longer) moved

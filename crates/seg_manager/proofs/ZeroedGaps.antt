@@ -13,6 +13,7 @@ use Rattle.seg_spec.proofs.BytesLaws.{Agrees-put}
 use Rattle.seg_spec.proofs.Frame.{each_weaker, each_both, each_left, each_right, word-same, target-same}
 use Rattle.seg_spec.proofs.TileLaws.{Fill-le, Fill-append, free_of-append}
 use Rattle.seg_spec.proofs.HeaderLaws.{AreHeaders-agrees}
+use Rattle.seg_spec.proofs.HeapFrame.{each_free}
 use Rattle.seg_spec.proofs.FreeLaws.{gaps-free}
 use Rattle.seg_spec.proofs.LiveLaws.{there, each_there, times-append}
 use Rattle.seg_spec.proofs.RootFrame.{HoldsRoots-kept}
@@ -23,7 +24,7 @@ use Rattle.seg_manager.specs.Gaps.{spare_start, spare_size, IsZeroed, LiesBeside
 use Rattle.seg_manager.specs.Segments.{IsSegment}
 use Rattle.seg_spec.proofs.LooseRoots.{each_joined}
 use Rattle.seg_manager.proofs.LooseObjects.{allocator_same}
-use Rattle.seg_manager.proofs.KeptOrder.{each_free_tile, KeepsOrder, order_live, order_heap}
+use Rattle.seg_manager.proofs.KeptOrder.{KeepsOrder, order_live, order_heap}
 use Rattle.seg_manager.proofs.TileWalk.{Rest, Reads, reads_tile}
 
 -- ---- the walk
@@ -246,7 +247,8 @@ module _ (a : ℕ) (old new : List ℕ) (heap : IsHeap a old) (few : a ≤ 1) (z
     length_kept = z.length_kept;
     root = low_same free_word 4 (omega arith);
     headers = each_weaker TileSame (λ t. IsSame old new t.at 16) (λ t s. s.header) (tiles old) all_same;
-    own_words = λ some. subst (AllByRecursion (λ g. IsSame old new (g.at + 16) 16)) (sym gaps_are) (each_free_tile TileSame (λ g. IsSame old new (g.at + 16) 16) (λ t s. s.first some) (tiles old) all_same);
+    own_words = λ some. subst (AllByRecursion (λ g. IsSame old new (g.at + 16) 16)) (sym gaps_are)
+        (each_free (λ p. IsSame old new (p + 16) 16) (tiles old) (each_weaker TileSame (λ t. IsSame old new (t.at + 16) 16) (λ t s. s.first some) (tiles old) all_same));
   }
 
   pub live_same : live new ≡ live old
