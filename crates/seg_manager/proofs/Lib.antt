@@ -8,7 +8,9 @@ pub mod Counting
 pub mod TableBytes
 pub mod TypesAdded
 pub mod Creating
+pub mod KeptOrder
 pub mod ZeroedGaps
+pub mod NewZeros
 pub mod Resizing
 pub mod NamedMaking
 pub mod NewNamed

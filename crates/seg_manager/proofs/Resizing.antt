@@ -1,5 +1,5 @@
 -- A segment whose heap ends elsewhere holds its picture still.
-use Rattle.std.proofs.Common.{◌≡◌, ◌≢◌, ℕ, suc, ◌+◌, ◌-◌, ◌*◌, ◌/◌, ◌%◌, ◌<◌, ◌≤◌, ◌⊎◌, inl, inr, ◌&&◌, true, false, eqb, List, [], ◌∷◌, ◌++◌, length, take, drop, cond, refl, sym, ap, ◌∙◌, subst, arith}
+use Rattle.std.proofs.Common.{◌≡◌, ◌≢◌, ℕ, suc, ◌+◌, ◌-◌, ◌*◌, ◌/◌, ◌%◌, ◌<◌, ◌≤◌, ◌⊎◌, inl, inr, ◌&&◌, true, false, eqb, List, [], ◌∷◌, ◌++◌, length, replicate, take, drop, cond, refl, sym, ap, ◌∙◌, subst, arith}
 use Rattle.std.specs.Prelude.{Contains, slice_index_or}
 use Rattle.std.specs.List.{AllByRecursion}
 use Rattle.std.proofs.lemmas.Bool.{cases_eq, cases_lt}
@@ -23,7 +23,7 @@ use Rattle.seg_spec.proofs.SliceLaws.{IsSame-part, slice-slice, region-placed}
 use Rattle.seg_spec.specs.Window.{Placement, region_of, with_bytes}
 use Rattle.seg_value.specs.Stored.{Stored}
 use Rattle.seg_manager.specs.Segments.{IsSegment}
-use Rattle.seg_manager.specs.Sizes.{Grows, Shrinks}
+use Rattle.seg_manager.specs.Sizes.{used_front, Grows, Shrinks}
 use Rattle.seg_manager.proofs.ZeroedGaps.{free_before}
 
 -- ---- bytes at the front of longer ones
@@ -241,6 +241,10 @@ module _ (p q : Placement) (same_region : region_of q ≡ region_of p) (base : l
       let end : length q.before + length q.bytes ≡ length p.before + length p.bytes + extra = omega arith in
       sym (its_after q) ∙ ap (λ b. drop (length q.before + length q.bytes) b) same_region ∙ ap (λ n. drop n (region_of p)) end ∙ sym (drop_twice (region_of p) (length p.before + length p.bytes) extra) ∙ ap (drop extra) (its_after p)
 
+-- a change of bytes after another
+pub host_then : (p q r : Placement) (b : List ℕ) → q ≡ with_bytes p q.bytes → r ≡ with_bytes q b → r ≡ with_bytes p r.bytes
+host_then p q r b e f = f ∙ ap (λ (x : Placement). with_bytes x b) e ∙ ap (with_bytes p) (sym (ap (λ (x : Placement). x.bytes) f))
+
 -- ---- growing
 
 module _ (allocator : ℕ) (old : Stored) (picture : Picture) (is : IsSegment allocator old picture) (q : Placement) (extra : ℕ) (same_region : region_of q ≡ region_of old.window) (base : length q.before ≡ length old.window.before)
@@ -257,6 +261,10 @@ module _ (allocator : ℕ) (old : Stored) (picture : Picture) (is : IsSegment al
   none_extended [] end = refl
   none_extended (b ∷ bs) end = ap (λ cs. b ∷ cs) (none_extended bs end)
 
+  no_zeros : (b : List ℕ) (at n : ℕ) → n ≡ 0 → slice b at n ≡ replicate n 0
+  unfolding slice
+  no_zeros b at n e = rw e refl
+
   pub grown_by_none : (new : Stored) → extra ≡ 0 → new.window ≡ q → new.types ≡ old.types → Grows allocator old new picture extra
   grown_by_none new none window types =
       let b : new.window.bytes ≡ bytes = ap (λ (r : Placement). r.bytes) window ∙ same_bytes none in
@@ -266,6 +274,7 @@ module _ (allocator : ℕ) (old : Stored) (picture : Picture) (is : IsSegment al
         length_is = ap length b ∙ omega arith;
         live_is = ap (λ x. live x) b ∙ none_extended (live bytes) (length bytes) ∙ ap (after_extend (live bytes) (length bytes)) (sym units);
         kept = λ h some. rw b (record { live = refl; has_tag = refl; room = omega arith; payload = refl });
+        zeros = no_zeros new.window.bytes (length bytes + used_front allocator extra) (extra - used_front allocator extra) (omega arith);
         before_is = ap (λ (r : Placement). r.before) window ∙ before_same old.window q same_region base;
         after_is = ap (λ (r : Placement). r.after) window ∙ after_same old.window q same_region base extra long;
       }
@@ -286,8 +295,9 @@ module _ (allocator : ℕ) (old : Stored) (picture : Picture) (is : IsSegment al
         ap (λ k. take k filled.bytes) n ∙ ap (take (length bytes)) filled_bytes ∙ take-put q.bytes (length bytes) zeros (length bytes) (omega arith)
         ∙ front_bytes old.window q same_region base (length bytes) (omega arith) (omega arith) ∙ take_all (length bytes) bytes (omega arith)
 
-    pub grown : (types : Rattle.seg_spec.specs.Types.Table) → types ≡ old.types → Extends allocator filled.bytes new.bytes (extra / 16) → Grows allocator old (record { window = new; types = types }) picture extra
-    grown types types_are e =
+    pub grown : (types : Rattle.seg_spec.specs.Types.Table) → types ≡ old.types → Extends allocator filled.bytes new.bytes (extra / 16)
+        → slice new.bytes (length bytes + used_front allocator extra) (extra - used_front allocator extra) ≡ replicate (extra - used_front allocator extra) 0 → Grows allocator old (record { window = new; types = types }) picture extra
+    grown types types_are e zeros_are =
         let e' : Extends (word bytes allocator_word) filled.bytes new.bytes (extra / 16) = rw is.allocator_is e in
         let r = extended bytes filled.bytes new.bytes (extra / 16) picture is.held front_is (omega (arith, filled_long, units_are)) (rw filled_long sized) e' in
         let n : length filled.bytes - 16 * (extra / 16) ≡ length bytes = omega (arith, filled_long, units_are) in
@@ -300,6 +310,7 @@ module _ (allocator : ℕ) (old : Stored) (picture : Picture) (is : IsSegment al
           length_is = e.length_kept ∙ filled_long;
           live_is = e.extends ∙ ap (λ b. after_extend (live b) (length filled.bytes - 16 * (extra / 16)) (extra / 16)) front_is ∙ ap (λ k. after_extend (live bytes) k (extra / 16)) n;
           kept = kept_block bytes new.bytes picture is.held r;
+          zeros = zeros_are;
           before_is = ap (λ (r : Placement). r.before) host ∙ ap (λ (r : Placement). r.before) filled_is ∙ before_same old.window q same_region base;
           after_is = ap (λ (r : Placement). r.after) host ∙ ap (λ (r : Placement). r.after) filled_is ∙ after_same old.window q same_region base extra long;
         }

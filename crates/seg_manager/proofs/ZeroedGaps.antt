@@ -1,20 +1,19 @@
 -- Zeros in the gaps of a heap, after what the allocator keeps there.
-use Rattle.std.proofs.Common.{◌≡◌, ℕ, zero, suc, ◌+◌, ◌*◌, ◌≤◌, ◌⊎◌, inl, inr, true, false, List, [], ◌∷◌, ◌++◌, length, replicate, cond, Option, None, refl, sym, ap, ◌∙◌, subst, arith, append-nil}
+use Rattle.std.proofs.Common.{◌≡◌, ℕ, ◌+◌, ◌*◌, ◌≤◌, ◌⊎◌, inl, inr, true, false, List, [], ◌∷◌, ◌++◌, length, replicate, cond, refl, sym, ap, ◌∙◌, subst, arith, append-nil}
 use Rattle.std.proofs.lemmas.Bool.{false≢true}
 use Rattle.std.proofs.lemmas.List.{append_assoc, length-replicate}
 use Rattle.std.specs.List.{AllByRecursion}
 use Rattle.seg_spec.specs.Bytes.{word, slice, put, IsSame, ChangesOnly}
 use Rattle.seg_spec.specs.Header.{allocator_word, free_word, back_start, back_size, KeepsFront, KeepsBack}
-use Rattle.seg_spec.specs.Pointer.{target}
-use Rattle.seg_spec.specs.Heap.{Span, span, Tile, span_of, end_of, units_at, is_live_at, tiles, Fill, AreHeaders, IsHeap, live, live_of, free_of, gaps, heap_start, Links, HoldsGaps}
+use Rattle.seg_spec.specs.Heap.{Span, span, Tile, span_of, end_of, units_at, is_live_at, tiles, Fill, AreHeaders, IsHeap, live, live_of, free_of, gaps, heap_start}
 use Rattle.seg_spec.specs.Block.{IsOwnable, KeepsBlock, payload_size}
 use Rattle.seg_spec.specs.Apart.{Separate}
 use Rattle.seg_spec.specs.Sound.{Picture, IsHeld, times, positions}
 use Rattle.seg_spec.proofs.BytesLaws.{Agrees-put}
 use Rattle.seg_spec.proofs.Frame.{each_weaker, each_both, each_left, each_right, word-same, target-same}
-use Rattle.seg_spec.proofs.TileLaws.{Fill-le, Fill-append, tiles-unique, free_of-append}
+use Rattle.seg_spec.proofs.TileLaws.{Fill-le, Fill-append, free_of-append}
 use Rattle.seg_spec.proofs.HeaderLaws.{AreHeaders-agrees}
-use Rattle.seg_spec.proofs.HeapFrame.{AreHeaders-kept, HoldsGaps-kept, link-kept}
+use Rattle.seg_spec.proofs.HeapFrame.{each_free}
 use Rattle.seg_spec.proofs.FreeLaws.{gaps-free}
 use Rattle.seg_spec.proofs.LiveLaws.{there, each_there, times-append}
 use Rattle.seg_spec.proofs.RootFrame.{HoldsRoots-kept}
@@ -25,6 +24,7 @@ use Rattle.seg_manager.specs.Gaps.{spare_start, spare_size, IsZeroed, LiesBeside
 use Rattle.seg_manager.specs.Segments.{IsSegment}
 use Rattle.seg_spec.proofs.LooseRoots.{each_joined}
 use Rattle.seg_manager.proofs.LooseObjects.{allocator_same}
+use Rattle.seg_manager.proofs.KeptOrder.{KeepsOrder, order_live, order_heap}
 use Rattle.seg_manager.proofs.TileWalk.{Rest, Reads, reads_tile}
 
 -- ---- the walk
@@ -156,7 +156,7 @@ module _ (a : ℕ) (old mid : List ℕ) (at units : ℕ) (z : Zeroing a old mid 
 abbrev Beside : Tile → Span → Type 0
 Beside t g = ((t.live ≡ false) × (t.at ≡ g.at)) ⊎ Separate t.at (16 * t.units) g.at (16 * g.units)
 
-tiles_after : (ts : List Tile) (from to : ℕ) → Fill from ts to → AllByRecursion (λ t. (from ≤ t.at) × (2 ≤ t.units) × (t.at + 16 * t.units ≤ to)) ts
+pub tiles_after : (ts : List Tile) (from to : ℕ) → Fill from ts to → AllByRecursion (λ t. (from ≤ t.at) × (2 ≤ t.units) × (t.at + 16 * t.units ≤ to)) ts
 tiles_after [] from to f = tt
 tiles_after (t ∷ ts) from to f =
     let le = Fill-le ts (from + 16 * t.units) to f.2 in
@@ -176,22 +176,12 @@ all_beside (t ∷ ts) from to f =
       | false ↦ (λ e. ((inl (e, refl), mine), both))
     ] refl
 
-Links_same : (old new : List ℕ) (at : ℕ) (gs : List Span) (last : Option ℕ) → target new at ≡ target old at → AllByRecursion (λ g. IsSame old new g.at 16) gs → Links old at gs last → Links new at gs last
-Links_same old new at [] last e a l = e ∙ l
-Links_same old new at (g ∷ gs) last e a l = (e ∙ l.0, Links_same old new (g.at + 12) gs last (link-kept old new g.at a.0) a.1 l.1)
-
--- what holds of each tile, said of the live and of the free ones
+-- what holds of each tile, said of the live ones
 each_live_tile : (P : Tile → Type 0) (Q : Span → Type 0) → ((t : Tile) → t.live ≡ true → P t → Q (span_of t)) → (ts : List Tile) → AllByRecursion P ts → AllByRecursion Q (live_of ts)
 each_live_tile P Q f [] a = tt
 each_live_tile P Q f (t ∷ ts) a =
     let rest = each_live_tile P Q f ts a.1 in
     elim t.live as (λ b. t.live ≡ b → AllByRecursion Q (cond b (span_of t ∷ live_of ts) (live_of ts))) [ true ↦ (λ e. (f t e a.0, rest)) | false ↦ (λ e. rest) ] refl
-
-each_free_tile : (P : Tile → Type 0) (Q : Span → Type 0) → ((t : Tile) → P t → Q (span_of t)) → (ts : List Tile) → AllByRecursion P ts → AllByRecursion Q (free_of ts)
-each_free_tile P Q f [] a = tt
-each_free_tile P Q f (t ∷ ts) a =
-    let rest = each_free_tile P Q f ts a.1 in
-    elim t.live as (λ b. AllByRecursion Q (cond b (free_of ts) (span_of t ∷ free_of ts))) [ true ↦ rest | false ↦ (f t a.0, rest) ]
 
 -- all gaps are zeroed, and nothing else changed
 pub record AllZeroed (a : ℕ) (old new : List ℕ) : Type 0 where
@@ -252,40 +242,20 @@ module _ (a : ℕ) (old new : List ℕ) (heap : IsHeap a old) (few : a ≤ 1) (z
   all_same : AllByRecursion TileSame (tiles old)
   all_same = each_both _ _ TileSame (λ t b h. tile_same t b h.1) (tiles old) (all_beside (tiles old) heap_start (length old) heap.filled) (tiles_after (tiles old) heap_start (length old) heap.filled)
 
-  headers_same : AllByRecursion (λ t. IsSame old new t.at 16) (tiles old)
-  headers_same = each_weaker TileSame (λ t. IsSame old new t.at 16) (λ t s. s.header) (tiles old) all_same
-
-  new_headers : AreHeaders new 0 (tiles old)
-  new_headers = AreHeaders-kept old new (tiles old) 0 headers_same heap.headers
-
-  tiles_same : tiles new ≡ tiles old
-  tiles_same = tiles-unique new (tiles old) (rw z.length_kept heap.filled) new_headers
+  kept_order : KeepsOrder a old new
+  kept_order = record {
+    length_kept = z.length_kept;
+    root = low_same free_word 4 (omega arith);
+    headers = each_weaker TileSame (λ t. IsSame old new t.at 16) (λ t s. s.header) (tiles old) all_same;
+    own_words = λ some. subst (AllByRecursion (λ g. IsSame old new (g.at + 16) 16)) (sym gaps_are)
+        (each_free (λ p. IsSame old new (p + 16) 16) (tiles old) (each_weaker TileSame (λ t. IsSame old new (t.at + 16) 16) (λ t s. s.first some) (tiles old) all_same));
+  }
 
   pub live_same : live new ≡ live old
-  unfolding live
-  live_same = ap live_of tiles_same
-
-  gaps_same : gaps new ≡ gaps old
-  gaps_same = rw (live_same, z.length_kept) refl
-
-  gap_headers : AllByRecursion (λ g. IsSame old new g.at 16) (gaps old)
-  gap_headers = subst (AllByRecursion (λ g. IsSame old new g.at 16)) (sym gaps_are) (each_free_tile TileSame (λ g. IsSame old new g.at 16) (λ t s. s.header) (tiles old) all_same)
-
-  gap_firsts : 1 ≤ a → AllByRecursion (λ g. IsSame old new (g.at + 16) 16) (gaps old)
-  gap_firsts some = subst (AllByRecursion (λ g. IsSame old new (g.at + 16) 16)) (sym gaps_are) (each_free_tile TileSame (λ g. IsSame old new (g.at + 16) 16) (λ t s. s.first some) (tiles old) all_same)
-
-  holds_gaps : (b : ℕ) → b ≡ a → HoldsGaps b old (gaps old) → HoldsGaps b new (gaps old)
-  holds_gaps zero e h = Links_same old new free_word (gaps old) None (target-same old new free_word (low_same free_word 4 (omega arith))) gap_headers h
-  holds_gaps (suc n) e h = HoldsGaps-kept old new (suc n) (gaps old) (low_same free_word 4 (omega arith)) gap_headers (gap_firsts (omega arith)) h
+  live_same = order_live a old new heap kept_order
 
   pub heap_same : IsHeap a new
-  heap_same = record {
-    filled = rw (tiles_same, z.length_kept) heap.filled;
-    headers = rw tiles_same new_headers;
-    apart = rw tiles_same heap.apart;
-    free = subst (HoldsGaps a new) (sym gaps_same) (holds_gaps a refl heap.free);
-    small = rw z.length_kept heap.small;
-  }
+  heap_same = order_heap a old new heap kept_order
 
   -- a live block with its header
   record LiveSame (b : Span) : Type 0 where

@@ -1,8 +1,10 @@
 -- What a segment's change of size leaves.
 --     MayGrowTo extra len                        a segment may have so many more bytes
+--     used_front allocator extra                 where among them a header may stand
 --     Grows allocator old new picture extra      it has more bytes at its end, and its picture
 --     Shrinks allocator old new picture size     the gap at its end was cut, and it has its picture
-use Rattle.std.specs.Prelude.{◌≡◌, ℕ, ◌+◌, ◌*◌, ◌/◌, ◌%◌, ◌≤◌, length, drop}
+use Rattle.std.specs.Prelude.{◌≡◌, ℕ, ◌+◌, ◌-◌, ◌*◌, ◌/◌, ◌%◌, ◌≤◌, ◌==◌, if◌then◌else◌, length, drop, replicate}
+use Rattle.seg_spec.specs.Bytes.{slice}
 use Rattle.seg_spec.specs.Heap.{live, gaps, after_extend, units_to_cut}
 use Rattle.seg_spec.specs.Block.{KeepsBlock}
 use Rattle.seg_spec.specs.Faulty.{IsImageLength}
@@ -14,8 +16,14 @@ use Rattle.seg_manager.specs.Segments.{IsSegment}
 abbrev pub MayGrowTo : ℕ → ℕ → Type 0
 MayGrowTo extra len = (extra % 16 ≡ 0) × IsImageLength len
 
+-- how many bytes at the front of the new ones may hold the header of a gap and the allocator's own
+-- words: a single unit has no header
+abbrev pub used_front : ℕ → ℕ → ℕ
+used_front allocator extra = if extra == 16 then 0 else 16 + 16 * allocator
+
 -- the picture and every live block are kept; a single new unit goes to a block that ended at the
--- end; the host's bytes before and after the larger segment are kept
+-- end; the new bytes after the used front are 0; the host's bytes before and after the larger
+-- segment are kept
 pub record Grows (allocator : ℕ) (old new : Stored) (picture : Picture) (extra : ℕ) : Type 0 where
   pub segment : IsSegment allocator new picture
   pub length_is : length new.window.bytes ≡ length old.window.bytes + extra
@@ -23,6 +31,8 @@ pub record Grows (allocator : ℕ) (old new : Stored) (picture : Picture) (extra
       after_extend (live old.window.bytes) (length old.window.bytes) (extra / 16)
   pub kept : (h : ℕ) → 1 ≤ times h (positions (live old.window.bytes)) →
       KeepsBlock old.window.bytes new.window.bytes h
+  pub zeros : slice new.window.bytes (length old.window.bytes + used_front allocator extra)
+      (extra - used_front allocator extra) ≡ replicate (extra - used_front allocator extra) 0
   pub before_is : new.window.before ≡ old.window.before
   pub after_is : new.window.after ≡ drop extra old.window.after
 

@@ -2,17 +2,29 @@ ghost use Rattle.std.specs.Prelude.{◌≡◌, ◌+◌, ◌≤◌, ◌⊎◌, �
 ghost use Rattle.seg_spec.specs.Sound.{Picture};
 ghost use Rattle.seg_spec.specs.Window.{region_of};
 ghost use Rattle.seg_manager.specs.Segments.{IsSegment};
-ghost use Rattle.seg_manager.specs.Sizes.{MayGrowTo, Grows, Shrinks};
+ghost use Rattle.seg_manager.specs.Sizes.{MayGrowTo, used_front, Grows, Shrinks};
 
 use crate::segment::{Segment, is_size};
 use seg_block::{Fit, UNIT};
 use seg_raw::Fault;
 use std::alloc::Allocator;
 
+/// How many bytes at the front of so many new ones the heap may write: the header of a gap, and what the allocator keeps
+/// after it. A single unit goes to the block or the gap before it.
+fn used_front<F: Fit>(extra: u32) -> u32
+    ensures { result ≡ used_front F.allocator extra }
+{
+    if extra == UNIT {
+        return 0;
+    }
+    UNIT + F::free_words()
+}
+
 /// The size of the segment, which changes while nobody else uses it.
 impl<F: Fit, A: Allocator> Segment<F, A> {
-    /// Adds `extra` bytes after the segment's end, and returns its new size in bytes. `BadSize` where that
-    /// is no size of a segment, `NoHostRoom` where the region ends before it; then nothing changes.
+    /// Adds `extra` bytes after the segment's end, all of them 0 but what the heap may write at their front, and returns the
+    /// new size in bytes. `BadSize` where that is no size of a segment, `NoHostRoom` where the region ends before it; then
+    /// nothing changes.
     pub fn grow(&mut self, extra: u32) -> Result<u32, Fault>
         ensures types { self.new.types ≡ self.old.types }
         ensures size { IfOk result (λ size. size ≡ length self.old.window.bytes + extra) }
@@ -38,9 +50,13 @@ impl<F: Fit, A: Allocator> Segment<F, A> {
             return Err(Fault::NoHostRoom);
         }
         if extra > 0 {
-            // what the host had there doesn't get into a saved image
-            w.fill(len as usize, extra as usize, 0);
+            // what the host had there doesn't get into a saved image: zeros stand first where a header may be written, and
+            // then in all that lies after it
+            let front = used_front::<F>(extra);
+            w.fill(len as usize, front as usize, 0);
             F::extend_end(w, extra / UNIT);
+            let rest = extra.saturating_sub(front);
+            w.fill(len as usize + front as usize, rest as usize, 0);
         }
         Ok(size)
     }
