@@ -4,4 +4,5 @@ use Rattle.client_spec.specs.Grammar.{word_bytes}
 
 abbrev pub header_bytes : ℕ → ℕ → ℕ → List ℕ
 header_bytes types constants instructions =
-    codes "SEGC" ++ word_bytes 1 ++ word_bytes types ++ word_bytes constants ++ word_bytes instructions
+    codes "SEGC" ++ word_bytes 1
+    ++ word_bytes types ++ word_bytes constants ++ word_bytes instructions

@@ -17,7 +17,7 @@ use Rattle.client_spec.proofs.Listed.{all_listed}
 use Rattle.client_spec.proofs.OneClient.{mark_word}
 use Rattle.client_spec.proofs.Values.{Some_inj}
 use Rattle.client_verify.specs.Passing.{Progress, initial_progress, at_most, passes, passes_all}
-use Rattle.client_verify.specs.Refusals.{IsRejected}
+use Rattle.client_verify.specs.Refusals.{IsRejected, WalksTo}
 use Rattle.client_verify.proofs.Walking.{followed, walked}
 
 -- ---- instructions
@@ -75,10 +75,6 @@ accepted (Err reason) n p e = cc
 -- what is known after the code, or the first reason to refuse it
 abbrev known_in_parts : Client → Checked RegisterTypes
 known_in_parts tree = types_after tree.types tree.constants tree.code (replicate 16 RegisterType.Undefined)
-
--- the instructions in front of the place i lead here
-abbrev pub WalksTo : Client → ℕ → Checked Progress → Type 0
-WalksTo tree i here = passes_all tree.types tree.constants initial_progress (take i (listing tree.code)) ≡ here
 
 module _ (tree : Client) (valid : IsClient tree) where
   all_passed : passes_all tree.types tree.constants initial_progress (listing tree.code) ≡ Ended (known_in_parts tree) (at_most (bound tree.code))

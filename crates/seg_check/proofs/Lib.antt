@@ -20,7 +20,7 @@ pub mod EntryLoop
 pub mod AscendLaws
 pub mod FlatMapLaws
 pub mod PassedTiles
-pub mod FaultOrder
+pub mod LateFaults
 pub mod NodeLaws
 pub mod ListLaws
 pub mod WalkLaws

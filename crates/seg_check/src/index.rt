@@ -1,5 +1,5 @@
-ghost use Rattle.std.specs.Prelude.{◌≡◌, ℕ, ◌+◌, ◌*◌, ◌^◌, ◌≤◌, ◌↔◌, List, [], ◌∷◌, length, All, IsTrue, IfOk, IfErr, OnOk, Some};
-ghost use Rattle.seg_spec.specs.Bytes.{word, half, byte};
+ghost use Rattle.std.specs.Prelude.{◌≡◌, ℕ, ◌+◌, ◌^◌, ◌≤◌, ◌↔◌, List, [], ◌∷◌, All, IsTrue, IfOk, IfErr, OnOk, Some};
+ghost use Rattle.seg_spec.specs.Bytes.{word};
 ghost use Rattle.seg_spec.specs.Pointer.{target};
 ghost use Rattle.seg_spec.specs.Header.{index_kind_word, index_cell};
 ghost use Rattle.seg_spec.specs.Index.{Precedes, index_node_size};
@@ -16,7 +16,7 @@ use crate::marks::Turn;
 use crate::walk::{Tree, Visit};
 use seg_index::{ENTRY, IndexKind, NameEntry, name_count, named_tag, node_content};
 use seg_manager::MAX_NAME;
-use seg_ptr::{Window, header};
+use seg_ptr::header;
 use seg_value::Content;
 use std::alloc::Allocator;
 
@@ -126,17 +126,16 @@ impl<'w, A: Allocator> Image<'w, A> {
         before: &[u8],
     ) -> Result<&'w [u8], ContentFault>
         ensures claimed { (rest : List ℕ) →
-            IsReady self.now.w.now.bytes self.now.types.now claims.old →
-            at + 8 ≤ length self.now.w.now.bytes → IfOk result (λ name.
+            IsReady self.now.w.now.bytes self.now.types.now claims.old → IfOk result (λ name.
             AdvancesRoots self.now.w.now.bytes self.now.types.now claims.old claims.new
             (names_ahead (at ∷ rest) before.now) (names_ahead rest name.now)) }
         ensures refused { (rest : List ℕ) →
             IsReady self.now.w.now.bytes self.now.types.now claims.old →
-            at + 8 ≤ length self.now.w.now.bytes → IfErr result (λ fault. Refuses fault
+            IfErr result (λ fault. Refuses fault
             (CanResolveRoots self.now.w.now.bytes self.now.types.now claims.old.unclaimed
             (names_ahead (at ∷ rest) before.now))) }
     {
-        let entry = entry_at(self.w, at);
+        let entry = NameEntry::read(self.w, at as usize);
         let len = entry.name_len;
         if entry.count == 0 || len == 0 || len > MAX_NAME || entry.zero != 0 {
             return Err(ContentFault::BadIndex(at));
@@ -178,23 +177,6 @@ impl<'w, A: Allocator> Image<'w, A> {
             })?;
         }
         Ok(())
-    }
-}
-
-/// The entry at a position, each part by its own bytes.
-fn entry_at<A: Allocator>(w: &Window<A>, at: u32) -> NameEntry
-    ensures object { result.object ≡ target w.now.bytes at }
-    ensures small { result.count ≤ 65535 }
-    ensures count { at + 8 ≤ length w.now.bytes → result.count ≡ half w.now.bytes (at + 4) }
-    ensures name_len { result.name_len ≡ byte w.now.bytes (at + 6) }
-    ensures zero { result.zero ≡ byte w.now.bytes (at + 7) }
-{
-    let at = at as usize;
-    NameEntry {
-        object: w.target(at),
-        count: u16::from(w.get8(at + 4)) + 256 * u16::from(w.get8(at + 5)),
-        name_len: w.get8(at + 6),
-        zero: w.get8(at + 7),
     }
 }
 

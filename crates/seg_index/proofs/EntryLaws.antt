@@ -1,6 +1,6 @@
 -- Entries of the index as the code reads and writes them, against what the definitions say of them.
-use Rattle.std.proofs.Common.{◌≡◌, ◌≢◌, ℕ, ◌+◌, ◌-◌, ◌*◌, ◌/◌, ◌%◌, ◌^◌, ◌<◌, ◌≤◌, inl, List, [], ◌∷◌, length, Some, refl, sym, ap, ◌∙◌, subst, arith}
-use Rattle.seg_spec.specs.Bytes.{word, half, byte, slice, number, number_of, set_number, set_word, spelled, spelling, ChangesOnly}
+use Rattle.std.proofs.Common.{◌≡◌, ◌≢◌, ℕ, ◌+◌, ◌-◌, ◌/◌, ◌%◌, ◌^◌, ◌<◌, ◌≤◌, inl, List, length, Some, refl, sym, ap, ◌∙◌, subst, arith}
+use Rattle.seg_spec.specs.Bytes.{half, byte, slice, number, number_of, set_number, set_word, spelling, ChangesOnly}
 use Rattle.seg_spec.specs.Index.{Root, IsName, IsEntry}
 use Rattle.seg_spec.specs.Pointer.{set_pointer, distance}
 use Rattle.seg_spec.specs.Value.{count}
@@ -10,44 +10,19 @@ use Rattle.seg_spec.specs.Heap.{live, tag_at}
 use Rattle.seg_spec.specs.Block.{Kind, tag_of, block_of, AllowsType, IsOwnable}
 use Rattle.seg_spec.proofs.Standing.{live_at}
 use Rattle.seg_spec.specs.Cells.{IsWithin}
-use Rattle.seg_spec.proofs.BytesLaws.{number_in, number-set_other, number-slice, length-set_number, length-slice}
+use Rattle.seg_spec.proofs.BytesLaws.{number-set_other, number-slice, length-set_number}
 use Rattle.seg_spec.proofs.SliceLaws.{slice-slice, slice-put_same}
 use Rattle.seg_spec.proofs.Writing.{set_number-changes}
 use Rattle.seg_spec.proofs.CellSteps.{ChangesOnly-trans, ChangesOnly-wider}
 use Rattle.seg_spec.proofs.PointerLaws.{target-set_same, target-same}
 use Rattle.seg_value.specs.Names.{IsSameEntry}
-use Rattle.seg_index.specs.Names.{values_at, len_at, type_at, name_after, name_of, name_at}
+use Rattle.seg_index.specs.Names.{type_at, name_after, name_of, name_at}
 use Rattle.seg_index.proofs.NamedTags.{is_named, in_block}
-use Rattle.seg_index.specs.Entries.{zero_at, entry_read, rest_of, write_entry}
+use Rattle.seg_index.specs.Entries.{entry_read, rest_of, write_entry}
 use Rattle.seg_index.specs.Lists.{entry_of, IsNamed}
 use Rattle.seg_index.specs.declared.entry.NameEntry.{NameEntry}
 
 -- ---- the parts of a word
-
-four : (s : List ℕ) → length s ≡ 4 → spelled s ≡ spelled (slice s 0 2) + 2 ^ 16 * spelled (slice s 2 1) + 2 ^ 24 * spelled (slice s 3 1)
-unfolding slice
-four [] e = absurd (omega arith)
-four (a ∷ []) e = absurd (omega arith)
-four (a ∷ b ∷ []) e = absurd (omega arith)
-four (a ∷ b ∷ c ∷ []) e = absurd (omega arith)
-four (a ∷ b ∷ c ∷ d ∷ []) e = omega arith
-four (a ∷ b ∷ c ∷ d ∷ x ∷ s) e = absurd (omega arith)
-
-number_slice : (w : ℕ) (bytes : List ℕ) (at : ℕ) → at + w ≤ length bytes → number w bytes at ≡ spelled (slice bytes at w)
-unfolding slice
-number_slice w bytes at fits = number_in w bytes at fits
-
--- the lower half of a word, and its two upper bytes
-pub word_parts : (bytes : List ℕ) (at : ℕ) → at + 4 ≤ length bytes → word bytes at ≡ half bytes at + 2 ^ 16 * byte bytes (at + 2) + 2 ^ 24 * byte bytes (at + 3)
-word_parts bytes at fits =
-    let whole : word bytes at ≡ spelled (slice bytes at 4) = number_slice 4 bytes at fits in
-    let zero_more : at + 0 ≡ at = omega arith in
-    let low : half bytes at ≡ spelled (slice (slice bytes at 4) 0 2) =
-    number_slice 2 bytes at (omega arith) ∙ ap (λ p. spelled (slice bytes p 2)) (sym zero_more) ∙ ap spelled (sym (slice-slice bytes at 4 0 2 (omega arith))) in
-    let third : byte bytes (at + 2) ≡ spelled (slice (slice bytes at 4) 2 1) = number_slice 1 bytes (at + 2) (omega arith) ∙ ap spelled (sym (slice-slice bytes at 4 2 1 (omega arith))) in
-    let fourth : byte bytes (at + 3) ≡ spelled (slice (slice bytes at 4) 3 1) = number_slice 1 bytes (at + 3) (omega arith) ∙ ap spelled (sym (slice-slice bytes at 4 3 1 (omega arith))) in
-    let parts = four (slice bytes at 4) (length-slice bytes at 4 fits) in
-    omega arith
 
 -- what a word spells that was written
 written_part : (bytes : List ℕ) (at n i w : ℕ) → at + 4 ≤ length bytes → i + w ≤ 4 → number w (set_word bytes at n) (at + i) ≡ number w (spelling 4 n) i
@@ -70,23 +45,8 @@ fourth_byte n = omega arith
 
 -- ---- what an entry says
 
-module _ (bytes : List ℕ) (entry : ℕ) (root : Root) (o : IsEntry bytes entry root) (fits : entry + 8 ≤ length bytes) where
-  rest_is : word bytes (entry + 4) ≡ count root.values + 2 ^ 16 * length root.name
-  rest_is =
-      let parts = word_parts bytes (entry + 4) (omega arith) in
-      let third : byte bytes (entry + 4 + 2) ≡ length root.name = ap (byte bytes) (let e : entry + 4 + 2 ≡ entry + 6 = omega arith in e) ∙ o.measured in
-      let fourth : byte bytes (entry + 4 + 3) ≡ 0 = ap (byte bytes) (let e : entry + 4 + 3 ≡ entry + 7 = omega arith in e) ∙ o.zero_is in
-      omega (arith, o.counted)
-
-  pub entry_reads : entry_read bytes entry ≡ entry_of root
-  entry_reads =
-      let short = o.is_name.short in
-      let few = o.few in
-      let whole = rest_is in
-      let values : values_at bytes entry ≡ count root.values = omega arith in
-      let len : len_at bytes entry ≡ length root.name = omega arith in
-      let last : zero_at bytes entry ≡ 0 = omega arith in
-      λ i. record { object = o.points i; count = values i; name_len = len i; zero = last i }
+pub entry_reads : (bytes : List ℕ) (entry : ℕ) (root : Root) → IsEntry bytes entry root → entry_read bytes entry ≡ entry_of root
+entry_reads bytes entry root o = λ i. record { object = o.points i; count = o.counted i; name_len = o.measured i; zero = o.zero_is i }
 
 -- an entry that stands elsewhere now is that of the same root
 pub entry_moved : (old new : List ℕ) (from to : ℕ) (root : Root) → IsSameEntry old new from to → IsEntry old from root → IsEntry new to root
@@ -167,5 +127,5 @@ module _ (bytes : List ℕ) (table : Table) (root : Root) (small : root.type < 3
   pub root_name : name_of table bytes (Some root.at) (count root.values) (length root.name) ≡ root.name
   root_name = ap (name_after table bytes root.at (count root.values) (length root.name)) type_is ∙ named.name_is
 
-  pub name_reads : (entry : ℕ) → IsEntry bytes entry root → entry + 8 ≤ length bytes → name_at table bytes entry ≡ root.name
-  name_reads entry o fits = ap (λ (e : NameEntry). name_of table bytes e.object e.count e.name_len) (entry_reads bytes entry root o fits) ∙ root_name
+  pub name_reads : (entry : ℕ) → IsEntry bytes entry root → name_at table bytes entry ≡ root.name
+  name_reads entry o = ap (λ (e : NameEntry). name_of table bytes e.object e.count e.name_len) (entry_reads bytes entry root o) ∙ root_name

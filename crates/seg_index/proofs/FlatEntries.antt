@@ -144,13 +144,13 @@ module _ (allocator : ℕ) (bytes : List ℕ) (table : Table) (names : List Root
   pub flat_reads : (i : ℕ) (r : Root) → slice_get names i ≡ Some r → entry_read bytes ((start bytes index_cell + i * 8) % 2 ^ 32) ≡ entry_of r
   flat_reads i r e =
       let h = below i r e in
-      ap (entry_read bytes) (flat_position i h) ∙ entry_reads bytes (from + i * 8) r (flat_entry i r e) (flat_fits i h)
+      ap (entry_read bytes) (flat_position i h) ∙ entry_reads bytes (from + i * 8) r (flat_entry i r e)
 
   pub flat_name : (i : ℕ) (r : Root) → slice_get names i ≡ Some r → name_at table bytes ((start bytes index_cell + i * 8) % 2 ^ 32) ≡ r.name
   flat_name i r e =
       let h = below i r e in
       let o = flat_named i r e in
-      ap (name_at table bytes) (flat_position i h) ∙ name_reads bytes table r (type_small bytes table r f.is_table f.ownable o) o (from + i * 8) (flat_entry i r e) (flat_fits i h)
+      ap (name_at table bytes) (flat_position i h) ∙ name_reads bytes table r (type_small bytes table r f.is_table f.ownable o) o (from + i * 8) (flat_entry i r e)
 
   pub flat_none : (i : ℕ) → count_at bytes index_cell ≤ i → slice_get names i ≡ None
   flat_none i h = slice_get_past names i (omega (arith, flat_length))

@@ -268,13 +268,10 @@ module _ (allocator : ℕ) (old mid wrote : List ℕ) (table : Table) (names : L
       let apart : root.at ≢ node + 16 + 1 = (λ e. let odd : root.at % 16 ≡ 1 = omega arith in let none : root.at % 16 ≡ 0 = omega arith in omega arith) in
       subst (λ bs. IsEntry bs (node + 16) root) (sym wrote_is) (entry_written mid (node + 16) root within low apart may.is_name may.some may.few)
 
-  entry_fits : node + 16 + 8 ≤ length wrote
-  entry_fits = let high = lies_mid.high in let back = g.is_block.after_header in let room = g.is_block.room in let two = lies_mid.size in let long = writes.length_kept in omega arith
-
   its_listed : IsListed wrote table node root
   its_listed =
       let small = type_small wrote table root s.is_table ownable_then named_then in
-      record { entry = entry_then; read_is = entry_reads wrote (node + 16) root entry_then entry_fits; name_is = name_reads wrote table root small named_then (node + 16) entry_then entry_fits }
+      record { entry = entry_then; read_is = entry_reads wrote (node + 16) root entry_then; name_is = name_reads wrote table root small named_then (node + 16) entry_then }
 
   -- ---- the nodes, with the new one
 

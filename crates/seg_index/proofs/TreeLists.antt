@@ -17,7 +17,7 @@ use Rattle.seg_spec.specs.Search.{Ascend, IsSearchTree, first_where, reaches}
 use Rattle.seg_spec.specs.Reads.{AreNodes}
 use Rattle.seg_spec.specs.Index.{Root, Index, OpensIndex, OpensTreeIndex, IsEntry, AreEntries, root_named, same_name}
 use Rattle.seg_spec.specs.Sound.{times, positions}
-use Rattle.seg_spec.proofs.LiveLaws.{times-same, times-more, there, LiesIn, live-lie}
+use Rattle.seg_spec.proofs.LiveLaws.{times-same, times-more}
 use Rattle.seg_spec.proofs.FewBlocks.{no_more, few_live}
 use Rattle.seg_rbtree.specs.declared.path.Path.{Path}
 use Rattle.seg_rbtree.specs.Ways.{LeadsTo}
@@ -140,40 +140,26 @@ module _ (allocator : ℕ) (bytes : List ℕ) (table : Table) (names : List Root
   pub record IsNode (p : ℕ) : Type 0 where
     pub block : IsBlock bytes p (tag_of Kind.index_node 0) 24
     pub is_live : 1 ≤ times (block_of p) (positions (live bytes))
-    pub low : heap_start + 16 ≤ p
-    pub end : p + 24 ≤ length bytes
-
-  node_by : (p : ℕ) → IsBlock bytes p (tag_of Kind.index_node 0) 24 → 1 ≤ times (block_of p) (positions (live bytes)) → IsNode p
-  node_by p b is_live =
-      let l = there (LiesIn bytes heap_start (length bytes)) (block_of p) (positions (live bytes)) (live-lie bytes allocator s.heap) is_live in
-      let size = l.size in
-      let room = b.room in
-      let low = l.low in
-      let high = l.high in
-      let back = b.after_header in
-      record { block = b; is_live = is_live; low = omega arith; end = omega arith }
 
   each_node : (ns : List ℕ) → AreNodes bytes (tag_of Kind.index_node 0) 24 ns → ((h : ℕ) → 1 ≤ times h (map block_of ns) → 1 ≤ times h (positions (live bytes))) → AllByRecursion IsNode ns
   each_node [] a o = tt
-  each_node (p ∷ ps) a o = (node_by p a.0 (o (block_of p) (omega (arith, times-same (block_of p) (map block_of ps)))), each_node ps a.1 (λ h some. o h (omega (arith, times-more h (block_of p) (map block_of ps)))))
+  each_node (p ∷ ps) a o = (record { block = a.0; is_live = o (block_of p) (omega (arith, times-same (block_of p) (map block_of ps))) }, each_node ps a.1 (λ h some. o h (omega (arith, times-more h (block_of p) (map block_of ps)))))
 
   pub are_nodes : AllByRecursion IsNode nodes
   are_nodes = each_node nodes its.are_nodes (λ h some. let o = s.owned h in let e : times h blocks ≡ times h (map block_of nodes) = ap (times h) blocks_are in omega arith)
 
-  listed_by : (ns : List ℕ) (rs : List Root) → AreEntries bytes (map (λ p. p + 16) ns) rs → AllByRecursion IsNode ns → AllByRecursion (λ r. IsNamed bytes table r × (times (block_of r.at) blocks ≡ 0)) rs → AreListed bytes table ns rs
-  listed_by [] [] es ns rs = tt
-  listed_by [] (r ∷ rs) es ns named = absurd es
-  listed_by (x ∷ xs) [] es ns named = absurd es
-  listed_by (x ∷ xs) (r ∷ rs) es ns named =
-      let end = ns.0.end in
-      let fits : x + 16 + 8 ≤ length bytes = omega arith in
+  listed_by : (ns : List ℕ) (rs : List Root) → AreEntries bytes (map (λ p. p + 16) ns) rs → AllByRecursion (λ r. IsNamed bytes table r × (times (block_of r.at) blocks ≡ 0)) rs → AreListed bytes table ns rs
+  listed_by [] [] es rs = tt
+  listed_by [] (r ∷ rs) es named = absurd es
+  listed_by (x ∷ xs) [] es named = absurd es
+  listed_by (x ∷ xs) (r ∷ rs) es named =
       let small = type_small bytes table r s.is_table s.ownable named.0.0 in (
-        record { entry = es.0; read_is = entry_reads bytes (x + 16) r es.0 fits; name_is = name_reads bytes table r small named.0.0 (x + 16) es.0 fits },
-        listed_by xs rs es.1 ns.1 named.1,
+        record { entry = es.0; read_is = entry_reads bytes (x + 16) r es.0; name_is = name_reads bytes table r small named.0.0 (x + 16) es.0 },
+        listed_by xs rs es.1 named.1,
       )
 
   pub listed : AreListed bytes table nodes names
-  listed = listed_by nodes names entries_are are_nodes s.named
+  listed = listed_by nodes names entries_are s.named
 
   pub ascend : Ascend (order bytes table) nodes
   ascend = ascend_listed bytes table nodes names listed s.lists.ascending

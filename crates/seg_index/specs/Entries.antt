@@ -3,15 +3,15 @@
 --     entry_read bytes entry           what the entry at a position says
 --     rest_of entry                    the second word of an entry
 --     write_entry bytes at entry       the bytes with an entry at a position
-use Rattle.std.specs.Prelude.{ℕ, ◌+◌, ◌*◌, ◌/◌, ◌^◌, List}
-use Rattle.seg_spec.specs.Bytes.{word, set_word}
+use Rattle.std.specs.Prelude.{ℕ, ◌+◌, ◌*◌, ◌^◌, List}
+use Rattle.seg_spec.specs.Bytes.{byte, set_word}
 use Rattle.seg_spec.specs.Pointer.{target, set_pointer}
 use Rattle.seg_index.specs.Names.{values_at, len_at}
 use Rattle.seg_index.specs.declared.entry.NameEntry.{NameEntry}
 
 -- the last byte
 abbrev pub zero_at : List ℕ → ℕ → ℕ
-zero_at bytes entry = word bytes (entry + 4) / 2 ^ 24
+zero_at bytes entry = byte bytes (entry + 7)
 
 -- what the entry at a position says
 abbrev pub entry_read : List ℕ → ℕ → NameEntry

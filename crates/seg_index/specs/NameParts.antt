@@ -1,11 +1,12 @@
 -- A name is read from its parts alone.
-use Rattle.std.proofs.Common.{◌≡◌, ℕ, ◌+◌, ◌-◌, ◌/◌, ◌%◌, ◌^◌, List, Option, Some, None, refl, ap, ◌∙◌}
+use Rattle.std.proofs.Common.{◌≡◌, ℕ, ◌+◌, ◌-◌, ◌%◌, ◌^◌, ◌≤◌, List, Option, Some, None, refl, ap, ◌∙◌, arith}
 use Rattle.std.specs.Prelude.{◌==◌, nat_le, if◌then◌else◌}
 use Rattle.std.specs.List.{AllByRecursion}
 use Rattle.seg_spec.specs.Bytes.{IsSame}
 use Rattle.seg_spec.specs.Pointer.{target}
 use Rattle.seg_spec.specs.Types.{Table}
 use Rattle.seg_spec.proofs.BytesLaws.{number-slice}
+use Rattle.seg_spec.proofs.SliceLaws.{IsSame-part}
 use Rattle.seg_rbtree.specs.Parts.{Part}
 use Rattle.seg_index.specs.Names.{named_type, type_at, values_at, len_at}
 use Rattle.seg_index.specs.Names.{name_after, name_of, name_at, parts_after, parts_of, parts_at}
@@ -44,7 +45,10 @@ module _ (types : Table) (old new : List ℕ) where
   pub name_same : (entry : ℕ) → Same (parts_at types old entry)
       → name_at types new entry ≡ name_at types old entry
   name_same entry h =
-      let rest = number-slice 4 old new (entry + 4) (entry + 4) h.1.0 in
+      let rest = λ (p n : ℕ) (low : entry + 4 ≤ p) (high : p + n ≤ entry + 4 + 4).
+      number-slice n old new p p (IsSame-part old new (entry + 4) 4 p n low high h.1.0) in
+      let values = rest (entry + 4) 2 (omega arith) (omega arith) in
+      let len = rest (entry + 6) 1 (omega arith) (omega arith) in
       let pointer = target_same old new entry h.0 in
-      (λ i. name_of types new (pointer i) (rest i % 2 ^ 16) (rest i / 2 ^ 16 % 2 ^ 8))
+      (λ i. name_of types new (pointer i) (values i) (len i))
       ∙ of_same (target old entry) (values_at old entry) (len_at old entry) h.1.1

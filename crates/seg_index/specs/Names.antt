@@ -5,8 +5,8 @@
 --     parts_at types bytes entry       the bytes that the name is read from
 --     type_at bytes object             the type of a named object, by the tag of its block
 --     type_of bytes object             the same of the object that an entry may name
-use Rattle.std.specs.Prelude.{ℕ, ◌+◌, ◌-◌, ◌*◌, ◌/◌, ◌%◌, ◌^◌, ◌==◌, ◌&&◌, nat_le, nat_lt, if◌then◌else◌, List, [], ◌∷◌, Option, Some, None}
-use Rattle.seg_spec.specs.Bytes.{word, slice}
+use Rattle.std.specs.Prelude.{ℕ, ◌+◌, ◌-◌, ◌*◌, ◌/◌, ◌%◌, ◌==◌, ◌&&◌, nat_le, nat_lt, if◌then◌else◌, List, [], ◌∷◌, Option, Some, None}
+use Rattle.seg_spec.specs.Bytes.{half, byte, slice}
 use Rattle.seg_spec.specs.Heap.{tag_at}
 use Rattle.seg_spec.specs.Pointer.{target}
 use Rattle.seg_spec.specs.Types.{Table, size}
@@ -20,12 +20,12 @@ named_type tag = if (tag % 256 == 1) && nat_lt (tag / 256) 256 then Some (tag / 
 unfoldable pub type_at : List ℕ → ℕ → Option ℕ
 type_at bytes object = if nat_le 16 object then named_type (tag_at bytes (object - 16)) else None
 
--- the second word of an entry: how many values the object has, and the bytes of its name
+-- how many values an entry's object has, and the bytes of its name
 abbrev pub values_at : List ℕ → ℕ → ℕ
-values_at bytes entry = word bytes (entry + 4) % 2 ^ 16
+values_at bytes entry = half bytes (entry + 4)
 
 abbrev pub len_at : List ℕ → ℕ → ℕ
-len_at bytes entry = word bytes (entry + 4) / 2 ^ 16 % 2 ^ 8
+len_at bytes entry = byte bytes (entry + 6)
 
 -- the type of an entry's object
 abbrev pub type_of : List ℕ → Option ℕ → Option ℕ

@@ -1,8 +1,7 @@
-ghost use Rattle.std.specs.Prelude.{◌≡◌, ◌+◌, ◌*◌, ◌<◌, ◌^◌, Some};
-ghost use Rattle.seg_spec.specs.Pointer.{target};
+ghost use Rattle.std.specs.Prelude.{◌≡◌, ◌+◌, ◌*◌, ◌<◌, ◌≤◌, ◌^◌, Some};
 ghost use Rattle.seg_spec.specs.Window.{KeepsHost, with_bytes};
-ghost use Rattle.seg_index.specs.Names.{named_type, type_of, name_of, values_at, len_at};
-ghost use Rattle.seg_index.specs.Entries.{zero_at, write_entry};
+ghost use Rattle.seg_index.specs.Names.{named_type, type_of, name_of};
+ghost use Rattle.seg_index.specs.Entries.{entry_read, write_entry};
 
 use seg_block::{Kind, Tag, UNIT, tag_word};
 use seg_layout::{TypeId, TypeTable};
@@ -67,17 +66,13 @@ impl NameEntry {
 
     /// The entry at a position.
     pub fn read<A: Allocator>(w: &Window<A>, at: usize) -> NameEntry
-        ensures object { result.object ≡ target w.now.bytes at }
-        ensures count { at + 4 < 2 ^ 64 → result.count ≡ values_at w.now.bytes at }
-        ensures name_len { at + 4 < 2 ^ 64 → result.name_len ≡ len_at w.now.bytes at }
-        ensures zero { at + 4 < 2 ^ 64 → result.zero ≡ zero_at w.now.bytes at }
+        ensures { at + ENTRY ≤ 2 ^ 64 → result ≡ entry_read w.now.bytes at }
     {
-        let rest = w.get32(at.saturating_add(4));
         NameEntry {
             object: w.target(at),
-            count: (rest % (1 << 16)) as u16,
-            name_len: (rest / (1 << 16) % (1 << 8)) as u8,
-            zero: (rest / (1 << 24)) as u8,
+            count: w.get16(at.saturating_add(4)),
+            name_len: w.get8(at.saturating_add(6)),
+            zero: w.get8(at.saturating_add(7)),
         }
     }
 

@@ -49,7 +49,8 @@ pub trait NodeOrder<K: Copy> {
 
     // It reads no tree word of the node, where a header may lie before it.
     ghost apart: { exact → (order : Self) (bytes : List ℕ) (x : ℕ) → 16 ≤ x
-        → placed order bytes x → AllByRecursion (λ p. Separate p.at p.len x 16) (read order bytes x) };
+        → placed order bytes x
+        → AllByRecursion (λ p. Separate p.at p.len x 16) (read order bytes x) };
 
     // Nodes of which it reads the same compare as before.
     ghost steady: { exact → (order : Self) (old new : List ℕ) (x y : ℕ)

@@ -7,6 +7,7 @@ ghost use Rattle.seg_spec.specs.Cells.{further, IsWithin, ChangesCells, ChangesE
 ghost use Rattle.seg_spec.specs.Reads.{spaced};
 ghost use Rattle.seg_spec.specs.Types.{IsTable, size, fields_of};
 ghost use Rattle.seg_spec.specs.Window.{with_bytes, KeepsHost};
+ghost use Rattle.seg_value.specs.Places.{LiesWithin};
 ghost use Rattle.seg_value.specs.Pointers.{PointsAgain};
 
 use crate::entry::{Entry, Held};
@@ -25,7 +26,7 @@ const EMPTY: u64 = 1;
 #[inline]
 pub(crate) fn set_default<A: Allocator>(w: &mut Window<A>, types: &TypeTable, place: Place)
     ensures host { KeepsHost w.old w.new }
-    ensures cells { IsWithin w.old.bytes place.at (size types.now place.type_id) →
+    ensures cells { LiesWithin w.old.bytes types.now place →
         ChangesCells IsDefaulted w.old.bytes w.new.bytes types.now place.at place.type_id }
     ensures table { IsTable types.now }
 {
@@ -42,7 +43,7 @@ pub(crate) fn set_default<A: Allocator>(w: &mut Window<A>, types: &TypeTable, pl
 fn set_cell<A: Allocator>(w: &mut Window<A>, types: &TypeTable, cell: Place)
     ensures host { KeepsHost w.old w.new }
     ensures cells { length (fields_of types.now cell.type_id) ≡ 0 →
-        IsWithin w.old.bytes cell.at (size types.now cell.type_id) →
+        LiesWithin w.old.bytes types.now cell →
         ChangesCells IsDefaulted w.old.bytes w.new.bytes types.now cell.at cell.type_id }
 {
     let word = if types.has_pointers(cell.type_id) {
@@ -56,7 +57,7 @@ fn set_cell<A: Allocator>(w: &mut Window<A>, types: &TypeTable, cell: Place)
 /// Writes the default of a value, field by field.
 fn set_fields<A: Allocator>(w: &mut Window<A>, types: &TypeTable, place: Place)
     ensures host { KeepsHost w.old w.new }
-    ensures cells { IsWithin w.old.bytes place.at (size types.now place.type_id) →
+    ensures cells { LiesWithin w.old.bytes types.now place →
         ChangesCells IsDefaulted w.old.bytes w.new.bytes types.now place.at place.type_id }
     ensures table { IsTable types.now }
 {
@@ -80,7 +81,7 @@ pub(crate) fn point_again<A: Allocator>(
     distance: u32,
 )
     ensures host { KeepsHost w.old w.new }
-    ensures pointed { IsWithin w.old.bytes place.at (size types.now place.type_id) →
+    ensures pointed { LiesWithin w.old.bytes types.now place →
         ChangesCells (λ old new at form. IsFurther old new distance at form)
         w.old.bytes w.new.bytes types.now place.at place.type_id }
 {

@@ -8,7 +8,7 @@ use Rattle.seg_check.specs.Marks.{KnowsTiles}
 use Rattle.seg_check.specs.Tiles.{KnowsGaps}
 use Rattle.seg_check.proofs.HeapLaws.{ready_known, ready_within}
 use Rattle.seg_check.proofs.WholeLaws.{sound_resolves, roots_forth, are_turns, values_forth, all_owned, some_unowned, counted_last}
-use Rattle.seg_check.proofs.FaultOrder.{content_lacks}
+use Rattle.seg_check.proofs.LateFaults.{content_lacks}
 use Rattle.seg_check.proofs.checker.check_heap.Goals as goal
 
 pub returns-in_err-check_index-clause-fault : goal.returns-in_err-check_index-clause-fault

@@ -3,7 +3,7 @@ use Rattle.client_spec.specs.Syntax.{Client}
 use Rattle.client_spec.specs.Grammar.{SpellsClient}
 use Rattle.client_code.specs.Clients.{bytes_of}
 use Rattle.client_verify.specs.Verifiers.{progress_of}
-use Rattle.client_verify.proofs.Accepting.{WalksTo}
+use Rattle.client_verify.specs.Refusals.{WalksTo}
 use Rattle.client_verify.proofs.verified.accepting.bound_of.Given as goal
 
 abbrev pub invariant-loop-i : goal.invariant-loop-i

@@ -38,7 +38,7 @@ loop-index-preserved g c = λ ready fits.
     let rest = spaced (s + (i + 1) * 8) 8 (n - (i + 1)) in
     let done = c.loop-index.invariant ready fits in
     let at_is : c.at.result ≡ s + i * 8 = c.at.ensures ∙ ap (λ k. (s + i * k) % 2 ^ 32) c.index_buffer-content.ensures.size_is ∙ (let e : (s + i * 8) % 2 ^ 32 ≡ s + i * 8 = omega arith in e) in
-    let step = c.in_ok-before.ensures.claimed rest (ready_roots bytes table mid now (names_ahead (spaced s 8 n) []) (names_ahead (spaced (s + i * 8) 8 (n - i)) before) ready done) (omega arith) in
+    let step = c.in_ok-before.ensures.claimed rest (ready_roots bytes table mid now (names_ahead (spaced s 8 n) []) (names_ahead (spaced (s + i * 8) 8 (n - i)) before) ready done) in
     roots_more bytes table mid now new (names_ahead (spaced s 8 n) []) (names_ahead (spaced (s + i * 8) 8 (n - i)) before) (names_ahead rest c.in_ok-before.before.now) done
     (subst (λ xs. AdvancesRoots bytes table now new (names_ahead xs before) (names_ahead rest c.in_ok-before.before.now)) (ap (λ a. a ∷ rest) at_is ∙ sym (spaced_next bytes table s i n less)) step)
 
@@ -90,7 +90,7 @@ returns-in_err-before g c = λ p named counted ready flat.
     (λ can. subst (λ xs. CanResolveRoots bytes table now.unclaimed (names_ahead xs before)) (sym next)
     (can_roots bytes table mid now (names_ahead (spaced s 8 n) []) (names_ahead (spaced (s + i * 8) 8 (n - i)) before) done
     (flat_names bytes table flat s n claimed.names counted old mid some claimed.is_block claimed.claims can)))
-    (c.in_err-before.ensures.refused rest (ready_roots bytes table mid now (names_ahead (spaced s 8 n) []) (names_ahead (spaced (s + i * 8) 8 (n - i)) before) mid_ready done) (omega arith)))
+    (c.in_err-before.ensures.refused rest (ready_roots bytes table mid now (names_ahead (spaced s 8 n) []) (names_ahead (spaced (s + i * 8) 8 (n - i)) before) mid_ready done)))
 
 pub returns : goal.returns
 returns g c = λ p named counted ready flat.

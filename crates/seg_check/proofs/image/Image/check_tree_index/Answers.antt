@@ -78,7 +78,7 @@ loop-visit-preserved-in-Pass g c = record {
       let rest = map (λ p. p + tree_words) next.0 in
       let at_is : c.entry_in.result ≡ node + tree_words = c.entry_in.ensures (omega arith) in
       let mid_ready = ready_roots bytes table start now (names_ahead claimed.index.entries []) (names_ahead (map (λ p. p + tree_words) t.rest) last) (tree_ready bytes table old ready start claimed) t.advances in
-      let step = c.in_ok-before.ensures.claimed rest mid_ready (omega arith) in
+      let step = c.in_ok-before.ensures.claimed rest mid_ready in
       named_pass bytes table old ready start claimed now last walk.stage walk.turns t new.stage new.turns stepped.0 stepped.1 c.check_entry.new.claims c.in_ok-before.before.now node next.0 stepped.2 next.1
       (subst (λ a. AdvancesRoots bytes table now c.check_entry.new.claims (names_ahead (a ∷ rest) last) (names_ahead rest c.in_ok-before.before.now)) at_is step));
 }
@@ -114,7 +114,7 @@ returns-in_err-before g c = λ counted ready tree.
     (refuses_map e (CanResolveRoots bytes table now.unclaimed (names_ahead (c.entry_in.result ∷ rest) last)) (CanResolveIndex bytes table old.unclaimed)
     (λ can. subst (λ xs. CanResolveRoots bytes table now.unclaimed (names_ahead xs last)) (ap (map (λ p. p + tree_words)) next.1 ∙ sym (ap (λ a. a ∷ rest) at_is))
     (can_roots bytes table start now (names_ahead claimed.index.entries []) ahead t.advances (tree_names bytes table old ready start claimed tree can)))
-    (c.in_err-before.ensures.refused rest mid_ready (omega arith)))
+    (c.in_err-before.ensures.refused rest mid_ready))
 
 pub loop-visit-preserved : goal.loop-visit-preserved
 loop-visit-preserved g c = record {
