@@ -17,23 +17,23 @@ pub record NamesText (table : Table) (T : ℕ) (content : Content) : Type 0 wher
 
 module _ (table : Table) (T : ℕ) (c : Content) where
   abbrev Kinds : Kind → Type 0
-  Kinds k = KindOf table T (form_at table T) (Ok k)
+  Kinds k = KindOf table T (form_at table T) (Ok (k, c))
 
-  names_text : form_at table T ≡ Some Form.str → Kinds (kind.Text c) → NamesText table T c
+  names_text : form_at table T ≡ Some Form.str → Kinds kind.Text → NamesText table T c
   names_text f k =
       let text = rw f at k in
       record { names = (subst (λ o. ContentOf table T o (Some c)) (sym f) text, text.shape_is); size_is = text.size_is; before_is = text.before_is }
 
-  names_vector : (U : ℕ) → form_at table T ≡ Some (Form.vec U) → Kinds (kind.Vector c) → NamesBuffer table T c
+  names_vector : (U : ℕ) → form_at table T ≡ Some (Form.vec U) → Kinds kind.Vector → NamesBuffer table T c
   names_vector U f k =
       let entry = rw f at k in
       (subst (λ o. ContentOf table T o (Some c)) (sym f) entry, entry.shape_is)
 
-  pub names_list : (k : Kind) → k ≡ kind.List c → Kinds k → (U : ℕ) → form_at table T ≡ Some (Form.list U) → IsList table T U c
+  pub names_list : (k : Kind) → k ≡ kind.List → Kinds k → (U : ℕ) → form_at table T ≡ Some (Form.list U) → IsList table T U c
   names_list k is of U f = record { form_is = f; content_is = let l = subst Kinds is of in rw f at l }
 
   -- a buffer of either kind
-  module _ (k : Kind) (is : (k ≡ kind.Text c) ⊎ (k ≡ kind.Vector c)) (of : Kinds k) where
+  module _ (k : Kind) (is : (k ≡ kind.Text) ⊎ (k ≡ kind.Vector)) (of : Kinds k) where
     pub buffer_text : form_at table T ≡ Some Form.str → NamesText table T c
     buffer_text f = elim is [ inl e ↦ names_text f (subst Kinds e of) | inr e ↦ let no = rw f at (subst Kinds e of) in absurd no ]
 

@@ -1,12 +1,13 @@
 -- Sequences of any kind, as the calls on them find them.
 --     is_sequence form              values of this form are strings, vectors or lists
---     KindOf table T form result    the kind of the sequences of a type
+--     KindOf table T form result    the kind of the sequences of a type, and what their cells name
 use Rattle.std.specs.Prelude.{◌≡◌, ℕ, Bool, true, false, Option, Some, Result, Ok, Err}
 use Rattle.seg_spec.specs.Types.{Form, Table}
 use Rattle.seg_spec.specs.Block.{Kind, tag_of}
 use Rattle.seg_raw.specs.declared.code.Code.{Code}
 use Rattle.seg_raw.specs.declared.code.Code.TheVariants as code
 use Rattle.seg_value.specs.Contents.{IsContent, IsText}
+use Rattle.seg_value.specs.declared.content.Content.{Content}
 use Rattle.seg_value.specs.declared.content.Shape.TheVariants as shape
 use Rattle.seg_seq.specs.declared.kind.Kind as sequence
 use Rattle.seg_seq.specs.declared.kind.Kind.TheVariants as kind
@@ -18,12 +19,12 @@ is_sequence (Some (Form.vec U)) = true
 is_sequence (Some (Form.list U)) = true
 is_sequence _ = false
 
--- the kind of the sequences of a type: none where its values are no sequences
-abbrev pub KindOf : Table → ℕ → Option Form → Result sequence.Kind Code → Type 0
-KindOf table T (Some Form.str) (Ok (kind.Text content)) = IsText (tag_of Kind.buffer T) content
-KindOf table T (Some (Form.vec U)) (Ok (kind.Vector content)) =
+-- the kind of the sequences of a type, and what their cells name: none where its values are no sequences
+abbrev pub KindOf : Table → ℕ → Option Form → Result (sequence.Kind × Content) Code → Type 0
+KindOf table T (Some Form.str) (Ok (kind.Text, content)) = IsText (tag_of Kind.buffer T) content
+KindOf table T (Some (Form.vec U)) (Ok (kind.Vector, content)) =
     IsContent table shape.Buffer (tag_of Kind.buffer T) 0 U content
-KindOf table T (Some (Form.list U)) (Ok (kind.List content)) =
+KindOf table T (Some (Form.list U)) (Ok (kind.List, content)) =
     IsContent table shape.Ring (tag_of Kind.node T) 8 U content
 KindOf table T (Some Form.str) _ = ⊥
 KindOf table T (Some (Form.vec U)) _ = ⊥

@@ -1,55 +1,57 @@
-ghost use Rattle.std.specs.Prelude.{◌≡◌, ℕ, Option, Some};
+ghost use Rattle.std.specs.Prelude.{◌≡◌, ℕ, Option, Some, Ok, Err, MatchResult};
 ghost use Rattle.seg_spec.specs.Types.{Form, Table, form_at};
 ghost use Rattle.seg_value.specs.Contents.{ContentOf};
+ghost use Rattle.seg_value.specs.declared.content.Content.{Content as Named};
 ghost use Rattle.seg_value.specs.declared.content.Shape.TheVariants as shape;
 
 use seg_block::Fit;
 use seg_raw::Code;
-use seg_value::{Content, Heap, Held, Place, Shape};
+use seg_value::{Content, Entry, Heap, Held, Place, Shape};
 use std::alloc::Allocator;
 
-/// The kinds of sequences, by what the sequence's cell names.
+/// The kinds of sequences.
 #[derive(Debug, Clone, Copy, PartialEq, Eq)]
 pub(crate) enum Kind {
-    Text(Content),
-    Vector(Content),
-    List(Content),
+    Text,
+    Vector,
+    List,
 }
 
 impl Kind {
     ghost use Rattle.seg_seq.specs.Kinds.{KindOf};
 
-    /// The kind of the sequence at a place. `OtherType` where the place is none.
+    /// The kind of the sequence at a place, and what its cell names. `OtherType` where the place is none.
     #[inline(always)]
-    pub(crate) fn of<F: Fit, A: Allocator>(heap: &Heap<F, A>, sequence: Place) -> Result<Kind, Code>
+    pub(crate) fn of<F: Fit, A: Allocator>(
+        heap: &Heap<F, A>,
+        sequence: Place,
+    ) -> Result<(Kind, Content), Code>
         ensures { KindOf heap.now.types sequence.type_id (form_at heap.now.types sequence.type_id)
             result }
     {
         let content = heap.content(sequence.type_id).ok_or(Code::OtherType)?;
-        match content.shape {
-            Shape::Buffer => Kind::of_buffer(content),
-            Shape::Ring => Ok(Kind::List(content)),
-            Shape::Tree | Shape::Object => Err(Code::OtherType),
-        }
+        let kind = match content.shape {
+            Shape::Buffer => Kind::of_buffer(content.entry)?,
+            Shape::Ring => Kind::List,
+            Shape::Tree | Shape::Object => return Err(Code::OtherType),
+        };
+        Ok((kind, content))
     }
 
-    /// The entries of a flat map have keys before their values: it is no sequence.
+    /// The kind of the sequences whose buffers have these entries. Those of a flat map have keys before their values: it is
+    /// no sequence.
     #[inline(always)]
-    fn of_buffer(content: Content) -> Result<Kind, Code>
-        ensures { (table : Table) (T : ℕ) (form : Option Form) →
+    fn of_buffer(entry: Entry) -> Result<Kind, Code>
+        ensures { (table : Table) (T : ℕ) (form : Option Form) (content : Named) →
             ContentOf table T form (Some content) → content.shape ≡ shape.Buffer →
-            KindOf table T form result }
+            content.entry ≡ entry →
+            MatchResult result (λ kind. KindOf table T form (Ok (kind, content)))
+            (λ code. KindOf table T form (Err code)) }
     {
-        match content.entry.held {
-            Held::Bytes => Ok(Kind::Text(content)),
-            Held::Value(_) => {
-                if content.entry.before == 0 {
-                    Ok(Kind::Vector(content))
-                } else {
-                    Err(Code::OtherType)
-                }
-            }
-            Held::Pointer => Err(Code::OtherType),
+        match entry.held {
+            Held::Bytes => Ok(Kind::Text),
+            Held::Value(_) if entry.before == 0 => Ok(Kind::Vector),
+            Held::Value(_) | Held::Pointer => Err(Code::OtherType),
         }
     }
 }

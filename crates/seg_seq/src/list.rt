@@ -73,7 +73,7 @@ pub fn push_front<F: Fit, A: Allocator>(heap: &mut Heap<F, A>, list: Place) -> R
         (λ code. Refuses F.allocator heap.old.window.bytes heap.new.window.bytes
         (block_for (8 + size heap.old.types U) ∷ [])) }
 {
-    let Kind::List(content) = Kind::of(heap, list)? else {
+    let (Kind::List, content) = Kind::of(heap, list)? else {
         return Err(Code::OtherType);
     };
     let item = push_node(heap, &content, list.at)?;
@@ -121,7 +121,7 @@ pub fn pop_front<F: Fit, A: Allocator>(heap: &mut Heap<F, A>, list: Place) -> Re
         RemovesItem F.allocator heap.old.window.bytes heap.new.window.bytes heap.old.types
         (place_of list) vs blocks 0 }
 {
-    let Kind::List(content) = Kind::of(heap, list)? else {
+    let (Kind::List, content) = Kind::of(heap, list)? else {
         return Err(Code::OtherType);
     };
     let first = heap.window().target(list.at as usize).ok_or(Code::Null)?;

@@ -40,15 +40,13 @@ pub fn at<F: Fit, A: Allocator>(heap: &Heap<F, A>, sequence: Place, index: u32) 
         MatchResult result (λ at. index < count_at heap.now.window.bytes sequence.at)
         (IsPast index (count_at heap.now.window.bytes sequence.at)) }
 {
-    let kind = Kind::of(heap, sequence)?;
+    let (kind, content) = Kind::of(heap, sequence)?;
     if index >= heap.count(sequence.at) {
         return Err(Code::OutOfRange);
     }
     match kind {
-        Kind::Text(content) | Kind::Vector(content) => {
-            Ok(content.entry.value_at(heap.start(sequence.at), index))
-        }
-        Kind::List(_) => Ok(item_of(node_at(heap, sequence.at, index))),
+        Kind::Text | Kind::Vector => Ok(content.entry.value_at(heap.start(sequence.at), index)),
+        Kind::List => Ok(item_of(node_at(heap, sequence.at, index))),
     }
 }
 
@@ -72,14 +70,16 @@ pub fn push_back<F: Fit, A: Allocator>(heap: &mut Heap<F, A>, sequence: Place) -
     ensures other { item_type (form_at heap.old.types sequence.type_id) ≡ None →
         Declines Code.OtherType heap.old heap.new result }
 {
-    match Kind::of(heap, sequence)? {
-        Kind::Text(_) => Err(Code::OtherType),
-        Kind::Vector(content) => push_entry(heap, &content, sequence.at),
-        Kind::List(content) => push_node(heap, &content, sequence.at),
+    let (kind, content) = Kind::of(heap, sequence)?;
+    match kind {
+        Kind::Text => Err(Code::OtherType),
+        Kind::Vector => push_entry(heap, &content, sequence.at),
+        Kind::List => push_node(heap, &content, sequence.at),
     }
 }
 
 /// Adds a default entry to a buffer, and returns the position of its value.
+#[inline(always)]
 fn push_entry<F: Fit, A: Allocator>(
     heap: &mut Heap<F, A>,
     content: &Content,
@@ -96,8 +96,7 @@ fn push_entry<F: Fit, A: Allocator>(
 {
     let kept = heap.count(cell);
     let len = kept.saturating_add(1);
-    heap.reserve(content, cell, len)?;
-    let start = heap.start(cell);
+    let start = heap.reserve(content, cell, len)?;
     heap.set_count(cell, len);
     if let Some(item) = content.entry.value(start, kept) {
         heap.init_default(item);
@@ -134,13 +133,13 @@ pub fn pop_back<F: Fit, A: Allocator>(heap: &mut Heap<F, A>, sequence: Place) ->
         MatchResult result (λ done. 1 ≤ count_at heap.old.window.bytes sequence.at)
         (HasNone heap.old heap.new (count_at heap.old.window.bytes sequence.at)) }
 {
-    let kind = Kind::of(heap, sequence)?;
+    let (kind, content) = Kind::of(heap, sequence)?;
     let last = heap.count(sequence.at).checked_sub(1).ok_or(Code::Null)?;
     match kind {
-        Kind::Text(content) | Kind::Vector(content) => {
+        Kind::Text | Kind::Vector => {
             pop_entry(heap, &content, sequence.at, last);
         }
-        Kind::List(content) => {
+        Kind::List => {
             let node = neighbour(heap, heap.start(sequence.at), Way::Backward);
             remove_node(heap, &content, sequence.at, node);
         }

@@ -122,13 +122,13 @@ fn make_room<F: Fit, A: Allocator>(
     ensures other { form_at heap.old.types text.type_id ≢ Some Form.str →
         Declines Code.OtherType heap.old heap.new result }
 {
-    let Kind::Text(content) = Kind::of(heap, text)? else {
+    let (Kind::Text, content) = Kind::of(heap, text)? else {
         return Err(Code::OtherType);
     };
     let added = u32::try_from(added).map_err(|_| Code::BadAlloc)?;
     let len = kept.saturating_add(added);
-    heap.reserve(&content, text.at, len)?;
-    let at = heap.start(text.at) as usize + kept as usize;
+    let start = heap.reserve(&content, text.at, len)?;
+    let at = start as usize + kept as usize;
     heap.set_count(text.at, len);
     Ok(Added { at, len })
 }

@@ -1,4 +1,4 @@
-ghost use Rattle.std.specs.Prelude.{◌≡◌, ℕ, ◌+◌, ◌-◌, ◌*◌, ◌/◌, ◌%◌, ◌^◌, ◌<◌, ◌≤◌, [], ◌∷◌, length, List, Some, true, option_map, IsOkUnless, MatchResult};
+ghost use Rattle.std.specs.Prelude.{◌≡◌, ℕ, ◌+◌, ◌-◌, ◌*◌, ◌/◌, ◌%◌, ◌^◌, ◌<◌, ◌≤◌, [], ◌∷◌, length, List, Some, true, option_map, IfOk, IsOkUnless, MatchResult};
 ghost use Rattle.seg_spec.specs.Bytes.{set_word};
 ghost use Rattle.seg_spec.specs.Block.{has_buffer};
 ghost use Rattle.seg_spec.specs.Calls.{Refuses};
@@ -9,7 +9,7 @@ ghost use Rattle.seg_spec.specs.Index.{index_node_size};
 ghost use Rattle.seg_spec.specs.Heap.{Span, IsHeap, IsLive, Takes, Gives};
 ghost use Rattle.seg_spec.specs.Owning.{Stands};
 ghost use Rattle.seg_spec.specs.Pointer.{target};
-ghost use Rattle.seg_spec.specs.Reads.{count_at};
+ghost use Rattle.seg_spec.specs.Reads.{count_at, start};
 ghost use Rattle.seg_spec.specs.Shrinking.{ShrinksPlace};
 ghost use Rattle.seg_spec.specs.Spending.{units_named, buffer_asks};
 ghost use Rattle.seg_spec.specs.Types.{Form, IsTable, form_at, size};
@@ -96,9 +96,10 @@ impl<F: Fit, A: Allocator> Heap<F, A> {
         F::free(&mut self.window, block);
     }
 
-    /// Makes room in the buffer of a cell for `limit` entries, those that it has and more. `BadAlloc` where no gap gives
-    /// that room, and then nothing changes.
-    pub fn reserve(&mut self, content: &Content, cell: u32, limit: u32) -> Result<(), Code>
+    /// Makes room in the buffer of a cell for `limit` entries, those that it has and more. Returns where its payload begins
+    /// then, as [`Heap::start`] does. `BadAlloc` where no gap gives that room, and then nothing changes.
+    #[inline(always)]
+    pub fn reserve(&mut self, content: &Content, cell: u32, limit: u32) -> Result<u32, Code>
         ensures window { KeepsHost self.old.window self.new.window }
         ensures types { self.new.types ≡ self.old.types }
         ensures code { IsOkUnless result Code.BadAlloc }
@@ -111,19 +112,23 @@ impl<F: Fit, A: Allocator> Heap<F, A> {
             self.old.types content.now cell →
             MakesIndexRoom F.allocator self.old.window.bytes self.new.window.bytes self.old.types
             limit result }
+        ensures start { IfOk result (λ at. at ≡ start self.new.window.bytes cell) }
     {
-        if u64::from(limit) * u64::from(content.entry.size) <= u64::from(self.room(cell)) {
-            return Ok(());
+        let start = self.window.target(cell as usize);
+        if u64::from(limit) * u64::from(content.entry.size) <= u64::from(self.room(start)) {
+            return Ok(start.unwrap_or(0));
         }
-        self.enlarge(content, cell, limit)
+        self.enlarge(content, cell, limit)?;
+        Ok(self.start(cell))
     }
 
-    /// The bytes of the buffer of a cell: 0 where it names none.
-    fn room(&self, cell: u32) -> u32
-        ensures { HasSizedBuffer self.now.window.bytes cell →
+    /// The bytes of the buffer that a cell names: 0 where it names none.
+    fn room(&self, named: Option<u32>) -> u32
+        ensures { (cell : ℕ) → named ≡ target self.now.window.bytes cell →
+            HasSizedBuffer self.now.window.bytes cell →
             result ≡ 16 * units_named self.now.window.bytes cell - 16 }
     {
-        let Some(start) = self.window.target(cell as usize) else {
+        let Some(start) = named else {
             return 0;
         };
         match block_at(&self.window, block_of(start)) {

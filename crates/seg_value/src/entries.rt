@@ -45,8 +45,7 @@ impl<F: Fit, A: Allocator> Heap<F, A> {
         let entry = content.entry;
         let kept = self.count(cell);
         let len = kept.saturating_add(1);
-        self.reserve(content, cell, len)?;
-        let start = self.start(cell);
+        let start = self.reserve(content, cell, len)?;
         let at = entry.at(start, index);
         let next = entry.at(start, index.saturating_add(1));
         self.shift_entries(entry, at, next, kept.saturating_sub(index));

@@ -20,16 +20,16 @@ returns-then-index-count-clause-vector g c = λ U vs blocks h.
 pub returns-in-Text-clause-text : goal.returns-in-Text-clause-text
 returns-in-Text-clause-text g c = λ xs blocks t.
     let heap = c.args.heap.now in
-    let names = buffer_text heap.types c.args.sequence.type_id c.in-Text.content c.in_ok-kind.kind c.in-Text.is c.in_ok-kind.ensures t.form_is in
-    shows_byte g.F.Fit.allocator heap (place_of c.args.sequence) xs blocks t c.args.index c.start.result c.in-Text.content.entry.size c.in-Text.content.entry.before c.value_at.result
+    let names = buffer_text heap.types c.args.sequence.type_id c.in_ok-kind.content c.in_ok-kind.kind c.in-Text.is c.in_ok-kind.ensures t.form_is in
+    shows_byte g.F.Fit.allocator heap (place_of c.args.sequence) xs blocks t c.args.index c.start.result c.in_ok-kind.content.entry.size c.in_ok-kind.content.entry.before c.value_at.result
     (omega (arith, c.if-index-count.false, c.count.ensures)) c.start.ensures names.size_is names.before_is c.value_at.ensures
 
 pub returns-in-Text-clause-vector : goal.returns-in-Text-clause-vector
 returns-in-Text-clause-vector g c = λ U vs blocks h.
     let heap = c.args.heap.now in
-    let names = buffer_vector heap.types c.args.sequence.type_id c.in-Text.content c.in_ok-kind.kind c.in-Text.is c.in_ok-kind.ensures U h.form_is in
-    let entry = vector_entry heap.types c.args.sequence.type_id U c.in-Text.content h.form_is names in
-    shows_item g.F.Fit.allocator heap c.args.sequence.at c.args.sequence.type_id U vs blocks h c.args.index c.start.result c.in-Text.content.entry.size c.in-Text.content.entry.before c.value_at.result
+    let names = buffer_vector heap.types c.args.sequence.type_id c.in_ok-kind.content c.in_ok-kind.kind c.in-Text.is c.in_ok-kind.ensures U h.form_is in
+    let entry = vector_entry heap.types c.args.sequence.type_id U c.in_ok-kind.content h.form_is names in
+    shows_item g.F.Fit.allocator heap c.args.sequence.at c.args.sequence.type_id U vs blocks h c.args.index c.start.result c.in_ok-kind.content.entry.size c.in_ok-kind.content.entry.before c.value_at.result
     (omega (arith, c.if-index-count.false, c.count.ensures)) c.start.ensures entry.size_is entry.before_is c.value_at.ensures
 
 pub returns-then-index-count-clause-list : goal.returns-then-index-count-clause-list

@@ -32,7 +32,7 @@ returns-in-Text-clause-text g c = λ xs blocks t.
     let all = counted_all g.F.Fit.allocator old (place_of c.args.sequence) xs blocks t c.count.result c.count.ensures in
     let more : length xs ≡ c.in_ok-last.last + 1 = omega arith in
     let less : c.in_ok-last.last ≡ length xs - 1 = omega arith in
-    let names = buffer_text old.types c.args.sequence.type_id c.in-Text.content c.in_ok-kind.kind c.in-Text.is c.in_ok-kind.ensures t.form_is in
+    let names = buffer_text old.types c.args.sequence.type_id c.in_ok-kind.content c.in_ok-kind.kind c.in-Text.is c.in_ok-kind.ensures t.form_is in
     rw less at (c.pop_entry.ensures.text c.args.sequence.type_id xs blocks names.names t more)
 
 pub returns-in-Text-clause-vector : goal.returns-in-Text-clause-vector
@@ -42,7 +42,7 @@ returns-in-Text-clause-vector g c = λ U vs blocks h.
     let last_is : c.in_ok-last.last ≡ c.count.result - 1 = search rules in
     let all = items_counted g.F.Fit.allocator old c.args.sequence.at c.args.sequence.type_id U vs blocks h in
     let more : count vs ≡ c.in_ok-last.last + 1 = omega (arith, c.count.ensures) in
-    let names = buffer_vector old.types c.args.sequence.type_id c.in-Text.content c.in_ok-kind.kind c.in-Text.is c.in_ok-kind.ensures U h.form_is in
+    let names = buffer_vector old.types c.args.sequence.type_id c.in_ok-kind.content c.in_ok-kind.kind c.in-Text.is c.in_ok-kind.ensures U h.form_is in
     c.pop_entry.ensures.vector c.args.sequence.type_id U vs blocks names h more
 
 pub returns-in-List-clause-list : goal.returns-in-List-clause-list
@@ -54,7 +54,7 @@ returns-in-List-clause-list g c = λ U vs blocks h.
     let some : 1 ≤ c.count.result = search rules in
     let all = counted_items code old table list U h.form_is vs blocks h.stands in
     let many : 1 ≤ count vs = omega (arith, c.count.ensures) in
-    let is = names_list table c.args.sequence.type_id c.in-List.content c.in_ok-kind.kind c.in-List.is c.in_ok-kind.ensures U h.form_is in
+    let is = names_list table c.args.sequence.type_id c.in_ok-kind.content c.in_ok-kind.kind c.in-List.is c.in_ok-kind.ensures U h.form_is in
     let lead = last_item code old table list U h.form_is vs blocks h.stands many c.start.result c.neighbour-node.result c.start.ensures c.neighbour-node.ensures in
     let removed = c.remove_node.ensures.removed c.args.sequence.type_id U (count vs - 1) vs blocks is h.stands lead in
     (many, subst (λ ws. RemovesItem code old c.remove_node.new.heap.window.bytes table list ws blocks (count vs - 1)) (remove_nth-last vs many) removed)

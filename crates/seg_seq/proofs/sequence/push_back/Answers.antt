@@ -18,5 +18,5 @@ lacks P allocator old new asks (Err code) e h = record { code_is = e; refuses = 
 
 pub returns-in-List-clause-list : goal.returns-in-List-clause-list
 returns-in-List-clause-list g c = λ U vs blocks h.
-    let is = names_list c.args.heap.now.types c.args.sequence.type_id c.in-List.content c.in_ok-of.field-0 c.in-List.is c.in_ok-of.ensures U h.form_is in
+    let is = names_list c.args.heap.now.types c.args.sequence.type_id c.in_ok-kind.content c.in_ok-kind.kind c.in-List.is c.in_ok-kind.ensures U h.form_is in
     lacks _ g.F.Fit.allocator c.args.heap.now c.push_node.new.heap _ c.push_node.result c.push_node.ensures.code (c.push_node.ensures.pushed c.args.sequence.type_id U vs blocks is h.stands)

@@ -10,15 +10,15 @@ use Rattle.seg_spec.proofs.Placements.{bytes_of}
 use Rattle.seg_seq.proofs.sequence.push_entry.Goals as goal
 use Rattle.seg_seq.proofs.sequence.push_entry.Goals.{in-Some, in_default}
 
-pub returns-in_err-reserve-clause-vector : goal.returns-in_err-reserve-clause-vector
-returns-in_err-reserve-clause-vector g c = λ T U vs blocks n h.
-    let result : c.from_residual.result ≡ Err c.in_err-reserve.field-0.0 = search rules in
+pub returns-in_err-start-clause-vector : goal.returns-in_err-start-clause-vector
+returns-in_err-start-clause-vector g c = λ T U vs blocks n h.
+    let result : c.from_residual.result ≡ Err c.in_err-start.field-0.0 = search rules in
     let old = c.args.heap.now in
     let content = c.args.content.now in
     let entry = vector_entry old.types T U content h.form_is n in
-    let refuses = c.in_err-reserve.ensures.reserves T (Seq vs) blocks n h.stands in
+    let refuses = c.in_err-start.ensures.reserves T (Seq vs) blocks n h.stands in
     rw result
-    (rw c.in_err-reserve.ensures.code (no_item_pushed g.F.Fit.allocator old c.args.cell T U vs blocks h content.entry.size c.count-kept.result c.saturating_add-len.result entry.size_is c.count-kept.ensures c.saturating_add-len.ensures
+    (rw c.in_err-start.ensures.code (no_item_pushed g.F.Fit.allocator old c.args.cell T U vs blocks h content.entry.size c.count-kept.result c.saturating_add-len.result entry.size_is c.count-kept.ensures c.saturating_add-len.ensures
     c.reserve.new.self refuses))
 
 pub returns-clause-vector : goal.returns-clause-vector
@@ -28,17 +28,17 @@ returns-clause-vector g c = λ T U vs blocks n h.
     let counted = c.set_count.new.self in
     let content = c.args.content.now in
     let entry = vector_entry old.types T U content h.form_is n in
-    let reserves = c.in_ok-reserve.ensures.reserves T (Seq vs) blocks n h.stands in
+    let reserves = c.in_ok-start.ensures.reserves T (Seq vs) blocks n h.stands in
     let written = bytes_of counted.window (with_bytes mid.window (set_word mid.window.bytes (c.args.cell + 4) c.saturating_add-len.result)) c.set_count.ensures.window in
     let same_types = c.set_count.ensures.types ∙ c.reserve.ensures.types in
     let is = c.value.ensures.value U entry.held_is in
     let known = c.value_at.ensures in
     elim c.match-value.branch [
       | in-Some w ↦ (
-          let item = one_place c.value.result w.in-Some.item (record { at = (c.start-start.result + c.count-kept.result * content.entry.size + content.entry.before) % 2 ^ 32; type_id = U }) w.in-Some.is is in
+          let item = one_place c.value.result w.in-Some.item (record { at = (c.in_ok-start.start + c.count-kept.result * content.entry.size + content.entry.before) % 2 ^ 32; type_id = U }) w.in-Some.is is in
           let at_is = ap (λ (x : Place). x.at) item in
           let p = item_pushed g.F.Fit.allocator old c.args.cell T U vs blocks h content.entry.size c.count-kept.result c.saturating_add-len.result entry.size_is c.count-kept.ensures c.saturating_add-len.ensures
-          mid counted w.init_default.new.self reserves written same_types c.start-start.result content.entry.before w.in-Some.item.at w.in-Some.item.type_id c.start-start.ensures entry.before_is at_is (ap (λ (x : Place). x.type_id) item)
+          mid counted w.init_default.new.self reserves written same_types c.in_ok-start.start content.entry.before w.in-Some.item.at w.in-Some.item.type_id c.in_ok-start.ensures.start entry.before_is at_is (ap (λ (x : Place). x.type_id) item)
           w.init_default.ensures.changes w.init_default.ensures.default in
           rw (known ∙ sym at_is) (subst (λ x. PushesBack g.F.Fit.allocator old x (object_at c.args.cell T) U vs blocks w.in-Some.item.at) (sym w.heap-is) p)
           )
