@@ -36,9 +36,9 @@ root_among bytes picture roots xs root holds a =
       t.left,
       HoldsRoots-only bytes table root t.left t.lefts,
       (λ h.
-      let e = ap (times h) s.blocks_are ∙ times-append h s.left s.right in
-      let f = ap (times h) t.blocks_are ∙ times-append h t.left t.right in
-      omega (arith, e, f)),
+          let e = ap (times h) s.blocks_are ∙ times-append h s.left s.right in
+          let f = ap (times h) t.blocks_are ∙ times-append h t.left t.right in
+          omega (arith, e, f)),
     )
 
 module _ (old : List ℕ) (picture : Picture) (held : IsHeld old picture) (before : List Root) (root : Root) (after : List Root) (roots : roots_of picture ≡ before ++ (root ∷ after)) (j : ℕ) (within : j < count root.values)
@@ -102,17 +102,17 @@ module _ (old : List ℕ) (picture : Picture) (held : IsHeld old picture) (befor
         o.0,
         o.1,
         (λ h.
-        let k = counts h in
-        let few = o.2 h in
-        let both = times-append h a.left a.right in
-        let its = times-append h blocks o.0 in
-        elim (cases_eq s.home h) [
-          | inl same ↦
-              let home : 1 ≤ times h p.left + times h p.right = subst (λ b. 1 ≤ times b p.left + times b p.right) (one_home allocator s ∙ same) home_around in
-              let one : times h (s.home ∷ (blocks ++ o.0)) ≡ 1 + times h (blocks ++ o.0) = subst (λ x. times h (x ∷ (blocks ++ o.0)) ≡ 1 + times h (blocks ++ o.0)) (sym same) (times-same h (blocks ++ o.0)) in
-              omega (arith, k, few, both, its, home, one)
-          | inr distinct ↦ let none = times-other h s.home (blocks ++ o.0) distinct in omega (arith, k, few, both, its, none)
-        ]),
+            let k = counts h in
+            let few = o.2 h in
+            let both = times-append h a.left a.right in
+            let its = times-append h blocks o.0 in
+            elim (cases_eq s.home h) [
+              | inl same ↦
+                  let home : 1 ≤ times h p.left + times h p.right = subst (λ b. 1 ≤ times b p.left + times b p.right) (one_home allocator s ∙ same) home_around in
+                  let one : times h (s.home ∷ (blocks ++ o.0)) ≡ 1 + times h (blocks ++ o.0) = subst (λ x. times h (x ∷ (blocks ++ o.0)) ≡ 1 + times h (blocks ++ o.0)) (sym same) (times-same h (blocks ++ o.0)) in
+                  omega (arith, k, few, both, its, home, one)
+              | inr distinct ↦ let none = times-other h s.home (blocks ++ o.0) distinct in omega (arith, k, few, both, its, none)
+            ]),
       )
 
   module _ (new : List ℕ) (kept : (h : ℕ) → 1 ≤ times h (positions (live old)) → times h blocks ≡ 0 → KeepsBlockAround old new q.at (size picture.table q.type) h) where
@@ -257,7 +257,7 @@ module _ (old new : List ℕ) (picture other : Picture) (held : IsHeld old pictu
         let K = KeepsPaths old new picture.table in
         let before = m.before ++ (gone ++ m.between) in
         let at : roots_of picture ≡ before ++ (root ∷ m.after) =
-            m.roots_are ∙ ap (λ xs. m.before ++ xs) (sym (append_assoc gone m.between (root ∷ m.after))) ∙ sym (append_assoc m.before (gone ++ m.between) (root ∷ m.after)) in
+        m.roots_are ∙ ap (λ xs. m.before ++ xs) (sym (append_assoc gone m.between (root ∷ m.after))) ∙ sym (append_assoc m.before (gone ++ m.between) (root ∷ m.after)) in
         let all = rest_kept old picture held before root m.after at j within path q leads v blocks was new kept in
         let front = each_left K before m.after all in (
           index_kept old picture held before root m.after at j within path q leads v blocks was new kept,

@@ -86,24 +86,27 @@ module _ {others : List Root} {s : State} {bytes : List ℕ} (pictured : Picture
       → ((o : Origin) (r : Root) (i : ℕ) → root_in (looks_of pictured) o ≡ Some (r, i)
       → Ends o ⊎ (((r ≡ led.root) × (i ≡ led.item → o ≡ path.origin) × (root_in looks o ≡ Some (changed, i))) ⊎ (KeepsPaths bytes new table r × (root_in looks o ≡ Some (r, i)))))
       → (m : Moved s' Ends) × ((o : Origin) (r : Root) (i : ℕ) → root_in looks o ≡ Some (r, i) → root_at m.later o ≡ Some (r, i))
-  paths_then looks held Ends rest same beside kept begins = (record {
-    later = held_by looks held;
-    table_is = same;
-    leads = λ other target x there l. elim (begins other.origin l.root l.item (sym (begins_in pictured other.origin) ∙ l.begins)) [
-      | inl e ↦ inl e
-      | inr (inl p) ↦ elim (beside l.item other.selectors target (subst (λ (r : Root). l.item < count r.values) p.0 (item_within pictured other target x there l))
-          (subst (λ (r : Root). Leads bytes table (item_of table r l.item) other.selectors target) p.0 l.leads)) [
-            | inl g ↦ inr (inl (p.1 g.0, g.1))
-            | inr k ↦ inr (inr (record { root = changed; item = l.item; begins = sym (begins_at looks held other.origin) ∙ p.2; leads = on_table led.root l.item k }))
-          ]
-      | inr (inr p) ↦ inr (inr (record {
-        root = l.root;
-        item = l.item;
-        begins = sym (begins_at looks held other.origin) ∙ p.1;
-        leads = on_table l.root l.item (p.0 l.item other.selectors target (item_within pictured other target x there l) l.leads);
-      }))
-    ];
-  }, (λ o r i e. sym (begins_at looks held o) ∙ e))
+  paths_then looks held Ends rest same beside kept begins = (
+    record {
+      later = held_by looks held;
+      table_is = same;
+      leads = λ other target x there l. elim (begins other.origin l.root l.item (sym (begins_in pictured other.origin) ∙ l.begins)) [
+        | inl e ↦ inl e
+        | inr (inl p) ↦ elim (beside l.item other.selectors target (subst (λ (r : Root). l.item < count r.values) p.0 (item_within pictured other target x there l))
+            (subst (λ (r : Root). Leads bytes table (item_of table r l.item) other.selectors target) p.0 l.leads)) [
+              | inl g ↦ inr (inl (p.1 g.0, g.1))
+              | inr k ↦ inr (inr (record { root = changed; item = l.item; begins = sym (begins_at looks held other.origin) ∙ p.2; leads = on_table led.root l.item k }))
+            ]
+        | inr (inr p) ↦ inr (inr (record {
+          root = l.root;
+          item = l.item;
+          begins = sym (begins_at looks held other.origin) ∙ p.1;
+          leads = on_table l.root l.item (p.0 l.item other.selectors target (item_within pictured other target x there l) l.leads);
+        }))
+      ];
+    },
+    (λ o r i e. sym (begins_at looks held o) ∙ e),
+  )
     where
       on_table : (root : Root) (i : ℕ) {selectors : List Selector} {target : Place} → Leads new table (item_of table root i) selectors target
           → Leads new looks.picture.table (item_of looks.picture.table root i) selectors target
@@ -126,18 +129,18 @@ module _ {others : List Root} {s : State} {bytes : List ℕ} (pictured : Picture
       let before = roots_before l.later.picture found.which found.before in
       let after = roots_after l.later.picture found.which found.after in
       let moves = goes_beside picture put.later.picture led.root changed root l.left l.right before after l.roots_are
-          (sym l.roots_then ∙ roots_are l.later.picture found.which found.before (led.root ∷ []) found.after found.among)
-          (ap roots_of put.picture_is ∙ roots_with l.later.picture found.which found.before (changed ∷ []) found.after) in
+      (sym l.roots_then ∙ roots_are l.later.picture found.which found.before (led.root ∷ []) found.after found.among)
+      (ap roots_of put.picture_is ∙ roots_with l.later.picture found.which found.before (changed ∷ []) found.after) in
       let kept = moved_paths bytes new picture put.later.picture held led.root led.item path.selectors w (root ∷ []) [] (before ++ after) moves f.within place led.leads old_value f.blocks f.holds_it changes.kept in
       let laid_out : IsLaidOut new put.later.picture held.index_blocks = subst (λ p. IsLaidOut new p held.index_blocks) (sym put.picture_is)
-          (IsLaidOut-faced new l.later.picture held.index_blocks found.which found.before led.root changed found.after found.among (faced led.root led.item change)
-          (l.laid_out new held.index_blocks
-          (IsLaidOut-kept bytes new picture held.index_blocks held.laid_out changes.length_kept changes.front_kept changes.back_kept changes.heap changes.ownable kept.0))) in
+      (IsLaidOut-faced new l.later.picture held.index_blocks found.which found.before led.root changed found.after found.among (faced led.root led.item change)
+      (l.laid_out new held.index_blocks
+      (IsLaidOut-kept bytes new picture held.index_blocks held.laid_out changes.length_kept changes.front_kept changes.back_kept changes.heap changes.ownable kept.0))) in
       let same = put.table ∙ l.table in
       let there = moved_held bytes new picture put.later.picture held led.root led.item path.selectors w (root ∷ []) [] (before ++ after) moves f.within place led.leads old_value f.blocks f.holds_it its [] its
-          (HoldsRoots-one bytes table holds) (exchanged changes) holds_no_root same laid_out in
+      (HoldsRoots-one bytes table holds) (exchanged changes) holds_no_root same laid_out in
       let state : put_origin (set_register s c Register.Undefined) path.origin whole_then ≡ set_register (put_at s path w) c Register.Undefined =
-          put_order s c Register.Undefined path.origin whole_then apart ∙ ap (λ z. set_register z c Register.Undefined) (sym (put_at_is s path f.whole w f.type f.at)) in
+      put_order s c Register.Undefined path.origin whole_then apart ∙ ap (λ z. set_register z c Register.Undefined) (sym (put_at_is s path f.whole w f.type f.at)) in
       subst (λ z. Moved z (λ o. o ≡ Origin.Owned c)) state
       (paths_then put.later there (λ o. o ≡ Origin.Owned c) (before ++ after) same kept.1 kept.2 (λ o r i e. elim (l.begins o r i e) [
         | inl g ↦ inl g
@@ -180,14 +183,14 @@ module _ {others : List Root} {s : State} {bytes : List ℕ} (pictured : Picture
       let before = roots_before picture f.root.which f.root.before in
       let after = roots_after picture f.root.which f.root.after in
       let moves = comes_beside picture l.later.picture led.root changed root l.left l.right before after (roots_are picture f.root.which f.root.before (led.root ∷ []) f.root.after f.root.among)
-          (sym l.roots_are ∙ ap roots_of put.picture_is ∙ roots_with picture f.root.which f.root.before (changed ∷ []) f.root.after) l.roots_then in
+      (sym l.roots_are ∙ ap roots_of put.picture_is ∙ roots_with picture f.root.which f.root.before (changed ∷ []) f.root.after) l.roots_then in
       let kept = moved_paths bytes new picture l.later.picture held led.root led.item path.selectors w [] (root ∷ []) (before ++ after) moves f.within place led.leads old_value f.blocks f.holds_it changes.kept in
       let laid_out : IsLaidOut new l.later.picture held.index_blocks = l.laid_out plain new held.index_blocks (subst (λ p. IsLaidOut new p held.index_blocks) (sym put.picture_is)
-          (IsLaidOut-faced new picture held.index_blocks f.root.which f.root.before led.root changed f.root.after f.root.among (faced led.root led.item change)
-          (IsLaidOut-kept bytes new picture held.index_blocks held.laid_out changes.length_kept changes.front_kept changes.back_kept changes.heap changes.ownable kept.0))) in
+      (IsLaidOut-faced new picture held.index_blocks f.root.which f.root.before led.root changed f.root.after f.root.among (faced led.root led.item change)
+      (IsLaidOut-kept bytes new picture held.index_blocks held.laid_out changes.length_kept changes.front_kept changes.back_kept changes.heap changes.ownable kept.0))) in
       let same = l.table ∙ put.table in
       let there = moved_held bytes new picture l.later.picture held led.root led.item path.selectors w [] (root ∷ []) (before ++ after) moves f.within place led.leads old_value f.blocks f.holds_it [] f.blocks []
-          holds_no_root (subst (λ bs. ChangesPlace bytes new table place w [] spans bs f.blocks) (sym (append-nil f.blocks)) changes) (HoldsRoots-one new table holds) same laid_out in
+      holds_no_root (subst (λ bs. ChangesPlace bytes new table place w [] spans bs f.blocks) (sym (append-nil f.blocks)) changes) (HoldsRoots-one new table holds) same laid_out in
       let moved = paths_then l.later there (λ o. ⊥) (before ++ after) same kept.1 kept.2 (λ o r i e. elim (put.begins o r i e) [
         | inl p ↦ inr (inl (p.0, p.1, l.begins o changed i p.2))
         | inr p ↦ inr (inr (each_among (KeepsPaths bytes new table) (before ++ after) r p.0 kept.2, l.begins o r i p.1))

@@ -211,10 +211,13 @@ module _ {others : List Root} {types : Table} {constants : List Constant} (one :
       choose : (t : Bool) (c : Class) (U : ℕ) → same_class (Class.Register a) c ≡ t → Apart r (RegisterType.Reference c U)
           → Stays r (RegisterType.Reference c U) (if t then RegisterType.Undefined else RegisterType.Reference c U)
       choose true c U e apart = inl (refl, refl)
-      choose false c U e apart = inr (refl, record {
-        apart = apart;
-        goes_on = λ o within ends. origins_apart constants one (Class.Register a) c (Origin.Owned a) o e refl within (sym (its o ends));
-      })
+      choose false c U e apart = inr (
+        refl,
+        record {
+          apart = apart;
+          goes_on = λ o within ends. origins_apart constants one (Class.Register a) c (Origin.Owned a) o e refl within (sym (its o ends));
+        },
+      )
 
       by : (k : RegisterType) → Apart r k → Stays r k (without_class (Class.Register a) k)
       by RegisterType.Undefined apart = inl (refl, refl)

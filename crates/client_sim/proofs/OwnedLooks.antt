@@ -75,7 +75,7 @@ module _ {others : List Root} {s : State} (looks : Looks others s) where
         begins = found_in looks later (λ o. o ≡ Origin.Owned c) refl refl (λ q r f. elim (cases_eq q c) [
           | inl same ↦ inl (ap Origin.Owned same)
           | inr far ↦ inr (sym (m.seat.beside q far Register.Undefined refl m.value root.type root) ∙ ap (λ rs. root_of_register rs (m.before ++ root ∷ m.after) q) (sym m.is)
-            ∙ ap (λ xs. root_of_register s.registers xs q) (sym m.among) ∙ f)
+              ∙ ap (λ xs. root_of_register s.registers xs q) (sym m.among) ∙ f)
         ]);
       }
 
@@ -108,8 +108,8 @@ module _ {others : List Root} {s : State} (looks : Looks others s) where
         loose = refl;
       } in
       let found : (o : Origin) (r : Root) (i : ℕ) → root_in looks o ≡ Some (r, i) → ⊥ ⊎ (root_in later o ≡ Some (r, i)) = found_in looks later (λ o. ⊥) refl refl (λ q r f.
-          inr (m.seat.beside q (λ g. vacant r (sym (ap (root_of_register s.registers looks.owned) g) ∙ f)) (register s a) none v t root
-          ∙ ap (λ rs. root_of_register rs (m.before ++ m.after) q) (set-get_or s.registers a Register.Undefined) ∙ ap (λ xs. root_of_register s.registers xs q) (sym m.among) ∙ f)) in
+      inr (m.seat.beside q (λ g. vacant r (sym (ap (root_of_register s.registers looks.owned) g) ∙ f)) (register s a) none v t root
+      ∙ ap (λ rs. root_of_register rs (m.before ++ m.after) q) (set-get_or s.registers a Register.Undefined) ∙ ap (λ xs. root_of_register s.registers xs q) (sym m.among) ∙ f)) in
       record {
         left = picture.names ++ (picture.uniques ++ (others ++ m.before));
         right = m.after;

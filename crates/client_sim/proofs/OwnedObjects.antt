@@ -95,7 +95,7 @@ module _ {others : List Root} {types : Table} {constants : List Constant} {first
       let p = root_of_pair (root_of_register s.registers h.pictured.owned c) 0 led.root led.item led.begins in
       let o = owned_split s.registers h.pictured.owned c led.root h.pictured.are_owned p.0 in
       let plain : IsPlain led.root = each_among IsPlain (picture.uniques ++ picture.loose) led.root
-          (among_right picture.uniques picture.loose led.root (among_loose (looks_of h.pictured) c led.root p.0)) h.pictured.held.laid_out.plain in
+      (among_right picture.uniques picture.loose led.root (among_loose (looks_of h.pictured) c led.root p.0)) h.pictured.held.laid_out.plain in
       let same : Register.Owner o.value led.root.type ≡ Register.Owner m.0 U = sym o.is ∙ m.1 in
       let here : place_in w c ≡ item_of picture.table led.root 0 = nowhere_else led.leads ∙ ap (item_of picture.table led.root) (sym p.1) in
       record {
@@ -118,14 +118,14 @@ module _ {others : List Root} {types : Table} {constants : List Constant} {first
       let picture = h.pictured.picture in
       let put = f.root.puts (λ x. x) in
       let among : Among (roots_before picture f.root.which f.root.before ++ roots_after picture f.root.which f.root.after) o.root =
-          elim (put.begins (Origin.Owned c) o.root 0 (ap (option_map {T = Root} {U = Root × ℕ} (λ root. (root, 0))) o.root_is)) [
-            | inl p ↦ absurd (far (sym (p.1 (sym (first_item led.root o.value led.item (ap (λ (r : Root). r.values) (sym p.0) ∙ o.values_are) f.within)))))
-            | inr p ↦ p.0
-          ] in
+      elim (put.begins (Origin.Owned c) o.root 0 (ap (option_map {T = Root} {U = Root × ℕ} (λ root. (root, 0))) o.root_is)) [
+        | inl p ↦ absurd (far (sym (p.1 (sym (first_item led.root o.value led.item (ap (λ (r : Root). r.values) (sym p.0) ∙ o.values_are) f.within)))))
+        | inr p ↦ p.0
+      ] in
       let it = other_root w.image picture h.pictured.held (roots_before picture f.root.which f.root.before) led.root (roots_after picture f.root.which f.root.after)
-          (roots_are picture f.root.which f.root.before (led.root ∷ []) f.root.after f.root.among) led.item f.within path.selectors place led.leads v f.blocks f.holds_it allocator stands o.root among in
+      (roots_are picture f.root.which f.root.before (led.root ∷ []) f.root.after f.root.among) led.item f.within path.selectors place led.leads v f.blocks f.holds_it allocator stands o.root among in
       let live_there : (n : ℕ) → times n it.0 ≤ times n (positions (live w.image)) = λ n.
-          (let m = it.2 n in let k = times-append n f.blocks it.0 in let j = times-more n stands.home (f.blocks ++ it.0) in omega (arith, m, k, j)) in
+      (let m = it.2 n in let k = times-append n f.blocks it.0 in let j = times-more n stands.home (f.blocks ++ it.0) in omega (arith, m, k, j)) in
       let l = loose_of_root w.image picture.table o.root o.value it.0 o.no_name o.values_are it.1 live_there in (
         l.0,
         subst (HoldsRoot w.image picture.table o.root) l.1 it.1,

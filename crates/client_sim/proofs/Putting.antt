@@ -104,22 +104,22 @@ module _ (allocator : ℕ) (constants : List Constant) (role : Role) (a b c : �
       let apart = owns_apart h c r.what o l.in_image l.found far stands in
       let picture_table = h.pictured.picture.table in
       let form : form_at picture_table (place_in w b).type ≡ Some (Form.own r.what) =
-          subst (λ (t : Table). form_at t (place_in w b).type ≡ Some (Form.own r.what)) table (r.form_is ∙ ap Some (own_is r.form r.what r.is)) in
+      subst (λ (t : Table). form_at t (place_in w b).type ≡ Some (Form.own r.what)) table (r.form_is ∙ ap Some (own_is r.form r.what r.is)) in
       let loose = subst (λ n. IsLoose w.image picture_table (record { at = n; type = r.what }) o.value apart.0) (sym o.at_is)
-          (subst (λ t. IsLoose w.image picture_table (record { at = o.root.at; type = t }) o.value apart.0) o.type_is apart.2) in
+      (subst (λ t. IsLoose w.image picture_table (record { at = o.root.at; type = t }) o.value apart.0) o.type_is apart.2) in
       let alive = subst (λ n. AreLive w.image (stands.home ∷ (l.found.blocks ++ block_of n ∷ apart.0))) (sym o.at_is) apart.3 in
       let changes : ChangesPlace w.image new picture_table (place_in w b) (Full o.value) (block_of o.root.at ∷ apart.0) (after_gives (live w.image) l.found.blocks) l.found.blocks [] =
-          subst (λ n. ChangesPlace w.image new picture_table (place_in w b) (Full o.value) (block_of n ∷ apart.0) (after_gives (live w.image) l.found.blocks) l.found.blocks []) o.at_is
-          (subst PutsOwn table call r.what l.value o.value l.found.blocks apart.0 form stands loose alive) in
+      subst (λ n. ChangesPlace w.image new picture_table (place_in w b) (Full o.value) (block_of n ∷ apart.0) (after_gives (live w.image) l.found.blocks) l.found.blocks []) o.at_is
+      (subst PutsOwn table call r.what l.value o.value l.found.blocks apart.0 form stands loose alive) in
       let moved = put_moves h.pictured l.in_image l.value l.found new (Full o.value) c o.root (block_of o.root.at ∷ apart.0) far o.root_is apart.1 changes in
       let fits : HasShape s.types r.type (Full o.value) =
-          value_of_form s.types r.type r.form (Full o.value) r.machine_form ((own_fits s.types r.form r.what r.is).1 o.value (h.as_known.typed.owned c o.value r.what o.register_is)) in
+      value_of_form s.types r.type r.form (Full o.value) r.machine_form ((own_fits s.types r.form r.what r.is).1 o.value (h.as_known.typed.owned c o.value r.what o.register_is)) in
       let sixteen : length ks' ≡ 16 = length-map after (without_class (Class.Register c)) ∙ length_set (ended r.class ks) b (known ks b) ∙ length-map ks (without_class r.class) ∙ h.sixteen in
       let owns_none : owns_in (with_owning w new c false w.positions w.type_ids) c ≡ false = set_there w.owns c false false (let n = h.registers.owns in omega (arith, n, valid.c)) in
       let shows = shows_moved one h b r.class r.type r.known_as l (Full o.value) fits new c Register.Undefined (λ o. o ≡ Origin.Owned c) moved RegisterType.Undefined ks' false w.positions w.type_ids valid.c sixteen
-          h.registers.positions h.registers.type_ids (λ n far. refl) changes.front_kept
-          (agrees_release types constants one after (put_at s l.path (Full o.value)) c (put_known one h b r.class r.type r.known_as l (Full o.value) fits new c Register.Undefined (λ o. o ≡ Origin.Owned c) moved))
-          (stays_released one h b r.class r.type r.known_as l (Full o.value) fits new c Register.Undefined (λ o. o ≡ Origin.Owned c) moved (λ o e. e)) owns_none in
+      h.registers.positions h.registers.type_ids (λ n far. refl) changes.front_kept
+      (agrees_release types constants one after (put_at s l.path (Full o.value)) c (put_known one h b r.class r.type r.known_as l (Full o.value) fits new c Register.Undefined (λ o. o ≡ Origin.Owned c) moved))
+      (stays_released one h b r.class r.type r.known_as l (Full o.value) fits new c Register.Undefined (λ o. o ≡ Origin.Owned c) moved (λ o e. e)) owns_none in
       let content : (x : Option Value) × (content_in l.value ≡ Some x) = elim (own_value s.types r.form l.value r.what r.is r.fits) [ inl none ↦ (None, none) | inr some ↦ (Some some.0, ap content_in some.1) ] in
       let row = put_row s l.path r.form r.what l.value o.value content.0 r.path_is r.path_form_is r.is (ap owned_by o.register_is) l.there content.1 (begins_elsewhere c l.path.origin far) in
       let held : Holds w.image s.types (place_in w b) l.value l.found.blocks = subst (λ (t : Table). Holds w.image t (place_in w b) l.value l.found.blocks) h.table_is l.stands.holds_it in

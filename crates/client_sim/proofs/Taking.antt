@@ -124,13 +124,13 @@ module _ (allocator : ℕ) (constants : List Constant) (role : Role) (a b c : �
             let leads : LeadsToType s l.path r.type = record { value = l.value; there = l.there; typed = l.typed } in
             let fits : HasShape s.types r.type Empty = value_of_form s.types r.type r.form Empty r.machine_form (own_fits s.types r.form U r.is).0 in
             let known_then : IsAsKnown types constants after (put_at s l.path Empty) =
-                agrees_put_others types constants one r.class b r.type ks s h.as_known r.known_as (record { path = l.path; is = l.path_is; within = l.within; leads = leads }) Empty fits in
+            agrees_put_others types constants one r.class b r.type ks s h.as_known r.known_as (record { path = l.path; is = l.path_is; within = l.within; leads = leads }) Empty fits in
             let free : owned_by (register (put_at s l.path Empty) a) ≡ None =
-                not_owner constants (put_at s l.path Empty) (known after a) (register (put_at s l.path Empty) a) o.0 (known_then.each a) in
+            not_owner constants (put_at s l.path Empty) (known after a) (register (put_at s l.path Empty) a) o.0 (known_then.each a) in
             let changes : ChangesPlace w.image new picture_table (place_in w b) Empty [] (live w.image) l.found.blocks l.found.blocks =
-                subst (λ (t : Table). ChangesPlace w.image new t (place_in w b) Empty [] (live w.image) l.found.blocks l.found.blocks) table t.4 in
+            subst (λ (t : Table). ChangesPlace w.image new t (place_in w b) Empty [] (live w.image) l.found.blocks l.found.blocks) table t.4 in
             let holds : HoldsRoot new picture_table root l.found.blocks = subst (HoldsRoot new picture_table root) (sym t.2)
-                (root_of_loose new picture_table (record { at = at; type = U }) v t.1 (subst (λ (ts : Table). IsLoose new ts (record { at = at; type = U }) v t.1) table t.3)) in
+            (root_of_loose new picture_table (record { at = at; type = U }) v t.1 (subst (λ (ts : Table). IsLoose new ts (record { at = at; type = U }) v t.1) table t.3)) in
             let within : a < length s.registers = (let n = h.as_known.count in let m = h.sixteen in omega (arith, n, m, valid.a)) in
             let plain : IsPlain root = record { no_name = refl; value = v; values_are = refl } in
             let moved = take_moves h.pictured l.in_image l.value l.found new Empty a U v root within free plain refl refl holds changes in
@@ -145,15 +145,15 @@ module _ (allocator : ℕ) (constants : List Constant) (role : Role) (a b c : �
             let as_known = agrees_own types constants one after after_put a v U known_then o.0 typed in
             let owns_here : owns_in w' a ≡ true = set_there w.owns a true false (let n = h.registers.owns in omega (arith, n, valid.a)) in
             let at_here : place_in w' a ≡ record { at = at; type = U } =
-                ap (λ (n : ℕ). record { at = n; type = slice_index_or type_ids a 0 }) (set_there w.positions a at 0 (let n = h.registers.positions in omega (arith, n, valid.a)))
-                ∙ ap (λ (n : ℕ). record { at = at; type = n }) (set_there w.type_ids a U 0 (let n = h.registers.type_ids in omega (arith, n, valid.a))) in
+            ap (λ (n : ℕ). record { at = n; type = slice_index_or type_ids a 0 }) (set_there w.positions a at 0 (let n = h.registers.positions in omega (arith, n, valid.a)))
+            ∙ ap (λ (n : ℕ). record { at = at; type = n }) (set_there w.type_ids a U 0 (let n = h.registers.type_ids in omega (arith, n, valid.a))) in
             let led : LeadsInImage moved.0.later (path_from (Origin.Owned a)) (place_in w' a) = subst (λ (q : Place). LeadsInImage moved.0.later (path_from (Origin.Owned a)) q) (sym at_here)
-                (record { root = root; item = 0; begins = moved.1; leads = leads_itself new moved.0.later.picture.table root }) in
+            (record { root = root; item = 0; begins = moved.1; leads = leads_itself new moved.0.later.picture.table root }) in
             let shows = shows_moved one h b r.class r.type r.known_as l Empty fits new a owner (λ o. ⊥) moved.0 (RegisterType.Owner U) after true positions type_ids valid.a sixteen
-                (length_set w.positions a at ∙ h.registers.positions) (length_set w.type_ids a U ∙ h.registers.type_ids) (others_placed w at U) changes.front_kept as_known
-                (λ n far. stays_put one h b r.class r.type r.known_as l Empty fits new a owner (λ o. ⊥) moved.0 (λ o z. z) n) (owns_here, ap (λ (q : Place). q.type) at_here, led) in
+            (length_set w.positions a at ∙ h.registers.positions) (length_set w.type_ids a U ∙ h.registers.type_ids) (others_placed w at U) changes.front_kept as_known
+            (λ n far. stays_put one h b r.class r.type r.known_as l Empty fits new a owner (λ o. ⊥) moved.0 (λ o z. z) n) (owns_here, ap (λ (q : Place). q.type) at_here, led) in
             let row : outcome constants take true s ≡ Some (success, state) =
-                take_row s l.path r.form U l.value (Some v) r.path_is r.path_form_is r.is l.there (ap content_in some.1) ∙ answer_is types constants after after_put known_then success a owner o.0 in
+            take_row s l.path r.form U l.value (Some v) r.path_is r.path_form_is r.is l.there (ap content_in some.1) ∙ answer_is types constants after after_put known_then success a owner o.0 in
             let blocks : GrantsAsks constants take h.pictured new = record { asks = []; asked = refl; gives = []; returned = refl; blocks = live w.image; granted = refl; left = changes.live_is } in
             subst (λ n. Acts others types constants first allocator take success (slice_set after a (RegisterType.Owner U)) s w (owner_then at n)) (sym t.0)
             (acts_so others types constants first allocator ks s w h take success true (slice_set after a (RegisterType.Owner U)) state w' row blocks changes.length_kept changes.front_kept refl shows)
