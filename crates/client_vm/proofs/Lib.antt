@@ -12,3 +12,4 @@ pub mod PositionLaws
 pub mod IndexLaws
 pub mod CourseLaws
 pub mod OwnerLaws
+pub mod RunLaws
