@@ -16,3 +16,4 @@ pub mod IndexLaws
 pub mod TogetherLaws
 pub mod CourseLaws
 pub mod UnnamedLaws
+pub mod RunLaws
