@@ -441,11 +441,11 @@ module _ (allocator : ℕ) (constants : List Constant) (role : Role) (a b c : �
       elim (of_held h (λ p held. T < length w.table → RefusesToMake code p held.index_blocks new) says (in_table h right n.below)) [
         | inl f ↦
             let none : (m : ℕ) → 1 ≤ m → m ≤ 65535 → wanted ≢ pos m = elim f.2 [ inl x ↦ x | inr x ↦ x.1 (name_right n.constant (number_in w b) bytes n.is_constant x.0 n.shown) ] in (
-          out_of_range,
-          (λ q. cc),
-          bad_is out_of_range (refused right h a k T bytes n.by n.below valid.a g.0 i new out_of_range code f.0 f.1
-              (row true ∙ ap (λ o. after o true) (uncounted wanted none)) refl),
-        )
+              out_of_range,
+              (λ q. cc),
+              bad_is out_of_range (refused right h a k T bytes n.by n.below valid.a g.0 i new out_of_range code f.0 f.1
+                  (row true ∙ ap (λ o. after o true) (uncounted wanted none)) refl),
+            )
         | inr (inl f) ↦ (
           already_exists,
           λ q. cc,

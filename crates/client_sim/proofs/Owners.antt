@@ -100,13 +100,13 @@ module _ {others : List Root} {types : Table} {constants : List Constant} (one :
         (λ r. elim (cases_eq r a) [
           | inl e ↦ inr (subst (λ n. Shown c.later owning n (known ks_owning n) (register s_owning n)) (sym e) owner_shown)
           | inr far ↦ inl (record {
-              known_is = get_or-set_other ks a r (RegisterType.Owner place.type) RegisterType.Undefined far;
-              register_is = get_or-set_other s.registers a r (Register.Owner v place.type) Register.Undefined far;
-              number_is = refl;
-              place_is = one_place.places_kept r (λ e. far (sym e));
-              owns_is = get_or-set_other w.owns a r true false far;
-              goes_on = λ o f g. g;
-            })
+            known_is = get_or-set_other ks a r (RegisterType.Owner place.type) RegisterType.Undefined far;
+            register_is = get_or-set_other s.registers a r (Register.Owner v place.type) Register.Undefined far;
+            number_is = refl;
+            place_is = one_place.places_kept r (λ e. far (sym e));
+            owns_is = get_or-set_other w.owns a r true false far;
+            goes_on = λ o f g. g;
+          })
         ])
 
   -- ---- it owns it no more
@@ -132,7 +132,7 @@ module _ {others : List Root} {types : Table} {constants : List Constant} (one :
               let known_is : known ks_released b ≡ RegisterType.Undefined = get_or-set_same (ended (Class.Register b) ks) b RegisterType.Undefined RegisterType.Undefined (omega (arith, n, long, within)) in
               let none : owns_in released b ≡ false = get_or-set_same w.owns b false false (omega (arith, o, within)) in
               inr (subst (λ m. Shown c.later released m (known ks_released m) (register (set_register s b Register.Undefined) m)) (sym e)
-                  (subst (λ k. Shown c.later released b k (register (set_register s b Register.Undefined) b)) (sym known_is) none))
+              (subst (λ k. Shown c.later released b k (register (set_register s b Register.Undefined) b)) (sym known_is) none))
           | inr far ↦
               ended_shown one h (Class.Register b) ks_released (set_register s b Register.Undefined) released c.later (λ o. o ≡ Origin.Owned b) (λ o e. subst (λ x. InClass constants (Class.Register b) x) (sym e) refl) r
               (get_or-set_other (ended (Class.Register b) ks) b r RegisterType.Undefined RegisterType.Undefined far ∙ known_ended (Class.Register b) ks r)
@@ -238,8 +238,7 @@ module _ (allocator : ℕ) (constants : List Constant) (role : Role) (a b c : �
       let owns : slice_set w.owns a false ≡ w.owns = ap (slice_set w.owns a) (sym (unowned others types constants first allocator ks s w h a g.0)) ∙ set-get_or w.owns a false in
       let world : with_number (without_owner w new a) a (pos code) ≡ with_number w a (pos (answer_number bad_alloc)) =
       ap (λ (image : List ℕ). with_number (without_owner w image a) a (pos code)) same ∙ ap (λ (owns : List Bool). with_number (record w { owns = owns }) a (pos code)) owns ∙ ap (λ (n : ℕ). with_number w a (pos n)) call.0 in
-      let row : outcome constants i false s ≡ fail a bad_alloc s = refl in
-      (
+      let row : outcome constants i false s ≡ fail a bad_alloc s = refl in (
         bad_alloc,
         (λ f. cc),
         subst (λ k. Acts others types constants first allocator i bad_alloc k s w (with_number (without_owner w new a) a (pos code))) (sym g.2)

@@ -222,8 +222,8 @@ module _ {others : List Root} {s : State} {old : List ℕ} (pictured : Pictures 
         loose = append_assoc others m.before (root ∷ m.after);
       } in
       let there : (q : ℕ) (r : Root) → root_of_register s.registers pictured.owned q ≡ Some r → ⊥ ⊎ (root_of_register (slice_set s.registers a (Register.Owner v t)) (m.before ++ root ∷ m.after) q ≡ Some r) = λ q r e.
-          inr (m.seat.beside q (λ f. vacant r (sym (ap (root_of_register s.registers pictured.owned) f) ∙ e)) (register s a) none v t root
-          ∙ ap (λ rs. root_of_register rs (m.before ++ m.after) q) (set-get_or s.registers a Register.Undefined) ∙ ap (λ xs. root_of_register s.registers xs q) (sym m.among) ∙ e) in
+      inr (m.seat.beside q (λ f. vacant r (sym (ap (root_of_register s.registers pictured.owned) f) ∙ e)) (register s a) none v t root
+      ∙ ap (λ rs. root_of_register rs (m.before ++ m.after) q) (set-get_or s.registers a Register.Undefined) ∙ ap (λ xs. root_of_register s.registers xs q) (sym m.among) ∙ e) in
       record {
         later = later;
         keeps = keeps_all pictured later (λ o. ⊥) refl (found_again pictured later (λ o. ⊥) (λ name i r e. inr e) (λ T r e. inr e) there) paths;
@@ -272,7 +272,7 @@ module _ {others : List Root} {s : State} {old : List ℕ} (pictured : Pictures 
             → (Origin.Owned q ≡ Origin.Owned b) ⊎ (root_of_register (slice_set s.registers b Register.Undefined) (m.before ++ m.after) q ≡ Some r) = λ q r f. elim (cases_eq q b) [
               | inl same ↦ inl (ap Origin.Owned same)
               | inr far ↦ inr (sym (m.seat.beside q far Register.Undefined refl m.value root.type root) ∙ ap (λ rs. root_of_register rs (m.before ++ root ∷ m.after) q) (sym m.is)
-                ∙ ap (λ xs. root_of_register s.registers xs q) (sym m.among) ∙ f)
+                  ∙ ap (λ xs. root_of_register s.registers xs q) (sym m.among) ∙ f)
             ] in
             record {
               later = later;

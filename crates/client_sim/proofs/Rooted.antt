@@ -48,15 +48,15 @@ module _ (old new : List ℕ) (picture : Picture) (held : IsHeld old picture) (g
       let a = root_comes_apart old picture held which before root after among in
       let same : a.its ≡ objects = a.holds_it.blocks_are ∙ ap (λ bs. block_of root.at ∷ bs) (HoldsEach-one old picture.table a.holds_it.values holds.values).1 ∙ sym holds.blocks_are in
       let stay : (h : ℕ) → 1 ≤ times h a.left + times h a.right → KeepsBlock old new h = λ h some.
-          (let e = held.owners h ∙ times-append h held.index_blocks held.root_blocks in
-          let f = ap (times h) a.blocks_are ∙ times-append h a.left (a.its ++ a.right) in
-          let g = times-append h a.its a.right in
-          let mine = ap (times h) same in
-          let once = live-once old (word old allocator_word) held.laid_out.heap h in
-          kept h (omega (arith, e, f, g, some)) (omega (arith, e, f, g, mine, once, few h, some))) in
+      (let e = held.owners h ∙ times-append h held.index_blocks held.root_blocks in
+      let f = ap (times h) a.blocks_are ∙ times-append h a.left (a.its ++ a.right) in
+      let g = times-append h a.its a.right in
+      let mine = ap (times h) same in
+      let once = live-once old (word old allocator_word) held.laid_out.heap h in
+      kept h (omega (arith, e, f, g, some)) (omega (arith, e, f, g, mine, once, few h, some))) in
       each_joined (KeepsPaths old new picture.table) (roots_before picture which before) (roots_after picture which after)
-          (roots_paths old new picture.table held.laid_out.is_table a.holds_before (each_there (KeepsBlock old new) a.left (λ h some. stay h (omega (arith, some)))))
-          (roots_paths old new picture.table held.laid_out.is_table a.holds_after (each_there (KeepsBlock old new) a.right (λ h some. stay h (omega (arith, some)))))
+      (roots_paths old new picture.table held.laid_out.is_table a.holds_before (each_there (KeepsBlock old new) a.left (λ h some. stay h (omega (arith, some)))))
+      (roots_paths old new picture.table held.laid_out.is_table a.holds_after (each_there (KeepsBlock old new) a.right (λ h some. stay h (omega (arith, some)))))
 
 -- where paths begin finds its root where it was, but for those that end, and paths from there lead where they led
 pub record KeepsRoots {others : List Root} {s s' : State} {old new : List ℕ} (pictured : Pictures others s old) (later : Pictures others s' new) (Ends : Origin → Type 0) : Type 0 where
@@ -68,11 +68,11 @@ pub leads_on : {others : List Root} {s s' : State} {old new : List ℕ} (picture
 leads_on {new = new} pictured later Ends k path place x there led = elim (k.begins path.origin led.root led.item led.begins) [
   | inl e ↦ inl e
   | inr p ↦ inr (record {
-      root = led.root;
-      item = led.item;
-      begins = p.0;
-      leads = subst (λ table. Leads new table (item_of table led.root led.item) path.selectors place) (sym k.table) (p.1 led.item path.selectors place (item_within pictured path place x there led) led.leads);
-    })
+    root = led.root;
+    item = led.item;
+    begins = p.0;
+    leads = subst (λ table. Leads new table (item_of table led.root led.item) path.selectors place) (sym k.table) (p.1 led.item path.selectors place (item_within pictured path place x there led) led.leads);
+  })
 ]
 
 -- ---- worlds

@@ -104,7 +104,8 @@ module _ (allocator : ℕ) (clients : List Client) (moves : List Move) (input : 
     not_stuck ended.Done e = cc
     not_stuck ended.OutputFailed e = cc
 
-    module _ (m : Midway (text ∷ texts) left now table taken_now reports false) (client : Client) (clients_then : List Client) (accepted : AreAccepted table (text ∷ texts) (client ∷ clients_then)) (rest_is : m.rest ≡ client ∷ clients_then) where
+    module _ (m : Midway (text ∷ texts) left now table taken_now reports false) (client : Client) (clients_then : List Client)
+        (accepted : AreAccepted table (text ∷ texts) (client ∷ clients_then)) (rest_is : m.rest ≡ client ∷ clients_then) where
       has : HasRun allocator client [] moves left now table taken_now new table_then taken_then report
       has = ran client accepted.0 (record { ready = m.ready; agree = accepted.1.agree })
 

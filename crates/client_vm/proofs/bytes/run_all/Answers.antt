@@ -29,26 +29,36 @@ loop-program-preserved g c empty room =
     let ok = c.push.ensures.succeeds (let size = h.0 in let capacity = h.1 in let there = c.loop-program-test.true in omega (arith, size, capacity, there, room)) in
     let pushed = pushed_there _ _ _ _ c.push.ensures.items ok in
     let ran = program_ran c.args.programs.now c.loop-program.program-index c.program-item.result c.loop-program.reports.items c.push.new.self.items c.run-report.result c.loop-program-test.true c.program-item.is h.0 h.2
-    (record { path = c.run-report.ensures.path; within = c.run-report.ensures.steps }) pushed in
-    (ran.0, (let capacity = h.1 in let more = c.push.ensures.capacity in omega (arith, capacity, more)), ran.1, λ works trees accepted ready.
-    let text : Verified → List ℕ = λ p. bytes_of (client_of p) in
-    let k = c.loop-program.program-index in
-    let now = c.loop-program.segment in
-    let new = c.run-report.new in
-    let taken = g.W.Sink.taken c.loop-program.out in
-    let left = c.loop-program.left.now in
-    let texts : List (List ℕ) = texts_of (drop (k + 1) c.args.programs.now) in
-    let these : texts_of (drop k c.args.programs.now) ≡ text c.program-item.result ∷ texts =
-    ap texts_of (drop-cons c.args.programs.now k c.program-item.result c.loop-program-test.true) ∙ ap (λ p. text p ∷ texts_of (drop (suc k) c.args.programs.now)) (sym c.program-item.is) ∙ ap (λ n. text c.program-item.result ∷ texts_of (drop n c.args.programs.now)) (sym (add-one k)) in
-    let m : Midway g.F.Fit.allocator trees (moves_of c.args.moves.now) c.args.input.now c.args.segment.now.window (g.W.Sink.taken c.args.out.now) (text c.program-item.result ∷ texts) left now.window now.types taken c.loop-program.reports.items false =
-    subst (Midway g.F.Fit.allocator trees (moves_of c.args.moves.now) c.args.input.now c.args.segment.now.window (g.W.Sink.taken c.args.out.now) (text c.program-item.result ∷ texts) left now.window now.types taken c.loop-program.reports.items)
-    (sym c.failed.ensures ∙ c.if-failed.false)
-    (subst (λ ts. Midway g.F.Fit.allocator trees (moves_of c.args.moves.now) c.args.input.now c.args.segment.now.window (g.W.Sink.taken c.args.out.now) ts left now.window now.types taken c.loop-program.reports.items (g.W.Sink.has_failed c.loop-program.out))
-    these (h.3 works trees accepted ready)) in
-    subst (λ rs. Midway g.F.Fit.allocator trees (moves_of c.args.moves.now) c.args.input.now c.args.segment.now.window (g.W.Sink.taken c.args.out.now) texts c.rest-left.result.now new.segment.window new.segment.types (g.W.Sink.taken new.out) rs
-    (g.W.Sink.has_failed new.out)) (sym pushed)
-    (next_ran g.F.Fit.allocator trees (moves_of c.args.moves.now) c.args.input.now c.args.segment.now.window (g.W.Sink.taken c.args.out.now) (text c.program-item.result) texts left c.rest-left.result.now now.window new.segment.window
-    now.types new.segment.types taken (g.W.Sink.taken new.out) c.loop-program.reports.items c.run-report.result (g.W.Sink.has_failed new.out) (λ tree spells may. c.run-report.ensures.runs tree spells [] may) c.rest-left.ensures c.run-report.ensures.ended m))
+    (record { path = c.run-report.ensures.path; within = c.run-report.ensures.steps }) pushed in (
+      ran.0,
+      (let capacity = h.1 in let more = c.push.ensures.capacity in omega (arith, capacity, more)),
+      ran.1,
+      λ works trees accepted ready.
+          let text : Verified → List ℕ = λ p. bytes_of (client_of p) in
+          let k = c.loop-program.program-index in
+          let now = c.loop-program.segment in
+          let new = c.run-report.new in
+          let taken = g.W.Sink.taken c.loop-program.out in
+          let left = c.loop-program.left.now in
+          let texts : List (List ℕ) = texts_of (drop (k + 1) c.args.programs.now) in
+          let these : texts_of (drop k c.args.programs.now) ≡ text c.program-item.result ∷ texts =
+          ap texts_of (drop-cons c.args.programs.now k c.program-item.result c.loop-program-test.true) ∙ ap (λ p. text p ∷ texts_of (drop (suc k) c.args.programs.now)) (sym c.program-item.is)
+          ∙ ap (λ n. text c.program-item.result ∷ texts_of (drop n c.args.programs.now)) (sym (add-one k)) in
+          let m : Midway g.F.Fit.allocator trees (moves_of c.args.moves.now) c.args.input.now c.args.segment.now.window (g.W.Sink.taken c.args.out.now) (text c.program-item.result ∷ texts)
+          left now.window now.types taken c.loop-program.reports.items false =
+          subst (Midway g.F.Fit.allocator trees (moves_of c.args.moves.now) c.args.input.now c.args.segment.now.window (g.W.Sink.taken c.args.out.now) (text c.program-item.result ∷ texts)
+          left now.window now.types taken c.loop-program.reports.items)
+          (sym c.failed.ensures ∙ c.if-failed.false)
+          (subst (λ ts. Midway g.F.Fit.allocator trees (moves_of c.args.moves.now) c.args.input.now c.args.segment.now.window (g.W.Sink.taken c.args.out.now) ts
+          left now.window now.types taken c.loop-program.reports.items (g.W.Sink.has_failed c.loop-program.out))
+          these (h.3 works trees accepted ready)) in
+          subst (λ rs. Midway g.F.Fit.allocator trees (moves_of c.args.moves.now) c.args.input.now c.args.segment.now.window (g.W.Sink.taken c.args.out.now) texts c.rest-left.result.now
+          new.segment.window new.segment.types (g.W.Sink.taken new.out) rs
+          (g.W.Sink.has_failed new.out)) (sym pushed)
+          (next_ran g.F.Fit.allocator trees (moves_of c.args.moves.now) c.args.input.now c.args.segment.now.window (g.W.Sink.taken c.args.out.now) (text c.program-item.result) texts left c.rest-left.result.now now.window new.segment.window
+          now.types new.segment.types taken (g.W.Sink.taken new.out) c.loop-program.reports.items c.run-report.result
+          (g.W.Sink.has_failed new.out) (λ tree spells may. c.run-report.ensures.runs tree spells [] may) c.rest-left.ensures c.run-report.ensures.ended m),
+    )
 
 pub returns-then-failed-clause-reports : goal.returns-then-failed-clause-reports
 returns-then-failed-clause-reports g c empty room = some_ran c.args.programs.now c.loop-program.program-index c.loop-program.reports.items (c.loop-program.invariant empty room).2

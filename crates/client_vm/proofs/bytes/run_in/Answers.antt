@@ -24,7 +24,8 @@ returns-then-get32-word-clause-runs g c image lies same room can =
     let before = g.W.Sink.taken c.args.out.now in
     let after = g.W.Sink.taken c.run_on.new.out in
     let bytes = shows c.in-Ok.window c.args.region schedule.base c.args.len image w.0 w.1 w.2 same lies.1 in
-    if_ok (λ o. HaveRunOn texts moves c.args.input.now c.in-Ok.window before o.image.items after o.reports.items (ending_of o.ended)) (λ o. HasOutcome image texts c.args.input.now schedule.room schedule.base moves before after o.image.items o.reports.items o.ended) c.run_on.result
+    if_ok (λ o. HaveRunOn texts moves c.args.input.now c.in-Ok.window before o.image.items after o.reports.items (ending_of o.ended))
+    (λ o. HasOutcome image texts c.args.input.now schedule.room schedule.base moves before after o.image.items o.reports.items o.ended) c.run_on.result
     (λ o h. has_outcome texts moves c.args.input.now c.in-Ok.window before o.image.items after o.reports.items o.ended h image schedule.room schedule.base bytes (ap length w.0 ∙ room) w.1 can) c.run_on.ensures.runs
 
 pub returns-else-get32-word-clause-refused : goal.returns-else-get32-word-clause-refused
@@ -42,5 +43,6 @@ returns-else-get32-word-clause-runs g c image lies same room can =
     let before = g.W.Sink.taken c.args.out.now in
     let after = g.W.Sink.taken c.run_on-else-get32-word.new.out in
     let bytes = shows c.in-Ok.window c.args.region schedule.base c.args.len image w.0 w.1 w.2 same lies.1 in
-    if_ok (λ o. HaveRunOn texts moves c.args.input.now c.in-Ok.window before o.image.items after o.reports.items (ending_of o.ended)) (λ o. HasOutcome image texts c.args.input.now schedule.room schedule.base moves before after o.image.items o.reports.items o.ended) c.run_on-else-get32-word.result
+    if_ok (λ o. HaveRunOn texts moves c.args.input.now c.in-Ok.window before o.image.items after o.reports.items (ending_of o.ended))
+    (λ o. HasOutcome image texts c.args.input.now schedule.room schedule.base moves before after o.image.items o.reports.items o.ended) c.run_on-else-get32-word.result
     (λ o h. has_outcome texts moves c.args.input.now c.in-Ok.window before o.image.items after o.reports.items o.ended h image schedule.room schedule.base bytes (ap length w.0 ∙ room) w.1 can) c.run_on-else-get32-word.ensures.runs

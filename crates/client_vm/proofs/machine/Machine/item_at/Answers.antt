@@ -16,8 +16,9 @@ returns-then-is_text-clause-does g c =
     let item = c.position-item.result in
     let tells : TellsAt g.F.Fit.allocator i c.try_give.result old c.try_give.new.self segment item = record { text = c.position-item.ensures.text; vector = c.position-item.ensures.vector; list = c.position-item.ensures.list } in
     let str : form_at segment.types c.place-sequence.result.type_id ≡ Some Form.str = search (rules, c.is_text.ensures, c.if-is_text.ensures) in
-    let read : MatchResult item (λ p. c.match-item.byte ≡ Ok (pos (byte segment.window.bytes p))) (λ code. c.match-item.byte ≡ Err code) = elim c.match-item.branch [ 
-      | in-Ok w ↦ subst (λ (r : Result ℕ Code). MatchResult r (λ p. c.match-item.byte ≡ Ok (pos (byte segment.window.bytes p))) (λ code. c.match-item.byte ≡ Err code)) (sym w.in-Ok.is) (search (rules, w.byte-is, w.from.ensures, w.get8.ensures, w.window.ensures))
+    let read : MatchResult item (λ p. c.match-item.byte ≡ Ok (pos (byte segment.window.bytes p))) (λ code. c.match-item.byte ≡ Err code) = elim c.match-item.branch [
+      | in-Ok w ↦ subst (λ (r : Result ℕ Code). MatchResult r (λ p. c.match-item.byte ≡ Ok (pos (byte segment.window.bytes p))) (λ code. c.match-item.byte ≡ Err code))
+          (sym w.in-Ok.is) (search (rules, w.byte-is, w.from.ensures, w.get8.ensures, w.window.ensures))
       | in-Err w ↦ subst (λ (r : Result ℕ Code). MatchResult r (λ p. c.match-item.byte ≡ Ok (pos (byte segment.window.bytes p))) (λ code. c.match-item.byte ≡ Err code)) (sym w.in-Err.is) w.byte-is
     ] in
     byte_does g.F.Fit.allocator i c.try_give.result old c.try_give.new.self segment item c.match-item.byte (ap (form_at segment.types) (sym c.place-sequence.ensures.type_id) ∙ str) tells read c.try_give.ensures.gives
