@@ -1,7 +1,7 @@
 -- Why no client runs: the faults of an image and of clients as the reasons of the definitions.
 use Rattle.std.proofs.Common.{◌≡◌, ℕ, zero, suc, ◌+◌, ◌-◌, ◌≤◌, List, ◌++◌, length, Option, Some, None, Result, Ok, Err, refl, sym, ap, ◌∙◌, subst, inl, inr, arith, length-append}
 use Rattle.std.specs.Result.{IsErrAnd}
-use Rattle.std.specs.Prelude.{replicate, IfOk, IfErr, OnOk}
+use Rattle.std.specs.Prelude.{replicate, IfOk, IfErr}
 use Rattle.std.proofs.Math.Seq.{take-length}
 use Rattle.std.proofs.lemmas.List.{length-replicate}
 use Rattle.seg_spec.specs.Bytes.{word, slice, IsPlaced}
@@ -16,13 +16,13 @@ use Rattle.seg_raw.specs.declared.fault.Fault.{Fault}
 use Rattle.seg_raw.specs.declared.fault.Fault.TheVariants as fault
 use Rattle.seg_check.specs.Faults.{IsImageOf, IsFaultOf, IsFaultOfOpening}
 use Rattle.client_spec.specs.Syntax.{Client}
-use Rattle.client_spec.specs.Clients.{IsVerified, AreAccepted}
+use Rattle.client_spec.specs.Clients.{IsVerified}
 use Rattle.client_spec.specs.OnImages.{Move}
 use Rattle.client_spec.specs.Outcome.{CanMove, IsTurnOf}
 use Rattle.client_verify.specs.Refusals.{IsRefused}
 use Rattle.client_vm.specs.declared.report.Refused.{Refused}
 use Rattle.client_vm.specs.Texts.{IsWrongAt, IsWrongBy, AreWrong}
-use Rattle.client_vm.specs.Admitted.{LiesIn, AreAcceptedOn, IsWrongFor, IsWrong}
+use Rattle.client_vm.specs.Admitted.{LiesIn, IsWrongFor, IsWrong}
 use Rattle.client_vm.specs.Outcomes.{IsBadImage, IsFault, IsFaultOfCall, IsFaultOfClient, IsRefusedFor}
 use Rattle.seg_spec.proofs.Failures.{unsound}
 

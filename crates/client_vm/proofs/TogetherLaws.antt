@@ -1,27 +1,23 @@
 -- Clients one after the other: what those that ran have left, and that the next one goes on from there.
-use Rattle.std.proofs.Common.{◌≡◌, ◌≢◌, ℕ, suc, ◌+◌, ◌<◌, ◌↔◌, Bool, true, false, List, [], ◌∷◌, ◌++◌, length, map, take, drop, get_or, Option, Some, None, Result, Ok, Err, refl, sym, ap, ◌∙◌, subst, arith, append_assoc}
+use Rattle.std.proofs.Common.{◌≡◌, ◌≢◌, ℕ, ◌↔◌, Bool, true, false, List, [], ◌∷◌, ◌++◌, length, drop, Option, Some, None, Result, Ok, Err, refl, sym, ap, ◌∙◌, subst, append_assoc}
 use Rattle.std.specs.Prelude.{if◌then◌else◌, IfOk, OnOk}
 use Rattle.seg_spec.specs.Bytes.{word}
 use Rattle.seg_spec.specs.Header.{allocator_word}
 use Rattle.seg_check.specs.Faults.{IsImageOf}
 use Rattle.client_spec.specs.Outcome.{CanMove}
 use Rattle.std.proofs.lemmas.List.{append-nil}
-use Rattle.seg_spec.specs.Types.{Table, longer}
+use Rattle.seg_spec.specs.Types.{Table}
 use Rattle.seg_spec.specs.Window.{Placement, region_of}
 use Rattle.client_spec.specs.Syntax.{Client}
 use Rattle.client_spec.specs.Grammar.{SpellsClient}
-use Rattle.client_spec.specs.Run.{Ending, finished, stopped, stuck, bound}
-use Rattle.client_spec.specs.OnImages.{Move, Given, Left, RunsClient}
-use Rattle.client_spec.specs.Clients.{IsVerified, AreAccepted, GoesOn, RunClients, StayWithin, outputs, image_after, ending_after}
-use Rattle.client_code.specs.Clients.{bytes_of}
-use Rattle.client_verify.specs.Accepted.{client_of}
-use Rattle.client_verify.specs.declared.verified.Verified.{Verified}
+use Rattle.client_spec.specs.Run.{Ending, finished, stopped, stuck}
+use Rattle.client_spec.specs.OnImages.{Move, Given, Left}
+use Rattle.client_spec.specs.Clients.{AreAccepted, GoesOn, RunClients, StayWithin, outputs, image_after, ending_after}
 use Rattle.client_sim.specs.Writes.{Took}
 use Rattle.client_sim.proofs.Printing.{took_more}
 use Rattle.client_vm.specs.declared.report.Report.{Report}
 use Rattle.client_vm.specs.declared.report.Ended.{Ended}
 use Rattle.client_vm.specs.declared.report.Ended.TheVariants as ended
-use Rattle.client_vm.specs.Reports.{texts_of}
 use Rattle.client_vm.specs.Runs.{ending_of, given_of, left_of, IsReady, MayRun, HasRun}
 use Rattle.client_vm.specs.Outcomes.{AreReports, HasOutcome}
 use Rattle.client_vm.specs.Together.{ending_if, HaveRun, HaveRunOn}
