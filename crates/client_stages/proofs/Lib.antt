@@ -7,6 +7,3 @@ pub mod Walking
 pub mod Running
 pub mod Beginning
 pub mod Leaving
-pub mod Held
-pub mod PictureLaws
-pub mod Outside

@@ -1,8 +1,5 @@
-pub mod Held
-pub mod PictureLaws
 pub mod Simulated
 pub mod Worked
-pub mod Outside
 pub mod Placed
 pub mod Following
 pub mod Stopped

@@ -38,7 +38,8 @@ returns-clause-vector g c = λ T U vs blocks n h.
           let item = one_place c.value.result w.in-Some.item (record { at = (c.in_ok-start.start + c.count-kept.result * content.entry.size + content.entry.before) % 2 ^ 32; type_id = U }) w.in-Some.is is in
           let at_is = ap (λ (x : Place). x.at) item in
           let p = item_pushed g.F.Fit.allocator old c.args.cell T U vs blocks h content.entry.size c.count-kept.result c.saturating_add-len.result entry.size_is c.count-kept.ensures c.saturating_add-len.ensures
-          mid counted w.init_default.new.self reserves written same_types c.in_ok-start.start content.entry.before w.in-Some.item.at w.in-Some.item.type_id c.in_ok-start.ensures.start entry.before_is at_is (ap (λ (x : Place). x.type_id) item)
+          mid counted w.init_default.new.self reserves written same_types c.in_ok-start.start content.entry.before w.in-Some.item.at w.in-Some.item.type_id c.in_ok-start.ensures.start entry.before_is at_is
+          (ap (λ (x : Place). x.type_id) item)
           w.init_default.ensures.changes w.init_default.ensures.default in
           rw (known ∙ sym at_is) (subst (λ x. PushesBack g.F.Fit.allocator old x (object_at c.args.cell T) U vs blocks w.in-Some.item.at) (sym w.heap-is) p)
           )

@@ -1,4 +1,4 @@
-use Rattle.test_machine.proofs.Outside.{outside_stays as law}
+use Rattle.client_spec.proofs.Outside.{outside_stays as law}
 use Rattle.test_machine.proofs.pictures.outside_stays.Goals as goal
 
 pub returns : goal.returns

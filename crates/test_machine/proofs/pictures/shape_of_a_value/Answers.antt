@@ -1,5 +1,5 @@
-use Rattle.test_machine.proofs.Held.{held_shape}
-use Rattle.test_machine.proofs.PictureLaws.{shape_of}
+use Rattle.client_spec.proofs.Held.{held_shape}
+use Rattle.client_spec.proofs.PictureLaws.{shape_of}
 use Rattle.test_machine.proofs.pictures.shape_of_a_value.Goals as goal
 
 pub returns : goal.returns

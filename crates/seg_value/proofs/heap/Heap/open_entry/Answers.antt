@@ -78,5 +78,6 @@ returns-clause-opens_name g c = λ finds below.
     let reserved = rw len_is at (c.in_ok-start.ensures.reserves_index finds) in
     let new_is = bytes_of c.set_count.new.self.window (with_bytes moved (set_word moved.bytes (c.args.cell + 4) c.saturating_add-len.result)) c.set_count.ensures.window in
     name_opened_by g.F.Fit.allocator old table finds.2 mid c.args.index content.entry.size content.entry.before c.at-at.result c.at-next.result c.count-kept.result c.saturating_add-len.result c.saturating_sub.result
-    c.saturating_add.result c.in_ok-start.start moved.bytes c.set_count.new.self.window.bytes reserved (rw finds.1 at below) finds.0.size_is finds.0.before_is (rw finds.1 at c.count-kept.ensures) more (rw finds.1 at c.in_ok-start.ensures.start)
+    c.saturating_add.result c.in_ok-start.start moved.bytes c.set_count.new.self.window.bytes reserved (rw finds.1 at below) finds.0.size_is finds.0.before_is (rw finds.1 at c.count-kept.ensures) more
+    (rw finds.1 at c.in_ok-start.ensures.start)
     c.saturating_sub.ensures c.saturating_add.ensures c.at-at.ensures c.at-next.ensures (c.shift_entries.ensures.pointers finds.0.held_is) (rw finds.1 at new_is)
