@@ -6,4 +6,4 @@ mod image;
 mod listing;
 
 pub use client::{assembled, printed, steps};
-pub use image::{Made, made_of, new_image};
+pub use image::{Made, Unmade, made_of, new_image};

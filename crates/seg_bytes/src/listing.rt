@@ -1,8 +1,10 @@
 //! What a segment has, as text.
 
+use crate::image::Unmade;
 use seg_block::Fit;
 use seg_layout::{MAX_TYPES, TypeId};
 use seg_manager::{Named, Segment};
+use seg_show::{Extent, all_objects, one_object};
 use std::alloc::{AllocError, Global};
 
 /// The bytes of a segment, of its free memory and of its largest gap, and how many objects it has, a line each.
@@ -43,6 +45,23 @@ pub(crate) fn objects<F: Fit>(
         }
     }
     Ok(lines)
+}
+
+/// The objects with their values, all or the one with a name, a line each value.
+pub(crate) fn shown<'a, F: Fit>(
+    alloc: Global,
+    segment: &Segment<F, Global>,
+    name: Option<&'a str>,
+    whole: bool,
+) -> Result<Vec<u8>, Unmade<'a>> {
+    let extent = if whole { Extent::All } else { Extent::Cut };
+    match name {
+        Some(name) => match one_object(alloc, segment, name.as_bytes(), extent)? {
+            Some(text) => Ok(text),
+            None => Err(Unmade::Absent(name)),
+        },
+        None => Ok(all_objects(alloc, segment, extent)?),
+    }
 }
 
 /// The new size of a segment, as a line.

@@ -1,4 +1,5 @@
 use client_vm::Refused;
+use seg_bytes::Unmade;
 use seg_files::FileFailure;
 use seg_raw::Fault;
 use seg_words::Misread;
@@ -9,6 +10,8 @@ use std::alloc::AllocError;
 pub enum Failure<'a> {
     /// A wrong command line: what is wrong with it.
     Words(String),
+    /// No object of the image has this name.
+    Absent(&'a str),
     /// A refusal of the library.
     Refused(Refused),
     /// A file that couldn't be read or written, `-` for the standard output.
@@ -22,7 +25,7 @@ impl Failure<'_> {
     /// The status that the program ends with.
     pub fn status(&self) -> u8 {
         match self {
-            Failure::Refused(_) => 1,
+            Failure::Refused(_) | Failure::Absent(_) => 1,
             Failure::Words(_) => 2,
             Failure::File(_) => 3,
         }
@@ -38,6 +41,15 @@ impl From<Refused> for Failure<'_> {
 impl From<Fault> for Failure<'_> {
     fn from(fault: Fault) -> Self {
         Failure::Refused(Refused::from(fault))
+    }
+}
+
+impl<'a> From<Unmade<'a>> for Failure<'a> {
+    fn from(unmade: Unmade<'a>) -> Self {
+        match unmade {
+            Unmade::Fault(fault) => Failure::from(fault),
+            Unmade::Absent(name) => Failure::Absent(name),
+        }
     }
 }
 

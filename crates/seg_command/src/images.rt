@@ -20,19 +20,28 @@ pub fn new_file<'a, F: Files>(
     Ok(write_file(files, new.file, image.as_slice())?)
 }
 
-/// `check FILE`, `stat FILE`, `list FILE`, `grow FILE EXTRA`, `shrink FILE`: prints what the task makes of the image, and
-/// rewrites the file where it changes.
+/// The commands on an image alone: prints what the task makes of the image, or writes it where it is a picture, and rewrites
+/// the file where the image changes.
 pub fn image_file<'a, F: Files, O: Sink>(
     alloc: Global,
     file: &'a str,
-    task: ImageTask,
+    task: ImageTask<'a>,
     files: &mut F,
     out: &mut O,
 ) -> Result<(), Failure<'a>>
     requires works { O.has_failed out.old ≡ false }
 {
     let made = made_of(alloc, read_image(alloc, files, file)?, task)?;
-    give(file, &made, files, out)
+    match task {
+        ImageTask::Picture { to } => Ok(write_file(files, to, made.text.as_slice())?),
+        ImageTask::Check
+        | ImageTask::Stat
+        | ImageTask::List
+        | ImageTask::Show { .. }
+        | ImageTask::Map
+        | ImageTask::Grow { .. }
+        | ImageTask::Shrink => give(file, &made, files, out),
+    }
 }
 
 /// Prints a text, and rewrites the file where there is another image for it, also where the output fails.

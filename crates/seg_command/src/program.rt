@@ -69,6 +69,7 @@ fn report<E: Sink>(alloc: Global, failure: &Failure, err: &mut E) -> Result<(), 
     // an error output that fails changes nothing
     let _ = match failure {
         Failure::Words(text) => write_all(err, text.as_bytes()),
+        Failure::Absent(name) => write_all(err, format!(in alloc; "absent {name}\n")?.as_bytes()),
         Failure::Refused(refused) => {
             write_all(err, format!(in alloc; "{refused}\n")?.as_bytes())
         }

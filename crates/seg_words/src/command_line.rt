@@ -1,5 +1,5 @@
 use clap::builder::{ValueParser, ValueRange};
-use clap::{Arg, Command, value_parser};
+use clap::{Arg, ArgAction, Command, value_parser};
 use std::alloc::{AllocError, Global};
 
 /// A command with its arguments, in the order in which they come.
@@ -16,12 +16,16 @@ struct Argument {
     help: &'static str,
 }
 
-/// What an argument takes. All but options are required.
+/// What an argument takes. All but options and `Optional` are required.
 enum Takes {
     Word,
+    /// A word that may be left out.
+    Optional,
     Words,
     OneOf(&'static [&'static str]),
     Bytes,
+    /// An option alone.
+    Flag,
     /// An option, with a file.
     File,
     /// An option, with a number of bytes.
@@ -96,6 +100,29 @@ const RUN: [Argument; 6] = [
     },
 ];
 
+const SHOW: [Argument; 3] = [
+    IMAGE,
+    Argument {
+        id: "NAME",
+        takes: Takes::Optional,
+        help: "The name of an object [default: all objects]",
+    },
+    Argument {
+        id: "all",
+        takes: Takes::Flag,
+        help: "Leave nothing out that is long or deep",
+    },
+];
+
+const MAP: [Argument; 2] = [
+    IMAGE,
+    Argument {
+        id: "svg",
+        takes: Takes::File,
+        help: "Write a picture to this file instead",
+    },
+];
+
 const GROW: [Argument; 2] = [
     IMAGE,
     Argument {
@@ -151,6 +178,16 @@ const LINES: &[Line] = &[
         arguments: &[IMAGE],
     },
     Line {
+        name: "show",
+        about: "Prints the objects of a segment with their values",
+        arguments: &SHOW,
+    },
+    Line {
+        name: "map",
+        about: "Prints the heap of a segment block by block: position, units, use, and the object that it is of",
+        arguments: &MAP,
+    },
+    Line {
         name: "grow",
         about: "Adds free memory to a segment's end, rewrites the file and prints the new size",
         arguments: &GROW,
@@ -196,9 +233,11 @@ fn built<'a>(alloc: Global, argument: &'static Argument) -> Arg<'a> {
     let plain = Arg::new(alloc, argument.id).help(argument.help);
     match argument.takes {
         Takes::Word => plain.required(true),
+        Takes::Optional => plain,
         Takes::Words => plain.required(true).num_args(ValueRange::new(1..)),
         Takes::OneOf(words) => plain.required(true).value_parser(ValueParser::Names(words)),
         Takes::Bytes => plain.required(true).value_parser(value_parser!(u32)),
+        Takes::Flag => plain.long(argument.id).action(ArgAction::SetTrue),
         Takes::File => plain.long(argument.id).value_name("FILE"),
         Takes::Number => plain
             .long(argument.id)

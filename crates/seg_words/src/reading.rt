@@ -31,11 +31,19 @@ fn request_of<'a>(alloc: Global, matches: &ArgMatches<'a>) -> Result<Request<'a>
 }
 
 /// What a command asks of an image, if it is one on an image alone.
-fn task_of(command: &str, arguments: &ArgMatches) -> Option<ImageTask> {
+fn task_of<'a>(command: &str, arguments: &ArgMatches<'a>) -> Option<ImageTask<'a>> {
     match command {
         "check" => Some(ImageTask::Check),
         "stat" => Some(ImageTask::Stat),
         "list" => Some(ImageTask::List),
+        "show" => Some(ImageTask::Show {
+            name: arguments.get_str("NAME"),
+            whole: arguments.get_flag("all"),
+        }),
+        "map" => Some(match arguments.get_str("svg") {
+            Some(to) => ImageTask::Picture { to },
+            None => ImageTask::Map,
+        }),
         "grow" => Some(ImageTask::Grow {
             extra: number(arguments, "EXTRA"),
         }),

@@ -3,7 +3,7 @@
 pub enum Request<'a> {
     New(NewImage<'a>),
     /// Something of the image in a file.
-    Image { file: &'a str, task: ImageTask },
+    Image { file: &'a str, task: ImageTask<'a> },
     Verify { image: &'a str, client: &'a str },
     Run(Run<'a>),
     Assemble { text: &'a str, client: &'a str },
@@ -14,10 +14,16 @@ pub enum Request<'a> {
 
 /// What is asked of an image.
 #[derive(Debug, Clone, Copy, PartialEq, Eq)]
-pub enum ImageTask {
+pub enum ImageTask<'a> {
     Check,
     Stat,
     List,
+    /// Its objects with their values: all, or the one with a name; whole, or with what is long or deep left out.
+    Show { name: Option<&'a str>, whole: bool },
+    /// Its heap block by block.
+    Map,
+    /// Its heap as a picture, to be written to a file.
+    Picture { to: &'a str },
     /// So many bytes more.
     Grow { extra: u32 },
     Shrink,

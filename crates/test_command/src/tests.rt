@@ -5,4 +5,5 @@ mod language;
 mod memory;
 mod rows;
 mod segments;
+mod views;
 mod writers;

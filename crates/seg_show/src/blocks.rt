@@ -1,0 +1,17 @@
+use seg_block::{Block, HEAP_START, UNIT, block_at};
+use seg_ptr::Window;
+use std::alloc::{AllocError, Global};
+
+/// The blocks of the heap, free ones too, in ascending order of their positions.
+pub(crate) fn blocks(alloc: Global, w: &Window<Global>) -> Result<Vec<Block>, AllocError> {
+    let mut blocks = Vec::new(alloc);
+    let mut at = HEAP_START;
+    for _ in 0..w.len() / UNIT {
+        let Some(block) = block_at(w, at) else {
+            break;
+        };
+        blocks.push(block)?;
+        at = at.saturating_add(block.units.saturating_mul(UNIT));
+    }
+    Ok(blocks)
+}

@@ -1,0 +1,162 @@
+//! The heap as a picture, in SVG.
+
+ghost use Rattle.std.specs.Prelude.{◌<◌};
+
+use crate::lines::Lines;
+use crate::owners::{OwnedBlock, owned_blocks};
+use crate::purpose::{PURPOSES, Purpose};
+use seg_block::{Fit, HEAP_START, UNIT};
+use seg_manager::Segment;
+use std::alloc::{AllocError, Global};
+
+/// The cells of a row.
+const COLUMNS: u32 = 128;
+
+/// The most rows.
+const ROWS: u32 = 64;
+
+/// The width and the height of a cell, in pixels.
+const WIDTH: u32 = 8;
+const HEIGHT: u32 = 12;
+
+/// The height above the first row, with the legend, in pixels.
+const TOP: u32 = 40;
+
+/// A cell of the picture: a run of units, all of one length.
+#[derive(Debug, Clone, Copy)]
+struct Cell {
+    /// What the block is for that has most of it.
+    purpose: Purpose,
+    /// How many of its units that block has.
+    units: u32,
+    /// Whether a block begins here, where a cell is one unit.
+    begins: bool,
+}
+
+/// A picture of the heap, from its lowest unit on in rows, coloured by what blocks are for, with a legend. Where the heap has
+/// more units than the picture has cells, a cell stands for several, and shows the block that has most of them.
+pub fn picture<F: Fit>(
+    alloc: Global,
+    segment: &Segment<F, Global>,
+) -> Result<Vec<u8>, AllocError> {
+    let units = segment.window().len().saturating_sub(HEAP_START) / UNIT;
+    let scale = units.div_ceil(COLUMNS * ROWS).max(1);
+    let owned = owned_blocks(alloc, segment.heap(), &[])?;
+    let cells = cells(alloc, owned.as_slice(), units.div_ceil(scale), scale)?;
+    let mut lines = Lines::new(alloc);
+    begin(&mut lines, units.div_ceil(scale).div_ceil(COLUMNS))?;
+    add_legend(&mut lines, scale)?;
+    add_cells(&mut lines, cells.as_slice())?;
+    lines.add(b"</svg>\n")?;
+    Ok(lines.into_bytes())
+}
+
+/// The cells of the picture, each of `scale` units.
+fn cells(
+    alloc: Global,
+    owned: &[OwnedBlock],
+    count: u32,
+    scale: u32,
+) -> Result<Vec<Cell>, AllocError>
+    requires some { 0 < scale }
+{
+    let empty = Cell {
+        purpose: Purpose::Gap,
+        units: 0,
+        begins: false,
+    };
+    let mut cells = Vec::from_elem(alloc, empty, count as usize)?;
+    for it in owned {
+        paint(cells.as_mut_slice(), it, scale);
+    }
+    Ok(cells)
+}
+
+/// Gives a block the cells of which it has more than the blocks before it.
+fn paint(cells: &mut [Cell], it: &OwnedBlock, scale: u32)
+    requires some { 0 < scale }
+{
+    let from = it.block.at.saturating_sub(HEAP_START) / UNIT;
+    let to = from.saturating_add(it.block.units);
+    for index in from / scale..to.div_ceil(scale) {
+        let begin = index.saturating_mul(scale);
+        let units = to.min(begin.saturating_add(scale)).saturating_sub(from.max(begin));
+        if let Some(cell) = cells.get_mut(index as usize) {
+            if units > cell.units {
+                *cell = Cell {
+                    purpose: Purpose::of(it),
+                    units,
+                    begins: begin == from && scale == 1,
+                };
+            }
+        }
+    }
+}
+
+fn begin(lines: &mut Lines, rows: u32) -> Result<(), AllocError> {
+    let (width, height) = (COLUMNS * WIDTH, rows.saturating_mul(HEIGHT).saturating_add(TOP));
+    lines.add(
+        format!(in lines.alloc();
+            "<svg xmlns=\"http://www.w3.org/2000/svg\" viewBox=\"0 0 {width} {height}\" font-family=\"sans-serif\" font-size=\"14\">\n"
+        )?
+        .as_bytes(),
+    )
+}
+
+fn add_legend(lines: &mut Lines, scale: u32) -> Result<(), AllocError> {
+    let mut x = 0u32;
+    for purpose in PURPOSES {
+        let (colour, word) = (purpose.colour(), purpose.word());
+        let after = x.saturating_add(20);
+        lines.add(
+            format!(in lines.alloc();
+                "<rect x=\"{x}\" y=\"8\" width=\"16\" height=\"16\" fill=\"{colour}\"/><text x=\"{after}\" y=\"21\">{word}</text>\n"
+            )?
+            .as_bytes(),
+        )?;
+        x = x.saturating_add(90);
+    }
+    let bytes = scale.saturating_mul(UNIT);
+    lines.add(
+        format!(in lines.alloc(); "<text x=\"{x}\" y=\"21\">a cell: {bytes} bytes</text>\n")?.as_bytes(),
+    )
+}
+
+/// Adds a rectangle for each run of cells of a row that show the same.
+fn add_cells(lines: &mut Lines, cells: &[Cell]) -> Result<(), AllocError> {
+    let mut from = 0;
+    let mut to = 0u32;
+    for cell in cells {
+        let following = to.saturating_add(1);
+        if ends_run(cells, to as usize) {
+            add_run(lines, from, to, cell.purpose)?;
+            from = following;
+        }
+        to = following;
+    }
+    Ok(())
+}
+
+/// Whether the cell after this one shows something else, or stands in another row.
+fn ends_run(cells: &[Cell], index: usize) -> bool {
+    let following = index.saturating_add(1);
+    match (cells.get(index), cells.get(following)) {
+        (Some(cell), Some(next)) => {
+            following % COLUMNS as usize == 0 || next.begins || next.purpose != cell.purpose
+        }
+        (Some(_) | None, Some(_) | None) => true,
+    }
+}
+
+/// Adds the rectangle of the cells from one to another of the same row, with a line between it and the next one.
+fn add_run(lines: &mut Lines, from: u32, to: u32, purpose: Purpose) -> Result<(), AllocError> {
+    let (x, y) = (from % COLUMNS * WIDTH, (from / COLUMNS).saturating_mul(HEIGHT).saturating_add(TOP));
+    let width = to.saturating_sub(from).saturating_add(1).saturating_mul(WIDTH).saturating_sub(1);
+    let (height, colour) = (HEIGHT - 1, purpose.colour());
+    lines.add(
+        format!(in lines.alloc();
+            "<rect x=\"{x}\" y=\"{y}\" width=\"{width}\" height=\"{height}\" fill=\"{colour}\"/>\n"
+        )?
+        .as_bytes(),
+    )
+}

@@ -1,0 +1,19 @@
+//! What a segment holds, to be looked at: its objects with their values, and its heap block by block, as text and as a picture.
+#![tactic(auto)]
+
+mod blocks;
+mod extent;
+mod listing;
+mod lines;
+mod objects;
+mod owners;
+mod parts;
+mod drawing;
+mod purpose;
+mod roots;
+mod walk;
+
+pub use extent::Extent;
+pub use listing::heap_lines;
+pub use objects::{all_objects, one_object};
+pub use drawing::picture;

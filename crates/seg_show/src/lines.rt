@@ -1,0 +1,75 @@
+use std::alloc::{AllocError, Global};
+
+/// The most levels by which a line is indented. A deeper one begins with its level, so that all lines together are as long as
+/// what they tell.
+const DEEPEST: usize = 20;
+
+/// Lines of text, each as deep as what it tells.
+#[derive(Drop)]
+pub(crate) struct Lines {
+    alloc: Global,
+    text: Vec<u8>,
+}
+
+impl Lines {
+    pub(crate) fn new(alloc: Global) -> Lines {
+        Lines {
+            alloc,
+            text: Vec::new(alloc),
+        }
+    }
+
+    pub(crate) fn alloc(&self) -> Global {
+        self.alloc
+    }
+
+    /// Begins a line at a level.
+    pub(crate) fn begin(&mut self, level: usize) -> Result<(), AllocError> {
+        for _ in 0..level.min(DEEPEST) {
+            self.add(b"  ")?;
+        }
+        if level > DEEPEST {
+            return self.add(format!(in self.alloc; "({level}) ")?.as_bytes());
+        }
+        Ok(())
+    }
+
+    pub(crate) fn add(&mut self, text: &[u8]) -> Result<(), AllocError> {
+        self.text.extend_from_slice(text)
+    }
+
+    /// Adds a number after a word.
+    pub(crate) fn add_number(&mut self, word: &str, number: i64) -> Result<(), AllocError> {
+        self.add(format!(in self.alloc; "{word}{number}")?.as_bytes())
+    }
+
+    /// Adds an index, from 0.
+    pub(crate) fn add_index(&mut self, index: u32) -> Result<(), AllocError> {
+        self.add(format!(in self.alloc; "[{index}]")?.as_bytes())
+    }
+
+    /// Adds bytes in quotation marks, those that aren't visible as escapes.
+    pub(crate) fn add_quoted(&mut self, bytes: &[u8]) -> Result<(), AllocError> {
+        self.text.push(b'"')?;
+        for byte in bytes.escape_ascii() {
+            self.text.push(byte)?;
+        }
+        Ok(self.text.push(b'"')?)
+    }
+
+    /// Adds a byte so many times.
+    pub(crate) fn add_bar(&mut self, len: u32, byte: u8) -> Result<(), AllocError> {
+        for _ in 0..len {
+            self.text.push(byte)?;
+        }
+        Ok(())
+    }
+
+    pub(crate) fn end(&mut self) -> Result<(), AllocError> {
+        Ok(self.text.push(b'\n')?)
+    }
+
+    pub(crate) fn into_bytes(self) -> Vec<u8> {
+        self.text
+    }
+}

@@ -1,0 +1,60 @@
+//! The heap block by block, as lines of text.
+
+use crate::lines::Lines;
+use crate::owners::{OwnedBlock, owned_blocks};
+use crate::purpose::Purpose;
+use crate::roots::{Root, RootName, roots};
+use seg_block::Fit;
+use seg_manager::Segment;
+use std::alloc::{AllocError, Global};
+
+/// How long the bar of the largest block is.
+const LONGEST_BAR: u32 = 32;
+
+/// A line for each block of the heap, in ascending order: its position in bytes, its size in units of 16 bytes, what it is
+/// for, the object that it belongs to, and a bar as long as it is large.
+pub fn heap_lines<F: Fit>(
+    alloc: Global,
+    segment: &Segment<F, Global>,
+) -> Result<Vec<u8>, AllocError> {
+    let roots = roots(alloc, segment)?;
+    let owned = owned_blocks(alloc, segment.heap(), roots.as_slice())?;
+    let largest = owned.iter().map(|it| it.block.units).max().unwrap_or(1);
+    let mut lines = Lines::new(alloc);
+    for it in &owned {
+        add_block(&mut lines, it, roots.as_slice(), largest)?;
+    }
+    Ok(lines.into_bytes())
+}
+
+fn add_block(
+    lines: &mut Lines,
+    it: &OwnedBlock,
+    roots: &[Root],
+    largest: u32,
+) -> Result<(), AllocError> {
+    lines.add_number("", i64::from(it.block.at))?;
+    lines.add_number(" ", i64::from(it.block.units))?;
+    lines.add(b" ")?;
+    lines.add_bar(bar(it.block.units, largest), if it.tag.is_some() { b'#' } else { b'.' })?;
+    lines.add(b" ")?;
+    lines.add(Purpose::of(it).word().as_bytes())?;
+    if let Some(root) = it.root.and_then(|index| roots.get(index)) {
+        add_owner(lines, root)?;
+    }
+    lines.end()
+}
+
+/// How long the bar of a block of so many units is: at least 1.
+fn bar(units: u32, largest: u32) -> u32 {
+    let length = u64::from(units) * u64::from(LONGEST_BAR) / u64::from(largest.max(1));
+    u32::try_from(length).unwrap_or(LONGEST_BAR).max(1)
+}
+
+fn add_owner(lines: &mut Lines, root: &Root) -> Result<(), AllocError> {
+    lines.add(b" of ")?;
+    match root.name {
+        RootName::Named(name) => lines.add(name),
+        RootName::Unique => lines.add_number("unique t", i64::from(root.first.type_id)),
+    }
+}

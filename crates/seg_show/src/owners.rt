@@ -1,0 +1,118 @@
+use crate::blocks::blocks;
+use crate::extent::Extent;
+use crate::roots::Root;
+use crate::walk::{Met, Walk, most_turns};
+use seg_block::{Block, Fit, Tag, is_live, tag_word};
+use seg_layout::Type;
+use seg_ptr::Window;
+use seg_value::{Heap, Place};
+use std::alloc::{AllocError, Global};
+
+/// A block of the heap, what it is for, and which of the segment's objects it belongs to.
+#[derive(Debug, Clone, Copy)]
+pub(crate) struct OwnedBlock {
+    pub(crate) block: Block,
+    /// None where it is free.
+    pub(crate) tag: Option<Tag>,
+    /// The object's place in the list of them.
+    pub(crate) root: Option<usize>,
+}
+
+/// The blocks of a segment's heap in ascending order of their positions, each with the object that it belongs to.
+pub(crate) fn owned_blocks<F: Fit>(
+    alloc: Global,
+    heap: &Heap<F, Global>,
+    roots: &[Root],
+) -> Result<Vec<OwnedBlock>, AllocError> {
+    let mut owned = Vec::new(alloc);
+    for block in &blocks(alloc, heap.window())? {
+        owned.push(OwnedBlock {
+            block: *block,
+            tag: tag_of(heap.window(), *block),
+            root: None,
+        })?;
+    }
+    for (index, root) in roots.iter().enumerate() {
+        claim_object(alloc, heap, owned.as_mut_slice(), root, index)?;
+    }
+    Ok(owned)
+}
+
+fn tag_of(w: &Window<Global>, block: Block) -> Option<Tag> {
+    if is_live(w, block.at) {
+        Tag::read(tag_word(w, block.at))
+    } else {
+        None
+    }
+}
+
+/// Gives an object's blocks to it: its own, and those of all values inside it.
+fn claim_object<F: Fit>(
+    alloc: Global,
+    heap: &Heap<F, Global>,
+    owned: &mut [OwnedBlock],
+    root: &Root,
+    index: usize,
+) -> Result<(), AllocError> {
+    let size = heap.types().size(root.first.type_id);
+    for value in 0..root.count {
+        let at = root.first.at.saturating_add(u32::from(value).saturating_mul(size));
+        claim_value(alloc, heap, owned, Place { at, ..root.first }, index)?;
+    }
+    Ok(())
+}
+
+/// Gives an object the blocks that a value and all inside it stand in, and those that they name.
+fn claim_value<F: Fit>(
+    alloc: Global,
+    heap: &Heap<F, Global>,
+    owned: &mut [OwnedBlock],
+    value: Place,
+    index: usize,
+) -> Result<(), AllocError> {
+    claim_blocks(heap, owned, value, index);
+    let mut walk = Walk::new(alloc, heap, value, Extent::All)?;
+    for _ in 0..most_turns(heap.window().len()) {
+        match walk.next(heap)? {
+            Some(Met::Part { part, .. }) => claim_blocks(heap, owned, part.place, index),
+            Some(Met::End { .. }) => {}
+            None => break,
+        }
+    }
+    Ok(())
+}
+
+/// Gives an object the block that a value stands in, and its buffer's.
+fn claim_blocks<F: Fit>(
+    heap: &Heap<F, Global>,
+    owned: &mut [OwnedBlock],
+    value: Place,
+    index: usize,
+) {
+    claim(owned, value.at, index);
+    match heap.types().kind(value.type_id) {
+        Some(Type::Str | Type::Vec(_) | Type::FlatMap(_)) => {
+            claim(owned, heap.start(value.at), index);
+        }
+        // what these name is met as a value
+        Some(Type::List(_) | Type::Map(_) | Type::Own(_)) => {}
+        Some(Type::I64 | Type::Struct(_)) | None => {}
+    }
+}
+
+/// Gives an object the block that a position lies in, if it lies in one.
+fn claim(owned: &mut [OwnedBlock], at: u32, index: usize) {
+    if let Some(found) = block_around(owned, at) {
+        if let Some(block) = owned.get_mut(found) {
+            block.root = Some(index);
+        }
+    }
+}
+
+/// The block that begins last of those that begin at a position or before it.
+fn block_around(owned: &[OwnedBlock], at: u32) -> Option<usize> {
+    match owned.binary_search_by(|it| it.block.at.cmp(&at)) {
+        Ok(found) => Some(found),
+        Err(following) => following.checked_sub(1),
+    }
+}

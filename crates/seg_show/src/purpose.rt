@@ -1,0 +1,56 @@
+use crate::owners::OwnedBlock;
+use seg_block::Kind;
+
+/// What a block of the heap is for.
+#[derive(Debug, Clone, Copy, PartialEq, Eq)]
+pub(crate) enum Purpose {
+    Object,
+    Buffer,
+    Node,
+    Index,
+    Gap,
+}
+
+/// All of them, in the order in which a legend lists them.
+pub(crate) const PURPOSES: [Purpose; 5] = [
+    Purpose::Object,
+    Purpose::Buffer,
+    Purpose::Node,
+    Purpose::Index,
+    Purpose::Gap,
+];
+
+impl Purpose {
+    pub(crate) fn of(it: &OwnedBlock) -> Purpose {
+        match it.tag {
+            None => Purpose::Gap,
+            Some(tag) => match tag.kind {
+                Kind::Named | Kind::Object => Purpose::Object,
+                Kind::Buffer => Purpose::Buffer,
+                Kind::Node => Purpose::Node,
+                Kind::IndexBuffer | Kind::IndexNode => Purpose::Index,
+            },
+        }
+    }
+
+    pub(crate) fn word(self) -> &'static str {
+        match self {
+            Purpose::Object => "object",
+            Purpose::Buffer => "buffer",
+            Purpose::Node => "node",
+            Purpose::Index => "index",
+            Purpose::Gap => "gap",
+        }
+    }
+
+    /// Its colour in a picture. All differ also for those who see few colours.
+    pub(crate) fn colour(self) -> &'static str {
+        match self {
+            Purpose::Object => "#0072b2",
+            Purpose::Buffer => "#56b4e9",
+            Purpose::Node => "#009e73",
+            Purpose::Index => "#e69f00",
+            Purpose::Gap => "#e8e8e8",
+        }
+    }
+}

@@ -1,0 +1,64 @@
+use seg_block::Fit;
+use seg_layout::{MAX_TYPES, TypeId};
+use seg_manager::Segment;
+use seg_value::Place;
+use std::alloc::{AllocError, Global};
+
+/// What an object is found by.
+#[derive(Debug, Clone, Copy, PartialEq, Eq)]
+pub(crate) enum RootName<'a> {
+    Named(&'a [u8]),
+    /// The unique object of its type.
+    Unique,
+}
+
+/// An object that a segment's index names, with so many values.
+#[derive(Debug, Clone, Copy)]
+pub(crate) struct Root<'a> {
+    pub(crate) name: RootName<'a>,
+    pub(crate) first: Place,
+    pub(crate) count: u16,
+}
+
+/// The named objects in ascending order of their names, then the unique ones by type.
+pub(crate) fn roots<F: Fit>(
+    alloc: Global,
+    segment: &Segment<F, Global>,
+) -> Result<Vec<Root<'_>>, AllocError> {
+    let mut roots = named_roots(alloc, segment)?;
+    for type_id in 0..MAX_TYPES as TypeId {
+        if let Ok(at) = segment.find_unique(type_id) {
+            roots.push(Root {
+                name: RootName::Unique,
+                first: Place { at, type_id },
+                count: 1,
+            })?;
+        }
+    }
+    Ok(roots)
+}
+
+fn named_roots<F: Fit>(
+    alloc: Global,
+    segment: &Segment<F, Global>,
+) -> Result<Vec<Root<'_>>, AllocError> {
+    let mut roots = Vec::new(alloc);
+    let mut next = segment.first_name();
+    for _ in 0..segment.num_named() {
+        let Some(named) = next else {
+            break;
+        };
+        if let Ok(found) = segment.find(named.name, named.type_id) {
+            roots.push(Root {
+                name: RootName::Named(named.name),
+                first: Place {
+                    at: found.at,
+                    type_id: named.type_id,
+                },
+                count: found.count,
+            })?;
+        }
+        next = segment.next_name(named.name);
+    }
+    Ok(roots)
+}

@@ -1,0 +1,301 @@
+use crate::tests::clients::client;
+use crate::tests::files::{Printed, Stored, run};
+use std::alloc::Global;
+use std::process::Abort;
+use std::test::Fail;
+use support_data::counter;
+
+fn is(rt: &impl Abort, printed: &Printed, status: u8, out: &str, err: &str) {
+    assert_eq!(rt; printed.out.as_slice(), out.as_bytes());
+    assert_eq!(rt; printed.err.as_slice(), err.as_bytes());
+    assert_eq!(rt; printed.status, status);
+}
+
+/// Makes an object with a value of each type, three numbers, and a unique object.
+const EVERY_TYPE: &str = "type i64
+    type str
+    type vec t0
+    type list t1
+    type flat_map t0
+    type map t1
+    type own t0
+    type struct t0 t1 t2 t3 t4 t5 t6 t6
+    name every
+    name few
+    text a \"b\"\\0a
+    CONST r1 7
+    CONST r2 -7
+    CONST r3 3
+    MAKE r0 - - t7 k0
+      FIELD r4 r0 0
+      STORE r4 r2
+      FIELD r4 r0 1
+      SETS r5 r4 k2
+      ELSE
+      END
+      FIELD r4 r0 2
+      PUSH r5 r4
+        STORE r5 r1
+      ELSE
+      END
+      PUSH r5 r4
+      ELSE
+      END
+      FIELD r4 r0 3
+      PUSH r5 r4
+      ELSE
+      END
+      FIELD r4 r0 4
+      PUTK r5 r4 r1
+        STORE r5 r2
+      ELSE
+      END
+      FIELD r4 r0 5
+      PUTK r5 r4 r2
+      ELSE
+      END
+      FIELD r4 r0 6
+      NEW r5 t0
+        PUT r4 r5
+      ELSE
+      END
+    ELSE
+    END
+    MAKE r0 - r3 t0 k1
+      STORE r0 r1
+    ELSE
+    END
+    UMAKE r0 t2
+    ELSE
+    END";
+
+const EVERY: &str = "every: struct
+  field 0: -7
+  field 1: \"a \\\"b\\\"\\n\"
+  field 2: vector of 2
+    [0]: 7
+    [1]: 0
+  field 3: list of 1
+    [0]: \"\"
+  field 4: flat map of 1
+    7: -7
+  field 5: map of 1
+    -7: \"\"
+  field 6: an object
+    content: 0
+  field 7: nothing
+";
+
+const FEW: &str = "few[0]: 7
+few[1]: 0
+few[2]: 0
+";
+
+/// An image on which a client ran.
+fn after(alloc: Global, allocator: &str, index: &str, text: &str) -> Result<Stored, Fail> {
+    let mut files = Stored::new(alloc);
+    files.add("client", client(alloc, text)?.as_slice())?;
+    let words = ["segtool", "new", "saved", "8192", allocator, index];
+    let _ = run(alloc, &words, &mut files);
+    let words = ["segtool", "run", "saved", "saved", "client"];
+    let _ = run(alloc, &words, &mut files);
+    Ok(files)
+}
+
+/// All objects, one with a name, and a name that no object has.
+#[test]
+fn shows_values_of_each_type(rt: HostRuntime) -> Result<(), Fail> {
+    for (allocator, index) in [("seq", "flat"), ("best", "tree")] {
+        let mut files = after(rt.alloc(), allocator, index, EVERY_TYPE)?;
+        let all = format!(in rt.alloc(); "{EVERY}{FEW}unique t2: vector of 0\n")?;
+        let printed = run(rt.alloc(), &["segtool", "show", "saved"], &mut files);
+        is(&rt, &printed, 0, all.as_str(), "");
+        let printed = run(rt.alloc(), &["segtool", "show", "saved", "few"], &mut files);
+        is(&rt, &printed, 0, FEW, "");
+        let printed = run(rt.alloc(), &["segtool", "show", "saved", "none"], &mut files);
+        is(&rt, &printed, 1, "", "absent none\n");
+    }
+    Ok(())
+}
+
+/// Pushes 22 numbers, the first of which is 1, and adds 62 bytes to a text.
+const LONG: &str = "type i64
+    type str
+    type vec t0
+    name text
+    name items
+    text x
+    CONST r1 1
+    CONST r3 62
+    CONST r4 22
+    MAKE r0 - - t1 k0
+      WHILE r3 62
+        ADDS r2 r0 k2
+        ELSE
+        END
+        SUB r3 r3 r1
+      END
+    ELSE
+    END
+    MAKE r0 - - t2 k1
+      WHILE r4 22
+        PUSH r2 r0
+          STORE r2 r1
+        ELSE
+        END
+        CONST r1 0
+        LEN r2 r0
+        CONST r3 22
+        SUB r4 r3 r2
+      END
+    ELSE
+    END";
+
+/// What is long is cut, and `--all` leaves nothing out.
+#[test]
+fn cuts_what_is_long(rt: HostRuntime) -> Result<(), Fail> {
+    let mut files = after(rt.alloc(), "best", "flat", LONG)?;
+    let mut items = String::new(rt.alloc());
+    for index in 1..20u32 {
+        write!(items, "  [{index}]: 0\n")?;
+    }
+    let bytes = "x".repeat(rt.alloc(), 60)?;
+    let cut = format!(in rt.alloc();
+        "items: vector of 22\n  [0]: 1\n{items}  and 2 more\ntext: \"{bytes}\".. of 62\n"
+    )?;
+    let printed = run(rt.alloc(), &["segtool", "show", "saved"], &mut files);
+    is(&rt, &printed, 0, cut.as_str(), "");
+    let whole = format!(in rt.alloc();
+        "items: vector of 22\n  [0]: 1\n{items}  [20]: 0\n  [21]: 0\ntext: \"{bytes}xx\"\n"
+    )?;
+    let printed = run(rt.alloc(), &["segtool", "show", "saved", "--all"], &mut files);
+    is(&rt, &printed, 0, whole.as_str(), "");
+    Ok(())
+}
+
+/// Twelve objects, each of which owns the one before, under a name.
+const CHAIN: &str = "type i64
+    type own t2
+    type struct t0 t1
+    name chain
+    CONST r0 12
+    CONST r1 1
+    FINDOR r2 - t1 k0
+      WHILE r0 12
+        NEW r3 t2
+          REF r4 r3
+          FIELD r5 r4 1
+          TAKE r6 r2
+            PUT r5 r6
+          ELSE
+          END
+          PUT r2 r3
+        ELSE
+        END
+        SUB r0 r0 r1
+      END
+    ELSE
+    END";
+
+/// A line at a level: indented up to level 20, with its number after that.
+fn line(lines: &mut String, level: usize, text: &str) -> Result<(), Fail> {
+    for _ in 0..level.min(20) {
+        lines.push_str("  ")?;
+    }
+    if level > 20 {
+        write!(lines, "({level}) ")?;
+    }
+    lines.push_str(text)?;
+    Ok(lines.push('\n')?)
+}
+
+/// The lines of the first so many objects of the chain.
+fn chain_lines(alloc: Global, objects: usize) -> Result<String, Fail> {
+    let mut lines = String::new(alloc);
+    line(&mut lines, 0, "chain: an object")?;
+    for object in 0..objects {
+        let level = object.saturating_mul(2);
+        line(&mut lines, level.saturating_add(1), "content: struct")?;
+        line(&mut lines, level.saturating_add(2), "field 0: 0")?;
+        let owns = if object == 11 { "field 1: nothing" } else { "field 1: an object" };
+        line(&mut lines, level.saturating_add(2), owns)?;
+    }
+    Ok(lines)
+}
+
+/// Values inside others are shown down to level 10, and all with `--all`.
+#[test]
+fn cuts_what_is_deep(rt: HostRuntime) -> Result<(), Fail> {
+    let mut files = after(rt.alloc(), "seq", "tree", CHAIN)?;
+    let mut cut = chain_lines(rt.alloc(), 5)?;
+    line(&mut cut, 11, "and 1 more")?;
+    let printed = run(rt.alloc(), &["segtool", "show", "saved"], &mut files);
+    is(&rt, &printed, 0, cut.as_str(), "");
+    let whole = chain_lines(rt.alloc(), 12)?;
+    let printed = run(rt.alloc(), &["segtool", "show", "saved", "--all"], &mut files);
+    is(&rt, &printed, 0, whole.as_str(), "");
+    Ok(())
+}
+
+/// A faulty image is not shown, and its fault is told.
+#[test]
+fn shows_no_faulty_image(rt: HostRuntime) -> Result<(), Fail> {
+    let mut image = counter(rt.alloc())?;
+    if let Some(byte) = image.get_mut(8) {
+        *byte = 2;
+    }
+    for words in [
+        ["segtool", "show", "image"].as_slice(),
+        &["segtool", "show", "image", "x", "--all"],
+        &["segtool", "map", "image"],
+        &["segtool", "map", "image", "--svg", "saved"],
+    ] {
+        let mut files = Stored::new(rt.alloc());
+        files.add("image", image.as_slice())?;
+        let printed = run(rt.alloc(), words, &mut files);
+        is(&rt, &printed, 1, "", "fault 10\n");
+        assert!(rt; !files.has("saved"));
+    }
+    Ok(())
+}
+
+/// The blocks of the counter: the number with its name, and the entries of the flat index. Then those of an empty segment.
+#[test]
+fn maps_blocks(rt: HostRuntime) -> Result<(), Fail> {
+    let mut files = Stored::new(rt.alloc());
+    files.add("saved", counter(rt.alloc())?.as_slice())?;
+    let printed = run(rt.alloc(), &["segtool", "map", "saved"], &mut files);
+    let blocks = "704 2 ##################### object of x
+736 3 ################################ index
+";
+    is(&rt, &printed, 0, blocks, "");
+    let words = ["segtool", "new", "saved", "1024", "seq", "flat"];
+    let _ = run(rt.alloc(), &words, &mut files);
+    let printed = run(rt.alloc(), &["segtool", "map", "saved"], &mut files);
+    is(&rt, &printed, 0, "704 20 ................................ gap\n", "");
+    Ok(())
+}
+
+/// The picture of the counter: a row of two cells for the number and three for the index.
+const PICTURE: &str = "<svg xmlns=\"http://www.w3.org/2000/svg\" viewBox=\"0 0 1024 52\" font-family=\"sans-serif\" font-size=\"14\">
+<rect x=\"0\" y=\"8\" width=\"16\" height=\"16\" fill=\"#0072b2\"/><text x=\"20\" y=\"21\">object</text>
+<rect x=\"90\" y=\"8\" width=\"16\" height=\"16\" fill=\"#56b4e9\"/><text x=\"110\" y=\"21\">buffer</text>
+<rect x=\"180\" y=\"8\" width=\"16\" height=\"16\" fill=\"#009e73\"/><text x=\"200\" y=\"21\">node</text>
+<rect x=\"270\" y=\"8\" width=\"16\" height=\"16\" fill=\"#e69f00\"/><text x=\"290\" y=\"21\">index</text>
+<rect x=\"360\" y=\"8\" width=\"16\" height=\"16\" fill=\"#e8e8e8\"/><text x=\"380\" y=\"21\">gap</text>
+<text x=\"450\" y=\"21\">a cell: 16 bytes</text>
+<rect x=\"0\" y=\"40\" width=\"15\" height=\"11\" fill=\"#0072b2\"/>
+<rect x=\"16\" y=\"40\" width=\"23\" height=\"11\" fill=\"#e69f00\"/>
+</svg>
+";
+
+#[test]
+fn draws_a_picture(rt: HostRuntime) -> Result<(), Fail> {
+    let mut files = Stored::new(rt.alloc());
+    files.add("image", counter(rt.alloc())?.as_slice())?;
+    let words = ["segtool", "map", "image", "--svg", "saved"];
+    let printed = run(rt.alloc(), &words, &mut files);
+    is(&rt, &printed, 0, "", "");
+    assert_eq!(rt; files.get("saved"), PICTURE.as_bytes());
+    Ok(())
+}
