@@ -1,6 +1,7 @@
 use crate::extent::Extent;
 use crate::parts::{Part, Parts};
 use seg_block::Fit;
+use seg_layout::MAX_TYPES;
 use seg_value::{Heap, Place};
 use std::alloc::{AllocError, Allocator, Global};
 
@@ -54,8 +55,8 @@ impl Walk {
     }
 }
 
-/// How many turns a walk has at most in a segment of so many bytes: each value has 8 bytes of its own, and is met once as a
-/// part and once where its parts end.
-pub(crate) fn most_turns(len: u32) -> u32 {
-    len / 4
+/// How many turns a walk has at most in a segment of so many bytes. Each 8 bytes are of one value, or of structs in one another,
+/// of as many types at most as a table has; and each is met once as a part and once where its parts end.
+pub(crate) fn most_turns(len: u32) -> u64 {
+    u64::from(len) / 8 * 2 * MAX_TYPES as u64
 }

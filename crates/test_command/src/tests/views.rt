@@ -237,6 +237,35 @@ fn cuts_what_is_deep(rt: HostRuntime) -> Result<(), Fail> {
     Ok(())
 }
 
+/// A client that makes 100 values, each of 30 structs in one another around a number.
+fn nested(alloc: Global) -> Result<String, Fail> {
+    let mut text = String::new(alloc);
+    text.push_str("type i64\n")?;
+    for inner in 0..30u32 {
+        write!(text, "type struct t{inner}\n")?;
+    }
+    text.push_str("name n\nCONST r1 100\nMAKE r0 - r1 t30 k0\nELSE\nEND\n")?;
+    Ok(text)
+}
+
+/// Structs in structs take no bytes of their own, and all are shown.
+#[test]
+fn shows_structs_in_structs(rt: HostRuntime) -> Result<(), Fail> {
+    let mut value = String::new(rt.alloc());
+    for level in 1..30 {
+        line(&mut value, level, "field 0: struct")?;
+    }
+    line(&mut value, 30, "field 0: 0")?;
+    let mut whole = String::new(rt.alloc());
+    for index in 0..100u32 {
+        write!(whole, "n[{index}]: struct\n{value}")?;
+    }
+    let mut files = after(rt.alloc(), "seq", "flat", nested(rt.alloc())?.as_str())?;
+    let printed = run(rt.alloc(), &["segtool", "show", "saved", "n", "--all"], &mut files);
+    is(&rt, &printed, 0, whole.as_str(), "");
+    Ok(())
+}
+
 /// A faulty image is not shown, and its fault is told.
 #[test]
 fn shows_no_faulty_image(rt: HostRuntime) -> Result<(), Fail> {
