@@ -52,11 +52,7 @@ pub fn new_image(alloc: Global, new: &NewImage) -> Result<Vec<u8>, Fault> {
 }
 
 /// What a task makes of an image, on the allocator that it names.
-pub fn made_of<'a>(
-    alloc: Global,
-    image: Vec<u8>,
-    task: ImageTask<'a>,
-) -> Result<Made, Unmade<'a>> {
+pub fn made_of<'a>(alloc: Global, image: Vec<u8>, task: ImageTask<'a>) -> Result<Made, Unmade<'a>> {
     let extra = match task {
         ImageTask::Grow { extra } => extra,
         ImageTask::Check

@@ -17,6 +17,7 @@ const ROWS: u32 = 64;
 
 /// The width and the height of a cell, in pixels.
 const WIDTH: u32 = 8;
+
 const HEIGHT: u32 = 12;
 
 /// The height above the first row, with the legend, in pixels.
@@ -35,10 +36,7 @@ struct Cell {
 
 /// A picture of the heap, from its lowest unit on in rows, coloured by what blocks are for, with a legend. Where the heap has
 /// more units than the picture has cells, a cell stands for several, and shows the block that has most of them.
-pub fn picture<F: Fit>(
-    alloc: Global,
-    segment: &Segment<F, Global>,
-) -> Result<Vec<u8>, AllocError> {
+pub fn picture<F: Fit>(alloc: Global, segment: &Segment<F, Global>) -> Result<Vec<u8>, AllocError> {
     let units = segment.window().len().saturating_sub(HEAP_START) / UNIT;
     let scale = units.div_ceil(COLUMNS * ROWS).max(1);
     let owned = owned_blocks(alloc, segment.heap(), &[])?;
@@ -80,7 +78,9 @@ fn paint(cells: &mut [Cell], it: &OwnedBlock, scale: u32)
     let to = from.saturating_add(it.block.units);
     for index in from / scale..to.div_ceil(scale) {
         let begin = index.saturating_mul(scale);
-        let units = to.min(begin.saturating_add(scale)).saturating_sub(from.max(begin));
+        let units = to
+            .min(begin.saturating_add(scale))
+            .saturating_sub(from.max(begin));
         if let Some(cell) = cells.get_mut(index as usize) {
             if units > cell.units {
                 *cell = Cell {
@@ -94,13 +94,13 @@ fn paint(cells: &mut [Cell], it: &OwnedBlock, scale: u32)
 }
 
 fn begin(lines: &mut Lines, rows: u32) -> Result<(), AllocError> {
-    let (width, height) = (COLUMNS * WIDTH, rows.saturating_mul(HEIGHT).saturating_add(TOP));
-    lines.add(
-        format!(in lines.alloc();
-            "<svg xmlns=\"http://www.w3.org/2000/svg\" viewBox=\"0 0 {width} {height}\" font-family=\"sans-serif\" font-size=\"14\">\n"
-        )?
-        .as_bytes(),
-    )
+    let (width, height) = (
+        COLUMNS * WIDTH,
+        rows.saturating_mul(HEIGHT).saturating_add(TOP),
+    );
+    lines.add(format!(in lines.alloc();
+        "<svg xmlns=\"http://www.w3.org/2000/svg\" viewBox=\"0 0 {width} {height}\" font-family=\"sans-serif\" font-size=\"14\">\n"
+    )?.as_bytes())
 }
 
 fn add_legend(lines: &mut Lines, scale: u32) -> Result<(), AllocError> {
@@ -108,18 +108,15 @@ fn add_legend(lines: &mut Lines, scale: u32) -> Result<(), AllocError> {
     for purpose in PURPOSES {
         let (colour, word) = (purpose.colour(), purpose.word());
         let after = x.saturating_add(20);
-        lines.add(
-            format!(in lines.alloc();
-                "<rect x=\"{x}\" y=\"8\" width=\"16\" height=\"16\" fill=\"{colour}\"/><text x=\"{after}\" y=\"21\">{word}</text>\n"
-            )?
-            .as_bytes(),
-        )?;
+        lines.add(format!(in lines.alloc();
+            "<rect x=\"{x}\" y=\"8\" width=\"16\" height=\"16\" fill=\"{colour}\"/><text x=\"{after}\" y=\"21\">{word}</text>\n"
+        )?.as_bytes())?;
         x = x.saturating_add(90);
     }
     let bytes = scale.saturating_mul(UNIT);
-    lines.add(
-        format!(in lines.alloc(); "<text x=\"{x}\" y=\"21\">a cell: {bytes} bytes</text>\n")?.as_bytes(),
-    )
+    lines.add(format!(in lines.alloc();
+        "<text x=\"{x}\" y=\"21\">a cell: {bytes} bytes</text>\n"
+    )?.as_bytes())
 }
 
 /// Adds a rectangle for each run of cells of a row that show the same.
@@ -150,13 +147,17 @@ fn ends_run(cells: &[Cell], index: usize) -> bool {
 
 /// Adds the rectangle of the cells from one to another of the same row, with a line between it and the next one.
 fn add_run(lines: &mut Lines, from: u32, to: u32, purpose: Purpose) -> Result<(), AllocError> {
-    let (x, y) = (from % COLUMNS * WIDTH, (from / COLUMNS).saturating_mul(HEIGHT).saturating_add(TOP));
-    let width = to.saturating_sub(from).saturating_add(1).saturating_mul(WIDTH).saturating_sub(1);
+    let (x, y) = (
+        from % COLUMNS * WIDTH,
+        (from / COLUMNS).saturating_mul(HEIGHT).saturating_add(TOP),
+    );
+    let width = to
+        .saturating_sub(from)
+        .saturating_add(1)
+        .saturating_mul(WIDTH)
+        .saturating_sub(1);
     let (height, colour) = (HEIGHT - 1, purpose.colour());
-    lines.add(
-        format!(in lines.alloc();
-            "<rect x=\"{x}\" y=\"{y}\" width=\"{width}\" height=\"{height}\" fill=\"{colour}\"/>\n"
-        )?
-        .as_bytes(),
-    )
+    lines.add(format!(in lines.alloc();
+        "<rect x=\"{x}\" y=\"{y}\" width=\"{width}\" height=\"{height}\" fill=\"{colour}\"/>\n"
+    )?.as_bytes())
 }

@@ -2,18 +2,18 @@
 #![tactic(auto)]
 
 mod blocks;
+mod drawing;
 mod extent;
-mod listing;
 mod lines;
+mod listing;
 mod objects;
 mod owners;
 mod parts;
-mod drawing;
 mod purpose;
 mod roots;
 mod walk;
 
+pub use drawing::picture;
 pub use extent::Extent;
 pub use listing::heap_lines;
 pub use objects::{all_objects, one_object};
-pub use drawing::picture;

@@ -36,7 +36,10 @@ fn add_block(
     lines.add_number("", i64::from(it.block.at))?;
     lines.add_number(" ", i64::from(it.block.units))?;
     lines.add(b" ")?;
-    lines.add_bar(bar(it.block.units, largest), if it.tag.is_some() { b'#' } else { b'.' })?;
+    lines.add_bar(
+        bar(it.block.units, largest),
+        if it.tag.is_some() { b'#' } else { b'.' },
+    )?;
     lines.add(b" ")?;
     lines.add(Purpose::of(it).word().as_bytes())?;
     if let Some(root) = it.root.and_then(|index| roots.get(index)) {

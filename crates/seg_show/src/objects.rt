@@ -50,9 +50,8 @@ fn add_object<F: Fit>(
 ) -> Result<(), AllocError> {
     let size = heap.types().size(root.first.type_id);
     for index in 0..root.count {
-        let at = root.first.at.saturating_add(u32::from(index).saturating_mul(size));
         add_root_name(lines, root, index)?;
-        add_value(lines, heap, Place { at, ..root.first }, extent)?;
+        add_value(lines, heap, root.value(index, size), extent)?;
     }
     Ok(())
 }

@@ -56,8 +56,7 @@ fn claim_object<F: Fit>(
 ) -> Result<(), AllocError> {
     let size = heap.types().size(root.first.type_id);
     for value in 0..root.count {
-        let at = root.first.at.saturating_add(u32::from(value).saturating_mul(size));
-        claim_value(alloc, heap, owned, Place { at, ..root.first }, index)?;
+        claim_value(alloc, heap, owned, root.value(value, size), index)?;
     }
     Ok(())
 }

@@ -20,6 +20,17 @@ pub(crate) struct Root<'a> {
     pub(crate) count: u16,
 }
 
+impl Root<'_> {
+    /// The value with an index, where each has so many bytes.
+    pub(crate) fn value(&self, index: u16, size: u32) -> Place {
+        let from = u32::from(index).saturating_mul(size);
+        Place {
+            at: self.first.at.saturating_add(from),
+            type_id: self.first.type_id,
+        }
+    }
+}
+
 /// The named objects in ascending order of their names, then the unique ones by type.
 pub(crate) fn roots<F: Fit>(
     alloc: Global,

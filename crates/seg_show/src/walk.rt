@@ -44,7 +44,10 @@ impl Walk {
             return Ok(None);
         };
         if parts.came() >= self.extent.parts() || level > self.extent.level() {
-            return Ok(Some(Met::End { level, rest: parts.left() }));
+            return Ok(Some(Met::End {
+                level,
+                rest: parts.left(),
+            }));
         }
         let Some(part) = parts.next(heap) else {
             return Ok(Some(Met::End { level, rest: 0 }));

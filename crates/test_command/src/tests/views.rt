@@ -112,7 +112,11 @@ fn shows_values_of_each_type(rt: HostRuntime) -> Result<(), Fail> {
         is(&rt, &printed, 0, all.as_str(), "");
         let printed = run(rt.alloc(), &["segtool", "show", "saved", "few"], &mut files);
         is(&rt, &printed, 0, FEW, "");
-        let printed = run(rt.alloc(), &["segtool", "show", "saved", "none"], &mut files);
+        let printed = run(
+            rt.alloc(),
+            &["segtool", "show", "saved", "none"],
+            &mut files,
+        );
         is(&rt, &printed, 1, "", "absent none\n");
     }
     Ok(())
@@ -168,7 +172,11 @@ fn cuts_what_is_long(rt: HostRuntime) -> Result<(), Fail> {
     let whole = format!(in rt.alloc();
         "items: vector of 22\n  [0]: 1\n{items}  [20]: 0\n  [21]: 0\ntext: \"{bytes}xx\"\n"
     )?;
-    let printed = run(rt.alloc(), &["segtool", "show", "saved", "--all"], &mut files);
+    let printed = run(
+        rt.alloc(),
+        &["segtool", "show", "saved", "--all"],
+        &mut files,
+    );
     is(&rt, &printed, 0, whole.as_str(), "");
     Ok(())
 }
@@ -217,7 +225,11 @@ fn chain_lines(alloc: Global, objects: usize) -> Result<String, Fail> {
         let level = object.saturating_mul(2);
         line(&mut lines, level.saturating_add(1), "content: struct")?;
         line(&mut lines, level.saturating_add(2), "field 0: 0")?;
-        let owns = if object == 11 { "field 1: nothing" } else { "field 1: an object" };
+        let owns = if object == 11 {
+            "field 1: nothing"
+        } else {
+            "field 1: an object"
+        };
         line(&mut lines, level.saturating_add(2), owns)?;
     }
     Ok(lines)
@@ -232,7 +244,11 @@ fn cuts_what_is_deep(rt: HostRuntime) -> Result<(), Fail> {
     let printed = run(rt.alloc(), &["segtool", "show", "saved"], &mut files);
     is(&rt, &printed, 0, cut.as_str(), "");
     let whole = chain_lines(rt.alloc(), 12)?;
-    let printed = run(rt.alloc(), &["segtool", "show", "saved", "--all"], &mut files);
+    let printed = run(
+        rt.alloc(),
+        &["segtool", "show", "saved", "--all"],
+        &mut files,
+    );
     is(&rt, &printed, 0, whole.as_str(), "");
     Ok(())
 }
@@ -261,7 +277,11 @@ fn shows_structs_in_structs(rt: HostRuntime) -> Result<(), Fail> {
         write!(whole, "n[{index}]: struct\n{value}")?;
     }
     let mut files = after(rt.alloc(), "seq", "flat", nested(rt.alloc())?.as_str())?;
-    let printed = run(rt.alloc(), &["segtool", "show", "saved", "n", "--all"], &mut files);
+    let printed = run(
+        rt.alloc(),
+        &["segtool", "show", "saved", "n", "--all"],
+        &mut files,
+    );
     is(&rt, &printed, 0, whole.as_str(), "");
     Ok(())
 }
@@ -301,12 +321,19 @@ fn maps_blocks(rt: HostRuntime) -> Result<(), Fail> {
     let words = ["segtool", "new", "saved", "1024", "seq", "flat"];
     let _ = run(rt.alloc(), &words, &mut files);
     let printed = run(rt.alloc(), &["segtool", "map", "saved"], &mut files);
-    is(&rt, &printed, 0, "704 20 ................................ gap\n", "");
+    is(
+        &rt,
+        &printed,
+        0,
+        "704 20 ................................ gap\n",
+        "",
+    );
     Ok(())
 }
 
 /// The picture of the counter: a row of two cells for the number and three for the index.
-const PICTURE: &str = "<svg xmlns=\"http://www.w3.org/2000/svg\" viewBox=\"0 0 1024 52\" font-family=\"sans-serif\" font-size=\"14\">
+const PICTURE: &str =
+    "<svg xmlns=\"http://www.w3.org/2000/svg\" viewBox=\"0 0 1024 52\" font-family=\"sans-serif\" font-size=\"14\">
 <rect x=\"0\" y=\"8\" width=\"16\" height=\"16\" fill=\"#0072b2\"/><text x=\"20\" y=\"21\">object</text>
 <rect x=\"90\" y=\"8\" width=\"16\" height=\"16\" fill=\"#56b4e9\"/><text x=\"110\" y=\"21\">buffer</text>
 <rect x=\"180\" y=\"8\" width=\"16\" height=\"16\" fill=\"#009e73\"/><text x=\"200\" y=\"21\">node</text>
