@@ -58,6 +58,10 @@ try run counter.image saved.image increment.client
 try run table.image table.image increment.client --room 4096 --base 64
 try stat counter.image
 try list counter.image
+try show counter.image
+try show counter.image x --all
+try map counter.image
+try map counter.image --svg heap.svg
 try grow counter.image 64
 try shrink table.image
 try asm increment.text assembled.client
