@@ -22,7 +22,7 @@ const EVERY_TYPE: &str = "type i64
     type struct t0 t1 t2 t3 t4 t5 t6 t6
     name every
     name few
-    text a \"b\"\\0a
+text a \"b\"\\0a
     CONST r1 7
     CONST r2 -7
     CONST r3 3
@@ -128,7 +128,7 @@ const LONG: &str = "type i64
     type vec t0
     name text
     name items
-    text x
+text x
     CONST r1 1
     CONST r3 62
     CONST r4 22
