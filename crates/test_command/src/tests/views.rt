@@ -41,19 +41,31 @@ text a \"b\"\\0a
       PUSH r5 r4
       ELSE
       END
+    ELSE
+    END
+    FIND r0 - - t7 k0
       FIELD r4 r0 3
       PUSH r5 r4
       ELSE
       END
+    ELSE
+    END
+    FIND r0 - - t7 k0
       FIELD r4 r0 4
       PUTK r5 r4 r1
         STORE r5 r2
       ELSE
       END
+    ELSE
+    END
+    FIND r0 - - t7 k0
       FIELD r4 r0 5
       PUTK r5 r4 r2
       ELSE
       END
+    ELSE
+    END
+    FIND r0 - - t7 k0
       FIELD r4 r0 6
       NEW r5 t0
         PUT r4 r5
