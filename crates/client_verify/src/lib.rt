@@ -13,3 +13,4 @@ pub use register::{Class, RegisterType};
 pub use registers::Registers;
 pub use rule::{After, Rule};
 pub use verified::{MOST_STEPS, Verified, verify};
+pub use verifier::Verifier;

@@ -44,7 +44,7 @@ impl Default for Open {
     }
 }
 
-/// The verifier at a place of the code.
+/// The verifier at a place of a client's code: it goes past one instruction after the other, from the first.
 #[derive(Drop)]
 pub struct Verifier<'a> {
     types: &'a TypeTable,
@@ -73,6 +73,13 @@ impl<'a> Verifier<'a> {
         ensures { result ≡ self.now.steps }
     {
         self.steps
+    }
+
+    /// What is known of the registers here.
+    pub fn registers(&self) -> &Registers
+        ensures { result.now ≡ self.now.registers }
+    {
+        &self.registers
     }
 
     /// Goes past an instruction.
