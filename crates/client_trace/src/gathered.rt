@@ -1,0 +1,61 @@
+ghost use Rattle.std.specs.Prelude.{false, None};
+
+use arrayvec::ArrayVec;
+use client_vm::Sink;
+use std::alloc::AllocError;
+use std::fmt::Write;
+
+/// The most bytes of a step's output that a trace tells.
+const MOST_BYTES: usize = 60;
+
+/// What a client prints in a step: the first bytes, and how many there are.
+#[derive(Drop)]
+pub(crate) struct Gathered {
+    first: ArrayVec<u8, MOST_BYTES>,
+    len: usize,
+}
+
+impl Gathered {
+    pub(crate) fn new() -> Gathered {
+        Gathered {
+            first: ArrayVec::new(),
+            len: 0,
+        }
+    }
+
+    /// Adds the line of the output, where there is any: its first bytes in quotation marks, those that aren't visible as
+    /// escapes, and how many there are where some aren't told.
+    pub(crate) fn add_to(&self, text: &mut String) -> Result<(), AllocError> {
+        if self.len == 0 {
+            return Ok(());
+        }
+        text.push_str("out \"")?;
+        for byte in self.first.as_slice().escape_ascii() {
+            text.push(char::from(byte))?;
+        }
+        text.push('"')?;
+        if self.first.len() < self.len {
+            let len = self.len;
+            write!(text, ".. of {len}")?;
+        }
+        text.push('\n')
+    }
+}
+
+/// It takes all, and never fails.
+impl Sink for Gathered {
+    ghost has_failed = { λ _. false };
+
+    ghost taken = { λ _. None };
+
+    fn failed(&self) -> bool {
+        false
+    }
+
+    fn write(&mut self, bytes: &[u8]) -> usize {
+        let told = bytes.len().min(self.first.remaining_capacity());
+        let _ = self.first.try_extend_from_slice(&bytes[..told]);
+        self.len = self.len.saturating_add(bytes.len());
+        bytes.len()
+    }
+}

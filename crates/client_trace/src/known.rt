@@ -1,0 +1,42 @@
+use client_code::{Client, Instruction, Role};
+use client_verify::{Registers, Verifier};
+use std::alloc::{AllocError, Global};
+
+/// What the verifier knows of the registers in front of each instruction of a client, and at the end of its code.
+#[derive(Drop)]
+pub(crate) struct Known {
+    in_front: Vec<Registers>,
+}
+
+impl Known {
+    pub(crate) fn new(alloc: Global, client: &Client) -> Result<Known, AllocError> {
+        let types = client.types();
+        let mut verifier = Verifier::new(&types);
+        let mut in_front = Vec::new(alloc);
+        for at in 0..client.instruction_count() {
+            in_front.push(*verifier.registers())?;
+            if let Some(instruction) = client.instruction(at) {
+                // a verified client has no instruction that is refused
+                let _ = verifier.pass(instruction);
+            }
+        }
+        in_front.push(*verifier.registers())?;
+        Ok(Known { in_front })
+    }
+
+    /// What is known after the instruction at an index, from which a run goes on at `next`.
+    pub(crate) fn after(&self, instruction: Instruction, at: u16, next: u16) -> Registers {
+        match instruction.operation.row().role {
+            // a loop leads to its END, in front of which is known what stands there after the body
+            Role::Loop => self.in_front_of(at),
+            Role::Plain | Role::Opener | Role::Else | Role::End => self.in_front_of(next),
+        }
+    }
+
+    fn in_front_of(&self, at: u16) -> Registers {
+        match self.in_front.as_slice().get(usize::from(at)) {
+            Some(registers) => *registers,
+            None => Registers::new(),
+        }
+    }
+}

@@ -1,0 +1,115 @@
+use crate::gathered::Gathered;
+use crate::listing::Listing;
+use crate::paths::Paths;
+use client_code::{Client, REGISTERS};
+use client_verify::{RegisterType, Registers};
+use client_vm::{Stepped, Stepper};
+use std::alloc::{AllocError, Global};
+use std::fmt::Write;
+
+/// The lines of one instruction after the other.
+#[derive(Drop)]
+pub(crate) struct Lines {
+    listing: Listing,
+    /// The steps so far.
+    steps: u64,
+    /// The lines of the last instruction.
+    text: String,
+}
+
+impl Lines {
+    pub(crate) fn new(alloc: Global, client: &Client) -> Result<Lines, AllocError> {
+        Ok(Lines {
+            listing: Listing::new(alloc, client)?,
+            steps: 0,
+            text: String::new(alloc),
+        })
+    }
+
+    /// The lines of the last instruction.
+    pub(crate) fn as_bytes(&self) -> &[u8] {
+        self.text.as_bytes()
+    }
+
+    /// Begins the lines of an instruction: the number of the step, that of the instruction, and its text.
+    pub(crate) fn begin(&mut self, stepped: Stepped) -> Result<(), AllocError> {
+        let Stepped {
+            instruction,
+            is_step,
+        } = stepped;
+        self.text.clear();
+        if is_step {
+            self.steps = self.steps.saturating_add(1);
+            let steps = self.steps;
+            write!(self.text, "{steps:>6}")?;
+        } else {
+            self.text.push_str("     -")?;
+        }
+        write!(self.text, " {instruction:>4}  ")?;
+        for byte in self.listing.line(instruction) {
+            self.text.push(char::from(*byte))?;
+        }
+        Ok(())
+    }
+
+    /// Adds the registers of which something is known after an instruction, with what they hold.
+    pub(crate) fn add_registers(
+        &mut self,
+        stepped: Stepped,
+        known: &Registers,
+        paths: &Paths,
+        run: &Stepper,
+    ) -> Result<(), AllocError> {
+        if *known == Registers::new() {
+            return Ok(());
+        }
+        self.add_gap(stepped.instruction)?;
+        let mut mark = "  ; ";
+        for register in 0..REGISTERS {
+            if self.add_register(mark, register, known.get(register), paths, run)? {
+                mark = ", ";
+            }
+        }
+        Ok(())
+    }
+
+    /// Ends the line of an instruction. What it printed is a line of its own.
+    pub(crate) fn end(&mut self, printed: &Gathered) -> Result<(), AllocError> {
+        self.text.push('\n')?;
+        printed.add_to(&mut self.text)
+    }
+
+    /// Adds spaces behind an instruction, as many as the longest one leaves.
+    fn add_gap(&mut self, instruction: u16) -> Result<(), AllocError> {
+        let len = self.listing.line(instruction).len();
+        for _ in len..self.listing.width() {
+            self.text.push(' ')?;
+        }
+        Ok(())
+    }
+
+    /// Adds a register after a mark, with what it holds. It isn't added where nothing is known of it.
+    fn add_register(
+        &mut self,
+        mark: &str,
+        register: u8,
+        known: RegisterType,
+        paths: &Paths,
+        run: &Stepper,
+    ) -> Result<bool, AllocError> {
+        let text = &mut self.text;
+        match known {
+            RegisterType::Undefined => return Ok(false),
+            RegisterType::Int => {
+                let number = run.number(register);
+                write!(text, "{mark}r{register} = {number}")?;
+            }
+            RegisterType::Reference(_, _) => {
+                write!(text, "{mark}r{register} -> ")?;
+                paths.add_to(text, register)?;
+            }
+            RegisterType::Owner(type_id) => write!(text, "{mark}r{register} owns t{type_id}")?,
+        }
+        Ok(true)
+    }
+}

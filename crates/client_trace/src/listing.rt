@@ -1,0 +1,74 @@
+use client_code::{Client, print};
+use seg_raw::Fault;
+use std::alloc::{AllocError, Global};
+
+/// The canonical text of a client's instructions.
+#[derive(Drop)]
+pub(crate) struct Listing {
+    text: Vec<u8>,
+    /// Where each line ends, those of types and constants first.
+    ends: Vec<usize>,
+    /// How many lines stand in front of the instructions.
+    header: usize,
+    /// The bytes of the longest instruction.
+    width: usize,
+}
+
+impl Listing {
+    pub(crate) fn new(alloc: Global, client: &Client) -> Result<Listing, AllocError> {
+        let text = printed(alloc, client)?;
+        let mut ends = Vec::new(alloc);
+        for (i, byte) in text.as_slice().iter().enumerate() {
+            if *byte == b'\n' {
+                ends.push(i)?;
+            }
+        }
+        let types = client.type_count() as usize;
+        let mut listing = Listing {
+            text,
+            ends,
+            header: types.saturating_add(client.constants().len()),
+            width: 0,
+        };
+        listing.width = listing.longest(client);
+        Ok(listing)
+    }
+
+    /// The line of an instruction, without its end.
+    pub(crate) fn line(&self, at: u16) -> &[u8] {
+        let line = self.header.saturating_add(usize::from(at));
+        let start = match line.checked_sub(1) {
+            Some(before) => self.end(before).saturating_add(1),
+            None => 0,
+        };
+        self.text
+            .as_slice()
+            .get(start..self.end(line))
+            .unwrap_or_default()
+    }
+
+    /// The bytes of the longest instruction.
+    pub(crate) fn width(&self) -> usize {
+        self.width
+    }
+
+    fn longest(&self, client: &Client) -> usize {
+        let mut longest = 0usize;
+        for at in 0..client.instruction_count() as u16 {
+            longest = longest.max(self.line(at).len());
+        }
+        longest
+    }
+
+    fn end(&self, line: usize) -> usize {
+        self.ends
+            .as_slice()
+            .get(line)
+            .copied()
+            .unwrap_or(self.text.len())
+    }
+}
+
+fn printed(alloc: Global, client: &Client) -> Result<Vec<u8>, AllocError> {
+    print(alloc, client).map_err(|_: Fault| AllocError)
+}

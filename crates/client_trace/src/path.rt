@@ -1,0 +1,113 @@
+use client_code::{Constant, ConstantKind};
+use seg_layout::TypeId;
+use std::alloc::AllocError;
+use std::fmt::{self, Write};
+
+/// The most parts of a path that are told: its last ones.
+const MOST_PARTS: usize = 8;
+
+/// The object at which a path begins.
+#[derive(Debug, Clone, Copy, PartialEq, Eq)]
+pub(crate) enum Root {
+    /// That of a constant's exact name, or of its family's name with this number.
+    Named { constant: u8, number: i64 },
+    /// The unique one of a type.
+    Unique(TypeId),
+    /// That which a register owns.
+    Owned(u8),
+}
+
+/// How a value is reached from the one that it stands in.
+#[derive(Debug, Clone, Copy, PartialEq, Eq)]
+pub(crate) enum Part {
+    /// The value of an array that has a name, from 0.
+    Value(i64),
+    /// The item of a vector or a list, from 0.
+    Item(i64),
+    /// The value of a map's key.
+    Key(i64),
+    /// The field of a struct, from 0.
+    Field(i32),
+    /// What an own holds.
+    Content,
+}
+
+/// How a value is reached from an object.
+#[derive(Debug, Clone, Copy)]
+pub(crate) struct Path {
+    root: Root,
+    /// The last parts: part n at index n modulo their number.
+    parts: [Part; MOST_PARTS],
+    /// How many parts there are.
+    len: usize,
+}
+
+impl Path {
+    pub(crate) fn new(root: Root) -> Path {
+        Path {
+            root,
+            parts: [Part::Content; MOST_PARTS],
+            len: 0,
+        }
+    }
+
+    /// The path to a part of the value.
+    pub(crate) fn part(mut self, part: Part) -> Path {
+        self.parts[self.len % MOST_PARTS] = part;
+        self.len = self.len.saturating_add(1);
+        self
+    }
+    /// Adds the object and the parts; of a long path the last ones, after the number of those that are left out.
+    pub(crate) fn add_to(
+        &self,
+        text: &mut String,
+        constants: &[Constant],
+    ) -> Result<(), AllocError> {
+        self.root.add_to(text, constants)?;
+        let left_out = self.len.saturating_sub(MOST_PARTS);
+        if left_out > 0 {
+            write!(text, ".({left_out} parts)")?;
+        }
+        for n in left_out..self.len {
+            let part = self.parts[n % MOST_PARTS];
+            write!(text, "{part}")?;
+        }
+        Ok(())
+    }
+}
+
+impl Root {
+    fn add_to(self, text: &mut String, constants: &[Constant]) -> Result<(), AllocError> {
+        match self {
+            Root::Named { constant, number } => {
+                let name = constants.get(usize::from(constant)).copied();
+                add_name(text, name.unwrap_or_default(), number)
+            }
+            Root::Unique(type_id) => write!(text, "unique t{type_id}"),
+            Root::Owned(register) => write!(text, "r{register}.content"),
+        }
+    }
+}
+
+/// Adds an exact name, or a family's name with a number.
+fn add_name(text: &mut String, constant: Constant, number: i64) -> Result<(), AllocError> {
+    for byte in constant.bytes {
+        text.push(char::from(*byte))?;
+    }
+    match constant.kind {
+        ConstantKind::Text | ConstantKind::Name => Ok(()),
+        ConstantKind::Family => write!(text, "#{number}"),
+    }
+}
+
+impl fmt::Display for Part {
+    fn fmt<W: fmt::Write>(&self, f: &mut fmt::Formatter<W>) -> fmt::Result {
+        match self {
+            Part::Value(index) => write!(f, ".value {index}"),
+            Part::Item(index) => write!(f, "[{index}]"),
+            Part::Key(key) => write!(f, ".key {key}"),
+            Part::Field(index) => write!(f, ".field {index}"),
+            Part::Content => write!(f, ".content"),
+        }
+    }
+}

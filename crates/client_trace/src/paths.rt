@@ -1,0 +1,127 @@
+use crate::path::{Part, Path, Root};
+use client_code::{Client, Constants, Instruction, Operation, REGISTERS};
+use client_vm::Stepper;
+use seg_block::Fit;
+use seg_manager::Segment;
+use std::alloc::{AllocError, Global};
+
+const COUNT: usize = REGISTERS as usize;
+
+/// The paths to the values that a client's registers refer to.
+#[derive(Drop)]
+pub(crate) struct Paths<'a> {
+    constants: Constants<'a>,
+    paths: [Path; COUNT],
+}
+
+impl<'a> Paths<'a> {
+    pub(crate) fn new(client: &Client<'a>) -> Paths<'a> {
+        Paths {
+            constants: client.constants(),
+            paths: [Path::new(Root::Owned(0)); COUNT],
+        }
+    }
+
+    /// Adds the path to the value that a register refers to.
+    pub(crate) fn add_to(&self, text: &mut String, register: u8) -> Result<(), AllocError> {
+        self.get(register).add_to(text, self.constants.as_slice())
+    }
+
+    fn get(&self, register: u8) -> Path {
+        self.paths[usize::from(register) % COUNT]
+    }
+
+    /// Goes past the instruction that a run is about to perform: the register that is to refer to a value gets the path to it.
+    /// Where the instruction is refused, that register holds a code, and its path means nothing.
+    pub(crate) fn pass<F: Fit>(
+        &mut self,
+        instruction: Instruction,
+        run: &Stepper,
+        segment: &Segment<F, Global>,
+    ) {
+        if let Some(path) = self.given(instruction, run, segment) {
+            self.paths[usize::from(instruction.a) % COUNT] = path;
+        }
+    }
+
+    /// The path to the value that register a is to refer to, where the operation gives a reference.
+    fn given<F: Fit>(
+        &self,
+        i: Instruction,
+        run: &Stepper,
+        segment: &Segment<F, Global>,
+    ) -> Option<Path> {
+        let whole = self.get(i.b);
+        match i.operation {
+            Operation::Mov => Some(whole),
+            Operation::Make | Operation::FindOrMake => Some(named(i, run)),
+            Operation::Find => Some(value(i, run)),
+            Operation::MakeUnique | Operation::FindUnique | Operation::FindOrMakeUnique => {
+                Some(Path::new(Root::Unique(i.type_id())))
+            }
+            Operation::Ref => Some(Path::new(Root::Owned(i.b))),
+            Operation::Content => Some(whole.part(Part::Content)),
+            Operation::Field => Some(whole.part(Part::Field(i.number))),
+            Operation::At => Some(whole.part(Part::Item(run.number(i.c)))),
+            Operation::PushBack => {
+                let len = segment.heap().count(run.place(i.b).at);
+                Some(whole.part(Part::Item(i64::from(len))))
+            }
+            Operation::PushFront => Some(whole.part(Part::Item(0))),
+            Operation::GetKey | Operation::PutKey => Some(whole.part(Part::Key(run.number(i.c)))),
+            Operation::Const
+            | Operation::Add
+            | Operation::Sub
+            | Operation::Mul
+            | Operation::Less
+            | Operation::Equal
+            | Operation::If
+            | Operation::While
+            | Operation::Else
+            | Operation::End
+            | Operation::OutInt
+            | Operation::OutStr
+            | Operation::OutConst
+            | Operation::GetByte
+            | Operation::Count
+            | Operation::Kill
+            | Operation::KillUnique
+            | Operation::New
+            | Operation::Drop
+            | Operation::Put
+            | Operation::Take
+            | Operation::Clear
+            | Operation::Forget
+            | Operation::Load
+            | Operation::Store
+            | Operation::Len
+            | Operation::PopBack
+            | Operation::PopFront
+            | Operation::SetStr
+            | Operation::AddStr
+            | Operation::AddByte
+            | Operation::Shrink
+            | Operation::DeleteKey
+            | Operation::FirstKey
+            | Operation::NextKey => None,
+        }
+    }
+}
+
+/// The path to the object of the name that an instruction gives.
+fn named(i: Instruction, run: &Stepper) -> Path {
+    Path::new(Root::Named {
+        constant: i.constant(),
+        number: run.number(i.b),
+    })
+}
+
+/// The path to the value that register c counts in a named array, or to the first where there is no such register.
+fn value(i: Instruction, run: &Stepper) -> Path {
+    let first = named(i, run);
+    if i.c == Instruction::NONE {
+        first
+    } else {
+        first.part(Part::Value(run.number(i.c)))
+    }
+}

@@ -1,0 +1,101 @@
+ghost use Rattle.std.specs.Prelude.{◌≡◌, ◌↔◌, true, false, IsErrOf};
+
+use crate::gathered::Gathered;
+use crate::known::Known;
+use crate::lines::Lines;
+use crate::paths::Paths;
+use crate::untraced::Untraced;
+use client_code::Client;
+use client_verify::Verified;
+use client_vm::{Sink, Stepper, write_all};
+use seg_block::Fit;
+use seg_manager::Segment;
+use std::alloc::{AllocError, Global};
+
+/// Runs a client on a segment, and writes a line for each instruction that it performs: the step's number, from 1, or `-` for
+/// the `END` at which a loop ends, which is no step; the instruction's number, from 0; its canonical text; and after `;` the
+/// registers of which something is known where the run goes on, with what they hold: `r1 = 41` a number,
+/// `r2 -> vector[3].field 1` a reference to the value that is reached so, `r3 owns t2` an object of type 2. What the
+/// instruction prints stands after it, as a line `out "42\n"`.
+///
+/// The client's types must fit the segment's, to which they are added. Objects that registers still own are destroyed at the
+/// end. The memory for it doesn't grow with the steps.
+pub fn trace<F: Fit, W: Sink>(
+    alloc: Global,
+    segment: &mut Segment<F, Global>,
+    client: &Verified,
+    input: &[u8],
+    out: &mut W,
+) -> Result<(), Untraced>
+    requires works { W.has_failed out.old ≡ false }
+    ensures failed { IsErrOf result Untraced.OutputFailed ↔ (W.has_failed out.new ≡ true) }
+{
+    let mut tracer = Tracer::new(alloc, client)?;
+    let mut run = Stepper::new(segment, client, input);
+    let ended = tracer.to_end(&mut run, segment, client.bound(), out);
+    run.finish(segment);
+    ended
+}
+
+/// What the lines of a client's run are made of, beside the run.
+#[derive(Drop)]
+struct Tracer<'a> {
+    client: Client<'a>,
+    known: Known,
+    paths: Paths<'a>,
+    lines: Lines,
+}
+
+impl<'a> Tracer<'a> {
+    fn new(alloc: Global, client: &Verified<'a>) -> Result<Tracer<'a>, AllocError> {
+        let client = client.client();
+        Ok(Tracer {
+            client,
+            known: Known::new(alloc, &client)?,
+            paths: Paths::new(&client),
+            lines: Lines::new(alloc, &client)?,
+        })
+    }
+
+    /// Writes the lines of a run to the end of the code, which it comes to within twice the client's bound.
+    fn to_end<F: Fit, W: Sink>(
+        &mut self,
+        run: &mut Stepper,
+        segment: &mut Segment<F, Global>,
+        bound: u64,
+        out: &mut W,
+    ) -> Result<(), Untraced>
+        requires works { W.has_failed out.old ≡ false }
+        ensures failed { IsErrOf result Untraced.OutputFailed ↔ (W.has_failed out.new ≡ true) }
+    {
+        for _ in 0..bound.saturating_mul(2) {
+            if !self.step(run, segment)? {
+                break;
+            }
+            write_all(out, self.lines.as_bytes())?;
+        }
+        Ok(())
+    }
+
+    /// Performs an instruction, and makes its lines. There is none at the end of the code.
+    fn step<F: Fit>(
+        &mut self,
+        run: &mut Stepper,
+        segment: &mut Segment<F, Global>,
+    ) -> Result<bool, AllocError> {
+        let at = run.instruction();
+        let Some(instruction) = self.client.instruction(u32::from(at)) else {
+            return Ok(false);
+        };
+        self.paths.pass(instruction, run, segment);
+        let mut printed = Gathered::new();
+        let Ok(Some(stepped)) = run.step(segment, &mut printed) else {
+            return Ok(false);
+        };
+        let known = self.known.after(instruction, at, run.instruction());
+        self.lines.begin(stepped)?;
+        self.lines.add_registers(stepped, &known, &self.paths, run)?;
+        self.lines.end(&printed)?;
+        Ok(true)
+    }
+}

@@ -1,0 +1,31 @@
+ghost use Rattle.std.specs.Prelude.{◌≡◌};
+ghost use Rattle.client_trace.specs.declared.untraced.Untraced.TheVariants.{Memory, OutputFailed};
+
+use client_vm::Stopped;
+use seg_raw::Fault;
+use std::alloc::AllocError;
+
+/// Why a trace ended before its run did.
+#[derive(Debug, Clone, Copy, PartialEq, Eq)]
+pub enum Untraced {
+    /// Host memory was refused.
+    Memory,
+    /// The output failed.
+    OutputFailed,
+}
+
+impl From<AllocError> for Untraced {
+    ghost from_gives = { λ _ untraced. untraced ≡ Memory };
+
+    fn from(_: AllocError) -> Untraced {
+        Untraced::Memory
+    }
+}
+
+impl From<Stopped> for Untraced {
+    ghost from_gives = { λ _ untraced. untraced ≡ OutputFailed };
+
+    fn from(_: Stopped) -> Untraced {
+        Untraced::OutputFailed
+    }
+}
