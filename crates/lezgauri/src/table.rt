@@ -1,0 +1,15 @@
+use seg_layout::{ENTRY, MAX_TYPES, Type, TypeTable};
+use seg_raw::Fault;
+
+/// The table of these types, each named by its place. A struct's fields have types before it; a container may be of any type of
+/// the table. `BadType` with the first one that may not stand there, or with 32 where there are more.
+pub fn type_table(types: &[Type]) -> Result<TypeTable, Fault> {
+    let mut entries = [0; ENTRY * MAX_TYPES];
+    if types.len() > MAX_TYPES {
+        return Err(Fault::BadType(MAX_TYPES as u32));
+    }
+    for (entry, of) in entries.chunks_exact_mut(ENTRY).zip(types) {
+        entry.copy_from_slice(&of.entry());
+    }
+    TypeTable::read(&entries)
+}

@@ -1,0 +1,70 @@
+use lezgauri::{AllocatorKind, Code, Error, Image, IndexKind, Place, Type, TypeId, type_table};
+use std::alloc::Global;
+
+/// The types of the cache, by their ids: numbers, numbers by a number, and a list of numbers.
+const NUMBER: TypeId = 0;
+
+const VALUES: TypeId = 1;
+
+const ORDER: TypeId = 2;
+
+/// A cache of numbers in an image that is open: when it is full, the key that came first goes.
+#[derive(Drop)]
+pub struct Cache {
+    image: Image<Global>,
+    values: Place,
+    order: Place,
+    most: u32,
+}
+
+impl Cache {
+    /// A new cache of at most so many keys.
+    pub fn new(alloc: Global, most: u32) -> Result<Cache, Error> {
+        let mut image = Image::create(alloc, 4096, AllocatorKind::Best, IndexKind::Tree)?;
+        image.add_types(&type_table(&[Type::I64, Type::Map(NUMBER), Type::List(NUMBER)])?)?;
+        Cache::in_image(image, most)
+    }
+
+    /// The cache of a saved image.
+    pub fn open(alloc: Global, image: Vec<u8>, most: u32) -> Result<Cache, Error> {
+        Cache::in_image(Image::open(alloc, image)?, most)
+    }
+
+    fn in_image(mut image: Image<Global>, most: u32) -> Result<Cache, Error> {
+        let values = image.find_or_construct(b"values", VALUES)?;
+        let order = image.find_or_construct(b"order", ORDER)?;
+        Ok(Cache {
+            image,
+            values,
+            order,
+            most,
+        })
+    }
+
+    /// The number of a key. `Absent` where the cache doesn't have it.
+    pub fn get(&self, key: i64) -> Result<i64, Code> {
+        self.image.load(self.image.get(self.values, key)?)
+    }
+
+    /// Enters a key that the cache doesn't have. The image grows where it has no room.
+    pub fn enter(&mut self, key: i64, number: i64) -> Result<(), Error> {
+        if self.image.largest_gap() < 256 {
+            self.image.grow(4096)?;
+        }
+        if self.image.len(self.order)? >= self.most {
+            let first = self.image.load(self.image.item(self.order, 0)?)?;
+            self.image.remove(self.values, first);
+            self.image.pop_front(self.order)?;
+        }
+        let value = self.image.put(self.values, key)?;
+        self.image.store(value, number)?;
+        let last = self.image.push_back(self.order)?;
+        self.image.store(last, key)?;
+        Ok(())
+    }
+
+    /// The image of the cache, to be saved while it stays open.
+    pub fn save(&self, alloc: Global) -> Result<Vec<u8>, Error> {
+        Ok(self.image.save(alloc)?)
+    }
+}

@@ -1,0 +1,32 @@
+ghost use Rattle.std.specs.Prelude.{◌≡◌, false};
+
+use lezgauri::{AllocatorKind, Fault, Image, IndexKind, Sink};
+use std::alloc::Global;
+
+/// An image with room for a counter, which the first client makes.
+pub fn new_counter(alloc: Global) -> Result<Vec<u8>, Fault> {
+    let image = Image::create(alloc, 1024, AllocatorKind::Seq, IndexKind::Flat)?;
+    Ok(image.into_bytes())
+}
+
+/// Runs a client so many times on an image, one run after the other, and returns the image that the last one left. Nothing is
+/// written where the image or the client is refused.
+pub fn count<W: Sink>(
+    alloc: Global,
+    image: Vec<u8>,
+    client: &[u8],
+    times: u32,
+    out: &mut W,
+) -> Result<Vec<u8>, Fault>
+    requires works { W.has_failed out.old ≡ false }
+{
+    let mut image = Image::open(alloc, image)?;
+    let client = image.verify(client)?;
+    for _ in 0..times {
+        if out.failed() {
+            break;
+        }
+        image.run(&client, b"", out)?;
+    }
+    Ok(image.into_bytes())
+}

@@ -1,0 +1,5 @@
+//! Tests of the front door.
+#![tactic(auto)]
+
+#[cfg(test)]
+mod tests;

@@ -1,0 +1,5 @@
+mod clients;
+mod images;
+mod memory;
+mod objects;
+mod uses;
