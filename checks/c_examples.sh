@@ -1,0 +1,63 @@
+#!/usr/bin/env bash
+# Builds the examples for C and C++ and checks/calls.c with the library for C, runs each by itself and under valgrind, and
+# compares what the examples print; then with each request for memory refused. Needs a C and a C++ compiler, make, valgrind, the library that `rt lib` leaves in
+# crates/lezgauri_c/out, and the program that `rt run` leaves in crates/segtool/out, or another that is given.
+set -eu
+here=$(cd "$(dirname "$0")" && pwd)
+root=$(dirname "$here")
+segtool=$(realpath "${1:-$root/crates/segtool/out/segtool}")
+library=$root/crates/lezgauri_c
+work=$(mktemp -d)
+trap 'rm -rf "$work"' EXIT
+
+"$library/build.sh" --link
+make -s -C "$root/examples/c" OUT="$work" SEGTOOL="$segtool" all "$work/cache.image" "$work/cache.client"
+${CC:-cc} -std=c11 -Wall -Wextra -Werror -O1 -g -I"$library/include" -o "$work/calls" "$here/calls.c" "$library/out/liblezgauri.a"
+
+counter=("$work/counter" "$root/examples/counter.image" "$root/examples/increment.client")
+cache=("$work/cache" "$work/cache.image" "$work/cache.client")
+calls=("$work/calls" "$root/examples/counter.image" "$root/examples/increment.client")
+under=(valgrind --quiet --leak-check=full --errors-for-leak-kinds=all --error-exitcode=9)
+
+# 41 goes up by one in each of three runs, of six instructions each
+cat > "$work/counter.wanted" <<'EOF'
+6 steps at most
+6 steps: 42
+6 steps: 43
+6 steps: 44
+EOF
+# the squares of 65, 66 and 67, and six bytes of `hit 4225`
+cat > "$work/cache.wanted" <<'EOF'
+miss 4225
+miss 4356
+-- again
+hit 4356
+miss 4489
+-- hit 42.. and more
+EOF
+
+"${counter[@]}" > "$work/out" && diff "$work/counter.wanted" "$work/out"
+"${cache[@]}" > "$work/out" && diff "$work/cache.wanted" "$work/out"
+"${calls[@]}"
+"${under[@]}" "${counter[@]}" > "$work/out" && diff "$work/counter.wanted" "$work/out"
+"${under[@]}" "${cache[@]}" > "$work/out" && diff "$work/cache.wanted" "$work/out"
+"${under[@]}" "${calls[@]}"
+
+# each request for memory refused: the program says so and fails, or does without
+cc -O1 -shared -fPIC -o "$work/refuse.so" "$here/refuse.c" -ldl
+REQUESTS="$work/requests" LD_PRELOAD="$work/refuse.so" "${counter[@]}" > "$work/out"
+all=$(cat "$work/requests")
+faults=0
+for n in $(seq 1 "$all"); do
+  status=0
+  REFUSE=$n LD_PRELOAD="$work/refuse.so" "${counter[@]}" > "$work/out" 2> "$work/err" || status=$?
+  if [ "$status" = 1 ] && grep -q "fault 1 at 0" "$work/err"; then
+    faults=$((faults + 1))
+  elif [ "$status" != 1 ] && ! { [ "$status" = 0 ] && diff "$work/counter.wanted" "$work/out"; }; then
+    echo "request $n of $all: status $status" >&2
+    exit 1
+  fi
+done
+[ "$faults" -gt 0 ]
+echo "of $all requests for memory, $faults are told as fault 1 where they are refused"
+echo "the examples for C and C++ print what they should, by themselves and under valgrind"

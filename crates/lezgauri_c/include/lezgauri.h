@@ -1,0 +1,149 @@
+/*
+ * Lezgauri for C and C++: managed memory segments whose images are checked before use, and clients in bytecode that are
+ * verified before they run.
+ *
+ * Images, clients and their text are those of docs/FORMATS.md. All lengths and positions are in bytes, if nothing else is
+ * said.
+ *
+ * Each call returns a status: LEZGAURI_OK, the number of a fault, or one of the numbers from 100 on below. With
+ * LEZGAURI_BAD_ARGUMENT and with a fault nothing ran, and the caller's memory is unchanged but for *fault and *written.
+ * No call aborts, unwinds, prints, or reads or writes beyond the lengths that it is given. Memory that a call takes comes
+ * from malloc, and has gone back to free when it returns; LEZGAURI_MEMORY says that it was refused.
+ *
+ * Tested by each call: null pointers where a length isn't 0, lengths above PTRDIFF_MAX, pointers to numbers or structs that
+ * aren't aligned, and memory to write that overlaps other memory of the call. Each returns LEZGAURI_BAD_ARGUMENT. A pointer
+ * with a length of 0 may be null, if nothing else is said.
+ *
+ * Promised by the caller, as no call can test it: at each pointer lie as many bytes as its length says; they may be written
+ * where the pointer isn't to const; and no other thread writes them, or reads what the call writes, while the call runs. A
+ * call isn't made from a signal handler, nor from the forked child of a process with threads.
+ *
+ * Threads: calls share nothing, so several may run at a time, each on memory of its own. Images, clients and inputs may be
+ * shared by calls that run at a time, since they are only read.
+ */
+#ifndef LEZGAURI_H
+#define LEZGAURI_H
+
+#include <stddef.h>
+#include <stdint.h>
+
+#ifdef __cplusplus
+extern "C" {
+#endif
+
+/* What calls return. The numbers below 100 are those of faults, as segtool prints them. */
+enum {
+    LEZGAURI_OK = 0,
+    LEZGAURI_MEMORY = 1,         /* a request for host memory was refused */
+    LEZGAURI_MISPLACED = 2,      /* the segment may not lie there; no call here returns it for an image of at most 2^30 bytes */
+    LEZGAURI_BAD_TYPE = 3,       /* position: the first wrong entry of the image's type table, counted from 0 */
+    LEZGAURI_TYPE_MISMATCH = 4,  /* position: the first entry that differs between the client's types and the image's */
+    LEZGAURI_BAD_HEADER = 10,    /* the image's header, or its length */
+    LEZGAURI_BAD_BLOCK = 11,     /* position: of the block, in bytes from the image's start, as those that follow */
+    LEZGAURI_BAD_FREE = 12,      /* position: of the pointer word in the free structure */
+    LEZGAURI_BAD_INDEX = 13,     /* position: of the index's entry, or of its pointer */
+    LEZGAURI_BAD_POINTER = 14,   /* position: of the pointer that names no block that it may name */
+    LEZGAURI_DOUBLE_OWNER = 15,  /* position: of the block with two owners */
+    LEZGAURI_UNOWNED = 16,       /* position: of the live block without an owner */
+    LEZGAURI_BAD_VALUE = 17,     /* position: of the value */
+    LEZGAURI_BAD_CODE = 20,      /* position: of the first field of the client that is wrong or cut, in bytes from its start */
+    LEZGAURI_REJECTED = 22,      /* position: the instruction that is refused, counted from 0; reason: why (docs/FORMATS.md) */
+    LEZGAURI_TOO_LONG = 23,      /* the client's bound on its steps passes 1,000,000,000 */
+    LEZGAURI_BAD_ARGUMENT = 100, /* a pointer or a length that the call can't take; nothing else was looked at */
+    LEZGAURI_OUTPUT_FULL = 101,  /* the output had no room for what a client prints */
+    LEZGAURI_TOO_SMALL = 102     /* the memory for a saved image has fewer bytes than the image */
+};
+
+/* No client has the fault. */
+#define LEZGAURI_NO_CLIENT UINT64_MAX
+
+/* Why a call was refused. Of a call that wasn't, its number is 0. */
+typedef struct lezgauri_fault {
+    uint64_t client;   /* the client that has the fault, counted from 0, or LEZGAURI_NO_CLIENT */
+    uint32_t number;   /* as the call returned it */
+    uint32_t position; /* as said beside the numbers above; else 0 */
+    uint32_t reason;   /* as said beside LEZGAURI_REJECTED; else 0 */
+} lezgauri_fault;
+
+/* Bytes of the caller's. */
+typedef struct lezgauri_bytes {
+    const uint8_t *bytes;
+    size_t len;
+} lezgauri_bytes;
+
+/* What a run of a client did. */
+typedef struct lezgauri_report {
+    uint64_t steps; /* the steps that it took: at most those that lezgauri_verify tells */
+    uint64_t read;  /* the bytes of the input that it read */
+    uint32_t ended; /* 0 at the end of its code, 1 at an output that had no room */
+} lezgauri_report;
+
+/*
+ * Whether an image is sound: LEZGAURI_OK, or its first fault. `image` has `len` bytes; an image has from 736 bytes to 2^30,
+ * a multiple of 16. `fault` may be null.
+ */
+uint32_t lezgauri_check(const void *image, size_t len, lezgauri_fault *fault);
+
+/*
+ * Whether a client is accepted on an image: LEZGAURI_OK, or the first fault, which is the image's where fault->client is
+ * LEZGAURI_NO_CLIENT, and the client's where it is 0. Where it is accepted, *bound is how many steps a run of it takes at
+ * most. `bound` and `fault` may be null.
+ */
+uint32_t lezgauri_verify(const void *image, size_t len, const void *client, size_t client_len, uint64_t *bound,
+                         lezgauri_fault *fault);
+
+/*
+ * Checks an image, verifies `count` clients, and runs one after the other on a copy of it, which the call gives back saved.
+ * Each client is verified against the types that those before it leave, and reads the input that those before it left.
+ *
+ *   clients   `count` pairs of a pointer, which isn't null, and a length
+ *   input     `input_len` bytes that clients read
+ *   output    room for `capacity` bytes that clients print
+ *   written   how many bytes were printed; may be null
+ *   saved     room for `image_len` bytes, the saved image
+ *   reports   room for `count` reports, of which those of the clients that ran are written; null where they aren't wanted
+ *   fault     may be null
+ *
+ * LEZGAURI_OK where all clients ran to the end of their code. LEZGAURI_OUTPUT_FULL where the output had no room: then it has
+ * what fits, no further client ran, and the saved image and the reports are those after the client that it stopped. A fault
+ * where nothing ran.
+ */
+uint32_t lezgauri_run(const void *image, size_t image_len, const lezgauri_bytes *clients, size_t count, const void *input,
+                      size_t input_len, void *output, size_t capacity, size_t *written, void *saved,
+                      lezgauri_report *reports, lezgauri_fault *fault);
+
+/*
+ * A segment that stays open, so that its image is checked once for many runs. It owns a copy of the image, and the caller owns
+ * it: it goes back with lezgauri_close. One thread at a time may use it. Only these calls may write its memory: what
+ * lezgauri_run_on keeps of an image rests on its having been accepted.
+ */
+typedef struct lezgauri_handle lezgauri_handle;
+
+/*
+ * Opens a copy of an image, if it is sound: LEZGAURI_OK, and *handle is the segment; else *handle is null. `handle` isn't null,
+ * `fault` may be.
+ */
+uint32_t lezgauri_open(const void *image, size_t len, lezgauri_handle **handle, lezgauri_fault *fault);
+
+/*
+ * Verifies a client and runs it on an open segment; the memory is that of lezgauri_run. `report`, `written` and `fault` may be
+ * null. With a fault nothing ran, and the segment is as before.
+ */
+uint32_t lezgauri_run_on(lezgauri_handle *handle, const void *client, size_t client_len, const void *input,
+                         size_t input_len, void *output, size_t capacity, size_t *written, lezgauri_report *report,
+                         lezgauri_fault *fault);
+
+/*
+ * Copies the image of an open segment to `buffer`, which has room for `capacity` bytes. *needed is the image's length; `needed`
+ * may be null. LEZGAURI_TOO_SMALL, and nothing is copied, where the room is less.
+ */
+uint32_t lezgauri_save(const lezgauri_handle *handle, void *buffer, size_t capacity, size_t *needed);
+
+/* Gives an open segment's memory back. Null is no segment, and nothing happens. */
+void lezgauri_close(lezgauri_handle *handle);
+
+#ifdef __cplusplus
+}
+#endif
+
+#endif

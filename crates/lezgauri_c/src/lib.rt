@@ -1,0 +1,14 @@
+//! The library for C: each export passes the caller's memory on, as slices, and tells how it went as numbers.
+#![tactic(auto)]
+
+mod buffer;
+mod checking;
+mod fault;
+mod open;
+mod report;
+mod running;
+mod status;
+
+pub use fault::Fault;
+pub use report::Report;
+pub use running::Client;
