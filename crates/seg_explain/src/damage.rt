@@ -1,0 +1,125 @@
+//! What is wrong with an image.
+
+use crate::bytes::word;
+use crate::field::entry_flaw;
+use crate::image::Image;
+use crate::sources::type_bytes;
+use seg_layout::ENTRY;
+use seg_manager::MIN_LEN;
+use seg_ptr::{MAX_LEN, header};
+use std::alloc::{AllocError, Global};
+use std::fmt::Write;
+
+/// Adds what is wrong with an image's length or its header.
+pub(crate) fn add_bad_header(text: &mut String, image: Option<&[u8]>) -> Result<(), AllocError> {
+    let Some(image) = image else {
+        return Ok(());
+    };
+    let len = image.len();
+    if !image.starts_with(b"SEGIMAGE") {
+        return text.push_str("the first 8 bytes should be `SEGIMAGE`: the file is no image\n");
+    }
+    if len < MIN_LEN as usize || len > MAX_LEN as usize || !len.is_multiple_of(16) {
+        return write!(
+            text,
+            "the image has {len} bytes, and should have {MIN_LEN} to {MAX_LEN}, a multiple of 16\n"
+        );
+    }
+    add_bad_word(text, image)
+}
+
+fn add_bad_word(text: &mut String, image: &[u8]) -> Result<(), AllocError> {
+    let units = image.len() / 16;
+    let [version, size, allocator, index] = [
+        8,
+        header::SIZE,
+        header::ALLOCATOR,
+        header::INDEX_KIND,
+    ].map(|at| word(image, at));
+    if version != 1 {
+        write!(
+            text,
+            "the version at byte 8 is {version}, and should be 1\n"
+        )
+    } else if size as usize != units {
+        write!(
+            text,
+            "the length in units at byte 12 is {size}, and should be {units}\n"
+        )
+    } else if allocator > 1 {
+        write!(
+            text,
+            "the allocator at byte 16 is {allocator}, and should be 0 (sequential fit) or 1 (best fit)\n"
+        )
+    } else if index > 1 {
+        write!(
+            text,
+            "the index at byte 20 is {index}, and should be 0 (flat) or 1 (a tree)\n"
+        )
+    } else {
+        text.push_str("bytes 28 to 31 and 40 to 63 should be 0\n")
+    }
+}
+
+/// Adds what is wrong with an entry of an image's type table.
+pub(crate) fn add_bad_type(
+    text: &mut String,
+    number: u32,
+    image: Option<&[u8]>,
+) -> Result<(), AllocError> {
+    let Some(image) = image else {
+        return Ok(());
+    };
+    let at = (number as usize).saturating_mul(ENTRY);
+    let entry = type_bytes(image)
+        .get(at..at.saturating_add(ENTRY))
+        .unwrap_or(&[]);
+    let flaw = entry_flaw(entry);
+    let place = header::TYPES.saturating_add(at);
+    write!(
+        text,
+        "the entry of type {number} begins at byte {place}\n{flaw}\n"
+    )
+}
+
+/// Adds where a byte of an image lies.
+pub(crate) fn add_place(
+    text: &mut String,
+    alloc: Global,
+    at: u32,
+    image: Option<&[u8]>,
+) -> Result<(), AllocError> {
+    if let Some(image) = image_of(alloc, image)? {
+        let location = image.location(at);
+        write!(text, "byte {at} lies {location}\n")?;
+    }
+    Ok(())
+}
+
+/// Adds where the pointer at a byte lies, and what it names.
+pub(crate) fn add_pointer(
+    text: &mut String,
+    alloc: Global,
+    at: u32,
+    image: Option<&[u8]>,
+) -> Result<(), AllocError> {
+    let Some(image) = image_of(alloc, image)? else {
+        return Ok(());
+    };
+    let location = image.location(at);
+    write!(text, "byte {at} lies {location}\n")?;
+    match image.window().target(at as usize) {
+        None => text.push_str("the pointer there is null\n"),
+        Some(to) => {
+            let location = image.location(to);
+            write!(text, "the pointer there names byte {to}, {location}\n")
+        }
+    }
+}
+
+fn image_of(alloc: Global, image: Option<&[u8]>) -> Result<Option<Image>, AllocError> {
+    match image {
+        Some(bytes) => Image::new(alloc, bytes),
+        None => Ok(None),
+    }
+}

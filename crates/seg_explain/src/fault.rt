@@ -1,0 +1,155 @@
+use crate::damage::{add_bad_header, add_bad_type, add_place, add_pointer};
+use crate::field::add_bad_code;
+use crate::rejection::{add_bound, add_rejection};
+use crate::sources::Sources;
+use crate::text::add_bad_line;
+use crate::types::TypeWords;
+use seg_layout::{TypeId, TypeTable};
+use seg_manager::MIN_LEN;
+use seg_ptr::MAX_LEN;
+use seg_raw::Fault;
+use std::alloc::{AllocError, Global};
+use std::fmt::Write;
+
+/// One or more lines in words, each ended by `\n`: what the fault is, where it is, and what would be right.
+/// `client`: which client has the fault, counted from 0, where one of several has.
+pub fn explain(
+    alloc: Global,
+    fault: Fault,
+    client: Option<usize>,
+    sources: &Sources,
+) -> Result<Vec<u8>, AllocError> {
+    let mut text = String::new(alloc);
+    if let Some(number) = client {
+        write!(text, "the fault is in client {number}, counted from 0\n")?;
+    }
+    add_places(&mut text, alloc, fault, client, sources)?;
+    add_rule(&mut text, fault)?;
+    Ok(text.into_bytes())
+}
+
+/// Adds where the fault is.
+fn add_places(
+    text: &mut String,
+    alloc: Global,
+    fault: Fault,
+    client: Option<usize>,
+    sources: &Sources,
+) -> Result<(), AllocError> {
+    match fault {
+        Fault::Memory | Fault::Misplaced | Fault::BadSize | Fault::NoHostRoom | Fault::BadMove(_) =>
+            Ok(()),
+        Fault::BadHeader => add_bad_header(text, sources.image),
+        Fault::BadType(number) => add_bad_type(text, number, sources.image),
+        Fault::TypeMismatch(number) => add_mismatch(text, number, client, sources),
+        Fault::BadBlock(at)
+        | Fault::BadIndex(at)
+        | Fault::DoubleOwner(at)
+        | Fault::Unowned(at)
+        | Fault::BadValue(at) => add_place(text, alloc, at, sources.image),
+        Fault::BadFree(at) | Fault::BadPointer(at) => add_pointer(text, alloc, at, sources.image),
+        Fault::BadCode(at) => add_bad_code(text, sources.file(client), at),
+        Fault::BadLine(number) => add_bad_line(text, alloc, sources.text, number),
+        Fault::Rejected {
+            instruction,
+            reason,
+        } => match sources.client(client) {
+            Some(client) => add_rejection(text, alloc, &client, instruction, reason),
+            None => Ok(()),
+        },
+        Fault::TooLong => match sources.client(client) {
+            Some(client) => add_bound(text, alloc, &client),
+            None => Ok(()),
+        },
+    }
+}
+
+/// Adds what an entry is in the client, and what it is where the client would run.
+fn add_mismatch(
+    text: &mut String,
+    number: u32,
+    client: Option<usize>,
+    sources: &Sources,
+) -> Result<(), AllocError> {
+    if let Some(client) = sources.client(client) {
+        add_kind(text, number, "in the client", &client.types())?;
+    }
+    if let Some(types) = sources.types_before(client) {
+        add_kind(text, number, "in the image", &types)?;
+    }
+    Ok(())
+}
+
+fn add_kind(
+    text: &mut String,
+    number: u32,
+    place: &str,
+    types: &TypeTable,
+) -> Result<(), AllocError> {
+    match TypeId::try_from(number).ok().and_then(|id| types.kind(id)) {
+        Some(kind) => {
+            let kind = TypeWords(kind);
+            write!(text, "type {number} is {kind} {place}\n")
+        }
+        None => Ok(()),
+    }
+}
+
+/// Adds what would be right, for a fault that has one rule.
+fn add_rule(text: &mut String, fault: Fault) -> Result<(), AllocError> {
+    match fault {
+        Fault::Memory => text.push_str("the host refused memory that the command asked for\n"),
+        Fault::Misplaced => write!(
+            text,
+            "a base is a multiple of 16, and the segment from there on ends within its room, \
+with at most {MAX_LEN} bytes\n"
+        ),
+        Fault::BadSize => write!(
+            text,
+            "a segment has {MIN_LEN} to {MAX_LEN} bytes, a multiple of 16\n"
+        ),
+        Fault::NoHostRoom => text.push_str("the region ends before the larger segment would\n"),
+        Fault::BadMove(number) => write!(
+            text,
+            "move {number}, counted from 0, should come at a later step than the one before, 1 at least, \
+and its base be a multiple of 16 from which the segment ends within its room\n"
+        ),
+        Fault::TypeMismatch(_) => {
+            text.push_str(
+                "types with the same number should be the same in a client and where it runs\n",
+            )
+        }
+        Fault::BadBlock(_) => text.push_str(
+            "a header should have 2 units or more up to the heap's end, the units of the block before, \
+a tag and a null link; and no two free blocks are neighbours\n",
+        ),
+        Fault::BadFree(_) => text.push_str(
+            "the free blocks should be a list in ascending order (sequential fit), \
+or a red-black tree by their sizes (best fit)\n",
+        ),
+        Fault::BadIndex(_) => text.push_str(
+            "names should ascend, as many as byte 36 says, with 1 to 63 visible bytes and 1 to 65535 values each\n",
+        ),
+        Fault::BadPointer(_) => text.push_str(
+            "it should name the first payload byte of a live block of the right kind and type, with enough room\n",
+        ),
+        Fault::DoubleOwner(_) => text.push_str("one pointer should name the block, and two do\n"),
+        Fault::Unowned(_) => {
+            text.push_str(
+                "the index, a unique object's pointer or a value should name the block, and none does\n",
+            )
+        }
+        Fault::BadValue(_) => text.push_str(
+            "a list should be a ring, a map a red-black tree with ascending keys, each with as many nodes as it says, \
+and a pointer null exactly where there are none\n",
+        ),
+        Fault::TooLong => text.push_str(
+            "a loop takes 1 step and its turns times the steps of its body and 1 more, so loops inside loops multiply\n",
+        ),
+        Fault::BadHeader
+        | Fault::BadType(_)
+        | Fault::BadCode(_)
+        | Fault::BadLine(_)
+        | Fault::Rejected { .. } => Ok(()),
+    }
+}

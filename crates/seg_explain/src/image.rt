@@ -1,0 +1,132 @@
+//! Where a byte of an image lies, sound or not.
+
+use crate::location::{Area, Location, Owner};
+use crate::sources::type_bytes;
+use seg_block::{Block, HEAP_START, Tag, UNIT, block_at, block_of, is_live, tag_word};
+use seg_index::{ENTRY, NameEntry, first_name, name_count, next_name, unique};
+use seg_layout::{MAX_TYPES, TypeId, TypeTable};
+use seg_ptr::{MAX_LEN, Window};
+use seg_raw::Region;
+use seg_seqfit::SeqFit;
+use seg_value::Heap;
+use std::alloc::{AllocError, Global};
+
+/// An image, which is read only, so that the allocator doesn't matter.
+#[derive(Drop)]
+pub(crate) struct Image {
+    heap: Heap<SeqFit, Global>,
+}
+
+impl Image {
+    /// The image of these bytes, if they aren't too many.
+    pub(crate) fn new(alloc: Global, bytes: &[u8]) -> Result<Option<Image>, AllocError> {
+        let len = match u32::try_from(bytes.len()) {
+            Ok(len) if len <= MAX_LEN => len,
+            Ok(_) | Err(_) => return Ok(None),
+        };
+        let types = match TypeTable::read(type_bytes(bytes)) {
+            Ok(types) => types,
+            Err(_) => TypeTable::new(),
+        };
+        let region = Region::from_vec(Vec::from_slice(alloc, bytes)?);
+        Ok(match Window::place(region, 0, len) {
+            Ok(window) => Some(Image {
+                heap: Heap::new(window, types),
+            }),
+            Err(_) => None,
+        })
+    }
+
+    pub(crate) fn window(&self) -> &Window<Global> {
+        self.heap.window()
+    }
+
+    /// Where a byte lies.
+    pub(crate) fn location(&self, at: u32) -> Location<'_> {
+        if at >= self.window().len() {
+            return Location::Outside;
+        }
+        if at < HEAP_START {
+            return Location::of_front(at);
+        }
+        self.in_named(at)
+            .or_else(|| self.in_unique(at))
+            .or_else(|| self.in_block(at))
+            .unwrap_or(Location::Heap)
+    }
+
+    /// The same, where it is in the block of a named object. It looks at names as long as they ascend.
+    fn in_named(&self, at: u32) -> Option<Location<'_>> {
+        let w = self.window();
+        let mut entry = first_name(&self.heap)?;
+        for _ in 0..name_count(w).min(w.len() / ENTRY) {
+            let name = entry.name(w, self.heap.types());
+            if let Some(area) = self.area_of(entry, at) {
+                return Some(Location::Object(Owner::Name(name), area));
+            }
+            entry = next_name(&self.heap, name)?;
+            if entry.name(w, self.heap.types()) <= name {
+                return None;
+            }
+        }
+        None
+    }
+
+    /// The part of a named object's block that a byte is of, if it is of any.
+    fn area_of(&self, entry: NameEntry, at: u32) -> Option<Area> {
+        let w = self.window();
+        let object = entry.object?;
+        let from = self.offset(object, at)?;
+        let size = self.heap.types().size(entry.type_id(w)?);
+        Some(match from.checked_sub(UNIT) {
+            None => Area::Header,
+            Some(from) if (from as usize) < entry.values_len(size) => Area::Values(from),
+            Some(_) => Area::Name,
+        })
+    }
+
+    /// The same, where it is in the block of a unique object.
+    fn in_unique(&self, at: u32) -> Option<Location<'_>> {
+        for type_id in 0..MAX_TYPES as TypeId {
+            if let Some(object) = unique(self.window(), type_id) {
+                if let Some(from) = self.offset(object, at) {
+                    let area = from.checked_sub(UNIT).map_or(Area::Header, Area::Values);
+                    return Some(Location::Object(Owner::Unique(type_id), area));
+                }
+            }
+        }
+        None
+    }
+
+    /// How far a byte is from the start of the block whose payload begins at a position, if it is in that.
+    fn offset(&self, payload: u32, at: u32) -> Option<u32> {
+        let from = at.checked_sub(block_of(payload))?;
+        let block = block_at(self.window(), block_of(payload))?;
+        (from / UNIT < block.units).then_some(from)
+    }
+
+    /// The same, where it is in a block that the headers before it lead to.
+    fn in_block(&self, at: u32) -> Option<Location<'_>> {
+        let w = self.window();
+        let block = self.block_around(at)?;
+        let tag = is_live(w, block.at)
+            .then(|| Tag::read(tag_word(w, block.at)))
+            .flatten();
+        let from = at.saturating_sub(block.at);
+        let area = from.checked_sub(UNIT).map_or(Area::Header, Area::Payload);
+        Some(Location::Block(block.at, tag, area))
+    }
+
+    fn block_around(&self, at: u32) -> Option<Block> {
+        let w = self.window();
+        let mut start = HEAP_START;
+        for _ in 0..w.len() / UNIT {
+            let block = block_at(w, start)?;
+            start = start.saturating_add(block.units.saturating_mul(UNIT));
+            if at < start {
+                return Some(block);
+            }
+        }
+        None
+    }
+}

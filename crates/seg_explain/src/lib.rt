@@ -1,0 +1,22 @@
+//! Words for a refusal: what a fault is, where it is, and what would be right.
+#![tactic(auto)]
+
+mod bytes;
+mod damage;
+mod fault;
+mod field;
+mod flaw;
+mod image;
+mod location;
+mod names;
+mod outline;
+mod quoted;
+mod registers;
+mod rejection;
+mod replay;
+mod sources;
+mod text;
+mod types;
+
+pub use fault::explain;
+pub use sources::Sources;

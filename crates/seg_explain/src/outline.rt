@@ -1,0 +1,121 @@
+use crate::flaw::{Flaw, Misnamed, Requirement};
+use arrayvec::ArrayVec;
+use client_code::{ConstantKind, Instruction, Nesting, Number, Operand, REGISTERS, Role};
+
+/// The most constants of a client.
+pub(crate) const MOST_CONSTANTS: usize = 256;
+
+/// The most turns of a loop.
+const TURNS: i32 = 1_000_000_000;
+
+/// What stands in front of an instruction of a client, and how many types the whole client has.
+#[derive(Debug, Drop)]
+pub(crate) struct Outline {
+    pub(crate) types: usize,
+    /// The kinds of the constants.
+    pub(crate) constants: ArrayVec<ConstantKind, MOST_CONSTANTS>,
+    pub(crate) instructions: u32,
+    nesting: Nesting,
+}
+
+impl Outline {
+    pub(crate) fn new(types: usize) -> Outline {
+        Outline {
+            types,
+            constants: ArrayVec::new(),
+            instructions: 0,
+            nesting: Nesting::new(),
+        }
+    }
+
+    pub(crate) fn add_constant(&mut self, kind: ConstantKind) {
+        // one too many is a flaw of its own
+        let _ = self.constants.try_push(kind);
+    }
+
+    /// Goes past an instruction. False where it may not stand here.
+    pub(crate) fn pass(&mut self, role: Role) -> bool {
+        self.instructions = self.instructions.saturating_add(1);
+        self.nesting.pass(role)
+    }
+
+    pub(crate) fn is_closed(&self) -> bool {
+        self.nesting.is_closed()
+    }
+
+    /// The first thing that is wrong with an instruction here.
+    pub(crate) fn flaw(&mut self, instruction: Instruction) -> Option<Flaw<'static>> {
+        let row = instruction.operation.row();
+        let Instruction { a, b, c, .. } = instruction;
+        for (letter, operand, n) in [('a', row.a, a), ('b', row.b, b), ('c', row.c, c)] {
+            if !is_operand(operand, n) {
+                return Some(Flaw::Operand(letter, operand_words(operand)));
+            }
+        }
+        if let Some(flaw) = self.number_flaw(row.number, instruction) {
+            return Some(flaw);
+        }
+        (!self.pass(row.role)).then_some(Flaw::Unmet(Requirement::of_place(row.role)))
+    }
+
+    fn number_flaw(&self, number: Number, instruction: Instruction) -> Option<Flaw<'static>> {
+        let signed = instruction.number;
+        let n = signed.unsigned_abs() as usize;
+        match number {
+            Number::Any => None,
+            Number::Unused => (signed != 0).then_some(Flaw::Unmet(Requirement::NoNumber)),
+            Number::Turns => (!(1..=TURNS).contains(&signed)).then_some(Flaw::Unmet(
+                Requirement::Turns,
+            )),
+            Number::TypeId => (signed < 0 || n >= self.types).then_some(Flaw::NoType(n)),
+            Number::Text => self.text_flaw(n),
+            Number::TypedName if signed < 0 || n / 256 >= self.types => {
+                Some(Flaw::NoType(n / 256))
+            }
+            Number::TypedName => self.name_flaw(n % 256, instruction.b),
+        }
+    }
+
+    fn text_flaw(&self, n: usize) -> Option<Flaw<'static>> {
+        match self.constants.get(n) {
+            None => Some(Flaw::Constant(n, Misnamed::Absent)),
+            Some(ConstantKind::Text) => None,
+            Some(ConstantKind::Name | ConstantKind::Family) => Some(Flaw::Constant(
+                n,
+                Misnamed::IsName,
+            )),
+        }
+    }
+
+    fn name_flaw(&self, n: usize, b: u8) -> Option<Flaw<'static>> {
+        match self.constants.get(n) {
+            None => Some(Flaw::Constant(n, Misnamed::Absent)),
+            Some(ConstantKind::Text) => Some(Flaw::Constant(n, Misnamed::IsText)),
+            Some(ConstantKind::Name) => (b < REGISTERS).then_some(Flaw::Constant(
+                n,
+                Misnamed::IsExact,
+            )),
+            Some(ConstantKind::Family) => (b >= REGISTERS).then_some(Flaw::Constant(
+                n,
+                Misnamed::IsFamily,
+            )),
+        }
+    }
+}
+
+fn is_operand(operand: Operand, n: u8) -> bool {
+    match operand {
+        Operand::Unused => n == 0,
+        Operand::Register => n < REGISTERS,
+        Operand::Optional => n <= Instruction::NONE,
+    }
+}
+
+/// What an operand should be.
+pub(crate) fn operand_words(operand: Operand) -> &'static str {
+    match operand {
+        Operand::Unused => "0, since the operation doesn't have it",
+        Operand::Register => "a register, r0 to r15",
+        Operand::Optional => "a register, r0 to r15, or none",
+    }
+}

@@ -1,0 +1,139 @@
+use crate::names::Names;
+use crate::types::NumberedType;
+use client_code::{Instruction, Kinds, Need, Operand, REGISTERS};
+use client_verify::{Reason, RegisterType, Registers, Rule};
+use seg_layout::{Type, TypeId};
+use std::fmt;
+
+/// The registers b and c of an instruction, each once.
+pub(crate) fn used(instruction: Instruction) -> [Option<u8>; 2] {
+    let row = instruction.operation.row();
+    let (b, c) = (instruction.b, instruction.c);
+    [
+        register(row.b, b),
+        register(row.c, c).filter(|c| row.b == Operand::Unused || *c != b),
+    ]
+}
+
+fn register(operand: Operand, n: u8) -> Option<u8> {
+    match operand {
+        Operand::Unused => None,
+        Operand::Register | Operand::Optional => (n < REGISTERS).then_some(n),
+    }
+}
+
+/// What a register should be for an instruction.
+#[derive(Debug, Clone, Copy, PartialEq, Eq)]
+pub(crate) struct Demand {
+    pub(crate) register: u8,
+    need: Need,
+    /// The field that a struct should have.
+    field: i32,
+    /// What the own holds that an object is put into.
+    content: Option<NumberedType>,
+}
+
+impl Demand {
+    /// What the first of registers b and c should be that isn't what the instruction needs.
+    pub(crate) fn unmet(names: &Names, registers: &Registers, instruction: Instruction) -> Demand {
+        let row = instruction.operation.row();
+        let content = own_content(names, registers.get(instruction.b));
+        let (register, need) = if is_first_met(names, registers, instruction, content) {
+            (instruction.c, row.needs_c)
+        } else {
+            (instruction.b, row.needs_b)
+        };
+        Demand {
+            register,
+            need,
+            field: instruction.number,
+            content: content.map(|content| names.type_of(content)),
+        }
+    }
+}
+
+/// What the own holds that a register leads to.
+fn own_content(names: &Names, holds: RegisterType) -> Option<TypeId> {
+    match holds {
+        RegisterType::Reference(_, to) => match names.types().kind(to)? {
+            Type::Own(content) => Some(content),
+            Type::I64
+            | Type::Str
+            | Type::Vec(_)
+            | Type::List(_)
+            | Type::FlatMap(_)
+            | Type::Map(_)
+            | Type::Struct(_) => None,
+        },
+        RegisterType::Undefined | RegisterType::Int | RegisterType::Owner(_) => None,
+    }
+}
+
+/// Whether register b is what the instruction needs: whether it would do with a right register c.
+fn is_first_met(
+    names: &Names,
+    registers: &Registers,
+    instruction: Instruction,
+    content: Option<TypeId>,
+) -> bool {
+    let c = u8::from(instruction.b == 0);
+    let mut right = *registers;
+    let right_c = match instruction.operation.row().needs_c {
+        Need::Int | Need::IntOrNone => Some(RegisterType::Int),
+        Need::Content => content.map(RegisterType::Owner),
+        Need::Nothing | Need::Copyable | Need::Owner | Need::Reference(_) => None,
+    };
+    let tried = match right_c {
+        Some(holds) => {
+            right.set(c, holds);
+            Instruction { c, ..instruction }
+        }
+        None => instruction,
+    };
+    let types = names.types();
+    Rule::new(&types, &right, tried).apply().err() != Some(Reason::WrongOperand)
+}
+
+impl fmt::Display for Demand {
+    fn fmt<W: fmt::Write>(&self, f: &mut fmt::Formatter<W>) -> fmt::Result {
+        match self.need {
+            Need::Nothing => f.write_str("hold anything"),
+            Need::Int | Need::IntOrNone => f.write_str("hold a number"),
+            Need::Copyable => {
+                f.write_str("hold a number or lead to a value, since an owner isn't copied")
+            }
+            Need::Owner => f.write_str("own an object"),
+            Need::Content => match self.content {
+                Some(content) => write!(f, "own an object of {content}"),
+                None => f.write_str("own an object"),
+            },
+            Need::Reference(Kinds::Struct) => {
+                let field = self.field;
+                write!(
+                    f,
+                    "lead to a struct that has a field {field}, counted from 0"
+                )
+            }
+            Need::Reference(kinds) => {
+                let kinds = kinds_words(kinds);
+                write!(f, "lead to {kinds}")
+            }
+        }
+    }
+}
+
+fn kinds_words(kinds: Kinds) -> &'static str {
+    match kinds {
+        Kinds::Any => "a value",
+        Kinds::I64 => "an i64",
+        Kinds::Str => "a str",
+        Kinds::List => "a list",
+        Kinds::Own => "an own",
+        Kinds::Struct => "a struct",
+        Kinds::Sequence => "a vector or a list",
+        Kinds::Indexed => "a str, a vector or a list",
+        Kinds::Buffered => "a str, a vector or a flat map",
+        Kinds::Map => "a flat map or a map",
+        Kinds::Sized => "a str, a vector, a list, a flat map or a map",
+    }
+}

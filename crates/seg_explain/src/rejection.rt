@@ -1,0 +1,239 @@
+//! Why the verifier refuses an instruction, in words.
+
+use crate::names::Names;
+use crate::quoted::Quoted;
+use crate::registers::{Demand, used};
+use crate::replay::{Change, Part, Replay};
+use crate::text::line;
+use client_code::{Client, Gives, Instruction, REGISTERS, Role, print};
+use client_verify::{Class, MOST_STEPS, Reason, RegisterType, Registers};
+use std::alloc::{AllocError, Global};
+use std::fmt::Write;
+
+/// A client in front of the instruction that is refused.
+#[derive(Drop)]
+struct Refusal<'a> {
+    replay: Replay,
+    names: Names<'a>,
+    /// The client's canonical text.
+    printed: Vec<u8>,
+    /// How many lines stand in it before the code.
+    front: u32,
+}
+
+/// Adds why the instruction with a number is refused.
+pub(crate) fn add_rejection(
+    text: &mut String,
+    alloc: Global,
+    client: &Client,
+    number: u32,
+    reason: u8,
+) -> Result<(), AllocError> {
+    let constants = u32::try_from(client.constants().len()).unwrap_or(u32::MAX);
+    let refusal = Refusal {
+        replay: Replay::until(alloc, client, number)?,
+        names: Names::of(*client),
+        printed: print(alloc, client).map_err(|_| AllocError)?,
+        front: client.type_count().saturating_add(constants),
+    };
+    refusal.add_head(text, number)?;
+    match client.instruction(number) {
+        Some(instruction) if instruction.operation.row().role == Role::End => {
+            refusal.add_end(text)?;
+        }
+        Some(instruction) => refusal.add_instruction(text, instruction, reason)?,
+        None => {}
+    }
+    text.push_str(rule(reason))
+}
+
+/// Adds how many steps a client takes at most.
+pub(crate) fn add_bound(
+    text: &mut String,
+    alloc: Global,
+    client: &Client,
+) -> Result<(), AllocError> {
+    let steps = Replay::until(alloc, client, client.instruction_count())?.steps();
+    if steps == u64::MAX {
+        return write!(
+            text,
+            "the client could take more steps than 64 bits count, and the most is {MOST_STEPS}\n"
+        );
+    }
+    write!(
+        text,
+        "the client could take {steps} steps, and the most is {MOST_STEPS}\n"
+    )
+}
+
+/// The rule that a reason stands for.
+fn rule(reason: u8) -> &'static str {
+    if reason == Reason::WrongOperand.number() {
+        "each register has to hold what the operation needs, on every way to the instruction\n"
+    } else if reason == Reason::OwnerLost.number() {
+        "an owned object may not be lost: PUT it into an own, or DROP it\n"
+    } else if reason == Reason::PutIntoItself.number() {
+        "an object may not own itself: PUT it where it isn't inside itself\n"
+    } else {
+        "a loop's body has to leave each register that was defined in front of the loop as it was\n"
+    }
+}
+
+impl Refusal<'_> {
+    /// The line of the printed text that an instruction stands in.
+    fn line_of(&self, number: u32) -> u32 {
+        self.front.saturating_add(number).saturating_add(1)
+    }
+
+    fn shown(&self, number: u32) -> Quoted<'_> {
+        Quoted(line(self.printed.as_slice(), self.line_of(number)).unwrap_or(&[]))
+    }
+
+    fn add_head(&self, text: &mut String, number: u32) -> Result<(), AllocError> {
+        let (at, shown) = (self.line_of(number), self.shown(number));
+        write!(
+            text,
+            "instruction {number}, line {at} of the printed text: {shown}\n"
+        )
+    }
+
+    fn registers(&self) -> &Registers {
+        self.replay.registers()
+    }
+
+    fn add_instruction(
+        &self,
+        text: &mut String,
+        instruction: Instruction,
+        reason: u8,
+    ) -> Result<(), AllocError> {
+        for register in used(instruction).into_iter().flatten() {
+            self.add_known(text, register)?;
+        }
+        if reason == Reason::WrongOperand.number() {
+            return self.add_demand(text, instruction);
+        }
+        if reason == Reason::OwnerLost.number() {
+            return self.add_lost(text, instruction);
+        }
+        Ok(())
+    }
+
+    /// Adds what is known of a register, and where nothing is, what it held before.
+    fn add_known(&self, text: &mut String, register: u8) -> Result<(), AllocError> {
+        let holds = self.registers().get(register);
+        let known = self.names.present(holds);
+        write!(text, "r{register} {known}\n")?;
+        match self.replay.change(register) {
+            Some(change) if holds == RegisterType::Undefined => {
+                self.add_ended(text, register, change)
+            }
+            Some(_) | None => Ok(()),
+        }
+    }
+
+    fn add_ended(&self, text: &mut String, register: u8, change: Change) -> Result<(), AllocError> {
+        let Change { held, by } = change;
+        let (past, at, shown) = (self.names.past(held), self.line_of(by), self.shown(by));
+        write!(text, "r{register} {past}, until {shown} in line {at}")?;
+        self.add_again(text, held)?;
+        text.push('\n')
+    }
+
+    fn add_demand(&self, text: &mut String, instruction: Instruction) -> Result<(), AllocError> {
+        let demand = Demand::unmet(&self.names, self.registers(), instruction);
+        let register = demand.register;
+        write!(text, "r{register} should {demand}\n")
+    }
+
+    /// Adds the object that the register owns which would change.
+    fn add_lost(&self, text: &mut String, instruction: Instruction) -> Result<(), AllocError> {
+        let register = match instruction.operation.row().gives {
+            Gives::Forgotten => return Ok(()),
+            Gives::Nothing
+            | Gives::Int
+            | Gives::Copy
+            | Gives::Named
+            | Gives::Unique
+            | Gives::Owner
+            | Gives::Owned
+            | Gives::Content
+            | Gives::Part => instruction.a,
+        };
+        let owned = self.names.present(self.registers().get(register));
+        write!(text, "r{register} {owned}, and would be overwritten\n")
+    }
+
+    /// Adds the registers that an `END` finds wrong.
+    fn add_end(&self, text: &mut String) -> Result<(), AllocError> {
+        for register in 0..REGISTERS {
+            match self.replay.innermost() {
+                Some(Part::Body(before)) => self.add_kept(text, register, before.get(register))?,
+                Some(Part::Else(success)) => {
+                    self.add_joined(text, register, success.get(register))?;
+                }
+                Some(Part::Success) | None => {}
+            }
+        }
+        Ok(())
+    }
+
+    /// Adds a register that a loop's body may not leave as it does.
+    fn add_kept(
+        &self,
+        text: &mut String,
+        register: u8,
+        before: RegisterType,
+    ) -> Result<(), AllocError> {
+        let after = self.registers().get(register);
+        if before.keeps(after).is_ok() {
+            return Ok(());
+        }
+        let (past, present) = (self.names.past(before), self.names.present(after));
+        write!(
+            text,
+            "r{register} {past} in front of the loop, and {present} at its end"
+        )?;
+        if let Some(Change { held: _, by }) = self.replay.change(register) {
+            let (at, shown) = (self.line_of(by), self.shown(by));
+            write!(text, ", since {shown} in line {at}")?;
+        }
+        text.push('\n')
+    }
+
+    /// Adds a register that owns an object at the end of one part of two.
+    fn add_joined(
+        &self,
+        text: &mut String,
+        register: u8,
+        success: RegisterType,
+    ) -> Result<(), AllocError> {
+        let otherwise = self.registers().get(register);
+        if success.joined(otherwise).is_ok() {
+            return Ok(());
+        }
+        let (first, second) = (self.names.present(success), self.names.present(otherwise));
+        write!(
+            text,
+            "r{register} {first} at the end of the success part, and {second} at that of the else part\n"
+        )
+    }
+
+    /// Adds how a reference that ended comes again.
+    fn add_again(&self, text: &mut String, held: RegisterType) -> Result<(), AllocError> {
+        match held {
+            RegisterType::Reference(Class::Name(_), _) => text.push_str(": FIND the object again"),
+            RegisterType::Reference(Class::Unique(_), _) => {
+                text.push_str(": UFIND the object again")
+            }
+            RegisterType::Reference(Class::Register(owner), _)
+                if self.registers().get(owner).is_owner() => {
+                write!(text, ": REF r{owner} again")
+            }
+            RegisterType::Reference(Class::Register(_), _)
+            | RegisterType::Undefined
+            | RegisterType::Int
+            | RegisterType::Owner(_) => Ok(()),
+        }
+    }
+}

@@ -1,0 +1,103 @@
+use client_code::{Client, REGISTERS, Role};
+use client_verify::{RegisterType, Registers, Verifier};
+use std::alloc::{AllocError, Global};
+
+/// What a register held before it changed last, and the number of the instruction that changed it.
+#[derive(Debug, Clone, Copy, PartialEq, Eq)]
+pub(crate) struct Change {
+    pub(crate) held: RegisterType,
+    pub(crate) by: u32,
+}
+
+/// A part of the code that is open, and what its end is compared with.
+#[derive(Debug, Clone, Copy)]
+pub(crate) enum Part {
+    Success,
+    /// What was known at the end of the success part.
+    Else(Registers),
+    /// What was known in front of the loop.
+    Body(Registers),
+}
+
+/// What the verifier knows at a place of a client's code, and how each register came to hold what it does.
+#[derive(Drop)]
+pub(crate) struct Replay {
+    registers: Registers,
+    steps: u64,
+    changes: [Option<Change>; REGISTERS as usize],
+    parts: Vec<Part>,
+}
+
+impl Replay {
+    /// In front of the instruction with a number, or of one before it that is refused.
+    pub(crate) fn until(alloc: Global, client: &Client, end: u32) -> Result<Replay, AllocError> {
+        let types = client.types();
+        let mut verifier = Verifier::new(&types);
+        let mut replay = Replay {
+            registers: Registers::new(),
+            steps: 0,
+            changes: [None; REGISTERS as usize],
+            parts: Vec::new(alloc),
+        };
+        for number in 0..end {
+            let Some(instruction) = client.instruction(number) else {
+                break;
+            };
+            if verifier.pass(instruction).is_err() {
+                break;
+            }
+            replay.nest(instruction.operation.row().role)?;
+            replay.know(number, verifier.registers());
+        }
+        replay.steps = verifier.steps();
+        Ok(replay)
+    }
+
+    /// What is known of the registers.
+    pub(crate) fn registers(&self) -> &Registers {
+        &self.registers
+    }
+
+    /// The most steps of the code so far.
+    pub(crate) fn steps(&self) -> u64 {
+        self.steps
+    }
+
+    /// The last change of a register, if it ever changed.
+    pub(crate) fn change(&self, register: u8) -> Option<Change> {
+        *self.changes.get(usize::from(register))?
+    }
+
+    /// The part that an `END` would end.
+    pub(crate) fn innermost(&self) -> Option<Part> {
+        self.parts.last().copied()
+    }
+
+    /// Opens and ends the parts that an instruction of a role does.
+    fn nest(&mut self, role: Role) -> Result<(), AllocError> {
+        match role {
+            Role::Plain => {}
+            Role::Opener => self.parts.push(Part::Success)?,
+            Role::Loop => self.parts.push(Part::Body(self.registers))?,
+            Role::Else => {
+                self.parts.pop();
+                self.parts.push(Part::Else(self.registers))?;
+            }
+            Role::End => {
+                self.parts.pop();
+            }
+        }
+        Ok(())
+    }
+
+    /// Makes known what is known after the instruction with a number.
+    fn know(&mut self, number: u32, after: &Registers) {
+        for register in 0..REGISTERS {
+            let held = self.registers.get(register);
+            if held != after.get(register) {
+                self.changes[usize::from(register)] = Some(Change { held, by: number });
+            }
+        }
+        self.registers = *after;
+    }
+}

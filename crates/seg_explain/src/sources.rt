@@ -1,0 +1,44 @@
+use client_code::{Client, parse};
+use seg_layout::{ENTRY, MAX_TYPES, TypeTable};
+use seg_ptr::header;
+
+/// What a refused command worked on, where it was read.
+#[derive(Debug, Clone, Copy)]
+pub struct Sources<'a> {
+    /// The image's bytes.
+    pub image: Option<&'a [u8]>,
+    /// The files of the clients, in the order in which they run.
+    pub clients: &'a [&'a [u8]],
+    /// The assembler text of a client.
+    pub text: Option<&'a [u8]>,
+}
+
+/// The bytes of an image's type table, as far as it has them.
+pub(crate) fn type_bytes(image: &[u8]) -> &[u8] {
+    let from = header::TYPES.min(image.len());
+    let to = (header::TYPES + ENTRY * MAX_TYPES).min(image.len());
+    &image[from..to]
+}
+
+impl<'a> Sources<'a> {
+    /// The file of a client, of the first where none is named.
+    pub(crate) fn file(&self, client: Option<usize>) -> Option<&'a [u8]> {
+        self.clients.get(client.unwrap_or(0)).copied()
+    }
+
+    /// The client with the fault, where its file has none.
+    pub(crate) fn client(&self, client: Option<usize>) -> Option<Client<'a>> {
+        parse(self.file(client)?).ok()
+    }
+
+    /// The types that a client finds: the image's, and those of the clients before it.
+    pub(crate) fn types_before(&self, client: Option<usize>) -> Option<TypeTable> {
+        let mut types = TypeTable::read(type_bytes(self.image?)).ok()?;
+        for file in self.clients.iter().take(client.unwrap_or(0)) {
+            if let Ok(client) = parse(file) {
+                types = types.extends(&client.types()).ok()?;
+            }
+        }
+        Some(types)
+    }
+}

@@ -1,0 +1,5 @@
+//! Tests of the words for refusals.
+#![tactic(auto)]
+
+#[cfg(test)]
+mod tests;

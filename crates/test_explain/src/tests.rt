@@ -1,0 +1,5 @@
+mod files;
+mod images;
+mod rejections;
+mod sources;
+mod texts;
