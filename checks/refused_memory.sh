@@ -62,6 +62,7 @@ try show counter.image
 try show counter.image x --all
 try map counter.image
 try map counter.image --svg heap.svg
+try trace counter.image increment.client
 try grow counter.image 64
 try shrink table.image
 try asm increment.text assembled.client

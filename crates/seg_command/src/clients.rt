@@ -2,11 +2,13 @@
 
 ghost use Rattle.std.specs.Prelude.{◌≡◌, false};
 
-use crate::failure::Failure;
+use crate::failure::{Failure, STANDARD_OUTPUT};
+use crate::made::opened;
 use crate::program::print;
-use client_vm::Sink;
-use seg_bytes::{assembled, printed, steps};
+use client_trace::{Untraced, trace};
+use lezgauri::{Fault, Image, Sink, assemble, parse};
 use seg_files::{Files, read_file, read_image, write_file};
+use seg_words::Trace;
 use std::alloc::Global;
 
 /// `verify FILE CLIENT`: prints the steps that the client takes at most on the image.
@@ -21,8 +23,36 @@ pub fn verify_file<'a, F: Files, O: Sink>(
 {
     let image = read_image(alloc, files, image)?;
     let client = read_file(alloc, files, client)?;
-    let line = steps(alloc, image, client.as_slice())?;
-    print(out, line.as_bytes())
+    let bound = opened(alloc, image)?.verify(client.as_slice())?.bound();
+    print(out, format!(in alloc; "steps {bound}\n")?.as_bytes())
+}
+
+/// `trace IMAGE CLIENT [--input FILE]`: prints each step of the client on the image with what the registers hold.
+pub fn trace_file<'a, F: Files, O: Sink>(
+    alloc: Global,
+    traced: &Trace<'a>,
+    files: &mut F,
+    out: &mut O,
+) -> Result<(), Failure<'a>>
+    requires works { O.has_failed out.old ≡ false }
+{
+    let image = read_image(alloc, files, traced.image)?;
+    let client = read_file(alloc, files, traced.client)?;
+    let input = match traced.input {
+        Some(name) => read_file(alloc, files, name)?,
+        None => Vec::new(alloc),
+    };
+    let mut image = opened(alloc, image)?;
+    let client = image.verify(client.as_slice())?;
+    let ended = match &mut image {
+        Image::Seq(segment) => trace(alloc, segment, &client, input.as_slice(), out),
+        Image::Best(segment) => trace(alloc, segment, &client, input.as_slice(), out),
+    };
+    match ended {
+        Ok(()) => Ok(()),
+        Err(Untraced::Memory) => Err(Failure::from(Fault::Memory)),
+        Err(Untraced::OutputFailed) => Err(Failure::File(STANDARD_OUTPUT)),
+    }
 }
 
 /// `asm TEXT OUT`: writes the client that a text spells.
@@ -33,7 +63,7 @@ pub fn assemble_file<'a, F: Files>(
     files: &mut F,
 ) -> Result<(), Failure<'a>> {
     let text = read_file(alloc, files, text)?;
-    let assembled = assembled(alloc, text.as_slice())?;
+    let assembled = assemble(alloc, text.as_slice())?;
     Ok(write_file(files, client, assembled.as_slice())?)
 }
 
@@ -47,6 +77,6 @@ pub fn print_file<'a, F: Files, O: Sink>(
     requires works { O.has_failed out.old ≡ false }
 {
     let client = read_file(alloc, files, client)?;
-    let text = printed(alloc, client.as_slice())?;
+    let text = lezgauri::print(alloc, &parse(client.as_slice())?)?;
     print(out, text.as_slice())
 }

@@ -1,9 +1,8 @@
-use client_vm::Refused;
-use seg_bytes::Unmade;
+use crate::made::Unmade;
+use lezgauri::{Fault, Refused};
 use seg_files::FileFailure;
-use seg_raw::Fault;
 use seg_words::Misread;
-use std::alloc::AllocError;
+use std::alloc::{AllocError, Global};
 
 /// Why a command failed.
 #[derive(Drop)]
@@ -28,6 +27,16 @@ impl Failure<'_> {
             Failure::Refused(_) | Failure::Absent(_) => 1,
             Failure::Words(_) => 2,
             Failure::File(_) => 3,
+        }
+    }
+
+    /// What is written on the error output: one line, or for a wrong command line what it should be.
+    pub fn line(&self, alloc: Global) -> Result<String, AllocError> {
+        match self {
+            Failure::Words(text) => format!(in alloc; "{text}"),
+            Failure::Absent(name) => format!(in alloc; "absent {name}\n"),
+            Failure::Refused(refused) => format!(in alloc; "{refused}\n"),
+            Failure::File(name) => format!(in alloc; "file {name}\n"),
         }
     }
 }

@@ -3,9 +3,9 @@
 ghost use Rattle.std.specs.Prelude.{◌≡◌, false};
 
 use crate::failure::Failure;
+use crate::made::{Made, made_of, new_image};
 use crate::program::print;
-use client_vm::Sink;
-use seg_bytes::{Made, made_of, new_image};
+use lezgauri::Sink;
 use seg_files::{Files, read_image, write_file};
 use seg_words::{ImageTask, NewImage};
 use std::alloc::Global;

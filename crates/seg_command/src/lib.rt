@@ -2,9 +2,13 @@
 #![tactic(auto)]
 
 mod clients;
+mod explaining;
 mod failure;
 mod images;
+mod listing;
+mod made;
 mod program;
 mod run;
 
+pub use lezgauri::{Sink, Through, write_all};
 pub use program::command;

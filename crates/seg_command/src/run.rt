@@ -1,7 +1,7 @@
 ghost use Rattle.std.specs.Prelude.{◌≡◌, false};
 
 use crate::failure::{Failure, STANDARD_OUTPUT};
-use client_vm::{Ended, Outcome, Refused, Schedule, Sink, run_image};
+use lezgauri::{Ended, Outcome, Refused, Schedule, Sink, run_image};
 use seg_files::{Files, read_file, read_files, read_image, write_file};
 use seg_words::Run;
 use std::alloc::Global;

@@ -2,11 +2,13 @@ use clap::builder::{ValueParser, ValueRange};
 use clap::{Arg, ArgAction, Command, value_parser};
 use std::alloc::{AllocError, Global};
 
-/// A command with its arguments, in the order in which they come.
+/// A command with its arguments, in the order in which they come. Each takes those of [`SHARED`] too.
 struct Line {
     name: &'static str,
     about: &'static str,
     arguments: &'static [Argument],
+    /// What help shows last.
+    examples: &'static str,
 }
 
 /// An argument: what it is read back by, which is also what help calls it, what it takes, and what help says of it.
@@ -32,6 +34,13 @@ enum Takes {
     Number,
 }
 
+/// What each command takes beside its own arguments.
+const SHARED: &[Argument] = &[Argument {
+    id: "explain",
+    takes: Takes::Flag,
+    help: "After a fault, say in words what it is, where, and what would be right",
+}];
+
 const IMAGE: Argument = Argument {
     id: "FILE",
     takes: Takes::Word,
@@ -42,6 +51,12 @@ const CLIENT: Argument = Argument {
     id: "CLIENT",
     takes: Takes::Word,
     help: "The client",
+};
+
+const INPUT: Argument = Argument {
+    id: "input",
+    takes: Takes::File,
+    help: "The bytes that the clients read, none if left out",
 };
 
 const NEW: [Argument; 4] = [
@@ -93,12 +108,10 @@ const RUN: [Argument; 6] = [
         takes: Takes::Number,
         help: "The bytes of the host region [default: as many as the segment needs]",
     },
-    Argument {
-        id: "input",
-        takes: Takes::File,
-        help: "The bytes that the clients read, none if left out",
-    },
+    INPUT,
 ];
+
+const TRACE: [Argument; 3] = [IMAGE, CLIENT, INPUT];
 
 const SHOW: [Argument; 3] = [
     IMAGE,
@@ -151,61 +164,79 @@ const LINES: &[Line] = &[
         name: "new",
         about: "Makes the image of an empty segment",
         arguments: &NEW,
+        examples: "Example:\n  segtool new shop.image 65536 best tree",
     },
     Line {
         name: "check",
         about: "Prints ok where a file is a sound image, else the first fault",
         arguments: &[IMAGE],
+        examples: "Examples:\n  segtool check shop.image\n  segtool check damaged.image --explain",
     },
     Line {
         name: "verify",
         about: "Prints how many steps a client takes at most on an image",
         arguments: &[IMAGE, CLIENT],
+        examples: "Examples:\n  segtool verify shop.image stock.client\n  segtool verify shop.image stock.client --explain",
     },
     Line {
         name: "run",
         about: "Runs clients on an image, prints their output and saves the image",
         arguments: &RUN,
+        examples: "Examples:\n  segtool run shop.image shop.image stock.client\n  segtool run shop.image saved.image stock.client sell.client --input orders.txt",
+    },
+    Line {
+        name: "trace",
+        about: "Runs a client and prints each step with its instruction and what the registers hold; saves nothing",
+        arguments: &TRACE,
+        examples: "Examples:\n  segtool trace shop.image stock.client\n  segtool trace shop.image sell.client --input orders.txt",
     },
     Line {
         name: "stat",
         about: "Prints the bytes of a segment and of its free memory, and how many objects it has",
         arguments: &[IMAGE],
+        examples: "Example:\n  segtool stat shop.image",
     },
     Line {
         name: "list",
         about: "Prints each name with the number of its type and its count, then the types of unique objects",
         arguments: &[IMAGE],
+        examples: "Example:\n  segtool list shop.image",
     },
     Line {
         name: "show",
         about: "Prints the objects of a segment with their values",
         arguments: &SHOW,
+        examples: "Examples:\n  segtool show shop.image\n  segtool show shop.image prices --all",
     },
     Line {
         name: "map",
         about: "Prints the heap of a segment block by block: position, units, use, and the object that it is of",
         arguments: &MAP,
+        examples: "Examples:\n  segtool map shop.image\n  segtool map shop.image --svg heap.svg",
     },
     Line {
         name: "grow",
         about: "Adds free memory to a segment's end, rewrites the file and prints the new size",
         arguments: &GROW,
+        examples: "Example:\n  segtool grow shop.image 4096",
     },
     Line {
         name: "shrink",
         about: "Cuts the free memory at a segment's end, rewrites the file and prints the new size",
         arguments: &[IMAGE],
+        examples: "Example:\n  segtool shrink shop.image",
     },
     Line {
         name: "asm",
         about: "Assembles the text of a client",
         arguments: &ASSEMBLE,
+        examples: "Example:\n  segtool asm stock.text stock.client",
     },
     Line {
         name: "print",
         about: "Prints the text of a client",
         arguments: &[CLIENT],
+        examples: "Example:\n  segtool print stock.client",
     },
 ];
 
@@ -222,8 +253,10 @@ pub fn command_line<'a>(alloc: Global) -> Result<Command<'a>, AllocError> {
 }
 
 fn command<'a>(alloc: Global, line: &'static Line) -> Result<Command<'a>, AllocError> {
-    let mut command = Command::new(alloc, line.name).about(line.about);
-    for argument in line.arguments {
+    let mut command = Command::new(alloc, line.name)
+        .about(line.about)
+        .after_help(line.examples);
+    for argument in line.arguments.iter().chain(SHARED) {
         command = command.arg(built(alloc, argument))?;
     }
     Ok(command)

@@ -8,4 +8,4 @@ mod request;
 
 pub use misread::Misread;
 pub use reading::read;
-pub use request::{Allocator, ImageTask, Index, NewImage, Request, Run};
+pub use request::{Allocator, Asked, ImageTask, Index, NewImage, Request, Run, Trace};

@@ -1,16 +1,30 @@
 use crate::command_line::command_line;
 use crate::misread::Misread;
-use crate::request::{Allocator, ImageTask, Index, NewImage, Request, Run};
+use crate::request::{Allocator, Asked, ImageTask, Index, NewImage, Request, Run, Trace};
 use clap::ArgMatches;
 use std::alloc::{AllocError, Global};
 use std::convert::AsStr;
 
 /// What the words ask for, the program's name first.
-pub fn read<'a, S: AsStr>(alloc: Global, words: &'a [S]) -> Result<Request<'a>, Misread> {
+pub fn read<'a, S: AsStr>(alloc: Global, words: &'a [S]) -> Result<Asked<'a>, Misread> {
     match command_line(alloc)?.try_get_matches_from(words) {
-        Ok(matches) => Ok(request_of(alloc, &matches)?),
-        Err(error) if !error.use_stderr() => Ok(Request::Help(error.to_string(alloc)?)),
+        Ok(matches) => Ok(Asked {
+            request: request_of(alloc, &matches)?,
+            explained: is_explained(&matches),
+        }),
+        Err(error) if !error.use_stderr() => Ok(Asked {
+            request: Request::Help(error.to_string(alloc)?),
+            explained: false,
+        }),
         Err(error) => Err(Misread::of(alloc, &error)),
+    }
+}
+
+/// Whether a fault of the command is to be told in words.
+fn is_explained(matches: &ArgMatches) -> bool {
+    match matches.subcommand() {
+        Some((_, arguments)) => arguments.get_flag("explain"),
+        None => false,
     }
 }
 
@@ -59,6 +73,11 @@ fn client_request<'a>(alloc: Global, command: &str, arguments: &ArgMatches<'a>) 
             image: word(arguments, "FILE"),
             client: word(arguments, "CLIENT"),
         },
+        "trace" => Request::Trace(Trace {
+            image: word(arguments, "FILE"),
+            client: word(arguments, "CLIENT"),
+            input: arguments.get_str("input"),
+        }),
         "asm" => Request::Assemble {
             text: word(arguments, "TEXT"),
             client: word(arguments, "OUT"),

@@ -1,4 +1,12 @@
-/// What the words of a command line ask for. Files are named as the words name them.
+/// What the words of a command line ask for.
+#[derive(Drop)]
+pub struct Asked<'a> {
+    pub request: Request<'a>,
+    /// Whether a fault is to be told in words too.
+    pub explained: bool,
+}
+
+/// What a command does. Files are named as the words name them.
 #[derive(Drop)]
 pub enum Request<'a> {
     New(NewImage<'a>),
@@ -6,6 +14,7 @@ pub enum Request<'a> {
     Image { file: &'a str, task: ImageTask<'a> },
     Verify { image: &'a str, client: &'a str },
     Run(Run<'a>),
+    Trace(Trace<'a>),
     Assemble { text: &'a str, client: &'a str },
     Print { client: &'a str },
     /// A text for the standard output.
@@ -61,4 +70,12 @@ pub struct Run<'a> {
     pub input: Option<&'a str>,
     pub base: u32,
     pub room: Option<u32>,
+}
+
+/// A client to be run on an image step by step. Nothing is saved.
+#[derive(Debug, Clone, Copy)]
+pub struct Trace<'a> {
+    pub image: &'a str,
+    pub client: &'a str,
+    pub input: Option<&'a str>,
 }

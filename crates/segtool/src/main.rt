@@ -4,8 +4,7 @@
 
 ghost use Rattle.std.specs.Prelude.{◌≡◌, false};
 
-use client_vm::{Sink, Through, write_all};
-use seg_command::command;
+use seg_command::{Sink, Through, command, write_all};
 use seg_files::HostFiles;
 use std::process::ExitCode;
 use std::rt::Env;

@@ -1,4 +1,5 @@
 mod clients;
+mod explained;
 mod faults;
 mod files;
 mod language;

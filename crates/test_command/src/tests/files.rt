@@ -2,6 +2,7 @@ use client_vm::Through;
 use seg_command::command;
 use seg_files::{FileFault, Files};
 use std::alloc::{AllocError, Global};
+use std::process::Abort;
 use support_data::Limited;
 
 /// Files in memory. The read and the write with these numbers, counted from 1, fail.
@@ -71,6 +72,13 @@ pub struct Printed {
     pub status: u8,
     pub out: Vec<u8>,
     pub err: Vec<u8>,
+}
+
+/// This is what a command printed, and its status.
+pub fn is(rt: &impl Abort, printed: &Printed, status: u8, out: &str, err: &str) {
+    assert_eq!(rt; printed.out.as_slice(), out.as_bytes());
+    assert_eq!(rt; printed.err.as_slice(), err.as_bytes());
+    assert_eq!(rt; printed.status, status);
 }
 
 /// Runs the program on these words.

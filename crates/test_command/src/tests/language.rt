@@ -1,14 +1,8 @@
 use crate::tests::clients::client;
-use crate::tests::files::{Printed, Stored, run};
+use crate::tests::files::{Stored, is, run};
 use std::process::Abort;
 use std::test::Fail;
 use support_data::{INCREMENT, INCREMENT_FILE, counter};
-
-fn is(rt: &impl Abort, printed: &Printed, status: u8, out: &str, err: &str) {
-    assert_eq!(rt; printed.out.as_slice(), out.as_bytes());
-    assert_eq!(rt; printed.err.as_slice(), err.as_bytes());
-    assert_eq!(rt; printed.status, status);
-}
 
 #[test]
 fn assembles_and_prints(rt: HostRuntime) -> Result<(), Fail> {

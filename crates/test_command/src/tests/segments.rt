@@ -1,15 +1,9 @@
 use crate::tests::clients::client;
-use crate::tests::files::{Printed, Stored, run, run_into};
+use crate::tests::files::{Stored, is, run, run_into};
 use std::alloc::Global;
 use std::process::Abort;
 use std::test::Fail;
 use support_data::{Limited, counter};
-
-fn is(rt: &impl Abort, printed: &Printed, status: u8, out: &str, err: &str) {
-    assert_eq!(rt; printed.out.as_slice(), out.as_bytes());
-    assert_eq!(rt; printed.err.as_slice(), err.as_bytes());
-    assert_eq!(rt; printed.status, status);
-}
 
 /// Runs the program, which must print this.
 fn says(rt: &(impl Abort + AllocGlobal), files: &mut Stored, words: &[&str], out: &str) {

@@ -1,15 +1,8 @@
 use crate::tests::clients::client;
-use crate::tests::files::{Printed, Stored, run};
+use crate::tests::files::{Stored, is, run};
 use std::alloc::Global;
-use std::process::Abort;
 use std::test::Fail;
 use support_data::counter;
-
-fn is(rt: &impl Abort, printed: &Printed, status: u8, out: &str, err: &str) {
-    assert_eq!(rt; printed.out.as_slice(), out.as_bytes());
-    assert_eq!(rt; printed.err.as_slice(), err.as_bytes());
-    assert_eq!(rt; printed.status, status);
-}
 
 /// Makes an object with a value of each type, three numbers, and a unique object.
 const EVERY_TYPE: &str = "type i64

@@ -1,0 +1,129 @@
+ghost use Rattle.std.specs.Prelude.{◌≡◌, false};
+
+use crate::failure::{Failure, STANDARD_OUTPUT};
+use lezgauri::{Sink, write_all};
+use seg_explain::{Sources, explain};
+use seg_files::{Files, read_file, read_files, read_image};
+use seg_words::Request;
+use std::alloc::{AllocError, Global};
+
+/// Writes in words why a command failed. The files that it worked on are read again for that; one that can't be read any more
+/// is left out of the words.
+pub fn explain_failure<'a, F: Files, E: Sink>(
+    alloc: Global,
+    request: &Request<'a>,
+    failure: &Failure,
+    files: &mut F,
+    err: &mut E,
+) -> Result<(), AllocError>
+    requires works { E.has_failed err.old ≡ false }
+{
+    let words = match failure {
+        Failure::Refused(refused) => {
+            let read = Read::again(alloc, request, files)?;
+            let clients: Vec<&[u8]> = read
+                .clients
+                .iter()
+                .map(|client| client.as_slice())
+                .collect(alloc)?;
+            let sources = Sources {
+                image: read.image.as_deref(),
+                clients: clients.as_slice(),
+                text: read.text.as_deref(),
+            };
+            // of one client alone it needn't be said which
+            let client = refused.client.filter(|_| clients.len() > 1);
+            explain(alloc, refused.fault, client, &sources)?
+        }
+        Failure::Absent(name) => absent(alloc, name)?,
+        Failure::File(name) => unusable(alloc, name)?,
+        // the line has the words already
+        Failure::Words(_) => return Ok(()),
+    };
+    // an error output that fails changes nothing
+    let _ = write_all(err, words.as_slice());
+    Ok(())
+}
+
+/// What a command worked on, where it can be read again.
+#[derive(Drop)]
+struct Read {
+    image: Option<Vec<u8>>,
+    clients: Vec<Vec<u8>>,
+    text: Option<Vec<u8>>,
+}
+
+impl Read {
+    fn again<F: Files>(
+        alloc: Global,
+        request: &Request,
+        files: &mut F,
+    ) -> Result<Read, AllocError> {
+        let image = match image_of(request) {
+            Some(name) => read_image(alloc, files, name).ok(),
+            None => None,
+        };
+        let text = match request {
+            Request::Assemble { text, .. } => read_file(alloc, files, text).ok(),
+            Request::New(_)
+            | Request::Image { .. }
+            | Request::Verify { .. }
+            | Request::Run(_)
+            | Request::Trace(_)
+            | Request::Print { .. }
+            | Request::Help(_) => None,
+        };
+        let clients = clients_of(alloc, request)?;
+        let clients = read_files(alloc, files, clients.as_slice());
+        Ok(Read {
+            image,
+            clients: clients.unwrap_or(Vec::new(alloc)),
+            text,
+        })
+    }
+}
+
+/// The file of the image that a command works on.
+fn image_of<'a>(request: &Request<'a>) -> Option<&'a str> {
+    match request {
+        Request::Image { file, .. } => Some(file),
+        Request::Verify { image, .. } => Some(image),
+        Request::Run(run) => Some(run.image),
+        Request::Trace(trace) => Some(trace.image),
+        Request::New(_) | Request::Assemble { .. } | Request::Print { .. } | Request::Help(_) => {
+            None
+        }
+    }
+}
+
+/// The files of the clients that a command works on.
+fn clients_of<'a>(alloc: Global, request: &Request<'a>) -> Result<Vec<&'a str>, AllocError> {
+    match request {
+        Request::Verify { client, .. } | Request::Print { client } => {
+            Vec::from_slice(alloc, &[*client])
+        }
+        Request::Trace(trace) => Vec::from_slice(alloc, &[trace.client]),
+        Request::Run(run) => Vec::from_slice(alloc, run.clients.as_slice()),
+        Request::New(_) | Request::Image { .. } | Request::Assemble { .. } | Request::Help(_) => Ok(
+            Vec::new(alloc),
+        ),
+    }
+}
+
+fn absent(alloc: Global, name: &str) -> Result<Vec<u8>, AllocError> {
+    let words = format!(in alloc;
+        "no object of the image has the name `{name}`; `segtool list` prints those that it has\n"
+    )?;
+    Ok(words.into_bytes())
+}
+
+fn unusable(alloc: Global, name: &str) -> Result<Vec<u8>, AllocError> {
+    if name == STANDARD_OUTPUT {
+        return Vec::from_slice(alloc, b"the output couldn't be written\n");
+    }
+    let words = format!(in alloc;
+        "the file `{name}` couldn't be read or written, or it is too long: an image may have 2^30 bytes, another \
+         file 2^20\n"
+    )?;
+    Ok(words.into_bytes())
+}
