@@ -81,10 +81,15 @@ fn finds_tags_that_the_types_do_not_allow(rt: HostRuntime) -> Result<(), Fail> {
     let list = image.add_unique(1, 2);
     image.cell(list, None, 0);
     image.accepts(&rt, &[])?;
-    image.finds(&rt, &[(712, 3)], Fault::BadPointer(576))?;
-    image.finds(&rt, &[(712, 4)], Fault::BadBlock(704))?;
-    image.finds(&rt, &[(744, 0x104)], Fault::BadPointer(580))?;
-    image.finds(&rt, &[(744, 0x103)], Fault::BadBlock(736))
+    image.finds_each(
+        &rt,
+        &[
+            (&[(712, 3)], Fault::BadPointer(576)),
+            (&[(712, 4)], Fault::BadBlock(704)),
+            (&[(744, 0x104)], Fault::BadPointer(580)),
+            (&[(744, 0x103)], Fault::BadBlock(736)),
+        ],
+    )
 }
 
 #[test]
@@ -154,23 +159,27 @@ fn finds_free_trees_of_other_blocks(rt: HostRuntime) -> Result<(), Fail> {
         image.finds(&rt, &[change], bad)?;
     }
     // larger before smaller
-    image.finds(&rt, &[to(896, 816), to(900, 752)], bad)?;
-    // of one size, the higher one before the lower one
-    image.finds(
+    image.finds_each(
         &rt,
         &[
-            to(24, 752),
-            (760, 0),
-            to(752, 896),
-            to(756, 816),
-            null(896),
-            null(900),
-            (904, 1),
+            (&[to(896, 816), to(900, 752)], bad),
+            // of one size, the higher one before the lower one
+            (
+                &[
+                    to(24, 752),
+                    (760, 0),
+                    to(752, 896),
+                    to(756, 816),
+                    null(896),
+                    null(900),
+                    (904, 1),
+                ],
+                bad,
+            ),
+            // the list of sequential fit is no tree, nor the tree a list
+            (&[(16, 0)], Fault::BadFree(24)),
         ],
-        bad,
     )?;
-    // the list of sequential fit is no tree, nor the tree a list
-    image.finds(&rt, &[(16, 0)], Fault::BadFree(24))?;
     listed(rt.alloc())?.finds(&rt, &[(16, 1)], bad)
 }
 
@@ -179,11 +188,17 @@ fn finds_free_trees_of_other_blocks(rt: HostRuntime) -> Result<(), Fail> {
 fn accepts_a_heap_without_gaps(rt: HostRuntime) -> Result<(), Fail> {
     let mut image = Image::new(rt.alloc(), &[I64])?;
     image.add_unique(0, 2);
-    for word in [0, 1] {
-        image.accepts(&rt, &[(16, word)])?;
-        image.finds(&rt, &[(16, word), to(24, 720)], Fault::BadFree(24))?;
-        image.finds(&rt, &[(16, word), (24, 0)], Fault::BadFree(24))?;
-    }
-    image.finds(&rt, &[(16, 2)], Fault::BadHeader)?;
-    image.finds(&rt, &[(20, 2)], Fault::BadHeader)
+    image.accepts(&rt, &[(16, 0)])?;
+    image.accepts(&rt, &[(16, 1)])?;
+    image.finds_each(
+        &rt,
+        &[
+            (&[(16, 0), to(24, 720)], Fault::BadFree(24)),
+            (&[(16, 0), (24, 0)], Fault::BadFree(24)),
+            (&[(16, 1), to(24, 720)], Fault::BadFree(24)),
+            (&[(16, 1), (24, 0)], Fault::BadFree(24)),
+            (&[(16, 2)], Fault::BadHeader),
+            (&[(20, 2)], Fault::BadHeader),
+        ],
+    )
 }

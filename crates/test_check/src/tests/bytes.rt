@@ -169,13 +169,17 @@ fn reads_the_counter(rt: HostRuntime) -> Result<(), Fail> {
         w.slice(736, 24),
         b"\x03\x00\x00\x80\x02\x00\x00\x00\x05\x00\x00\x00\x01\x00\x00\x00\xe0\xff\xff\xff\x01\x00\x01\x00".as_slice()
     );
-    image.finds(&rt, &[(64, 9)], Fault::BadType(0))?;
-    image.finds(&rt, &[(32, 1), (36, 0)], Fault::Unowned(704))?;
-    // a second entry for the same object
-    image.finds(
+    image.finds_each(
         &rt,
-        &[(36, 2), (760, 0xffff_ffd8), (764, 0x0001_0001)],
-        Fault::DoubleOwner(704),
+        &[
+            (&[(64, 9)], Fault::BadType(0)),
+            (&[(32, 1), (36, 0)], Fault::Unowned(704)),
+            // a second entry for the same object
+            (
+                &[(36, 2), (760, 0xffff_ffd8), (764, 0x0001_0001)],
+                Fault::DoubleOwner(704),
+            ),
+        ],
     )
 }
 

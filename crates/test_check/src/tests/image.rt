@@ -199,6 +199,18 @@ impl Image {
         Ok(())
     }
 
+    /// Each of these is the image's first fault with the changes beside it. They are undone.
+    pub(crate) fn finds_each(
+        &mut self,
+        rt: &(impl Abort + AllocGlobal),
+        cases: &[(&[Change], Fault)],
+    ) -> Result<(), Fail> {
+        for (changes, wanted) in cases {
+            self.finds(rt, changes, *wanted)?;
+        }
+        Ok(())
+    }
+
     fn fault_with(
         &mut self,
         alloc: Global,

@@ -25,16 +25,21 @@ fn claims_the_nodes_of_a_list(rt: HostRuntime) -> Result<(), Fail> {
     image.accepts(&rt, &[])?;
     // the number 7, and another one
     image.accepts(&rt, &[(760, 7), (764, 1 << 31)])?;
-    image.finds(&rt, &[null(720)], Fault::BadPointer(720))?;
-    image.finds(&rt, &[null(752)], Fault::BadPointer(752))?;
-    image.finds(&rt, &[to(752, 720)], Fault::BadPointer(752))?;
-    image.finds(&rt, &[to(784, 817)], Fault::BadPointer(784))?;
-    image.finds(&rt, &[to(784, 752)], Fault::DoubleOwner(736))?;
-    image.finds(&rt, &[to(752, 752)], Fault::DoubleOwner(736))?;
-    // a fourth node is the first again
-    image.finds(&rt, &[(724, 4)], Fault::DoubleOwner(736))?;
-    image.finds(&rt, &[(724, u32::MAX)], Fault::DoubleOwner(736))?;
-    image.finds(&rt, &[null(720), (724, 0)], Fault::Unowned(736))
+    image.finds_each(
+        &rt,
+        &[
+            (&[null(720)], Fault::BadPointer(720)),
+            (&[null(752)], Fault::BadPointer(752)),
+            (&[to(752, 720)], Fault::BadPointer(752)),
+            (&[to(784, 817)], Fault::BadPointer(784)),
+            (&[to(784, 752)], Fault::DoubleOwner(736)),
+            (&[to(752, 752)], Fault::DoubleOwner(736)),
+            // a fourth node is the first again
+            (&[(724, 4)], Fault::DoubleOwner(736)),
+            (&[(724, u32::MAX)], Fault::DoubleOwner(736)),
+            (&[null(720), (724, 0)], Fault::Unowned(736)),
+        ],
+    )
 }
 
 #[test]
@@ -58,13 +63,14 @@ fn finds_what_is_no_ring(rt: HostRuntime) -> Result<(), Fail> {
         image.finds(&rt, &[change], Fault::BadValue(720))?;
     }
     // the claims come first
-    image.finds(&rt, &[null(756), null(784)], Fault::BadPointer(784))?;
-    // a ring that goes on after the nodes that are counted
-    image.finds(&rt, &[(724, 2), to(784, 752)], Fault::BadValue(720))?;
-    image.finds(
+    image.finds_each(
         &rt,
-        &[(724, 2), to(784, 752), to(756, 784)],
-        Fault::Unowned(800),
+        &[
+            (&[null(756), null(784)], Fault::BadPointer(784)),
+            // a ring that goes on after the nodes that are counted
+            (&[(724, 2), to(784, 752)], Fault::BadValue(720)),
+            (&[(724, 2), to(784, 752), to(756, 784)], Fault::Unowned(800)),
+        ],
     )
 }
 

@@ -29,29 +29,33 @@ fn map(alloc: Global) -> Result<Image, Fail> {
 fn claims_the_nodes_of_a_map(rt: HostRuntime) -> Result<(), Fail> {
     let mut image = map(rt.alloc())?;
     image.accepts(&rt, &[])?;
-    image.finds(&rt, &[null(720)], Fault::BadPointer(720))?;
-    image.finds(&rt, &[to(720, 720)], Fault::BadPointer(720))?;
-    image.finds(&rt, &[to(800, 720)], Fault::BadPointer(800))?;
-    image.finds(&rt, &[to(804, 849)], Fault::BadPointer(804))?;
-    image.finds(&rt, &[to(804, 752)], Fault::DoubleOwner(736))?;
-    image.finds(&rt, &[to(848, 800)], Fault::DoubleOwner(784))?;
-    // the left part before the right one, and both before colours, keys and the number of nodes
-    image.finds(&rt, &[to(752, 720), to(804, 720)], Fault::BadPointer(752))?;
-    image.finds(
+    image.finds_each(
         &rt,
         &[
-            to(804, 720),
-            (760, 2),
-            (764, 1),
-            (768, 1),
-            (772, 0),
-            (724, 2),
+            (&[null(720)], Fault::BadPointer(720)),
+            (&[to(720, 720)], Fault::BadPointer(720)),
+            (&[to(800, 720)], Fault::BadPointer(800)),
+            (&[to(804, 849)], Fault::BadPointer(804)),
+            (&[to(804, 752)], Fault::DoubleOwner(736)),
+            (&[to(848, 800)], Fault::DoubleOwner(784)),
+            // the left part before the right one, and both before colours, keys and the number of nodes
+            (&[to(752, 720), to(804, 720)], Fault::BadPointer(752)),
+            (
+                &[
+                    to(804, 720),
+                    (760, 2),
+                    (764, 1),
+                    (768, 1),
+                    (772, 0),
+                    (724, 2),
+                ],
+                Fault::BadPointer(804),
+            ),
+            // a number that the pointer doesn't allow comes before the claims
+            (&[(724, 0), to(720, 720)], Fault::BadValue(720)),
+            (&[null(720), (724, 0)], Fault::Unowned(736)),
         ],
-        Fault::BadPointer(804),
-    )?;
-    // a number that the pointer doesn't allow comes before the claims
-    image.finds(&rt, &[(724, 0), to(720, 720)], Fault::BadValue(720))?;
-    image.finds(&rt, &[null(720), (724, 0)], Fault::Unowned(736))
+    )
 }
 
 #[test]
@@ -77,17 +81,20 @@ fn finds_what_is_no_tree(rt: HostRuntime) -> Result<(), Fail> {
         image.finds(&rt, &[change], Fault::BadValue(720))?;
     }
     // two red nodes, one below the other, with as many black ones on each way
-    image.finds(
+    image.finds_each(
         &rt,
-        &[null(804), to(752, 848), (864, 0xffff_fff6), (868, u32::MAX)],
-        Fault::BadValue(720),
-    )?;
-    image.finds(
-        &rt,
-        &[null(804), to(756, 848), (864, 0xffff_fff8), (868, u32::MAX)],
-        Fault::BadValue(720),
-    )?;
-    image.finds(&rt, &[null(804), (724, 2)], Fault::Unowned(832))
+        &[
+            (
+                &[null(804), to(752, 848), (864, 0xffff_fff6), (868, u32::MAX)],
+                Fault::BadValue(720),
+            ),
+            (
+                &[null(804), to(756, 848), (864, 0xffff_fff8), (868, u32::MAX)],
+                Fault::BadValue(720),
+            ),
+            (&[null(804), (724, 2)], Fault::Unowned(832)),
+        ],
+    )
 }
 
 #[test]
@@ -129,11 +136,16 @@ fn chain(alloc: Global, nodes: u32) -> Result<Image, Fail> {
 fn refuses_a_map_that_is_too_deep_at_once(rt: HostRuntime) -> Result<(), Fail> {
     let last = 752 + 48 * 59;
     let mut image = chain(rt.alloc(), 60)?;
-    image.finds(&rt, &[], Fault::BadValue(720))?;
-    image.finds(&rt, &[to(last, 5)], Fault::BadValue(720))?;
-    image.finds(&rt, &[to(last, 752)], Fault::BadValue(720))?;
-    image.finds(&rt, &[to(last - 48, 5)], Fault::BadPointer(last - 48))?;
-    image.finds(&rt, &[to(last - 48, 752)], Fault::DoubleOwner(736))
+    image.finds_each(
+        &rt,
+        &[
+            (&[], Fault::BadValue(720)),
+            (&[to(last, 5)], Fault::BadValue(720)),
+            (&[to(last, 752)], Fault::BadValue(720)),
+            (&[to(last - 48, 5)], Fault::BadPointer(last - 48)),
+            (&[to(last - 48, 752)], Fault::DoubleOwner(736)),
+        ],
+    )
 }
 
 /// A unique flat map with the keys -5, 0 and 7: its cell is at 720, its entries of 16 bytes are at 752, 768 and 784.

@@ -53,10 +53,15 @@ fn finds_faults_of_the_buffer_of_entries(rt: HostRuntime) -> Result<(), Fail> {
     ] {
         image.finds(&rt, &[change], Fault::BadPointer(32))?;
     }
-    image.finds(&rt, &[to(32, 720), (36, 0)], Fault::BadPointer(32))?;
-    // a fourth entry, of zeros
-    image.finds(&rt, &[(36, 4)], Fault::BadIndex(904))?;
-    image.finds(&rt, &[(36, 2)], Fault::Unowned(768))
+    image.finds_each(
+        &rt,
+        &[
+            (&[to(32, 720), (36, 0)], Fault::BadPointer(32)),
+            // a fourth entry, of zeros
+            (&[(36, 4)], Fault::BadIndex(904)),
+            (&[(36, 2)], Fault::Unowned(768)),
+        ],
+    )
 }
 
 #[test]
@@ -105,21 +110,25 @@ fn finds_faults_of_names(rt: HostRuntime) -> Result<(), Fail> {
     image.accepts(&rt, &[(760, name(b'a', 0x21))])?;
     image.accepts(&rt, &[(760, name(b'a', 0x7e))])?;
     // the first name after the second, and equal to it
-    image.finds(&rt, &[(728, name(b'b', 0))], Fault::BadIndex(888))?;
-    image.finds(&rt, &[(892, counts(1, 1))], Fault::BadIndex(888))?;
-    // a prefix after the longer name
-    image.finds(
+    image.finds_each(
         &rt,
         &[
-            to(880, 752),
-            (884, counts(1, 2)),
-            to(888, 720),
-            (892, counts(1, 1)),
+            (&[(728, name(b'b', 0))], Fault::BadIndex(888)),
+            (&[(892, counts(1, 1))], Fault::BadIndex(888)),
+            // a prefix after the longer name
+            (
+                &[
+                    to(880, 752),
+                    (884, counts(1, 2)),
+                    to(888, 720),
+                    (892, counts(1, 1)),
+                ],
+                Fault::BadIndex(888),
+            ),
+            // the third before the second
+            (&[(760, name(b'c', b'c'))], Fault::BadIndex(896)),
         ],
-        Fault::BadIndex(888),
-    )?;
-    // the third before the second
-    image.finds(&rt, &[(760, name(b'c', b'c'))], Fault::BadIndex(896))
+    )
 }
 
 /// The numbers a, b and c at 720, 752 and 784, with a tree of nodes at 816, 864, the root, and 912. Their entries are 16
@@ -160,48 +169,58 @@ fn finds_faults_of_the_tree_of_entries(rt: HostRuntime) -> Result<(), Fail> {
     ] {
         image.finds(&rt, &[change], Fault::BadIndex(32))?;
     }
-    image.finds(&rt, &[null(32)], Fault::BadPointer(32))?;
-    image.finds(&rt, &[to(32, 720)], Fault::BadPointer(32))?;
-    image.finds(&rt, &[null(32), (36, 0)], Fault::Unowned(704))?;
-    image.finds(&rt, &[to(864, 720)], Fault::BadPointer(864))?;
-    image.finds(&rt, &[to(868, 913)], Fault::BadPointer(868))?;
-    image.finds(&rt, &[(20, 0)], Fault::BadPointer(32))
+    image.finds_each(
+        &rt,
+        &[
+            (&[null(32)], Fault::BadPointer(32)),
+            (&[to(32, 720)], Fault::BadPointer(32)),
+            (&[null(32), (36, 0)], Fault::Unowned(704)),
+            (&[to(864, 720)], Fault::BadPointer(864)),
+            (&[to(868, 913)], Fault::BadPointer(868)),
+            (&[(20, 0)], Fault::BadPointer(32)),
+        ],
+    )
 }
 
 #[test]
 fn claims_the_nodes_before_it_looks_at_the_tree(rt: HostRuntime) -> Result<(), Fail> {
     let mut image = tree(rt.alloc())?;
-    image.finds(&rt, &[to(868, 816)], Fault::DoubleOwner(800))?;
-    image.finds(&rt, &[to(864, 864)], Fault::DoubleOwner(848))?;
-    image.finds(&rt, &[to(816, 864)], Fault::DoubleOwner(848))?;
-    // the left part before the right one, and both before colours and the number of names
-    image.finds(
+    image.finds_each(
         &rt,
-        &[to(816, 720), to(868, 720), (36, 2)],
-        Fault::BadPointer(816),
-    )?;
-    image.finds(
-        &rt,
-        &[to(868, 720), (824, 2), (36, 0)],
-        Fault::BadPointer(868),
-    )?;
-    // the tree before its entries
-    image.finds(&rt, &[(828, 1), (836, counts(0, 1))], Fault::BadIndex(32))
+        &[
+            (&[to(868, 816)], Fault::DoubleOwner(800)),
+            (&[to(864, 864)], Fault::DoubleOwner(848)),
+            (&[to(816, 864)], Fault::DoubleOwner(848)),
+            // the left part before the right one, and both before colours and the number of names
+            (
+                &[to(816, 720), to(868, 720), (36, 2)],
+                Fault::BadPointer(816),
+            ),
+            (&[to(868, 720), (824, 2), (36, 0)], Fault::BadPointer(868)),
+            // the tree before its entries
+            (&[(828, 1), (836, counts(0, 1))], Fault::BadIndex(32)),
+        ],
+    )
 }
 
 #[test]
 fn reads_the_entries_of_a_tree_in_order(rt: HostRuntime) -> Result<(), Fail> {
     let mut image = tree(rt.alloc())?;
-    image.finds(&rt, &[(836, counts(0, 1)), (884, 0)], Fault::BadIndex(832))?;
-    image.finds(&rt, &[(884, counts(1, 0)), (932, 0)], Fault::BadIndex(880))?;
-    image.finds(&rt, &[(932, counts(1, 1 + 256))], Fault::BadIndex(928))?;
-    image.finds(&rt, &[to(832, 785)], Fault::BadPointer(832))?;
-    // a and c change places: the first one out of order is b
-    image.finds(&rt, &[to(864, 912), to(868, 816)], Fault::BadIndex(880))?;
-    // the object b has two entries
-    image.finds(&rt, &[to(832, 752)], Fault::DoubleOwner(736))?;
-    image.finds(&rt, &[(760, u32::from(b'a'))], Fault::BadIndex(880))?;
-    image.finds(&rt, &[null(868), (36, 2)], Fault::Unowned(768))
+    image.finds_each(
+        &rt,
+        &[
+            (&[(836, counts(0, 1)), (884, 0)], Fault::BadIndex(832)),
+            (&[(884, counts(1, 0)), (932, 0)], Fault::BadIndex(880)),
+            (&[(932, counts(1, 1 + 256))], Fault::BadIndex(928)),
+            (&[to(832, 785)], Fault::BadPointer(832)),
+            // a and c change places: the first one out of order is b
+            (&[to(864, 912), to(868, 816)], Fault::BadIndex(880)),
+            // the object b has two entries
+            (&[to(832, 752)], Fault::DoubleOwner(736)),
+            (&[(760, u32::from(b'a'))], Fault::BadIndex(880)),
+            (&[null(868), (36, 2)], Fault::Unowned(768)),
+        ],
+    )
 }
 
 /// A tree of `nodes` nodes, each to the left of the one before. The first is at 720.
@@ -223,9 +242,14 @@ fn chain(alloc: Global, nodes: u32) -> Result<Image, Fail> {
 fn refuses_a_tree_that_is_too_deep_at_once(rt: HostRuntime) -> Result<(), Fail> {
     let last = 720 + 48 * 59;
     let mut image = chain(rt.alloc(), 60)?;
-    image.finds(&rt, &[], Fault::BadIndex(32))?;
-    image.finds(&rt, &[to(last, 5)], Fault::BadIndex(32))?;
-    image.finds(&rt, &[to(last, 720)], Fault::BadIndex(32))?;
-    image.finds(&rt, &[to(last - 48, 5)], Fault::BadPointer(last - 48))?;
-    image.finds(&rt, &[to(last - 48, 720)], Fault::DoubleOwner(704))
+    image.finds_each(
+        &rt,
+        &[
+            (&[], Fault::BadIndex(32)),
+            (&[to(last, 5)], Fault::BadIndex(32)),
+            (&[to(last, 720)], Fault::BadIndex(32)),
+            (&[to(last - 48, 5)], Fault::BadPointer(last - 48)),
+            (&[to(last - 48, 720)], Fault::DoubleOwner(704)),
+        ],
+    )
 }

@@ -56,11 +56,16 @@ fn takes_blocks_first_in_first_out(rt: HostRuntime) -> Result<(), Fail> {
     }
     assert_eq!(rt; (both, first, second), (720, 752, 784));
     image.accepts(&rt, &[])?;
-    image.finds(&rt, &[null(752), null(784)], Fault::BadPointer(752))?;
-    image.finds(&rt, &[null(752), null(728)], Fault::BadPointer(728))?;
-    image.finds(&rt, &[null(752), null(720)], Fault::BadPointer(720))?;
-    // both strings claim one buffer: the second one is too late
-    image.finds(&rt, &[to(784, 816)], Fault::DoubleOwner(800))
+    image.finds_each(
+        &rt,
+        &[
+            (&[null(752), null(784)], Fault::BadPointer(752)),
+            (&[null(752), null(728)], Fault::BadPointer(728)),
+            (&[null(752), null(720)], Fault::BadPointer(720)),
+            // both strings claim one buffer: the second one is too late
+            (&[to(784, 816)], Fault::DoubleOwner(800)),
+        ],
+    )
 }
 
 /// Unique objects are claimed after all names and before any value.
@@ -71,7 +76,12 @@ fn claims_unique_objects_before_values(rt: HostRuntime) -> Result<(), Fail> {
     let number = image.add_unique(1, 2);
     image.cell(own, None, 0);
     image.accepts(&rt, &[])?;
-    image.finds(&rt, &[to(720, number), (724, 1)], Fault::DoubleOwner(736))?;
-    image.finds(&rt, &[(724, 2), to(580, 720)], Fault::BadPointer(580))?;
-    image.finds(&rt, &[(724, 1), (580, 2)], Fault::BadPointer(580))
+    image.finds_each(
+        &rt,
+        &[
+            (&[to(720, number), (724, 1)], Fault::DoubleOwner(736)),
+            (&[(724, 2), to(580, 720)], Fault::BadPointer(580)),
+            (&[(724, 1), (580, 2)], Fault::BadPointer(580)),
+        ],
+    )
 }

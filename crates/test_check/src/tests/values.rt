@@ -45,19 +45,24 @@ fn finds_faults_of_a_vector(rt: HostRuntime) -> Result<(), Fail> {
     assert_eq!(rt; (cell, items, text), (720, 752, 816));
     image.accepts(&rt, &[])?;
     image.accepts(&rt, &[(724, 1)])?;
-    image.finds(&rt, &[(724, 0)], Fault::Unowned(800))?;
-    image.finds(&rt, &[(724, 7)], Fault::BadPointer(720))?;
-    image.finds(&rt, &[(720, 1)], Fault::BadPointer(720))?;
-    // the third item's pointer names itself
-    image.finds(&rt, &[(724, 3)], Fault::BadPointer(768))?;
-    image.finds(&rt, &[null(752)], Fault::BadPointer(752))?;
-    image.finds(&rt, &[(756, 17)], Fault::BadPointer(752))?;
-    image.finds(&rt, &[(764, 1)], Fault::BadPointer(760))?;
-    image.finds(&rt, &[to(760, 816)], Fault::DoubleOwner(800))?;
-    // the buffer of the vector isn't one of a string
-    image.finds(&rt, &[to(760, 752)], Fault::BadPointer(760))?;
-    // a wrong tag comes before a second owner
-    image.finds(&rt, &[to(760, 720)], Fault::BadPointer(760))
+    image.finds_each(
+        &rt,
+        &[
+            (&[(724, 0)], Fault::Unowned(800)),
+            (&[(724, 7)], Fault::BadPointer(720)),
+            (&[(720, 1)], Fault::BadPointer(720)),
+            // the third item's pointer names itself
+            (&[(724, 3)], Fault::BadPointer(768)),
+            (&[null(752)], Fault::BadPointer(752)),
+            (&[(756, 17)], Fault::BadPointer(752)),
+            (&[(764, 1)], Fault::BadPointer(760)),
+            (&[to(760, 816)], Fault::DoubleOwner(800)),
+            // the buffer of the vector isn't one of a string
+            (&[to(760, 752)], Fault::BadPointer(760)),
+            // a wrong tag comes before a second owner
+            (&[to(760, 720)], Fault::BadPointer(760)),
+        ],
+    )
 }
 
 #[test]
@@ -67,16 +72,21 @@ fn finds_faults_of_an_own(rt: HostRuntime) -> Result<(), Fail> {
     let object = image.add(OBJECT, 1, 2);
     image.cell(cell, Some(object), 1);
     image.accepts(&rt, &[])?;
-    image.finds(&rt, &[(724, 0)], Fault::BadValue(720))?;
-    image.finds(&rt, &[(724, 2)], Fault::BadValue(720))?;
-    image.finds(&rt, &[null(720), (724, 2)], Fault::BadValue(720))?;
-    image.finds(&rt, &[null(720), (724, u32::MAX)], Fault::BadValue(720))?;
-    image.finds(&rt, &[to(720, 5), (724, 2)], Fault::BadValue(720))?;
-    image.finds(&rt, &[null(720)], Fault::BadPointer(720))?;
-    image.finds(&rt, &[to(720, 720)], Fault::BadPointer(720))?;
-    image.finds(&rt, &[null(720), (724, 0)], Fault::Unowned(736))?;
-    // the object is a unique one too
-    image.finds(&rt, &[to(580, 752)], Fault::DoubleOwner(736))
+    image.finds_each(
+        &rt,
+        &[
+            (&[(724, 0)], Fault::BadValue(720)),
+            (&[(724, 2)], Fault::BadValue(720)),
+            (&[null(720), (724, 2)], Fault::BadValue(720)),
+            (&[null(720), (724, u32::MAX)], Fault::BadValue(720)),
+            (&[to(720, 5), (724, 2)], Fault::BadValue(720)),
+            (&[null(720)], Fault::BadPointer(720)),
+            (&[to(720, 720)], Fault::BadPointer(720)),
+            (&[null(720), (724, 0)], Fault::Unowned(736)),
+            // the object is a unique one too
+            (&[to(580, 752)], Fault::DoubleOwner(736)),
+        ],
+    )
 }
 
 /// An own of a type that is an own of the same type: objects in objects.
@@ -92,9 +102,14 @@ fn finds_an_own_in_itself(rt: HostRuntime) -> Result<(), Fail> {
     image.cell(cell, None, 0);
     image.accepts(&rt, &[])?;
     assert_eq!(rt; cell, 816);
-    image.finds(&rt, &[to(816, 816), (820, 1)], Fault::DoubleOwner(800))?;
-    image.finds(&rt, &[to(816, 720), (820, 1)], Fault::DoubleOwner(704))?;
-    image.finds(&rt, &[to(784, 784)], Fault::DoubleOwner(768))
+    image.finds_each(
+        &rt,
+        &[
+            (&[to(816, 816), (820, 1)], Fault::DoubleOwner(800)),
+            (&[to(816, 720), (820, 1)], Fault::DoubleOwner(704)),
+            (&[to(784, 784)], Fault::DoubleOwner(768)),
+        ],
+    )
 }
 
 /// A struct of a number, a string, and a struct with a string. Its cells are at 728 and 736.
@@ -112,9 +127,14 @@ fn finds_faults_in_a_struct(rt: HostRuntime) -> Result<(), Fail> {
     assert_eq!(rt; object, 720);
     image.accepts(&rt, &[])?;
     image.accepts(&rt, &[(720, 1), (724, 9)])?;
-    image.finds(&rt, &[null(728), null(736)], Fault::BadPointer(728))?;
-    image.finds(&rt, &[null(736)], Fault::BadPointer(736))?;
-    image.finds(&rt, &[to(736, 768)], Fault::DoubleOwner(752))
+    image.finds_each(
+        &rt,
+        &[
+            (&[null(728), null(736)], Fault::BadPointer(728)),
+            (&[null(736)], Fault::BadPointer(736)),
+            (&[to(736, 768)], Fault::DoubleOwner(752)),
+        ],
+    )
 }
 
 /// The values of a named object: two strings, and after them its name.
@@ -131,9 +151,14 @@ fn finds_faults_in_each_value_of_an_object(rt: HostRuntime) -> Result<(), Fail> 
         image.cell(at, Some(text), 5);
     }
     image.accepts(&rt, &[])?;
-    image.finds(&rt, &[null(720), null(728)], Fault::BadPointer(720))?;
-    image.finds(&rt, &[(732, 17)], Fault::BadPointer(728))?;
-    image.finds(&rt, &[to(728, 800)], Fault::DoubleOwner(784))
+    image.finds_each(
+        &rt,
+        &[
+            (&[null(720), null(728)], Fault::BadPointer(720)),
+            (&[(732, 17)], Fault::BadPointer(728)),
+            (&[to(728, 800)], Fault::DoubleOwner(784)),
+        ],
+    )
 }
 
 #[test]
@@ -145,21 +170,25 @@ fn finds_faults_of_unique_objects(rt: HostRuntime) -> Result<(), Fail> {
     image.add_unique(2, 3);
     assert_eq!(rt; first, 720);
     image.accepts(&rt, &[])?;
-    image.finds(&rt, &[null(576)], Fault::Unowned(704))?;
-    image.finds(&rt, &[null(580), null(584)], Fault::Unowned(736))?;
-    // the word of the second type names the first object, of the first type
-    image.finds(&rt, &[to(580, 720)], Fault::BadPointer(580))?;
-    image.finds(&rt, &[to(576, 721)], Fault::BadPointer(576))?;
-    image.finds(&rt, &[to(576, 16)], Fault::BadPointer(576))?;
-    image.finds(&rt, &[(712, 1)], Fault::BadPointer(576))?;
-    // the words of types that there are not
-    image.finds(&rt, &[to(588, 720)], Fault::BadPointer(588))?;
-    image.finds(&rt, &[(700, 0)], Fault::BadPointer(700))?;
-    // 16 bytes for a value of 24
-    image.finds(&rt, &[(744, 0x202), to(584, 752)], Fault::BadPointer(580))?;
-    image.finds(
+    image.finds_each(
         &rt,
-        &[(744, 0x202), null(580), to(584, 752)],
-        Fault::BadPointer(584),
+        &[
+            (&[null(576)], Fault::Unowned(704)),
+            (&[null(580), null(584)], Fault::Unowned(736)),
+            // the word of the second type names the first object, of the first type
+            (&[to(580, 720)], Fault::BadPointer(580)),
+            (&[to(576, 721)], Fault::BadPointer(576)),
+            (&[to(576, 16)], Fault::BadPointer(576)),
+            (&[(712, 1)], Fault::BadPointer(576)),
+            // the words of types that there are not
+            (&[to(588, 720)], Fault::BadPointer(588)),
+            (&[(700, 0)], Fault::BadPointer(700)),
+            // 16 bytes for a value of 24
+            (&[(744, 0x202), to(584, 752)], Fault::BadPointer(580)),
+            (
+                &[(744, 0x202), null(580), to(584, 752)],
+                Fault::BadPointer(584),
+            ),
+        ],
     )
 }
