@@ -79,7 +79,7 @@ impl Lines {
         printed.add_to(&mut self.text)
     }
 
-    /// Adds spaces behind an instruction, as many as the longest one leaves.
+    /// Adds spaces after an instruction, as many as the longest one leaves.
     fn add_gap(&mut self, instruction: u16) -> Result<(), AllocError> {
         let len = self.listing.line(instruction).len();
         for _ in len..self.listing.width() {

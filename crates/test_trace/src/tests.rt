@@ -105,7 +105,7 @@ ELSE
 END
 ";
 
-/// What is known in one part of an opener alone isn't known behind it.
+/// What is known in one part of an opener alone isn't known after it.
 const REFERS_TRACE: &str = r"     1    0  CONST r0 0           ; r0 = 0
      2    1  CONST r1 -3          ; r0 = 0, r1 = -3
      3    2  UMAKE r2 t1          ; r0 = 0, r1 = -3, r2 -> unique t1

@@ -106,13 +106,13 @@ impl Image {
         self
     }
 
-    /// Adds a live block for a type, and answers where its payload begins.
+    /// Adds a live block for a type, and returns where its payload begins.
     pub(crate) fn add(&mut self, kind: u32, t: u32, units: u32) -> u32 {
         let tag = kind.wrapping_add(t.wrapping_mul(256));
         self.add_block(units, units.wrapping_add(LIVE), tag)
     }
 
-    /// Adds a free block, and answers where its payload begins.
+    /// Adds a free block, and returns where its payload begins.
     pub(crate) fn add_gap(&mut self, units: u32) -> u32 {
         self.add_block(units, units, 0)
     }

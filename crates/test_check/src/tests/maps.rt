@@ -131,7 +131,7 @@ fn chain(alloc: Global, nodes: u32) -> Result<Image, Fail> {
     Ok(image)
 }
 
-/// The 61st node on a way is answered before it is claimed, the 60th after.
+/// The 61st node on a way is told before it is claimed, the 60th after.
 #[test]
 fn refuses_a_map_that_is_too_deep_at_once(rt: HostRuntime) -> Result<(), Fail> {
     let last = 752 + 48 * 59;

@@ -10,7 +10,7 @@ fn counts(count: u32, name_len: u32) -> u32 {
     count.wrapping_add(name_len.wrapping_mul(1 << 16))
 }
 
-/// Adds a number with a name, in a block of these units, and answers where it is.
+/// Adds a number with a name, in a block of these units, and returns where it is.
 fn add_number(image: &mut Image, name: &[u8], units: u32) -> u32 {
     let object = image.add(NAMED, 0, units);
     image.w.copy_in(object as usize + 8, name);
@@ -237,7 +237,7 @@ fn chain(alloc: Global, nodes: u32) -> Result<Image, Fail> {
     Ok(image)
 }
 
-/// The 61st node on a way is answered before it is claimed, the 60th after.
+/// The 61st node on a way is told before it is claimed, the 60th after.
 #[test]
 fn refuses_a_tree_that_is_too_deep_at_once(rt: HostRuntime) -> Result<(), Fail> {
     let last = 720 + 48 * 59;

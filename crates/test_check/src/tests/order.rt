@@ -1,4 +1,4 @@
-//! Of several faults, the first is answered.
+//! Of several faults, the first is told.
 
 use crate::tests::image::{
     BUFFER, Change, I64, INDEX_BUFFER, Image, NAMED, OBJECT, STR, Spelled, null, own_of, to,

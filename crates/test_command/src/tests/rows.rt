@@ -121,7 +121,7 @@ END
     Ok(())
 }
 
-/// `FIND` answers absent, and out of range for an item that isn't there.
+/// `FIND` gives absent, and out of range for an item that isn't there.
 #[test]
 fn finds_no_other_name_and_no_other_item(rt: HostRuntime) -> Result<(), Fail> {
     let text = "type i64

@@ -20,7 +20,7 @@ family f
 name m
 ";
 
-/// What the verifier answers for a text: the bound, or the fault.
+/// What the verifier says of a text: the bound, or the fault.
 pub fn verdict(alloc: Global, text: &[u8]) -> Result<u64, Fault> {
     let file = assemble(alloc, text)?;
     let client = parse(file.as_slice())?;
