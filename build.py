@@ -10,14 +10,17 @@ import shutil
 import subprocess
 import sys
 import tempfile
-from concurrent.futures import ThreadPoolExecutor
+from concurrent.futures import FIRST_COMPLETED, ThreadPoolExecutor, wait
+from functools import cache
 from pathlib import Path
 
 ROOT = Path(__file__).resolve().parent
 PROGRAM = "segtool"
+PROCESSORS = os.cpu_count() or 1
 
 
-def read_crates():
+@cache
+def crates():
     """The crates of this repository that each of them lists."""
     lists = {}
     for line in (ROOT / "crates.txt").read_text(encoding="utf-8").splitlines():
@@ -27,49 +30,53 @@ def read_crates():
     return {name: [it for it in listed if it in lists] for name, listed in lists.items()}
 
 
-def below(name, lists):
+@cache
+def below(name):
     """What a crate stands on, each after what it stands on itself."""
     found = []
-    for it in lists[name]:
-        found += [other for other in [*below(it, lists), it] if other not in found]
+    for it in crates()[name]:
+        found += [other for other in [*below(it), it] if other not in found]
     return found
 
 
-def height(name, lists):
-    """How many crates stand on each other from this one up to the highest."""
-    return max((1 + height(it, lists) for it, listed in lists.items() if name in listed), default=0)
-
-
-def jobs(name, lists):
-    """The words that say how many jobs a crate's check gets: one for each processor where hardly another crate is built beside it."""
-    program = [*below(PROGRAM, lists), PROGRAM]
-    beside = [it for it in program if it != name and it not in below(name, lists) and name not in below(it, lists)]
-    return ["--jobs", str(os.cpu_count())] if len(beside) <= 3 else []
+@cache
+def behind(name):
+    """The lines of the longest chain of crates that stand on each other from this one up to the program."""
+    parts = [ROOT / "crates" / name / part for part in ("src", "specs", "proofs")]
+    lines = sum(file.read_bytes().count(b"\n") for part in parts for file in part.rglob("*") if file.is_file())
+    above = [it for it in [*below(PROGRAM), PROGRAM] if name in crates()[it]]
+    return lines + max(map(behind, above), default=0)
 
 
 def library(root, name):
     return root / "crates" / name / "out" / "rlib"
 
 
-def bring(library_of, name, to, copy):
+def link(one, other):
+    """Gives a file a second name, or copies it where that can't be. `rt` writes no file of a library anew in its place."""
+    try:
+        os.link(one, other)
+    except OSError:
+        shutil.copy2(one, other)
+
+
+def bring(library_of, name, to):
     """Puts a crate's library, if there is one, in the place of that of another root."""
     if library(library_of, name).is_dir():
         shutil.rmtree(library(to, name), ignore_errors=True)
-        shutil.copytree(library(library_of, name), library(to, name), copy_function=copy)
+        shutil.copytree(library(library_of, name), library(to, name), copy_function=link)
 
 
-def build(name, lists, room):
+def build(name, room, jobs):
     """Builds one library. Returns whether it was built."""
     here = room / name
     shutil.copytree(ROOT / "crates", here / "crates", ignore=shutil.ignore_patterns("out"))
     for file in ["crates.txt", "HANDLES"]:
         shutil.copy2(ROOT / file, here)
-    for it in [*below(name, lists), name]:
-        bring(ROOT, it, here, shutil.copy2)
-    # What most others wait for goes first.
-    less = 2 * (max(height(it, lists) for it in below(PROGRAM, lists)) - height(name, lists))
+    for it in [*below(name), name]:
+        bring(ROOT, it, here)
     ran = subprocess.run(
-        ["nice", "-n", str(min(less, 19)), "rt", "lib", "--statements", *jobs(name, lists)],
+        ["rt", "lib", "--statements", "--jobs", str(jobs)],
         cwd=here / "crates" / name,
         stdout=subprocess.PIPE,
         stderr=subprocess.STDOUT,
@@ -79,31 +86,38 @@ def build(name, lists, room):
     if ran.returncode:
         print(ran.stdout, end="")
     else:
-        bring(here, name, ROOT, shutil.copy2)
+        bring(here, name, ROOT)
     shutil.rmtree(here)
     print(f"{name}: {'failed' if ran.returncode else 'built'}", flush=True)
     return ran.returncode == 0
 
 
-def build_libraries(lists):
-    """Builds what the program stands on. Returns whether all was built."""
-    names = below(PROGRAM, lists)
-    with tempfile.TemporaryDirectory() as room, ThreadPoolExecutor(len(names)) as pool:
-        built = {}
-
-        def in_turn(name):
-            return all(built[it].result() for it in below(name, lists)) and build(name, lists, Path(room))
-
-        for name in names:
-            built[name] = pool.submit(in_turn, name)
-        return all(it.result() for it in built.values())
+def build_libraries():
+    """Builds what the program stands on, as many libraries at a time as there are processors. Returns whether all was built."""
+    left = sorted(below(PROGRAM), key=behind, reverse=True)
+    built, running = set(), {}
+    with tempfile.TemporaryDirectory() as room, ThreadPoolExecutor(PROCESSORS) as pool:
+        while left or running:
+            ready = [it for it in left if built.issuperset(below(it))]
+            for at, name in enumerate(ready):
+                # several processors take more time in all for one library, so it gets only those that no other waits for
+                idle = PROCESSORS - sum(jobs for _, jobs in running.values())
+                if idle == 0:
+                    break
+                jobs = max(1, idle // (len(ready) - at))
+                running[pool.submit(build, name, Path(room), jobs)] = name, jobs
+                left.remove(name)
+            for done in wait(running, return_when=FIRST_COMPLETED).done:
+                built.add(running.pop(done)[0])
+                if not done.result():
+                    return False
+    return True
 
 
 def main():
-    lists = read_crates()
-    if not build_libraries(lists):
+    if not build_libraries():
         return 1
-    words = ["rt", "run", *jobs(PROGRAM, lists), "--", "--help"]
+    words = ["rt", "run", "--jobs", str(PROCESSORS), "--", "--help"]
     return subprocess.run(words, cwd=ROOT / "crates" / PROGRAM, stdout=subprocess.DEVNULL).returncode
 
 

@@ -3,7 +3,7 @@ use crate::listing::Listing;
 use crate::paths::Paths;
 use client_code::{Client, REGISTERS};
 use client_verify::{RegisterType, Registers};
-use client_vm::{Stepped, Stepper};
+use client_run::{Stepped, Stepper};
 use std::alloc::{AllocError, Global};
 use std::fmt::Write;
 

@@ -7,7 +7,7 @@ use crate::paths::Paths;
 use crate::untraced::Untraced;
 use client_code::Client;
 use client_verify::Verified;
-use client_vm::{Sink, Stepper, write_all};
+use client_run::{Sink, Stepper, write_all};
 use seg_block::Fit;
 use seg_manager::Segment;
 use std::alloc::{AllocError, Global};

@@ -6,7 +6,7 @@ use Rattle.std.proofs.lemmas.List.{map-append, length-map, length-take-le, take-
 use Rattle.client_code.specs.Clients.{bytes_of}
 use Rattle.client_verify.specs.Accepted.{client_of}
 use Rattle.client_verify.specs.declared.verified.Verified.{Verified}
-use Rattle.client_vm.specs.declared.report.Report.{Report}
+use Rattle.client_run.specs.declared.report.Report.{Report}
 use Rattle.client_vm.specs.Reports.{texts_of, IsReportOf, AreReportsOf}
 
 -- one report more

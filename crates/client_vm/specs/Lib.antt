@@ -1,14 +1,5 @@
-pub mod Moves
-pub mod Sinks
-pub mod Runs
 pub mod Outcomes
-pub mod Machines
 pub mod Reports
 pub mod Texts
 pub mod Admitted
-pub mod Worlds
-pub mod Named
-pub mod Positions
 pub mod Together
-pub mod Courses
-pub mod Owners

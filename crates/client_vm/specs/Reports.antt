@@ -11,9 +11,9 @@ use Rattle.client_spec.specs.Run.{bound}
 use Rattle.client_code.specs.Clients.{bytes_of}
 use Rattle.client_verify.specs.Accepted.{client_of}
 use Rattle.client_verify.specs.declared.verified.Verified.{Verified}
-use Rattle.client_vm.specs.declared.report.Report.{Report}
-use Rattle.client_vm.specs.declared.report.Ended.{Ended}
-use Rattle.client_vm.specs.Runs.{ending_of}
+use Rattle.client_run.specs.declared.report.Report.{Report}
+use Rattle.client_run.specs.declared.report.Ended.{Ended}
+use Rattle.client_run.specs.Runs.{ending_of}
 use Rattle.client_program.specs.Paths.{IsPath}
 
 abbrev pub texts_of : List Verified → List (List ℕ)

@@ -10,7 +10,7 @@ use Rattle.client_spec.specs.Syntax.{Client}
 use Rattle.client_spec.specs.Grammar.{SpellsClient}
 use Rattle.client_spec.specs.Clients.{AreAccepted, table_after}
 use Rattle.client_verify.specs.Refusals.{IsRefused}
-use Rattle.client_vm.specs.declared.report.Refused.{Refused}
+use Rattle.client_vm.specs.declared.outcome.Refused.{Refused}
 
 abbrev pub IsWrongText : Table → List ℕ → Fault → Type 0
 IsWrongText table text (fault.BadCode at) = (client : Client) → SpellsClient text client → ⊥

@@ -8,7 +8,7 @@ ghost use Rattle.client_verify.specs.Accepted.{client_of};
 ghost use Rattle.client_vm.specs.Reports.{texts_of};
 ghost use Rattle.client_vm.specs.Texts.{IsWrongText, AreWrong};
 
-use crate::report::Refused;
+use crate::outcome::Refused;
 use client_code::parse;
 use client_verify::{Verified, verify};
 use seg_layout::TypeTable;

@@ -7,7 +7,7 @@ ghost use Rattle.client_spec.specs.Clients.{IsVerified};
 ghost use Rattle.client_spec.specs.Run as definitions;
 ghost use Rattle.client_code.specs.Clients.{OfTree, bytes_of};
 ghost use Rattle.client_verify.specs.Accepted.{client_of};
-ghost use Rattle.client_vm.specs.Runs.{MayRun, HasRun};
+ghost use Rattle.client_run.specs.Runs.{MayRun, HasRun};
 ghost use Rattle.client_vm.specs.Texts.{IsWrongText};
 ghost use Rattle.lezgauri.specs.Images.{segment_of, allocator_of};
 

@@ -8,9 +8,9 @@ use Rattle.seg_spec.specs.Types.{Table}
 use Rattle.seg_raw.specs.declared.fault.Fault.{Fault}
 use Rattle.seg_raw.specs.Refusals.{fault_number}
 use Rattle.seg_check.specs.Faults.{IsImageOf, IsFaultOf}
-use Rattle.client_vm.specs.declared.report.Report.{Report}
-use Rattle.client_vm.specs.declared.report.Ended.{Ended}
-use Rattle.client_vm.specs.declared.report.Refused.{Refused}
+use Rattle.client_run.specs.declared.report.Report.{Report}
+use Rattle.client_run.specs.declared.report.Ended.{Ended}
+use Rattle.client_vm.specs.declared.outcome.Refused.{Refused}
 use Rattle.client_vm.specs.Outcomes.{HasOutcome, IsRefusedFor}
 
 abbrev pub Accepts : List ℕ → Type 0

@@ -4,8 +4,8 @@ use Rattle.std.proofs.lemmas.List.{drop_all}
 use Rattle.client_code.specs.Clients.{bytes_of}
 use Rattle.client_verify.specs.Accepted.{client_of}
 use Rattle.client_verify.specs.declared.verified.Verified.{Verified}
-use Rattle.client_vm.specs.declared.report.Report.{Report}
-use Rattle.client_vm.specs.Moves.{moves_of}
+use Rattle.client_run.specs.declared.report.Report.{Report}
+use Rattle.client_run.specs.Moves.{moves_of}
 use Rattle.client_vm.specs.Reports.{texts_of, AreReportsOf}
 use Rattle.client_vm.proofs.ReportLaws.{pushed_there, program_ran, some_ran}
 use Rattle.client_vm.proofs.TogetherLaws.{Midway, begins, next_ran, stops, ends}

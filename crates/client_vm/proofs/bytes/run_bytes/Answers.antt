@@ -1,5 +1,5 @@
 use Rattle.std.proofs.Common.{List, ℕ, map, None}
-use Rattle.client_vm.specs.Moves.{moves_of}
+use Rattle.client_run.specs.Moves.{moves_of}
 use Rattle.client_vm.specs.Outcomes.{IsRefusedFor}
 use Rattle.client_vm.proofs.Refusing.{refused_for, err_is}
 use Rattle.client_vm.proofs.bytes.run_bytes.Goals as goal

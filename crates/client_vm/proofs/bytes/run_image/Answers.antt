@@ -1,6 +1,6 @@
 use Rattle.std.proofs.Common.{List, ℕ, map, length, None, ap, ◌∙◌, subst}
 use Rattle.client_spec.specs.Outcome.{CanMove}
-use Rattle.client_vm.specs.Moves.{moves_of}
+use Rattle.client_run.specs.Moves.{moves_of}
 use Rattle.client_vm.specs.Outcomes.{IsFaultOfCall, IsRefusedFor}
 use Rattle.client_vm.proofs.Refusing.{refused_for, err_is}
 use Rattle.client_vm.proofs.bytes.run_image.Goals as goal

@@ -1,9 +1,9 @@
 use Rattle.std.proofs.Common.{List, ℕ, length, map, sym, ap, ◌∙◌, subst}
 use Rattle.std.specs.Prelude.{IfErr}
 use Rattle.client_vm.specs.Admitted.{IsWrong}
-use Rattle.client_vm.specs.Moves.{moves_of}
+use Rattle.client_run.specs.Moves.{moves_of}
 use Rattle.client_vm.specs.Outcomes.{HasOutcome}
-use Rattle.client_vm.specs.Runs.{ending_of}
+use Rattle.client_run.specs.Runs.{ending_of}
 use Rattle.client_vm.specs.Together.{HaveRunOn}
 use Rattle.client_vm.proofs.TogetherLaws.{if_ok, has_outcome}
 use Rattle.client_vm.proofs.Refusing.{shows, other_allocator}

@@ -6,9 +6,9 @@ use Rattle.client_verify.specs.declared.verified.Verified.{Verified}
 use Rattle.seg_spec.specs.Window.{Placement}
 use Rattle.client_spec.specs.Run.{Ending}
 use Rattle.client_spec.specs.Clients.{AreAccepted}
-use Rattle.client_vm.specs.Moves.{moves_of}
+use Rattle.client_run.specs.Moves.{moves_of}
 use Rattle.client_vm.specs.Reports.{texts_of, AreReportsOf}
-use Rattle.client_vm.specs.Runs.{ending_of}
+use Rattle.client_run.specs.Runs.{ending_of}
 use Rattle.client_vm.specs.Together.{ending_if, HaveRun}
 use Rattle.client_vm.proofs.TogetherLaws.{ending_failed}
 use Rattle.client_vm.proofs.bytes.run_opened.Goals.{then-failed, else-failed}

@@ -1,0 +1,15 @@
+pub mod MovesLaws
+pub mod NumberLaws
+pub mod WritingLaws
+pub mod PartLaws
+pub mod ObjectLaws
+pub mod MakingLaws
+pub mod OwnerLaws
+pub mod ItemLaws
+pub mod NamedLaws
+pub mod PositionLaws
+pub mod OwningLaws
+pub mod IndexLaws
+pub mod CourseLaws
+pub mod UnnamedLaws
+pub mod RunLaws

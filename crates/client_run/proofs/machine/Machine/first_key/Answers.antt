@@ -1,0 +1,8 @@
+use Rattle.client_run.proofs.PartLaws.{first_does}
+use Rattle.client_run.proofs.machine.Machine.first_key.Goals as goal
+
+pub returns-clause-does : goal.returns-clause-does
+returns-clause-does g c =
+    let key = c.first_key-key.ensures in
+    first_does g.F.Fit.allocator c.args.i.now c.args.self.now c.try_give.new.self c.args.segment.now c.place.result c.place.ensures.at c.place.ensures.type_id c.try_give.result c.first_key-key.result
+    (rw c.heap.ensures at key.first) (rw c.heap.ensures at key.code) c.try_give.ensures.gives

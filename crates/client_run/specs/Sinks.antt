@@ -1,0 +1,11 @@
+-- What a sink over a writer shows.
+--     writer_of sink      the writer
+--     failed_of sink      its last write took nothing
+use Rattle.std.specs.Prelude.{Bool}
+use Rattle.client_run.specs.declared.sink.Through.{Through}
+
+abbrev pub writer_of : {W : Type 0} → Through W → W
+writer_of sink = sink.writer
+
+abbrev pub failed_of : {W : Type 0} → Through W → Bool
+failed_of sink = sink.failed

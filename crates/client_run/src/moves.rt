@@ -1,0 +1,104 @@
+ghost use Rattle.std.specs.Prelude.{◌≡◌, ℕ, ◌+◌, ◌-◌, ◌%◌, ◌^◌, ◌<◌, ◌≤◌, ◌↔◌, length, IsTrue, MatchOption};
+ghost use Rattle.seg_spec.specs.Window.{region_of, IsPlace};
+ghost use Rattle.client_spec.specs.Clients.{AreMoves, IsFirstBadMove};
+ghost use Rattle.client_stages.specs.Moving.{first_step, MakesNext, MakesDue, Waits};
+ghost use Rattle.client_run.specs.Moves.{moves_of};
+
+use crate::report::Move;
+use seg_block::Fit;
+use seg_manager::Segment;
+use seg_ptr::Window;
+use std::alloc::Allocator;
+
+/// The index of the first move that can't be made on a segment: its step is 0 or not above the one before, or the segment
+/// may not lie at its base.
+pub fn moves_fit<F: Fit, A: Allocator>(segment: &Segment<F, A>, moves: &[Move]) -> Option<usize>
+    ensures { let room = length (region_of segment.now.window) in
+        let len = length segment.now.window.bytes in
+        MatchOption result (AreMoves room len 0 (moves_of moves.now))
+        (λ i. IsFirstBadMove room len (moves_of moves.now) i) }
+{
+    first_bad_move(segment.window().len(), segment.window().room(), moves)
+}
+
+/// The first move that can't be made: its step isn't above the one before, or its base is none for the segment.
+pub fn first_bad_move(len: u32, room: u32, moves: &[Move]) -> Option<usize>
+    requires { len ≤ 2 ^ 30 }
+    ensures { MatchOption result (AreMoves room len 0 (moves_of moves.now))
+        (λ i. IsFirstBadMove room len (moves_of moves.now) i) }
+{
+    let mut step = 0;
+    for (i, next) in moves.iter().enumerate() {
+        if next.step <= step || !is_place(room, next.base, len) {
+            return Some(i);
+        }
+        step = next.step;
+    }
+    None
+}
+
+/// Whether a segment of `len` bytes may lie at a base of a region of `room` bytes.
+pub fn is_place(room: u32, base: u32, len: u32) -> bool
+    requires { len ≤ 2 ^ 30 }
+    ensures { IsTrue result ↔ IsPlace room base len }
+{
+    base % 16 == 0 && len <= room && base <= room - len
+}
+
+/// The moves that are still to be made.
+#[derive(Drop)]
+pub(crate) struct Moves<'a> {
+    rest: &'a [Move],
+}
+
+impl<'a> Moves<'a> {
+    pub(crate) fn new(moves: &'a [Move]) -> Moves<'a>
+        ensures { result.rest.now ≡ moves.now }
+    {
+        Moves { rest: moves }
+    }
+
+    /// How many steps come before the next move, and more than any run has where there is no move.
+    #[tactic(auto, using(crate::proofs::MovesLaws::first_is))]
+    fn due(&self) -> u64
+        ensures { 0 < first_step (moves_of self.now.rest.now) →
+            result ≡ first_step (moves_of self.now.rest.now) - 1 }
+    {
+        match self.rest.first() {
+            Some(next) if next.step > 0 => next.step - 1,
+            _ => u64::MAX,
+        }
+    }
+
+    /// Makes the next move where it is due: so many steps were taken, and the next line is one. Returns how many more come
+    /// at least, 1 or more, before a move is due.
+    #[inline(never)]
+    pub(crate) fn make_due<A: Allocator>(
+        &mut self,
+        steps: u64,
+        is_step: bool,
+        w: &mut Window<A>,
+    ) -> u64
+        ensures made { (room len : ℕ) → AreMoves room len steps (moves_of self.old.rest.now) →
+            MakesDue (moves_of self.old.rest.now) steps is_step w.old
+            (moves_of self.new.rest.now) w.new }
+        ensures waits { (room len : ℕ) →
+            AreMoves room len steps (moves_of self.old.rest.now) →
+            Waits steps (moves_of self.new.rest.now) result }
+    {
+        if steps == self.due() && is_step {
+            self.make(w);
+        }
+        self.due().saturating_sub(steps).max(1)
+    }
+
+    /// Makes the next move.
+    fn make<A: Allocator>(&mut self, w: &mut Window<A>)
+        ensures { MakesNext (moves_of self.old.rest.now) w.old (moves_of self.new.rest.now) w.new }
+    {
+        if let Some((next, rest)) = self.rest.split_first() {
+            let _ = w.relocate(next.base);
+            self.rest = rest;
+        }
+    }
+}

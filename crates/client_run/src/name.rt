@@ -1,0 +1,39 @@
+ghost use Rattle.std.specs.Prelude.{◌≡◌, ◌+◌, ◌≤◌, ◌++◌, length};
+ghost use Rattle.client_code.specs.Views.{constant_of};
+ghost use Rattle.client_run.specs.Named.{NamedBy};
+
+use arrayvec::ArrayVec;
+use client_code::{Constant, ConstantKind};
+use itoa::Buffer;
+
+/// The most bytes of a name: those of an exact name, or of a family's prefix, `#` and a number.
+const MAX_NAME: usize = 63;
+
+/// The bytes of a name.
+pub(crate) type Name = ArrayVec<u8, MAX_NAME>;
+
+/// The name that a constant gives: itself, or its prefix, `#` and the number in decimal.
+pub(crate) fn name_of(constant: Constant, number: i64) -> Name
+    ensures { NamedBy (constant_of constant.entry) number result.items }
+{
+    let mut name = Name::new();
+    append(&mut name, constant.bytes);
+    match constant.kind {
+        ConstantKind::Text | ConstantKind::Name => {}
+        ConstantKind::Family => {
+            append(&mut name, b"#");
+            append(&mut name, Buffer::new().format(number).as_bytes());
+        }
+    }
+    name
+}
+
+/// Adds bytes, as many as there is room for: a client's names have it for all.
+fn append(name: &mut Name, bytes: &[u8])
+    ensures { length name.old.items + length bytes.now ≤ 63 →
+        name.new.items ≡ name.old.items ++ bytes.now }
+{
+    for byte in bytes {
+        let _ = name.try_push(*byte);
+    }
+}
