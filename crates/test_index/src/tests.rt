@@ -1,4 +1,3 @@
-mod any_bytes;
 mod examples;
 mod model;
 mod random;

@@ -1,4 +1,3 @@
-mod any_bytes;
 mod blocks;
 mod examples;
 mod items;

@@ -231,25 +231,6 @@ fn keeps_nodes_in_order(rt: HostRuntime) -> Result<(), Fail> {
 }
 
 #[test]
-fn is_safe_on_any_bytes(rt: HostRuntime) -> Result<(), Fail> {
-    let mut random = Random::new(2);
-    for _ in 0..200 {
-        let mut w = window(rt.alloc(), 16)?;
-        for at in 0..136usize {
-            w.put32(4 * at, random.below(1 << 10));
-        }
-        let tree = Tree::new(0);
-        tree.insert(&mut w, &ByNumber, 32);
-        tree.remove(&mut w, &ByNumber, 64);
-        tree.path_to_key(&w, &ByNumber, 5).insert(&mut w, 96);
-        tree.path_to_key(&w, &ByNumber, 7).remove(&mut w);
-        let _ = tree.first_at_least(&w, &ByNumber, 5);
-        let _ = tree.first(&w);
-    }
-    Ok(())
-}
-
-#[test]
 fn reads_the_words_of_a_node(rt: HostRuntime) -> Result<(), Fail> {
     let mut w = window(rt.alloc(), 4)?;
     let words = [

@@ -158,30 +158,3 @@ fn sequential_fit_follows_the_model(rt: HostRuntime) -> Result<(), Fail> {
 fn best_fit_follows_the_model(rt: HostRuntime) -> Result<(), Fail> {
     follows_the_model::<BestFit>(&rt, Rule::Smallest)
 }
-
-/// Every call on words that look random.
-fn is_safe_on_any_bytes<F: Fit>(rt: &impl AllocGlobal) -> Result<(), Fail> {
-    let mut random = Random::new(2);
-    for _ in 0..100 {
-        let mut w = segment::<F>(rt.alloc(), 1024)?;
-        for at in 0..256usize {
-            let word = random.below(1 << 12) | random.below(2) << 31;
-            w.put32(4 * at, word);
-        }
-        let _ = F::allocate(&mut w, 3);
-        F::free(&mut w, 704);
-        let _ = F::expand(&mut w, 704 + 16 * random.below(20), 4);
-        F::shrink(&mut w, 704, 2);
-        if w.holds(0, 32) {
-            F::extend_end(&mut w, 2);
-        }
-        let _ = F::cut_end(&mut w);
-    }
-    Ok(())
-}
-
-#[test]
-fn both_are_safe_on_any_bytes(rt: HostRuntime) -> Result<(), Fail> {
-    is_safe_on_any_bytes::<SeqFit>(&rt)?;
-    is_safe_on_any_bytes::<BestFit>(&rt)
-}
