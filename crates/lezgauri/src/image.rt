@@ -6,7 +6,7 @@ ghost use Rattle.seg_manager.specs.Segments.{AddsTypes};
 ghost use Rattle.lezgauri.specs.Images.{segment_of, allocator_of, IsOpen};
 
 use seg_bestfit::BestFit;
-use seg_check::save;
+use seg_open::save;
 use seg_layout::TypeTable;
 use seg_manager::Segment;
 use seg_ptr::Window;

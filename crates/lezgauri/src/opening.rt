@@ -74,7 +74,7 @@ fn open_on<F: Fit, A: Allocator + Copy>(
         IfErr result (λ unopened. IsFaultOf window.bytes unopened.fault) }
     ensures refused { IfErr result (λ unopened. unopened.bytes.items ≡ window.bytes) }
 {
-    match seg_check::open(alloc, window) {
+    match seg_open::open(alloc, window) {
         Ok(segment) => Ok(segment),
         Err((fault, window)) => Err(Unopened {
             fault,

@@ -15,7 +15,6 @@ use crate::image::Image;
 use crate::marks::Turn;
 use crate::walk::{Tree, Visit};
 use seg_index::{ENTRY, IndexKind, NameEntry, name_count, named_tag, node_content};
-use seg_manager::MAX_NAME;
 use seg_ptr::header;
 use seg_value::Content;
 use std::alloc::Allocator;

@@ -13,13 +13,9 @@ mod index;
 mod lists;
 mod maps;
 mod marks;
-mod opening;
-mod saving;
 mod tiles;
 mod uniques;
 mod values;
 mod walk;
 
 pub use checker::check;
-pub use opening::open;
-pub use saving::save;

@@ -8,6 +8,9 @@ use seg_layout::{TypeId, TypeTable};
 use seg_ptr::Window;
 use std::alloc::Allocator;
 
+/// The most bytes of a name.
+pub const MAX_NAME: u8 = 63;
+
 /// The bytes of an entry.
 pub const ENTRY: u32 = 8;
 

@@ -8,6 +8,7 @@ mod size;
 mod space;
 mod uniques;
 
-pub use names::{Found, MAX_NAME, Named};
-pub use seg_index::IndexKind;
-pub use segment::{MIN_LEN, Segment};
+pub use names::{Found, Named};
+pub use seg_index::{IndexKind, MAX_NAME};
+pub use seg_ptr::MIN_LEN;
+pub use segment::Segment;

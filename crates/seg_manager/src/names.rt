@@ -17,14 +17,11 @@ ghost use Rattle.seg_manager.specs.Segments.{IsSegment, new_root};
 
 use crate::segment::Segment;
 use seg_block::{Fit, Kind, Tag, UNIT, need};
-use seg_index::{NameEntry, Vacant, find, first_name, look_up, name_count, next_name};
+use seg_index::{MAX_NAME, NameEntry, Vacant, find, first_name, look_up, name_count, next_name};
 use seg_layout::TypeId;
 use seg_raw::Code;
 use seg_value::Place;
 use std::alloc::Allocator;
-
-/// The most bytes of a name.
-pub const MAX_NAME: u8 = 63;
 
 /// A named object: where its first value is, and how many it has.
 #[derive(Debug, Clone, Copy, PartialEq, Eq)]

@@ -11,14 +11,11 @@ ghost use Rattle.seg_manager.specs.Segments.{IsSegment, nothing, word_of_kind, I
 use seg_block::{Fit, UNIT};
 use seg_index::{IndexKind, set_unique};
 use seg_layout::{ENTRY, MAX_TYPES, TypeId, TypeTable};
-use seg_ptr::{MAX_LEN, Window, header};
+use seg_ptr::{MAX_LEN, MIN_LEN, Window, header};
 use seg_raw::{Fault, Region};
 use seg_value::Heap;
 use std::alloc::Allocator;
 use std::marker::Model;
-
-/// The fewest bytes that a segment has: the header and tables, and a block of two units.
-pub const MIN_LEN: u32 = 736;
 
 /// A segment: its bytes, their table of types, and the allocator of its heap. Its calls mean what they say where the bytes
 /// are a sound image of that table and that allocator, but for anonymous objects that nothing owns; on any other bytes they

@@ -1,7 +1,7 @@
 use client_code::parse;
 use client_verify::verify;
 use client_vm::{Ended, Move, Through, moves_fit, run};
-use seg_check::open;
+use seg_open::open;
 use seg_manager::Segment;
 use seg_ptr::Window;
 use seg_raw::Region;

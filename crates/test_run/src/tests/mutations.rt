@@ -3,7 +3,7 @@ use crate::tests::sizes::MAKE_EACH_KIND;
 use arrayvec::ArrayVec;
 use seg_bestfit::BestFit;
 use seg_block::Fit;
-use seg_check::open;
+use seg_open::open;
 use seg_manager::Segment;
 use seg_ptr::{Window, header};
 use seg_raw::{Fault, Region};

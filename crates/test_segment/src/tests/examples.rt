@@ -1,7 +1,8 @@
 use crate::tests::support::{I64, NUMBER, map, pair, segment, used_region};
 use seg_bestfit::BestFit;
 use seg_block::Fit;
-use seg_check::{check, open, save};
+use seg_check::check;
+use seg_open::{open, save};
 use seg_manager::{Found, IndexKind, Named, Segment};
 use seg_ptr::Window;
 use seg_raw::{Code, Fault};

@@ -4,8 +4,8 @@ ghost use Rattle.seg_spec.specs.Header.{allocator_word};
 ghost use Rattle.seg_raw.specs.declared.fault.Fault.TheVariants.{Memory};
 ghost use Rattle.seg_check.specs.Faults.{IsImageOf, IsFaultOfOpening, IsFrontRight};
 
-use crate::checker::check;
 use seg_block::Fit;
+use seg_check::check;
 use seg_manager::Segment;
 use seg_ptr::{Window, header};
 use seg_raw::Fault;
