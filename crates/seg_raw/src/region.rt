@@ -148,7 +148,38 @@ impl<A: Allocator> Region<A> {
         ensures bytes { self.new ≡ put self.old to (slice self.old from n) }
         ensures length { length self.new ≡ length self.old }
     {
-        self.data.copy_within(from..from + n, to);
+        if from <= to {
+            self.move_up(from, to - from, n);
+        } else {
+            self.move_down(to, from - to, n);
+        }
+    }
+
+    /// Copies the `n` bytes from `from` on to `distance` bytes further up.
+    fn move_up(&mut self, from: usize, distance: usize, n: usize)
+        requires { from + distance + n ≤ length self.old }
+        ensures bytes { self.new ≡ put self.old (from + distance) (slice self.old from n) }
+        ensures length { length self.new ≡ length self.old }
+    {
+        // of a distance that it knows the compiler makes a call of the C library's memmove
+        match distance {
+            8 => self.data.copy_within(from..from + n, from + 8),
+            16 => self.data.copy_within(from..from + n, from + 16),
+            _ => self.data.copy_within(from..from + n, from + distance),
+        }
+    }
+
+    /// Copies the `n` bytes from `distance` bytes above `to` on to `to`.
+    fn move_down(&mut self, to: usize, distance: usize, n: usize)
+        requires { to + distance + n ≤ length self.old }
+        ensures bytes { self.new ≡ put self.old to (slice self.old (to + distance) n) }
+        ensures length { length self.new ≡ length self.old }
+    {
+        match distance {
+            8 => self.data.copy_within(to + 8..to + 8 + n, to),
+            16 => self.data.copy_within(to + 16..to + 16 + n, to),
+            _ => self.data.copy_within(to + distance..to + distance + n, to),
+        }
     }
 
     /// Writes `byte` to `n` bytes from a position on.
