@@ -1,5 +1,6 @@
 -- The free blocks among the tiles, and the one that is taken.
-use Rattle.std.proofs.Common.{◌≡◌, ℕ, ◌+◌, ◌-◌, ◌*◌, ◌%◌, ◌≤◌, true, false, List, [], ◌∷◌, ◌++◌, length, cond, Some, None, refl, sym, ap, ◌∙◌, subst, arith}
+use Rattle.std.proofs.Common.{◌≡◌, ◌≢◌, ℕ, ◌+◌, ◌-◌, ◌*◌, ◌%◌, ◌≤◌, true, false, List, [], ◌∷◌, ◌++◌, length, cond, Some, None, refl, sym, ap, ◌∙◌, subst, arith, ⊎_elim}
+use Rattle.std.proofs.lemmas.Bool.{cases_lt}
 use Rattle.seg_spec.specs.Bytes.{Agrees}
 use Rattle.seg_spec.specs.Heap.{Span, Tile, span_of, link_at, Fill, AreHeaders, free_of, heap_start, tiles, gaps, IsHeap, pick, granted, Takes}
 use Rattle.seg_spec.proofs.TileLaws.{Fill-le}
@@ -7,7 +8,7 @@ use Rattle.seg_block.specs.FreeBlocks.{AreFreeBlocks}
 use Rattle.seg_block.specs.Tiling.{tile, IsTiled, IsTiling, Retiles}
 use Rattle.seg_block.proofs.Heaps.{gaps_of_heap, tiling_of_heap}
 use Rattle.seg_block.proofs.Resized.{granted_all, granted_part}
-use Rattle.seg_block.proofs.Taken.{takes}
+use Rattle.seg_block.proofs.Taken.{takes, takes_whole, takes_front}
 
 -- ---- the free blocks
 
@@ -100,3 +101,23 @@ module _ {allocator : ℕ} (Place : List Tile → Type 0) (old : List ℕ) (u at
       (λ room.
       let is : n ≡ u = n_is ∙ granted_part units u room in
       subst (λ m. Retiles allocator mid new tiles_before (tile at m true ∷ tile (at + 16 * m) (units - m) false ∷ []) tiles_after × Agrees mid new (at + 8) (at + 16 * m)) is (cut (omega arith) tiles_before tiles_after place t.0.tiling))
+
+  pub takes_gap_whole : (new : List ℕ) (n : ℕ) → Place tiles_before → n ≡ granted units u → u ≤ units → n ≡ units
+      → ((xs ys : List Tile) → Place xs → IsTiling allocator old (xs ++ tile at units false ∷ ys) → Retiles allocator old new xs (tile at units true ∷ []) ys × (link_at new at ≡ None))
+      → Takes allocator old new u (Some at)
+  takes_gap_whole new n place n_is enough whole take =
+      let t = take tiles_before tiles_after place gap_tiling in
+      takes_whole old new u at units tiles_before tiles_after h picked around_gap.parts enough
+      (⊎_elim (λ small. small) (λ room. let part : n ≡ u = n_is ∙ granted_part units u room in absurd (omega arith)) (cases_lt units (u + 2))) t.0 t.1
+
+  pub takes_gap_front : (new : List ℕ) (n : ℕ) → Place tiles_before → n ≡ granted units u → 2 ≤ u → u ≤ units → n ≢ units
+      → ((xs ys : List Tile) → Place xs → IsTiling allocator old (xs ++ tile at units false ∷ ys)
+      → Retiles allocator old new xs (tile at n true ∷ tile (at + 16 * n) (units - n) false ∷ []) ys × (link_at new at ≡ None))
+      → Takes allocator old new u (Some at)
+  takes_gap_front new n place n_is large enough part take =
+      ⊎_elim (λ small. absurd (part (n_is ∙ granted_all units u enough small)))
+      (λ room.
+      let is : n ≡ u = n_is ∙ granted_part units u room in
+      let t = subst (λ m. Retiles allocator old new tiles_before (tile at m true ∷ tile (at + 16 * m) (units - m) false ∷ []) tiles_after × (link_at new at ≡ None)) is (take tiles_before tiles_after place gap_tiling) in
+      takes_front old new u at units tiles_before tiles_after h picked around_gap.parts large room t.0 t.1)
+      (cases_lt units (u + 2))

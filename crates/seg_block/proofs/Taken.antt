@@ -57,7 +57,8 @@ module _ {allocator : ℕ} (old new : List ℕ) (u at units : ℕ) (xs ys : List
         taken = rw picked (refl, live_is, link_none);
       }
 
-  takes_whole : u ≤ units → units < u + 2 → Retiles allocator old new xs (tile at units true ∷ []) ys → link_at new at ≡ None → Takes allocator old new u (Some at)
+  -- the gap was taken whole
+  pub   takes_whole : u ≤ units → units < u + 2 → Retiles allocator old new xs (tile at units true ∷ []) ys → link_at new at ≡ None → Takes allocator old new u (Some at)
   takes_whole enough small r link_none =
       let parts = around xs ys heap_start (length old) at units false gap_tiling.tiled.filled in
       let following = AreApart-back xs (tile at units false ∷ ys) true gap_apart in
@@ -66,20 +67,25 @@ module _ {allocator : ℕ} (old new : List ℕ) (u at units : ℕ) (xs ys : List
   abbrev rest_tile : Tile
   rest_tile = tile (at + 16 * u) (units - u) false
 
-  -- the gap was taken whole, and its rest given back
-  takes_part : (mid : List ℕ) → 2 ≤ u → u + 2 ≤ units → Retiles allocator old mid xs (tile at units true ∷ []) ys → link_at mid at ≡ None
-      → Retiles allocator mid new xs (tile at u true ∷ rest_tile ∷ []) ys × Agrees mid new (at + 8) (at + 16 * u) → Takes allocator old new u (Some at)
-  takes_part mid large room r link_none s =
+  -- its front was taken, and the rest stays a gap
+  pub takes_front : 2 ≤ u → u + 2 ≤ units → Retiles allocator old new xs (tile at u true ∷ rest_tile ∷ []) ys → link_at new at ≡ None → Takes allocator old new u (Some at)
+  takes_front large room r link_none =
       let parts = around xs ys heap_start (length old) at units false gap_tiling.tiled.filled in
       let following = AreApart-back xs (tile at units false ∷ ys) true gap_apart in
-      let spared = Spares-trans old mid new (xs ++ ys) r.spared s.0.spared in
       let end : at + 16 * units ≡ at + 16 * u + 16 * (units - u) = omega arith in
       finish u (rest_tile ∷ ys) (granted_part units u room) refl ((λ e. absurd (no e)), following.1)
-      (refl, omega arith, subst (λ n. Fill (at + 16 * u + 16 * (units - u)) ys n) (sym spared.front_kept.length_kept) (subst (λ p. Fill p ys (length old)) end parts.2))
-      large s.0.tiling spared (target-agrees mid new (at + 8) (at + 16 * u) (at + 12) s.1 (omega arith) (omega arith) ∙ link_none)
+      (refl, omega arith, subst (λ n. Fill (at + 16 * u + 16 * (units - u)) ys n) (sym r.spared.front_kept.length_kept) (subst (λ p. Fill p ys (length old)) end parts.2))
+      large r.tiling r.spared link_none
     where
       no : true ≡ false → ⊥
       no e = cc
+
+  -- it was taken whole, and its rest given back
+  takes_part : (mid : List ℕ) → 2 ≤ u → u + 2 ≤ units → Retiles allocator old mid xs (tile at units true ∷ []) ys → link_at mid at ≡ None
+      → Retiles allocator mid new xs (tile at u true ∷ rest_tile ∷ []) ys × Agrees mid new (at + 8) (at + 16 * u) → Takes allocator old new u (Some at)
+  takes_part mid large room r link_none s =
+      takes_front large room (record { tiling = s.0.tiling; spared = Spares-trans old mid new (xs ++ ys) r.spared s.0.spared })
+      (target-agrees mid new (at + 8) (at + 16 * u) (at + 12) s.1 (omega arith) (omega arith) ∙ link_none)
 
   pub takes : (mid : List ℕ) → 2 ≤ u → u ≤ units → Retiles allocator old mid xs (tile at units true ∷ []) ys × (link_at mid at ≡ None) → (units < u + 2 → new ≡ mid)
       → (u + 2 ≤ units → Retiles allocator mid new xs (tile at u true ∷ rest_tile ∷ []) ys × Agrees mid new (at + 8) (at + 16 * u)) → Takes allocator old new u (Some at)

@@ -1,88 +1,95 @@
--- What a release leaves, once the free tiles are joined.
-use Rattle.std.proofs.Common.{◌≡◌, ℕ, ◌+◌, ◌*◌, Bool, true, false, List, [], ◌∷◌, ◌++◌, length, Some, None, refl, sym, ap, ◌∙◌, subst}
+-- A live block becomes one gap with those beside it.
+use Rattle.std.proofs.Common.{◌≡◌, ℕ, ◌+◌, ◌*◌, ◌≤◌, Bool, true, false, List, [], ◌∷◌, ◌++◌, length, Some, None, refl, sym, ap, ◌∙◌, subst, arith, ⊎_elim}
 use Rattle.std.specs.Prelude.{Contains}
-use Rattle.seg_spec.specs.Heap.{Span, Tile, end_of, AreApart, IsHeap, IsLive, Gives, live_of, tiles, live}
-use Rattle.seg_spec.proofs.BytesLaws.{Agrees-same}
+use Rattle.seg_spec.specs.Heap.{Span, Tile, Fill, AreApart, IsHeap, Gives, live_of, heap_start, live, gaps, room_at}
 use Rattle.seg_spec.proofs.TileLaws.{live_of-append, AreApart-append}
 use Rattle.seg_block.specs.declared.block.Block.{Block}
-use Rattle.seg_block.specs.Blocks.{IsSized, IsReadFree}
+use Rattle.seg_block.specs.Blocks.{IsReadFree}
 use Rattle.seg_block.specs.Joining.{JoinsBefore}
 use Rattle.seg_block.specs.Tiling.{tile, IsTiled, IsTiling, Retiles}
+use Rattle.seg_block.proofs.Heaps.{Spares-same}
+use Rattle.seg_block.proofs.JoiningBefore.{joined_none, joined_some}
+use Rattle.seg_block.proofs.LiveBlocks.{block_front, gives}
+use Rattle.seg_block.proofs.Resized.{HasGap, room_cases, before, following, was}
 use Rattle.seg_block.proofs.Tiled.{around}
-use Rattle.seg_block.proofs.Heaps.{Spares-trans, Spares-same}
-use Rattle.seg_block.proofs.LiveBlocks.{HasLive, block, block_tiling, block_after, block_front, gives, read_is, read_held}
-use Rattle.seg_seqfit.specs.Retiling.{JoinsAfter}
-use Rattle.seg_block.proofs.ReadFree.{found_never, read_is_free, read_is_live}
+use Rattle.seg_seqfit.specs.Retiling.{link_past}
 
-never : true ≡ false → ⊥
-never e = cc
+module _ (old : List ℕ) (at u room : ℕ) (h : IsHeap 0 old) (held : Contains (live old) (record { at = at; units = u })) (room_is : room ≡ room_at (gaps old) (at + 16 * u)) where
+  abbrev xs : List Tile
+  xs = before old at u h held
 
--- ---- the join with what is after
+  abbrev ys : List Tile
+  ys = following old at u h held
 
-pub joins_none : (bytes : List ℕ) (xs ys : List Tile) (at u : ℕ) → IsTiling 0 bytes (xs ++ tile at u false ∷ ys) → AreApart true ys
-    → ((zs vs : List Tile) (l : Bool) (t : Tile) → IsTiled bytes (zs ++ (tile at u l ∷ t ∷ vs)) → IsReadFree t None) → JoinsAfter bytes bytes xs at u ys
-joins_none bytes xs ys at u was apart read = record {
-  rest = ys;
-  tiling = was;
-  apart = go ys was apart;
-  live_is = refl;
-  spared = record { front_kept = Agrees-same bytes 0 24; back_kept = Agrees-same bytes 28 704; tiles_kept = λ b _. Agrees-same bytes (b.at + 8) (end_of b) };
-}
-  where
-    go : (ys : List Tile) → IsTiling 0 bytes (xs ++ tile at u false ∷ ys) → AreApart true ys → AreApart false ys
-    go [] was apart = tt
-    go (t ∷ ys) was apart = (λ _. read_is_live t (read xs ys false t was.tiled), apart.1)
+  -- the tiles behind the block that become one with it, and the others
+  pub record HasBehind : Type 0 where
+    pub ms : List Tile
+    pub rest : List Tile
+    pub tiling : IsTiling 0 old (xs ++ ((tile at u true ∷ ms) ++ rest))
+    pub fill : Fill (at + 16 * u) ms (at + 16 * (u + room))
+    pub link_is : (link word : ℕ) → (room ≡ 0 → word ≡ link) → (1 ≤ room → word ≡ at + 16 * u + 12) → word ≡ link_past link ms
+    pub apart : AreApart false rest
+    pub live_is : live_of rest ≡ live_of ys
 
-pub joins_more : (old new : List ℕ) (xs ys : List Tile) (at u : ℕ) (f : Block) → IsTiling 0 old (xs ++ tile at u false ∷ ys) → AreApart true ys
-    → ((zs vs : List Tile) (l : Bool) (t : Tile) → IsTiled old (zs ++ (tile at u l ∷ t ∷ vs)) → IsReadFree t (Some f))
-    → ((zs : List Tile) (l : Bool) → IsTiled old (zs ++ tile at u l ∷ []) → Some f ≡ None)
-    → ((zs : List Tile) → IsTiling 0 old (xs ++ (tile at u false ∷ tile (at + 16 * u) f.units false ∷ zs)) → Retiles 0 old new xs (tile at (u + f.units) false ∷ []) zs) → JoinsAfter old new xs at (u + f.units) ys
-joins_more old new xs [] at u f was apart read none joins = absurd (found_never f (none xs false was.tiled))
-joins_more old new xs (t ∷ ys) at u f was apart read none joins =
-    let is = read_is_free t f (read xs ys false t was.tiled) in
-    let place = (around xs (t ∷ ys) 704 (length old) at u false was.tiled.filled).2.0 in
-    let same : t ≡ tile (at + 16 * u) f.units false = λ i. record { at = place i; units = sym is.1.1 i; live = is.0 i } in
-    let r = joins ys (subst (λ (s : Tile). IsTiling 0 old (xs ++ (tile at u false ∷ s ∷ ys))) same was) in
-    let live_is : live_of ys ≡ live_of (t ∷ ys) = ap (λ (s : Tile). live_of (s ∷ ys)) (sym same) in
-    record {
-      rest = ys;
-      tiling = r.tiling;
-      apart = subst (λ (b : Bool). AreApart b ys) is.0 apart.1;
-      live_is = live_is;
-      spared = Spares-same old new (xs ++ ys) (xs ++ t ∷ ys) (live_of-append xs (t ∷ ys) ∙ ap (λ l. live_of xs ++ l) (sym live_is) ∙ sym (live_of-append xs ys)) r.spared;
-    }
+  pub units_large : 2 ≤ u
+  units_large = (around xs ys heap_start (length old) at u true (was old at u h held).tiled.filled).1
 
--- ---- the whole of `free`
+  pub has_behind : HasBehind
+  has_behind =
+      ⊎_elim
+      (λ none.
+      let zero : room ≡ 0 = room_is ∙ none.1 in
+      record {
+        ms = [];
+        rest = ys;
+        tiling = was old at u h held;
+        fill = omega arith;
+        link_is = λ link word alone there. alone zero;
+        apart = none.0;
+        live_is = refl;
+      })
+      (λ there.
+      let gap = subst (λ v. HasGap old at u h held v) (sym there.1.room ∙ sym room_is) there.1 in
+      record {
+        ms = tile (at + 16 * u) room false ∷ [];
+        rest = gap.rest;
+        tiling = gap.tiling;
+        fill = (refl, gap.large, omega arith);
+        link_is = λ link word alone behind. behind (omega (arith, gap.large));
+        apart = gap.apart;
+        live_is = sym (ap live_of gap.gap_parts);
+      })
+      (room_cases old at u h held)
 
-module _ (old : List ℕ) (at u : ℕ) (h : IsHeap 0 old) (held : Contains (live old) (record { at = at; units = u })) (released new : List ℕ) (place m n : ℕ)
-    (release : (xs ys : List Tile) → IsTiling 0 old (xs ++ tile at u true ∷ ys) → AreApart true xs → JoinsBefore 0 false old released xs place m ys)
-    (join : (xs ys : List Tile) → IsTiling 0 released (xs ++ tile place m false ∷ ys) → AreApart true ys → JoinsAfter released new xs place n ys) where
-  abbrev found : HasLive (tiles old) (record { at = at; units = u })
-  found = block old at u h held
+  -- the block's own tile and those behind it, at a position that is the block's
+  pub fill_from : (b : HasBehind) (place to : ℕ) → place ≡ at → to ≡ at + 16 * (u + room) → Fill place (tile place u true ∷ b.ms) to
+  fill_from b place to is end =
+      (refl, units_large, subst (λ (p : ℕ × ℕ). Fill (p.0 + 16 * u) b.ms p.1) (λ i. (sym is i, sym end i)) b.fill)
 
-  first : JoinsBefore 0 false old released found.xs place m found.ys
-  first = release found.xs found.ys (block_tiling old at u h held) (block_front old at u h held)
+  module _ (new : List ℕ) (b : HasBehind) (place n : ℕ) (j : JoinsBefore 0 false old new xs place n b.rest) where
+    never : true ≡ false → ⊥
+    never e = cc
 
-  second : JoinsAfter released new first.front place n found.ys
-  second = join first.front found.ys first.tiling (block_after old at u h held)
+    rest_live : live_of (xs ++ b.rest) ≡ live_of (xs ++ ys)
+    rest_live = live_of-append xs b.rest ∙ ap (λ l. live_of xs ++ l) b.live_is ∙ sym (live_of-append xs ys)
 
-  same : live_of (first.front ++ found.ys) ≡ live_of (found.xs ++ found.ys)
-  same = live_of-append first.front found.ys ∙ ap (λ l. l ++ live_of found.ys) first.live_is ∙ sym (live_of-append found.xs found.ys)
+    freed : Gives 0 old new at
+    freed =
+        gives old at u h held new (j.front ++ tile place n false ∷ b.rest) j.tiling
+        (AreApart-append j.front (tile place n false ∷ b.rest) true j.apart ((λ e. absurd (never (sym j.after_live ∙ e))), b.apart))
+        (live_of-append j.front (tile place n false ∷ b.rest) ∙ ap (λ l. l ++ live_of b.rest) j.live_is ∙ sym (live_of-append xs b.rest) ∙ rest_live)
+        (Spares-same old new (xs ++ b.rest) (xs ++ ys) (sym rest_live) j.spared)
 
-  left : live_of (first.front ++ tile place n false ∷ second.rest) ≡ live_of (found.xs ++ found.ys)
-  left = live_of-append first.front (tile place n false ∷ second.rest) ∙ ap (λ l. live_of first.front ++ l) second.live_is ∙ sym (live_of-append first.front found.ys) ∙ same
+  -- no gap is before the block
+  pub freed_alone : (new : List ℕ) (b : HasBehind) → ((zs vs : List Tile) (l : Bool) (t : Tile) → IsTiled old (zs ++ (t ∷ tile at u l ∷ vs)) → IsReadFree t None)
+      → Retiles 0 old new xs (tile at (u + room) false ∷ []) b.rest → Gives 0 old new at
+  freed_alone new b read r =
+      freed new b at (u + room) (joined_none old xs b.ms b.rest at u b.tiling (block_front old at u h held) read false new (u + room) r.tiling r.spared)
 
-  freed : Gives 0 old new at
-  freed =
-      gives old at u h held new (first.front ++ tile place n false ∷ second.rest) second.tiling
-      (AreApart-append first.front (tile place n false ∷ second.rest) true first.apart ((λ e. absurd (never (sym first.after_live ∙ e))), second.apart))
-      left (Spares-trans old released new (found.xs ++ found.ys) first.spared (Spares-same released new (first.front ++ found.ys) (found.xs ++ found.ys) (sym same) second.spared))
-
--- at the block that was named
-pub freed_named : (old released new : List ℕ) (named at u place m n : ℕ) (h : IsHeap 0 old) (held : IsLive old named) → ((g : Span) → named ≡ g.at → IsSized old g → (at ≡ g.at) × (u ≡ g.units))
-    → ((xs ys : List Tile) → IsTiling 0 old (xs ++ tile at u true ∷ ys) → AreApart true xs → JoinsBefore 0 false old released xs place m ys)
-    → ((xs ys : List Tile) → IsTiling 0 released (xs ++ tile place m false ∷ ys) → AreApart true ys → JoinsAfter released new xs place n ys) → Gives 0 old new named
-freed_named old released new named at u place m n h held read release join =
-    let is = read_is old named held.0 h held.1 at u read in
-    let here = read_held old named held.0 h held.1 at u read in
-    subst (λ p. Gives 0 old new p) is.0 (freed old at u h here released new place m n release join)
+  -- this one is
+  pub freed_joined : (new : List ℕ) (b : HasBehind) (f : Block) → ((zs vs : List Tile) (l : Bool) (t : Tile) → IsTiled old (zs ++ (t ∷ tile at u l ∷ vs)) → IsReadFree t (Some f))
+      → ((vs : List Tile) (l : Bool) → IsTiled old (tile at u l ∷ vs) → Some f ≡ None) → f.at + 16 * f.units ≡ at
+      → ((zs : List Tile) → IsTiling 0 old (zs ++ ((tile f.at f.units false ∷ tile (f.at + 16 * f.units) u true ∷ b.ms) ++ b.rest)) → Retiles 0 old new zs (tile f.at (f.units + u + room) false ∷ []) b.rest)
+      → Gives 0 old new at
+  freed_joined new b f read none place widens =
+      freed new b f.at (f.units + u + room) (joined_some old xs b.ms b.rest at u b.tiling (block_front old at u h held) f read none place false new (f.units + u + room) widens)

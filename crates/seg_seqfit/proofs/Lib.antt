@@ -1,11 +1,13 @@
 pub mod Walks
 pub mod LinkLaws
 pub mod Retile
+pub mod Middles
 pub mod Taking
+pub mod Fronts
 pub mod Predecessor
 pub mod Places
 pub mod Releasing
-pub mod Joining
+pub mod Widening
 pub mod Freeing
 pub mod Beginning
 pub mod Enlarging

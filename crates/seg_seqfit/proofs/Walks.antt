@@ -4,7 +4,8 @@ use Rattle.std.proofs.lemmas.List.{append_assoc, append-nil}
 use Rattle.std.proofs.lemmas.Bool.Decides.{nat_tests}
 use Rattle.std.specs.Prelude.{⊤}
 use Rattle.seg_spec.specs.Pointer.{target}
-use Rattle.seg_spec.specs.Heap.{Span, end_of, Links, first_fit}
+use Rattle.seg_spec.specs.Heap.{Span, end_of, units_at, Links, first_fit}
+use Rattle.seg_block.specs.declared.block.Block.{Block}
 use Rattle.seg_block.specs.Blocks.{IsSized}
 use Rattle.seg_block.specs.FreeBlocks.{AreFreeBlocks}
 use Rattle.seg_seqfit.specs.FreeBlocks.{link_after, IsFirstFit}
@@ -35,51 +36,71 @@ first_fit-passed g gs u h = rw (leb_no u g.units h) refl
 first_fit-here : (g : Span) (gs : List Span) (u : ℕ) → u ≤ g.units → first_fit (g ∷ gs) u ≡ Some g
 first_fit-here g gs u h = rw (le-leb u g.units h) refl
 
--- the walk reads what a pointer word names: nothing, or a free block from low on
-abbrev pub ReadsBlock : List ℕ → ℕ → ℕ → ℕ → ℕ → Type 0
-ReadsBlock bytes link low at units =
-    (target bytes link ≡ None → ⊥) × ((g : Span) → target bytes link ≡ Some (g.at + 16) → IsSized bytes g → low ≤ g.at → (at ≡ g.at) × (units ≡ g.units))
+-- a walk reads the position of what a pointer word names: nothing, or a free block from low on
+abbrev pub Reads : List ℕ → ℕ → ℕ → ℕ → Type 0
+Reads bytes link low at =
+    (target bytes link ≡ None → ⊥) × ((g : Span) → target bytes link ≡ Some (g.at + 16) → IsSized bytes g → low ≤ g.at → at ≡ g.at)
 
 abbrev pub ReadsNone : List ℕ → ℕ → ℕ → Type 0
 ReadsNone bytes link low = (g : Span) → target bytes link ≡ Some (g.at + 16) → IsSized bytes g → low ≤ g.at → ⊥
 
-same_span : (g : Span) (at units : ℕ) → at ≡ g.at → units ≡ g.units → g ≡ record { at = at; units = units }
-same_span g at units p q = λ i. record { at = sym p i; units = sym q i }
+pub some_none : {X : Type 0} (x : X) → Some x ≡ None → ⊥
+some_none x e = cc
 
-more : (bytes : List ℕ) (gs seen rest : List Span) (u link low at units : ℕ) → ReadsBlock bytes link low at units → units < u → gs ≡ seen ++ rest → link ≡ link_after 24 seen
-    → first_fit gs u ≡ first_fit rest u → Links bytes link rest None → AreFreeBlocks bytes low rest → IsSearched bytes gs u (at + 12) (at + 16 * units)
-more bytes gs seen [] u link low at units reads small parts link_is first_is links blocks = absurd (reads.0 links)
-more bytes gs seen (g ∷ rest) u link low at units reads small parts link_is first_is links blocks =
+-- the blocks from a position on are those from a lower one on too
+from_lower : (bytes : List ℕ) (gs : List Span) (from low : ℕ) → low ≤ from → AreFreeBlocks bytes from gs → AreFreeBlocks bytes low gs
+from_lower bytes [] from low le blocks = tt
+from_lower bytes (g ∷ gs) from low le blocks = (omega (arith, blocks.0), blocks.1, blocks.2)
+
+-- those behind a block, from the end of its header on
+behind : (bytes : List ℕ) (g : Span) (gs : List Span) (low at : ℕ) → at ≡ g.at → AreFreeBlocks bytes low (g ∷ gs) → AreFreeBlocks bytes (at + 16) gs
+behind bytes g gs low at is blocks = from_lower bytes gs (end_of g) (at + 16) (omega (arith, blocks.1.large)) blocks.2
+
+more : (bytes : List ℕ) (gs seen rest : List Span) (u link low at : ℕ) → Reads bytes link low at → units_at bytes at < u → gs ≡ seen ++ rest → link ≡ link_after 24 seen
+    → first_fit gs u ≡ first_fit rest u → Links bytes link rest None → AreFreeBlocks bytes low rest → IsSearched bytes gs u (at + 12) (at + 16)
+more bytes gs seen [] u link low at reads small parts link_is first_is links blocks = absurd (reads.0 links)
+more bytes gs seen (g ∷ rest) u link low at reads small parts link_is first_is links blocks =
     let is = reads.1 g links.0 blocks.1 blocks.0 in
+    let units : units_at bytes at ≡ g.units = ap (units_at bytes) is ∙ blocks.1.size_is in
     record {
       seen = seen ++ g ∷ [];
       rest = rest;
       parts = parts ∙ sym (append_assoc seen (g ∷ []) rest);
-      link_is = ap (λ p. p + 12) is.0 ∙ sym (link_after-push seen 24 g);
-      first_is = first_is ∙ first_fit-passed g rest u (omega arith);
-      links = subst (λ p. Links bytes (p + 12) rest None) (sym is.0) links.1;
-      blocks = subst (λ (s : Span). AreFreeBlocks bytes (end_of s) rest) (same_span g at units is.0 is.1) blocks.2;
+      link_is = ap (λ p. p + 12) is ∙ sym (link_after-push seen 24 g);
+      first_is = first_is ∙ first_fit-passed g rest u (subst (λ n. n < u) units small);
+      links = subst (λ p. Links bytes (p + 12) rest None) (sym is) links.1;
+      blocks = behind bytes g rest low at is blocks;
     }
 
-pub searched_more : (bytes : List ℕ) (gs : List Span) (u link low at units : ℕ) → ReadsBlock bytes link low at units → units < u → IsSearched bytes gs u link low → IsSearched bytes gs u (at + 12) (at + 16 * units)
-searched_more bytes gs u link low at units reads small s = more bytes gs s.seen s.rest u link low at units reads small s.parts s.link_is s.first_is s.links s.blocks
+pub searched_more : (bytes : List ℕ) (gs : List Span) (u link low at : ℕ) → Reads bytes link low at → units_at bytes at < u → IsSearched bytes gs u link low → IsSearched bytes gs u (at + 12) (at + 16)
+searched_more bytes gs u link low at reads small s = more bytes gs s.seen s.rest u link low at reads small s.parts s.link_is s.first_is s.links s.blocks
 
-found : (bytes : List ℕ) (gs seen rest : List Span) (u link low at units : ℕ) → ReadsBlock bytes link low at units → u ≤ units → gs ≡ seen ++ rest → link ≡ link_after 24 seen
-    → first_fit gs u ≡ first_fit rest u → Links bytes link rest None → AreFreeBlocks bytes low rest → IsFirstFit gs u link at units
-found bytes gs seen [] u link low at units reads large parts link_is first_is links blocks = absurd (reads.0 links)
-found bytes gs seen (g ∷ rest) u link low at units reads large parts link_is first_is links blocks =
-    let is = reads.1 g links.0 blocks.1 blocks.0 in
-    let same = same_span g at units is.0 is.1 in
+-- the block at that position
+found : (bytes : List ℕ) (gs seen rest : List Span) (u link low at : ℕ) (b : Block) → Reads bytes link low at → ((g : Span) → at ≡ g.at → IsSized bytes g → (b.at ≡ g.at) × (b.units ≡ g.units)) → u ≤ b.units
+    → gs ≡ seen ++ rest → link ≡ link_after 24 seen → first_fit gs u ≡ first_fit rest u → Links bytes link rest None → AreFreeBlocks bytes low rest → IsFirstFit gs u link b.at b.units
+found bytes gs seen [] u link low at b reads read large parts link_is first_is links blocks = absurd (reads.0 links)
+found bytes gs seen (g ∷ rest) u link low at b reads read large parts link_is first_is links blocks =
+    let is = read g (reads.1 g links.0 blocks.1 blocks.0) blocks.1 in
+    let same : g ≡ record { at = b.at; units = b.units } = λ i. record { at = sym is.0 i; units = sym is.1 i } in
     record {
       seen = seen;
       rest = rest;
       parts = parts ∙ ap (λ s. seen ++ s ∷ rest) same;
       link_is = link_is;
-      is_first = first_is ∙ first_fit-here g rest u (omega arith) ∙ ap Some same;
+      is_first = first_is ∙ first_fit-here g rest u (subst (λ n. u ≤ n) is.1 large) ∙ ap Some same;
     }
 
-pub searched_found : (bytes : List ℕ) (gs : List Span) (u link low at units : ℕ) → ReadsBlock bytes link low at units → u ≤ units → IsSearched bytes gs u link low → IsFirstFit gs u link at units
-searched_found bytes gs u link low at units reads large s = found bytes gs s.seen s.rest u link low at units reads large s.parts s.link_is s.first_is s.links s.blocks
+pub searched_found : (bytes : List ℕ) (gs : List Span) (u link low at : ℕ) (b : Block) → Reads bytes link low at → ((g : Span) → at ≡ g.at → IsSized bytes g → (b.at ≡ g.at) × (b.units ≡ g.units)) → u ≤ b.units
+    → IsSearched bytes gs u link low → IsFirstFit gs u link b.at b.units
+searched_found bytes gs u link low at b reads read large s = found bytes gs s.seen s.rest u link low at b reads read large s.parts s.link_is s.first_is s.links s.blocks
+
+-- there is always one
+always : (bytes : List ℕ) (rest : List Span) (link low at : ℕ) → Reads bytes link low at → ((g : Span) → at ≡ g.at → IsSized bytes g → ⊥) → Links bytes link rest None → AreFreeBlocks bytes low rest → ⊥
+always bytes [] link low at reads read links blocks = reads.0 links
+always bytes (g ∷ rest) link low at reads read links blocks = read g (reads.1 g links.0 blocks.1 blocks.0) blocks.1
+
+pub searched_always : (bytes : List ℕ) (gs : List Span) (u link low at : ℕ) → Reads bytes link low at → ((g : Span) → at ≡ g.at → IsSized bytes g → ⊥) → IsSearched bytes gs u link low → ⊥
+searched_always bytes gs u link low at reads read s = always bytes s.rest link low at reads read s.links s.blocks
 
 end : (bytes : List ℕ) (gs rest : List Span) (u link low : ℕ) → ReadsNone bytes link low → first_fit gs u ≡ first_fit rest u → Links bytes link rest None → AreFreeBlocks bytes low rest → first_fit gs u ≡ None
 end bytes gs [] u link low reads first_is links blocks = first_is
@@ -87,9 +108,6 @@ end bytes gs (g ∷ rest) u link low reads first_is links blocks = absurd (reads
 
 pub searched_end : (bytes : List ℕ) (gs : List Span) (u link low : ℕ) → ReadsNone bytes link low → IsSearched bytes gs u link low → first_fit gs u ≡ None
 searched_end bytes gs u link low reads s = end bytes gs s.rest u link low reads s.first_is s.links s.blocks
-
-pub some_none : {X : Type 0} (x : X) → Some x ≡ None → ⊥
-some_none x e = cc
 
 -- ---- the walk to a block
 
@@ -116,27 +134,27 @@ pub record IsPassed (bytes : List ℕ) (seen rest : List Span) (block link low :
 pub passed_none : (bytes : List ℕ) (seen rest : List Span) (block : ℕ) → Links bytes 24 (seen ++ rest) None → AreFreeBlocks bytes 704 (seen ++ rest) → AreBelow block seen → AreAbove block rest → IsPassed bytes seen rest block 24 704
 passed_none bytes seen rest block links blocks below above = record { done = []; todo = seen; parts = refl; link_is = refl; links = links; blocks = blocks; below = below; above = above }
 
-pass : (bytes : List ℕ) (seen rest done todo : List Span) (block link low at units : ℕ) → ReadsBlock bytes link low at units → at < block → seen ≡ done ++ todo
-    → link ≡ link_after 24 done → Links bytes link (todo ++ rest) None → AreFreeBlocks bytes low (todo ++ rest) → AreBelow block todo → AreAbove block rest → IsPassed bytes seen rest block (at + 12) (at + 16 * units)
-pass bytes seen [] done [] block link low at units reads under parts link_is links blocks below above = absurd (reads.0 links)
-pass bytes seen (g ∷ rest) done [] block link low at units reads under parts link_is links blocks below above =
+pass : (bytes : List ℕ) (seen rest done todo : List Span) (block link low at : ℕ) → Reads bytes link low at → at < block → seen ≡ done ++ todo
+    → link ≡ link_after 24 done → Links bytes link (todo ++ rest) None → AreFreeBlocks bytes low (todo ++ rest) → AreBelow block todo → AreAbove block rest → IsPassed bytes seen rest block (at + 12) (at + 16)
+pass bytes seen [] done [] block link low at reads under parts link_is links blocks below above = absurd (reads.0 links)
+pass bytes seen (g ∷ rest) done [] block link low at reads under parts link_is links blocks below above =
     let is = reads.1 g links.0 blocks.1 blocks.0 in absurd (omega (arith, above.0))
-pass bytes seen rest done (g ∷ todo) block link low at units reads under parts link_is links blocks below above =
+pass bytes seen rest done (g ∷ todo) block link low at reads under parts link_is links blocks below above =
     let is = reads.1 g links.0 blocks.1 blocks.0 in
     record {
       done = done ++ g ∷ [];
       todo = todo;
       parts = parts ∙ sym (append_assoc done (g ∷ []) todo);
-      link_is = ap (λ p. p + 12) is.0 ∙ sym (link_after-push done 24 g);
-      links = subst (λ p. Links bytes (p + 12) (todo ++ rest) None) (sym is.0) links.1;
-      blocks = subst (λ (s : Span). AreFreeBlocks bytes (end_of s) (todo ++ rest)) (same_span g at units is.0 is.1) blocks.2;
+      link_is = ap (λ p. p + 12) is ∙ sym (link_after-push done 24 g);
+      links = subst (λ p. Links bytes (p + 12) (todo ++ rest) None) (sym is) links.1;
+      blocks = behind bytes g (todo ++ rest) low at is blocks;
       below = below.1;
       above = above;
     }
 
-pub passed_more : (bytes : List ℕ) (seen rest : List Span) (block link low at units : ℕ) → ReadsBlock bytes link low at units → at < block → IsPassed bytes seen rest block link low
-    → IsPassed bytes seen rest block (at + 12) (at + 16 * units)
-passed_more bytes seen rest block link low at units reads under p = pass bytes seen rest p.done p.todo block link low at units reads under p.parts p.link_is p.links p.blocks p.below p.above
+pub passed_more : (bytes : List ℕ) (seen rest : List Span) (block link low at : ℕ) → Reads bytes link low at → at < block → IsPassed bytes seen rest block link low
+    → IsPassed bytes seen rest block (at + 12) (at + 16)
+passed_more bytes seen rest block link low at reads under p = pass bytes seen rest p.done p.todo block link low at reads under p.parts p.link_is p.links p.blocks p.below p.above
 
 stop : (bytes : List ℕ) (seen rest done todo : List Span) (block link low : ℕ) → ((g : Span) → target bytes link ≡ Some (g.at + 16) → IsSized bytes g → low ≤ g.at → g.at < block → ⊥)
     → seen ≡ done ++ todo → link ≡ link_after 24 done → Links bytes link (todo ++ rest) None → AreFreeBlocks bytes low (todo ++ rest) → AreBelow block todo → link ≡ link_after 24 seen

@@ -1,10 +1,10 @@
 ghost use Rattle.std.specs.Prelude.{ℕ};
 
-use crate::free_list::{merge_after, release_joined};
+use crate::free_list::{release_joined, take_front};
 use crate::search::{Found, first_fit, link_before};
 use seg_block::{
-    Block, Fit, FreeStructure, HEAP_START, LINK, TAG, UNIT, UNITS_BEFORE, block_at, cut, granted,
-    is_live, last_block, resize, set_size,
+    Block, Fit, FreeStructure, HEAP_START, LINK, TAG, UNIT, UNITS_BEFORE, block_at, granted, is_live,
+    last_block, resize, set_size,
 };
 use seg_ptr::Window;
 use seg_ptr::header::{FREE, SIZE};
@@ -35,8 +35,12 @@ impl Fit for SeqFit {
 
     fn allocate<A: Allocator>(w: &mut Window<A>, need: u32) -> Option<u32> {
         let Found { link, block } = first_fit(w, need)?;
-        Self::take(w, link, block);
-        cut::<Self, A>(w, link, block, granted(block.units, need));
+        let units = granted(block.units, need);
+        if units == block.units {
+            Self::take(w, link, block);
+        } else {
+            take_front(w, link, block, units);
+        }
         Some(block.at)
     }
 
@@ -44,8 +48,7 @@ impl Fit for SeqFit {
         let Some(block) = block_at(w, block) else {
             return;
         };
-        let gap = release_joined(w, block);
-        merge_after(w, gap);
+        release_joined(w, block);
     }
 
     fn resize<A: Allocator>(w: &mut Window<A>, block: Block, room: u32, units: u32) {

@@ -1,27 +1,35 @@
-use Rattle.std.proofs.Common.{◌+◌, ◌*◌, true, false, [], ◌∷◌, sym, ap, ◌∙◌, subst}
-use Rattle.seg_spec.specs.Window.{Placement}
-use Rattle.seg_block.specs.Sizes.{set_size}
-use Rattle.seg_block.specs.Tiling.{tile, Retiles}
-use Rattle.seg_block.proofs.JoiningBefore.{joined_none, joined_some}
-use Rattle.seg_block.proofs.Tiled.{header_of}
-use Rattle.seg_seqfit.proofs.Joining.{widen-retiles}
+use Rattle.std.proofs.Common.{◌+◌, ◌*◌, true, false, ◌∷◌, refl, ap, ◌∙◌, arith}
+use Rattle.seg_spec.specs.Pointer.{target}
+use Rattle.seg_block.specs.Tiling.{tile}
+use Rattle.seg_block.proofs.Resized.{before, following, was}
+use Rattle.seg_seqfit.proofs.Freeing.{units_large, has_behind, fill_from, freed_alone, freed_joined}
 use Rattle.seg_seqfit.proofs.free_list.release_joined.Goals as goal
 
-pub returns-in_default-clause-joins : goal.returns-in_default-clause-joins
-returns-in_default-clause-joins g c = λ xs ys was apart.
-    let block = c.args.block in
-    let r = c.release.ensures.tiles xs ys (c.link_before-link.ensures xs ys true was) was in
-    joined_none c.args.w.now.bytes xs ys block.at block.units was apart c.in_default.ensures.read false c.release.new.w.bytes r.tiling r.spared
-
-pub returns-clause-joins : goal.returns-clause-joins
-returns-clause-joins g c = λ xs ys was apart.
+pub returns-in_default-clause-gives : goal.returns-in_default-clause-gives
+returns-in_default-clause-gives g c = λ h held.
     let old = c.args.w.now.bytes in
-    let new = c.join.new.w.bytes in
-    let block = c.args.block in
+    let at = c.args.block.at in
+    let u = c.args.block.units in
+    let room_is = c.room_after-room.ensures.room 0 h held in
+    let b = has_behind old at u c.room_after-room.result h held room_is in
+    let link = c.link_before-link.result in
+    let next = c.target-next.ensures ∙ ap (target old) (b.link_is link c.link_behind.result c.link_behind.ensures.alone c.link_behind.ensures.behind) in
+    freed_alone old at u c.room_after-room.result h held room_is c.put_in.new.w.bytes b c.in_default.ensures.read
+    (c.put_in.ensures.tiles (before old at u h held) b.ms b.rest (tile at u true)
+    (c.link_before-link.ensures (before old at u h held) (following old at u h held) true (was old at u h held)) b.tiling
+    (fill_from old at u c.room_after-room.result h held room_is b at _ refl refl) next)
+
+pub returns-clause-gives : goal.returns-clause-gives
+returns-clause-gives g c = λ h held.
+    let old = c.args.w.now.bytes in
+    let at = c.args.block.at in
+    let u = c.args.block.units in
     let gap = c.in-Some.gap in
     let found = c.in-Some.ensures in
-    joined_some old xs ys block.at block.units was apart gap found.read found.none found.bounds.0 false new
-    (λ zs t.
-    let free = (header_of old zs (tile (gap.at + 16 * gap.units) block.units true ∷ ys) (tile gap.at gap.units false) t.tiled).live_is in
-    let new_is = ap (λ (p : Placement). p.bytes) c.join.ensures.bytes ∙ ap (set_size old gap.at (gap.units + block.units)) free in
-    subst (λ b. Retiles 0 old b zs (tile gap.at (gap.units + block.units) false ∷ []) ys) (sym new_is) (widen-retiles old zs ys gap.at gap.units block.units t))
+    let room = c.room_after-room.result in
+    let room_is = c.room_after-room.ensures.room 0 h held in
+    let b = has_behind old at u room h held room_is in
+    let next = c.target-next-2.ensures ∙ ap (target old) (b.link_is (gap.at + 12) c.link_behind-2.result c.link_behind-2.ensures.alone c.link_behind-2.ensures.behind) in
+    freed_joined old at u room h held room_is c.widen.new.w.bytes b gap found.read found.none found.bounds.0
+    (λ zs t. c.widen.ensures.tiles zs (tile (gap.at + 16 * gap.units) u true ∷ b.ms) b.rest (tile gap.at gap.units false) refl t
+    (refl, found.bounds.1, fill_from old at u room h held room_is b (gap.at + 16 * gap.units) _ found.bounds.0 (omega (arith, found.bounds))) next)

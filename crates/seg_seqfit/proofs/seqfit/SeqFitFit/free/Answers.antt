@@ -1,5 +1,6 @@
-use Rattle.seg_block.proofs.LiveBlocks.{unread}
-use Rattle.seg_seqfit.proofs.Freeing.{freed_named}
+use Rattle.std.proofs.Common.{subst}
+use Rattle.seg_spec.specs.Heap.{Gives}
+use Rattle.seg_block.proofs.LiveBlocks.{unread, read_is, read_held}
 use Rattle.seg_seqfit.proofs.seqfit.SeqFitFit.free.Goals as goal
 
 pub returns-in_default-clause-gives : goal.returns-in_default-clause-gives
@@ -7,7 +8,8 @@ returns-in_default-clause-gives g c = λ h held. absurd (unread c.args.w.now.byt
 
 pub returns-clause-gives : goal.returns-clause-gives
 returns-clause-gives g c = λ h held.
+    let old = c.args.w.now.bytes in
     let block = c.in-Some.block in
-    let gap = c.release_joined-gap.result in
-    freed_named c.args.w.now.bytes c.release_joined-gap.new.w.bytes c.merge_after.new.w.bytes c.args.block block.at block.units
-    gap.at gap.units c.merge_after.result.units h held c.in-Some.ensures.read c.release_joined-gap.ensures.joins c.merge_after.ensures.joins
+    let is = read_is old c.args.block held.0 h held.1 block.at block.units c.in-Some.ensures.read in
+    let here = read_held old c.args.block held.0 h held.1 block.at block.units c.in-Some.ensures.read in
+    subst (λ p. Gives 0 old c.release_joined.new.w.bytes p) is.0 (c.release_joined.ensures.gives h here)
