@@ -2,8 +2,8 @@ use crate::gathered::Gathered;
 use crate::listing::Listing;
 use crate::paths::Paths;
 use client_code::{Client, REGISTERS};
-use client_verify::{RegisterType, Registers};
 use client_run::{Stepped, Stepper};
+use client_verify::{RegisterType, Registers};
 use std::alloc::{AllocError, Global};
 use std::fmt::Write;
 

@@ -6,9 +6,9 @@ ghost use Rattle.seg_manager.specs.Segments.{AddsTypes};
 ghost use Rattle.lezgauri.specs.Images.{segment_of, allocator_of, IsOpen};
 
 use seg_bestfit::BestFit;
-use seg_open::save;
 use seg_layout::TypeTable;
 use seg_manager::Segment;
+use seg_open::save;
 use seg_ptr::Window;
 use seg_raw::Fault;
 use seg_seqfit::SeqFit;

@@ -1,8 +1,8 @@
 use client_code::parse;
 use client_verify::verify;
 use client_vm::{Ended, Move, Through, moves_fit, run};
-use seg_open::open;
 use seg_manager::Segment;
+use seg_open::open;
 use seg_ptr::Window;
 use seg_raw::Region;
 use seg_seqfit::SeqFit;
