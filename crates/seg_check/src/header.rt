@@ -3,7 +3,7 @@ ghost use Rattle.seg_spec.specs.Sound.{HasHeader};
 ghost use Rattle.seg_check.specs.Headers.{HasKnownWords};
 
 use seg_block::UNIT;
-use seg_ptr::{MAX_LEN, Window, header};
+use seg_ptr::{MAX_LEN, MIN_LEN, Window, header};
 use seg_raw::Fault;
 use std::alloc::Allocator;
 

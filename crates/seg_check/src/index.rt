@@ -14,7 +14,7 @@ use crate::fault::ContentFault;
 use crate::image::Image;
 use crate::marks::Turn;
 use crate::walk::{Tree, Visit};
-use seg_index::{ENTRY, IndexKind, NameEntry, name_count, named_tag, node_content};
+use seg_index::{ENTRY, IndexKind, MAX_NAME, NameEntry, name_count, named_tag, node_content};
 use seg_ptr::header;
 use seg_value::Content;
 use std::alloc::Allocator;
