@@ -1,10 +1,10 @@
 -- A walk along the free list.
-use Rattle.std.proofs.Common.{◌≡◌, ℕ, ◌+◌, ◌*◌, ◌<◌, ◌≤◌, false, leb, List, [], ◌∷◌, ◌++◌, Some, None, refl, sym, ap, ◌∙◌, subst, arith, le-leb}
+use Rattle.std.proofs.Common.{◌≡◌, ℕ, ◌+◌, ◌*◌, ◌<◌, ◌≤◌, false, leb, List, [], ◌∷◌, ◌++◌, Option, Some, None, refl, sym, ap, ◌∙◌, subst, arith, le-leb}
 use Rattle.std.proofs.lemmas.List.{append_assoc, append-nil}
 use Rattle.std.proofs.lemmas.Bool.Decides.{nat_tests}
 use Rattle.std.specs.Prelude.{⊤}
 use Rattle.seg_spec.specs.Pointer.{target}
-use Rattle.seg_spec.specs.Heap.{Span, end_of, units_at, Links, first_fit}
+use Rattle.seg_spec.specs.Heap.{Span, end_of, Links, first_fit}
 use Rattle.seg_block.specs.declared.block.Block.{Block}
 use Rattle.seg_block.specs.Blocks.{IsSized}
 use Rattle.seg_block.specs.FreeBlocks.{AreFreeBlocks}
@@ -44,8 +44,21 @@ Reads bytes link low at =
 abbrev pub ReadsNone : List ℕ → ℕ → ℕ → Type 0
 ReadsNone bytes link low = (g : Span) → target bytes link ≡ Some (g.at + 16) → IsSized bytes g → low ≤ g.at → ⊥
 
-pub some_none : {X : Type 0} (x : X) → Some x ≡ None → ⊥
-some_none x e = cc
+-- what a pointer that the word holds leads to
+pub reads : (bytes : List ℕ) (link low at : ℕ) (pointer : Option ℕ) → pointer ≡ target bytes link → (pointer ≡ None → Some at ≡ None) → ((p : ℕ) → pointer ≡ Some (p + 16) → low ≤ p → Some at ≡ Some p) → Reads bytes link low at
+reads bytes link low at pointer is none named = (λ e. never (none (is ∙ e)), λ g e sized le. same (named g.at (is ∙ e) le))
+  where
+    never : Some at ≡ None → ⊥
+    never e = cc
+
+    same : {p : ℕ} → Some at ≡ Some p → at ≡ p
+    same e = cc
+
+pub reads_none : (bytes : List ℕ) (link low : ℕ) (pointer : Option ℕ) → pointer ≡ target bytes link → ((p : ℕ) → pointer ≡ Some (p + 16) → low ≤ p → None ≡ Some p) → ReadsNone bytes link low
+reads_none bytes link low pointer is named = λ g e sized le. never (named g.at (is ∙ e) le)
+  where
+    never : {p : ℕ} → None ≡ Some p → ⊥
+    never e = cc
 
 -- the blocks from a position on are those from a lower one on too
 from_lower : (bytes : List ℕ) (gs : List Span) (from low : ℕ) → low ≤ from → AreFreeBlocks bytes from gs → AreFreeBlocks bytes low gs
@@ -56,23 +69,22 @@ from_lower bytes (g ∷ gs) from low le blocks = (omega (arith, blocks.0), block
 behind : (bytes : List ℕ) (g : Span) (gs : List Span) (low at : ℕ) → at ≡ g.at → AreFreeBlocks bytes low (g ∷ gs) → AreFreeBlocks bytes (at + 16) gs
 behind bytes g gs low at is blocks = from_lower bytes gs (end_of g) (at + 16) (omega (arith, blocks.1.large)) blocks.2
 
-more : (bytes : List ℕ) (gs seen rest : List Span) (u link low at : ℕ) → Reads bytes link low at → units_at bytes at < u → gs ≡ seen ++ rest → link ≡ link_after 24 seen
+more : (bytes : List ℕ) (gs seen rest : List Span) (u link low at : ℕ) → Reads bytes link low at → ((g : Span) → at ≡ g.at → IsSized bytes g → g.units < u) → gs ≡ seen ++ rest → link ≡ link_after 24 seen
     → first_fit gs u ≡ first_fit rest u → Links bytes link rest None → AreFreeBlocks bytes low rest → IsSearched bytes gs u (at + 12) (at + 16)
 more bytes gs seen [] u link low at reads small parts link_is first_is links blocks = absurd (reads.0 links)
 more bytes gs seen (g ∷ rest) u link low at reads small parts link_is first_is links blocks =
     let is = reads.1 g links.0 blocks.1 blocks.0 in
-    let units : units_at bytes at ≡ g.units = ap (units_at bytes) is ∙ blocks.1.size_is in
     record {
       seen = seen ++ g ∷ [];
       rest = rest;
       parts = parts ∙ sym (append_assoc seen (g ∷ []) rest);
       link_is = ap (λ p. p + 12) is ∙ sym (link_after-push seen 24 g);
-      first_is = first_is ∙ first_fit-passed g rest u (subst (λ n. n < u) units small);
+      first_is = first_is ∙ first_fit-passed g rest u (small g is blocks.1);
       links = subst (λ p. Links bytes (p + 12) rest None) (sym is) links.1;
       blocks = behind bytes g rest low at is blocks;
     }
 
-pub searched_more : (bytes : List ℕ) (gs : List Span) (u link low at : ℕ) → Reads bytes link low at → units_at bytes at < u → IsSearched bytes gs u link low → IsSearched bytes gs u (at + 12) (at + 16)
+pub searched_more : (bytes : List ℕ) (gs : List Span) (u link low at : ℕ) → Reads bytes link low at → ((g : Span) → at ≡ g.at → IsSized bytes g → g.units < u) → IsSearched bytes gs u link low → IsSearched bytes gs u (at + 12) (at + 16)
 searched_more bytes gs u link low at reads small s = more bytes gs s.seen s.rest u link low at reads small s.parts s.link_is s.first_is s.links s.blocks
 
 -- the block at that position
