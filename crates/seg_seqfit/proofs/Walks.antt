@@ -1,8 +1,8 @@
 -- A walk along the free list.
-use Rattle.std.proofs.Common.{◌≡◌, ℕ, ◌+◌, ◌*◌, ◌<◌, ◌≤◌, false, leb, List, [], ◌∷◌, ◌++◌, Option, Some, None, refl, sym, ap, ◌∙◌, subst, arith, le-leb}
+use Rattle.std.proofs.Common.{◌≡◌, ℕ, ◌+◌, ◌-◌, ◌*◌, ◌<◌, ◌≤◌, false, leb, List, [], ◌∷◌, ◌++◌, Option, Some, None, refl, sym, ap, ◌∙◌, subst, arith, le-leb}
 use Rattle.std.proofs.lemmas.List.{append_assoc, append-nil}
 use Rattle.std.proofs.lemmas.Bool.Decides.{nat_tests}
-use Rattle.std.specs.Prelude.{⊤}
+use Rattle.std.specs.Prelude.{IfSome, ⊤}
 use Rattle.seg_spec.specs.Pointer.{target}
 use Rattle.seg_spec.specs.Heap.{Span, end_of, Links, first_fit}
 use Rattle.seg_block.specs.declared.block.Block.{Block}
@@ -44,9 +44,17 @@ Reads bytes link low at =
 abbrev pub ReadsNone : List ℕ → ℕ → ℕ → Type 0
 ReadsNone bytes link low = (g : Span) → target bytes link ≡ Some (g.at + 16) → IsSized bytes g → low ≤ g.at → ⊥
 
--- what a pointer that the word holds leads to
-pub reads : (bytes : List ℕ) (link low at : ℕ) (pointer : Option ℕ) → pointer ≡ target bytes link → (pointer ≡ None → Some at ≡ None) → ((p : ℕ) → pointer ≡ Some (p + 16) → low ≤ p → Some at ≡ Some p) → Reads bytes link low at
-reads bytes link low at pointer is none named = (λ e. never (none (is ∙ e)), λ g e sized le. same (named g.at (is ∙ e) le))
+-- what a pointer word leads to: the position of what it names from low on
+pub record Follows (bytes : List ℕ) (link low : ℕ) (next : Option ℕ) : Type 0 where
+  pub none : target bytes link ≡ None → next ≡ None
+  pub named : (p : ℕ) → target bytes link ≡ Some (p + 16) → low ≤ p → next ≡ Some p
+
+pub follows : (bytes : List ℕ) (link low payload : ℕ) (pointer next : Option ℕ) → pointer ≡ target bytes link → payload < low + 16 → (pointer ≡ None → next ≡ None)
+    → ((p : ℕ) → pointer ≡ Some (p + 16) → payload < p + 16 → next ≡ Some p) → Follows bytes link low next
+follows bytes link low payload pointer next is above none named = record { none = λ e. none (is ∙ e); named = λ p e le. named p (is ∙ e) (omega arith) }
+
+pub reads : (bytes : List ℕ) (link low at : ℕ) (next : Option ℕ) → Follows bytes link low next → next ≡ Some at → Reads bytes link low at
+reads bytes link low at next f is = (λ e. never (sym is ∙ f.none e), λ g e sized le. same (sym is ∙ f.named g.at e le))
   where
     never : Some at ≡ None → ⊥
     never e = cc
@@ -54,11 +62,27 @@ reads bytes link low at pointer is none named = (λ e. never (none (is ∙ e)), 
     same : {p : ℕ} → Some at ≡ Some p → at ≡ p
     same e = cc
 
-pub reads_none : (bytes : List ℕ) (link low : ℕ) (pointer : Option ℕ) → pointer ≡ target bytes link → ((p : ℕ) → pointer ≡ Some (p + 16) → low ≤ p → None ≡ Some p) → ReadsNone bytes link low
-reads_none bytes link low pointer is named = λ g e sized le. never (named g.at (is ∙ e) le)
+pub reads_none : (bytes : List ℕ) (link low : ℕ) (next : Option ℕ) → Follows bytes link low next → ((p : ℕ) → next ≡ Some p → ⊥) → ReadsNone bytes link low
+reads_none bytes link low next f is = λ g e sized le. is g.at (f.named g.at e le)
+
+-- the positions that are left to a walk
+abbrev pub left : Option ℕ → ℕ
+left None = 0
+left (Some at) = 4294967296 - at
+
+pub fits : (payload : ℕ) (next : Option ℕ) → IfSome next (λ p. (payload < p + 16) × (p + 16 < 4294967296)) → IfSome next (λ p. p + 16 < 4294967296)
+fits payload None bounds = bounds
+fits payload (Some p) bounds = bounds.1
+
+pub fewer : (at : ℕ) (now next : Option ℕ) → now ≡ Some at → IfSome now (λ p. p + 16 < 4294967296) → IfSome next (λ p. (at + 16 < p + 16) × (p + 16 < 4294967296)) → left next < left now
+fewer at now next is inside bounds = subst (λ o. left next < left o) (sym is) (go next bounds)
   where
-    never : {p : ℕ} → None ≡ Some p → ⊥
-    never e = cc
+    here : at + 16 < 4294967296
+    here = subst (λ o. IfSome o (λ p. p + 16 < 4294967296)) is inside
+
+    go : (next : Option ℕ) → IfSome next (λ p. (at + 16 < p + 16) × (p + 16 < 4294967296)) → left next < 4294967296 - at
+    go None bounds = omega (arith, here)
+    go (Some p) bounds = omega (arith, here, bounds)
 
 -- the blocks from a position on are those from a lower one on too
 from_lower : (bytes : List ℕ) (gs : List Span) (from low : ℕ) → low ≤ from → AreFreeBlocks bytes from gs → AreFreeBlocks bytes low gs
@@ -121,6 +145,12 @@ end bytes gs (g ∷ rest) u link low reads first_is links blocks = absurd (reads
 pub searched_end : (bytes : List ℕ) (gs : List Span) (u link low : ℕ) → ReadsNone bytes link low → IsSearched bytes gs u link low → first_fit gs u ≡ None
 searched_end bytes gs u link low reads s = end bytes gs s.rest u link low reads s.first_is s.links s.blocks
 
+-- where such a walk stands
+pub record IsSearching (bytes : List ℕ) (gs : List Span) (u link : ℕ) (next : Option ℕ) : Type 0 where
+  pub low : ℕ
+  pub searched : IsSearched bytes gs u link low
+  pub follows : Follows bytes link low next
+
 -- ---- the walk to a block
 
 -- each begins below a position, or at it or above
@@ -176,3 +206,9 @@ stop bytes seen rest done (g ∷ todo) block link low never parts link_is links 
 pub passed_end : (bytes : List ℕ) (seen rest : List Span) (block link low : ℕ) → ((g : Span) → target bytes link ≡ Some (g.at + 16) → IsSized bytes g → low ≤ g.at → g.at < block → ⊥)
     → IsPassed bytes seen rest block link low → link ≡ link_after 24 seen
 passed_end bytes seen rest block link low never p = stop bytes seen rest p.done p.todo block link low never p.parts p.link_is p.links p.blocks p.below
+
+-- where such a walk stands
+pub record IsPassing (bytes : List ℕ) (seen rest : List Span) (block link : ℕ) (next : Option ℕ) : Type 0 where
+  pub low : ℕ
+  pub passed : IsPassed bytes seen rest block link low
+  pub follows : Follows bytes link low next

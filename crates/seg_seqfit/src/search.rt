@@ -20,17 +20,19 @@ pub(crate) struct Found {
     pub(crate) block: Block,
 }
 
-/// The position of the free block that a pointer names, where that is `low` or above.
-fn free_at(pointer: Option<u32>, low: u32) -> Option<u32>
-    ensures bounds { IfSome result (λ at. (low ≤ at) × (at + UNIT < 2 ^ 32)) }
+/// The position of the free block that a pointer names, where its payload begins behind `payload`.
+fn free_behind(pointer: Option<u32>, payload: u32) -> Option<u32>
+    requires { UNIT ≤ payload }
+    ensures bounds { IfSome result (λ at. (payload < at + UNIT) × (at + UNIT < 2 ^ 32)) }
     ensures none { pointer ≡ None → result ≡ None }
-    ensures named { (at : ℕ) → pointer ≡ Some (at + UNIT) → low ≤ at → result ≡ Some at }
+    ensures named { (at : ℕ) → pointer ≡ Some (at + UNIT) → payload < at + UNIT
+        → result ≡ Some at }
 {
-    let at = pointer?.checked_sub(UNIT)?;
-    if at < low {
+    let next = pointer?;
+    if next <= payload {
         return None;
     }
-    Some(at)
+    Some(next - UNIT)
 }
 
 /// The lowest free block of at least `need` units.
@@ -43,17 +45,15 @@ pub(crate) fn first_fit<A: Allocator>(w: &Window<A>, need: u32) -> Option<Found>
 {
     let view = w.view();
     let mut link = FREE;
-    let mut pointer = view.target(FREE);
-    let mut low = HEAP_START;
-    while let Some(at) = free_at(pointer, low) {
+    let mut next = free_behind(view.target(FREE), HEAP_START);
+    while let Some(at) = next {
         let header = Header::read(view, at);
         if header.units >= need {
             let block = block_at(w, at)?;
             return Some(Found { link, block });
         }
         link = at as usize + LINK;
-        pointer = header.link;
-        low = at + UNIT;
+        next = free_behind(header.link, at + UNIT);
     }
     None
 }
@@ -67,16 +67,14 @@ pub(crate) fn link_before<A: Allocator>(w: &Window<A>, block: Block) -> usize
 {
     let view = w.view();
     let mut link = FREE;
-    let mut pointer = view.target(FREE);
-    let mut low = HEAP_START;
+    let mut next = free_behind(view.target(FREE), HEAP_START);
     let mut near = block;
-    while let Some(gap) = free_at(pointer, low) {
+    while let Some(gap) = next {
         if gap >= block.at {
             return link;
         }
         link = gap as usize + LINK;
-        pointer = view.target(link);
-        low = gap + UNIT;
+        next = free_behind(view.target(link), gap + UNIT);
         let Some(before) = previous(w, near) else {
             return FREE;
         };
