@@ -1,10 +1,10 @@
 -- A walk along the free list.
-use Rattle.std.proofs.Common.{◌≡◌, ℕ, ◌+◌, ◌*◌, ◌<◌, ◌≤◌, false, leb, List, [], ◌∷◌, ◌++◌, Some, None, refl, sym, ap, ◌∙◌, subst, arith, le-leb}
+use Rattle.std.proofs.Common.{◌≡◌, ℕ, ◌+◌, ◌-◌, ◌*◌, ◌<◌, ◌≤◌, false, leb, List, [], ◌∷◌, ◌++◌, Option, Some, None, refl, sym, ap, ◌∙◌, subst, arith, le-leb}
 use Rattle.std.proofs.lemmas.List.{append_assoc, append-nil}
 use Rattle.std.proofs.lemmas.Bool.Decides.{nat_tests}
-use Rattle.std.specs.Prelude.{⊤}
+use Rattle.std.specs.Prelude.{IfSome, ⊤}
 use Rattle.seg_spec.specs.Pointer.{target}
-use Rattle.seg_spec.specs.Heap.{Span, end_of, units_at, Links, first_fit}
+use Rattle.seg_spec.specs.Heap.{Span, end_of, Links, first_fit}
 use Rattle.seg_block.specs.declared.block.Block.{Block}
 use Rattle.seg_block.specs.Blocks.{IsSized}
 use Rattle.seg_block.specs.FreeBlocks.{AreFreeBlocks}
@@ -44,8 +44,45 @@ Reads bytes link low at =
 abbrev pub ReadsNone : List ℕ → ℕ → ℕ → Type 0
 ReadsNone bytes link low = (g : Span) → target bytes link ≡ Some (g.at + 16) → IsSized bytes g → low ≤ g.at → ⊥
 
-pub some_none : {X : Type 0} (x : X) → Some x ≡ None → ⊥
-some_none x e = cc
+-- what a pointer word leads to: the position of what it names from low on
+pub record Follows (bytes : List ℕ) (link low : ℕ) (next : Option ℕ) : Type 0 where
+  pub none : target bytes link ≡ None → next ≡ None
+  pub named : (p : ℕ) → target bytes link ≡ Some (p + 16) → low ≤ p → next ≡ Some p
+
+pub follows : (bytes : List ℕ) (link low payload : ℕ) (pointer next : Option ℕ) → pointer ≡ target bytes link → payload < low + 16 → (pointer ≡ None → next ≡ None)
+    → ((p : ℕ) → pointer ≡ Some (p + 16) → payload < p + 16 → next ≡ Some p) → Follows bytes link low next
+follows bytes link low payload pointer next is above none named = record { none = λ e. none (is ∙ e); named = λ p e le. named p (is ∙ e) (omega arith) }
+
+pub reads : (bytes : List ℕ) (link low at : ℕ) (next : Option ℕ) → Follows bytes link low next → next ≡ Some at → Reads bytes link low at
+reads bytes link low at next f is = (λ e. never (sym is ∙ f.none e), λ g e sized le. same (sym is ∙ f.named g.at e le))
+  where
+    never : Some at ≡ None → ⊥
+    never e = cc
+
+    same : {p : ℕ} → Some at ≡ Some p → at ≡ p
+    same e = cc
+
+pub reads_none : (bytes : List ℕ) (link low : ℕ) (next : Option ℕ) → Follows bytes link low next → ((p : ℕ) → next ≡ Some p → ⊥) → ReadsNone bytes link low
+reads_none bytes link low next f is = λ g e sized le. is g.at (f.named g.at e le)
+
+-- the positions that are left to a walk
+abbrev pub left : Option ℕ → ℕ
+left None = 0
+left (Some at) = 4294967296 - at
+
+pub fits : (payload : ℕ) (next : Option ℕ) → IfSome next (λ p. (payload < p + 16) × (p + 16 < 4294967296)) → IfSome next (λ p. p + 16 < 4294967296)
+fits payload None bounds = bounds
+fits payload (Some p) bounds = bounds.1
+
+pub fewer : (at : ℕ) (now next : Option ℕ) → now ≡ Some at → IfSome now (λ p. p + 16 < 4294967296) → IfSome next (λ p. (at + 16 < p + 16) × (p + 16 < 4294967296)) → left next < left now
+fewer at now next is inside bounds = subst (λ o. left next < left o) (sym is) (go next bounds)
+  where
+    here : at + 16 < 4294967296
+    here = subst (λ o. IfSome o (λ p. p + 16 < 4294967296)) is inside
+
+    go : (next : Option ℕ) → IfSome next (λ p. (at + 16 < p + 16) × (p + 16 < 4294967296)) → left next < 4294967296 - at
+    go None bounds = omega (arith, here)
+    go (Some p) bounds = omega (arith, here, bounds)
 
 -- the blocks from a position on are those from a lower one on too
 from_lower : (bytes : List ℕ) (gs : List Span) (from low : ℕ) → low ≤ from → AreFreeBlocks bytes from gs → AreFreeBlocks bytes low gs
@@ -56,23 +93,22 @@ from_lower bytes (g ∷ gs) from low le blocks = (omega (arith, blocks.0), block
 behind : (bytes : List ℕ) (g : Span) (gs : List Span) (low at : ℕ) → at ≡ g.at → AreFreeBlocks bytes low (g ∷ gs) → AreFreeBlocks bytes (at + 16) gs
 behind bytes g gs low at is blocks = from_lower bytes gs (end_of g) (at + 16) (omega (arith, blocks.1.large)) blocks.2
 
-more : (bytes : List ℕ) (gs seen rest : List Span) (u link low at : ℕ) → Reads bytes link low at → units_at bytes at < u → gs ≡ seen ++ rest → link ≡ link_after 24 seen
+more : (bytes : List ℕ) (gs seen rest : List Span) (u link low at : ℕ) → Reads bytes link low at → ((g : Span) → at ≡ g.at → IsSized bytes g → g.units < u) → gs ≡ seen ++ rest → link ≡ link_after 24 seen
     → first_fit gs u ≡ first_fit rest u → Links bytes link rest None → AreFreeBlocks bytes low rest → IsSearched bytes gs u (at + 12) (at + 16)
 more bytes gs seen [] u link low at reads small parts link_is first_is links blocks = absurd (reads.0 links)
 more bytes gs seen (g ∷ rest) u link low at reads small parts link_is first_is links blocks =
     let is = reads.1 g links.0 blocks.1 blocks.0 in
-    let units : units_at bytes at ≡ g.units = ap (units_at bytes) is ∙ blocks.1.size_is in
     record {
       seen = seen ++ g ∷ [];
       rest = rest;
       parts = parts ∙ sym (append_assoc seen (g ∷ []) rest);
       link_is = ap (λ p. p + 12) is ∙ sym (link_after-push seen 24 g);
-      first_is = first_is ∙ first_fit-passed g rest u (subst (λ n. n < u) units small);
+      first_is = first_is ∙ first_fit-passed g rest u (small g is blocks.1);
       links = subst (λ p. Links bytes (p + 12) rest None) (sym is) links.1;
       blocks = behind bytes g rest low at is blocks;
     }
 
-pub searched_more : (bytes : List ℕ) (gs : List Span) (u link low at : ℕ) → Reads bytes link low at → units_at bytes at < u → IsSearched bytes gs u link low → IsSearched bytes gs u (at + 12) (at + 16)
+pub searched_more : (bytes : List ℕ) (gs : List Span) (u link low at : ℕ) → Reads bytes link low at → ((g : Span) → at ≡ g.at → IsSized bytes g → g.units < u) → IsSearched bytes gs u link low → IsSearched bytes gs u (at + 12) (at + 16)
 searched_more bytes gs u link low at reads small s = more bytes gs s.seen s.rest u link low at reads small s.parts s.link_is s.first_is s.links s.blocks
 
 -- the block at that position
@@ -108,6 +144,12 @@ end bytes gs (g ∷ rest) u link low reads first_is links blocks = absurd (reads
 
 pub searched_end : (bytes : List ℕ) (gs : List Span) (u link low : ℕ) → ReadsNone bytes link low → IsSearched bytes gs u link low → first_fit gs u ≡ None
 searched_end bytes gs u link low reads s = end bytes gs s.rest u link low reads s.first_is s.links s.blocks
+
+-- where such a walk stands
+pub record IsSearching (bytes : List ℕ) (gs : List Span) (u link : ℕ) (next : Option ℕ) : Type 0 where
+  pub low : ℕ
+  pub searched : IsSearched bytes gs u link low
+  pub follows : Follows bytes link low next
 
 -- ---- the walk to a block
 
@@ -164,3 +206,9 @@ stop bytes seen rest done (g ∷ todo) block link low never parts link_is links 
 pub passed_end : (bytes : List ℕ) (seen rest : List Span) (block link low : ℕ) → ((g : Span) → target bytes link ≡ Some (g.at + 16) → IsSized bytes g → low ≤ g.at → g.at < block → ⊥)
     → IsPassed bytes seen rest block link low → link ≡ link_after 24 seen
 passed_end bytes seen rest block link low never p = stop bytes seen rest p.done p.todo block link low never p.parts p.link_is p.links p.blocks p.below
+
+-- where such a walk stands
+pub record IsPassing (bytes : List ℕ) (seen rest : List Span) (block link : ℕ) (next : Option ℕ) : Type 0 where
+  pub low : ℕ
+  pub passed : IsPassed bytes seen rest block link low
+  pub follows : Follows bytes link low next

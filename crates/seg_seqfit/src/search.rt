@@ -1,9 +1,8 @@
 //! Walks along the free list.
 
-ghost use Rattle.std.specs.Prelude.{◌≡◌, ◌+◌, ◌^◌, ◌<◌, ◌≤◌, Bool, List, ◌∷◌, ◌++◌, length, IfSome, IsSomeAnd, MatchOption, Some, None};
-ghost use Rattle.seg_spec.specs.Pointer.{target};
+ghost use Rattle.std.specs.Prelude.{◌≡◌, ℕ, ◌+◌, ◌^◌, ◌<◌, ◌≤◌, Bool, List, ◌∷◌, ◌++◌, IfSome, MatchOption, Some, None};
 ghost use Rattle.seg_spec.specs.Heap.{Span, Tile, IsFreeList, first_fit};
-ghost use Rattle.seg_block.specs.Blocks.{LiesIn, IsSized};
+ghost use Rattle.seg_block.specs.Blocks.{LiesIn};
 ghost use Rattle.seg_block.specs.FreeBlocks.{AreFreeBlocks};
 ghost use Rattle.seg_block.specs.Tiling.{tile_of, IsTiling};
 ghost use Rattle.seg_seqfit.specs.FreeBlocks.{IsFirstFit};
@@ -11,7 +10,7 @@ ghost use Rattle.seg_seqfit.specs.Retiling.{link_to};
 
 use seg_block::{Block, HEAP_START, Header, LINK, UNIT, block_at, is_live, previous};
 use seg_ptr::header::FREE;
-use seg_ptr::{View, Window};
+use seg_ptr::Window;
 use std::alloc::Allocator;
 
 /// A free block, and the pointer word that names it.
@@ -21,20 +20,19 @@ pub(crate) struct Found {
     pub(crate) block: Block,
 }
 
-/// The position of the free block that a pointer word names, where its header lies in the segment at `low` or above.
-fn free_at(view: View, link: usize, low: u32) -> Option<u32>
-    ensures bounds { IfSome result (λ at. (low ≤ at) × (at + UNIT < 2 ^ 32)
-        × (at + UNIT ≤ length view.entry.bytes.now)) }
-    ensures none { target view.entry.bytes.now link ≡ None → result ≡ None }
-    ensures named { (g : Span) → target view.entry.bytes.now link ≡ Some (g.at + UNIT)
-        → IsSized view.entry.bytes.now g → low ≤ g.at → IsSomeAnd result (λ at. at ≡ g.at) }
+/// The position of the free block that a pointer names, where its payload begins behind `payload`.
+fn free_behind(pointer: Option<u32>, payload: u32) -> Option<u32>
+    requires { UNIT ≤ payload }
+    ensures bounds { IfSome result (λ at. (payload < at + UNIT) × (at + UNIT < 2 ^ 32)) }
+    ensures none { pointer ≡ None → result ≡ None }
+    ensures named { (at : ℕ) → pointer ≡ Some (at + UNIT) → payload < at + UNIT
+        → result ≡ Some at }
 {
-    let payload = view.target(link)?;
-    let at = payload.checked_sub(UNIT)?;
-    if at < low || payload as usize > view.len() {
+    let next = pointer?;
+    if next <= payload {
         return None;
     }
-    Some(at)
+    Some(next - UNIT)
 }
 
 /// The lowest free block of at least `need` units.
@@ -47,14 +45,15 @@ pub(crate) fn first_fit<A: Allocator>(w: &Window<A>, need: u32) -> Option<Found>
 {
     let view = w.view();
     let mut link = FREE;
-    let mut low = HEAP_START;
-    while let Some(at) = free_at(view, link, low) {
-        if Header::read(view, at).units >= need {
+    let mut next = free_behind(view.target(FREE), HEAP_START);
+    while let Some(at) = next {
+        let header = Header::read(view, at);
+        if header.units >= need {
             let block = block_at(w, at)?;
             return Some(Found { link, block });
         }
         link = at as usize + LINK;
-        low = at + UNIT;
+        next = free_behind(header.link, at + UNIT);
     }
     None
 }
@@ -68,14 +67,14 @@ pub(crate) fn link_before<A: Allocator>(w: &Window<A>, block: Block) -> usize
 {
     let view = w.view();
     let mut link = FREE;
-    let mut low = HEAP_START;
+    let mut next = free_behind(view.target(FREE), HEAP_START);
     let mut near = block;
-    while let Some(gap) = free_at(view, link, low) {
+    while let Some(gap) = next {
         if gap >= block.at {
             return link;
         }
         link = gap as usize + LINK;
-        low = gap + UNIT;
+        next = free_behind(view.target(link), gap + UNIT);
         let Some(before) = previous(w, near) else {
             return FREE;
         };

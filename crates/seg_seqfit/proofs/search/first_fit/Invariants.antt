@@ -1,11 +1,15 @@
-use Rattle.std.proofs.Common.{◌-◌, List, length, None}
+use Rattle.std.proofs.Common.{◌+◌, ◌<◌, List, None}
+use Rattle.std.specs.Prelude.{IfSome}
 use Rattle.seg_spec.specs.Heap.{Span, Links}
 use Rattle.seg_block.specs.FreeBlocks.{AreFreeBlocks}
-use Rattle.seg_seqfit.proofs.Walks.{IsSearched}
+use Rattle.seg_seqfit.proofs.Walks.{left, IsSearching}
 use Rattle.seg_seqfit.proofs.search.first_fit.Given as goal
 
-abbrev pub invariant-loop-at : goal.invariant-loop-at
-invariant-loop-at g l = (gs : List Span) → Links l.w.bytes 24 gs None → AreFreeBlocks l.w.bytes 704 gs → IsSearched l.w.bytes gs l.need l.link l.low
+abbrev pub invariant-loop-next : goal.invariant-loop-next
+invariant-loop-next g l = record {
+  bounds : IfSome l.next (λ at. at + 16 < 4294967296);
+  searching : (gs : List Span) → Links l.w.bytes 24 gs None → AreFreeBlocks l.w.bytes 704 gs → IsSearching l.w.bytes gs l.need l.link l.next;
+}
 
-abbrev pub decreases-loop-at : goal.decreases-loop-at
-decreases-loop-at g l = length l.w.bytes - l.low
+abbrev pub decreases-loop-next : goal.decreases-loop-next
+decreases-loop-next g l = left l.next

@@ -1,45 +1,68 @@
-use Rattle.std.proofs.Common.{◌∙◌, ◌∷◌, subst, arith}
+use Rattle.std.proofs.Common.{◌+◌, ◌∙◌, ◌∷◌, ap, arith}
 use Rattle.seg_spec.specs.Heap.{free_of}
+use Rattle.seg_spec.specs.Pointer.{target}
 use Rattle.seg_block.specs.Tiling.{tile}
-use Rattle.seg_seqfit.proofs.Walks.{Reads, ReadsNone, passed_more, passed_end, some_none}
+use Rattle.seg_seqfit.proofs.Walks.{fits, fewer, follows, reads, reads_none, passed_more, passed_end}
 use Rattle.seg_seqfit.proofs.Predecessor.{passed_first, near_first, near_none, near_free, near_more, link_after-free_of}
 use Rattle.seg_seqfit.proofs.search.link_before.Goals as goal
 
-pub loop-gap-init : goal.loop-gap-init
-loop-gap-init g c = λ xs ys b was.
-    (passed_first c.args.w.now.bytes xs ys c.args.block.at c.args.block.units b was, near_first c.args.w.now.bytes xs ys c.args.block b was)
+pub loop-next-init : goal.loop-next-init
+loop-next-init g c = record {
+  bounds = fits 704 c.free_behind-next.result c.free_behind-next.ensures.bounds;
+  walks = λ xs ys b was. (
+    record {
+      low = 704;
+      passed = passed_first c.args.w.now.bytes xs ys c.args.block.at c.args.block.units b was;
+      follows = follows c.args.w.now.bytes 24 704 704 c.target.result c.free_behind-next.result (c.target.ensures ∙ ap (λ b. target b 24) c.view-view.ensures) (omega arith) c.free_behind-next.ensures.none c.free_behind-next.ensures.named;
+    },
+    near_first c.args.w.now.bytes xs ys c.args.block b was,
+  );
+}
 
-pub loop-gap-preserved : goal.loop-gap-preserved
-loop-gap-preserved g c = λ xs ys b was.
+pub loop-next-smaller : goal.loop-next-smaller
+loop-next-smaller g c = fewer c.in-Some.gap c.loop-next.next c.free_behind-next-in-Some.result c.in-Some.is c.loop-next.invariant.bounds c.free_behind-next-in-Some.ensures.bounds
+
+pub loop-next-preserved : goal.loop-next-preserved
+loop-next-preserved g c =
     let bytes = c.args.w.now.bytes in
     let gap = c.in-Some.gap in
-    let reads = subst (λ b. Reads b c.loop-gap.link c.loop-gap.low gap) c.view-view.ensures (λ e. some_none gap (c.in-Some.ensures.none e), c.in-Some.ensures.named) in
-    let so_far = c.loop-gap.invariant xs ys b was in (
-      passed_more bytes (free_of xs) (free_of (tile c.args.block.at c.args.block.units b ∷ ys)) c.args.block.at c.loop-gap.link c.loop-gap.low gap reads c.if-gap-block.false so_far.0,
-      near_more bytes xs c.loop-gap.near so_far.1 c.in-Some-previous.before c.is_live.result c.is_live.ensures c.in-Some-previous.ensures.read c.in-Some-previous.ensures.none c.if-not-is_live.false,
-    )
+    record {
+      bounds = fits (gap + 16) c.free_behind-next-in-Some.result c.free_behind-next-in-Some.ensures.bounds;
+      walks = λ xs ys b was.
+          let so_far = c.loop-next.invariant.walks xs ys b was in
+          let i = so_far.0 in (
+            record {
+              low = gap + 16;
+              passed = passed_more bytes (free_of xs) (free_of (tile c.args.block.at c.args.block.units b ∷ ys)) c.args.block.at c.loop-next.link i.low gap
+                  (reads bytes c.loop-next.link i.low gap c.loop-next.next i.follows c.in-Some.is) c.if-gap-block.false i.passed;
+              follows = follows bytes (gap + 12) (gap + 16) (gap + 16) c.target-in-Some.result c.free_behind-next-in-Some.result (c.target-in-Some.ensures ∙ ap (λ b. target b (gap + 12)) c.view-view.ensures) (omega arith)
+                  c.free_behind-next-in-Some.ensures.none c.free_behind-next-in-Some.ensures.named;
+            },
+            near_more bytes xs c.loop-next.near so_far.1 c.in-Some-previous.before c.is_live.result c.is_live.ensures c.in-Some-previous.ensures.read c.in-Some-previous.ensures.none c.if-not-is_live.false,
+          );
+    }
 
 pub returns-then-gap-block : goal.returns-then-gap-block
 returns-then-gap-block g c = λ xs ys b was.
     let bytes = c.args.w.now.bytes in
-    let so_far = c.loop-gap.invariant xs ys b was in
-    let reads = subst (λ b. Reads b c.loop-gap.link c.loop-gap.low c.in-Some.gap) c.view-view.ensures (λ e. some_none c.in-Some.gap (c.in-Some.ensures.none e), c.in-Some.ensures.named) in
-    passed_end bytes (free_of xs) (free_of (tile c.args.block.at c.args.block.units b ∷ ys)) c.args.block.at c.loop-gap.link c.loop-gap.low
-    (λ s t f low under. let is = reads.1 s t f low in absurd (omega (arith, c.if-gap-block.true))) so_far.0
+    let i = (c.loop-next.invariant.walks xs ys b was).0 in
+    let read = reads bytes c.loop-next.link i.low c.in-Some.gap c.loop-next.next i.follows c.in-Some.is in
+    passed_end bytes (free_of xs) (free_of (tile c.args.block.at c.args.block.units b ∷ ys)) c.args.block.at c.loop-next.link i.low
+    (λ s t f low under. let is = read.1 s t f low in absurd (omega (arith, c.if-gap-block.true))) i.passed
     ∙ link_after-free_of xs 24
 
 pub returns-in_default-previous : goal.returns-in_default-previous
 returns-in_default-previous g c = λ xs ys b was.
-    near_none c.args.w.now.bytes xs c.loop-gap.near (c.loop-gap.invariant xs ys b was).1 c.in_default-previous.ensures.read
+    near_none c.args.w.now.bytes xs c.loop-next.near (c.loop-next.invariant.walks xs ys b was).1 c.in_default-previous.ensures.read
 
 pub returns-then-not-is_live : goal.returns-then-not-is_live
 returns-then-not-is_live g c = λ xs ys b was.
-    near_free c.args.w.now.bytes xs c.loop-gap.near (c.loop-gap.invariant xs ys b was).1 c.in-Some-previous.before c.is_live.result c.is_live.ensures c.in-Some-previous.ensures.read c.in-Some-previous.ensures.none c.if-not-is_live.true
+    near_free c.args.w.now.bytes xs c.loop-next.near (c.loop-next.invariant.walks xs ys b was).1 c.in-Some-previous.before c.is_live.result c.is_live.ensures c.in-Some-previous.ensures.read c.in-Some-previous.ensures.none c.if-not-is_live.true
 
 pub returns : goal.returns
 returns g c = λ xs ys b was.
     let bytes = c.args.w.now.bytes in
-    let so_far = c.loop-gap.invariant xs ys b was in
-    passed_end bytes (free_of xs) (free_of (tile c.args.block.at c.args.block.units b ∷ ys)) c.args.block.at c.loop-gap.link c.loop-gap.low
-    (λ s t f low under. subst (λ b. ReadsNone b c.loop-gap.link c.loop-gap.low) c.view-view.ensures c.in_default.ensures.named s t f low) so_far.0
+    let i = (c.loop-next.invariant.walks xs ys b was).0 in
+    passed_end bytes (free_of xs) (free_of (tile c.args.block.at c.args.block.units b ∷ ys)) c.args.block.at c.loop-next.link i.low
+    (λ s t f low under. reads_none bytes c.loop-next.link i.low c.loop-next.next i.follows c.in_default.not-Some s t f low) i.passed
     ∙ link_after-free_of xs 24
