@@ -58,7 +58,7 @@ module _ {allocator : ℕ} (old new : List ℕ) (u at units : ℕ) (xs ys : List
       }
 
   -- the gap was taken whole
-  pub   takes_whole : u ≤ units → units < u + 2 → Retiles allocator old new xs (tile at units true ∷ []) ys → link_at new at ≡ None → Takes allocator old new u (Some at)
+  pub takes_whole : u ≤ units → units < u + 2 → Retiles allocator old new xs (tile at units true ∷ []) ys → link_at new at ≡ None → Takes allocator old new u (Some at)
   takes_whole enough small r link_none =
       let parts = around xs ys heap_start (length old) at units false gap_tiling.tiled.filled in
       let following = AreApart-back xs (tile at units false ∷ ys) true gap_apart in

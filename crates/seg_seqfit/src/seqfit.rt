@@ -3,8 +3,8 @@ ghost use Rattle.std.specs.Prelude.{ℕ};
 use crate::free_list::{release_joined, take_front};
 use crate::search::{Found, first_fit, link_before};
 use seg_block::{
-    Block, Fit, FreeStructure, HEAP_START, LINK, TAG, UNIT, UNITS_BEFORE, block_at, granted, is_live,
-    last_block, resize, set_size,
+    Block, Fit, FreeStructure, HEAP_START, LINK, TAG, UNIT, UNITS_BEFORE, block_at, granted,
+    is_live, last_block, resize, set_size,
 };
 use seg_ptr::Window;
 use seg_ptr::header::{FREE, SIZE};
