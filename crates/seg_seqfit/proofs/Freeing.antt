@@ -1,7 +1,7 @@
 -- A live block becomes one gap with those beside it.
 use Rattle.std.proofs.Common.{◌≡◌, ℕ, ◌+◌, ◌*◌, ◌≤◌, Bool, true, false, List, [], ◌∷◌, ◌++◌, length, Some, None, refl, sym, ap, ◌∙◌, subst, arith, ⊎_elim}
 use Rattle.std.specs.Prelude.{Contains}
-use Rattle.seg_spec.specs.Heap.{Span, Tile, Fill, AreApart, IsHeap, Gives, live_of, heap_start, live, gaps, room_at}
+use Rattle.seg_spec.specs.Heap.{Tile, Fill, AreApart, IsHeap, Gives, live_of, heap_start, live, gaps, room_at}
 use Rattle.seg_spec.proofs.TileLaws.{live_of-append, AreApart-append}
 use Rattle.seg_block.specs.declared.block.Block.{Block}
 use Rattle.seg_block.specs.Blocks.{IsReadFree}

@@ -9,8 +9,8 @@ ghost use Rattle.seg_seqfit.specs.FreeBlocks.{IsFirstFit};
 ghost use Rattle.seg_seqfit.specs.Retiling.{link_to};
 
 use seg_block::{Block, HEAP_START, Header, LINK, UNIT, block_at, is_live, previous};
-use seg_ptr::header::FREE;
 use seg_ptr::Window;
+use seg_ptr::header::FREE;
 use std::alloc::Allocator;
 
 /// A free block, and the pointer word that names it.

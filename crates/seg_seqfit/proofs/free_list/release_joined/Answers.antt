@@ -2,7 +2,7 @@ use Rattle.std.proofs.Common.{◌+◌, ◌*◌, true, false, ◌∷◌, refl, ap
 use Rattle.seg_spec.specs.Pointer.{target}
 use Rattle.seg_block.specs.Tiling.{tile}
 use Rattle.seg_block.proofs.Resized.{before, following, was}
-use Rattle.seg_seqfit.proofs.Freeing.{units_large, has_behind, fill_from, freed_alone, freed_joined}
+use Rattle.seg_seqfit.proofs.Freeing.{has_behind, fill_from, freed_alone, freed_joined}
 use Rattle.seg_seqfit.proofs.free_list.release_joined.Goals as goal
 
 pub returns-in_default-clause-gives : goal.returns-in_default-clause-gives

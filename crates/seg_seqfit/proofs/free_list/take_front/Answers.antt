@@ -1,5 +1,4 @@
 use Rattle.std.proofs.Common.{◌≡◌, ◌+◌, ◌-◌, ◌*◌, true, false, [], ◌∷◌, List, ℕ, Some, None, sym, ap, ◌∙◌, subst, arith}
-use Rattle.seg_spec.specs.Bytes.{set_word}
 use Rattle.seg_spec.specs.Heap.{link_at}
 use Rattle.seg_spec.specs.Window.{Placement}
 use Rattle.seg_spec.specs.Pointer.{target, set_pointer}

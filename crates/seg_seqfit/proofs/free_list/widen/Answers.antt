@@ -1,6 +1,6 @@
 use Rattle.std.proofs.Common.{◌+◌, false, [], ◌∷◌, List, ℕ, sym, ap, ◌∙◌, subst}
 use Rattle.seg_spec.specs.Window.{Placement}
-use Rattle.seg_spec.specs.Pointer.{target, set_pointer}
+use Rattle.seg_spec.specs.Pointer.{set_pointer}
 use Rattle.seg_block.specs.Sizes.{set_size}
 use Rattle.seg_block.specs.Tiling.{tile, Retiles}
 use Rattle.seg_seqfit.proofs.Widening.{widen-retiles}

@@ -49,7 +49,8 @@ loop-next-preserved g c =
             low = at + 16;
             searched = searched_more bytes gs c.args.need c.loop-next.link i.low at (reads bytes c.loop-next.link i.low at c.loop-next.next i.follows c.in-Some.is)
                 (λ s is sized.
-                let units = ap (λ (h : Header). h.units) (c.read-header.ensures.inside (omega (arith, is, sized.large, sized.inside, ap length c.view-view.ensures))) ∙ ap (λ b. units_at b at) c.view-view.ensures ∙ ap (units_at bytes) is ∙ sized.size_is in
+                let units = ap (λ (h : Header). h.units) (c.read-header.ensures.inside (omega (arith, is, sized.large, sized.inside, ap length c.view-view.ensures)))
+                ∙ ap (λ b. units_at b at) c.view-view.ensures ∙ ap (units_at bytes) is ∙ sized.size_is in
                 subst (λ n. n < c.args.need) units c.if-header-need.false)
                 i.searched;
             follows = follows bytes (at + 12) (at + 16) (at + 16) c.read-header.result.link c.free_behind-next-in-Some.result link_is (omega arith) c.free_behind-next-in-Some.ensures.none c.free_behind-next-in-Some.ensures.named;

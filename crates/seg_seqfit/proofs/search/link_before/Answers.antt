@@ -57,7 +57,8 @@ returns-in_default-previous g c = λ xs ys b was.
 
 pub returns-then-not-is_live : goal.returns-then-not-is_live
 returns-then-not-is_live g c = λ xs ys b was.
-    near_free c.args.w.now.bytes xs c.loop-next.near (c.loop-next.invariant.walks xs ys b was).1 c.in-Some-previous.before c.is_live.result c.is_live.ensures c.in-Some-previous.ensures.read c.in-Some-previous.ensures.none c.if-not-is_live.true
+    near_free c.args.w.now.bytes xs c.loop-next.near (c.loop-next.invariant.walks xs ys b was).1 c.in-Some-previous.before c.is_live.result c.is_live.ensures
+    c.in-Some-previous.ensures.read c.in-Some-previous.ensures.none c.if-not-is_live.true
 
 pub returns : goal.returns
 returns g c = λ xs ys b was.
