@@ -21,8 +21,8 @@ module _ (old : List ℕ) (at u room : ℕ) (h : IsHeap 0 old) (held : Contains 
   abbrev ys : List Tile
   ys = following old at u h held
 
-  -- the tiles behind the block that become one with it, and the others
-  pub record HasBehind : Type 0 where
+  -- the tiles after the block that become one with it, and the others
+  pub record HasFollowing : Type 0 where
     pub ms : List Tile
     pub rest : List Tile
     pub tiling : IsTiling 0 old (xs ++ ((tile at u true ∷ ms) ++ rest))
@@ -34,8 +34,8 @@ module _ (old : List ℕ) (at u room : ℕ) (h : IsHeap 0 old) (held : Contains 
   pub units_large : 2 ≤ u
   units_large = (around xs ys heap_start (length old) at u true (was old at u h held).tiled.filled).1
 
-  pub has_behind : HasBehind
-  has_behind =
+  pub has_following : HasFollowing
+  has_following =
       ⊎_elim
       (λ none.
       let zero : room ≡ 0 = room_is ∙ none.1 in
@@ -55,18 +55,18 @@ module _ (old : List ℕ) (at u room : ℕ) (h : IsHeap 0 old) (held : Contains 
         rest = gap.rest;
         tiling = gap.tiling;
         fill = (refl, gap.large, omega arith);
-        link_is = λ link word alone behind. behind (omega (arith, gap.large));
+        link_is = λ link word alone following. following (omega (arith, gap.large));
         apart = gap.apart;
         live_is = sym (ap live_of gap.gap_parts);
       })
       (room_cases old at u h held)
 
-  -- the block's own tile and those behind it, at a position that is the block's
-  pub fill_from : (b : HasBehind) (place to : ℕ) → place ≡ at → to ≡ at + 16 * (u + room) → Fill place (tile place u true ∷ b.ms) to
+  -- the block's own tile and those after it, at a position that is the block's
+  pub fill_from : (b : HasFollowing) (place to : ℕ) → place ≡ at → to ≡ at + 16 * (u + room) → Fill place (tile place u true ∷ b.ms) to
   fill_from b place to is end =
       (refl, units_large, subst (λ (p : ℕ × ℕ). Fill (p.0 + 16 * u) b.ms p.1) (λ i. (sym is i, sym end i)) b.fill)
 
-  module _ (new : List ℕ) (b : HasBehind) (place n : ℕ) (j : JoinsBefore 0 false old new xs place n b.rest) where
+  module _ (new : List ℕ) (b : HasFollowing) (place n : ℕ) (j : JoinsBefore 0 false old new xs place n b.rest) where
     never : true ≡ false → ⊥
     never e = cc
 
@@ -81,13 +81,13 @@ module _ (old : List ℕ) (at u room : ℕ) (h : IsHeap 0 old) (held : Contains 
         (Spares-same old new (xs ++ b.rest) (xs ++ ys) (sym rest_live) j.spared)
 
   -- no gap is before the block
-  pub freed_alone : (new : List ℕ) (b : HasBehind) → ((zs vs : List Tile) (l : Bool) (t : Tile) → IsTiled old (zs ++ (t ∷ tile at u l ∷ vs)) → IsReadFree t None)
+  pub freed_alone : (new : List ℕ) (b : HasFollowing) → ((zs vs : List Tile) (l : Bool) (t : Tile) → IsTiled old (zs ++ (t ∷ tile at u l ∷ vs)) → IsReadFree t None)
       → Retiles 0 old new xs (tile at (u + room) false ∷ []) b.rest → Gives 0 old new at
   freed_alone new b read r =
       freed new b at (u + room) (joined_none old xs b.ms b.rest at u b.tiling (block_front old at u h held) read false new (u + room) r.tiling r.spared)
 
   -- this one is
-  pub freed_joined : (new : List ℕ) (b : HasBehind) (f : Block) → ((zs vs : List Tile) (l : Bool) (t : Tile) → IsTiled old (zs ++ (t ∷ tile at u l ∷ vs)) → IsReadFree t (Some f))
+  pub freed_joined : (new : List ℕ) (b : HasFollowing) (f : Block) → ((zs vs : List Tile) (l : Bool) (t : Tile) → IsTiled old (zs ++ (t ∷ tile at u l ∷ vs)) → IsReadFree t (Some f))
       → ((vs : List Tile) (l : Bool) → IsTiled old (tile at u l ∷ vs) → Some f ≡ None) → f.at + 16 * f.units ≡ at
       → ((zs : List Tile) → IsTiling 0 old (zs ++ ((tile f.at f.units false ∷ tile (f.at + 16 * f.units) u true ∷ b.ms) ++ b.rest)) → Retiles 0 old new zs (tile f.at (f.units + u + room) false ∷ []) b.rest)
       → Gives 0 old new at

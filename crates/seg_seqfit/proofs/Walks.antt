@@ -89,9 +89,9 @@ from_lower : (bytes : List ℕ) (gs : List Span) (from low : ℕ) → low ≤ fr
 from_lower bytes [] from low le blocks = tt
 from_lower bytes (g ∷ gs) from low le blocks = (omega (arith, blocks.0), blocks.1, blocks.2)
 
--- those behind a block, from the end of its header on
-behind : (bytes : List ℕ) (g : Span) (gs : List Span) (low at : ℕ) → at ≡ g.at → AreFreeBlocks bytes low (g ∷ gs) → AreFreeBlocks bytes (at + 16) gs
-behind bytes g gs low at is blocks = from_lower bytes gs (end_of g) (at + 16) (omega (arith, blocks.1.large)) blocks.2
+-- those after a block, from the end of its header on
+following : (bytes : List ℕ) (g : Span) (gs : List Span) (low at : ℕ) → at ≡ g.at → AreFreeBlocks bytes low (g ∷ gs) → AreFreeBlocks bytes (at + 16) gs
+following bytes g gs low at is blocks = from_lower bytes gs (end_of g) (at + 16) (omega (arith, blocks.1.large)) blocks.2
 
 more : (bytes : List ℕ) (gs seen rest : List Span) (u link low at : ℕ) → Reads bytes link low at → ((g : Span) → at ≡ g.at → IsSized bytes g → g.units < u) → gs ≡ seen ++ rest → link ≡ link_after 24 seen
     → first_fit gs u ≡ first_fit rest u → Links bytes link rest None → AreFreeBlocks bytes low rest → IsSearched bytes gs u (at + 12) (at + 16)
@@ -105,7 +105,7 @@ more bytes gs seen (g ∷ rest) u link low at reads small parts link_is first_is
       link_is = ap (λ p. p + 12) is ∙ sym (link_after-push seen 24 g);
       first_is = first_is ∙ first_fit-passed g rest u (small g is blocks.1);
       links = subst (λ p. Links bytes (p + 12) rest None) (sym is) links.1;
-      blocks = behind bytes g rest low at is blocks;
+      blocks = following bytes g rest low at is blocks;
     }
 
 pub searched_more : (bytes : List ℕ) (gs : List Span) (u link low at : ℕ) → Reads bytes link low at → ((g : Span) → at ≡ g.at → IsSized bytes g → g.units < u) → IsSearched bytes gs u link low → IsSearched bytes gs u (at + 12) (at + 16)
@@ -189,7 +189,7 @@ pass bytes seen rest done (g ∷ todo) block link low at reads under parts link_
       parts = parts ∙ sym (append_assoc done (g ∷ []) todo);
       link_is = ap (λ p. p + 12) is ∙ sym (link_after-push done 24 g);
       links = subst (λ p. Links bytes (p + 12) (todo ++ rest) None) (sym is) links.1;
-      blocks = behind bytes g (todo ++ rest) low at is blocks;
+      blocks = following bytes g (todo ++ rest) low at is blocks;
       below = below.1;
       above = above;
     }

@@ -73,22 +73,22 @@ pub(crate) fn release_joined<A: Allocator>(w: &mut Window<A>, block: Block)
     let room = room_after(w, block);
     let Some(gap) = free_before(w, block) else {
         let link = link_before(w, block);
-        let next = w.target(link_behind(link, block, room));
+        let next = w.target(link_after(link, block, room));
         let units = block.units + room;
         put_in(w, link, next, Block { units, ..block });
         return;
     };
-    let next = w.target(link_behind(gap.at as usize + LINK, block, room));
+    let next = w.target(link_after(gap.at as usize + LINK, block, room));
     let units = gap.units + block.units + room;
     widen(w, next, Block { units, ..gap });
 }
 
-/// The pointer word of the list behind a block that `link` leads to, and the gap of `room` units right after it (0 where there
+/// The pointer word of the list after a block that `link` leads to, and the gap of `room` units right after it (0 where there
 /// is none).
-fn link_behind(link: usize, block: Block, room: u32) -> usize
+fn link_after(link: usize, block: Block, room: u32) -> usize
     requires { block_end block ≤ MAX_LEN }
     ensures alone { room ≡ 0 → result ≡ link }
-    ensures behind { 1 ≤ room → result ≡ block_end block + LINK }
+    ensures following { 1 ≤ room → result ≡ block_end block + LINK }
 {
     if room == 0 {
         link
@@ -97,7 +97,7 @@ fn link_behind(link: usize, block: Block, room: u32) -> usize
     }
 }
 
-/// Makes the tiles that a block covers one gap, which `link` names, and behind which the list goes on with `next`.
+/// Makes the tiles that a block covers one gap, which `link` names, after which the list goes on with `next`.
 fn put_in<A: Allocator>(w: &mut Window<A>, link: usize, next: Option<u32>, gap: Block)
     requires { block_end gap ≤ MAX_LEN }
     ensures host { KeepsHost w.old w.new }
@@ -112,7 +112,7 @@ fn put_in<A: Allocator>(w: &mut Window<A>, link: usize, next: Option<u32>, gap: 
     set_size(w, gap.at, gap.units, false);
 }
 
-/// Makes the tiles that a block covers one gap, the first of which is a gap already. Behind it the list goes on with `next`.
+/// Makes the tiles that a block covers one gap, the first of which is a gap already. After it the list goes on with `next`.
 fn widen<A: Allocator>(w: &mut Window<A>, next: Option<u32>, gap: Block)
     requires { block_end gap ≤ MAX_LEN }
     ensures host { KeepsHost w.old w.new }

@@ -20,8 +20,8 @@ pub(crate) struct Found {
     pub(crate) block: Block,
 }
 
-/// The position of the free block that a pointer names, where its payload begins behind `payload`.
-fn free_behind(pointer: Option<u32>, payload: u32) -> Option<u32>
+/// The position of the free block that a pointer names, where its payload begins above `payload`.
+fn free_above(pointer: Option<u32>, payload: u32) -> Option<u32>
     requires { UNIT ≤ payload }
     ensures bounds { IfSome result (λ at. (payload < at + UNIT) × (at + UNIT < 2 ^ 32)) }
     ensures none { pointer ≡ None → result ≡ None }
@@ -45,7 +45,7 @@ pub(crate) fn first_fit<A: Allocator>(w: &Window<A>, need: u32) -> Option<Found>
 {
     let view = w.view();
     let mut link = FREE;
-    let mut next = free_behind(view.target(FREE), HEAP_START);
+    let mut next = free_above(view.target(FREE), HEAP_START);
     while let Some(at) = next {
         let header = Header::read(view, at);
         if header.units >= need {
@@ -53,7 +53,7 @@ pub(crate) fn first_fit<A: Allocator>(w: &Window<A>, need: u32) -> Option<Found>
             return Some(Found { link, block });
         }
         link = at as usize + LINK;
-        next = free_behind(header.link, at + UNIT);
+        next = free_above(header.link, at + UNIT);
     }
     None
 }
@@ -67,14 +67,14 @@ pub(crate) fn link_before<A: Allocator>(w: &Window<A>, block: Block) -> usize
 {
     let view = w.view();
     let mut link = FREE;
-    let mut next = free_behind(view.target(FREE), HEAP_START);
+    let mut next = free_above(view.target(FREE), HEAP_START);
     let mut near = block;
     while let Some(gap) = next {
         if gap >= block.at {
             return link;
         }
         link = gap as usize + LINK;
-        next = free_behind(view.target(link), gap + UNIT);
+        next = free_above(view.target(link), gap + UNIT);
         let Some(before) = previous(w, near) else {
             return FREE;
         };

@@ -9,16 +9,16 @@ use Rattle.seg_seqfit.proofs.search.first_fit.Goals as goal
 
 pub loop-next-init : goal.loop-next-init
 loop-next-init g c = record {
-  bounds = fits 704 c.free_behind-next.result c.free_behind-next.ensures.bounds;
+  bounds = fits 704 c.free_above-next.result c.free_above-next.ensures.bounds;
   searching = λ gs links blocks. record {
     low = 704;
     searched = searched_none c.args.w.now.bytes gs c.args.need links blocks;
-    follows = follows c.args.w.now.bytes 24 704 704 c.target.result c.free_behind-next.result (c.target.ensures ∙ ap (λ b. target b 24) c.view-view.ensures) (omega arith) c.free_behind-next.ensures.none c.free_behind-next.ensures.named;
+    follows = follows c.args.w.now.bytes 24 704 704 c.target.result c.free_above-next.result (c.target.ensures ∙ ap (λ b. target b 24) c.view-view.ensures) (omega arith) c.free_above-next.ensures.none c.free_above-next.ensures.named;
   };
 }
 
 pub loop-next-smaller : goal.loop-next-smaller
-loop-next-smaller g c = fewer c.in-Some.at c.loop-next.next c.free_behind-next-in-Some.result c.in-Some.is c.loop-next.invariant.bounds c.free_behind-next-in-Some.ensures.bounds
+loop-next-smaller g c = fewer c.in-Some.at c.loop-next.next c.free_above-next-in-Some.result c.in-Some.is c.loop-next.invariant.bounds c.free_above-next-in-Some.ensures.bounds
 
 pub returns-in_err-block-clause-first : goal.returns-in_err-block-clause-first
 returns-in_err-block-clause-first g c = λ gs links blocks.
@@ -42,7 +42,7 @@ loop-next-preserved g c =
     let link_is = ⊎_elim (λ past. ap (λ (h : Header). h.link) (c.read-header.ensures.past past)) (λ inside. ap (λ (h : Header). h.link) (c.read-header.ensures.inside inside)) (cases_lt (length c.view-view.result.bytes.now) (at + 16))
     ∙ ap (λ b. link_at b at) c.view-view.ensures in
     record {
-      bounds = fits (at + 16) c.free_behind-next-in-Some.result c.free_behind-next-in-Some.ensures.bounds;
+      bounds = fits (at + 16) c.free_above-next-in-Some.result c.free_above-next-in-Some.ensures.bounds;
       searching = λ gs links blocks.
           let i = c.loop-next.invariant.searching gs links blocks in
           record {
@@ -53,7 +53,7 @@ loop-next-preserved g c =
                 ∙ ap (λ b. units_at b at) c.view-view.ensures ∙ ap (units_at bytes) is ∙ sized.size_is in
                 subst (λ n. n < c.args.need) units c.if-header-need.false)
                 i.searched;
-            follows = follows bytes (at + 12) (at + 16) (at + 16) c.read-header.result.link c.free_behind-next-in-Some.result link_is (omega arith) c.free_behind-next-in-Some.ensures.none c.free_behind-next-in-Some.ensures.named;
+            follows = follows bytes (at + 12) (at + 16) (at + 16) c.read-header.result.link c.free_above-next-in-Some.result link_is (omega arith) c.free_above-next-in-Some.ensures.none c.free_above-next-in-Some.ensures.named;
           };
     }
 
