@@ -20,7 +20,9 @@ use seg_block::Fit;
 use seg_layout::Type;
 use seg_manager::Segment;
 use seg_raw::Code;
-use seg_seq::{append, assign, at, pop_back, pop_front, push_back, push_byte, push_front};
+use seg_seq::{
+    append, assign, at, pop_back, pop_front, push_back, push_byte, push_front, push_in_place,
+};
 use seg_value::Place;
 use std::alloc::Allocator;
 
@@ -120,8 +122,30 @@ impl Machine<'_> {
             segment.old segment.new }
     {
         let sequence = self.place(i.b);
+        let Some(item) = push_in_place(segment.heap_mut(), sequence) else {
+            return self.push_asking(segment, i);
+        };
+        self.refer(i, item);
+        Jump::Next
+    }
+
+    /// As [`push_back`](Machine::push_back), where a node or a larger buffer may have to be asked for.
+    #[inline(never)]
+    fn push_asking<F: Fit, A: Allocator>(
+        &mut self,
+        segment: &mut Segment<F, A>,
+        i: &Instruction,
+    ) -> Jump
+        ensures loops { KeepsLoops self.old self.new }
+        ensures window { KeepsHost segment.old.window segment.new.window }
+        ensures types { segment.new.types ≡ segment.old.types }
+        ensures does { Opens Operation.PushBack F.allocator i.now result self.old self.new
+            segment.old segment.new }
+    {
+        let sequence = self.place(i.b);
+        let held = held_type(segment, sequence);
         let at = push_back(segment.heap_mut(), sequence);
-        self.try_refer(i, at, held_type(segment, sequence))
+        self.try_refer(i, at, held)
     }
 
     #[inline(never)]
@@ -137,8 +161,9 @@ impl Machine<'_> {
             segment.old segment.new }
     {
         let list = self.place(i.b);
+        let held = held_type(segment, list);
         let at = push_front(segment.heap_mut(), list);
-        self.try_refer(i, at, held_type(segment, list))
+        self.try_refer(i, at, held)
     }
 
     #[inline(never)]

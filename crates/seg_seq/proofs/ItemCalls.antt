@@ -1,5 +1,5 @@
 -- What the calls on vectors return, from what the calls below them return.
-use Rattle.std.proofs.Common.{◌≡◌, ℕ, ◌+◌, ◌-◌, ◌*◌, ◌%◌, ◌^◌, ◌<◌, min, List, [], length, Option, Some, refl, sym, ap, ◌∙◌, arith}
+use Rattle.std.proofs.Common.{◌≡◌, ℕ, ◌+◌, ◌-◌, ◌*◌, ◌%◌, ◌^◌, ◌<◌, inl, inr, min, List, [], length, Option, Some, refl, sym, ap, ◌∙◌, arith}
 use Rattle.seg_spec.specs.Bytes.{set_word, ChangesOnly}
 use Rattle.seg_spec.specs.Types.{Form, Table, IsTable, form_at, size}
 use Rattle.seg_spec.specs.Value.{Value, Values, count, Seq, default_of}
@@ -11,7 +11,9 @@ use Rattle.seg_spec.specs.Heap.{live}
 use Rattle.seg_spec.specs.Demand.{after_gives}
 use Rattle.seg_spec.specs.Owning.{Stands}
 use Rattle.seg_spec.specs.Roots.{ChangesPlace}
-use Rattle.seg_spec.specs.Spending.{buffer_asks}
+use Rattle.seg_spec.specs.Spending.{buffer_asks, units_named}
+use Rattle.seg_spec.proofs.PlaceSteps.{place_within}
+use Rattle.seg_spec.proofs.TypesLaws.{size_large}
 use Rattle.seg_raw.specs.declared.code.Code.TheVariants.{BadAlloc}
 use Rattle.seg_value.specs.Stored.{Stored}
 use Rattle.seg_value.specs.Places.{object_at}
@@ -19,7 +21,8 @@ use Rattle.seg_value.specs.Contents.{IsEntryOf}
 use Rattle.seg_value.specs.Buffers.{NamesBuffer}
 use Rattle.seg_value.specs.declared.content.Content.{Content}
 use Rattle.seg_value.specs.declared.place.Place.{Place as Where}
-use Rattle.seg_seq.specs.Sequences.{HasItems, LacksRoom, PushesBack, PopsBack, push_asks}
+use Rattle.seg_seq.specs.Buffers.{NamesNone}
+use Rattle.seg_seq.specs.Sequences.{HasItems, IsFull, LacksRoom, PushesBack, PopsBack, push_asks}
 use Rattle.seg_seq.proofs.Rooms.{entries_fit}
 use Rattle.seg_seq.proofs.ItemRemoved.{some_buffer, last, others, item_stands as item_stands_there, its_blocks, item_removed}
 use Rattle.seg_seq.proofs.ItemAdded.{has_each, count_few, has_buffer_now, item_within, item_added, item_stands}
@@ -77,6 +80,18 @@ module _ (allocator : ℕ) (old : Stored) (cell T U : ℕ) (vs : Values) (blocks
           };
           leads = item_stands allocator old.window.bytes mid.window.bytes old.types (object_at cell T) U vs blocks h.form_is h.stands (push_asks old (object_at cell T) U) r' counted.window.bytes c' b.0 b.1 new.window.bytes done it;
         })
+
+-- a vector whose cell names no buffer has no room for an item
+pub none_is_full : (allocator : ℕ) (old : Stored) (cell T U : ℕ) (vs : Values) (blocks : List ℕ) → HasItems allocator old (object_at cell T) U vs blocks → NamesNone old.window.bytes cell → IsFull old (object_at cell T) U
+none_is_full allocator old cell T U vs blocks h (inl e) =
+    let none : units_named old.window.bytes cell ≡ 0 = rw e refl in
+    let large = size_large old.types h.stands.is_table U in
+    let m : (count_at old.window.bytes cell + 1) * size old.types U ≡ count_at old.window.bytes cell * size old.types U + size old.types U = grind arith in
+    omega arith
+none_is_full allocator old cell T U vs blocks h (inr short) =
+    let within = place_within allocator old.window.bytes old.types (object_at cell T) (Seq vs) blocks h.stands in
+    let large = size_large old.types h.stands.is_table T in
+    absurd (omega arith)
 
 -- ---- the last item goes
 

@@ -1,9 +1,10 @@
 -- What the cells of the sequences of each kind name.
-use Rattle.std.proofs.Common.{◌≡◌, ◌⊎◌, inl, inr, ℕ, Some, Ok, sym, subst}
+use Rattle.std.proofs.Common.{◌≡◌, ◌⊎◌, inl, inr, ℕ, Option, Some, None, Ok, sym, ◌∙◌, ap, subst}
 use Rattle.seg_spec.specs.Types.{Form, Table, form_at}
 use Rattle.seg_value.specs.Buffers.{NamesBuffer}
 use Rattle.seg_value.specs.Contents.{ContentOf}
 use Rattle.seg_value.specs.declared.content.Content.{Content}
+use Rattle.seg_value.specs.declared.entry.Held.TheVariants as held
 use Rattle.seg_seq.specs.Kinds.{KindOf}
 use Rattle.seg_seq.specs.Lists.{IsList}
 use Rattle.seg_seq.specs.declared.kind.Kind.{Kind}
@@ -39,3 +40,15 @@ module _ (table : Table) (T : ℕ) (c : Content) where
 
     pub buffer_vector : (U : ℕ) → form_at table T ≡ Some (Form.vec U) → NamesBuffer table T c
     buffer_vector U f = elim is [ inl e ↦ let no = rw f at (subst Kinds e of) in absurd no | inr e ↦ names_vector U f (subst Kinds e of) ]
+
+-- a vector whose entries hold values of a type is one of that type
+pub vector_of : (table : Table) (T V : ℕ) (form : Option Form) (c : Content) → KindOf table T form (Ok (kind.Vector, c)) → c.entry.held ≡ held.Value V → form ≡ Some (Form.vec V)
+vector_of table T V (Some (Form.vec U)) c k h = let same : held.Value U ≡ held.Value V = sym k.entry_is.held_is ∙ h in let e : U ≡ V = cc in ap (λ n. Some (Form.vec n)) e
+vector_of table T V None c k h = absurd k
+vector_of table T V (Some Form.i64) c k h = absurd k
+vector_of table T V (Some (Form.struct Us)) c k h = absurd k
+vector_of table T V (Some Form.str) c k h = absurd k
+vector_of table T V (Some (Form.list U)) c k h = absurd k
+vector_of table T V (Some (Form.flat_map U)) c k h = absurd k
+vector_of table T V (Some (Form.map U)) c k h = absurd k
+vector_of table T V (Some (Form.own U)) c k h = absurd k

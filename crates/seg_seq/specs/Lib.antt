@@ -2,3 +2,4 @@ pub mod Rings
 pub mod Lists
 pub mod Sequences
 pub mod Kinds
+pub mod Buffers

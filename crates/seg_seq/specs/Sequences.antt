@@ -2,6 +2,7 @@
 --     HasText allocator heap place xs blocks      a string stands at a place, with this text
 --     HasItems allocator heap place U vs blocks   a vector stands at a place, with these items
 --     item_type form                              the type of the items of a vector or a list
+--     IsFull heap place U                         a vector's buffer has no room for an item more
 --     Declines code old new result                the call returned a code, and nothing changed
 --     HasNone old new n code                      of n there was none to take, and nothing changed
 --     LacksRoom allocator old new asks code       one of the requests got nothing, and nothing
@@ -20,7 +21,7 @@
 --     IsPast index n code                         of n there is none at the index
 --     ShowsByte heap place xs index p             the byte of a text at an index stands there
 --     ShowsItem heap place U index p              the item of a vector or a list at an index does
-use Rattle.std.specs.Prelude.{◌≡◌, ℕ, ◌+◌, ◌-◌, ◌<◌, ◌≤◌, List, [], ◌∷◌, length, take, slice_index, Option, Some, None, Result, Err, MatchResult}
+use Rattle.std.specs.Prelude.{◌≡◌, ℕ, ◌+◌, ◌-◌, ◌*◌, ◌<◌, ◌≤◌, List, [], ◌∷◌, length, take, slice_index, Option, Some, None, Result, Err, MatchResult}
 use Rattle.seg_spec.specs.Bytes.{byte}
 use Rattle.seg_spec.specs.Types.{Form, form_at, size}
 use Rattle.seg_spec.specs.Value.{Value, Values, nil, cons, Text, Seq, count, append, default_of, Selector}
@@ -30,7 +31,7 @@ use Rattle.seg_spec.specs.Demand.{Ask}
 use Rattle.seg_spec.specs.Growing.{Succeeds}
 use Rattle.seg_spec.specs.Items.{without_last}
 use Rattle.seg_spec.specs.Owning.{Stands}
-use Rattle.seg_spec.specs.Spending.{buffer_asks, PartBlocks}
+use Rattle.seg_spec.specs.Spending.{buffer_asks, units_named, PartBlocks}
 use Rattle.seg_raw.specs.declared.code.Code.{Code}
 use Rattle.seg_raw.specs.declared.code.Code.TheVariants.{BadAlloc, Null, OutOfRange}
 use Rattle.seg_value.specs.Stored.{Stored}
@@ -54,6 +55,11 @@ abbrev pub item_type : Option Form → Option ℕ
 item_type (Some (Form.vec U)) = Some U
 item_type (Some (Form.list U)) = Some U
 item_type _ = None
+
+-- the vector's buffer has no room for an item more
+abbrev pub IsFull : Stored → Place → ℕ → Type 0
+IsFull heap place U = 16 * units_named heap.window.bytes place.at - 16
+    < (count_at heap.window.bytes place.at + 1) * size heap.types U
 
 -- ---- what they leave
 

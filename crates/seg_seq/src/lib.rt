@@ -2,6 +2,7 @@
 //! isn't for is refused as OtherType.
 #![tactic(auto)]
 
+mod buffer;
 mod kind;
 mod list;
 mod ring;
@@ -9,5 +10,5 @@ mod sequence;
 mod text;
 
 pub use list::{next, pop_front, prev, push_front};
-pub use sequence::{at, pop_back, push_back};
+pub use sequence::{at, pop_back, push_back, push_in_place};
 pub use text::{append, assign, push_byte};

@@ -16,7 +16,7 @@ returns-clause-does g c =
     let told : TellsPushFront g.F.Fit.allocator c.heap_mut.result.now after (place_of c.place-list.result) pushed.result = record { code = pushed.ensures.code; pushed = pushed.ensures.pushed } in
     let here = ap (λ (at : ℕ). record { at = at; type = c.place-list.result.type_id }) c.place-list.ensures.at ∙ ap (λ (type : ℕ). record { at = (place_at old i.b).at; type = type }) c.place-list.ensures.type_id in
     let same = c.heap_mut.ensures.value in
-    push_front_opens g.F.Fit.allocator i c.try_refer.result old c.try_refer.new.self c.args.segment.now after (pushed.ensures.types ∙ ap (λ (h : Stored). h.types) same) c.held_type.result
-    (λ U e. c.held_type.ensures U (ap (λ (type : ℕ). held_in (form_at after.types type)) c.place-list.ensures.type_id ∙ e)) pushed.result
+    push_front_opens g.F.Fit.allocator i c.try_refer.result old c.try_refer.new.self c.args.segment.now after (pushed.ensures.types ∙ ap (λ (h : Stored). h.types) same) c.held_type-held.result
+    (λ U e. c.held_type-held.ensures U (ap (λ (type : ℕ). held_in (form_at c.args.segment.now.types type)) c.place-list.ensures.type_id ∙ e)) pushed.result
     (subst (λ (h : Stored). TellsPushFront g.F.Fit.allocator h after (place_at old i.b) pushed.result) same
     (subst (λ (p : Place). TellsPushFront g.F.Fit.allocator c.heap_mut.result.now after p pushed.result) here told)) c.try_refer.ensures.refers
