@@ -12,9 +12,9 @@ ghost use Rattle.seg_block.specs.Blocks.{block_end, Covers, LiesIn, IsSized};
 ghost use Rattle.seg_bestfit.specs.FreeTree.{node_units, by_units, AreGaps, LeavesTree, JoinsTree};
 
 use crate::bestfit::BestFit;
-use seg_block::{Block, FreeStructure, HEAP_START, LINK, TAG, UNIT, block_at, set_size, units};
+use seg_block::{Block, FreeStructure, HEAP_START, LINK, TAG, UNIT, block_at, set_size, units_in};
 use seg_ptr::header::FREE;
-use seg_ptr::{MAX_LEN, Window};
+use seg_ptr::{MAX_LEN, View, Window};
 use seg_rbtree::{NodeOrder, Tree};
 use std::alloc::Allocator;
 use std::cmp::Ordering;
@@ -23,10 +23,10 @@ use std::cmp::Ordering;
 pub(crate) struct BySize;
 
 /// The units of the free block with this node.
-fn size<A: Allocator>(w: &Window<A>, node: u32) -> u32
-    ensures { result ≡ node_units w.now.bytes node }
+fn size(view: View, node: u32) -> u32
+    ensures { result ≡ node_units view.entry.bytes.now node }
 {
-    units(w, node.saturating_sub(UNIT))
+    units_in(view.get32(node.saturating_sub(UNIT) as usize))
 }
 
 impl NodeOrder<u32> for BySize {
@@ -38,12 +38,14 @@ impl NodeOrder<u32> for BySize {
 
     ghost read = { λ _ _ x. part (x - 16) 4 ∷ [] };
 
-    fn nodes<A: Allocator>(&self, w: &Window<A>, node: u32, other: u32) -> Ordering {
-        size(w, node).cmp(&size(w, other)).then(node.cmp(&other))
+    fn nodes(&self, view: View, node: u32, other: u32) -> Ordering {
+        size(view, node)
+            .cmp(&size(view, other))
+            .then(node.cmp(&other))
     }
 
-    fn key<A: Allocator>(&self, w: &Window<A>, node: u32, key: u32) -> Ordering {
-        size(w, node).cmp(&key)
+    fn key(&self, view: View, node: u32, key: u32) -> Ordering {
+        size(view, node).cmp(&key)
     }
 
     ghost total = { λ _ _ bytes.

@@ -74,7 +74,7 @@ pub fn payload<A: Allocator>(w: &Window<A>, block: u32) -> u64
 }
 
 /// The units that a header's first word states.
-fn units_in(size: u32) -> u32
+pub fn units_in(size: u32) -> u32
     ensures { result ≡ size % 2 ^ 31 }
 {
     size % LIVE

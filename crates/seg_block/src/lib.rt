@@ -19,7 +19,7 @@ pub use free_structure::{FreeStructure, absorb, cut, resize};
 pub use grant::{Grant, request, request_at, request_new};
 pub use header::{
     HEAP_START, Header, LINK, TAG, UNIT, UNITS_BEFORE, block_of, is_live, link, payload, tag_word,
-    units, units_before,
+    units, units_before, units_in,
 };
 pub use rules::{expanded, granted, preferred, shrunk};
 pub use tag::{Kind, Tag};

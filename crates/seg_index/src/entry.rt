@@ -3,9 +3,9 @@ ghost use Rattle.seg_spec.specs.Window.{KeepsHost, with_bytes};
 ghost use Rattle.seg_index.specs.Names.{named_type, type_of, name_of};
 ghost use Rattle.seg_index.specs.Entries.{entry_read, write_entry};
 
-use seg_block::{Kind, Tag, UNIT, tag_word};
+use seg_block::{Kind, TAG, Tag, UNIT};
 use seg_layout::{TypeId, TypeTable};
-use seg_ptr::Window;
+use seg_ptr::{View, Window};
 use std::alloc::Allocator;
 
 /// The most bytes of a name.
@@ -71,11 +71,18 @@ impl NameEntry {
     pub fn read<A: Allocator>(w: &Window<A>, at: usize) -> NameEntry
         ensures { at + ENTRY ≤ 2 ^ 64 → result ≡ entry_read w.now.bytes at }
     {
+        NameEntry::read_in(w.view(), at)
+    }
+
+    /// The same, of the segment's bytes.
+    pub(crate) fn read_in(view: View, at: usize) -> NameEntry
+        ensures { at + ENTRY ≤ 2 ^ 64 → result ≡ entry_read view.entry.bytes.now at }
+    {
         NameEntry {
-            object: w.target(at),
-            count: w.get16(at.saturating_add(4)),
-            name_len: w.get8(at.saturating_add(6)),
-            zero: w.get8(at.saturating_add(7)),
+            object: view.target(at),
+            count: view.get16(at.saturating_add(4)),
+            name_len: view.get8(at.saturating_add(6)),
+            zero: view.get8(at.saturating_add(7)),
         }
     }
 
@@ -96,8 +103,15 @@ impl NameEntry {
     pub fn type_id<A: Allocator>(&self, w: &Window<A>) -> Option<TypeId>
         ensures { result ≡ type_of w.now.bytes self.now.object }
     {
+        self.type_in(w.view())
+    }
+
+    /// The same, of the segment's bytes.
+    fn type_in(&self, view: View) -> Option<TypeId>
+        ensures { result ≡ type_of view.entry.bytes.now self.now.object }
+    {
         let block = self.object?.checked_sub(UNIT)?;
-        named_type(tag_word(w, block))
+        named_type(view.get32(block as usize + TAG))
     }
 
     /// The bytes of the object's values, where each has `size` bytes. The name stands after them.
@@ -113,13 +127,21 @@ impl NameEntry {
         ensures { result.now ≡ name_of types.now w.now.bytes self.now.object
             self.now.count self.now.name_len }
     {
+        self.name_in(w.view(), types)
+    }
+
+    /// The same, of the segment's bytes.
+    pub(crate) fn name_in<'a>(&self, view: View<'a>, types: &TypeTable) -> &'a [u8]
+        ensures { result.now ≡ name_of types.now view.entry.bytes.now self.now.object
+            self.now.count self.now.name_len }
+    {
         let Some(object) = self.object else {
             return &[];
         };
-        let Some(type_id) = self.type_id(w) else {
+        let Some(type_id) = self.type_in(view) else {
             return &[];
         };
         let values = self.values_len(types.size(type_id));
-        w.slice(object as usize + values, self.name_len as usize)
+        view.slice(object as usize + values, self.name_len as usize)
     }
 }

@@ -2,6 +2,7 @@
 #![tactic(auto)]
 
 mod anonymous;
+mod keys;
 mod names;
 mod segment;
 mod size;

@@ -13,6 +13,7 @@ use seg_index::{IndexKind, set_unique};
 use seg_layout::{ENTRY, MAX_TYPES, TypeId, TypeTable};
 use seg_ptr::{MAX_LEN, MIN_LEN, Window, header};
 use seg_raw::{Fault, Region};
+use seg_rbtree::Path;
 use seg_value::Heap;
 use std::alloc::Allocator;
 use std::marker::Model;
@@ -22,15 +23,20 @@ use std::marker::Model;
 /// return.
 #[derive(Drop)]
 pub struct Segment<F: Fit, A: Allocator> {
-    heap: Heap<F, A>,
+    pub(crate) heap: Heap<F, A>,
+    /// The way to the key of a map that was returned last. It begins at the root again where the heap may change.
+    pub(crate) cursor: Path,
 }
 
 impl<F: Fit, A: Allocator> Model for Segment<F, A> {
     ghost use Rattle.seg_value.specs.Stored.{Stored};
+    ghost use Rattle.seg_rbtree.specs.Following.{LeadsInside};
 
     ghost Value = { Stored };
 
     ghost view = { λ segment. segment.heap };
+
+    ghost invariant = { λ segment. LeadsInside segment.heap.window.bytes segment.cursor };
 }
 
 impl<F: Fit, A: Allocator> Segment<F, A> {
@@ -41,6 +47,7 @@ impl<F: Fit, A: Allocator> Segment<F, A> {
     {
         Segment {
             heap: Heap::new(window, types),
+            cursor: Path::new(0),
         }
     }
 
@@ -61,6 +68,7 @@ impl<F: Fit, A: Allocator> Segment<F, A> {
         ensures* writes_back { sem 𝓛 (Lends (the_row F.row A.row F.Fit A.Allocator)
             (the_heap.the_row F.row A.row F.Fit A.Allocator) self.entry result (λ heap. heap)) }
     {
+        self.cursor.rewind();
         &mut self.heap
     }
 
@@ -113,15 +121,17 @@ impl<F: Fit, A: Allocator> Segment<F, A> {
         ensures unchanged { OnErr result (self.new ≡ self.old) }
     {
         let types = self.types().extends(types)?;
-        write_types(self.heap.window_mut(), &types);
-        self.heap.set_types(types);
+        let heap = self.heap_mut();
+        write_types(heap.window_mut(), &types);
+        heap.set_types(types);
         Ok(())
     }
 
     pub fn into_window(self) -> Window<A>
         ensures { result ≡ self.window }
     {
-        self.heap.into_window()
+        let Segment { heap, cursor: _ } = self;
+        heap.into_window()
     }
 
     pub fn into_region(self) -> Region<A>

@@ -4,12 +4,14 @@ ghost use Rattle.seg_spec.specs.Items.{key_place};
 ghost use Rattle.seg_spec.specs.Types.{form_at};
 ghost use Rattle.seg_spec.specs.Window.{KeepsHost};
 ghost use Rattle.seg_value.specs.Places.{place_of};
+ghost use Rattle.seg_rbtree.specs.Following.{LeadsInside};
 ghost use Rattle.seg_map.specs.EitherMap.{has_keys, WhereMaps, key_asks, KeepsTreePaths, KeepsKeysBut};
 ghost use Rattle.seg_map.specs.Maps.{FindsValue, PutsKey, RemovesKey, first_of, keys_above};
 
 use crate::{flat, tree};
 use seg_block::Fit;
 use seg_raw::Code;
+use seg_rbtree::Path;
 use seg_value::{Content, Heap, KEY, Place, Shape};
 use std::alloc::Allocator;
 
@@ -113,9 +115,28 @@ pub fn first_key<F: Fit, A: Allocator>(heap: &Heap<F, A>, map: Place) -> Result<
     ensures first { WhereMaps F.allocator heap.now.window.bytes heap.now.types (place_of map)
         (λ U keys vs blocks. result_ok result ≡ first_of keys) }
 {
+    let mut cursor = Path::new(map.at as usize);
+    first_key_by(heap, &mut cursor, map)
+}
+
+/// The same. A cursor then leads to the key, where the map is a tree.
+pub fn first_key_by<F: Fit, A: Allocator>(
+    heap: &Heap<F, A>,
+    cursor: &mut Path,
+    map: Place,
+) -> Result<i64, Code>
+    ensures other { has_keys (form_at heap.now.types map.type_id) ≡ false →
+        result ≡ Err Code.OtherType }
+    ensures code { has_keys (form_at heap.now.types map.type_id) ≡ true →
+        IsOkUnless result Code.Null }
+    ensures first { WhereMaps F.allocator heap.now.window.bytes heap.now.types (place_of map)
+        (λ U keys vs blocks. result_ok result ≡ first_of keys) }
+    ensures inside { LeadsInside heap.now.window.bytes cursor.old
+        → LeadsInside heap.now.window.bytes cursor.new }
+{
     match Kind::of(heap, map)? {
         Kind::Flat(content) => flat::first_key(heap, content.entry, map.at),
-        Kind::Tree(_) => tree::first_key(heap, map.at),
+        Kind::Tree(_) => tree::first_key(heap, cursor, map.at),
     }
     .ok_or(Code::Null)
 }
@@ -134,9 +155,30 @@ pub fn next_key<F: Fit, A: Allocator>(
     ensures next { WhereMaps F.allocator heap.now.window.bytes heap.now.types (place_of map)
         (λ U keys vs blocks. result_ok result ≡ first_of (keys_above keys after)) }
 {
+    let mut cursor = Path::new(map.at as usize);
+    next_key_by(heap, &mut cursor, map, after)
+}
+
+/// The same. A cursor then leads to the key, where the map is a tree, and where it led to the other key it goes one step.
+pub fn next_key_by<F: Fit, A: Allocator>(
+    heap: &Heap<F, A>,
+    cursor: &mut Path,
+    map: Place,
+    after: i64,
+) -> Result<i64, Code>
+    ensures other { has_keys (form_at heap.now.types map.type_id) ≡ false →
+        result ≡ Err Code.OtherType }
+    ensures code { has_keys (form_at heap.now.types map.type_id) ≡ true →
+        IsOkUnless result Code.Null }
+    ensures next { LeadsInside heap.now.window.bytes cursor.old
+        → WhereMaps F.allocator heap.now.window.bytes heap.now.types (place_of map)
+        (λ U keys vs blocks. result_ok result ≡ first_of (keys_above keys after)) }
+    ensures inside { LeadsInside heap.now.window.bytes cursor.old
+        → LeadsInside heap.now.window.bytes cursor.new }
+{
     match Kind::of(heap, map)? {
         Kind::Flat(content) => flat::next_key(heap, content.entry, map.at, after),
-        Kind::Tree(_) => tree::next_key(heap, map.at, after),
+        Kind::Tree(_) => tree::next_key(heap, cursor, map.at, after),
     }
     .ok_or(Code::Null)
 }

@@ -15,6 +15,7 @@ ghost use Rattle.seg_spec.specs.Demand.{block_for};
 ghost use Rattle.seg_spec.specs.Items.{key_place};
 ghost use Rattle.seg_rbtree.specs.Parts.{part};
 ghost use Rattle.seg_rbtree.specs.Roots.{root_word};
+ghost use Rattle.seg_rbtree.specs.Following.{LeadsInside};
 ghost use Rattle.seg_rbtree.proofs.Keys.{equal_to_one};
 ghost use Rattle.seg_value.specs.Contents.{IsEntryOf};
 ghost use Rattle.seg_value.specs.Places.{object_at};
@@ -22,9 +23,9 @@ ghost use Rattle.seg_map.specs.Maps.{WhereMap, FindsValue, PutsKey, RemovesKey, 
 ghost use Rattle.seg_map.specs.Trees.{VALUE, NamesTree, KeepsOtherKeys};
 
 use seg_block::Fit;
-use seg_ptr::Window;
+use seg_ptr::View;
 use seg_raw::Code;
-use seg_rbtree::{NodeOrder, TREE_WORDS, Tree, UniqueKeys};
+use seg_rbtree::{NodeOrder, Path, TREE_WORDS, Tree, UniqueKeys};
 use seg_value::{Content, Entry, Heap};
 use std::alloc::Allocator;
 use std::cmp::Ordering;
@@ -41,12 +42,12 @@ impl NodeOrder<i64> for ByKey {
 
     ghost read = { λ _ _ x. part ((x + 16) % 2 ^ 32) 8 ∷ [] };
 
-    fn nodes<A: Allocator>(&self, w: &Window<A>, node: u32, other: u32) -> Ordering {
-        key_of(w, node).cmp(&key_of(w, other))
+    fn nodes(&self, view: View, node: u32, other: u32) -> Ordering {
+        key_of(view, node).cmp(&key_of(view, other))
     }
 
-    fn key<A: Allocator>(&self, w: &Window<A>, node: u32, key: i64) -> Ordering {
-        key_of(w, node).cmp(&key)
+    fn key(&self, view: View, node: u32, key: i64) -> Ordering {
+        key_of(view, node).cmp(&key)
     }
 
     ghost total = { λ _ _ bytes. on_total (λ x. signed_long bytes ((x + 16) % 2 ^ 32)) int_cmp_total };
@@ -71,10 +72,10 @@ fn key_place(node: u32) -> u32
 }
 
 #[tactic(auto, unfolding(seg_spec::specs::Bytes::signed))]
-fn key_of<A: Allocator>(w: &Window<A>, node: u32) -> i64
-    ensures { result ≡ signed_long w.now.bytes ((node + 16) % 2 ^ 32) }
+fn key_of(view: View, node: u32) -> i64
+    ensures { result ≡ signed_long view.entry.bytes.now ((node + 16) % 2 ^ 32) }
 {
-    w.get64(key_place(node) as usize).cast_signed()
+    view.get64(key_place(node) as usize).cast_signed()
 }
 
 fn tree_of(cell: u32) -> Tree
@@ -162,24 +163,34 @@ pub(crate) fn remove<F: Fit, A: Allocator>(
     true
 }
 
-/// The least key.
-pub(crate) fn first_key<F: Fit, A: Allocator>(heap: &Heap<F, A>, cell: u32) -> Option<i64>
-    ensures { WhereMap Form.map F.allocator heap.now.window.bytes heap.now.types cell
+/// The least key, to which the cursor then leads.
+pub(crate) fn first_key<F: Fit, A: Allocator>(
+    heap: &Heap<F, A>,
+    cursor: &mut Path,
+    cell: u32,
+) -> Option<i64>
+    ensures first { WhereMap Form.map F.allocator heap.now.window.bytes heap.now.types cell
         (λ T U keys vs blocks. result ≡ first_of keys) }
+    ensures inside { LeadsInside heap.now.window.bytes cursor.new }
 {
-    let node = tree_of(cell).first(heap.window())?;
-    Some(key_of(heap.window(), node))
+    let node = cursor.first(heap.window(), tree_of(cell))?;
+    Some(key_of(heap.window().view(), node))
 }
 
-/// The least key above another.
+/// The least key above another, to which the cursor then leads. It is one step from the other key where the cursor leads to
+/// that.
 pub(crate) fn next_key<F: Fit, A: Allocator>(
     heap: &Heap<F, A>,
+    cursor: &mut Path,
     cell: u32,
     after: i64,
 ) -> Option<i64>
-    ensures { WhereMap Form.map F.allocator heap.now.window.bytes heap.now.types cell
+    ensures next { LeadsInside heap.now.window.bytes cursor.old
+        → WhereMap Form.map F.allocator heap.now.window.bytes heap.now.types cell
         (λ T U keys vs blocks. result ≡ first_of (keys_above keys after)) }
+    ensures inside { LeadsInside heap.now.window.bytes cursor.old
+        → LeadsInside heap.now.window.bytes cursor.new }
 {
-    let node = tree_of(cell).next_after(heap.window(), &ByKey, after)?;
-    Some(key_of(heap.window(), node))
+    let node = cursor.next_after(heap.window(), tree_of(cell), &ByKey, after)?;
+    Some(key_of(heap.window().view(), node))
 }

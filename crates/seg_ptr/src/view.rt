@@ -1,5 +1,5 @@
 ghost use Rattle.std.specs.Prelude.{◌≡◌, ◌+◌, ◌<◌, ◌≤◌, ◌↔◌, [], length, IsTrue};
-ghost use Rattle.seg_spec.specs.Bytes.{slice, word};
+ghost use Rattle.seg_spec.specs.Bytes.{slice, byte, half, word, long};
 ghost use Rattle.seg_spec.specs.Pointer.{target};
 
 use crate::pointer::named;
@@ -43,6 +43,35 @@ impl<'a> View<'a> {
         }
     }
 
+    /// The `n` bytes from a position on, as many of them as there are.
+    pub fn slice(self, at: usize, n: usize) -> &'a [u8]
+        ensures { result.now ≡ slice self.entry.bytes.now at n }
+    {
+        let from = at.min(self.bytes.len());
+        let len = n.min(self.bytes.len() - from);
+        &self.bytes[from..from + len]
+    }
+
+    /// The byte at a position.
+    pub fn get8(self, at: usize) -> u8
+        ensures { result ≡ byte self.entry.bytes.now at }
+    {
+        let [a] = self.part(at, 1).bytes else {
+            return 0;
+        };
+        *a
+    }
+
+    /// The number of 16 bits at a position.
+    pub fn get16(self, at: usize) -> u16
+        ensures { result ≡ half self.entry.bytes.now at }
+    {
+        let [a, b] = self.part(at, 2).bytes else {
+            return 0;
+        };
+        u16::from_le_bytes([*a, *b])
+    }
+
     /// The number of 32 bits at a position.
     pub fn get32(self, at: usize) -> u32
         ensures { result ≡ word self.entry.bytes.now at }
@@ -51,6 +80,16 @@ impl<'a> View<'a> {
             return 0;
         };
         u32::from_le_bytes([*a, *b, *c, *d])
+    }
+
+    /// The number of 64 bits at a position.
+    pub fn get64(self, at: usize) -> u64
+        ensures { result ≡ long self.entry.bytes.now at }
+    {
+        let [a, b, c, d, e, f, g, h] = self.part(at, 8).bytes else {
+            return 0;
+        };
+        u64::from_le_bytes([*a, *b, *c, *d, *e, *f, *g, *h])
     }
 
     /// What the pointer at a position names.

@@ -15,6 +15,7 @@ pub mod Lengthening
 pub mod Restoring
 pub mod TakingOut
 pub mod NextNode
+pub mod Climbing
 pub mod Removed
 pub mod Paths
 pub mod Raising

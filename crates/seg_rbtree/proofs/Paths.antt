@@ -14,13 +14,13 @@ use Rattle.seg_spec.proofs.Frame.{each_left, each_right, each_weaker}
 use Rattle.seg_rbtree.specs.declared.node.Side.{Side}
 use Rattle.seg_rbtree.specs.declared.node.Side.TheVariants.{Left, Right}
 use Rattle.seg_rbtree.specs.declared.path.Path.{Path}
-use Rattle.seg_rbtree.specs.Ways.{Layer, branch, grow, plug, turn_of, LeadBy, EndsAt, LeadsTo}
+use Rattle.seg_rbtree.specs.Ways.{Layer, branch, grow, plug, turn_of, LeadBy, EndsAt, LeadsTo, before, following}
 use Rattle.seg_rbtree.specs.Paths.{node_at, IsEqualAmong, FindsEqual}
 use Rattle.seg_rbtree.specs.Changes.{IsNew}
 use Rattle.seg_rbtree.proofs.Apartness.{each_join}
 use Rattle.seg_rbtree.proofs.Orders.{ascend-parts, ascend-down}
 use Rattle.seg_rbtree.proofs.Searching.{first_here, first_later}
-use Rattle.seg_rbtree.proofs.Unlinking.{before, following, nodes_plug}
+use Rattle.seg_rbtree.proofs.Unlinking.{nodes_plug}
 use Rattle.seg_rbtree.proofs.Removed.{rest_hangs}
 
 reversed : (r s : Ordering) → ordering_reverse r ≡ s → r ≡ ordering_reverse s

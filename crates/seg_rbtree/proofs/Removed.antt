@@ -17,7 +17,7 @@ use Rattle.seg_rbtree.specs.declared.node.Side.{Side}
 use Rattle.seg_rbtree.specs.declared.node.Side.TheVariants.{Left, Right}
 use Rattle.seg_rbtree.specs.declared.node.Colour.TheVariants.{Black, Red}
 use Rattle.seg_rbtree.specs.declared.path.Path.{Path}
-use Rattle.seg_rbtree.specs.Ways.{Layer, branch, grow, plug, place, last_word, turn_of, LeadBy, EndsAt, LeadsTo}
+use Rattle.seg_rbtree.specs.Ways.{Layer, branch, grow, plug, place, last_word, turn_of, LeadBy, EndsAt, LeadsTo, before, following}
 use Rattle.seg_rbtree.specs.Paths.{node_at}
 use Rattle.seg_rbtree.specs.Changes.{StandApart, KeepsBeside, Leaves, without_node}
 use Rattle.seg_rbtree.specs.Turns.{Turns}
@@ -25,7 +25,7 @@ use Rattle.seg_rbtree.specs.Removing.{StandsAt, Loses, Unlinks, Restores}
 use Rattle.seg_rbtree.proofs.Apartness.{each_join}
 use Rattle.seg_rbtree.proofs.Keeping.{keeps-none, keeps-trans, keeps-wider}
 use Rattle.seg_rbtree.proofs.Orders.{ascend-parts, ascend-down}
-use Rattle.seg_rbtree.proofs.Unlinking.{before, following, nodes_plug}
+use Rattle.seg_rbtree.proofs.Unlinking.{nodes_plug}
 use Rattle.seg_rbtree.proofs.WithoutNode.{without_lost, without_later}
 use Rattle.seg_rbtree.proofs.Steps.{last_word-steps}
 use Rattle.seg_rbtree.proofs.Branches.{tree-down}

@@ -11,16 +11,19 @@ use Rattle.seg_rbtree.specs.declared.node.Colour.{Colour as Paint}
 use Rattle.seg_rbtree.specs.declared.node.Colour.TheVariants.{Black, Red}
 use Rattle.seg_rbtree.specs.declared.path.Path.{Path}
 use Rattle.seg_rbtree.specs.Nodes.{side_word, opposite, shade, colour_at}
+use Rattle.seg_spec.specs.Search.{IsSearchTree}
 use Rattle.seg_rbtree.specs.Ways.{Layer, branch, grow, plug, place, step_of, steps_of, last_word}
 use Rattle.seg_rbtree.specs.Changes.{StandApart, NodesApart}
+use Rattle.seg_rbtree.specs.Following.{IsPartAt}
 use Rattle.seg_rbtree.specs.Turns.{Turns}
 use Rattle.seg_rbtree.specs.Removing.{layer_at, StandsAt, IsLeft, Loses, AreLeft, Unlinks, Descends}
 use Rattle.seg_rbtree.proofs.Apartness.{parts-apart}
-use Rattle.seg_rbtree.proofs.Branches.{branch-parts}
+use Rattle.seg_rbtree.proofs.Branches.{branch-parts, tree-down}
 use Rattle.seg_rbtree.proofs.Turning.{turns-hung}
 use Rattle.seg_rbtree.proofs.Depth.{deep-64, layers-deep}
 use Rattle.seg_rbtree.proofs.Unlinking.{lone_lost, red_unlinked, black_unlinked}
 use Rattle.seg_rbtree.proofs.Walking.{length-steps}
+use Rattle.seg_rbtree.proofs.Steps.{last_word-steps}
 use Rattle.seg_rbtree.proofs.Lengthening.{path_word, turned_at, here, here_apart, no_tree, painted_fork, fork_at}
 
 -- ---- ways one after the other
@@ -119,6 +122,18 @@ lone_unlinked bytes new path node empty gone eg en e3 layers tree s r few named 
 
 -- ---- the way to the first node below a place
 
+-- a part in a search tree, from one that stands apart from others
+pub as_part : (bytes now : List ℕ) (path : Path) (layers : List Layer) (tree : Tree) → now ≡ bytes → StandsAt bytes path layers tree → IsRedBlack (plug tree layers) → length (nodes_of (plug tree layers)) < 2 ^ 32
+    → IsPartAt now path layers tree
+as_part bytes now path layers tree e s r few =
+    subst (λ bs. IsPartAt bs path layers tree) (sym e) (record { steps_are = s.steps_are; whole = record { is_tree = s.hangs; red_black = r; few = few } })
+
+pub part_word : (bytes : List ℕ) (path : Path) (layers : List Layer) (tree : Tree) → IsPartAt bytes path layers tree → last_word path.root path.steps.items ≡ place path.root layers
+part_word bytes path layers tree s = ap (last_word path.root) s.steps_are ∙ last_word-steps path.root layers
+
+pub part_here : (bytes : List ℕ) (path : Path) (layers : List Layer) (tree : Tree) → IsPartAt bytes path layers tree → IsTree bytes (target bytes (place path.root layers)) tree
+part_here bytes path layers tree s = tree-down bytes path.root tree layers s.whole.is_tree
+
 -- so many steps on, all to the left
 pub record IsDescending (bytes : List ℕ) (path : Path) (layers : List Layer) (tree : Tree) (first count : ℕ) : Type 0 where
   pub lower : List Layer
@@ -131,11 +146,11 @@ pub record IsDescending (bytes : List ℕ) (path : Path) (layers : List Layer) (
   pub left_hangs : IsTree bytes (target bytes first) left
   pub count_is : count ≡ length lower
 
-pub descending_start : (bytes : List ℕ) (path : Path) (to : Option ℕ) (first : ℕ) → to ≡ target bytes (last_word path.root path.steps.items) → to ≡ Some first → (layers : List Layer) (tree : Tree) → StandsAt bytes path layers tree
+pub descending_start : (bytes : List ℕ) (path : Path) (to : Option ℕ) (first : ℕ) → to ≡ target bytes (last_word path.root path.steps.items) → to ≡ Some first → (layers : List Layer) (tree : Tree) → IsPartAt bytes path layers tree
     → IsDescending bytes path layers tree first 0
 descending_start bytes path to first e n layers tree s =
-    let named : target bytes (place path.root layers) ≡ Some first = ap (target bytes) (sym (path_word bytes path layers tree s)) ∙ sym e ∙ n in
-    start tree (subst (λ o. IsTree bytes o tree) named (here bytes path layers tree s))
+    let named : target bytes (place path.root layers) ≡ Some first = ap (target bytes) (sym (part_word bytes path layers tree s)) ∙ sym e ∙ n in
+    start tree (subst (λ o. IsTree bytes o tree) named (part_here bytes path layers tree s))
   where
     start : (tree : Tree) → IsTree bytes (Some first) tree → IsDescending bytes path layers tree first 0
     start leaf h = absurd h
@@ -191,18 +206,17 @@ descending_few bytes path layers tree first count r few d =
     omega (arith, descending_room bytes path layers tree first count r few d, length-append d.lower layers, d.count_is)
 
 -- one step to the right
-pub stepped : (bytes : List ℕ) (path next : Path) (layers : List Layer) (left right : Tree) (node : ℕ) (colour : Colour) → StandsAt bytes path layers (fork left node colour right) → next.root ≡ path.root
+pub stepped : (bytes : List ℕ) (path next : Path) (layers : List Layer) (left right : Tree) (node : ℕ) (colour : Colour) → IsPartAt bytes path layers (fork left node colour right) → next.root ≡ path.root
     → next.steps.items ≡ path.steps.items ++ record { node = node; side = Right } ∷ []
-    → StandsAt bytes next (layer_at Right node colour left ∷ layers) right
+    → IsPartAt bytes next (layer_at Right node colour left ∷ layers) right
 stepped bytes path next layers left right node colour s r p = record {
   steps_are = p ∙ ap (λ ss. ss ++ record { node = node; side = Right } ∷ []) s.steps_are;
-  hangs = subst (λ root. IsTree bytes (target bytes root) (plug (fork left node colour right) layers)) (sym r) s.hangs;
-  apart = subst (λ root. StandApart (length bytes) root (nodes_of (plug (fork left node colour right) layers))) (sym r) s.apart;
+  whole = subst (λ root. IsSearchTree bytes root (plug (fork left node colour right) layers)) (sym r) s.whole;
 }
 
-pub step_room : (bytes : List ℕ) (path : Path) (layers : List Layer) (left right : Tree) (node : ℕ) (colour : Colour) → StandsAt bytes path layers (fork left node colour right) → IsRedBlack (plug (fork left node colour right) layers)
-    → length (nodes_of (plug (fork left node colour right) layers)) < 2 ^ 32 → length path.steps.items < 64
-step_room bytes path layers left right node colour s r few = let long : length path.steps.items ≡ length layers = ap length s.steps_are ∙ length-steps layers in omega (arith, room_above layers left right node colour r few)
+pub step_room : (bytes : List ℕ) (path : Path) (layers : List Layer) (left right : Tree) (node : ℕ) (colour : Colour) → IsPartAt bytes path layers (fork left node colour right) → length path.steps.items < 64
+step_room bytes path layers left right node colour s =
+    let long : length path.steps.items ≡ length layers = ap length s.steps_are ∙ length-steps layers in omega (arith, room_above layers left right node colour s.whole.red_black s.whole.few)
 
 -- ---- any node
 

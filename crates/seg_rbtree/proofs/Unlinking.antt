@@ -4,29 +4,13 @@ use Rattle.std.proofs.lemmas.List.{append-nil}
 use Rattle.seg_spec.specs.Shapes.{Colour, black, red, Tree, leaf, fork, nodes_of, IsBlack, IsRedBlack}
 use Rattle.seg_rbtree.specs.declared.node.Side.{Side}
 use Rattle.seg_rbtree.specs.declared.node.Side.TheVariants.{Left, Right}
-use Rattle.seg_rbtree.specs.Ways.{Layer, branch, plug}
+use Rattle.seg_rbtree.specs.Ways.{Layer, branch, plug, nodes_before, nodes_after, before, following}
 use Rattle.seg_rbtree.specs.Balance.{IsBelowBlack, height_above, SideFits, Wants}
 use Rattle.seg_rbtree.specs.Removing.{blacks, IsShort, AreLeft, Loses}
 use Rattle.seg_rbtree.proofs.Balancing.{black-parts, red-parts, balanced-down, balanced-up}
 use Rattle.seg_rbtree.proofs.ShortSide.{balanced_nearly, whole_low}
 
 -- ---- nodes around a place
-
-pub nodes_before : Side → Tree → ℕ → List ℕ
-nodes_before Left other at = []
-nodes_before Right other at = nodes_of other ++ at ∷ []
-
-pub nodes_after : Side → Tree → ℕ → List ℕ
-nodes_after Left other at = at ∷ nodes_of other
-nodes_after Right other at = []
-
-pub before : List Layer → List ℕ
-before [] = []
-before (l ∷ ls) = before ls ++ nodes_before l.side l.other l.at
-
-pub following : List Layer → List ℕ
-following [] = []
-following (l ∷ ls) = nodes_after l.side l.other l.at ++ following ls
 
 nodes_fork : (side : Side) (inner outer : Tree) (at : ℕ) (colour : Colour) → nodes_of (branch side at colour inner outer) ≡ nodes_before side outer at ++ (nodes_of inner ++ nodes_after side outer at)
 unfolding nodes_before nodes_after

@@ -6,11 +6,14 @@
 --     steps_of layers                     the layers as a path names them, the outermost first
 --     last_word root steps                the position of the pointer after the last step
 --     LeadsTo turn shape path             the path leads to what is sought, or to the empty place where it would stand
+--     IsWayIn shape path                  the path leads to a place of the tree
+--     before layers, following layers     the nodes on either side of a place
+--     after_root tree                     the nodes of a tree after its root
 use Rattle.std.specs.Prelude.{◌≡◌, ℕ, ⊤, List, [], ◌∷◌, ◌++◌}
 use Rattle.std.specs.List.{AllByRecursion}
 use Rattle.std.specs.declared.cmp.Ordering.{Ordering}
 use Rattle.std.specs.declared.cmp.Ordering.TheVariants.{Less, Equal, Greater}
-use Rattle.seg_spec.specs.Shapes.{Colour, Tree, leaf, fork}
+use Rattle.seg_spec.specs.Shapes.{Colour, Tree, leaf, fork, nodes_of}
 use Rattle.seg_rbtree.specs.declared.node.Side.{Side}
 use Rattle.seg_rbtree.specs.declared.node.Side.TheVariants.{Left, Right}
 use Rattle.seg_rbtree.specs.declared.path.Step.{Step}
@@ -80,3 +83,33 @@ pub record LeadsTo (turn : ℕ → Ordering) (shape : Tree) (path : Path) : Type
   pub steps_are : path.steps.items ≡ steps_of layers
   pub leads : LeadBy turn layers
   pub ends : EndsAt turn rest
+
+-- the path leads to a place of the tree, whatever stands there
+pub record IsWayIn (shape : Tree) (path : Path) : Type 0 where
+  pub layers : List Layer
+  pub rest : Tree
+  pub shape_is : plug rest layers ≡ shape
+  pub steps_are : path.steps.items ≡ steps_of layers
+
+-- the nodes of a layer that come before the place below it, and those after
+unfoldable pub nodes_before : Side → Tree → ℕ → List ℕ
+nodes_before Left other at = []
+nodes_before Right other at = nodes_of other ++ at ∷ []
+
+unfoldable pub nodes_after : Side → Tree → ℕ → List ℕ
+nodes_after Left other at = at ∷ nodes_of other
+nodes_after Right other at = []
+
+-- the nodes of a tree that come before a place, and those after
+unfoldable pub before : List Layer → List ℕ
+before [] = []
+before (l ∷ ls) = before ls ++ nodes_before l.side l.other l.at
+
+unfoldable pub following : List Layer → List ℕ
+following [] = []
+following (l ∷ ls) = nodes_after l.side l.other l.at ++ following ls
+
+-- the nodes of a tree after its root
+abbrev pub after_root : Tree → List ℕ
+after_root leaf = []
+after_root (fork left at colour right) = nodes_of right

@@ -6,6 +6,7 @@
 #![tactic(auto)]
 
 mod insert;
+mod next;
 mod node;
 mod order;
 mod path;

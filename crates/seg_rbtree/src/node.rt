@@ -4,7 +4,7 @@ ghost use Rattle.seg_spec.specs.Shapes.{HasColour};
 ghost use Rattle.seg_spec.specs.Window.{with_bytes};
 ghost use Rattle.seg_rbtree.specs.Nodes.{side_word, opposite, colour_at, shade, with_child, with_colour, with_new_node, rotated};
 
-use seg_ptr::Window;
+use seg_ptr::{View, Window};
 use std::alloc::Allocator;
 
 /// From a node to its pointer to the right child, in bytes. The pointer to the left child comes first.
@@ -57,6 +57,13 @@ pub fn child<A: Allocator>(w: &Window<A>, node: u32, side: Side) -> Option<u32>
     ensures { result ≡ target w.now.bytes (side_word node side) }
 {
     w.target(child_word(node, side))
+}
+
+/// The same, of the segment's bytes.
+pub(crate) fn child_in(view: View, node: u32, side: Side) -> Option<u32>
+    ensures { result ≡ target view.entry.bytes.now (side_word node side) }
+{
+    view.target(child_word(node, side))
 }
 
 pub(crate) fn set_child<A: Allocator>(w: &mut Window<A>, node: u32, side: Side, child: Option<u32>)

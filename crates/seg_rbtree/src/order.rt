@@ -9,8 +9,7 @@ ghost use Rattle.seg_spec.specs.Search.{rank_of};
 ghost use Rattle.seg_rbtree.specs.Parts.{Part};
 ghost use Rattle.seg_rbtree.specs.Paths.{sought_by};
 
-use seg_ptr::Window;
-use std::alloc::Allocator;
+use seg_ptr::View;
 use std::cmp::Ordering;
 
 /// The order of a tree's nodes, and of its nodes and keys. It reads what it likes of a node but its tree words.
@@ -32,12 +31,12 @@ pub trait NodeOrder<K: Copy> {
     ghost placed: { Self → List ℕ → ℕ → Type 0 } = { λ _ _ _. ⊤ };
 
     /// Compares two nodes.
-    fn nodes<A: Allocator>(&self, w: &Window<A>, node: u32, other: u32) -> Ordering
-        ensures { exact → result ≡ compare self.now w.now.bytes node other };
+    fn nodes(&self, view: View, node: u32, other: u32) -> Ordering
+        ensures { exact → result ≡ compare self.now view.entry.bytes.now node other };
 
     /// Compares a node with a key.
-    fn key<A: Allocator>(&self, w: &Window<A>, node: u32, key: K) -> Ordering
-        ensures { exact → result ≡ compare_key self.now w.now.bytes node key };
+    fn key(&self, view: View, node: u32, key: K) -> Ordering
+        ensures { exact → result ≡ compare_key self.now view.entry.bytes.now node key };
 
     // The order is total. Nodes that compare as equal need not be the same.
     ghost total: { exact → (order : Self) (bytes : List ℕ) → IsTotalOrder (compare order bytes) };
@@ -78,18 +77,13 @@ pub(crate) enum Sought<K> {
 
 impl<K: Copy> Sought<K> {
     /// Compares what is sought with a node.
-    pub(crate) fn compare<O: NodeOrder<K>, A: Allocator>(
-        self,
-        w: &Window<A>,
-        order: &O,
-        node: u32,
-    ) -> Ordering
-        ensures { O.exact → result ≡ sought_by (O.compare order.now w.now.bytes)
-            (O.compare_key order.now w.now.bytes) self node }
+    pub(crate) fn compare<O: NodeOrder<K>>(self, view: View, order: &O, node: u32) -> Ordering
+        ensures { O.exact → result ≡ sought_by (O.compare order.now view.entry.bytes.now)
+            (O.compare_key order.now view.entry.bytes.now) self node }
     {
         match self {
-            Sought::Node(sought) => order.nodes(w, sought, node),
-            Sought::Key(key) => order.key(w, node, key).reverse(),
+            Sought::Node(sought) => order.nodes(view, sought, node),
+            Sought::Key(key) => order.key(view, node, key).reverse(),
         }
     }
 }

@@ -1,13 +1,14 @@
-ghost use Rattle.std.specs.Prelude.{slice_set, slice_index_or, ◌≡◌, ◌<◌, ◌≤◌, IsTrue, List, [], ◌∷◌, ◌++◌, length, Option, Some, MatchOption};
+ghost use Rattle.std.specs.Prelude.{slice_set, slice_index_or, ◌≡◌, ◌<◌, ◌≤◌, IsTrue, ℕ, List, [], ◌∷◌, ◌++◌, length, Option, Some, MatchOption, IfNone};
 ghost use Rattle.seg_spec.specs.Pointer.{target, set_pointer};
 ghost use Rattle.seg_spec.specs.Window.{with_bytes, KeepsHost};
 ghost use Rattle.seg_rbtree.specs.Nodes.{side_word, opposite, rotated};
 ghost use Rattle.seg_rbtree.specs.Paths.{end_word, word_after, node_at};
+ghost use Rattle.seg_rbtree.specs.Following.{LeadsInside};
 ghost use Rattle.seg_rbtree.specs.declared.path.TheConstants.{DEPTH};
 
 use crate::node::{Side, child_word, rotate};
 use arrayvec::ArrayVec;
-use seg_ptr::Window;
+use seg_ptr::{View, Window};
 use std::alloc::Allocator;
 
 /// The most nodes on a way down a tree. A red-black tree of fewer than 2^32 nodes has no more, and a segment has room for
@@ -25,21 +26,31 @@ pub(crate) struct Step {
 /// other bytes may change before a node is added or removed at its end; with another change of the tree it is out of date.
 #[derive(Drop)]
 pub struct Path {
-    root: usize,
+    pub(crate) root: usize,
     steps: ArrayVec<Step, DEPTH>,
 }
 
 impl Path {
     /// The place of the root itself, which this pointer word names.
     #[inline(always)]
-    pub(crate) fn new(root: usize) -> Path
+    pub fn new(root: usize) -> Path
         ensures root { result.root ≡ root }
         ensures steps { result.steps.items ≡ [] }
+        ensures inside { (bytes : List ℕ) → LeadsInside bytes result }
     {
         Path {
             root,
             steps: ArrayVec::new(),
         }
+    }
+
+    /// Goes back to the place of the root.
+    pub fn rewind(&mut self)
+        ensures root { self.new.root ≡ self.old.root }
+        ensures steps { self.new.steps.items ≡ [] }
+        ensures inside { (bytes : List ℕ) → LeadsInside bytes self.new }
+    {
+        self.steps.clear();
     }
 
     /// One step down. False where the way is longer than any in a tree.
@@ -57,6 +68,7 @@ impl Path {
         ensures root { self.new.root ≡ self.old.root }
         ensures popped { MatchOption result (self.old.steps.items ≡ [])
             (λ step. self.old.steps.items ≡ self.new.steps.items ++ step ∷ []) }
+        ensures stays { IfNone result (self.new ≡ self.old) }
     {
         self.steps.pop()
     }
@@ -108,6 +120,13 @@ impl Path {
         ensures { result ≡ node_at w.now.bytes self.now }
     {
         w.target(self.word())
+    }
+
+    /// The same, of the segment's bytes.
+    pub(crate) fn node_in(&self, view: View) -> Option<u32>
+        ensures { result ≡ node_at view.entry.bytes.now self.now }
+    {
+        view.target(self.word())
     }
 
     /// Puts another node at the place.

@@ -6,10 +6,11 @@ ghost use Rattle.seg_spec.specs.Window.{with_bytes, KeepsHost};
 ghost use Rattle.seg_rbtree.specs.Nodes.{side_word, opposite, colour_at};
 ghost use Rattle.seg_rbtree.specs.Changes.{StandApart, without_node, Leaves};
 ghost use Rattle.seg_rbtree.specs.Ways.{branch, plug, place};
-ghost use Rattle.seg_rbtree.specs.Removing.{layer_at, in_place_of, IsShort, StandsAt, WhereRedBlack, Descends, Unlinks, Lowers, ComesUp, Lengthens, Restores};
+ghost use Rattle.seg_rbtree.specs.Removing.{layer_at, in_place_of, IsShort, StandsAt, WhereRedBlack, Unlinks, Lowers, ComesUp, Lengthens, Restores};
 ghost use Rattle.seg_rbtree.specs.Paths.{WhereOrdered, TakesOutAt, end_word, node_at};
 ghost use Rattle.seg_rbtree.specs.Roots.{root_word};
 
+use crate::next::descend_to_next;
 use crate::node::{Colour, Side, child, child_word, colour_of, is_red, paint, rotate, set_child};
 use crate::order::{NodeOrder, Sought};
 use crate::path::{DEPTH, Path, Step};
@@ -102,7 +103,7 @@ fn unlink_by_next<A: Allocator>(w: &mut Window<A>, path: &mut Path, node: u32) -
         (fork left node colour right) node result) }
 {
     let depth = path.len();
-    let Some(next) = descend_to_next(w, path, node) else {
+    let Some(next) = descend_to_next(w.view(), path, node) else {
         return Colour::Red;
     };
     let gone = unlink_lone(w, path, next, Side::Left);
@@ -110,42 +111,6 @@ fn unlink_by_next<A: Allocator>(w: &mut Window<A>, path: &mut Path, node: u32) -
     path.replace(depth, next);
     path.set_at(w, depth, next);
     gone
-}
-
-/// Goes on from a node to the next one in order, which has no left child.
-fn descend_to_next<A: Allocator>(w: &Window<A>, path: &mut Path, node: u32) -> Option<u32>
-    ensures root { path.new.root ≡ path.old.root }
-    ensures descended { (layers : _) (left right : _) (colour : _)
-        → WhereRedBlack w.now.bytes path.old layers (fork left node colour right)
-        (target w.now.bytes (side_word node Side.Right) ≢ None
-        → Descends path.new (layer_at Side.Right node colour left ∷ layers) right result) }
-{
-    if path.push(node, Side::Right) {
-        descend_to_first(w, path)
-    } else {
-        None
-    }
-}
-
-/// Goes on to the first node below a place.
-fn descend_to_first<A: Allocator>(w: &Window<A>, path: &mut Path) -> Option<u32>
-    ensures root { path.new.root ≡ path.old.root }
-    ensures descended { (layers : _) (tree : _)
-        → WhereRedBlack w.now.bytes path.old layers tree
-        (target w.now.bytes (place path.old.root layers) ≢ None
-        → Descends path.new layers tree result) }
-{
-    let mut first = path.node(w)?;
-    for _ in 0..DEPTH {
-        let Some(left) = child(w, first, Side::Left) else {
-            return Some(first);
-        };
-        if !path.push(first, Side::Left) {
-            return None;
-        }
-        first = left;
-    }
-    None
 }
 
 /// Gives a node the children and the colour of another.

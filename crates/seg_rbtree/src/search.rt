@@ -9,7 +9,7 @@ ghost use Rattle.seg_rbtree.specs.Paths.{WhereOrdered, FindsEqual, node_at, soug
 ghost use Rattle.seg_rbtree.specs.Roots.{root_word, path_root};
 ghost use Rattle.seg_rbtree.specs.declared.path.TheConstants.{DEPTH};
 
-use crate::node::{Side, child, child_word};
+use crate::node::{Side, child_in, child_word};
 use crate::order::{NodeOrder, Sought, UniqueKeys};
 use crate::path::{DEPTH, Path};
 use crate::tree::Tree;
@@ -49,15 +49,16 @@ impl Tree {
             (λ shape. result ≡ first_where
             (λ node. is_eq (O.compare_key order.now w.now.bytes node key)) (nodes_of shape)) }
     {
-        let mut place = w.target(self.root);
+        let view = w.view();
+        let mut place = view.target(self.root);
         for _ in 0..DEPTH {
             let node = place?;
-            let side = match order.key(w, node, key) {
+            let side = match order.key(view, node, key) {
                 Ordering::Less => Side::Right,
                 Ordering::Equal => return Some(node),
                 Ordering::Greater => Side::Left,
             };
-            place = child(w, node, side);
+            place = child_in(view, node, side);
         }
         None
     }
@@ -115,7 +116,8 @@ impl Tree {
             ≡ looks (λ node. reaches least (O.compare_key order.now w.now.bytes node key)) shape) }
         ensures bound { result.looks ≤ DEPTH }
     {
-        let mut place = w.target(self.root);
+        let view = w.view();
+        let mut place = view.target(self.root);
         let mut found = Looked {
             node: None,
             looks: 0,
@@ -125,11 +127,11 @@ impl Tree {
                 break;
             };
             found.looks += 1;
-            if is_reached(least, order.key(w, node, key)) {
+            if is_reached(least, order.key(view, node, key)) {
                 found.node = Some(node);
-                place = child(w, node, Side::Left);
+                place = child_in(view, node, Side::Left);
             } else {
-                place = child(w, node, Side::Right);
+                place = child_in(view, node, Side::Right);
             }
         }
         found
@@ -172,12 +174,13 @@ impl Path {
             → LeadsTo (sought_by (O.compare order.now w.now.bytes)
             (O.compare_key order.now w.now.bytes) sought) shape self.new }
     {
+        let view = w.view();
         let mut word = self.word();
         for _ in 0..DEPTH {
-            let Some(node) = w.target(word) else {
+            let Some(node) = view.target(word) else {
                 break;
             };
-            let side = match sought.compare(w, order, node) {
+            let side = match sought.compare(view, order, node) {
                 Ordering::Less => Side::Left,
                 Ordering::Equal => break,
                 Ordering::Greater => Side::Right,

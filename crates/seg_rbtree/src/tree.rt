@@ -3,7 +3,7 @@ ghost use Rattle.seg_spec.specs.Shapes.{nodes_of};
 ghost use Rattle.seg_spec.specs.Search.{first_where, IsSearchTree};
 ghost use Rattle.seg_rbtree.specs.Roots.{root_word};
 
-use crate::node::{Side, child};
+use crate::node::{Side, child_in};
 use crate::path::DEPTH;
 use seg_ptr::Window;
 use std::alloc::Allocator;
@@ -37,14 +37,15 @@ impl Tree {
         ensures { (shape : _) → IsSearchTree w.now.bytes (root_word self) shape
             → result ≡ first_where (λ _. true) (nodes_of shape) }
     {
-        let mut place = w.target(self.root);
+        let view = w.view();
+        let mut place = view.target(self.root);
         let mut first = None;
         for _ in 0..DEPTH {
             let Some(node) = place else {
                 break;
             };
             first = Some(node);
-            place = child(w, node, Side::Left);
+            place = child_in(view, node, Side::Left);
         }
         first
     }

@@ -8,7 +8,7 @@ ghost use Rattle.seg_rbtree.proofs.Keys.{equal_to_one};
 ghost use Rattle.seg_spec.proofs.BytesLaws.{number-slice};
 ghost use Rattle.seg_spec.proofs.OrderSteps.{steps_up};
 
-use seg_ptr::Window;
+use seg_ptr::{View, Window};
 use seg_raw::Region;
 use seg_rbtree::{Colour, NodeOrder, Side, TREE_WORDS, Tree, UniqueKeys, child, node_colour};
 use std::alloc::{AllocError, Allocator, Global};
@@ -23,10 +23,10 @@ const NODE: u32 = 32;
 /// By that number.
 struct ByNumber;
 
-fn number<A: Allocator>(w: &Window<A>, node: u32) -> u32
-    ensures { result ≡ word w.now.bytes (node + 16) }
+fn number(view: View, node: u32) -> u32
+    ensures { result ≡ word view.entry.bytes.now (node + 16) }
 {
-    w.get32(node as usize + TREE_WORDS as usize)
+    view.get32(node as usize + TREE_WORDS as usize)
 }
 
 impl NodeOrder<u32> for ByNumber {
@@ -38,12 +38,12 @@ impl NodeOrder<u32> for ByNumber {
 
     ghost read = { λ _ _ x. part (x + 16) 4 ∷ [] };
 
-    fn nodes<A: Allocator>(&self, w: &Window<A>, node: u32, other: u32) -> Ordering {
-        number(w, node).cmp(&number(w, other))
+    fn nodes(&self, view: View, node: u32, other: u32) -> Ordering {
+        number(view, node).cmp(&number(view, other))
     }
 
-    fn key<A: Allocator>(&self, w: &Window<A>, node: u32, key: u32) -> Ordering {
-        number(w, node).cmp(&key)
+    fn key(&self, view: View, node: u32, key: u32) -> Ordering {
+        number(view, node).cmp(&key)
     }
 
     ghost total = { λ _ _ bytes. on_total (λ x. word bytes (x + 16)) nat_cmp_total };
@@ -103,7 +103,7 @@ fn collect(
     if let Some(node) = node {
         if fuel > 0 {
             collect(w, w.target(node as usize), fuel - 1, numbers)?;
-            numbers.push(number(w, node))?;
+            numbers.push(number(w.view(), node))?;
             collect(w, w.target(node as usize + 4), fuel - 1, numbers)?;
         }
     }
@@ -122,7 +122,7 @@ fn holds(rt: &(impl Abort + AllocGlobal), w: &Window<Global>, wanted: &[u32]) ->
 
 /// The number of a node that was found.
 fn found(w: &Window<Global>, node: Option<u32>) -> Option<u32> {
-    Some(number(w, node?))
+    Some(number(w.view(), node?))
 }
 
 /// The first number that is at least the key.

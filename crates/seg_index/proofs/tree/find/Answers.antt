@@ -1,4 +1,4 @@
-use Rattle.std.proofs.Common.{◌+◌, ap, ◌∙◌, Some, None}
+use Rattle.std.proofs.Common.{ℕ, List, ◌+◌, ap, ◌∙◌, Some, None}
 use Rattle.seg_spec.specs.Window.{Placement}
 use Rattle.seg_index.specs.Entries.{entry_read}
 use Rattle.seg_index.proofs.TreeLists.{found_is}
@@ -11,6 +11,6 @@ returns-in_err-node g c = λ names blocks s kind.
 
 pub returns : goal.returns
 returns g c = λ names blocks s kind.
-    ap Some (c.entry_of.ensures ∙ ap (λ (p : Placement). entry_read p.bytes (c.in_ok-node.node + 16)) c.window-w.ensures)
+    ap Some (c.entry_of.ensures ∙ ap (λ (bs : List ℕ). entry_read bs (c.in_ok-node.node + 16)) (c.view.ensures ∙ ap (λ (p : Placement). p.bytes) c.window-w.ensures))
     ∙ found_is g.F.Fit.allocator c.args.heap.now.window.bytes c.args.heap.now.types names blocks s kind
     c.window-w.result.now.bytes c.types.result.now c.names.result.root (ap (λ (p : Placement). p.bytes) c.window-w.ensures) c.types.ensures c.names.ensures c.args.name.now (Some c.in_ok-node.node) (c.in_ok-node.ensures tt)

@@ -32,7 +32,7 @@ returns g c = λ names blocks s kind.
     let path = c.path_to_key-path.result in
     let same = ap (λ (p : Placement). p.bytes) c.window-w.ensures in
     let node_is = sym c.node.ensures ∙ c.in-Some.is in
-    let entry_is = c.entry_of-entry.ensures ∙ ap (λ bs. entry_read bs (c.in-Some.node + 16)) same in
+    let entry_is = c.entry_of-entry.ensures ∙ ap (λ bs. entry_read bs (c.in-Some.node + 16)) (c.view.ensures ∙ same) in
     let found = path_is allocator bytes table names blocks s kind now c.types.result.now c.names.result.root same c.types.ensures c.names.ensures c.args.name.now (node_at now path) (c.path_to_key-path.ensures.found tt) in
     let leads = leads_to allocator bytes table names blocks s kind now c.types.result.now c.names.result.root same c.types.ensures c.names.ensures c.args.name.now path c.path_to_key-path.ensures.root (c.path_to_key-path.ensures.leads tt) in
     looks_up names c.args.name.now (Some c.entry_of-entry.result) (LeadsToName bytes table c.args.name.now path) (ap Some entry_is ∙ sym (ap (option_map (entry_in bytes table)) node_is) ∙ found) leads

@@ -1,19 +1,26 @@
-use Rattle.std.proofs.Common.{w64, ◌+◌, ◌%◌, ◌^◌, ap, ◌∙◌, Some, None}
+use Rattle.std.proofs.Common.{ℕ, List, w64, ◌+◌, ◌%◌, ◌^◌, ap, ◌∙◌, Some, None, subst}
 use Rattle.std.proofs.lemmas.Int.{to_z-of_z}
 use Rattle.seg_spec.specs.Window.{Placement}
 use Rattle.seg_spec.specs.Bytes.{signed_long}
+use Rattle.seg_rbtree.specs.Following.{LeadsInside}
 use Rattle.seg_value.specs.Places.{object_at}
 use Rattle.seg_map.proofs.TreeMaps.{first_is}
 use Rattle.seg_map.proofs.tree.first_key.Goals as goal
 
-pub returns-in_err-node : goal.returns-in_err-node
-returns-in_err-node g c = λ T U keys vs blocks f s.
+pub returns-in_err-node-clause-first : goal.returns-in_err-node-clause-first
+returns-in_err-node-clause-first g c = λ T U keys vs blocks f s.
     c.from_residual.ensures ∙ first_is g.F.Fit.allocator c.args.heap.now.window.bytes c.args.heap.now.types (object_at c.args.cell T) U keys vs blocks f s
-    c.window.result.now.bytes c.tree_of.result.root (ap (λ (p : Placement). p.bytes) c.window.ensures) c.tree_of.ensures None c.in_err-node.ensures
+    c.window.result.now.bytes c.tree_of.result.root (ap (λ (p : Placement). p.bytes) c.window.ensures) c.tree_of.ensures None c.in_err-node.ensures.node
 
-pub returns : goal.returns
-returns g c = λ T U keys vs blocks f s.
-    let key_is = c.key_of.ensures ∙ ap (λ (p : Placement). signed_long p.bytes ((c.in_ok-node.node + 16) % 2 ^ 32)) c.window-2.ensures in
+pub returns-clause-first : goal.returns-clause-first
+returns-clause-first g c = λ T U keys vs blocks f s.
+    let key_is = c.key_of.ensures ∙ ap (λ (bs : List ℕ). signed_long bs ((c.in_ok-node.node + 16) % 2 ^ 32)) (c.view.ensures ∙ ap (λ (p : Placement). p.bytes) c.window-2.ensures) in
     ap Some (to_z-of_z w64 c.key_of.result (record { sfits = c.key_of.type_inv }) ∙ key_is)
     ∙ first_is g.F.Fit.allocator c.args.heap.now.window.bytes c.args.heap.now.types (object_at c.args.cell T) U keys vs blocks f s
-    c.window.result.now.bytes c.tree_of.result.root (ap (λ (p : Placement). p.bytes) c.window.ensures) c.tree_of.ensures (Some c.in_ok-node.node) c.in_ok-node.ensures
+    c.window.result.now.bytes c.tree_of.result.root (ap (λ (p : Placement). p.bytes) c.window.ensures) c.tree_of.ensures (Some c.in_ok-node.node) c.in_ok-node.ensures.node
+
+pub returns-in_err-node-clause-inside : goal.returns-in_err-node-clause-inside
+returns-in_err-node-clause-inside g c = subst (λ (bs : List ℕ). LeadsInside bs c.first.new.self) (ap (λ (p : Placement). p.bytes) c.window.ensures) c.first.ensures.inside
+
+pub returns-clause-inside : goal.returns-clause-inside
+returns-clause-inside g c = subst (λ (bs : List ℕ). LeadsInside bs c.first.new.self) (ap (λ (p : Placement). p.bytes) c.window.ensures) c.first.ensures.inside

@@ -1,4 +1,4 @@
-use Rattle.std.proofs.Common.{◌≡◌, true, length, refl, sym, ap, ◌∙◌, arith}
+use Rattle.std.proofs.Common.{◌≡◌, ℕ, List, true, length, refl, sym, ap, ◌∙◌, arith}
 use Rattle.seg_spec.specs.Pointer.{target}
 use Rattle.seg_rbtree.specs.Ways.{last_word, turn_of}
 use Rattle.seg_rbtree.specs.Paths.{sought_by}
@@ -22,10 +22,11 @@ loop-preserved g c = record {
       let bytes = c.args.w.now.bytes in
       let items = c.loop.self.steps.items in
       let turn = sought_by (g.O.NodeOrder.compare c.args.order.now bytes) (g.O.NodeOrder.compare_key c.args.order.now bytes) c.args.sought in
-      let at = c.target.ensures ∙ ap (target bytes) c.loop.invariant.word in
+      let at = c.target.ensures ∙ ap (λ (bs : List ℕ). target bs c.loop.word) c.view-view.ensures ∙ ap (target bytes) c.loop.invariant.word in
+      let compared = c.compare.ensures exact ∙ ap (λ (bs : List ℕ). sought_by (g.O.NodeOrder.compare c.args.order.now bs) (g.O.NodeOrder.compare_key c.args.order.now bs) c.args.sought c.in-Some.node) c.view-view.ensures in
       let side : turn c.in-Some.node ≡ turn_of c.match-compare.side = elim c.match-compare.branch [
-        | in-Less w ↦ sym (c.compare.ensures exact) ∙ w.in-Less.is ∙ sym (ap turn_of w.side-is)
-        | in-Greater w ↦ sym (c.compare.ensures exact) ∙ w.in-Greater.is ∙ sym (ap turn_of w.side-is)
+        | in-Less w ↦ sym compared ∙ w.in-Less.is ∙ sym (ap turn_of w.side-is)
+        | in-Greater w ↦ sym compared ∙ w.in-Greater.is ∙ sym (ap turn_of w.side-is)
       ] in
       walked bytes c.args.self.now.root turn shape items c.push.new.self.steps.items c.loop.counter c.in-Some.node c.match-compare.side c.target.result at c.in-Some.is side
       (c.push.ensures.pushed c.if-not-push.false) t.is_tree (c.loop.invariant.walks exact empty shape t);
@@ -37,13 +38,13 @@ returns-after-loop-clause-leads g c = λ exact empty shape t.
 
 pub returns-in_default-clause-leads : goal.returns-in_default-clause-leads
 returns-in_default-clause-leads g c = λ exact empty shape t.
-    walked_to_end c.args.w.now.bytes c.args.self.now.root _ shape c.loop.self c.loop.counter c.target.result (c.target.ensures ∙ ap (target c.args.w.now.bytes) c.loop.invariant.word) c.in_default.is t.is_tree
+    walked_to_end c.args.w.now.bytes c.args.self.now.root _ shape c.loop.self c.loop.counter c.target.result (c.target.ensures ∙ ap (λ (bs : List ℕ). target bs c.loop.word) c.view-view.ensures ∙ ap (target c.args.w.now.bytes) c.loop.invariant.word) c.in_default.is t.is_tree
     (c.loop.invariant.walks exact empty shape t)
 
 pub returns-in-Equal-clause-leads : goal.returns-in-Equal-clause-leads
 returns-in-Equal-clause-leads g c = λ exact empty shape t.
-    walked_to_node c.args.w.now.bytes c.args.self.now.root _ shape c.loop.self c.loop.counter c.in-Some.node c.target.result (c.target.ensures ∙ ap (target c.args.w.now.bytes) c.loop.invariant.word) c.in-Some.is
-    (sym (c.compare.ensures exact) ∙ c.in-Equal.is) t.is_tree (c.loop.invariant.walks exact empty shape t)
+    walked_to_node c.args.w.now.bytes c.args.self.now.root _ shape c.loop.self c.loop.counter c.in-Some.node c.target.result (c.target.ensures ∙ ap (λ (bs : List ℕ). target bs c.loop.word) c.view-view.ensures ∙ ap (target c.args.w.now.bytes) c.loop.invariant.word) c.in-Some.is
+    (sym (c.compare.ensures exact ∙ ap (λ (bs : List ℕ). sought_by (g.O.NodeOrder.compare c.args.order.now bs) (g.O.NodeOrder.compare_key c.args.order.now bs) c.args.sought c.in-Some.node) c.view-view.ensures) ∙ c.in-Equal.is) t.is_tree (c.loop.invariant.walks exact empty shape t)
 
 pub returns-then-not-push-clause-leads : goal.returns-then-not-push-clause-leads
 returns-then-not-push-clause-leads g c = λ exact empty shape t.

@@ -1,0 +1,44 @@
+//! The keys of a map, one after another.
+
+ghost use Rattle.std.specs.Prelude.{◌≡◌, true, false, Err, IsOkUnless};
+ghost use Rattle.std.specs.Result.{result_ok};
+ghost use Rattle.seg_spec.specs.Types.{form_at};
+ghost use Rattle.seg_value.specs.Places.{place_of};
+ghost use Rattle.seg_map.specs.EitherMap.{has_keys, WhereMaps};
+ghost use Rattle.seg_map.specs.Maps.{first_of, keys_above};
+
+use crate::segment::Segment;
+use seg_block::Fit;
+use seg_map::{first_key_by, next_key_by};
+use seg_raw::Code;
+use seg_value::Place;
+use std::alloc::Allocator;
+
+impl<F: Fit, A: Allocator> Segment<F, A> {
+    /// The least key of a map. `OtherType` where the place is no map, `Null` where the map is empty.
+    pub fn first_key(&mut self, map: Place) -> Result<i64, Code>
+        ensures stays { self.new ≡ self.old }
+        ensures other { has_keys (form_at self.old.types map.type_id) ≡ false →
+            result ≡ Err Code.OtherType }
+        ensures code { has_keys (form_at self.old.types map.type_id) ≡ true →
+            IsOkUnless result Code.Null }
+        ensures first { WhereMaps F.allocator self.old.window.bytes self.old.types (place_of map)
+            (λ U keys vs blocks. result_ok result ≡ first_of keys) }
+    {
+        first_key_by(&self.heap, &mut self.cursor, map)
+    }
+
+    /// The least key above another, which need not be there. `OtherType` where the place is no map, `Null` where no key is
+    /// above it. After a map's key was returned, the next one is a step from it while nothing changes the segment.
+    pub fn next_key(&mut self, map: Place, after: i64) -> Result<i64, Code>
+        ensures stays { self.new ≡ self.old }
+        ensures other { has_keys (form_at self.old.types map.type_id) ≡ false →
+            result ≡ Err Code.OtherType }
+        ensures code { has_keys (form_at self.old.types map.type_id) ≡ true →
+            IsOkUnless result Code.Null }
+        ensures next { WhereMaps F.allocator self.old.window.bytes self.old.types (place_of map)
+            (λ U keys vs blocks. result_ok result ≡ first_of (keys_above keys after)) }
+    {
+        next_key_by(&self.heap, &mut self.cursor, map, after)
+    }
+}

@@ -1,0 +1,22 @@
+use Rattle.std.proofs.Common.{ℕ, List, sym, subst}
+use Rattle.seg_spec.specs.Shapes.{Tree}
+use Rattle.seg_spec.specs.Search.{IsSearchTree}
+use Rattle.seg_rbtree.proofs.Climbing.{goes_above, goes_inside}
+use Rattle.seg_rbtree.proofs.path.Path.next_after.Goals as goal
+
+pub returns-clause-node : goal.returns-clause-node
+returns-clause-node g c = λ exact inside shape t a.
+    let bytes = c.args.w.now.bytes in
+    let now = c.view.result.bytes.now in
+    let path = c.lead_to_key.new.self in
+    let way = c.lead_to_key.ensures.leads exact inside shape t a in
+    let hung = subst (λ (root : ℕ). IsSearchTree now root shape) (sym c.lead_to_key.ensures.root) (subst (λ (bs : List ℕ). IsSearchTree bs c.args.tree.root shape) (sym c.view.ensures) t) in
+    goes_above (λ (x : ℕ). g.O.NodeOrder.compare_key c.args.order.now bytes x c.args.key) (g.O.NodeOrder.compare c.args.order.now bytes) (λ x y less. g.met.O.NodeOrder.keyed exact c.args.order.now bytes x y c.args.key less)
+    (λ x y e f. g.met.O.UniqueKeys.one exact c.args.order.now bytes x y c.args.key e f) now path c.go_on.new.self shape c.go_on.result hung a way (c.go_on.ensures.on way.layers way.rest)
+
+pub returns-clause-inside : goal.returns-clause-inside
+returns-clause-inside g c = λ exact inside shape t.
+    let now = c.view.result.bytes.now in
+    let path = c.lead_to_key.new.self in
+    let back = λ (x : Tree) (u : IsSearchTree now path.root x). c.lead_to_key.ensures.inside exact inside x (subst (λ (bs : List ℕ). IsSearchTree bs path.root x) c.view.ensures u) in
+    goes_inside now path c.go_on.new.self c.go_on.result c.go_on.ensures.root c.go_on.ensures.on back shape (subst (λ (bs : List ℕ). IsSearchTree bs c.go_on.new.self.root shape) (sym c.view.ensures) t)

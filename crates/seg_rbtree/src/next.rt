@@ -1,0 +1,160 @@
+//! From a place of a tree to the next node in order.
+
+ghost use Rattle.std.specs.Prelude.{◌≡◌, ◌≢◌, ◌↔◌, ◌∷◌, [], IsTrue, true, None, IsSomeAnd, MatchOption};
+ghost use Rattle.std.specs.Ordering.{ordering_reverse};
+ghost use Rattle.seg_spec.specs.Pointer.{target};
+ghost use Rattle.seg_spec.specs.Shapes.{fork, nodes_of};
+ghost use Rattle.seg_spec.specs.Search.{reaches, first_where, IsSearchTree};
+ghost use Rattle.seg_rbtree.specs.Nodes.{side_word};
+ghost use Rattle.seg_rbtree.specs.Ways.{place, steps_of, LeadsTo};
+ghost use Rattle.seg_rbtree.specs.Paths.{WhereOrdered, node_at};
+ghost use Rattle.seg_rbtree.specs.Removing.{layer_at, Descends};
+ghost use Rattle.seg_rbtree.specs.Following.{IsPartAt, LeadsInside, AreRight, Climbs, GoesOn};
+ghost use Rattle.seg_rbtree.specs.Roots.{root_word, path_root};
+
+use crate::node::{Side, child_in};
+use crate::order::{NodeOrder, Sought, UniqueKeys};
+use crate::path::{DEPTH, Path};
+use crate::tree::Tree;
+use seg_ptr::{View, Window};
+use std::alloc::Allocator;
+use std::cmp::Ordering;
+
+impl Path {
+    /// Goes to the first node of a tree. None where it has none.
+    pub fn first<A: Allocator>(&mut self, w: &Window<A>, tree: Tree) -> Option<u32>
+        ensures node { (shape : _) → IsSearchTree w.now.bytes (root_word tree) shape
+            → result ≡ first_where (λ _. true) (nodes_of shape) }
+        ensures inside { LeadsInside w.now.bytes self.new }
+    {
+        self.root = tree.root;
+        self.rewind();
+        descend_to_first(w.view(), self)
+    }
+
+    /// Goes on from a key to the first node of a tree above it: one step where the path leads to the tree's node with that
+    /// key, and else from the root. None where no node is above it.
+    pub fn next_after<K: Copy, O: UniqueKeys<K>, A: Allocator>(
+        &mut self,
+        w: &Window<A>,
+        tree: Tree,
+        order: &O,
+        key: K,
+    ) -> Option<u32>
+        ensures node { O.exact → LeadsInside w.now.bytes self.old
+            → WhereOrdered (O.compare order.now) w.now (root_word tree)
+            (λ shape. result ≡ first_where
+            (λ node. reaches Ordering.Greater (O.compare_key order.now w.now.bytes node key))
+            (nodes_of shape)) }
+        ensures inside { O.exact → LeadsInside w.now.bytes self.old
+            → LeadsInside w.now.bytes self.new }
+    {
+        self.lead_to_key(w, tree, order, key);
+        self.go_on(w.view())
+    }
+
+    /// Makes the path one to the node of a tree that equals a key, or to the empty place where one would stand.
+    fn lead_to_key<K: Copy, O: UniqueKeys<K>, A: Allocator>(
+        &mut self,
+        w: &Window<A>,
+        tree: Tree,
+        order: &O,
+        key: K,
+    )
+        ensures root { path_root self.new ≡ root_word tree }
+        ensures leads { O.exact → LeadsInside w.now.bytes self.old
+            → WhereOrdered (O.compare order.now) w.now (root_word tree)
+            (λ shape. LeadsTo (λ x. ordering_reverse (O.compare_key order.now w.now.bytes x key))
+            shape self.new) }
+        ensures inside { O.exact → LeadsInside w.now.bytes self.old
+            → LeadsInside w.now.bytes self.new }
+    {
+        if self.root == tree.root && self.equals(w.view(), order, key) {
+            return;
+        }
+        self.root = tree.root;
+        self.rewind();
+        self.descend(w, order, Sought::Key(key));
+    }
+
+    /// Whether the node at the path's end equals a key.
+    fn equals<K: Copy, O: NodeOrder<K>>(&self, view: View, order: &O, key: K) -> bool
+        ensures { O.exact → IsTrue result ↔ IsSomeAnd (node_at view.entry.bytes.now self.now)
+            (λ node. O.compare_key order.now view.entry.bytes.now node key ≡ Ordering.Equal) }
+    {
+        match self.node_in(view) {
+            Some(node) => order.key(view, node, key) == Ordering::Equal,
+            None => false,
+        }
+    }
+
+    /// Goes on to the next node: the one after the node at the path's end, or after the empty place there. None, and back at
+    /// the root, where there is none.
+    fn go_on(&mut self, view: View) -> Option<u32>
+        ensures root { path_root self.new ≡ path_root self.old }
+        ensures on { (layers : _) (part : _) → IsPartAt view.entry.bytes.now self.old layers part
+            → GoesOn view.entry.bytes.now layers part self.new result }
+    {
+        let Some(node) = self.node_in(view) else {
+            return self.climb();
+        };
+        match child_in(view, node, Side::Right) {
+            Some(_) => descend_to_next(view, self, node),
+            None => self.climb(),
+        }
+    }
+
+    /// Goes back up to the nearest node that the way left on its left side. None, and at the root, where there is none.
+    fn climb(&mut self) -> Option<u32>
+        ensures root { path_root self.new ≡ path_root self.old }
+        ensures climbs { (layers : _) → self.old.steps.items ≡ steps_of layers
+            → MatchOption result (AreRight layers × (self.new.steps.items ≡ []))
+            (Climbs layers self.new) }
+    {
+        while let Some(step) = self.pop() {
+            match step.side {
+                Side::Left => return Some(step.node),
+                Side::Right => {}
+            }
+        }
+        None
+    }
+}
+
+/// Goes on from a node with a right child to the next one in order, which has no left child.
+pub(crate) fn descend_to_next(view: View, path: &mut Path, node: u32) -> Option<u32>
+    ensures root { path.new.root ≡ path.old.root }
+    ensures descended { (layers : _) (left right : _) (colour : _)
+        → IsPartAt view.entry.bytes.now path.old layers (fork left node colour right)
+        → target view.entry.bytes.now (side_word node Side.Right) ≢ None
+        → Descends path.new (layer_at Side.Right node colour left ∷ layers) right result }
+{
+    if path.push(node, Side::Right) {
+        descend_to_first(view, path)
+    } else {
+        None
+    }
+}
+
+/// Goes on to the first node below a place. None where nothing stands there.
+fn descend_to_first(view: View, path: &mut Path) -> Option<u32>
+    ensures root { path.new.root ≡ path.old.root }
+    ensures none { node_at view.entry.bytes.now path.old ≡ None
+        → (result ≡ None) × (path.new.steps.items ≡ path.old.steps.items) }
+    ensures descended { (layers : _) (tree : _)
+        → IsPartAt view.entry.bytes.now path.old layers tree
+        → target view.entry.bytes.now (place path.old.root layers) ≢ None
+        → Descends path.new layers tree result }
+{
+    let mut first = path.node_in(view)?;
+    for _ in 0..DEPTH {
+        let Some(left) = child_in(view, first, Side::Left) else {
+            return Some(first);
+        };
+        if !path.push(first, Side::Left) {
+            return None;
+        }
+        first = left;
+    }
+    None
+}
