@@ -1,1 +1,3 @@
+pub mod Growth
 pub mod Images
+pub mod Places

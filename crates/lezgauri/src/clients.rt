@@ -1,6 +1,6 @@
-ghost use Rattle.std.specs.Prelude.{◌≡◌, ◌↔◌, ◌≤◌, List, [], true, false, IsOk, IfOk, IfErr, OnErr};
+ghost use Rattle.std.specs.Prelude.{◌≡◌, ◌↔◌, ◌≤◌, ℕ, List, [], true, false, IsOk, IfOk, IfErr, OnErr};
 ghost use Rattle.seg_spec.specs.Index.{Root};
-ghost use Rattle.seg_spec.specs.Types.{Agree};
+ghost use Rattle.seg_spec.specs.Types.{Agree, IsFirstDifference};
 ghost use Rattle.client_spec.specs.Syntax as syntax;
 ghost use Rattle.client_spec.specs.Grammar.{SpellsClient};
 ghost use Rattle.client_spec.specs.Clients.{IsVerified};
@@ -55,6 +55,9 @@ impl<A: Allocator> Image<A> {
             (segment_of self.new).window (segment_of self.new).types (W.taken out.new)
             report)) }
         ensures allocator { allocator_of self.new ≡ allocator_of self.old }
+        ensures differs { IfErr result (λ fault. OfTree (client_of client.now)
+            (λ tree. (k : ℕ) × (fault ≡ Fault.TypeMismatch k)
+            × IsFirstDifference (segment_of self.old).types tree.types k)) }
         ensures unchanged { OnErr result ((self.new ≡ self.old) × (out.new ≡ out.old)) }
     {
         self.types().extends(client.types())?;

@@ -1,3 +1,7 @@
+ghost use Rattle.std.specs.Prelude.{◌≡◌};
+ghost use Rattle.seg_raw.specs.declared.fault.Fault.TheVariants.{Memory};
+ghost use Rattle.lezgauri.specs.declared.error.Error.TheVariants as error;
+
 use crate::opening::Unopened;
 use seg_raw::{Code, Fault};
 use std::alloc::{AllocError, Allocator};
@@ -11,24 +15,32 @@ pub enum Error {
 }
 
 impl From<Fault> for Error {
+    ghost from_gives = { λ fault made. made ≡ error.Fault fault };
+
     fn from(fault: Fault) -> Error {
         Error::Fault(fault)
     }
 }
 
 impl From<AllocError> for Error {
+    ghost from_gives = { λ _ made. made ≡ error.Fault Memory };
+
     fn from(_: AllocError) -> Error {
         Error::Fault(Fault::Memory)
     }
 }
 
 impl From<Code> for Error {
+    ghost from_gives = { λ code made. made ≡ error.Code code };
+
     fn from(code: Code) -> Error {
         Error::Code(code)
     }
 }
 
 impl<A: Allocator> From<Unopened<A>> for Error {
+    ghost from_gives = { λ unopened made. made ≡ error.Fault unopened.fault };
+
     fn from(unopened: Unopened<A>) -> Error {
         Error::Fault(unopened.fault)
     }

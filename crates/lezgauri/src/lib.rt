@@ -13,6 +13,7 @@ mod maps;
 mod named;
 mod opening;
 mod owners;
+mod places;
 mod sequences;
 mod size;
 mod table;

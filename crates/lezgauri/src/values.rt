@@ -1,77 +1,72 @@
+ghost use Rattle.std.specs.Prelude.{◌≡◌, ◌≢◌, ℕ, ◌+◌, ◌≤◌, List, [], length, Some, Ok, Err, IsOk, OnOk};
+ghost use Rattle.seg_spec.specs.Bytes.{signed_long, ChangesOnly};
+ghost use Rattle.seg_spec.specs.Demand.{after_gives};
+ghost use Rattle.seg_spec.specs.Heap.{live};
+ghost use Rattle.seg_spec.specs.Roots.{ChangesPlace};
+ghost use Rattle.seg_spec.specs.Types.{Form, form_at};
+ghost use Rattle.seg_spec.specs.Value.{Value, default_of};
+ghost use Rattle.seg_value.specs.Places.{place_of};
+ghost use Rattle.lezgauri.specs.Images.{bytes_in, types_of, ChangesBytes};
+ghost use Rattle.lezgauri.specs.Places.{StandsIn, FieldPlace};
+
 use crate::image::{Image, on};
-use seg_layout::{Type, TypeId};
 use seg_raw::Code;
-use seg_value::Place;
+use seg_value::{Place, load};
 use std::alloc::Allocator;
 
 /// Values of any type. A place is one that a call on this image returned, and that is still there: it ends when its object is
 /// destroyed, or a container around it changes by more than its other values. A call on an old place reads and writes the
 /// image's bytes alone, but may spoil other values, so that a saved image may be refused.
 impl<A: Allocator> Image<A> {
-    /// What the type of a place is. `OtherType` where the image has no such type.
-    pub(crate) fn kind(&self, place: Place) -> Result<Type, Code> {
-        self.types().kind(place.type_id).ok_or(Code::OtherType)
-    }
-
     /// The number at a place. `OtherType` where its type is no `i64`.
-    pub fn load(&self, place: Place) -> Result<i64, Code> {
+    pub fn load(&self, place: Place) -> Result<i64, Code>
+        ensures number { form_at (types_of self.now) place.type_id ≡ Some Form.i64 →
+            result ≡ Ok (signed_long (bytes_in self.now) place.at) }
+        ensures other { form_at (types_of self.now) place.type_id ≢ Some Form.i64 →
+            result ≡ Err Code.OtherType }
+    {
         self.number(place)?;
-        Ok(on!(self, segment => segment.heap().load(place.at)))
+        Ok(load(self.window(), place.at))
     }
 
-    /// Makes the number at a place this one. `OtherType` where its type is no `i64`.
-    pub fn store(&mut self, place: Place, number: i64) -> Result<(), Code> {
+    /// Makes the number at a place this one. `OtherType` where its type is no `i64`; then nothing changes.
+    pub fn store(&mut self, place: Place, number: i64) -> Result<(), Code>
+        ensures bytes { ChangesBytes self.old self.new }
+        ensures number { form_at (types_of self.old) place.type_id ≡ Some Form.i64 → IsOk result }
+        ensures stored { place.at + 8 ≤ length (bytes_in self.old) →
+            OnOk result (signed_long (bytes_in self.new) place.at ≡ number) }
+        ensures changes { OnOk result
+            (ChangesOnly (bytes_in self.old) (bytes_in self.new) place.at 8) }
+        ensures other { form_at (types_of self.old) place.type_id ≢ Some Form.i64 →
+            (result ≡ Err Code.OtherType) × (self.new ≡ self.old) }
+    {
         self.number(place)?;
-        on!(self, segment => segment.heap_mut().store(place.at, number));
-        Ok(())
+        on!(self, segment => {
+            segment.heap_mut().store(place.at, number);
+            Ok(())
+        })
     }
 
     /// A field of a struct, counted from 0. `OtherType` where a place's type is no struct, `OutOfRange` where it has fewer.
-    pub fn field(&self, place: Place, index: u32) -> Result<Place, Code> {
-        match self.kind(place)? {
-            Type::Struct(_) => {}
-            Type::I64
-            | Type::Str
-            | Type::Vec(_)
-            | Type::List(_)
-            | Type::FlatMap(_)
-            | Type::Map(_)
-            | Type::Own(_) => return Err(Code::OtherType),
-        }
-        match self.types().field(place.type_id, index) {
+    pub fn field(&self, place: Place, index: u32) -> Result<Place, Code>
+        ensures { FieldPlace (types_of self.now) place index result }
+    {
+        let types = self.types();
+        match types.field(place.type_id, index) {
             Some(field) => Ok(place.part(field)),
+            None if types.field_count(place.type_id) == 0 => Err(Code::OtherType),
             None => Err(Code::OutOfRange),
         }
     }
 
     /// Frees all that a value owns, and makes it the default of its type.
-    pub fn clear(&mut self, place: Place) {
+    pub fn clear(&mut self, place: Place)
+        ensures bytes { ChangesBytes self.old self.new }
+        ensures cleared { (v : Value) (blocks : List ℕ) → StandsIn self.old place v blocks →
+            ChangesPlace (bytes_in self.old) (bytes_in self.new) (types_of self.old)
+            (place_of place) (default_of (types_of self.old) place.type_id) []
+            (after_gives (live (bytes_in self.old)) blocks) blocks [] }
+    {
         on!(self, segment => segment.heap_mut().clear(place))
-    }
-
-    /// Whether a number stands at a place, or `OtherType`.
-    fn number(&self, place: Place) -> Result<(), Code> {
-        match self.kind(place)? {
-            Type::I64 => Ok(()),
-            Type::Str
-            | Type::Vec(_)
-            | Type::List(_)
-            | Type::FlatMap(_)
-            | Type::Map(_)
-            | Type::Own(_)
-            | Type::Struct(_) => Err(Code::OtherType),
-        }
-    }
-
-    /// The type of what a vector, a list, a map or an own holds, or `OtherType`.
-    pub(crate) fn held(&self, holder: Place) -> Result<TypeId, Code> {
-        match self.kind(holder)? {
-            Type::Vec(part)
-            | Type::List(part)
-            | Type::FlatMap(part)
-            | Type::Map(part)
-            | Type::Own(part) => Ok(part),
-            Type::I64 | Type::Str | Type::Struct(_) => Err(Code::OtherType),
-        }
     }
 }

@@ -1,0 +1,2 @@
+pub mod NamedItems
+pub mod PutContent

@@ -1,0 +1,110 @@
+-- An own comes to hold a new object: a block is given to it, and what the own held before goes.
+use Rattle.std.proofs.Common.{◌≡◌, ◌≢◌, ℕ, ◌+◌, ◌≤◌, ◌⊎◌, inl, inr, List, [], ◌∷◌, ◌++◌, length, Some, sym, ap, ◌∙◌, subst, arith, append-nil, add-zero}
+use Rattle.std.specs.Prelude.{option_map}
+use Rattle.std.proofs.lemmas.Bool.{cases_eq}
+use Rattle.seg_spec.specs.Types.{Form, Table, form_at, size}
+use Rattle.seg_spec.specs.Value.{Value, Full, default_of}
+use Rattle.seg_spec.specs.Heap.{Span, IsHeap, heap_start, live}
+use Rattle.seg_spec.specs.Block.{Kind, tag_of, IsOwnable, block_of}
+use Rattle.seg_spec.specs.Reads.{Place}
+use Rattle.seg_spec.specs.Sound.{times, positions}
+use Rattle.seg_spec.specs.Owning.{Stands}
+use Rattle.seg_spec.specs.Calls.{IsLoose}
+use Rattle.seg_spec.specs.Roots.{ChangesPlace}
+use Rattle.seg_spec.specs.Demand.{Ask, need, block_for, after_asks, after_gives}
+use Rattle.seg_spec.specs.Destroying.{AreLive}
+use Rattle.seg_spec.specs.Growing.{Succeeds}
+use Rattle.seg_spec.specs.Spending.{replaced, spent}
+use Rattle.seg_spec.proofs.Composing.{around_twice, around_kept}
+use Rattle.seg_spec.proofs.LiveLaws.{LiesIn, there, live-lie, times-other, times-more, times-append}
+use Rattle.seg_spec.proofs.OneRequest.{spent_one, counts_one}
+use Rattle.seg_spec.proofs.Standing.{each_live_at, live_at, stands_still, still_home}
+use Rattle.seg_value.specs.Contents.{GivesBlock}
+use Rattle.seg_value.specs.Places.{object_at}
+use Rattle.seg_manager.proofs.ClearedItems.{gives_append}
+
+spent_then : (allocator : ℕ) (bs after : List Span) (end : ℕ) (asks : List Ask) (gives : List ℕ) → after_asks allocator bs end asks ≡ Some after → spent allocator bs end asks [] ≡ Some after
+    → spent allocator bs end asks gives ≡ Some (after_gives after gives)
+spent_then allocator bs after end asks gives granted none =
+    let olds = replaced allocator bs end asks in
+    let empty : Some (after_gives after (olds ++ [])) ≡ Some after = sym (ap (option_map (λ left. after_gives left (olds ++ []))) granted) ∙ none in
+    let same : after_gives after (olds ++ []) ≡ after = cc in
+    let back : after_gives after olds ≡ after = ap (after_gives after) (sym (append-nil olds)) ∙ same in
+    ap (option_map (λ left. after_gives left (olds ++ gives))) granted ∙ ap Some (gives_append after olds gives ∙ ap (λ cs. after_gives cs gives) back)
+
+module _ (allocator : ℕ) (old mid new : List ℕ) (table : Table) (own : Place) (U at : ℕ) (v : Value) (blocks : List ℕ)
+    (form : form_at table own.type ≡ Some (Form.own U)) (s : Stands allocator old table own v blocks) (given : GivesBlock allocator old mid table (tag_of Kind.object U) 0 U at) where
+  counts : (h : ℕ) → times h (positions (live mid)) ≡ times h (block_of at ∷ positions (live old))
+  counts h = counts_one allocator (live old) (live mid) (length old) (need (0 + size table U)) given.granted_is (block_of at) given.was_free given.now_live h
+
+  ownable_at : (h : ℕ) → 1 ≤ times h (positions (live mid)) → IsOwnable mid table h
+  ownable_at h some = go (cases_eq (block_of at) h)
+    where
+      go : (block_of at ≡ h) ⊎ (block_of at ≢ h) → IsOwnable mid table h
+      go (inl e) = subst (λ x. IsOwnable mid table x) e (record {
+        kind = Kind.object;
+        type = U;
+        allowed = s.is_table.forms own.type (Form.own U) form;
+        tag_is = given.is_block.has_tag;
+        link_is = given.link_is;
+      })
+      go (inr other) =
+          let c = counts h in
+          let t = times-other h (block_of at) (positions (live old)) other in
+          let some_old : 1 ≤ times h (positions (live old)) = omega arith in
+          let k = given.kept h some_old in
+          let o = live_at (IsOwnable old table) (live old) h s.ownable some_old in
+          record { kind = o.kind; type = o.type; allowed = o.allowed; tag_is = k.0.has_tag ∙ o.tag_is; link_is = k.1 ∙ o.link_is }
+
+  more : (h : ℕ) → times h (positions (live old)) ≤ times h (positions (live mid))
+  more h = rw (counts h) (let x = times-more h (block_of at) (positions (live old)) in omega arith)
+
+  was_live : (h : ℕ) → 1 ≤ times h (s.home ∷ blocks) → 1 ≤ times h (positions (live old))
+  was_live h some = omega (arith, s.owned h)
+
+  stands : Stands allocator mid table own v blocks
+  stands = stands_still allocator old table own v blocks s mid given.heap given.front_kept (λ h some. (given.kept h (was_live h some)).0)
+      (each_live_at (IsOwnable mid table) (live mid) ownable_at) (λ h. let m = more h in let o = s.owned h in omega arith)
+
+  home_is : stands.home ≡ s.home
+  unfolding stands
+  home_is = still_home allocator old table own v blocks s mid given.heap given.front_kept (λ h some. (given.kept h (was_live h some)).0)
+      (each_live_at (IsOwnable mid table) (live mid) ownable_at) (λ h. let m = more h in let o = s.owned h in omega arith)
+
+  granted : after_asks allocator (live old) (length old) (block_for (size table U) ∷ []) ≡ Some (live mid)
+  granted = let sized : 0 + size table U ≡ size table U = omega arith in rw sized at given.granted_is
+
+  loose : IsLoose mid table (object_at at U) (default_of table U) []
+  loose = record {
+    block = let sized : 0 + size table U ≡ size table U = omega arith in rw sized at given.is_block;
+    holds_it = rw (add-zero at) at given.value;
+    owned = λ h. rw (counts h) (let a = times-append h (block_of at ∷ []) (positions (live old)) in omega arith);
+  }
+
+  alive : AreLive mid (stands.home ∷ (blocks ++ block_of at ∷ []))
+  alive h = subst (λ x. times h (x ∷ (blocks ++ block_of at ∷ [])) ≤ times h (positions (live mid))) (sym home_is)
+      (let a = times-append h (s.home ∷ blocks) (block_of at ∷ []) in let b = times-append h (block_of at ∷ []) (positions (live old)) in let c = counts h in let o = s.owned h in omega arith)
+
+  pub holds_new : ((w v : Value) (bs inside : List ℕ) → (t : Stands allocator mid table own v bs) → IsLoose mid table (object_at at U) w inside → AreLive mid (t.home ∷ (bs ++ block_of at ∷ inside))
+      → ChangesPlace mid new table own (Full w) (block_of at ∷ inside) (after_gives (live mid) bs) bs [])
+      → Succeeds allocator old new table own (Full (default_of table U)) (block_for (size table U) ∷ []) blocks blocks (block_of at ∷ [])
+  holds_new sets =
+      let c = sets (default_of table U) v blocks [] stands loose alive in
+      record {
+        left = after_gives (live mid) blocks;
+        left_is = spent_then allocator (live old) (live mid) (length old) (block_for (size table U) ∷ []) blocks granted (spent_one allocator (live old) (live mid) (length old) (need (size table U)) granted);
+        changes = record {
+          length_kept = c.length_kept ∙ given.length_kept;
+          front_kept = c.front_kept ∙ given.front_kept;
+          back_kept = c.back_kept ∙ given.back_kept;
+          heap = subst (λ a. IsHeap a new) (stands.allocator_is ∙ sym s.allocator_is) c.heap;
+          ownable = c.ownable;
+          holds_it = c.holds_it;
+          live_is = c.live_is;
+          live_are = λ h. let l = c.live_are h in let m = counts h in let a = times-append h (block_of at ∷ []) (positions (live old)) in omega arith;
+          kept = λ h some none.
+              let two = (there (LiesIn old heap_start (length old)) h (positions (live old)) (live-lie old allocator s.heap) some).size in
+              around_twice old mid new own.at (size table own.type) h (around_kept old mid own.at (size table own.type) h (omega arith) (given.kept h some).0)
+              (c.kept h (let m = more h in omega arith) none);
+        };
+      }

@@ -1,0 +1,21 @@
+-- What growing an image leaves.
+--     Lengthens allocator old new picture extra      more bytes at its end, and its picture
+use Rattle.std.specs.Prelude.{◌≡◌, ℕ, ◌+◌, ◌-◌, ◌/◌, ◌≤◌, List, length, replicate}
+use Rattle.seg_spec.specs.Bytes.{slice}
+use Rattle.seg_spec.specs.Heap.{live, after_extend}
+use Rattle.seg_spec.specs.Block.{KeepsBlock}
+use Rattle.seg_spec.specs.Sound.{Picture, times, positions}
+use Rattle.seg_value.specs.Stored.{Stored}
+use Rattle.seg_manager.specs.Segments.{IsSegment}
+use Rattle.seg_manager.specs.Sizes.{used_front}
+
+-- the segment has so many bytes more than these, its picture and every live block; a single new unit
+-- goes to a block that ended at the end; the new bytes after the used front are 0
+pub record Lengthens (allocator : ℕ) (old : List ℕ) (new : Stored) (picture : Picture)
+    (extra : ℕ) : Type 0 where
+  pub segment : IsSegment allocator new picture
+  pub length_is : length new.window.bytes ≡ length old + extra
+  pub live_is : live new.window.bytes ≡ after_extend (live old) (length old) (extra / 16)
+  pub kept : (h : ℕ) → 1 ≤ times h (positions (live old)) → KeepsBlock old new.window.bytes h
+  pub zeros : slice new.window.bytes (length old + used_front allocator extra)
+      (extra - used_front allocator extra) ≡ replicate (extra - used_front allocator extra) 0
