@@ -1,8 +1,11 @@
 -- The numbers of faults, among those that calls answer.
-use Rattle.std.proofs.Common.{◌<◌, ◌≤◌, arith}
+use Rattle.std.proofs.Common.{◌≡◌, ◌<◌, ◌≤◌, ℕ, arith, refl}
 use Rattle.seg_raw.specs.declared.fault.Fault.{Fault}
 use Rattle.seg_raw.specs.declared.fault.Fault.TheVariants as fault
 use Rattle.seg_raw.specs.Refusals.{fault_number}
+use Rattle.client_run.specs.declared.report.Ended.{Ended}
+use Rattle.client_run.specs.declared.report.Ended.TheVariants as ended
+use Rattle.lezgauri_c.specs.Told.{status_number}
 
 pub number_above : (f : Fault) → 0 < fault_number f
 number_above fault.Memory = omega arith
@@ -45,3 +48,27 @@ number_below (fault.BadLine at) = omega arith
 number_below (fault.Rejected at reason) = omega arith
 number_below fault.TooLong = omega arith
 number_below (fault.BadMove at) = omega arith
+
+-- a number of a fault is that of no ending
+pub no_status : (f : Fault) (e : Ended) → fault_number f ≡ status_number e → ⊥
+no_status f ended.Done is = let above = number_above f in omega arith
+no_status f ended.OutputFailed is = let below = number_below f in omega arith
+
+-- nor is the number for memory that is too small
+pub small_no_status : (e : Ended) → 102 ≡ status_number e → ⊥
+small_no_status ended.Done is = omega arith
+small_no_status ended.OutputFailed is = omega arith
+
+-- the number of an ending is no fault's
+pub status_no_fault : (e : Ended) → 0 < status_number e → status_number e ≤ 100 → ⊥
+status_no_fault ended.Done above below = omega arith
+status_no_fault ended.OutputFailed above below = omega arith
+
+-- and tells which ending it is
+pub status_one : (e f : Ended) → status_number e ≡ status_number f → e ≡ f
+status_one ended.Done ended.Done is = refl
+status_one ended.Done ended.OutputFailed is = absurd (omega arith)
+status_one ended.OutputFailed ended.Done is = absurd (omega arith)
+status_one ended.OutputFailed ended.OutputFailed is = refl
+
+pub ruleset numbers = (number_above, no_status, small_no_status, status_no_fault)

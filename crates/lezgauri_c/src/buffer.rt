@@ -1,4 +1,4 @@
-ghost use Rattle.std.specs.Prelude.{◌≡◌, Some, [], take, length, true, false, IfOk};
+ghost use Rattle.std.specs.Prelude.{◌≡◌, ◌≤◌, ◌++◌, Some, [], drop, length, true, false, IfOk};
 
 use client_vm::Sink;
 use std::alloc::{AllocError, Global};
@@ -55,11 +55,25 @@ impl Sink for Buffer {
 
 /// Puts bytes at the front of memory of the caller's; false, and nothing is put, where they are more than it has.
 pub(crate) fn put(bytes: &[u8], to: &mut [u8]) -> bool
-    ensures { result ≡ true → take (length bytes.now) to.new ≡ bytes.now }
+    ensures fits { result ≡ true → length bytes.now ≤ length to.old }
+    ensures put { result ≡ true → to.new ≡ bytes.now ++ drop (length bytes.now) to.old }
+    ensures kept { result ≡ false → to.new ≡ to.old }
 {
     if bytes.len() > to.len() {
         return false;
     }
     to[..bytes.len()].copy_from_slice(bytes);
+    true
+}
+
+/// Puts bytes in the place of memory of the caller's that has as many; else false, and nothing is put.
+pub(crate) fn replace(bytes: &[u8], to: &mut [u8]) -> bool
+    ensures put { result ≡ true → to.new ≡ bytes.now }
+    ensures kept { result ≡ false → to.new ≡ to.old }
+{
+    if bytes.len() != to.len() {
+        return false;
+    }
+    to.copy_from_slice(bytes);
     true
 }

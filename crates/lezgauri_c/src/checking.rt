@@ -1,10 +1,11 @@
-ghost use Rattle.std.specs.Prelude.{◌≡◌, ◌<◌};
-ghost use Rattle.lezgauri_c.specs.Calls.{Accepts, IsFaultAs};
+ghost use Rattle.std.specs.Prelude.{◌≡◌, ◌<◌, [], ◌∷◌, IfOk, IfErr};
+ghost use Rattle.client_vm.specs.Admitted.{IsWrong};
+ghost use Rattle.lezgauri_c.specs.Calls.{Accepts, IsFaultAs, AcceptsClient, IsWrongAs};
+ghost use Rattle.lezgauri_c.specs.Told.{no_fault};
 
+use crate::accepting::accepted;
 use crate::fault::Fault;
 use crate::status::OK;
-use client_code::parse;
-use client_verify::verify;
 use client_vm::Refused;
 use lezgauri::check;
 use std::alloc::Global;
@@ -14,7 +15,9 @@ use std::alloc::Global;
 #[unsafe(no_mangle)]
 pub extern "C" fn lezgauri_raw_check(alloc: Global, image: &[u8], fault: &mut Fault) -> u32
     ensures sound { result ≡ 0 → Accepts image.now }
-    ensures refused { 0 < result → IsFaultAs image.now result }
+    ensures refused { 0 < result → IsFaultAs image.now fault.new }
+    ensures number { fault.new.number ≡ result }
+    ensures no_fault { result ≡ 0 → fault.new ≡ no_fault }
 {
     match check(alloc, image) {
         Ok(_) => {
@@ -30,6 +33,7 @@ pub extern "C" fn lezgauri_raw_check(alloc: Global, image: &[u8], fault: &mut Fa
 
 /// Whether a client is accepted on an image, and then how many steps it takes at most: 0, or the number of the first fault, the
 /// image's or the client's.
+#[tactic(auto, using(crate::proofs::Numbers::number_above))]
 #[unsafe(no_mangle)]
 pub extern "C" fn lezgauri_raw_verify(
     alloc: Global,
@@ -38,25 +42,30 @@ pub extern "C" fn lezgauri_raw_verify(
     bound: &mut u64,
     fault: &mut Fault,
 ) -> u32
-    ensures { result ≡ fault.new.number }
+    ensures accepted { result ≡ 0 → AcceptsClient image.now client.now bound.new }
+    ensures refused { 0 < result → IsWrongAs image.now (client.now ∷ []) fault.new }
+    ensures number { fault.new.number ≡ result }
+    ensures no_fault { result ≡ 0 → fault.new ≡ no_fault }
+    ensures no_bound { 0 < result → bound.new ≡ bound.old }
 {
-    *fault = match bound_of(alloc, image, client) {
+    match bound_of(alloc, image, client) {
         Ok(steps) => {
             *bound = steps;
-            Fault::NONE
+            *fault = Fault::NONE;
+            OK
         }
-        Err(refused) => Fault::from(refused),
-    };
-    fault.number
+        Err(refused) => {
+            *fault = Fault::from(refused);
+            fault.number
+        }
+    }
 }
 
 /// The steps that a client takes at most on an image.
-fn bound_of(alloc: Global, image: &[u8], client: &[u8]) -> Result<u64, Refused> {
+fn bound_of(alloc: Global, image: &[u8], client: &[u8]) -> Result<u64, Refused>
+    ensures accepted { IfOk result (AcceptsClient image.now client.now) }
+    ensures wrong { IfErr result (IsWrong image.now (client.now ∷ [])) }
+{
     let types = check(alloc, image)?;
-    let of_client = |fault| Refused {
-        client: Some(0),
-        fault,
-    };
-    let client = parse(client).map_err(of_client)?;
-    Ok(verify(client, &types).map_err(of_client)?.bound())
+    Ok(accepted(client, &types)?.bound())
 }

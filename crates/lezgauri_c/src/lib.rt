@@ -1,6 +1,7 @@
 //! The library for C: each export passes the caller's memory on, as slices, and tells how it went as numbers.
 #![tactic(auto)]
 
+mod accepting;
 mod buffer;
 mod checking;
 mod fault;

@@ -1,12 +1,30 @@
-ghost use Rattle.std.specs.Prelude.{◌≡◌, false};
+ghost use Rattle.std.specs.Prelude.{◌≡◌, ◌≢◌, ◌≤◌, ◌<◌, Ok, Some, false, [], ◌∷◌, length, IfOk, IfErr};
+ghost use Rattle.seg_spec.specs.Bytes.{word};
+ghost use Rattle.seg_spec.specs.Header.{allocator_word};
+ghost use Rattle.seg_spec.specs.Types.{Table};
+ghost use Rattle.seg_spec.specs.Sound.{IsSound};
+ghost use Rattle.seg_spec.specs.Window.{region_of};
+ghost use Rattle.seg_check.specs.Faults.{IsImageOf, IsFaultOf};
+ghost use Rattle.client_spec.specs.Syntax as syntax;
+ghost use Rattle.client_spec.specs.Clients.{IsVerified};
+ghost use Rattle.client_code.specs.Clients.{OfTree, bytes_of};
+ghost use Rattle.client_verify.specs.Accepted.{client_of};
+ghost use Rattle.client_run.specs.declared.report.Ended.{Ended};
+ghost use Rattle.client_vm.specs.Admitted.{IsWrong};
+ghost use Rattle.client_vm.specs.Reports.{IsReportOf};
+ghost use Rattle.client_run.specs.Runs.{ending_of};
+ghost use Rattle.client_vm.specs.Together.{HaveRunOn};
+ghost use Rattle.lezgauri_c.specs.Buffers.{printed};
+ghost use Rattle.lezgauri_c.specs.Calls.{IsRun, HasRunOn, IsRefusedAs};
+ghost use Rattle.lezgauri_c.specs.Told.{no_fault, status_number};
 
-use crate::buffer::{Buffer, put};
+use crate::accepting::accepted;
+use crate::buffer::{Buffer, put, replace};
 use crate::fault::Fault;
 use crate::report::Report;
 use crate::running::status_of;
 use crate::status::TOO_SMALL;
-use client_code::parse;
-use client_verify::verify;
+use client_verify::Verified;
 use client_vm::{Refused, Report as Told, Sink, run};
 use seg_bestfit::BestFit;
 use seg_block::Fit;
@@ -21,6 +39,7 @@ use std::alloc::Global;
 /// where the output had no room, or the number of the first fault, and then nothing ran. The image is the saved one afterwards.
 ///
 /// On any other bytes it ends within the client's bound all the same, and reads and writes nothing else.
+#[tactic(auto, using(crate::proofs::Numbers::numbers))]
 #[unsafe(no_mangle)]
 pub extern "C" fn lezgauri_raw_run_on(
     alloc: Global,
@@ -31,14 +50,25 @@ pub extern "C" fn lezgauri_raw_run_on(
     written: &mut usize,
     report: &mut Report,
     fault: &mut Fault,
-) -> u32 {
+) -> u32
+    ensures outcome { (ended : Ended) → result ≡ status_number ended →
+        HasRunOn image.old client.now input.now ended written.new output.new image.new
+        report.new }
+    ensures refused { (0 < result) × (result ≤ 100) → IsSound image.old →
+        IsRefusedAs image.old (client.now ∷ []) fault.new }
+    ensures number { (0 < result) × (result ≤ 100) → fault.new.number ≡ result }
+    ensures no_fault { (ended : Ended) → result ≡ status_number ended → fault.new ≡ no_fault }
+    ensures kept { (0 < result) × (result ≢ 101) → image.new ≡ image.old }
+    ensures unwritten { (0 < result) × (result ≤ 100) →
+        (output.new ≡ output.old) × (written.new ≡ 0) × (report.new ≡ report.old) }
+{
     match run_in_room(alloc, image, client, input, output.len()) {
-        Ok((told, window, sink)) => {
+        Ok(ran) => {
             *fault = Fault::NONE;
-            *written = sink.bytes().len();
-            *report = Report::from(told);
-            if put(sink.bytes(), output) && put(window.into_bytes().as_slice(), image) {
-                status_of(told.ended)
+            *written = ran.sink.bytes().len();
+            *report = Report::from(ran.told);
+            if put(ran.sink.bytes(), output) && replace(ran.image.as_slice(), image) {
+                status_of(ran.told.ended)
             } else {
                 TOO_SMALL
             }
@@ -51,26 +81,44 @@ pub extern "C" fn lezgauri_raw_run_on(
     }
 }
 
-/// What the client does on a copy of the image, the image then, and what it prints.
+/// What a client's run on a copy of an image left: its report, the image, and what it printed.
+#[derive(Drop)]
+struct Ran {
+    told: Told,
+    image: Vec<u8, Global>,
+    sink: Buffer,
+}
+
+/// What the client does on a copy of the image.
 fn run_in_room(
     alloc: Global,
     image: &[u8],
     client: &[u8],
     input: &[u8],
     room: usize,
-) -> Result<(Told, Window<Global>, Buffer), Refused> {
+) -> Result<Ran, Refused>
+    ensures within { IfOk result (λ ran. IsReportOf client.now ran.told) }
+    ensures outcome { IfOk result (λ ran. IsSound image.now →
+        IsRun image.now (client.now ∷ []) input.now (printed ran.sink) ran.image.items
+        (ran.told ∷ []) ran.told.ended) }
+    ensures refused { IfErr result (λ refused. IsSound image.now →
+        IsWrong image.now (client.now ∷ []) refused) }
+{
     let mut sink = Buffer::new(alloc, room)?;
     let window = window_of(alloc, image)?;
-    let (told, window) = if window.get32(header::ALLOCATOR) == BestFit::word() {
-        run_on::<BestFit, Buffer>(window, client, input, &mut sink)?
-    } else {
-        run_on::<SeqFit, Buffer>(window, client, input, &mut sink)?
-    };
-    Ok((told, window, sink))
+    let types = types_of(&window)?;
+    let client = accepted(client, &types)?;
+    let (told, image) = run_alone(window, types, &client, input, &mut sink);
+    Ok(Ran { told, image, sink })
 }
 
 /// A window on a copy of an image. Bytes that are too many for a segment are no image.
-fn window_of(alloc: Global, image: &[u8]) -> Result<Window<Global>, Reason> {
+fn window_of(alloc: Global, image: &[u8]) -> Result<Window<Global>, Reason>
+    ensures bytes { IfOk result (λ window. window.bytes ≡ image.now) }
+    ensures region { IfOk result (λ window. region_of window ≡ image.now) }
+    ensures base { IfOk result (λ window. length window.before ≡ 0) }
+    ensures fault { IfErr result (IsFaultOf image.now) }
+{
     let len = match u32::try_from(image.len()) {
         Ok(len) if len <= MAX_LEN => len,
         _ => return Err(Reason::BadHeader),
@@ -79,23 +127,51 @@ fn window_of(alloc: Global, image: &[u8]) -> Result<Window<Global>, Reason> {
     Ok(Window::place(region, 0, len).unwrap())
 }
 
+/// The types of the image in a window.
+fn types_of(window: &Window<Global>) -> Result<TypeTable, Reason>
+    ensures { (table : Table) → IsImageOf window.now.bytes table → result ≡ Ok table }
+{
+    TypeTable::read(window.slice(header::TYPES, ENTRY * MAX_TYPES))
+}
+
 /// Runs a client on the segment in a window, with the allocator that it names.
-fn run_on<F: Fit, W: Sink>(
+fn run_alone<W: Sink>(
     window: Window<Global>,
-    client: &[u8],
+    types: TypeTable,
+    client: &Verified,
     input: &[u8],
     sink: &mut W,
-) -> Result<(Told, Window<Global>), Refused>
-    requires { W.has_failed sink.old ≡ false }
+) -> (Told, Vec<u8, Global>)
+    requires works { W.has_failed sink.old ≡ false }
+    ensures within { IsReportOf (bytes_of (client_of client.now)) result.0 }
+    ensures runs { IsImageOf window.bytes types →
+        OfTree (client_of client.now) (λ tree. IsVerified types tree →
+        HaveRunOn (bytes_of (client_of client.now) ∷ []) [] input.now window (W.taken sink.old)
+        result.1.items (W.taken sink.new) (result.0 ∷ []) (ending_of result.0.ended)) }
 {
-    let of_client = |fault| Refused {
-        client: Some(0),
-        fault,
-    };
-    let types = TypeTable::read(window.slice(header::TYPES, ENTRY * MAX_TYPES))?;
-    let client = parse(client).map_err(of_client)?;
-    let program = verify(client, &types).map_err(of_client)?;
+    if window.get32(header::ALLOCATOR) == BestFit::word() {
+        run_on::<BestFit, W>(window, types, client, input, sink)
+    } else {
+        run_on::<SeqFit, W>(window, types, client, input, sink)
+    }
+}
+
+/// Runs a client on the segment in a window.
+fn run_on<F: Fit, W: Sink>(
+    window: Window<Global>,
+    types: TypeTable,
+    client: &Verified,
+    input: &[u8],
+    sink: &mut W,
+) -> (Told, Vec<u8, Global>)
+    requires works { W.has_failed sink.old ≡ false }
+    ensures within { IsReportOf (bytes_of (client_of client.now)) result.0 }
+    ensures runs { IsImageOf window.bytes types → word window.bytes allocator_word ≡ F.allocator →
+        OfTree (client_of client.now) (λ tree. IsVerified types tree →
+        HaveRunOn (bytes_of (client_of client.now) ∷ []) [] input.now window (W.taken sink.old)
+        result.1.items (W.taken sink.new) (result.0 ∷ []) (ending_of result.0.ended)) }
+{
     let mut segment: Segment<F, Global> = Segment::new(window, types);
-    let told = run(&mut segment, &program, input, &[], sink);
-    Ok((told, segment.into_window()))
+    let told = run(&mut segment, client, input, &[], sink);
+    (told, segment.into_window().into_bytes())
 }

@@ -1,13 +1,15 @@
-ghost use Rattle.std.specs.Prelude.{◌≡◌, ◌≤◌, ◌<◌, ◌⊎◌, false, [], Some, IfOk, IfErr, length, map, take};
+ghost use Rattle.std.specs.Prelude.{◌≡◌, ◌≤◌, ◌<◌, false, [], Some, IfOk, IfErr, length, map};
+ghost use Rattle.client_run.specs.declared.report.Ended.{Ended};
 ghost use Rattle.client_vm.specs.Outcomes.{HasOutcome, IsRefusedFor};
 ghost use Rattle.lezgauri_c.specs.Buffers.{printed};
-ghost use Rattle.lezgauri_c.specs.Calls.{IsRun, IsRefusedAs};
+ghost use Rattle.lezgauri_c.specs.Calls.{IsRun, HasRunIn, IsRefusedAs};
+ghost use Rattle.lezgauri_c.specs.Told.{no_fault, status_number, told_report, over};
 
 use crate::buffer::{Buffer, put};
 use crate::fault::Fault;
 use crate::report::Report;
 use crate::status::{OK, OUTPUT_FULL, TOO_SMALL};
-use client_vm::{Ended, Outcome, Refused, Schedule, Sink, run_bytes};
+use client_vm::{Ended, Outcome, Refused, Report as Told, Schedule, Sink, run_bytes};
 use seg_raw::Fault as Reason;
 use std::alloc::{AllocError, Global};
 
@@ -23,7 +25,7 @@ pub struct Client<'a> {
 ///
 /// What they print goes to the front of `output`, and how many bytes to `written`; the saved image to the front of `saved`,
 /// `TOO_SMALL` where that has fewer bytes; and the reports of those that ran to the front of `reports`, as many as it has room for.
-#[tactic(auto, using(crate::proofs::Numbers::number_above, crate::proofs::Numbers::number_below))]
+#[tactic(auto, using(crate::proofs::Numbers::numbers))]
 #[unsafe(no_mangle)]
 pub extern "C" fn lezgauri_raw_run(
     alloc: Global,
@@ -36,17 +38,21 @@ pub extern "C" fn lezgauri_raw_run(
     reports: &mut [Report],
     fault: &mut Fault,
 ) -> u32
-    ensures outcome { (result ≡ 0) ⊎ (result ≡ 101) →
-        IsRun image.now (map (λ c. c.bytes.now) clients.now) input.now
-        (take written.new output.new) saved.new }
+    ensures outcome { (ended : Ended) → result ≡ status_number ended →
+        HasRunIn image.now (map (λ c. c.bytes.now) clients.now) input.now ended written.new
+        output.new saved.new reports.old reports.new }
     ensures refused { (0 < result) × (result ≤ 100) →
-        IsRefusedAs image.now (map (λ c. c.bytes.now) clients.now) result }
+        IsRefusedAs image.now (map (λ c. c.bytes.now) clients.now) fault.new }
+    ensures number { (0 < result) × (result ≤ 100) → fault.new.number ≡ result }
+    ensures no_fault { (ended : Ended) → result ≡ status_number ended → fault.new ≡ no_fault }
+    ensures unwritten { (0 < result) × (result ≤ 100) → (output.new ≡ output.old) ×
+        (written.new ≡ 0) × (saved.new ≡ saved.old) × (reports.new ≡ reports.old) }
 {
     match run_in_room(alloc, image, clients, input, output.len()) {
         Ok((outcome, sink)) => {
             *fault = Fault::NONE;
             *written = sink.bytes().len();
-            tell_reports(&outcome, reports);
+            tell_reports(outcome.reports.as_slice(), reports);
             if put(sink.bytes(), output) && put(outcome.image.as_slice(), saved) {
                 status_of(outcome.ended)
             } else {
@@ -69,9 +75,9 @@ fn run_in_room(
     input: &[u8],
     room: usize,
 ) -> Result<(Outcome<Global>, Buffer), Refused>
-    ensures outcome { IfOk result (λ it. HasOutcome image.now
-        (map (λ c. c.bytes.now) clients.now) input.now (length image.now) 0 []
-        (Some []) (Some (printed it.1)) it.0.image.items it.0.reports.items it.0.ended) }
+    ensures outcome { IfOk result (λ it. IsRun image.now
+        (map (λ c. c.bytes.now) clients.now) input.now (printed it.1) it.0.image.items
+        it.0.reports.items it.0.ended) }
     ensures refused { IfErr result (IsRefusedFor image.now
         (map (λ c. c.bytes.now) clients.now) (length image.now) 0 []) }
 {
@@ -123,15 +129,19 @@ fn listed<'a>(alloc: Global, clients: &[Client<'a>]) -> Result<Vec<&'a [u8]>, Al
     clients.iter().map(|client| client.bytes).collect(alloc)
 }
 
-fn tell_reports(outcome: &Outcome<Global>, reports: &mut [Report]) {
-    for (place, report) in reports.iter_mut().zip(outcome.reports.iter()) {
-        *place = Report::from(*report);
+/// Puts reports at the front of memory of the caller's, as many as it has room for.
+fn tell_reports(told: &[Told], reports: &mut [Report])
+    ensures { reports.new ≡ over (map told_report told.now) reports.old }
+{
+    let many = told.len().min(reports.len());
+    for (i, report) in told[..many].iter().enumerate() {
+        reports[i] = Report::from(*report);
     }
 }
 
 /// How a call went whose last client ended so.
 pub(crate) fn status_of(ended: Ended) -> u32
-    ensures { (result ≡ 0) ⊎ (result ≡ 101) }
+    ensures { result ≡ status_number ended }
 {
     match ended {
         Ended::Done => OK,
