@@ -12,7 +12,7 @@ use client_code::Instruction;
 use client_program::Jump;
 use seg_block::Fit;
 use seg_manager::Segment;
-use seg_map::{first_key, get, next_key, put, remove};
+use seg_map::{get, put, remove};
 use std::alloc::Allocator;
 
 impl Machine<'_> {
@@ -67,28 +67,30 @@ impl Machine<'_> {
     #[inline(never)]
     pub(crate) fn first_key<F: Fit, A: Allocator>(
         &mut self,
-        segment: &Segment<F, A>,
+        segment: &mut Segment<F, A>,
         i: &Instruction,
     ) -> Jump
         ensures loops { KeepsLoops self.old self.new }
+        ensures segment { segment.new ≡ segment.old }
         ensures does { Opens Operation.FirstKey F.allocator i.now result self.old self.new
-            segment.now segment.now }
+            segment.old segment.new }
     {
-        let key = first_key(segment.heap(), self.place(i.b));
+        let key = segment.first_key(self.place(i.b));
         self.try_give(i, key)
     }
 
     #[inline(never)]
     pub(crate) fn next_key<F: Fit, A: Allocator>(
         &mut self,
-        segment: &Segment<F, A>,
+        segment: &mut Segment<F, A>,
         i: &Instruction,
     ) -> Jump
         ensures loops { KeepsLoops self.old self.new }
+        ensures segment { segment.new ≡ segment.old }
         ensures does { Opens Operation.NextKey F.allocator i.now result self.old self.new
-            segment.now segment.now }
+            segment.old segment.new }
     {
-        let key = next_key(segment.heap(), self.place(i.b), self.number(i.c));
+        let key = segment.next_key(self.place(i.b), self.number(i.c));
         self.try_give(i, key)
     }
 }
