@@ -1,5 +1,5 @@
 -- A client by itself: what its run leaves is what several leave, of which it is the only one.
-use Rattle.std.proofs.Common.{◌≡◌, ℕ, ◌↔◌, ◌≤◌, Bool, true, false, List, [], ◌∷◌, length, drop, Option, Some, Result, Ok, Err, refl, sym, ◌∙◌, subst, arith}
+use Rattle.std.proofs.Common.{◌≡◌, ℕ, ◌↔◌, Bool, true, false, List, [], ◌∷◌, length, drop, Option, Some, Result, Ok, Err, refl, sym, ◌∙◌, subst, arith}
 use Rattle.seg_spec.specs.Bytes.{word}
 use Rattle.seg_spec.specs.Header.{allocator_word}
 use Rattle.seg_spec.specs.Types.{Table}
@@ -16,7 +16,7 @@ use Rattle.client_run.specs.declared.report.Ended.{Ended}
 use Rattle.client_run.specs.declared.report.Ended.TheVariants as ended
 use Rattle.client_run.specs.Runs.{ending_of, MayRun, HasRun}
 use Rattle.client_vm.specs.Texts.{IsWrongText, AreWrong}
-use Rattle.client_vm.specs.Together.{ending_if, HaveRun, HaveRunOn}
+use Rattle.client_vm.specs.Together.{HaveRun, HaveRunOn}
 use Rattle.client_vm.proofs.TogetherLaws.{begins, next_ran, ends, ending_failed, ran_on}
 
 -- a sound image may be the whole region
@@ -65,7 +65,7 @@ module _ (allocator : ℕ) (input : List ℕ) (old new : Placement) (table table
   only_ran is named tree spells verified ran how =
       ran_on (text ∷ []) [] input old taken new.bytes taken_then (report ∷ []) (ending_of report.ended) table allocator is named (tree ∷ []) (spells, verified, tt)
       (λ clients accepted ready.
-          let first = begins allocator clients [] input old taken (text ∷ []) table accepted ready in
-          let last = next_ran allocator clients [] input old taken text [] input (drop report.read input) old new table table_then taken taken_then [] report failed ran refl how first in
-          let ran_all = ends allocator clients [] input old taken [] (drop report.read input) new table_then taken_then (report ∷ []) failed last refl in
-          subst (HaveRun clients [] input old taken new.bytes taken_then (report ∷ [])) (ending_failed failed report.ended how.1 (done report.ended failed how.0)) ran_all)
+      let first = begins allocator clients [] input old taken (text ∷ []) table accepted ready in
+      let last = next_ran allocator clients [] input old taken text [] input (drop report.read input) old new table table_then taken taken_then [] report failed ran refl how first in
+      let ran_all = ends allocator clients [] input old taken [] (drop report.read input) new table_then taken_then (report ∷ []) failed last refl in
+      subst (HaveRun clients [] input old taken new.bytes taken_then (report ∷ [])) (ending_failed failed report.ended how.1 (done report.ended failed how.0)) ran_all)
