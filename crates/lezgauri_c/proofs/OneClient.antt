@@ -1,5 +1,5 @@
 -- A client by itself: what its run leaves is what several leave, of which it is the only one.
-use Rattle.std.proofs.Common.{◌≡◌, ℕ, ◌↔◌, ◌≤◌, Bool, true, false, List, [], ◌∷◌, length, drop, Option, Some, Result, Ok, Err, refl, sym, ◌∙◌, subst, arith}
+use Rattle.std.proofs.Common.{◌≡◌, ℕ, ◌↔◌, Bool, true, false, List, [], ◌∷◌, length, drop, Option, Some, Result, Ok, Err, refl, sym, ◌∙◌, subst, arith}
 use Rattle.seg_spec.specs.Bytes.{word}
 use Rattle.seg_spec.specs.Header.{allocator_word}
 use Rattle.seg_spec.specs.Types.{Table}
@@ -16,7 +16,7 @@ use Rattle.client_run.specs.declared.report.Ended.{Ended}
 use Rattle.client_run.specs.declared.report.Ended.TheVariants as ended
 use Rattle.client_run.specs.Runs.{ending_of, MayRun, HasRun}
 use Rattle.client_vm.specs.Texts.{IsWrongText, AreWrong}
-use Rattle.client_vm.specs.Together.{ending_if, HaveRun, HaveRunOn}
+use Rattle.client_vm.specs.Together.{HaveRun, HaveRunOn}
 use Rattle.client_vm.proofs.TogetherLaws.{begins, next_ran, ends, ending_failed, ran_on}
 
 -- a sound image may be the whole region

@@ -1,6 +1,6 @@
 -- The table of types of a sound image is what its bytes are read as.
-use Rattle.std.proofs.Common.{◌≡◌, ◌+◌, ◌*◌, ◌%◌, ◌≤◌, List, ℕ, length, refl, sym, ap, ◌∙◌, subst, arith}
-use Rattle.std.specs.Prelude.{flat_map as flat_map_list, Result, Ok}
+use Rattle.std.proofs.Common.{◌≡◌, ◌+◌, ◌≤◌, List, ℕ, length, sym, ap, ◌∙◌, subst, arith}
+use Rattle.std.specs.Prelude.{flat_map as flat_map_list}
 use Rattle.seg_spec.specs.Bytes.{slice}
 use Rattle.seg_spec.specs.Types.{Table, IsTable, HasTable, Spells, padded, form_bytes}
 use Rattle.seg_spec.proofs.BytesLaws.{length-slice}

@@ -1,4 +1,4 @@
-use Rattle.std.proofs.Common.{[], ◌∷◌, List, ℕ, length, take, sym, ◌∙◌, subst}
+use Rattle.std.proofs.Common.{[], ◌∷◌, List, ℕ, length, sym, ◌∙◌, subst}
 use Rattle.client_run.specs.declared.report.Ended.{Ended}
 use Rattle.client_vm.proofs.Refusing.{why}
 use Rattle.lezgauri_c.specs.Calls.{IsRun}

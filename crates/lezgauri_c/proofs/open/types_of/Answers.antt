@@ -1,4 +1,4 @@
-use Rattle.std.proofs.Common.{◌%◌, ap, ◌∙◌, arith}
+use Rattle.std.proofs.Common.{◌%◌, ap, arith}
 use Rattle.lezgauri_c.proofs.Tables.{read_size, read_valid, read_spells}
 use Rattle.lezgauri_c.proofs.open.types_of.Goals as goal
 
