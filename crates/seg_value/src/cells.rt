@@ -23,7 +23,7 @@ const NULL: u32 = 1;
 const EMPTY: u64 = 1;
 
 /// Writes the default of a value: 0 for numbers, empty or null for all else.
-#[inline]
+#[inline(always)]
 pub(crate) fn set_default<A: Allocator>(w: &mut Window<A>, types: &TypeTable, place: Place)
     ensures host { KeepsHost w.old w.new }
     ensures cells { LiesWithin w.old.bytes types.now place →
@@ -55,6 +55,8 @@ fn set_cell<A: Allocator>(w: &mut Window<A>, types: &TypeTable, cell: Place)
 }
 
 /// Writes the default of a value, field by field.
+#[cold]
+#[inline(never)]
 fn set_fields<A: Allocator>(w: &mut Window<A>, types: &TypeTable, place: Place)
     ensures host { KeepsHost w.old w.new }
     ensures cells { LiesWithin w.old.bytes types.now place →
