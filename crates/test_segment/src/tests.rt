@@ -1,4 +1,5 @@
 mod examples;
+mod keys;
 mod model;
 mod random_calls;
 mod support;
