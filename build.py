@@ -20,14 +20,21 @@ PROCESSORS = os.cpu_count() or 1
 
 
 @cache
+def lines():
+    """The line of `crates.txt` of each crate."""
+    found = {}
+    for line in (ROOT / "crates.txt").read_text(encoding="utf-8").splitlines():
+        name, colon, _ = line.partition("#")[0].partition(":")
+        if colon:
+            found[name.split()[0]] = line
+    return found
+
+
+@cache
 def crates():
     """The crates of this repository that each of them lists."""
-    lists = {}
-    for line in (ROOT / "crates.txt").read_text(encoding="utf-8").splitlines():
-        name, colon, listed = line.partition("#")[0].partition(":")
-        if colon:
-            lists[name.strip()] = listed.split()
-    return {name: [it for it in listed if it in lists] for name, listed in lists.items()}
+    listed = {name: line.partition("#")[0].partition(":")[2].split() for name, line in lines().items()}
+    return {name: [it for it in its if it in listed] for name, its in listed.items()}
 
 
 @cache
@@ -40,12 +47,17 @@ def below(name):
 
 
 @cache
+def effort(name):
+    """What a crate takes of the prover, in lines of its functions: its proof files take little beside them, and each crate has what is
+    below it read first, which takes as long as some 200 lines."""
+    return 200 + sum(file.read_bytes().count(b"\n") for file in (ROOT / "crates" / name / "src").rglob("*.rt"))
+
+
+@cache
 def behind(name):
-    """The lines of the longest chain of crates that stand on each other from this one up to the program."""
-    parts = [ROOT / "crates" / name / part for part in ("src", "specs", "proofs")]
-    lines = sum(file.read_bytes().count(b"\n") for part in parts for file in part.rglob("*") if file.is_file())
+    """The effort of the longest chain of crates that stand on each other from this one up to the program."""
     above = [it for it in [*below(PROGRAM), PROGRAM] if name in crates()[it]]
-    return lines + max(map(behind, above), default=0)
+    return effort(name) + max(map(behind, above), default=0)
 
 
 def library(root, name):
@@ -70,11 +82,12 @@ def bring(library_of, name, to):
 def build(name, room, jobs):
     """Builds one library. Returns whether it was built."""
     here = room / name
-    shutil.copytree(ROOT / "crates", here / "crates", ignore=shutil.ignore_patterns("out"))
-    for file in ["crates.txt", "HANDLES"]:
-        shutil.copy2(ROOT / file, here)
-    for it in [*below(name), name]:
+    needed = [*below(name), name]
+    for it in needed:
+        shutil.copytree(ROOT / "crates" / it, here / "crates" / it, ignore=shutil.ignore_patterns("out"))
         bring(ROOT, it, here)
+    (here / "crates.txt").write_text("".join(lines()[it] + "\n" for it in needed), encoding="utf-8")
+    shutil.copy2(ROOT / "HANDLES", here)
     ran = subprocess.run(
         ["rt", "lib", "--statements", "--jobs", str(jobs)],
         cwd=here / "crates" / name,
@@ -99,12 +112,15 @@ def build_libraries():
     with tempfile.TemporaryDirectory() as room, ThreadPoolExecutor(PROCESSORS) as pool:
         while left or running:
             ready = [it for it in left if built.issuperset(below(it))]
-            for at, name in enumerate(ready):
-                # several processors take more time in all for one library, so it gets only those that no other waits for
+            effort_left = sum(map(effort, [*left, *(name for name, _ in running.values()), PROGRAM]))
+            for name in ready:
                 idle = PROCESSORS - sum(jobs for _, jobs in running.values())
                 if idle == 0:
                     break
-                jobs = max(1, idle // (len(ready) - at))
+                # Several processors take more time in all for one library than one does, so it gets no more than its chain is of all
+                # that is left, unless nothing else can be built.
+                share = -(-PROCESSORS * behind(name) // effort_left)
+                jobs = idle if name == ready[-1] else min(idle, share)
                 running[pool.submit(build, name, Path(room), jobs)] = name, jobs
                 left.remove(name)
             for done in wait(running, return_when=FIRST_COMPLETED).done:
