@@ -2,7 +2,7 @@ ghost use Rattle.std.specs.Prelude.{◌≡◌, ℕ, ◌+◌, ◌-◌, ◌*◌, �
 ghost use Rattle.seg_spec.specs.Window.{with_bytes};
 ghost use Rattle.std.specs.Option.{SomeIff};
 ghost use Rattle.seg_spec.specs.Heap.{Span, span, span_of, Tile, Fill, AreHeaders, IsHeap, units_at, is_live_at};
-ghost use Rattle.seg_block.specs.Sizes.{set_size, set_split};
+ghost use Rattle.seg_block.specs.Sizes.{size_word, set_size, set_split};
 ghost use Rattle.seg_block.specs.Tiling.{tile_of, tile_after, grown, halves, IsTiled, Replaces, ForNext, WhereLast, ForPrevious, WhereFirst};
 ghost use Rattle.seg_block.specs.Blocks.{block_end, Covers, LiesIn, IsJustBefore, HasRoom, payload_at, IsSized, IsReadFree, HasEnd, IsLiveBlock, room_after};
 
@@ -34,12 +34,15 @@ pub fn block_at<A: Allocator>(w: &Window<A>, at: u32) -> Option<Block>
     ensures read { (g : Span) → at ≡ g.at → IsSized w.now.bytes g
         → IsSomeAnd result (λ f. Covers f g) }
 {
-    let len = w.len();
-    if at > len {
-        return None;
-    }
-    let units = units(w, at);
-    if units < 2 || units > (len - at) / UNIT {
+    block_within(w.len(), at, units(w, at))
+}
+
+/// The block of these units at a position, where a block may have as many, and that many bytes have room for it.
+pub fn block_within(len: u32, at: u32, units: u32) -> Option<Block>
+    ensures { SomeIff result ((2 ≤ units) × (at + UNIT * units ≤ len))
+        (record { at = at; units = units }) }
+{
+    if units < 2 || at > len || units > (len - at) / UNIT {
         return None;
     }
     Some(Block { at, units })
@@ -79,13 +82,20 @@ pub fn last_block<A: Allocator>(w: &Window<A>, end: u32) -> Option<Block>
     None
 }
 
+/// The first word of a header, for a block of these units.
+pub fn size_word(units: u32, live: bool) -> u32
+    requires { units < LIVE }
+    ensures { result ≡ size_word units live }
+{
+    if live { units + LIVE } else { units }
+}
+
 /// Sets the size of the block at a position, in units, also in the header of the block after it.
 pub fn set_size<A: Allocator>(w: &mut Window<A>, block: u32, units: u32, live: bool)
     requires { units < LIVE }
     ensures { w.new ≡ with_bytes w.old (set_size w.old.bytes block units live) }
 {
-    let size = if live { units + LIVE } else { units };
-    w.put32(block as usize, size);
+    w.put32(block as usize, size_word(units, live));
     w.put32(block as usize + 16 * units as usize + UNITS_BEFORE, units);
 }
 
@@ -147,6 +157,8 @@ pub fn free_before<A: Allocator>(w: &Window<A>, block: Block) -> Option<Block>
 pub fn room_after<A: Allocator>(w: &Window<A>, block: Block) -> u32
     requires { block_end block ≤ MAX_LEN }
     ensures bounds { block_end block + UNIT * result ≤ MAX_LEN }
+    ensures inside { block_end block ≤ length w.now.bytes
+        → block_end block + UNIT * result ≤ length w.now.bytes }
     ensures room { (allocator : ℕ) → IsHeap allocator w.now.bytes
         → IsLiveBlock w.now.bytes block.at block.units
         → result ≡ room_after w.now.bytes block.at block.units }

@@ -1,5 +1,6 @@
 //! Pointers, which hold the distance from their own position. Distance 1 names nothing.
 ghost use Rattle.std.specs.Prelude.{◌≡◌, ◌+◌, ◌%◌, ◌^◌, ◌==◌, if◌then◌else◌, Some, None};
+ghost use Rattle.seg_spec.specs.Pointer.{distance};
 
 /// What a pointer at a position names that holds this distance.
 pub(crate) fn named(at: usize, distance: u32) -> Option<u32>
@@ -9,6 +10,16 @@ pub(crate) fn named(at: usize, distance: u32) -> Option<u32>
     match distance {
         1 => None,
         _ => Some(low_word(at).wrapping_add(distance)),
+    }
+}
+
+/// The distance that the pointer at a position holds where it names `to`.
+pub(crate) fn distance(at: usize, to: Option<u32>) -> u32
+    ensures { result ≡ distance at to }
+{
+    match to {
+        None => 1,
+        Some(to) => to.wrapping_sub(low_word(at)),
     }
 }
 

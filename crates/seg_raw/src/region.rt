@@ -4,6 +4,7 @@ ghost use Rattle.seg_spec.specs.Bytes.{slice, put, byte, word, long, set_byte, s
 use crate::fault::Fault;
 use std::alloc::Allocator;
 use std::marker::Model;
+use std_alloc::vec::run_mut;
 
 /// A region of bytes of the host. Clauses see the list of its bytes. Positions and lengths are in bytes.
 #[derive(Drop)]
@@ -20,6 +21,10 @@ impl<A: Allocator> Model for Region<A> {
 }
 
 impl<A: Allocator> Region<A> {
+    ghost use Rattle.std.specs.Borrow.{Lends, Array, sem, u8 as octet};
+    ghost use Rattle.seg_raw.specs.Lending.{lent};
+    ghost use Rattle.seg_raw.specs.contracts.region.Region.{the_row};
+
     /// A region of this many bytes, each 0.
     pub fn new(alloc: A, len: u32) -> Result<Region<A>, Fault>
         requires { len ≤ 2 ^ 31 }
@@ -130,6 +135,16 @@ impl<A: Allocator> Region<A> {
         ensures { result.now ≡ slice self.now at n }
     {
         &self.data[at..at + n]
+    }
+
+    /// The `n` bytes from a position on, to be written.
+    pub fn slice_mut(&mut self, at: usize, n: usize) -> &mut [u8]
+        requires { at + n ≤ length self.old }
+        ensures value { result.now ≡ slice self.old at n }
+        ensures* writes_back { sem 𝓛 (Lends (the_row A.row A.Allocator) (Array octet 0)
+            self.entry result (lent self.old at)) }
+    {
+        run_mut(&mut self.data, at, at + n)
     }
 
     /// Writes `bytes` from a position on.

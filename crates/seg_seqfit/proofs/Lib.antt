@@ -3,6 +3,7 @@ pub mod LinkLaws
 pub mod Retile
 pub mod Middles
 pub mod Taking
+pub mod Wholes
 pub mod Fronts
 pub mod Predecessor
 pub mod Places
@@ -12,3 +13,4 @@ pub mod Freeing
 pub mod Beginning
 pub mod Enlarging
 pub mod Cuttings
+pub mod Lending

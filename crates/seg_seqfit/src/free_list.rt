@@ -1,17 +1,22 @@
 //! Changes of the tiles that keep the free list.
 
-ghost use Rattle.std.specs.Prelude.{◌≡◌, ℕ, ◌+◌, ◌*◌, ◌≤◌, true, false, List, [], ◌∷◌, ◌++◌, None};
+ghost use Rattle.std.specs.Prelude.{◌≡◌, ℕ, ◌+◌, ◌*◌, ◌≤◌, true, false, List, [], ◌∷◌, ◌++◌, length, None};
 ghost use Rattle.seg_spec.specs.Pointer.{target};
 ghost use Rattle.seg_spec.specs.Window.{KeepsHost};
 ghost use Rattle.seg_spec.specs.Heap.{Tile, Fill, IsHeap, Gives, link_at};
-ghost use Rattle.seg_block.specs.Blocks.{block_end, IsLiveBlock};
+ghost use Rattle.seg_block.specs.Blocks.{block_end, LiesIn, IsLiveBlock};
+ghost use Rattle.seg_block.specs.Sizes.{set_size};
 ghost use Rattle.seg_block.specs.Tiling.{tile_of, halves, IsTiling, Retiles};
 ghost use Rattle.seg_seqfit.specs.Retiling.{link_past, link_to};
 ghost use Rattle.seg_seqfit.specs.Leading.{leads_past};
 
 use crate::search::link_before;
 use crate::seqfit::SeqFit;
-use seg_block::{Block, FreeStructure, LINK, TAG, UNIT, free_before, room_after, set_size};
+use seg_block::{
+    Block, FreeStructure, LINK, TAG, UNIT, UNITS_BEFORE, free_before, room_after, set_size,
+    size_word,
+};
+use seg_ptr::words::{put_pointer, put_word, set_pointer, set_word};
 use seg_ptr::{MAX_LEN, Window};
 use std::alloc::Allocator;
 
@@ -35,37 +40,56 @@ impl FreeStructure for SeqFit {
     }
 
     fn release<A: Allocator>(w: &mut Window<A>, link: usize, block: Block) {
-        let next = w.target(link);
-        put_in(w, link, next, block);
+        if block.units >= 2 && block.at + UNIT * block.units <= w.len() {
+            let next = w.target(link);
+            put_in(w.bytes_mut(), link, next, block);
+        }
     }
 
     ghost leads_past = { leads_past };
 }
 
-/// Makes the front of a gap live, of `units`. The rest stays a gap, in the gap's place in the list.
-pub(crate) fn take_front<A: Allocator>(w: &mut Window<A>, link: usize, gap: Block, units: u32)
-    requires inside { block_end gap ≤ MAX_LEN }
+/// Makes a gap live. In the list `next`, which came after it, stands in its place.
+pub(crate) fn take_whole(bytes: &mut [u8], link: usize, gap: Block, next: Option<u32>)
+    requires inside { LiesIn bytes.old gap }
+    ensures length { length bytes.new ≡ length bytes.old }
+    ensures tiles { (xs ys : List Tile) → link ≡ link_to xs → next ≡ link_at bytes.old gap.at
+        → IsTiling 0 bytes.old (xs ++ tile_of gap false ∷ ys)
+        → Retiles 0 bytes.old bytes.new xs (tile_of gap true ∷ []) ys
+        × (link_at bytes.new gap.at ≡ None) }
+{
+    put_pointer(bytes, link, next);
+    set_pointer(bytes, gap.at as usize + LINK, None);
+    set_word(bytes, gap.at as usize, size_word(gap.units, true));
+}
+
+/// Makes the front of a gap live, of `units`. The rest stays a gap, in the gap's place in the list, before `next`.
+pub(crate) fn take_front(bytes: &mut [u8], link: usize, gap: Block, next: Option<u32>, units: u32)
+    requires inside { LiesIn bytes.old gap }
     requires front { 2 ≤ units }
     requires rest { units + 2 ≤ gap.units }
-    ensures host { KeepsHost w.old w.new }
-    ensures tiles { (xs ys : List Tile) → link ≡ link_to xs
-        → IsTiling 0 w.old.bytes (xs ++ tile_of gap false ∷ ys)
-        → Retiles 0 w.old.bytes w.new.bytes xs (halves gap units true false) ys
-        × (link_at w.new.bytes gap.at ≡ None) }
+    ensures length { length bytes.new ≡ length bytes.old }
+    ensures tiles { (xs ys : List Tile) → link ≡ link_to xs → next ≡ link_at bytes.old gap.at
+        → IsTiling 0 bytes.old (xs ++ tile_of gap false ∷ ys)
+        → Retiles 0 bytes.old bytes.new xs (halves gap units true false) ys
+        × (link_at bytes.new gap.at ≡ None) }
 {
-    let next = w.target(gap.at as usize + LINK);
-    let rest = gap.at + UNIT * units;
-    w.put32(rest as usize + TAG, 0);
-    set_size(w, rest, gap.units - units, false);
-    set_size(w, gap.at, units, true);
-    w.point(rest as usize + LINK, next);
-    w.point(link, Some(rest + UNIT));
-    w.point(gap.at as usize + LINK, None);
+    let at = gap.at as usize;
+    let rest = at + 16 * units as usize;
+    let after = at + 16 * gap.units as usize;
+    set_word(bytes, rest + TAG, 0);
+    set_word(bytes, rest, gap.units - units);
+    put_word(bytes, after + UNITS_BEFORE, gap.units - units);
+    set_word(bytes, at, size_word(units, true));
+    set_word(bytes, rest + UNITS_BEFORE, units);
+    set_pointer(bytes, rest + LINK, next);
+    put_pointer(bytes, link, Some(gap.at + UNIT * units + UNIT));
+    set_pointer(bytes, at + LINK, None);
 }
 
 /// Makes a live block free, as one with the gaps beside it. The list is searched only where no gap is right before it.
 pub(crate) fn release_joined<A: Allocator>(w: &mut Window<A>, block: Block)
-    requires { block_end block ≤ MAX_LEN }
+    requires { LiesIn w.old.bytes block }
     ensures host { KeepsHost w.old w.new }
     ensures gives { IsHeap 0 w.old.bytes → IsLiveBlock w.old.bytes block.at block.units
         → Gives 0 w.old.bytes w.new.bytes block.at }
@@ -75,12 +99,12 @@ pub(crate) fn release_joined<A: Allocator>(w: &mut Window<A>, block: Block)
         let link = link_before(w, block);
         let next = w.target(link_after(link, block, room));
         let units = block.units + room;
-        put_in(w, link, next, Block { units, ..block });
+        put_in(w.bytes_mut(), link, next, Block { units, ..block });
         return;
     };
     let next = w.target(link_after(gap.at as usize + LINK, block, room));
     let units = gap.units + block.units + room;
-    widen(w, next, Block { units, ..gap });
+    widen(w.bytes_mut(), next, Block { units, ..gap });
 }
 
 /// The pointer word of the list after a block that `link` leads to, and the gap of `room` units right after it (0 where there
@@ -98,29 +122,43 @@ fn link_after(link: usize, block: Block, room: u32) -> usize
 }
 
 /// Makes the tiles that a block covers one gap, which `link` names, after which the list goes on with `next`.
-fn put_in<A: Allocator>(w: &mut Window<A>, link: usize, next: Option<u32>, gap: Block)
-    requires { block_end gap ≤ MAX_LEN }
-    ensures host { KeepsHost w.old w.new }
+fn put_in(bytes: &mut [u8], link: usize, next: Option<u32>, gap: Block)
+    requires { LiesIn bytes.old gap }
+    ensures length { length bytes.new ≡ length bytes.old }
     ensures tiles { (xs ms ys : List Tile) (t : Tile) → link ≡ link_to xs
-        → IsTiling 0 w.old.bytes (xs ++ ((t ∷ ms) ++ ys)) → Fill gap.at (t ∷ ms) (block_end gap)
-        → next ≡ target w.old.bytes (link_past link (t ∷ ms))
-        → Retiles 0 w.old.bytes w.new.bytes xs (tile_of gap false ∷ []) ys }
+        → IsTiling 0 bytes.old (xs ++ ((t ∷ ms) ++ ys)) → Fill gap.at (t ∷ ms) (block_end gap)
+        → next ≡ target bytes.old (link_past link (t ∷ ms))
+        → Retiles 0 bytes.old bytes.new xs (tile_of gap false ∷ []) ys }
 {
-    w.put32(gap.at as usize + TAG, 0);
-    w.point(gap.at as usize + LINK, next);
-    w.point(link, Some(gap.at + UNIT));
-    set_size(w, gap.at, gap.units, false);
+    set_word(bytes, gap.at as usize + TAG, 0);
+    set_pointer(bytes, gap.at as usize + LINK, next);
+    put_pointer(bytes, link, Some(gap.at + UNIT));
+    set_free_size(bytes, gap);
 }
 
 /// Makes the tiles that a block covers one gap, the first of which is a gap already. After it the list goes on with `next`.
-fn widen<A: Allocator>(w: &mut Window<A>, next: Option<u32>, gap: Block)
-    requires { block_end gap ≤ MAX_LEN }
-    ensures host { KeepsHost w.old w.new }
+fn widen(bytes: &mut [u8], next: Option<u32>, gap: Block)
+    requires { LiesIn bytes.old gap }
+    ensures length { length bytes.new ≡ length bytes.old }
     ensures tiles { (xs ms ys : List Tile) (t : Tile) → t.live ≡ false
-        → IsTiling 0 w.old.bytes (xs ++ ((t ∷ ms) ++ ys)) → Fill gap.at (t ∷ ms) (block_end gap)
-        → next ≡ target w.old.bytes (link_past (gap.at + LINK) ms)
-        → Retiles 0 w.old.bytes w.new.bytes xs (tile_of gap false ∷ []) ys }
+        → IsTiling 0 bytes.old (xs ++ ((t ∷ ms) ++ ys)) → Fill gap.at (t ∷ ms) (block_end gap)
+        → next ≡ target bytes.old (link_past (gap.at + LINK) ms)
+        → Retiles 0 bytes.old bytes.new xs (tile_of gap false ∷ []) ys }
 {
-    w.point(gap.at as usize + LINK, next);
-    set_size(w, gap.at, gap.units, false);
+    set_pointer(bytes, gap.at as usize + LINK, next);
+    set_free_size(bytes, gap);
+}
+
+/// Sets the size of a free block, also in the header of the block after it.
+fn set_free_size(bytes: &mut [u8], gap: Block)
+    requires { LiesIn bytes.old gap }
+    ensures length { length bytes.new ≡ length bytes.old }
+    ensures bytes { bytes.new ≡ set_size bytes.old gap.at gap.units false }
+{
+    set_word(bytes, gap.at as usize, gap.units);
+    put_word(
+        bytes,
+        gap.at as usize + 16 * gap.units as usize + UNITS_BEFORE,
+        gap.units,
+    );
 }

@@ -1,23 +1,24 @@
 //! Walks along the free list.
 
 ghost use Rattle.std.specs.Prelude.{◌≡◌, ℕ, ◌+◌, ◌^◌, ◌<◌, ◌≤◌, Bool, List, ◌∷◌, ◌++◌, IfSome, MatchOption, Some, None};
-ghost use Rattle.seg_spec.specs.Heap.{Span, Tile, IsFreeList, first_fit};
+ghost use Rattle.seg_spec.specs.Heap.{Span, Tile, IsFreeList, first_fit, link_at};
 ghost use Rattle.seg_block.specs.Blocks.{LiesIn};
 ghost use Rattle.seg_block.specs.FreeBlocks.{AreFreeBlocks};
 ghost use Rattle.seg_block.specs.Tiling.{tile_of, IsTiling};
 ghost use Rattle.seg_seqfit.specs.FreeBlocks.{IsFirstFit};
 ghost use Rattle.seg_seqfit.specs.Retiling.{link_to};
 
-use seg_block::{Block, HEAP_START, Header, LINK, UNIT, block_at, is_live, previous};
+use seg_block::{Block, HEAP_START, Header, LINK, UNIT, block_within, is_live, previous};
 use seg_ptr::Window;
 use seg_ptr::header::FREE;
 use std::alloc::Allocator;
 
-/// A free block, and the pointer word that names it.
+/// A free block, the pointer word that names it, and what its own names.
 #[derive(Clone, Copy)]
 pub(crate) struct Found {
     pub(crate) link: usize,
     pub(crate) block: Block,
+    pub(crate) next: Option<u32>,
 }
 
 /// The position of the free block that a pointer names, where its payload begins above `payload`.
@@ -42,15 +43,18 @@ pub(crate) fn first_fit<A: Allocator>(w: &Window<A>, need: u32) -> Option<Found>
         → AreFreeBlocks w.now.bytes HEAP_START gs
         → MatchOption result (first_fit gs need ≡ None)
         (λ f. IsFirstFit gs need f.link f.block.at f.block.units) }
+    ensures next { IfSome result (λ f. f.next ≡ link_at w.now.bytes f.block.at) }
 {
+    let len = w.len();
     let view = w.view();
     let mut link = FREE;
     let mut next = free_above(view.target(FREE), HEAP_START);
     while let Some(at) = next {
         let header = Header::read(view, at);
         if header.units >= need {
-            let block = block_at(w, at)?;
-            return Some(Found { link, block });
+            let block = block_within(len, at, header.units)?;
+            let next = header.link;
+            return Some(Found { link, block, next });
         }
         link = at as usize + LINK;
         next = free_above(header.link, at + UNIT);

@@ -1,10 +1,10 @@
 ghost use Rattle.std.specs.Prelude.{ℕ};
 
-use crate::free_list::{release_joined, take_front};
+use crate::free_list::{release_joined, take_front, take_whole};
 use crate::search::{Found, first_fit, link_before};
 use seg_block::{
-    Block, Fit, FreeStructure, HEAP_START, LINK, TAG, UNIT, UNITS_BEFORE, block_at, granted,
-    is_live, last_block, resize, set_size,
+    Block, Fit, HEAP_START, LINK, TAG, UNIT, UNITS_BEFORE, block_at, granted, is_live, last_block,
+    resize, set_size,
 };
 use seg_ptr::Window;
 use seg_ptr::header::{FREE, SIZE};
@@ -34,12 +34,13 @@ impl Fit for SeqFit {
     }
 
     fn allocate<A: Allocator>(w: &mut Window<A>, need: u32) -> Option<u32> {
-        let Found { link, block } = first_fit(w, need)?;
+        let Found { link, block, next } = first_fit(w, need)?;
         let units = granted(block.units, need);
+        let bytes = w.bytes_mut();
         if units == block.units {
-            Self::take(w, link, block);
+            take_whole(bytes, link, block, next);
         } else {
-            take_front(w, link, block, units);
+            take_front(bytes, link, block, next, units);
         }
         Some(block.at)
     }

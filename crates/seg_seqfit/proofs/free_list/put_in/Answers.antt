@@ -1,5 +1,4 @@
 use Rattle.std.proofs.Common.{◌+◌, false, [], ◌∷◌, List, ℕ, Some, sym, ap, ◌∙◌, subst}
-use Rattle.seg_spec.specs.Window.{Placement}
 use Rattle.seg_spec.specs.Pointer.{target, set_pointer}
 use Rattle.seg_block.specs.Sizes.{set_size}
 use Rattle.seg_block.specs.Tiling.{tile, Retiles}
@@ -8,14 +7,12 @@ use Rattle.seg_seqfit.proofs.Releasing.{release-retiles}
 use Rattle.seg_seqfit.proofs.free_list.put_in.Goals as goal
 
 pub returns-clause-tiles : goal.returns-clause-tiles
-returns-clause-tiles g c = λ xs ms ys t link_is was fill next_is.
-    let old = c.args.w.now.bytes in
+returns-clause-tiles c = λ xs ms ys t link_is was fill next_is.
+    let old = c.args.bytes.now in
     let at = c.args.gap.at in
     let u = c.args.gap.units in
-    let bytes = λ (p : Placement). p.bytes in
     let next = next_is ∙ ap (λ l. target old (link_past l (t ∷ ms))) link_is in
-    let tagged = ap bytes c.put32.ensures in
-    let linked = ap bytes c.point.ensures ∙ ap (λ t. set_pointer c.put32.new.self.bytes (at + 12) t) next ∙ ap (λ b. set_pointer b (at + 12) (target old (link_past (link_past 24 xs) (t ∷ ms)))) tagged in
-    let listed = ap bytes c.point-2.ensures ∙ ap (λ l. set_pointer c.point.new.self.bytes l (Some (at + 16))) link_is ∙ ap (λ b. set_pointer b (link_past 24 xs) (Some (at + 16))) linked in
-    let sized = ap bytes c.set_size.ensures ∙ ap (λ b. set_size b at u false) listed in
+    let linked = c.set_pointer.ensures.bytes ∙ (λ i. set_pointer (c.set_word.ensures.bytes i) (at + 12) (next i)) in
+    let listed = c.put_pointer.ensures.bytes ∙ (λ i. set_pointer (linked i) (link_is i) (Some (at + 16))) in
+    let sized = c.set_free_size.ensures.bytes ∙ ap (λ b. set_size b at u false) listed in
     subst (λ (b : List ℕ). Retiles 0 old b xs (tile at u false ∷ []) ys) (sym sized) (release-retiles old xs ms ys t at u was fill)

@@ -1,11 +1,25 @@
-use Rattle.std.proofs.Common.{◌≤◌, ◌<◌, ◌+◌, ap, ◌∙◌, sym, subst, arith, length, ⊎_elim}
+use Rattle.std.proofs.Common.{◌≡◌, ℕ, List, ◌≤◌, ◌<◌, ◌+◌, ap, ◌∙◌, sym, subst, arith, length, ⊎_elim}
 use Rattle.std.proofs.lemmas.Bool.{cases_lt}
-use Rattle.seg_spec.specs.Heap.{units_at, link_at}
+use Rattle.seg_spec.specs.Heap.{Span, units_at, link_at}
 use Rattle.seg_spec.specs.Pointer.{target}
 use Rattle.seg_block.specs.declared.block.Block.{Block}
 use Rattle.seg_block.specs.declared.header.Header.{Header}
+use Rattle.seg_block.specs.Blocks.{IsSized}
+use Rattle.seg_block.specs.Headers.{header_at, no_header}
 use Rattle.seg_seqfit.proofs.Walks.{fits, fewer, follows, reads, reads_none, searched_none, searched_more, searched_found, searched_always, searched_end}
 use Rattle.seg_seqfit.proofs.search.first_fit.Goals as goal
+
+-- the units that a header states which was read once
+header_units : (bytes view : List ℕ) (at : ℕ) (h : Header) → view ≡ bytes → (at + 16 ≤ length view → h ≡ header_at view at) → (s : Span) → at ≡ s.at → IsSized bytes s → h.units ≡ s.units
+header_units bytes view at h same inside s is sized =
+    ap (λ (h : Header). h.units) (inside (omega (arith, is, sized.large, sized.inside, ap length same)))
+    ∙ ap (λ b. units_at b at) same ∙ ap (units_at bytes) is ∙ sized.size_is
+
+-- the link that a header states
+header_link : (bytes view : List ℕ) (at : ℕ) (h : Header) → view ≡ bytes → (at + 16 ≤ length view → h ≡ header_at view at) → (length view < at + 16 → h ≡ no_header view at) → h.link ≡ link_at bytes at
+header_link bytes view at h same inside past =
+    ⊎_elim (λ out. ap (λ (h : Header). h.link) (past out)) (λ fits. ap (λ (h : Header). h.link) (inside fits)) (cases_lt (length view) (at + 16))
+    ∙ ap (λ b. link_at b at) same
 
 pub loop-next-init : goal.loop-next-init
 loop-next-init g c = record {
@@ -22,25 +36,42 @@ loop-next-smaller g c = fewer c.in-Some.at c.loop-next.next c.free_above-next-in
 
 pub returns-in_err-block-clause-first : goal.returns-in_err-block-clause-first
 returns-in_err-block-clause-first g c = λ gs links blocks.
+    let bytes = c.args.w.now.bytes in
     let at = c.in-Some.at in
     let i = c.loop-next.invariant.searching gs links blocks in
-    absurd (searched_always c.args.w.now.bytes gs c.args.need c.loop-next.link i.low at (reads c.args.w.now.bytes c.loop-next.link i.low at c.loop-next.next i.follows c.in-Some.is) c.in_err-block.ensures.read i.searched)
+    absurd (searched_always bytes gs c.args.need c.loop-next.link i.low at (reads bytes c.loop-next.link i.low at c.loop-next.next i.follows c.in-Some.is)
+    (λ s is sized.
+    let units = header_units bytes c.view-view.result.bytes.now at c.read-header.result c.view-view.ensures c.read-header.ensures.inside s is sized in
+    c.in_err-block.ensures (omega (arith, units, sized.large), omega (arith, is, units, sized.inside, c.len-len.ensures.len)))
+    i.searched)
 
 pub returns-then-header-need-clause-first : goal.returns-then-header-need-clause-first
 returns-then-header-need-clause-first g c = λ gs links blocks.
+    let bytes = c.args.w.now.bytes in
     let at = c.in-Some.at in
     let i = c.loop-next.invariant.searching gs links blocks in
-    let units = ap (λ (h : Header). h.units) (c.read-header.ensures.inside (omega (arith, c.in_ok-block.ensures.bounds, ap length c.view-view.ensures)))
-    ∙ ap (λ b. units_at b at) c.view-view.ensures ∙ ap (λ (b : Block). b.units) (sym c.in_ok-block.ensures.stated.1) in
-    searched_found c.args.w.now.bytes gs c.args.need c.loop-next.link i.low at c.in_ok-block.block
-    (reads c.args.w.now.bytes c.loop-next.link i.low at c.loop-next.next i.follows c.in-Some.is) c.in_ok-block.ensures.read (subst (λ n. c.args.need ≤ n) units c.if-header-need.true) i.searched
+    let stated = c.in_ok-block.ensures.1 in
+    searched_found bytes gs c.args.need c.loop-next.link i.low at c.in_ok-block.block
+    (reads bytes c.loop-next.link i.low at c.loop-next.next i.follows c.in-Some.is)
+    (λ s is sized. (
+      ap (λ (b : Block). b.at) stated ∙ is,
+      ap (λ (b : Block). b.units) stated ∙ header_units bytes c.view-view.result.bytes.now at c.read-header.result c.view-view.ensures c.read-header.ensures.inside s is sized,
+    ))
+    (subst (λ n. c.args.need ≤ n) (sym (ap (λ (b : Block). b.units) stated)) c.if-header-need.true) i.searched
+
+pub returns-then-header-need-clause-next : goal.returns-then-header-need-clause-next
+returns-then-header-need-clause-next g c =
+    let bytes = c.args.w.now.bytes in
+    header_link bytes c.view-view.result.bytes.now c.in-Some.at c.read-header.result c.view-view.ensures c.read-header.ensures.inside c.read-header.ensures.past
+    ∙ ap (λ (b : Block). link_at bytes b.at) (sym c.in_ok-block.ensures.1)
 
 pub loop-next-preserved : goal.loop-next-preserved
 loop-next-preserved g c =
     let bytes = c.args.w.now.bytes in
     let at = c.in-Some.at in
-    let link_is = ⊎_elim (λ past. ap (λ (h : Header). h.link) (c.read-header.ensures.past past)) (λ inside. ap (λ (h : Header). h.link) (c.read-header.ensures.inside inside)) (cases_lt (length c.view-view.result.bytes.now) (at + 16))
-    ∙ ap (λ b. link_at b at) c.view-view.ensures in
+    let view = c.view-view.result.bytes.now in
+    let header = c.read-header.result in
+    let link_is = header_link bytes view at header c.view-view.ensures c.read-header.ensures.inside c.read-header.ensures.past in
     record {
       bounds = fits (at + 16) c.free_above-next-in-Some.result c.free_above-next-in-Some.ensures.bounds;
       searching = λ gs links blocks.
@@ -48,12 +79,9 @@ loop-next-preserved g c =
           record {
             low = at + 16;
             searched = searched_more bytes gs c.args.need c.loop-next.link i.low at (reads bytes c.loop-next.link i.low at c.loop-next.next i.follows c.in-Some.is)
-                (λ s is sized.
-                let units = ap (λ (h : Header). h.units) (c.read-header.ensures.inside (omega (arith, is, sized.large, sized.inside, ap length c.view-view.ensures)))
-                ∙ ap (λ b. units_at b at) c.view-view.ensures ∙ ap (units_at bytes) is ∙ sized.size_is in
-                subst (λ n. n < c.args.need) units c.if-header-need.false)
+                (λ s is sized. subst (λ n. n < c.args.need) (header_units bytes view at header c.view-view.ensures c.read-header.ensures.inside s is sized) c.if-header-need.false)
                 i.searched;
-            follows = follows bytes (at + 12) (at + 16) (at + 16) c.read-header.result.link c.free_above-next-in-Some.result link_is (omega arith) c.free_above-next-in-Some.ensures.none c.free_above-next-in-Some.ensures.named;
+            follows = follows bytes (at + 12) (at + 16) (at + 16) header.link c.free_above-next-in-Some.result link_is (omega arith) c.free_above-next-in-Some.ensures.none c.free_above-next-in-Some.ensures.named;
           };
     }
 

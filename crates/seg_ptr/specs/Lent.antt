@@ -1,0 +1,17 @@
+-- A segment whose bytes are lent to be written.
+--     lent_to old xs     the window after xs was written over its bytes
+use Rattle.std.specs.Prelude.{ℕ, ◌+◌, List, length, take, drop}
+use Rattle.seg_spec.specs.Window.{Placement, region_of}
+use Rattle.seg_raw.specs.Lending.{lent}
+
+-- the window on a part of a region
+abbrev pub view_of : List ℕ → ℕ → ℕ → Placement
+view_of region base len = record {
+  before = take base region;
+  bytes = take len (drop base region);
+  after = drop (base + len) region;
+}
+
+abbrev pub lent_to : Placement → List ℕ → Placement
+lent_to old xs =
+    view_of (lent (region_of old) (length old.before) xs) (length old.before) (length old.bytes)
