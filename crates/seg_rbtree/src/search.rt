@@ -1,11 +1,11 @@
 //! Searches down a tree.
 
-ghost use Rattle.std.specs.Prelude.{◌≡◌, ◌+◌, ◌^◌, ◌≤◌, [], length};
+ghost use Rattle.std.specs.Prelude.{◌≡◌, ◌+◌, ◌^◌, ◌≤◌, [], length, Some};
 ghost use Rattle.std.specs.Ordering.{is_eq, ordering_reverse};
 ghost use Rattle.seg_spec.specs.Shapes.{nodes_of};
 ghost use Rattle.seg_spec.specs.Search.{reaches, first_where, looks, IsSearchTree};
 ghost use Rattle.seg_rbtree.specs.Ways.{LeadsTo};
-ghost use Rattle.seg_rbtree.specs.Paths.{WhereOrdered, FindsEqual, node_at, sought_by};
+ghost use Rattle.seg_rbtree.specs.Paths.{WhereOrdered, FindsEqual, IsAmong, node_at, sought_by};
 ghost use Rattle.seg_rbtree.specs.Roots.{root_word, path_root};
 ghost use Rattle.seg_rbtree.specs.declared.path.TheConstants.{DEPTH};
 
@@ -155,6 +155,25 @@ impl Tree {
     {
         let mut path = Path::new(self.root);
         path.descend(w, order, Sought::Key(key));
+        path
+    }
+
+    /// The path to a node of the tree. For one that is none of the tree's it leads elsewhere.
+    #[inline]
+    pub fn path_to_node<K: Copy, O: NodeOrder<K>, A: Allocator>(
+        self,
+        w: &Window<A>,
+        order: &O,
+        node: u32,
+    ) -> Path
+        ensures root { path_root result ≡ root_word self }
+        ensures leads { O.exact → (shape : _) → IsSearchTree w.now.bytes (root_word self) shape
+            → LeadsTo (O.compare order.now w.now.bytes node) shape result }
+        ensures found { O.exact → WhereOrdered (O.compare order.now) w.now (root_word self)
+            (λ shape. IsAmong node (nodes_of shape) → node_at w.now.bytes result ≡ Some node) }
+    {
+        let mut path = Path::new(self.root);
+        path.descend(w, order, Sought::Node(node));
         path
     }
 }
