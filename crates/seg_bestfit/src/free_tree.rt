@@ -126,12 +126,13 @@ pub(crate) fn put_in<A: Allocator>(w: &mut Window<A>, block: Block)
     free_tree().insert(w, &BySize, block.at + UNIT);
 }
 
-/// The way to a free block in the tree.
-fn way_to<A: Allocator>(w: &Window<A>, block: Block) -> Path
+/// Makes a path the way to a free block in the tree.
+#[inline(always)]
+fn lead_to<A: Allocator>(path: &mut Path, w: &Window<A>, block: Block)
     requires { block_end block ≤ MAX_LEN }
-    ensures { LeadsToGap w.now.bytes result (block.at + UNIT) }
+    ensures { LeadsToGap w.now.bytes path.new (block.at + UNIT) }
 {
-    free_tree().path_to_node(w, &BySize, block.at + UNIT)
+    path.lead_to_node(w, free_tree(), &BySize, block.at + UNIT);
 }
 
 /// Writes the header of a free block.
@@ -157,7 +158,8 @@ pub(crate) fn take_front<A: Allocator>(w: &mut Window<A>, gap: Block, units: u32
         → Retiles 1 w.old.bytes w.new.bytes xs (halves gap units true false) ys
         × (link_at w.new.bytes gap.at ≡ None) }
 {
-    let path = way_to(w, gap);
+    let mut path = Path::new(FREE);
+    lead_to(&mut path, w, gap);
     let rest = Block {
         at: gap.at + UNIT * units,
         units: gap.units - units,
@@ -184,7 +186,8 @@ pub(crate) fn release_joined<A: Allocator>(w: &mut Window<A>, block: Block, more
         at: block.at,
         units: block.units + more,
     };
-    let path = way_to(w, gap);
+    let mut path = Path::new(FREE);
+    lead_to(&mut path, w, gap);
     if path.is_last(w) {
         set_free(w, whole);
         path.replace(w, whole.at + UNIT);

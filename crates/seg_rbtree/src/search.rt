@@ -157,28 +157,29 @@ impl Tree {
         path.descend(w, order, Sought::Key(key));
         path
     }
-
-    /// The path to a node of the tree. For one that is none of the tree's it leads elsewhere.
-    #[inline]
-    pub fn path_to_node<K: Copy, O: NodeOrder<K>, A: Allocator>(
-        self,
-        w: &Window<A>,
-        order: &O,
-        node: u32,
-    ) -> Path
-        ensures root { path_root result ≡ root_word self }
-        ensures leads { O.exact → (shape : _) → IsSearchTree w.now.bytes (root_word self) shape
-            → LeadsTo (O.compare order.now w.now.bytes node) shape result }
-        ensures found { O.exact → WhereOrdered (O.compare order.now) w.now (root_word self)
-            (λ shape. IsAmong node (nodes_of shape) → node_at w.now.bytes result ≡ Some node) }
-    {
-        let mut path = Path::new(self.root);
-        path.descend(w, order, Sought::Node(node));
-        path
-    }
 }
 
 impl Path {
+    /// Goes to a node of a tree, from its root. For one that is none of the tree's it leads elsewhere then.
+    #[inline(always)]
+    pub fn lead_to_node<K: Copy, O: NodeOrder<K>, A: Allocator>(
+        &mut self,
+        w: &Window<A>,
+        tree: Tree,
+        order: &O,
+        node: u32,
+    )
+        ensures root { path_root self.new ≡ root_word tree }
+        ensures leads { O.exact → (shape : _) → IsSearchTree w.now.bytes (root_word tree) shape
+            → LeadsTo (O.compare order.now w.now.bytes node) shape self.new }
+        ensures found { O.exact → WhereOrdered (O.compare order.now) w.now (root_word tree)
+            (λ shape. IsAmong node (nodes_of shape) → node_at w.now.bytes self.new ≡ Some node) }
+    {
+        self.root = tree.root;
+        self.rewind();
+        self.descend(w, order, Sought::Node(node));
+    }
+
     /// Goes down from the root to what is sought, or to the empty place where it would stand.
     #[inline(always)]
     pub(crate) fn descend<K: Copy, O: NodeOrder<K>, A: Allocator>(

@@ -7,8 +7,8 @@ use Rattle.seg_bestfit.proofs.free_tree.release_joined.Goals as goal
 
 pub returns-then-is_last-clause-tiles : goal.returns-then-is_last-clause-tiles
 returns-then-is_last-clause-tiles g c = λ xs ys was.
-    down-retiles c.args.w.now.bytes xs ys c.args.block.at c.args.block.units c.args.more was c.replace.new.w.bytes c.way_to-path.result c.way_to-path.ensures (c.is_last.ensures c.if-is_last.true)
-    (subst (λ (b : List ℕ). RenamesAt b c.replace.new.w.bytes c.way_to-path.result (c.args.block.at + 16)) (ap (λ (p : Placement). p.bytes) c.set_free.ensures) c.replace.ensures.replaced)
+    down-retiles c.args.w.now.bytes xs ys c.args.block.at c.args.block.units c.args.more was c.replace.new.w.bytes c.lead_to.new.path c.lead_to.ensures (c.is_last.ensures c.if-is_last.true)
+    (subst (λ (b : List ℕ). RenamesAt b c.replace.new.w.bytes c.lead_to.new.path (c.args.block.at + 16)) (ap (λ (p : Placement). p.bytes) c.set_free.ensures) c.replace.ensures.replaced)
 
 pub returns-else-is_last-clause-tiles : goal.returns-else-is_last-clause-tiles
 returns-else-is_last-clause-tiles g c = λ xs ys was.

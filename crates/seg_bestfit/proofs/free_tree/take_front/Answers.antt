@@ -13,7 +13,7 @@ returns-clause-tiles g c = λ xs ys was keeps.
     let u = c.args.units in
     let bytes = λ (p : Placement). p.bytes in
     let cut = ap bytes c.set_size.ensures ∙ ap (λ b. set_size b at u true) (ap bytes c.set_free.ensures) in
-    let renames = subst (λ (b : List ℕ). RenamesAt b c.replace.new.w.bytes c.way_to-path.result (at + 16 * u + 16)) cut c.replace.ensures.replaced in (
-      front-retiles old xs ys at n u (n - u) was (omega (arith, c.requires.rest)) c.requires.front (omega (arith, c.requires.rest)) c.replace.new.w.bytes c.way_to-path.result c.way_to-path.ensures keeps renames,
-      link_at-front old xs ys at n u (n - u) was (omega (arith, c.requires.rest)) c.requires.front (omega (arith, c.requires.rest)) c.replace.new.w.bytes c.way_to-path.result c.way_to-path.ensures keeps renames,
+    let renames = subst (λ (b : List ℕ). RenamesAt b c.replace.new.w.bytes c.lead_to.new.path (at + 16 * u + 16)) cut c.replace.ensures.replaced in (
+      front-retiles old xs ys at n u (n - u) was (omega (arith, c.requires.rest)) c.requires.front (omega (arith, c.requires.rest)) c.replace.new.w.bytes c.lead_to.new.path c.lead_to.ensures keeps renames,
+      link_at-front old xs ys at n u (n - u) was (omega (arith, c.requires.rest)) c.requires.front (omega (arith, c.requires.rest)) c.replace.new.w.bytes c.lead_to.new.path c.lead_to.ensures keeps renames,
     )
