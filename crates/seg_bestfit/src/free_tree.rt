@@ -9,8 +9,8 @@ ghost use Rattle.seg_spec.proofs.OrderSteps.{then_steps_up};
 ghost use Rattle.seg_rbtree.specs.Parts.{part};
 ghost use Rattle.seg_rbtree.specs.Roots.{root_word};
 ghost use Rattle.seg_block.specs.Blocks.{block_end, Covers, LiesIn, IsSized};
-ghost use Rattle.seg_bestfit.specs.FreeTree.{node_units, by_units, AreGaps, KeepsPlace, LeadsToGap, LeavesTree, JoinsTree, set_free};
 ghost use Rattle.seg_block.specs.Tiling.{tile_of, tile_after, grown, halves, IsTiling, Retiles};
+ghost use Rattle.seg_bestfit.specs.FreeTree.{node_units, by_units, AreGaps, KeepsPlace, LeadsToGap, LeavesTree, JoinsTree, set_free};
 
 use crate::bestfit::BestFit;
 use seg_block::{
@@ -145,8 +145,8 @@ fn set_free<A: Allocator>(w: &mut Window<A>, block: Block)
     set_size(w, block.at, block.units, false);
 }
 
-/// Makes the front of a gap live, of `units`. The rest stays a gap, in the gap's place in the tree: it is where no other gap
-/// stands between the two in the order.
+/// Makes the front of a gap live, of `units`. The rest stays a gap, and its node takes the place of the gap's in the tree, which
+/// is right where no other gap stands between the two in the order.
 pub(crate) fn take_front<A: Allocator>(w: &mut Window<A>, gap: Block, units: u32)
     requires inside { block_end gap ≤ MAX_LEN }
     requires front { 2 ≤ units }
@@ -169,8 +169,8 @@ pub(crate) fn take_front<A: Allocator>(w: &mut Window<A>, gap: Block, units: u32
     path.replace(w, rest.at + UNIT);
 }
 
-/// Makes a live block and the gap of `more` units right after it one gap. It takes that gap's place in the tree where that is
-/// the last one.
+/// Makes a live block and the gap of `more` units right after it one gap. Where that gap is the last in the order, the node of
+/// the two takes its place in the tree.
 pub(crate) fn release_joined<A: Allocator>(w: &mut Window<A>, block: Block, more: u32)
     requires { block_end block + UNIT * more ≤ MAX_LEN }
     ensures host { KeepsHost w.old w.new }
@@ -213,9 +213,7 @@ impl FreeStructure for BestFit {
     }
 
     fn release<A: Allocator>(w: &mut Window<A>, _predecessor: (), block: Block) {
-        w.put32(block.at as usize + TAG, 0);
-        w.point(block.at as usize + LINK, None);
-        set_size(w, block.at, block.units, false);
+        set_free(w, block);
         put_in(w, block);
     }
 
