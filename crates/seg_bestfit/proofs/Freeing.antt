@@ -1,13 +1,16 @@
 -- `free`, from what its steps ensure.
-use Rattle.std.proofs.Common.{◌≡◌, ℕ, ◌+◌, ◌*◌, true, false, List, [], ◌∷◌, ◌++◌, sym, ap, ◌∙◌, subst, arith, ⊎_elim}
+use Rattle.std.proofs.Common.{◌≡◌, ℕ, ◌+◌, ◌*◌, ◌≤◌, Bool, true, false, List, [], ◌∷◌, ◌++◌, Option, Some, None, not, refl, sym, ap, ◌∙◌, subst, arith, ⊎_elim}
 use Rattle.std.specs.Prelude.{Contains}
+use Rattle.std.specs.Option.{is_some}
 use Rattle.seg_spec.specs.Bytes.{Agrees}
 use Rattle.seg_spec.specs.Heap.{Span, Tile, AreApart, live_of, live, gaps, room_at, IsHeap, IsLive, Gives}
 use Rattle.seg_spec.proofs.TileLaws.{live_of-append, AreApart-append}
-use Rattle.seg_block.specs.Blocks.{IsSized}
+use Rattle.seg_block.specs.declared.block.Block.{Block}
+use Rattle.seg_block.specs.Blocks.{IsSized, IsReadFree}
 use Rattle.seg_block.specs.Joining.{JoinsBefore}
-use Rattle.seg_block.specs.Tiling.{tile, IsTiling, Retiles, Spares}
+use Rattle.seg_block.specs.Tiling.{tile, IsTiled, IsTiling, Retiles, Spares}
 use Rattle.seg_block.proofs.Heaps.{Spares-none, Spares-trans, Spares-same}
+use Rattle.seg_block.proofs.JoiningBefore.{joined_none}
 use Rattle.seg_block.proofs.LiveBlocks.{block_front, gives, read_is, read_held}
 use Rattle.seg_block.proofs.Resized.{HasGap, room_cases, before, following, was}
 
@@ -94,3 +97,47 @@ freed_named old absorbed joined new named at u room place units h held read room
     let is = read_is old named held.0 h held.1 at u read in
     let here = read_held old named held.0 h held.1 at u read in
     subst (λ p. Gives 1 old new p) is.0 (freed old absorbed joined new at u room place units h here (room_is 1 h here) none absorb join release)
+
+-- ---- the gap after the block alone
+
+pub none_before : (o : Option Block) (r : Bool) → is_some o ≡ not r → r ≡ true → o ≡ None
+none_before None r e t = refl
+none_before (Some x) r e t = let f = ap not t in cc
+
+module _ (old new : List ℕ) (at u room : ℕ) (h : IsHeap 1 old) (held : Contains (live old) (record { at = at; units = u })) (room_is : room ≡ room_at (gaps old) (at + 16 * u)) (some : 1 ≤ room)
+    (alone : (zs vs : List Tile) (l : Bool) (t : Tile) → IsTiled old (zs ++ (t ∷ tile at u l ∷ vs)) → IsReadFree t None)
+    (joined : (xs ys : List Tile) → IsTiling 1 old (xs ++ (tile at u true ∷ tile (at + 16 * u) room false ∷ ys)) → Retiles 1 old new xs (tile at (u + room) false ∷ []) ys) where
+  abbrev front : List Tile
+  front = before old at u h held
+
+  abbrev back : List Tile
+  back = following old at u h held
+
+  after_block : HasGap old at u h held room
+  after_block =
+      ⊎_elim (λ none. absurd (omega (arith, none.1)))
+      (λ there. subst (λ v. HasGap old at u h held v) (sym there.1.room ∙ sym room_is) there.1)
+      (room_cases old at u h held)
+
+  freed_down : Gives 1 old new at
+  freed_down =
+      let gap = after_block in
+      let r = joined front gap.rest gap.tiling in
+      let j = joined_none old front (tile (at + 16 * u) room false ∷ []) gap.rest at u gap.tiling (block_front old at u h held) alone false new (u + room) r.tiling r.spared in
+      let same : live_of (front ++ gap.rest) ≡ live_of (front ++ back) = live_of-append front gap.rest ∙ ap (λ l. live_of front ++ l) (sym (ap live_of gap.gap_parts)) ∙ sym (live_of-append front back) in
+      gives old at u h held new (j.front ++ tile at (u + room) false ∷ gap.rest) j.tiling
+      (AreApart-append j.front (tile at (u + room) false ∷ gap.rest) true j.apart ((λ e. absurd (no (sym j.after_live ∙ e))), gap.apart))
+      (live_of-append j.front (tile at (u + room) false ∷ gap.rest) ∙ ap (λ l. l ++ live_of gap.rest) j.live_is ∙ sym (live_of-append front gap.rest) ∙ same)
+      (Spares-same old new (front ++ gap.rest) (front ++ back) (sym same) j.spared)
+    where
+      no : true ≡ false → ⊥
+      no e = cc
+
+pub freed_down_named : (old new : List ℕ) (named at u room : ℕ) (h : IsHeap 1 old) (held : IsLive old named) → ((g : Span) → named ≡ g.at → IsSized old g → (at ≡ g.at) × (u ≡ g.units))
+    → ((allocator : ℕ) → IsHeap allocator old → Contains (live old) (record { at = at; units = u }) → room ≡ room_at (gaps old) (at + 16 * u))
+    → 1 ≤ room → ((zs vs : List Tile) (l : Bool) (t : Tile) → IsTiled old (zs ++ (t ∷ tile at u l ∷ vs)) → IsReadFree t None)
+    → ((xs ys : List Tile) → IsTiling 1 old (xs ++ (tile at u true ∷ tile (at + 16 * u) room false ∷ ys)) → Retiles 1 old new xs (tile at (u + room) false ∷ []) ys) → Gives 1 old new named
+freed_down_named old new named at u room h held read room_is some alone joined =
+    let is = read_is old named held.0 h held.1 at u read in
+    let here = read_held old named held.0 h held.1 at u read in
+    subst (λ p. Gives 1 old new p) is.0 (freed_down old new at u room h here (room_is 1 h here) some alone joined)

@@ -10,3 +10,6 @@ pub mod Freeing
 pub mod Beginning
 pub mod Enlarging
 pub mod Cuttings
+pub mod Replacing
+pub mod Fronts
+pub mod Downs

@@ -13,9 +13,9 @@ use Rattle.seg_spec.proofs.FreeLaws.{by_size-middle, best_fit-first}
 use Rattle.seg_spec.proofs.HeapFrame.{each_by_size}
 use Rattle.seg_block.specs.FreeBlocks.{AreFreeBlocks}
 use Rattle.seg_rbtree.specs.Changes as tree
-use Rattle.seg_rbtree.specs.Changes.{StandApart, IsNew, with_node, without_node}
-use Rattle.seg_bestfit.specs.FreeTree.{by_units, KeepsBesideNodes, LeavesTree, JoinsTree}
-use Rattle.seg_bestfit.proofs.SizeOrder.{node_of, HasSize, nodes_ascend, node_is_new, with_gap, without_gap, first_node}
+use Rattle.seg_rbtree.specs.Changes.{StandApart, IsNew, with_node, without_node, renamed}
+use Rattle.seg_bestfit.specs.FreeTree.{by_units, KeepsPlace, KeepsBesideNodes, LeavesTree, JoinsTree}
+use Rattle.seg_bestfit.proofs.SizeOrder.{node_of, HasSize, nodes_ascend, node_is_new, with_gap, without_gap, renamed_gap, first_node}
 use Rattle.seg_bestfit.proofs.FreeGaps.{Stands, each_stands, free_apart, free_rising, sorted_by_size, nodes_stand, few_nodes, gap_stands}
 use Rattle.seg_bestfit.proofs.FreeGaps.{others_stand, others_elsewhere, new_node_stands, links_beside, free_drop, each_drop, each_put, each_pick}
 
@@ -124,10 +124,40 @@ module _ (old new : List ℕ) (xs : List Span) (g : Span) (ys : List Span) (low 
         kept = kept;
       }
 
+-- ---- a gap takes the place of another
+
+-- The headers were written, so that r is free, while the tree still has the node of g.
+module _ (old new : List ℕ) (xs : List Span) (g r : Span) (ys : List Span) (low : 704 ≤ length old) (small : length old ≤ 2 ^ 30) (free : AreFreeBlocks old 704 (xs ++ r ∷ ys))
+    (elsewhere : AllByRecursion (λ (h : Span). h.at ≢ g.at) (xs ++ ys))
+    (keeps : KeepsPlace (by_size (xs ++ ys)) g r) (shape : Tree) (nodes_are : nodes_of shape ≡ map node_of (by_size (xs ++ g ∷ ys))) where
+  renamed_is : renamed (node_of g) (node_of r) (nodes_of shape) ≡ map node_of (by_size (xs ++ r ∷ ys))
+  renamed_is =
+      ap (renamed (node_of g) (node_of r)) (nodes_are ∙ ap (map node_of) (by_size-middle xs g ys))
+      ∙ renamed_gap g r (by_size (xs ++ ys)) (each_by_size (λ h. h.at ≢ g.at) (xs ++ ys) elsewhere) keeps
+      ∙ ap (map node_of) (sym (by_size-middle xs r ys))
+
+  pub renamed_stands : StandApart (length old) 24 (renamed (node_of g) (node_of r) (nodes_of shape))
+  renamed_stands = subst (λ ns. StandApart (length old) 24 ns) (sym renamed_is) (nodes_stand old (xs ++ r ∷ ys) low small free)
+
+  pub takes_place : AllByRecursion (λ h. link_at old h.at ≡ None) (xs ++ r ∷ ys) → tree.Leaves old new 24 (renamed (node_of g) (node_of r) (nodes_of shape)) (renamed (node_of g) (node_of r) (nodes_of shape)) → JoinsTree old new xs r ys
+  takes_place links l =
+      let all = xs ++ r ∷ ys in
+      let kept = kept_by old new all (renamed (node_of g) (node_of r) (nodes_of shape)) (λ P a. subst (λ ns. AllByRecursion P ns) (sym renamed_is) (each_map P node_of (by_size all) (each_by_size (λ h. P (node_of h)) all a))) l.kept in
+      record {
+        tree = record {
+          tree = l.shape;
+          is_tree = l.tree.is_tree;
+          red_black = l.tree.red_black;
+          nodes_are = l.nodes_are ∙ renamed_is;
+          links = links_kept old new all all kept (above old new xs r ys low small free) (beside old new xs r ys low small free) links;
+        };
+        kept = kept;
+      }
+
 -- ---- from what the calls of the tree ensure
 
 -- the gap itself has room
-room_of : (bytes : List ℕ) (xs : List Span) (g : Span) (ys : List Span) → AreFreeBlocks bytes 704 (xs ++ g ∷ ys) → 704 ≤ length bytes
+pub room_of : (bytes : List ℕ) (xs : List Span) (g : Span) (ys : List Span) → AreFreeBlocks bytes 704 (xs ++ g ∷ ys) → 704 ≤ length bytes
 room_of bytes xs g ys free = let s = each_pick (Stands bytes) xs g ys (each_stands bytes 704 (xs ++ g ∷ ys) (omega arith) free) in omega (arith, s.low, s.fits)
 
 pub leaves_at : (old new : List ℕ) (xs : List Span) (g : Span) (ys : List Span) (root : ℕ) → root ≡ 24 → length old ≤ 2 ^ 30 → AreFreeBlocks old 704 (xs ++ g ∷ ys) → IsFreeTree old (xs ++ g ∷ ys)

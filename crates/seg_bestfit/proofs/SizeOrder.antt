@@ -1,5 +1,5 @@
 -- The nodes of the tree compare as the gaps are ordered: by size, then by position.
-use Rattle.std.proofs.Common.{◌≡◌, ◌≢◌, ℕ, ◌+◌, ◌-◌, ◌<◌, ◌≤◌, ◌⊎◌, inl, inr, ⊎_elim, Bool, true, false, leb, eqb, List, [], ◌∷◌, map, cond, Some, refl, sym, ap, ◌∙◌, arith, le-leb}
+use Rattle.std.proofs.Common.{◌≡◌, ◌≢◌, ℕ, ◌+◌, ◌-◌, ◌<◌, ◌≤◌, ◌⊎◌, inl, inr, ⊎_elim, Bool, true, false, leb, eqb, List, [], ◌∷◌, ◌++◌, map, cond, Some, refl, sym, ap, ◌∙◌, subst, arith, le-leb}
 use Rattle.std.proofs.lemmas.Bool.{cases_lt}
 use Rattle.std.proofs.lemmas.Bool.Decides.{nat_tests}
 use Rattle.std.specs.Cmp.{nat_cmp_is}
@@ -10,9 +10,10 @@ use Rattle.std.specs.declared.cmp.Ordering.TheVariants.{Less, Equal, Greater}
 use Rattle.seg_spec.specs.Heap.{Span, units_at, is_smaller, insert_by_size, AreBySize, first_fit}
 use Rattle.seg_spec.specs.Search.{reaches, Ascend, first_where}
 use Rattle.seg_spec.proofs.Frame.{each_map, each_both, each_weaker}
-use Rattle.seg_spec.proofs.FreeLaws.{IsBefore, smaller_is, not_smaller_is}
-use Rattle.seg_rbtree.specs.Changes.{IsNew, with_node, without_node}
-use Rattle.seg_bestfit.specs.FreeTree.{by_units}
+use Rattle.seg_spec.proofs.FreeLaws.{IsBefore, smaller_is, not_smaller_is, is_smaller_if, not_smaller_if}
+use Rattle.seg_spec.proofs.PickLaws.{first_small}
+use Rattle.seg_rbtree.specs.Changes.{IsNew, with_node, without_node, renamed}
+use Rattle.seg_bestfit.specs.FreeTree.{by_units, KeepsPlace}
 
 -- the node of a gap
 abbrev pub node_of : Span → ℕ
@@ -161,3 +162,82 @@ without_gap g (h ∷ hs) ne =
       | false ↦ ap (λ b. cond b (map node_of (insert_by_size g hs)) (node_of h ∷ without_node (node_of g) (map node_of (insert_by_size g hs)))) (test_other (node_of g) (node_of h) (λ e. ne.0 (omega (arith, e))))
           ∙ ap (λ l. node_of h ∷ l) rest
     ]
+
+-- with the node of another gap in the place of a gap's, where it compares with the others as the gap does
+pub renamed_gap : (g r : Span) (hs : List Span) → AllByRecursion (λ (h : Span). h.at ≢ g.at) hs → KeepsPlace hs g r → renamed (node_of g) (node_of r) (map node_of (insert_by_size g hs)) ≡ map node_of (insert_by_size r hs)
+renamed_gap g r [] ne k = ap (λ b. cond b (node_of r ∷ []) (node_of g ∷ [])) (test_same (node_of g) (node_of g) refl)
+renamed_gap g r (h ∷ hs) ne k =
+    let rest = renamed_gap g r hs ne.1 k.1 in
+    let go = elim (is_smaller g h) as (λ b. renamed (node_of g) (node_of r) (map node_of (cond b (g ∷ h ∷ hs) (h ∷ insert_by_size g hs))) ≡ map node_of (cond b (r ∷ h ∷ hs) (h ∷ insert_by_size r hs))) [
+      | true ↦ ap (λ b. cond b (node_of r ∷ node_of h ∷ map node_of hs) (node_of g ∷ renamed (node_of g) (node_of r) (node_of h ∷ map node_of hs))) (test_same (node_of g) (node_of g) refl)
+      | false ↦ ap (λ b. cond b (node_of r ∷ map node_of (insert_by_size g hs)) (node_of h ∷ renamed (node_of g) (node_of r) (map node_of (insert_by_size g hs)))) (test_other (node_of g) (node_of h) (λ e. ne.0 (omega (arith, e))))
+          ∙ ap (λ l. node_of h ∷ l) rest
+    ] in
+    go ∙ ap (λ b. map node_of (cond b (r ∷ h ∷ hs) (h ∷ insert_by_size r hs))) k.0
+
+-- ---- what keeps a gap's place
+
+-- Where the rest of the smallest gap holds the request too, each smaller gap is too small for it, and so below the rest.
+pub rest_keeps : (g r : Span) (need : ℕ) → need ≤ r.units → r.units < g.units → (hs : List Span) → AllByRecursion (λ (h : Span). h.at ≢ g.at) hs → AreBySize (insert_by_size g hs) → first_fit (insert_by_size g hs) need ≡ Some g
+    → KeepsPlace hs g r
+rest_keeps g r need fits less [] ne s f = tt
+rest_keeps g r need fits less (h ∷ hs) ne s f = go (is_smaller g h) refl (λ s f. rest_keeps g r need fits less hs ne.1 s f)
+  where
+    below : (k : Span) → IsBefore g k → IsBefore r k
+    below k (inl a) = inl (omega arith)
+    below k (inr a) = inl (omega (arith, a.0))
+
+    parts : (b : Bool) → is_smaller g h ≡ b → insert_by_size g (h ∷ hs) ≡ cond b (g ∷ h ∷ hs) (h ∷ insert_by_size g hs)
+    parts b e = ap (λ c. cond c (g ∷ h ∷ hs) (h ∷ insert_by_size g hs)) e
+
+    go : (b : Bool) → is_smaller g h ≡ b → (AreBySize (insert_by_size g hs) → first_fit (insert_by_size g hs) need ≡ Some g → KeepsPlace hs g r) → KeepsPlace (h ∷ hs) g r
+    go true e rest =
+        each_weaker (λ k. IsBefore g k) (λ k. is_smaller g k ≡ is_smaller r k) (λ k l. is_smaller_if g k l ∙ sym (is_smaller_if r k (below k l))) (h ∷ hs)
+        (before_all g (h ∷ hs) (subst (λ l. AreBySize l) (parts true e) s))
+    go false e rest = later (cases_lt h.units need)
+      where
+        sorted : AreBySize (h ∷ insert_by_size g hs)
+        sorted = subst (λ l. AreBySize l) (parts false e) s
+
+        first : first_fit (h ∷ insert_by_size g hs) need ≡ Some g
+        first = subst (λ l. first_fit l need ≡ Some g) (parts false e) f
+
+        later : (h.units < need) ⊎ (need ≤ h.units) → KeepsPlace (h ∷ hs) g r
+        later (inl l) = (e ∙ sym (not_smaller_if r h (inl (omega arith))), rest (tail_of h (insert_by_size g hs) sorted) (sym (first_small need h (insert_by_size g hs) l) ∙ first))
+        later (inr l) = absurd (ne.0 (ap (λ (k : Span). k.at) same))
+          where
+            here : first_fit (h ∷ insert_by_size g hs) need ≡ Some h
+            here = ap (λ b. cond b (Some h) (first_fit (insert_by_size g hs) need)) (le-leb need h.units l)
+
+            same : h ≡ g
+            same = let e = sym here in let k = first in cc
+
+ends_elsewhere : (x : ℕ) (ys front : List ℕ) → AllByRecursion (λ y. y ≢ x) ys → ys ≡ front ++ x ∷ [] → ⊥
+ends_elsewhere x [] [] a e = cc
+ends_elsewhere x [] (f ∷ fs) a e = cc
+ends_elsewhere x (y ∷ ys) [] a e = a.0 (cc)
+ends_elsewhere x (y ∷ ys) (f ∷ fs) a e = ends_elsewhere x ys fs a.1 (cc)
+
+no_more : (x y z : ℕ) (ys front : List ℕ) → AllByRecursion (λ w. w ≢ x) (z ∷ ys) → y ∷ z ∷ ys ≡ front ++ x ∷ [] → ⊥
+no_more x y z ys [] a e = cc
+no_more x y z ys (f ∷ fs) a e = ends_elsewhere x (z ∷ ys) fs a (cc)
+
+-- The last in the order may grow.
+pub last_keeps : (g r : Span) → g.units < r.units → (hs : List Span) → AllByRecursion (λ (h : Span). h.at ≢ g.at) hs → (front : List ℕ) → map node_of (insert_by_size g hs) ≡ front ++ node_of g ∷ [] → KeepsPlace hs g r
+last_keeps g r more [] ne front e = tt
+last_keeps g r more (h ∷ hs) ne front e = go (is_smaller g h) refl front e (λ fs f. last_keeps g r more hs ne.1 fs f)
+  where
+    others : AllByRecursion (λ y. y ≢ node_of g) (node_of h ∷ map node_of hs)
+    others = each_map (λ y. y ≢ node_of g) node_of (h ∷ hs) (each_weaker (λ (k : Span). k.at ≢ g.at) (λ k. node_of k ≢ node_of g) (λ k n f. n (omega (arith, f))) (h ∷ hs) ne)
+
+    parts : (b : Bool) → is_smaller g h ≡ b → map node_of (insert_by_size g (h ∷ hs)) ≡ map node_of (cond b (g ∷ h ∷ hs) (h ∷ insert_by_size g hs))
+    parts b s = ap (λ c. map node_of (cond c (g ∷ h ∷ hs) (h ∷ insert_by_size g hs))) s
+
+    upward : is_smaller g h ≡ false → is_smaller r h ≡ false
+    upward s = not_smaller_if r h (inl (⊎_elim (λ l. omega arith) (λ l. omega (arith, l.0)) (not_smaller_is g h s)))
+
+    go : (b : Bool) → is_smaller g h ≡ b → (front : List ℕ) → map node_of (insert_by_size g (h ∷ hs)) ≡ front ++ node_of g ∷ []
+        → ((fs : List ℕ) → map node_of (insert_by_size g hs) ≡ fs ++ node_of g ∷ [] → KeepsPlace hs g r) → KeepsPlace (h ∷ hs) g r
+    go true s front e rest = absurd (no_more (node_of g) (node_of g) (node_of h) (map node_of hs) front others (sym (parts true s) ∙ e))
+    go false s [] e rest = let f = sym (parts false s) ∙ e in absurd (others.0 (cc))
+    go false s (f ∷ fs) e rest = let t = sym (parts false s) ∙ e in (s ∙ sym (upward s), rest fs (cc))

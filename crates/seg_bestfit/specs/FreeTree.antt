@@ -1,13 +1,21 @@
 -- The tree of gaps and the bytes around it. A gap's node is the first unit of its payload.
-use Rattle.std.specs.Prelude.{◌≡◌, ℕ, ◌+◌, ◌-◌, List, ◌∷◌, ◌++◌, length}
+use Rattle.std.specs.Prelude.{◌≡◌, ℕ, ◌+◌, ◌-◌, false, List, ◌∷◌, ◌++◌, length, Some, None}
 use Rattle.std.specs.List.{AllByRecursion}
 use Rattle.std.specs.Ordering.{nat_cmp, ordering_then}
 use Rattle.std.specs.declared.cmp.Ordering.{Ordering}
 use Rattle.seg_spec.specs.Apart.{Separate}
-use Rattle.seg_spec.specs.Bytes.{IsSame}
-use Rattle.seg_spec.specs.Heap.{Span, heap_start, units_at, IsFreeTree}
+use Rattle.seg_spec.specs.Bytes.{set_word, IsSame}
+use Rattle.seg_spec.specs.Heap.{Span, heap_start, units_at, is_smaller, IsFreeTree}
+use Rattle.seg_spec.specs.Pointer.{set_pointer}
+use Rattle.seg_spec.specs.Search.{Ascend, IsSearchTree}
+use Rattle.seg_spec.specs.Shapes.{Tree, nodes_of}
 use Rattle.seg_ptr.specs.declared.header.TheConstants.{FREE}
 use Rattle.seg_block.specs.FreeBlocks.{AreFreeBlocks}
+use Rattle.seg_block.specs.Sizes.{set_size}
+use Rattle.seg_rbtree.specs.declared.path.Path.{Path}
+use Rattle.seg_rbtree.specs.Paths.{IsAmong, node_at}
+use Rattle.seg_rbtree.specs.Roots.{path_root}
+use Rattle.seg_rbtree.specs.Ways.{LeadsTo}
 
 -- the units of the gap with this node
 abbrev pub node_units : List ℕ → ℕ → ℕ
@@ -39,3 +47,22 @@ pub record JoinsTree (old new : List ℕ) (xs : List Span) (g : Span) (ys : List
 -- these are free blocks of the heap, in ascending position
 abbrev pub AreGaps : List ℕ → List Span → Type 0
 AreGaps bytes gs = AreFreeBlocks bytes heap_start gs
+
+-- another gap compares with all others as this one does, and so may take its place in their order
+abbrev pub KeepsPlace : List Span → Span → Span → Type 0
+KeepsPlace others gap another =
+    AllByRecursion (λ h. is_smaller gap h ≡ is_smaller another h) others
+
+-- the bytes with the header of a free block
+abbrev pub set_free : List ℕ → ℕ → ℕ → List ℕ
+set_free bytes at units =
+    set_size (set_pointer (set_word bytes (at + 8) 0) (at + 12) None) at units false
+
+-- a path leads to this node of a gap from the root of the tree
+pub record LeadsToGap (bytes : List ℕ) (path : Path) (node : ℕ) : Type 0 where
+  pub root_is : path_root path ≡ FREE
+  pub leads : (shape : Tree) → IsSearchTree bytes FREE shape
+      → LeadsTo (by_units bytes node) shape path
+  pub found : (shape : Tree) → IsSearchTree bytes FREE shape
+      → Ascend (by_units bytes) (nodes_of shape) → IsAmong node (nodes_of shape)
+      → node_at bytes path ≡ Some node

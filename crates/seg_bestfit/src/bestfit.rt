@@ -8,7 +8,7 @@ ghost use Rattle.seg_block.specs.Joining.{JoinsBefore};
 ghost use Rattle.seg_block.specs.Tiling.{tile_of, IsTiling};
 ghost use Rattle.seg_bestfit.specs.FreeTree.{node_units};
 
-use crate::free_tree::{BySize, best_fit, free_tree, put_in, take_out};
+use crate::free_tree::{BySize, best_fit, free_tree, put_in, release_joined, take_front, take_out};
 use seg_block::{
     Block, Fit, FreeStructure, HEAP_START, UNIT, UNITS_BEFORE, absorb, block_at, block_of, cut,
     free_before, granted, is_live, join, last_block, resize, room_after, set_size,
@@ -59,6 +59,11 @@ impl Fit for BestFit {
 
     fn allocate<A: Allocator>(w: &mut Window<A>, need: u32) -> Option<u32> {
         let gap = best_fit(w, need)?;
+        // each smaller gap is too small, so a rest that would do as well keeps the gap's place
+        if gap.units - need >= need {
+            take_front(w, gap, need);
+            return Some(gap.at);
+        }
         Self::take(w, (), gap);
         cut::<Self, A>(w, (), gap, granted(gap.units, need));
         Some(gap.at)
@@ -69,6 +74,10 @@ impl Fit for BestFit {
             return;
         };
         let room = room_after(w, block);
+        if room > 0 && free_before(w, block).is_none() {
+            release_joined(w, block, room);
+            return;
+        }
         absorb::<Self, A>(w, (), block, room);
         let units = block.units + room;
         let whole = join_before(w, Block { units, ..block });

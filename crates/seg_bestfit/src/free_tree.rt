@@ -1,21 +1,24 @@
-ghost use Rattle.std.specs.Prelude.{◌≡◌, ◌-◌, ◌+◌, ◌%◌, ◌^◌, ◌≤◌, List, [], ◌∷◌, ◌++◌, length, IfSome, IsSomeAnd, MatchOption, Some, None, ⊤};
+ghost use Rattle.std.specs.Prelude.{◌≡◌, ◌-◌, ◌+◌, ◌*◌, ◌%◌, ◌^◌, ◌≤◌, List, [], ◌∷◌, ◌++◌, length, IfSome, IsSomeAnd, MatchOption, Some, None, true, false, ⊤};
 ghost use Rattle.std.specs.Ordering.{nat_cmp, ordering_then};
 ghost use Rattle.std.proofs.Common.{inl, arith};
 ghost use Rattle.std.specs.Cmp.{on_total, then_total, nat_cmp_total};
-ghost use Rattle.seg_spec.specs.Heap.{Span, span, link_at, best_fit, IsFreeTree};
-ghost use Rattle.seg_spec.specs.Window.{KeepsHost};
+ghost use Rattle.seg_spec.specs.Heap.{Span, Tile, span, link_at, best_fit, by_size, free_of, IsFreeTree};
+ghost use Rattle.seg_spec.specs.Window.{with_bytes, KeepsHost};
 ghost use Rattle.seg_spec.proofs.BytesLaws.{number-slice};
 ghost use Rattle.seg_spec.proofs.OrderSteps.{then_steps_up};
 ghost use Rattle.seg_rbtree.specs.Parts.{part};
 ghost use Rattle.seg_rbtree.specs.Roots.{root_word};
 ghost use Rattle.seg_block.specs.Blocks.{block_end, Covers, LiesIn, IsSized};
-ghost use Rattle.seg_bestfit.specs.FreeTree.{node_units, by_units, AreGaps, LeavesTree, JoinsTree};
+ghost use Rattle.seg_block.specs.Tiling.{tile_of, tile_after, grown, halves, IsTiling, Retiles};
+ghost use Rattle.seg_bestfit.specs.FreeTree.{node_units, by_units, AreGaps, KeepsPlace, LeadsToGap, LeavesTree, JoinsTree, set_free};
 
 use crate::bestfit::BestFit;
-use seg_block::{Block, FreeStructure, HEAP_START, LINK, TAG, UNIT, block_at, set_size, units_in};
+use seg_block::{
+    Block, FreeStructure, HEAP_START, LINK, TAG, UNIT, absorb, block_at, set_size, units_in,
+};
 use seg_ptr::header::FREE;
 use seg_ptr::{MAX_LEN, View, Window};
-use seg_rbtree::{NodeOrder, Tree};
+use seg_rbtree::{NodeOrder, Path, Tree};
 use std::alloc::Allocator;
 use std::cmp::Ordering;
 
@@ -123,6 +126,77 @@ pub(crate) fn put_in<A: Allocator>(w: &mut Window<A>, block: Block)
     free_tree().insert(w, &BySize, block.at + UNIT);
 }
 
+/// Makes a path the way to a free block in the tree.
+#[inline(always)]
+fn lead_to<A: Allocator>(path: &mut Path, w: &Window<A>, block: Block)
+    requires { block_end block ≤ MAX_LEN }
+    ensures { LeadsToGap w.now.bytes path.new (block.at + UNIT) }
+{
+    path.lead_to_node(w, free_tree(), &BySize, block.at + UNIT);
+}
+
+/// Writes the header of a free block.
+fn set_free<A: Allocator>(w: &mut Window<A>, block: Block)
+    requires { block_end block ≤ MAX_LEN }
+    ensures { w.new ≡ with_bytes w.old (set_free w.old.bytes block.at block.units) }
+{
+    w.put32(block.at as usize + TAG, 0);
+    w.point(block.at as usize + LINK, None);
+    set_size(w, block.at, block.units, false);
+}
+
+/// Makes the front of a gap live, of `units`. The rest stays a gap, and its node takes the place of the gap's in the tree, which
+/// is right where no other gap stands between the two in the order.
+pub(crate) fn take_front<A: Allocator>(w: &mut Window<A>, gap: Block, units: u32)
+    requires inside { block_end gap ≤ MAX_LEN }
+    requires front { 2 ≤ units }
+    requires rest { units + 2 ≤ gap.units }
+    ensures host { KeepsHost w.old w.new }
+    ensures tiles { (xs ys : List Tile) → IsTiling 1 w.old.bytes (xs ++ tile_of gap false ∷ ys)
+        → KeepsPlace (by_size (free_of xs ++ free_of ys)) (span gap.at gap.units)
+        (span (gap.at + UNIT * units) (gap.units - units))
+        → Retiles 1 w.old.bytes w.new.bytes xs (halves gap units true false) ys
+        × (link_at w.new.bytes gap.at ≡ None) }
+{
+    let mut path = Path::new(FREE);
+    lead_to(&mut path, w, gap);
+    let rest = Block {
+        at: gap.at + UNIT * units,
+        units: gap.units - units,
+    };
+    set_free(w, rest);
+    set_size(w, gap.at, units, true);
+    path.replace(w, rest.at + UNIT);
+}
+
+/// Makes a live block and the gap of `more` units right after it one gap. Where that gap is the last in the order, the node of
+/// the two takes its place in the tree.
+pub(crate) fn release_joined<A: Allocator>(w: &mut Window<A>, block: Block, more: u32)
+    requires { block_end block + UNIT * more ≤ MAX_LEN }
+    ensures host { KeepsHost w.old w.new }
+    ensures tiles { (xs ys : List Tile)
+        → IsTiling 1 w.old.bytes (xs ++ (tile_of block true ∷ tile_after block more false ∷ ys))
+        → Retiles 1 w.old.bytes w.new.bytes xs (grown block more false ∷ []) ys }
+{
+    let gap = Block {
+        at: block.at + UNIT * block.units,
+        units: more,
+    };
+    let whole = Block {
+        at: block.at,
+        units: block.units + more,
+    };
+    let mut path = Path::new(FREE);
+    lead_to(&mut path, w, gap);
+    if path.is_last(w) {
+        set_free(w, whole);
+        path.replace(w, whole.at + UNIT);
+    } else {
+        absorb::<BestFit, A>(w, (), block, more);
+        BestFit::release(w, (), whole);
+    }
+}
+
 impl FreeStructure for BestFit {
     ghost allocator = { 1 };
 
@@ -139,9 +213,7 @@ impl FreeStructure for BestFit {
     }
 
     fn release<A: Allocator>(w: &mut Window<A>, _predecessor: (), block: Block) {
-        w.put32(block.at as usize + TAG, 0);
-        w.point(block.at as usize + LINK, None);
-        set_size(w, block.at, block.units, false);
+        set_free(w, block);
         put_in(w, block);
     }
 

@@ -97,7 +97,7 @@ unfolding following nodes_after
 following_on [] upper r = refl
 following_on (l ∷ lower) upper r = ap (λ side. nodes_after side l.other l.at ++ following (lower ++ upper)) r.0 ∙ following_on lower upper r.1
 
-following_none : (layers : List Layer) → AreRight layers → following layers ≡ []
+pub following_none : (layers : List Layer) → AreRight layers → following layers ≡ []
 unfolding following
 following_none layers r = ap following (sym (append-nil layers)) ∙ following_on layers [] r
 
@@ -227,7 +227,8 @@ module _ (compare : ℕ → Ordering) (order : ℕ → ℕ → Ordering) (keyed 
   apart_nodes : (xs ls : List ℕ) (at : ℕ) (rs ys : List ℕ) → xs ++ ((ls ++ at ∷ rs) ++ ys) ≡ (xs ++ ls) ++ at ∷ (rs ++ ys)
   apart_nodes xs ls at rs ys = ap (λ zs. xs ++ zs) (append_assoc ls (at ∷ rs) ys) ∙ sym (append_assoc xs ls (at ∷ rs ++ ys))
 
-  pub leads_there : (bytes : List ℕ) (path : Path) (shape : Tree) (node : ℕ) → IsSearchTree bytes path.root shape → Ascend order (nodes_of shape) → IsWayIn shape path → node_at bytes path ≡ Some node → compare node ≡ Equal → LeadsTo turn shape path
+  pub leads_there : (bytes : List ℕ) (path : Path) (shape : Tree) (node : ℕ) → IsSearchTree bytes path.root shape → Ascend order (nodes_of shape) → IsWayIn shape path → node_at bytes path ≡ Some node
+      → compare node ≡ Equal → LeadsTo turn shape path
   leads_there bytes path shape node t a way named f =
       let s : IsPartAt bytes path way.layers way.rest = record { steps_are = way.steps_are; whole = subst (λ x. IsSearchTree bytes path.root x) (sym way.shape_is) t } in
       let hung = stands_below bytes path path way.layers way.rest refl s way.layers way.rest refl way.steps_are in

@@ -24,3 +24,5 @@ pub mod Parting
 pub mod Growing
 pub mod Seeking
 pub mod Keys
+pub mod Renaming
+pub mod Leading

@@ -62,7 +62,7 @@ module _ (order : ℕ → ℕ → Ordering) (total : IsTotalOrder order) (node :
   Misses ns = AllByRecursion (λ x. node ≢ x) ns
 
   -- what the way leaves aside doesn't have the node
-  not_aside : (layers : List Layer) (rest : Tree) → Ascend order (nodes_of (plug rest layers)) → LeadBy (order node) layers → Misses (nodes_of rest) → Misses (nodes_of (plug rest layers))
+  pub not_aside : (layers : List Layer) (rest : Tree) → Ascend order (nodes_of (plug rest layers)) → LeadBy (order node) layers → Misses (nodes_of rest) → Misses (nodes_of (plug rest layers))
   not_aside [] rest a l m = m
   not_aside (layer ∷ layers) rest a l m = not_aside layers (grow layer rest) a l.1 (go layer.side l.0 (ascend-down order (grow layer rest) layers a))
     where
@@ -74,7 +74,7 @@ module _ (order : ℕ → ℕ → Ordering) (total : IsTotalOrder order) (node :
           let p = ascend-parts order (nodes_of layer.other) layer.at (nodes_of rest) h in
           each_join _ (nodes_of layer.other) (layer.at ∷ nodes_of rest) (each_weaker _ _ (λ x f. not_before layer.at x Greater e (λ q. cc) f) (nodes_of layer.other) p.before) (other_than layer.at Greater e (λ q. cc), m)
 
-  not_at_end : (bytes : List ℕ) (to : Option ℕ) (rest : Tree) → IsTree bytes to rest → EndsAt (order node) rest → Ascend order (nodes_of rest) → (to ≡ Some node → ⊥) → Misses (nodes_of rest)
+  pub not_at_end : (bytes : List ℕ) (to : Option ℕ) (rest : Tree) → IsTree bytes to rest → EndsAt (order node) rest → Ascend order (nodes_of rest) → (to ≡ Some node → ⊥) → Misses (nodes_of rest)
   not_at_end bytes to leaf h e a n = tt
   not_at_end bytes None (fork l at c r) h e a n = absurd h
   not_at_end bytes (Some q) (fork l at c r) h e a n =

@@ -110,11 +110,11 @@ relink bytes node colour side to near far c n f apart clear =
 fork_parts : (bytes : List ℕ) (node : ℕ) (colour : Colour) (l r : Tree) → IsTree bytes (Some node) (fork l node colour r) → HasColour bytes node colour × IsTree bytes (target bytes node) l × IsTree bytes (target bytes (node + 4)) r
 fork_parts bytes node colour l r h = (h.1, h.2, h.3)
 
-small_colour : (c : Paint) → colour_number c < 256 ^ 4
+pub small_colour : (c : Paint) → colour_number c < 256 ^ 4
 small_colour Black = omega arith
 small_colour Red = omega arith
 
-same_colour : (c : Paint) → colour_number c ≡ colour_word (shade c)
+pub same_colour : (c : Paint) → colour_number c ≡ colour_word (shade c)
 same_colour Black = refl
 same_colour Red = refl
 

@@ -12,7 +12,7 @@ without_here node xs = let e : eqb node node ≡ true = grind (arith, nat_tests)
 pub without_later : (node x : ℕ) (xs : List ℕ) → node ≢ x → without_node node (x ∷ xs) ≡ x ∷ without_node node xs
 without_later node x xs n = let e : eqb node x ≡ false = grind (arith, nat_tests) in rw e refl
 
-front_differs : (x node : ℕ) (xs ys : List ℕ) → AllByRecursion (λ y. Separate x 16 y 16) (xs ++ node ∷ ys) → node ≢ x
+pub front_differs : (x node : ℕ) (xs ys : List ℕ) → AllByRecursion (λ y. Separate x 16 y 16) (xs ++ node ∷ ys) → node ≢ x
 front_differs x node [] ys a e = go a.0
   where
     go : Separate x 16 node 16 → ⊥

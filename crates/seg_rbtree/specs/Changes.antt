@@ -3,6 +3,7 @@
 --     IsNew order node nodes             the node equals none of the nodes
 --     with_node order node nodes         the nodes with one more, in front of the first that is above it
 --     without_node node nodes            the nodes without that one
+--     renamed old new nodes              the nodes with another in the place of one
 --     KeepsBeside old new word nodes     bytes beside a pointer word and the tree words of nodes are kept
 --     Leaves old new root touched nodes  a search tree of these nodes, and all bytes beside it and what was touched
 use Rattle.std.specs.Prelude.{◌≡◌, ◌≢◌, ℕ, ◌+◌, ◌^◌, ◌≤◌, ◌==◌, if◌then◌else◌, ⊤, List, [], ◌∷◌, length}
@@ -42,6 +43,11 @@ with_node order node (x ∷ xs) =
 abbrev pub without_node : ℕ → List ℕ → List ℕ
 without_node node [] = []
 without_node node (x ∷ xs) = if node == x then xs else x ∷ without_node node xs
+
+-- the nodes with another in the place of one
+abbrev pub renamed : ℕ → ℕ → List ℕ → List ℕ
+renamed old new [] = []
+renamed old new (x ∷ xs) = if old == x then new ∷ xs else x ∷ renamed old new xs
 
 -- there are as many bytes as before, and what lies beside the pointer word and the tree words of the nodes is kept
 pub record KeepsBeside (old new : List ℕ) (word : ℕ) (nodes : List ℕ) : Type 0 where

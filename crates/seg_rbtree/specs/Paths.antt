@@ -5,8 +5,11 @@
 --     node_at bytes path                     the node at the end of a path
 --     AddsAt old new path node               a node is added at the end of a path
 --     TakesOutAt old new path                the node at the end of a path is taken out
+--     RenamesAt old new path to              another node is put in the place of the node at the end of a path
+--     IsAmong node nodes                     it is one of the nodes
+--     IsLastAt bytes path                    the node at the end of a path is the last of the tree
 --     FindsEqual compare nodes found         one of the nodes that compares as equal, where one does
-use Rattle.std.specs.Prelude.{◌≡◌, ◌≢◌, ℕ, List, ◌∷◌, ◌++◌, ◌+◌, ◌<◌, ◌^◌, length, take, Option, Some, MatchOption}
+use Rattle.std.specs.Prelude.{◌≡◌, ◌≢◌, ℕ, List, [], ◌∷◌, ◌++◌, ◌+◌, ◌<◌, ◌^◌, length, take, Option, Some, MatchOption}
 use Rattle.std.specs.Cmp.{IsTotalOrder}
 use Rattle.std.specs.List.{AllByRecursion}
 use Rattle.std.specs.Ordering.{ordering_reverse}
@@ -20,7 +23,7 @@ use Rattle.seg_rbtree.specs.declared.order.Sought.{Sought}
 use Rattle.seg_rbtree.specs.declared.order.Sought.TheVariants.{Node, Key}
 use Rattle.seg_rbtree.specs.declared.path.Path.{Path}
 use Rattle.seg_rbtree.specs.Ways.{last_word, LeadsTo}
-use Rattle.seg_rbtree.specs.Changes.{StandApart, IsNew, with_node, without_node, Leaves}
+use Rattle.seg_rbtree.specs.Changes.{StandApart, IsNew, with_node, without_node, renamed, Leaves}
 
 -- the claim holds of each search tree at the pointer word whose nodes are in order
 abbrev pub WhereOrdered : (List ℕ → ℕ → ℕ → Ordering) → Placement → ℕ → (Tree → Type 0) → Type 0
@@ -58,6 +61,21 @@ FindsEqual compare nodes found =
     MatchOption found (AllByRecursion (λ x. compare x ≢ Equal) nodes)
     (λ node. IsEqualAmong compare nodes node)
 
+-- it is one of the nodes
+abbrev pub IsAmong : ℕ → List ℕ → Type 0
+IsAmong node nodes = AllByRecursion (λ x. node ≢ x) nodes → ⊥
+
+-- it is the last of the nodes
+pub record IsLast (node : ℕ) (nodes : List ℕ) : Type 0 where
+  pub front : List ℕ
+  pub nodes_are : nodes ≡ front ++ node ∷ []
+
+-- the node at the end of a path is the last of the tree
+abbrev pub IsLastAt : List ℕ → Path → Type 0
+IsLastAt bytes path = (turn : ℕ → Ordering) (node : ℕ) (shape : Tree)
+    → IsSearchTree bytes path.root shape → LeadsTo turn shape path
+    → node_at bytes path ≡ Some node → IsLast node (nodes_of shape)
+
 -- a node is added at the end of a path, in any total order that leads there
 abbrev pub AddsAt : List ℕ → List ℕ → Path → ℕ → Type 0
 AddsAt old new path node = (order : ℕ → ℕ → Ordering) (shape : Tree) → IsTotalOrder order
@@ -74,3 +92,14 @@ TakesOutAt old new path = (turn : ℕ → Ordering) (node : ℕ) (shape : Tree)
     → node_at old path ≡ Some node
     → StandApart (length old) path.root (nodes_of shape)
     → Leaves old new path.root (nodes_of shape) (without_node node (nodes_of shape))
+
+-- another node is put in the place of the node at the end of a path; the words of the other may share bytes with those of
+-- that node alone
+abbrev pub RenamesAt : List ℕ → List ℕ → Path → ℕ → Type 0
+RenamesAt old new path to = (turn : ℕ → Ordering) (node : ℕ) (shape : Tree)
+    → IsSearchTree old path.root shape → LeadsTo turn shape path
+    → node_at old path ≡ Some node
+    → StandApart (length old) path.root (nodes_of shape)
+    → StandApart (length old) path.root (renamed node to (nodes_of shape))
+    → Leaves old new path.root (renamed node to (nodes_of shape))
+    (renamed node to (nodes_of shape))

@@ -5,6 +5,7 @@
 --     WhereRedBlack bytes path layers tree claim      a claim of such a place in a red-black tree
 --     Lengthens, Unlinks ..               what the steps do
 use Rattle.std.specs.Prelude.{◌≡◌, ℕ, suc, ◌+◌, ◌^◌, ◌<◌, ⊤, Bool, MatchBool, List, [], ◌∷◌, ◌++◌, length, Option, Some}
+use Rattle.seg_spec.specs.Bytes.{set_word}
 use Rattle.seg_spec.specs.Pointer.{target}
 use Rattle.seg_spec.specs.Shapes.{Colour, black, red, Tree, leaf, fork, nodes_of, IsTree, IsBalanced, IsRedBlack}
 use Rattle.seg_rbtree.specs.declared.node.Side.{Side}
@@ -71,6 +72,10 @@ in_place_of bytes from to =
     let left = with_child bytes to Left (target bytes from) in
     let both = with_child left to Right (target bytes (from + 4)) in
     with_colour both to (colour_at bytes (Some from))
+
+-- the same, with the zero word
+abbrev pub as_another : List ℕ → ℕ → ℕ → List ℕ
+as_another bytes from to = set_word (in_place_of bytes from to) (to + 12) 0
 
 -- a tree stands at the place that a path leads to, below layers
 pub record StandsAt (bytes : List ℕ) (path : Path) (layers : List Layer)

@@ -11,6 +11,7 @@ mod node;
 mod order;
 mod path;
 mod remove;
+mod replace;
 mod search;
 mod tree;
 

@@ -7,12 +7,12 @@ ghost use Rattle.seg_spec.specs.Shapes.{fork, nodes_of};
 ghost use Rattle.seg_spec.specs.Search.{reaches, first_where, IsSearchTree};
 ghost use Rattle.seg_rbtree.specs.Nodes.{side_word};
 ghost use Rattle.seg_rbtree.specs.Ways.{place, steps_of, LeadsTo};
-ghost use Rattle.seg_rbtree.specs.Paths.{WhereOrdered, node_at};
+ghost use Rattle.seg_rbtree.specs.Paths.{WhereOrdered, IsLastAt, node_at};
 ghost use Rattle.seg_rbtree.specs.Removing.{layer_at, Descends};
 ghost use Rattle.seg_rbtree.specs.Following.{IsPartAt, LeadsInside, AreRight, Climbs, GoesOn};
 ghost use Rattle.seg_rbtree.specs.Roots.{root_word, path_root};
 
-use crate::node::{Side, child_in};
+use crate::node::{Side, child, child_in};
 use crate::order::{NodeOrder, Sought, UniqueKeys};
 use crate::path::{DEPTH, Path};
 use crate::tree::Tree;
@@ -30,6 +30,16 @@ impl Path {
         self.root = tree.root;
         self.rewind();
         descend_to_first(w.view(), self)
+    }
+
+    /// Whether the node at the path's end is the last of the tree.
+    pub fn is_last<A: Allocator>(&self, w: &Window<A>) -> bool
+        ensures { IsTrue result → IsLastAt w.now.bytes self.now }
+    {
+        match self.node(w) {
+            Some(node) => child(w, node, Side::Right).is_none() && self.is_rightmost(),
+            None => false,
+        }
     }
 
     /// Goes on from a key to the first node of a tree above it: one step where the path leads to the tree's node with that

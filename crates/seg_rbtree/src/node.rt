@@ -3,6 +3,7 @@ ghost use Rattle.seg_spec.specs.Pointer.{target};
 ghost use Rattle.seg_spec.specs.Shapes.{HasColour};
 ghost use Rattle.seg_spec.specs.Window.{with_bytes};
 ghost use Rattle.seg_rbtree.specs.Nodes.{side_word, opposite, colour_at, shade, with_child, with_colour, with_new_node, rotated};
+ghost use Rattle.seg_rbtree.specs.Removing.{in_place_of, as_another};
 
 use seg_ptr::{View, Window};
 use std::alloc::Allocator;
@@ -116,6 +117,26 @@ pub(crate) fn init<A: Allocator>(w: &mut Window<A>, node: u32)
     set_child(w, node, Side::Left, None);
     set_child(w, node, Side::Right, None);
     paint(w, node, Colour::Red);
+    w.put32(node as usize + ZERO, 0);
+}
+
+/// Gives a node the children and the colour of another.
+pub(crate) fn take_place<A: Allocator>(w: &mut Window<A>, from: u32, to: u32)
+    ensures { w.new ≡ with_bytes w.old (in_place_of w.old.bytes from to) }
+{
+    let left = child(w, from, Side::Left);
+    let right = child(w, from, Side::Right);
+    let colour = colour_of(w, Some(from));
+    set_child(w, to, Side::Left, left);
+    set_child(w, to, Side::Right, right);
+    paint(w, to, colour);
+}
+
+/// Makes a node one with the children and the colour of another, whose words it may overlap.
+pub(crate) fn init_as<A: Allocator>(w: &mut Window<A>, node: u32, other: u32)
+    ensures { w.new ≡ with_bytes w.old (as_another w.old.bytes other node) }
+{
+    take_place(w, other, node);
     w.put32(node as usize + ZERO, 0);
 }
 

@@ -1,4 +1,5 @@
 ghost use Rattle.std.specs.Prelude.{slice_set, slice_index_or, ◌≡◌, ◌<◌, ◌≤◌, IsTrue, ℕ, List, [], ◌∷◌, ◌++◌, length, Option, Some, MatchOption, IfNone};
+ghost use Rattle.std.specs.List.{AllByRecursion};
 ghost use Rattle.seg_spec.specs.Pointer.{target, set_pointer};
 ghost use Rattle.seg_spec.specs.Window.{with_bytes, KeepsHost};
 ghost use Rattle.seg_rbtree.specs.Nodes.{side_word, opposite, rotated};
@@ -81,8 +82,22 @@ impl Path {
         self.steps.len()
     }
 
+    /// Whether every step is to the right.
+    pub(crate) fn is_rightmost(&self) -> bool
+        ensures { IsTrue result → AllByRecursion (λ step. step.side ≡ Side.Right)
+            self.now.steps.items }
+    {
+        for step in self.steps.as_slice() {
+            match step.side {
+                Side::Left => return false,
+                Side::Right => {}
+            }
+        }
+        true
+    }
+
     /// Puts another node at step `i` of the way.
-    pub(crate) fn replace(&mut self, i: usize, node: u32)
+    pub(crate) fn set_step(&mut self, i: usize, node: u32)
         ensures root { self.new.root ≡ self.old.root }
         ensures replaced { (step : _) → i < length self.old.steps.items
             → step ≡ slice_index_or self.old.steps.items i step

@@ -6,12 +6,12 @@ ghost use Rattle.seg_spec.specs.Window.{with_bytes, KeepsHost};
 ghost use Rattle.seg_rbtree.specs.Nodes.{side_word, opposite, colour_at};
 ghost use Rattle.seg_rbtree.specs.Changes.{StandApart, without_node, Leaves};
 ghost use Rattle.seg_rbtree.specs.Ways.{branch, plug, place};
-ghost use Rattle.seg_rbtree.specs.Removing.{layer_at, in_place_of, IsShort, StandsAt, WhereRedBlack, Unlinks, Lowers, ComesUp, Lengthens, Restores};
+ghost use Rattle.seg_rbtree.specs.Removing.{layer_at, IsShort, StandsAt, WhereRedBlack, Unlinks, Lowers, ComesUp, Lengthens, Restores};
 ghost use Rattle.seg_rbtree.specs.Paths.{WhereOrdered, TakesOutAt, end_word, node_at};
 ghost use Rattle.seg_rbtree.specs.Roots.{root_word};
 
 use crate::next::descend_to_next;
-use crate::node::{Colour, Side, child, child_word, colour_of, is_red, paint, rotate, set_child};
+use crate::node::{Colour, Side, child, child_word, colour_of, is_red, paint, rotate, take_place};
 use crate::order::{NodeOrder, Sought};
 use crate::path::{DEPTH, Path, Step};
 use crate::tree::Tree;
@@ -108,21 +108,9 @@ fn unlink_by_next<A: Allocator>(w: &mut Window<A>, path: &mut Path, node: u32) -
     };
     let gone = unlink_lone(w, path, next, Side::Left);
     take_place(w, node, next);
-    path.replace(depth, next);
+    path.set_step(depth, next);
     path.set_at(w, depth, next);
     gone
-}
-
-/// Gives a node the children and the colour of another.
-fn take_place<A: Allocator>(w: &mut Window<A>, from: u32, to: u32)
-    ensures { w.new ≡ with_bytes w.old (in_place_of w.old.bytes from to) }
-{
-    let left = child(w, from, Side::Left);
-    let right = child(w, from, Side::Right);
-    let colour = colour_of(w, Some(from));
-    set_child(w, to, Side::Left, left);
-    set_child(w, to, Side::Right, right);
-    paint(w, to, colour);
 }
 
 /// Makes good that the part at the end of a path has one black node too few on every way.

@@ -1,11 +1,11 @@
 //! Searches down a tree.
 
-ghost use Rattle.std.specs.Prelude.{◌≡◌, ◌+◌, ◌^◌, ◌≤◌, [], length};
+ghost use Rattle.std.specs.Prelude.{◌≡◌, ◌+◌, ◌^◌, ◌≤◌, [], length, Some};
 ghost use Rattle.std.specs.Ordering.{is_eq, ordering_reverse};
 ghost use Rattle.seg_spec.specs.Shapes.{nodes_of};
 ghost use Rattle.seg_spec.specs.Search.{reaches, first_where, looks, IsSearchTree};
 ghost use Rattle.seg_rbtree.specs.Ways.{LeadsTo};
-ghost use Rattle.seg_rbtree.specs.Paths.{WhereOrdered, FindsEqual, node_at, sought_by};
+ghost use Rattle.seg_rbtree.specs.Paths.{WhereOrdered, FindsEqual, IsAmong, node_at, sought_by};
 ghost use Rattle.seg_rbtree.specs.Roots.{root_word, path_root};
 ghost use Rattle.seg_rbtree.specs.declared.path.TheConstants.{DEPTH};
 
@@ -160,6 +160,26 @@ impl Tree {
 }
 
 impl Path {
+    /// Goes to a node of a tree, from its root. For one that is none of the tree's it leads elsewhere then.
+    #[inline(always)]
+    pub fn lead_to_node<K: Copy, O: NodeOrder<K>, A: Allocator>(
+        &mut self,
+        w: &Window<A>,
+        tree: Tree,
+        order: &O,
+        node: u32,
+    )
+        ensures root { path_root self.new ≡ root_word tree }
+        ensures leads { O.exact → (shape : _) → IsSearchTree w.now.bytes (root_word tree) shape
+            → LeadsTo (O.compare order.now w.now.bytes node) shape self.new }
+        ensures found { O.exact → WhereOrdered (O.compare order.now) w.now (root_word tree)
+            (λ shape. IsAmong node (nodes_of shape) → node_at w.now.bytes self.new ≡ Some node) }
+    {
+        self.root = tree.root;
+        self.rewind();
+        self.descend(w, order, Sought::Node(node));
+    }
+
     /// Goes down from the root to what is sought, or to the empty place where it would stand.
     #[inline(always)]
     pub(crate) fn descend<K: Copy, O: NodeOrder<K>, A: Allocator>(

@@ -1,9 +1,7 @@
-use Rattle.std.proofs.Common.{◌+◌, false, arith, length, ◌∷◌, ◌++◌, List, ℕ, None, sym, ap, ◌∙◌, subst}
+use Rattle.std.proofs.Common.{arith, length, ◌∷◌, ◌++◌, List, ℕ, sym, ap, ◌∙◌, subst}
 use Rattle.seg_spec.specs.Window.{Placement}
-use Rattle.seg_spec.specs.Pointer.{set_pointer}
 use Rattle.seg_spec.specs.Heap.{free_of, link_at, IsFreeTree}
 use Rattle.seg_block.specs.FreeBlocks.{AreFreeBlocks}
-use Rattle.seg_block.specs.Sizes.{set_size}
 use Rattle.seg_bestfit.specs.FreeTree.{JoinsTree}
 use Rattle.seg_bestfit.proofs.Releasing.{freed_blocks, freed_tree, freed_link, freed_length, released-retiles}
 use Rattle.seg_bestfit.proofs.free_tree.BestFitFreeStructure.release.Goals as goal
@@ -14,8 +12,7 @@ returns-clause-tiles g c = λ xs ys _ was.
     let at = c.args.block.at in
     let u = c.args.block.units in
     let bytes = λ (p : Placement). p.bytes in
-    let linked = ap bytes c.point.ensures ∙ ap (λ b. set_pointer b (at + 12) None) (ap bytes c.put32.ensures) in
-    let freed_is = ap bytes c.set_size.ensures ∙ ap (λ b. set_size b at u false) linked in
+    let freed_is = ap bytes c.set_free.ensures in
     released-retiles old xs ys at u was c.put_in.new.w.bytes
     (subst (λ (b : List ℕ). JoinsTree b c.put_in.new.w.bytes (free_of xs) (record { at = at; units = u }) (free_of ys)) freed_is
     (c.put_in.ensures.joins (omega (arith, was.tiled.small, freed_length old xs ys at u was, ap length freed_is)) (free_of xs) (free_of ys)

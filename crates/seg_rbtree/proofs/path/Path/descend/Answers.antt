@@ -38,13 +38,17 @@ returns-after-loop-clause-leads g c = λ exact empty shape t.
 
 pub returns-in_default-clause-leads : goal.returns-in_default-clause-leads
 returns-in_default-clause-leads g c = λ exact empty shape t.
-    walked_to_end c.args.w.now.bytes c.args.self.now.root _ shape c.loop.self c.loop.counter c.target.result (c.target.ensures ∙ ap (λ (bs : List ℕ). target bs c.loop.word) c.view-view.ensures ∙ ap (target c.args.w.now.bytes) c.loop.invariant.word) c.in_default.is t.is_tree
+    walked_to_end c.args.w.now.bytes c.args.self.now.root _ shape c.loop.self c.loop.counter c.target.result
+    (c.target.ensures ∙ ap (λ (bs : List ℕ). target bs c.loop.word) c.view-view.ensures ∙ ap (target c.args.w.now.bytes) c.loop.invariant.word) c.in_default.is t.is_tree
     (c.loop.invariant.walks exact empty shape t)
 
 pub returns-in-Equal-clause-leads : goal.returns-in-Equal-clause-leads
 returns-in-Equal-clause-leads g c = λ exact empty shape t.
-    walked_to_node c.args.w.now.bytes c.args.self.now.root _ shape c.loop.self c.loop.counter c.in-Some.node c.target.result (c.target.ensures ∙ ap (λ (bs : List ℕ). target bs c.loop.word) c.view-view.ensures ∙ ap (target c.args.w.now.bytes) c.loop.invariant.word) c.in-Some.is
-    (sym (c.compare.ensures exact ∙ ap (λ (bs : List ℕ). sought_by (g.O.NodeOrder.compare c.args.order.now bs) (g.O.NodeOrder.compare_key c.args.order.now bs) c.args.sought c.in-Some.node) c.view-view.ensures) ∙ c.in-Equal.is) t.is_tree (c.loop.invariant.walks exact empty shape t)
+    walked_to_node c.args.w.now.bytes c.args.self.now.root _ shape c.loop.self c.loop.counter c.in-Some.node c.target.result
+    (c.target.ensures ∙ ap (λ (bs : List ℕ). target bs c.loop.word) c.view-view.ensures ∙ ap (target c.args.w.now.bytes) c.loop.invariant.word) c.in-Some.is
+    (sym (c.compare.ensures exact ∙ ap (λ (bs : List ℕ). sought_by (g.O.NodeOrder.compare c.args.order.now bs) (g.O.NodeOrder.compare_key c.args.order.now bs) c.args.sought c.in-Some.node) c.view-view.ensures)
+    ∙ c.in-Equal.is)
+    t.is_tree (c.loop.invariant.walks exact empty shape t)
 
 pub returns-then-not-push-clause-leads : goal.returns-then-not-push-clause-leads
 returns-then-not-push-clause-leads g c = λ exact empty shape t.

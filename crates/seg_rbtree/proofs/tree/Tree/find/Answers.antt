@@ -37,7 +37,8 @@ returns-in-Equal g c = λ exact shape t a.
     let order = g.O.NodeOrder.compare c.args.order.now bytes in
     let compare = λ (x : ℕ). g.O.NodeOrder.compare_key c.args.order.now bytes x c.args.key in
     sought_node compare order (λ x y less. g.met.O.NodeOrder.keyed exact c.args.order.now bytes x y c.args.key less) (λ x y e f. g.met.O.UniqueKeys.one exact c.args.order.now bytes x y c.args.key e f)
-    bytes shape c.loop.place c.in_ok-node.node c.loop.counter c.in_ok-node.was (sym (c.key.ensures exact ∙ ap (λ (bs : List ℕ). g.O.NodeOrder.compare_key c.args.order.now bs c.in_ok-node.node c.args.key) c.view-view.ensures) ∙ c.in-Equal.is) a (c.loop.invariant exact shape t)
+    bytes shape c.loop.place c.in_ok-node.node c.loop.counter c.in_ok-node.was
+    (sym (c.key.ensures exact ∙ ap (λ (bs : List ℕ). g.O.NodeOrder.compare_key c.args.order.now bs c.in_ok-node.node c.args.key) c.view-view.ensures) ∙ c.in-Equal.is) a (c.loop.invariant exact shape t)
 
 pub returns : goal.returns
 returns g c = λ exact shape t a.

@@ -8,11 +8,13 @@ use Rattle.seg_rbtree.proofs.tree.Tree.first.Goals as goal
 
 pub loop-init : goal.loop-init
 loop-init g c = λ shape t.
-    searching_start c.args.w.now.bytes (λ _. true) shape c.target-place.result (subst (λ o. IsTree c.args.w.now.bytes o shape) (sym (c.target-place.ensures ∙ ap (λ (bs : List ℕ). target bs c.args.self.root) c.view-view.ensures)) t.is_tree) (always (nodes_of shape))
+    searching_start c.args.w.now.bytes (λ _. true) shape c.target-place.result
+    (subst (λ o. IsTree c.args.w.now.bytes o shape) (sym (c.target-place.ensures ∙ ap (λ (bs : List ℕ). target bs c.args.self.root) c.view-view.ensures)) t.is_tree) (always (nodes_of shape))
 
 pub loop-preserved : goal.loop-preserved
 loop-preserved g c = λ shape t.
-    went_left c.args.w.now.bytes (λ _. true) shape c.loop.place c.loop.first c.child_in-place.result c.in-Some.node c.loop.counter c.in-Some.is refl (c.child_in-place.ensures ∙ ap (λ (bs : List ℕ). target bs c.in-Some.node) c.view-view.ensures) (c.loop.invariant shape t)
+    went_left c.args.w.now.bytes (λ _. true) shape c.loop.place c.loop.first c.child_in-place.result c.in-Some.node c.loop.counter
+    c.in-Some.is refl (c.child_in-place.ensures ∙ ap (λ (bs : List ℕ). target bs c.in-Some.node) c.view-view.ensures) (c.loop.invariant shape t)
 
 pub returns-after-loop : goal.returns-after-loop
 returns-after-loop g c = λ shape t.

@@ -23,7 +23,9 @@ loop-found-preserved-then-is_reached g c = record {
   searching = λ exact shape t a.
       let bytes = c.args.w.now.bytes in
       went_left bytes (λ n. reaches c.args.least (g.O.NodeOrder.compare_key c.args.order.now bytes n c.args.key)) shape c.loop-found.place c.loop-found.found.node c.child_in-place.result c.in-Some.node c.loop-found.found.looks
-      c.in-Some.is (sym (ap (reaches c.args.least) (c.key.ensures exact ∙ ap (λ (bs : List ℕ). g.O.NodeOrder.compare_key c.args.order.now bs c.in-Some.node c.args.key) c.view-view.ensures)) ∙ sym c.is_reached.ensures ∙ c.if-is_reached.true) (c.child_in-place.ensures ∙ ap (λ (bs : List ℕ). target bs c.in-Some.node) c.view-view.ensures) (c.loop-found.invariant.searching exact shape t a);
+      c.in-Some.is (sym (ap (reaches c.args.least) (c.key.ensures exact ∙ ap (λ (bs : List ℕ). g.O.NodeOrder.compare_key c.args.order.now bs c.in-Some.node c.args.key) c.view-view.ensures))
+      ∙ sym c.is_reached.ensures ∙ c.if-is_reached.true)
+      (c.child_in-place.ensures ∙ ap (λ (bs : List ℕ). target bs c.in-Some.node) c.view-view.ensures) (c.loop-found.invariant.searching exact shape t a);
 }
 
 pub loop-found-preserved : goal.loop-found-preserved
@@ -31,8 +33,11 @@ loop-found-preserved g c = record {
   few = omega (arith, c.loop-found-test.true);
   searching = λ exact shape t a.
       let bytes = c.args.w.now.bytes in
-      went_right bytes (λ n. reaches c.args.least (g.O.NodeOrder.compare_key c.args.order.now bytes n c.args.key)) shape c.loop-found.place c.loop-found.found.node c.child_in-place-else-is_reached.result c.in-Some.node c.loop-found.found.looks
-      c.in-Some.is (sym (ap (reaches c.args.least) (c.key.ensures exact ∙ ap (λ (bs : List ℕ). g.O.NodeOrder.compare_key c.args.order.now bs c.in-Some.node c.args.key) c.view-view.ensures)) ∙ sym c.is_reached.ensures ∙ c.if-is_reached.false) (c.child_in-place-else-is_reached.ensures ∙ ap (λ (bs : List ℕ). target bs (c.in-Some.node + 4)) c.view-view.ensures) (c.loop-found.invariant.searching exact shape t a);
+      went_right bytes (λ n. reaches c.args.least (g.O.NodeOrder.compare_key c.args.order.now bytes n c.args.key)) shape c.loop-found.place c.loop-found.found.node
+      c.child_in-place-else-is_reached.result c.in-Some.node c.loop-found.found.looks
+      c.in-Some.is (sym (ap (reaches c.args.least) (c.key.ensures exact ∙ ap (λ (bs : List ℕ). g.O.NodeOrder.compare_key c.args.order.now bs c.in-Some.node c.args.key) c.view-view.ensures))
+      ∙ sym c.is_reached.ensures ∙ c.if-is_reached.false)
+      (c.child_in-place-else-is_reached.ensures ∙ ap (λ (bs : List ℕ). target bs (c.in-Some.node + 4)) c.view-view.ensures) (c.loop-found.invariant.searching exact shape t a);
 }
 
 pub returns-after-loop-found-clause-node : goal.returns-after-loop-found-clause-node
