@@ -1,4 +1,4 @@
-use Rattle.std.proofs.Common.{◌≡◌, ap, sym, ◌∙◌, subst}
+use Rattle.std.proofs.Common.{ap, sym, ◌∙◌, subst}
 use Rattle.seg_spec.specs.Cells.{ChangesCells, IsDefaulted}
 use Rattle.seg_spec.specs.Types.{form_at}
 use Rattle.seg_spec.specs.Window.{Placement}

@@ -1,4 +1,4 @@
-use Rattle.std.proofs.Common.{◌≡◌, ◌∙◌, sym, arith}
+use Rattle.std.proofs.Common.{◌∙◌, sym, arith}
 use Rattle.seg_spec.specs.Types.{form_at}
 use Rattle.seg_value.proofs.CellCases.{a_number, a_pointer, several}
 use Rattle.seg_value.proofs.cells.Cells.of.Goals as goal

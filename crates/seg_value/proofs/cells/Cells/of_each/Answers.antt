@@ -1,8 +1,8 @@
-use Rattle.std.proofs.Common.{◌≡◌, ℕ, ◌<◌, ◌≤◌, ◌∙◌, ⊎_elim, get_or, None, length, List, replicate, refl, ap, sym, subst, arith}
+use Rattle.std.proofs.Common.{◌≡◌, ℕ, ◌<◌, ◌≤◌, ◌∙◌, ⊎_elim, get_or, length, List, replicate, refl, ap, sym, subst, arith}
 use Rattle.std.proofs.lemmas.Bool.{cases_lt}
 use Rattle.std.proofs.lemmas.List.{get_or-replicate, get_or_past}
 use Rattle.std.proofs.lemmas.Option.{slice_get_past}
-use Rattle.seg_spec.specs.Types.{Table, IsTable, form_at}
+use Rattle.seg_spec.specs.Types.{Table, form_at}
 use Rattle.seg_value.specs.Contents.{cells_of}
 use Rattle.seg_value.specs.declared.cells.Cells.{Cells}
 use Rattle.seg_value.specs.declared.cells.Cells.TheVariants as cells
