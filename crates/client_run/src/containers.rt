@@ -109,7 +109,7 @@ impl Machine<'_> {
         }
     }
 
-    #[inline(never)]
+    #[inline(always)]
     pub(crate) fn push_back<F: Fit, A: Allocator>(
         &mut self,
         segment: &mut Segment<F, A>,
@@ -248,7 +248,7 @@ impl Machine<'_> {
     }
 
     /// Adds the byte in register c to a string, and returns its length.
-    #[inline(never)]
+    #[inline(always)]
     pub(crate) fn add_byte<F: Fit, A: Allocator>(
         &mut self,
         segment: &mut Segment<F, A>,

@@ -1,5 +1,5 @@
 -- What the cells of the sequences of each kind name.
-use Rattle.std.proofs.Common.{◌≡◌, ◌⊎◌, inl, inr, ℕ, Option, Some, None, Ok, sym, ◌∙◌, ap, subst}
+use Rattle.std.proofs.Common.{◌≡◌, ◌⊎◌, inl, inr, ℕ, Option, Some, None, Ok, refl, sym, ◌∙◌, ap, subst}
 use Rattle.seg_spec.specs.Types.{Form, Table, form_at}
 use Rattle.seg_value.specs.Buffers.{NamesBuffer}
 use Rattle.seg_value.specs.Contents.{ContentOf}
@@ -40,6 +40,18 @@ module _ (table : Table) (T : ℕ) (c : Content) where
 
     pub buffer_vector : (U : ℕ) → form_at table T ≡ Some (Form.vec U) → NamesBuffer table T c
     buffer_vector U f = elim is [ inl e ↦ let no = rw f at (subst Kinds e of) in absurd no | inr e ↦ names_vector U f (subst Kinds e of) ]
+
+-- what is a string by its content is one
+pub text_of : (table : Table) (T : ℕ) (form : Option Form) (c : Content) → KindOf table T form (Ok (kind.Text, c)) → form ≡ Some Form.str
+text_of table T (Some Form.str) c k = refl
+text_of table T None c k = absurd k
+text_of table T (Some Form.i64) c k = absurd k
+text_of table T (Some (Form.struct Us)) c k = absurd k
+text_of table T (Some (Form.vec U)) c k = absurd k
+text_of table T (Some (Form.list U)) c k = absurd k
+text_of table T (Some (Form.flat_map U)) c k = absurd k
+text_of table T (Some (Form.map U)) c k = absurd k
+text_of table T (Some (Form.own U)) c k = absurd k
 
 -- a vector whose entries hold values of a type is one of that type
 pub vector_of : (table : Table) (T V : ℕ) (form : Option Form) (c : Content) → KindOf table T form (Ok (kind.Vector, c)) → c.entry.held ≡ held.Value V → form ≡ Some (Form.vec V)

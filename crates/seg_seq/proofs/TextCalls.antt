@@ -1,5 +1,6 @@
 -- What the calls on strings return, from what the calls below them return.
 use Rattle.std.proofs.Common.{◌≡◌, ℕ, ◌+◌, ◌*◌, ◌%◌, ◌^◌, ◌<◌, ◌≤◌, ◌⊎◌, inl, inr, min, List, [], ◌∷◌, ◌++◌, length, take, Option, Some, None, refl, sym, ap, ◌∙◌, arith}
+use Rattle.std.proofs.Math.Nat.{mul-one}
 use Rattle.std.specs.Prelude.{Result, Ok, Err}
 use Rattle.std.proofs.lemmas.Bool.{cases_lt}
 use Rattle.std.proofs.lemmas.List.{take_all}
@@ -10,16 +11,19 @@ use Rattle.seg_spec.specs.Value.{Text}
 use Rattle.seg_spec.specs.Reads.{Place, count_at, start}
 use Rattle.seg_spec.specs.Calls.{Refuses}
 use Rattle.seg_spec.specs.Growing.{HasRoomFor, Reserves}
-use Rattle.seg_spec.specs.Spending.{buffer_asks}
+use Rattle.seg_spec.specs.Spending.{buffer_asks, units_named}
 use Rattle.seg_spec.specs.Owning.{Stands}
+use Rattle.seg_spec.proofs.PlaceSteps.{place_within}
+use Rattle.seg_spec.proofs.TypesLaws.{size_large}
 use Rattle.seg_spec.proofs.Standing.{stands_after}
 use Rattle.seg_raw.specs.declared.code.Code.TheVariants.{BadAlloc}
 use Rattle.seg_value.specs.Stored.{Stored}
 use Rattle.seg_value.specs.Buffers.{NamesBuffer}
 use Rattle.seg_value.specs.declared.content.Content.{Content}
 use Rattle.seg_value.specs.declared.entry.Held.TheVariants.{Bytes}
-use Rattle.seg_seq.specs.Sequences.{HasText, LacksRoom, ComesToHold, ExtendsText, text_asks}
-use Rattle.seg_seq.proofs.Rooms.{reaches, text_counts}
+use Rattle.seg_seq.specs.Buffers.{NamesNone}
+use Rattle.seg_seq.specs.Sequences.{HasText, LacksRoom, LacksByte, ComesToHold, ExtendsText, text_asks}
+use Rattle.seg_seq.proofs.Rooms.{reaches, entries_fit, text_counts}
 use Rattle.seg_seq.proofs.TooMuch.{too_much}
 use Rattle.seg_seq.proofs.TextSteps.{names, room_made, text_written, byte_removed}
 
@@ -95,6 +99,23 @@ module _ (allocator : ℕ) (old : Stored) (place : Place) (xs blocks : List ℕ)
 
   pub all_kept : (count : ℕ) → count ≡ count_at old.window.bytes place.at → take count xs ≡ xs
   all_kept count e = take_all count xs (omega (arith, counted_all count e))
+
+-- a string whose cell names no buffer has no room for a byte
+pub none_lacks : (allocator : ℕ) (old : Stored) (place : Place) (xs blocks : List ℕ) → HasText allocator old place xs blocks → NamesNone old.window.bytes place.at → LacksByte old place
+none_lacks allocator old place xs blocks t (inl e) =
+    let none : units_named old.window.bytes place.at ≡ 0 = rw e refl in
+    omega arith
+none_lacks allocator old place xs blocks t (inr short) =
+    let within = place_within allocator old.window.bytes old.types place (Text xs) blocks t.stands in
+    let large = size_large old.types t.stands.is_table place.type in
+    absurd (omega arith)
+
+-- a string whose cell names a buffer has no more bytes than the segment
+pub counts_few : (allocator : ℕ) (old : Stored) (place : Place) (xs blocks : List ℕ) → HasText allocator old place xs blocks → (p : ℕ) → target old.window.bytes place.at ≡ Some p → count_at old.window.bytes place.at < 2 ^ 31
+counts_few allocator old place xs blocks t p e =
+    let fits : p + count_at old.window.bytes place.at ≤ length old.window.bytes = rw mul-one at (entries_fit allocator old.window.bytes old.types place Form.str (Text xs) blocks t.form_is refl t.stands p e) in
+    let small = t.stands.heap.small in
+    omega arith
 
 -- one byte
 pub one_byte : (bytes : List ℕ) (at x : ℕ) → x < 256 → set_byte bytes at x ≡ put bytes at (x ∷ [])

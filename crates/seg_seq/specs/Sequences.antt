@@ -3,6 +3,7 @@
 --     HasItems allocator heap place U vs blocks   a vector stands at a place, with these items
 --     item_type form                              the type of the items of a vector or a list
 --     IsFull heap place U                         a vector's buffer has no room for an item more
+--     LacksByte heap place                        a string's buffer has no room for a byte more
 --     Declines code old new result                the call returned a code, and nothing changed
 --     HasNone old new n code                      of n there was none to take, and nothing changed
 --     LacksRoom allocator old new asks code       one of the requests got nothing, and nothing
@@ -60,6 +61,11 @@ item_type _ = None
 abbrev pub IsFull : Stored → Place → ℕ → Type 0
 IsFull heap place U = 16 * units_named heap.window.bytes place.at - 16
     < (count_at heap.window.bytes place.at + 1) * size heap.types U
+
+-- the string's buffer has no room for a byte more
+abbrev pub LacksByte : Stored → Place → Type 0
+LacksByte heap place = 16 * units_named heap.window.bytes place.at - 16
+    < count_at heap.window.bytes place.at + 1
 
 -- ---- what they leave
 

@@ -1,9 +1,8 @@
 ghost use Rattle.std.specs.Prelude.{◌↔◌, ◌*◌, ◌≤◌, IsTrue, MatchOption};
 ghost use Rattle.seg_seq.specs.Buffers.{IsBuffer, NamesNone};
 
-use seg_block::{block_of, payload};
 use seg_ptr::Window;
-use seg_value::{Entry, count};
+use seg_value::{Entry, count, room};
 use std::alloc::Allocator;
 
 /// The bytes of a cell.
@@ -33,7 +32,7 @@ impl Buffer {
         let start = w.target(cell as usize)?;
         Some(Buffer {
             start,
-            room: payload(w, block_of(start)),
+            room: room(w, start),
             count: count(w, cell),
         })
     }

@@ -1,9 +1,11 @@
-ghost use Rattle.std.specs.Prelude.{◌≡◌, ◌≢◌, ℕ, ◌+◌, ◌≤◌, List, [], ◌∷◌, ◌++◌, length, take, Some, IfOk, MatchResult};
+ghost use Rattle.std.specs.Prelude.{◌≡◌, ◌≢◌, ℕ, ◌+◌, ◌≤◌, List, [], ◌∷◌, ◌++◌, length, take, Some, None, IfOk, IfSome, MatchOption, MatchResult};
 ghost use Rattle.seg_spec.specs.Types.{Form, form_at};
+ghost use Rattle.seg_spec.specs.Value.{Text};
 ghost use Rattle.seg_spec.specs.Window.{KeepsHost};
 ghost use Rattle.seg_value.specs.Places.{place_of};
-ghost use Rattle.seg_seq.specs.Sequences.{HasText, Declines, LacksRoom, Rewrites, ExtendsText, text_asks};
+ghost use Rattle.seg_seq.specs.Sequences.{HasText, Declines, LacksRoom, LacksByte, ComesToHold, Rewrites, ExtendsText, text_asks};
 
+use crate::buffer::Buffer;
 use crate::kind::Kind;
 use seg_block::Fit;
 use seg_raw::Code;
@@ -51,7 +53,67 @@ pub fn assign<F: Fit, A: Allocator>(
 
 /// Adds a byte to a string, and returns how many it has then. `OtherType` where the place is no string, `BadAlloc` where
 /// there is no room for it; then nothing changes.
+#[inline(always)]
 pub fn push_byte<F: Fit, A: Allocator>(
+    heap: &mut Heap<F, A>,
+    text: Place,
+    byte: u8,
+) -> Result<u32, Code>
+    ensures window { KeepsHost heap.old.window heap.new.window }
+    ensures types { heap.new.types ≡ heap.old.types }
+    ensures text { (xs blocks : List ℕ) →
+        HasText F.allocator heap.old (place_of text) xs blocks →
+        Rewrites F.allocator heap.old heap.new (place_of text)
+        (length xs + 1) (xs ++ byte ∷ []) blocks result }
+    ensures length { (xs blocks : List ℕ) →
+        HasText F.allocator heap.old (place_of text) xs blocks →
+        IfOk result (λ n. n ≡ length xs + 1) }
+    ensures other { form_at heap.old.types text.type_id ≢ Some Form.str →
+        Declines Code.OtherType heap.old heap.new result }
+{
+    match push_byte_in_place(heap, text, byte) {
+        Some(len) => Ok(len),
+        None => push_byte_asking(heap, text, byte),
+    }
+}
+
+/// As [`push_byte`], into a buffer that has room for the byte. None where there is no such room, or the place is no string;
+/// then nothing changes.
+#[inline(always)]
+fn push_byte_in_place<F: Fit, A: Allocator>(
+    heap: &mut Heap<F, A>,
+    text: Place,
+    byte: u8,
+) -> Option<u32>
+    ensures window { KeepsHost heap.old.window heap.new.window }
+    ensures types { heap.new.types ≡ heap.old.types }
+    ensures none { result ≡ None → heap.new.window ≡ heap.old.window }
+    ensures some { IfSome result (λ len. form_at heap.old.types text.type_id ≡ Some Form.str) }
+    ensures text { (xs blocks : List ℕ) →
+        HasText F.allocator heap.old (place_of text) xs blocks →
+        MatchOption result
+        (LacksByte heap.old (place_of text))
+        (λ len. (len ≡ length xs + 1) ×
+        ComesToHold F.allocator heap.old heap.new (place_of text) (Text (xs ++ byte ∷ []))
+        (text_asks heap.old (place_of text) (length xs + 1)) [] blocks) }
+{
+    let Ok((Kind::Text, content)) = Kind::of(heap, text) else {
+        return None;
+    };
+    let buffer = Buffer::of(heap.window(), text.at)?;
+    let len = buffer.count.checked_add(1)?;
+    if !buffer.has_room(content.entry, len) {
+        return None;
+    }
+    heap.set_count(text.at, len);
+    let at = buffer.start as usize + buffer.count as usize;
+    heap.window_mut().put8(at, byte);
+    Some(len)
+}
+
+/// As [`push_byte`], where a larger buffer may have to be asked for.
+#[inline(never)]
+fn push_byte_asking<F: Fit, A: Allocator>(
     heap: &mut Heap<F, A>,
     text: Place,
     byte: u8,

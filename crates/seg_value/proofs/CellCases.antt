@@ -13,6 +13,8 @@ use Rattle.seg_spec.proofs.Writing.{set_number-changes}
 use Rattle.seg_spec.proofs.CellLaws.{IsOne}
 use Rattle.seg_spec.proofs.CellSteps.{ChangesOnly-wider, defaulted_local, further_local, none_changed, i64_changed, one_changed, none_written, i64_written, length_fields}
 use Rattle.seg_layout.specs.Forms.{has_cells}
+use Rattle.seg_value.specs.Contents.{cells_of}
+use Rattle.seg_value.specs.declared.cells.Cells.TheVariants as cells
 
 -- ---- the two words of an empty cell
 
@@ -47,6 +49,30 @@ empty_words a at fits =
 null-word : (bytes : List ℕ) (at : ℕ) → word bytes at ≡ 1 → target bytes at ≡ None
 unfolding target
 null-word bytes at e = rw e refl
+
+-- ---- what the values of a form are made of
+
+pub a_number : (o : Option Form) → has_cells o ≡ false → cells_of o ≡ cells.Number
+a_number None h = refl
+a_number (Some Form.i64) h = refl
+a_number (Some Form.str) h = absurd (cc)
+a_number (Some (Form.vec U)) h = absurd (cc)
+a_number (Some (Form.list U)) h = absurd (cc)
+a_number (Some (Form.flat_map U)) h = absurd (cc)
+a_number (Some (Form.map U)) h = absurd (cc)
+a_number (Some (Form.own U)) h = absurd (cc)
+a_number (Some (Form.struct Us)) h = absurd (cc)
+
+pub no_pointers : (o : Option Form) → cells_of o ≡ cells.Number → has_cells o ≡ false
+no_pointers None h = refl
+no_pointers (Some Form.i64) h = refl
+no_pointers (Some Form.str) h = absurd (cc)
+no_pointers (Some (Form.vec U)) h = absurd (cc)
+no_pointers (Some (Form.list U)) h = absurd (cc)
+no_pointers (Some (Form.flat_map U)) h = absurd (cc)
+no_pointers (Some (Form.map U)) h = absurd (cc)
+no_pointers (Some (Form.own U)) h = absurd (cc)
+no_pointers (Some (Form.struct Us)) h = absurd (cc)
 
 module _ (table : Table) (valid : IsTable table) (T : ℕ) where
   pub record IsStruct : Type 0 where
@@ -91,6 +117,36 @@ module _ (table : Table) (valid : IsTable table) (T : ℕ) where
   -- what has a pointer and no fields is one cell
   pub cell_of_type : has_cells (form_at table T) ≡ true → length (fields_of table T) ≡ 0 → IsCell
   cell_of_type h n = cell_by (form_at table T) refl h n
+
+  one_pointer : (form : Form) → IsOne table valid form → cells_of (Some form) ≡ cells.Pointer
+  one_pointer Form.i64 h = absurd h
+  one_pointer (Form.struct Us) h = absurd h
+  one_pointer Form.str h = refl
+  one_pointer (Form.vec U) h = refl
+  one_pointer (Form.list U) h = refl
+  one_pointer (Form.flat_map U) h = refl
+  one_pointer (Form.map U) h = refl
+  one_pointer (Form.own U) h = refl
+
+  pub a_pointer : has_cells (form_at table T) ≡ true → length (fields_of table T) ≡ 0 → cells_of (form_at table T) ≡ cells.Pointer
+  a_pointer h n = let k = cell_of_type h n in ap cells_of k.form_is ∙ one_pointer k.form k.one
+
+  pub several : 1 ≤ length (fields_of table T) → cells_of (form_at table T) ≡ cells.Fields
+  several some = ap cells_of (struct_of some).form_is
+
+  cell_of_pointer_by : (o : Option Form) → form_at table T ≡ o → cells_of o ≡ cells.Pointer → IsCell
+  cell_of_pointer_by None e h = absurd (cc)
+  cell_of_pointer_by (Some (Form.struct Us)) e h = absurd (cc)
+  cell_of_pointer_by (Some Form.i64) e h = absurd (cc)
+  cell_of_pointer_by (Some Form.str) e h = record { form = Form.str; form_is = e; one = tt }
+  cell_of_pointer_by (Some (Form.vec U)) e h = record { form = Form.vec U; form_is = e; one = tt }
+  cell_of_pointer_by (Some (Form.list U)) e h = record { form = Form.list U; form_is = e; one = tt }
+  cell_of_pointer_by (Some (Form.flat_map U)) e h = record { form = Form.flat_map U; form_is = e; one = tt }
+  cell_of_pointer_by (Some (Form.map U)) e h = record { form = Form.map U; form_is = e; one = tt }
+  cell_of_pointer_by (Some (Form.own U)) e h = record { form = Form.own U; form_is = e; one = tt }
+
+  pub cell_of_pointer : cells_of (form_at table T) ≡ cells.Pointer → IsCell
+  cell_of_pointer h = cell_of_pointer_by (form_at table T) refl h
 
   module _ (a : List ℕ) (at : ℕ) where
     further_none : (n : ℕ) (o : Option Form) → form_at table T ≡ o → has_cells o ≡ false → ChangesCells (λ old new p form. IsFurther old new n p form) a a table at T

@@ -1,10 +1,10 @@
 -- A value that is destroyed where it stands, and becomes the default of its type.
-use Rattle.std.proofs.Common.{◌≡◌, ℕ, ◌+◌, ◌^◌, ◌<◌, ◌≤◌, inl, List, [], ◌∷◌, ◌++◌, length, Option, None, sym, ap, ◌∙◌, subst, arith}
+use Rattle.std.proofs.Common.{◌≡◌, ℕ, ◌+◌, ◌^◌, ◌<◌, ◌≤◌, inl, List, [], ◌∷◌, ◌++◌, length, Option, None, false, refl, sym, ap, ◌∙◌, subst, arith}
 use Rattle.std.specs.Prelude.{nat_le}
 use Rattle.std.specs.List.{AllByRecursion}
 use Rattle.seg_spec.specs.Header.{free_word, back_start, back_size}
 use Rattle.seg_spec.specs.Bytes.{ChangesOnly}
-use Rattle.seg_spec.specs.Types.{Table, IsTable, size}
+use Rattle.seg_spec.specs.Types.{Table, IsTable, form_at, size}
 use Rattle.seg_spec.specs.Value.{Value, default_of}
 use Rattle.seg_spec.specs.Heap.{IsHeap, live, heap_start, tag_at, link_at}
 use Rattle.seg_spec.specs.Block.{IsInside, IsOwnable}
@@ -22,11 +22,13 @@ use Rattle.seg_spec.proofs.Frame.{word-same, target-same, each_map, each_of_map,
 use Rattle.seg_spec.proofs.Composing.{around_twice, around_kept}
 use Rattle.seg_spec.proofs.LiveLaws.{times-append, times-same, there, each_there, LiesIn, live-lie, live-once}
 use Rattle.seg_spec.proofs.WriteInside.{KeptBut, live_kept_but}
-use Rattle.seg_spec.proofs.Destruction.{inside_same, inside_then, heap_written, payload_written, pends_then, pends_same}
+use Rattle.seg_spec.proofs.Destruction.{inside_same, inside_then, heap_written, payload_written, pends_then, pends_same, same_adds, none_freed, all_freed}
+use Rattle.seg_layout.specs.Forms.{has_cells}
+use Rattle.seg_value.proofs.Nulls.{no_cells_own}
 use Rattle.seg_value.proofs.Turns.{none_pending}
 
 -- a place that holds something has a type of the table
-typed : (bytes : List ℕ) (table : Table) (place : Place) (v : Value) (blocks : List ℕ) → Holds bytes table place v blocks → place.type < length table
+pub typed : (bytes : List ℕ) (table : Table) (place : Place) (v : Value) (blocks : List ℕ) → Holds bytes table place v blocks → place.type < length table
 typed bytes table place v blocks (holds form opened inside owned f o hs v_is is) = below_length table place.type form f
 
 module _ (allocator : ℕ) (old mid after new : List ℕ) (table : Table) (place : Place) (v : Value) (blocks : List ℕ) (s : Stands allocator old table place v blocks) (first : Option ℕ) (a : Adds allocator old mid table first blocks []) where
@@ -172,3 +174,13 @@ cleared allocator old mid after new table here there_too same same_too place v b
     let h = filled' within (typed old table place v blocks s.holds_it) in
     place_cleared allocator old mid after new table place v blocks s first a c h
     (freed' blocks s.is_table (pends_after allocator old mid after new table place v blocks s first a c h) (live_there allocator old mid after new table place v blocks s first a c h))
+
+-- a number that is cleared where it stands
+pub number_cleared : (allocator : ℕ) (old new : List ℕ) (table : Table) (place : Place) (v : Value) (blocks : List ℕ) → Stands allocator old table place v blocks → has_cells (form_at table place.type) ≡ false →
+    (IsWithin old place.at (size table place.type) → ChangesOnly old new place.at (size table place.type)) →
+    (IsWithin old place.at (size table place.type) → place.type < length table → Holds new table place (default_of table place.type) []) →
+    ChangesPlace old new table place (default_of table place.type) [] (after_gives (live old) blocks) blocks []
+number_cleared allocator old new table place v blocks s number changes filled =
+    cleared allocator old old new new table table table refl refl place v blocks s None None refl
+    (λ home xs inside part a ys valid w fits. same_adds a old table None xs ys (no_cells_own old table place xs number part) w) changes filled
+    (λ zs valid w owned. all_freed allocator new new table valid None zs 0 owned (none_freed allocator new table None zs w) refl)

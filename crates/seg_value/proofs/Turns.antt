@@ -1,17 +1,18 @@
 -- One turn of destruction, and what it needs of an object that nothing holds.
-use Rattle.std.proofs.Common.{◌≡◌, ℕ, ◌+◌, ◌≤◌, inl, List, [], ◌∷◌, ◌++◌, Option, None, refl, sym, ap, ◌∙◌, subst, arith}
-use Rattle.seg_spec.specs.Header.{free_word, back_start, back_size}
+use Rattle.std.proofs.Common.{◌≡◌, ℕ, ◌+◌, ◌≤◌, inl, List, [], ◌∷◌, ◌++◌, length, Option, None, refl, sym, ap, ◌∙◌, subst, arith}
+use Rattle.seg_spec.specs.Header.{free_word, back_start, back_size, KeepsFront, KeepsBack}
 use Rattle.seg_spec.specs.Types.{Table, IsTable}
 use Rattle.seg_spec.specs.Value.{Value}
-use Rattle.seg_spec.specs.Heap.{IsHeap, live, IsLive, Gives}
+use Rattle.seg_spec.specs.Heap.{IsHeap, live, heap_start, without, IsLive, Gives}
 use Rattle.seg_spec.specs.Block.{Kind, block_of}
 use Rattle.seg_spec.specs.Calls.{IsLoose}
 use Rattle.seg_spec.specs.Demand.{after_gives}
 use Rattle.seg_spec.specs.Sound.{times, SameBlocks, positions}
 use Rattle.seg_spec.specs.Owing.{no_parts, more_parts, owes, no_links, none_waits}
 use Rattle.seg_spec.specs.Destroying.{AreLive, GoesWith, Pends, Pops, Adds, Frees}
-use Rattle.seg_spec.proofs.LiveLaws.{times-append, times-same}
-use Rattle.seg_spec.proofs.Giving.{found}
+use Rattle.seg_spec.proofs.LiveLaws.{times-append, times-same, times-without, there, LiesIn, live-lie}
+use Rattle.seg_spec.proofs.KeptLaws.{front_kept}
+use Rattle.seg_spec.proofs.Giving.{found, given_kept}
 use Rattle.seg_spec.proofs.Destruction.{HasFreed, pop_live, freed_more, linked_twice, pends_same}
 
 -- a block in a list of live ones
@@ -52,6 +53,27 @@ loose_goes bytes table object U v inside l = record {
 
 pub none_pending : (allocator : ℕ) (bytes : List ℕ) (table : Table) (first : Option ℕ) → first ≡ None → IsHeap allocator bytes → Pends allocator bytes table first []
 none_pending allocator bytes table first none heap = subst (λ f. Pends allocator bytes table f []) (sym none) (record { heap = heap; owed = []; waiting = none_waits; owed_are = λ h. refl })
+
+-- an object that is a number goes alone
+pub number_frees : (allocator : ℕ) (old new : List ℕ) (p : ℕ) (inside : List ℕ) → inside ≡ [] → IsHeap allocator old → AreLive old (p ∷ inside) → Gives allocator old new p → Frees allocator old new (p ∷ inside)
+number_frees allocator old new p inside none heap owned g = rw none (record {
+  length_kept = g.kept.length_kept;
+  front_kept = front.0;
+  back_kept = front.1;
+  heap = g.heap;
+  live_is = g.given;
+  live_are = λ h. let w = times-without h p (live old) some in let is : times h (positions (live new)) ≡ times h (positions (without p (live old))) = ap (λ bs. times h (positions bs)) g.given in omega arith;
+  kept = λ h there_is gone. given_kept allocator old new p heap g h there_is (λ e. let one = times-same p [] in let s : times p (p ∷ []) ≡ 0 = subst (λ x. times x (p ∷ []) ≡ 0) e gone in absurd (omega arith));
+})
+  where
+    some : 1 ≤ times p (positions (live old))
+    some = let o = owned p in let one = times-same p inside in omega arith
+
+    large : heap_start ≤ length old
+    large = let l = there (LiesIn old heap_start (length old)) p (positions (live old)) (live-lie old allocator heap) some in omega (arith, l.low, l.high)
+
+    front : KeepsFront old new × KeepsBack old new
+    front = front_kept old new g.kept large
 
 -- what joined those that wait is given back
 pub added_frees : (allocator : ℕ) (old mid new : List ℕ) (table : Table) (first : Option ℕ) (xs ys : List ℕ) → Adds allocator old mid table first xs ys → Frees allocator mid new xs → Frees allocator old new xs

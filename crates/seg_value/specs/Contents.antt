@@ -3,6 +3,9 @@
 --     ContentOf table T form content      what the cell of a type names, by the form of the type
 --     OfBlock table kind T content        what a block of a tag is a part of
 --     AreContents table contents          that of each type
+--     cells_of form                       what the values of a form are made of
+--     AreCells table cells                that of each type
+--     IsDescribed table contents cells    both, of a valid table
 --     GivesBlock ..                       a new block, with the default of a value
 use Rattle.std.specs.Prelude.{◌≡◌, ℕ, ◌+◌, ◌≤◌, ⊤, List, [], ◌∷◌, length, Option, Some, None, IsSomeAnd, get_or}
 use Rattle.seg_spec.specs.Header.{KeepsFront, KeepsBack}
@@ -11,12 +14,14 @@ use Rattle.seg_spec.specs.Heap.{IsHeap, live, link_at}
 use Rattle.seg_spec.specs.Reads.{Holds}
 use Rattle.seg_spec.specs.Sound.{times, positions}
 use Rattle.seg_spec.specs.Demand.{after_asks, block_for}
-use Rattle.seg_spec.specs.Types.{Form, Table, form_at, size}
+use Rattle.seg_spec.specs.Types.{Form, Table, IsTable, form_at, size}
 use Rattle.seg_spec.specs.Block as block
 use Rattle.seg_spec.specs.Block.{tag_of}
 use Rattle.seg_block.specs.Tags.{word_of}
 use Rattle.seg_block.specs.declared.tag.Kind.{Kind}
 use Rattle.seg_block.specs.declared.tag.Kind.TheVariants as kind
+use Rattle.seg_value.specs.declared.cells.Cells.{Cells}
+use Rattle.seg_value.specs.declared.cells.Cells.TheVariants as cells
 use Rattle.seg_value.specs.declared.entry.Entry.{Entry}
 use Rattle.seg_value.specs.declared.entry.Held.TheVariants as held
 use Rattle.seg_value.specs.declared.content.Content.{Content}
@@ -83,6 +88,29 @@ OfBlock table kind.IndexNode T content = content ≡ None
 abbrev pub AreContents : Table → List (Option Content) → Type 0
 AreContents table contents =
     (T : ℕ) → ContentOf table T (form_at table T) (get_or contents T None)
+
+-- what the values of a form are made of
+abbrev pub cells_of : Option Form → Cells
+cells_of None = cells.Number
+cells_of (Some Form.i64) = cells.Number
+cells_of (Some Form.str) = cells.Pointer
+cells_of (Some (Form.vec U)) = cells.Pointer
+cells_of (Some (Form.list U)) = cells.Pointer
+cells_of (Some (Form.flat_map U)) = cells.Pointer
+cells_of (Some (Form.map U)) = cells.Pointer
+cells_of (Some (Form.own U)) = cells.Pointer
+cells_of (Some (Form.struct Us)) = cells.Fields
+
+-- what the values of each type are made of, one after the other
+abbrev pub AreCells : Table → List Cells → Type 0
+AreCells table each = (T : ℕ) → get_or each T cells.Number ≡ cells_of (form_at table T)
+
+-- what is known of each type of a valid table: what its cells name, and what its values are made of
+pub record IsDescribed (table : Table) (contents : List (Option Content)) (each : List Cells) :
+    Type 0 where
+  pub valid : IsTable table
+  pub contents_are : AreContents table contents
+  pub cells_are : AreCells table each
 
 -- a new block of this tag, with the default of a value after so many bytes; all other live blocks are kept
 pub record GivesBlock (allocator : ℕ) (old new : List ℕ) (table : Table) (tag before U : ℕ)

@@ -17,17 +17,18 @@ ghost use Rattle.seg_spec.specs.Value.{Value};
 ghost use Rattle.seg_spec.specs.Window.{with_bytes, KeepsHost};
 ghost use Rattle.seg_block.specs.Blocks.{IsSized};
 ghost use Rattle.seg_block.specs.Tags.{word_of};
-ghost use Rattle.seg_value.specs.Buffers.{NamesBuffer, HasSizedBuffer, MakesRoom};
+ghost use Rattle.seg_value.specs.Buffers.{NamesBuffer, MakesRoom};
 ghost use Rattle.seg_value.specs.Contents.{IsContent, GivesBlock};
 ghost use Rattle.seg_value.specs.Names.{index_cell, FindsNames, FindsIndex, MakesIndexRoom, MovesIndex, EmptiesIndex};
 ghost use Rattle.seg_value.specs.Nodes.{IsIndexNode, GivesNode};
 ghost use Rattle.seg_value.specs.Places.{place_of, object_at as place_at};
 
+use crate::cell::room;
 use crate::content::{Content, Shape};
 use crate::entry::Entry;
 use crate::heap::Heap;
 use crate::place::Place;
-use seg_block::{Fit, Grant, UNIT, block_at, block_of, preferred, request};
+use seg_block::{Fit, Grant, UNIT, block_of, preferred, request};
 use seg_raw::Code;
 use std::alloc::Allocator;
 
@@ -115,7 +116,7 @@ impl<F: Fit, A: Allocator> Heap<F, A> {
         ensures start { IfOk result (λ at. at ≡ start self.new.window.bytes cell) }
     {
         let start = self.window.target(cell as usize);
-        if u64::from(limit) * u64::from(content.entry.size) <= u64::from(self.room(start)) {
+        if u64::from(limit) * u64::from(content.entry.size) <= self.room(start) {
             return Ok(start.unwrap_or(0));
         }
         self.enlarge(content, cell, limit)?;
@@ -123,16 +124,12 @@ impl<F: Fit, A: Allocator> Heap<F, A> {
     }
 
     /// The bytes of the buffer that a cell names: 0 where it names none.
-    fn room(&self, named: Option<u32>) -> u32
+    fn room(&self, named: Option<u32>) -> u64
         ensures { (cell : ℕ) → named ≡ target self.now.window.bytes cell →
-            HasSizedBuffer self.now.window.bytes cell →
             result ≡ 16 * units_named self.now.window.bytes cell - 16 }
     {
-        let Some(start) = named else {
-            return 0;
-        };
-        match block_at(&self.window, block_of(start)) {
-            Some(block) => UNIT * (block.units - 1),
+        match named {
+            Some(start) => room(&self.window, start),
             None => 0,
         }
     }

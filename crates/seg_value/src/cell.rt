@@ -1,10 +1,11 @@
-ghost use Rattle.std.specs.Prelude.{◌≡◌, ◌+◌, ◌≤◌, length};
+ghost use Rattle.std.specs.Prelude.{◌≡◌, ◌+◌, ◌-◌, ◌≤◌, length};
 ghost use Rattle.seg_spec.specs.Bytes.{set_word, signed_long, ChangesOnly};
 ghost use Rattle.seg_spec.specs.Reads.{count_at, start};
 ghost use Rattle.seg_spec.specs.Window.{with_bytes, KeepsHost};
+ghost use Rattle.seg_block.specs.Blocks.{payload_at};
 
 use crate::heap::Heap;
-use seg_block::Fit;
+use seg_block::{Fit, block_of, payload};
 use seg_ptr::Window;
 use std::alloc::Allocator;
 
@@ -20,6 +21,13 @@ pub fn start<A: Allocator>(w: &Window<A>, cell: u32) -> u32
     ensures { result ≡ start w.now.bytes cell }
 {
     w.target(cell as usize).unwrap_or(0)
+}
+
+/// The bytes of the payload that begins at a position, as its block's header states.
+pub fn room<A: Allocator>(w: &Window<A>, at: u32) -> u64
+    ensures { result ≡ payload_at w.now.bytes (at - 16) }
+{
+    payload(w, block_of(at))
 }
 
 /// The number at a position.

@@ -5,14 +5,15 @@ ghost use Rattle.std.specs.Prelude.{◌≡◌, ℕ, ◌+◌, ◌*◌, ◌≤◌,
 ghost use Rattle.seg_spec.specs.Bytes.{word, set_word};
 ghost use Rattle.seg_spec.specs.Cells.{further, IsWithin, ChangesCells, ChangesEach, IsDefaulted, IsFurther};
 ghost use Rattle.seg_spec.specs.Reads.{spaced};
-ghost use Rattle.seg_spec.specs.Types.{IsTable, size, fields_of};
+ghost use Rattle.seg_spec.specs.Types.{IsTable, size, form_at, fields_of};
 ghost use Rattle.seg_spec.specs.Window.{with_bytes, KeepsHost};
+ghost use Rattle.seg_value.specs.Contents.{cells_of};
 ghost use Rattle.seg_value.specs.Places.{LiesWithin};
 ghost use Rattle.seg_value.specs.Pointers.{PointsAgain};
 
 use crate::entry::{Entry, Held};
 use crate::place::Place;
-use seg_layout::{TypeId, TypeTable};
+use seg_layout::{MAX_TYPES, TypeId, TypeTable};
 use seg_ptr::Window;
 use std::alloc::Allocator;
 
@@ -22,20 +23,69 @@ const NULL: u32 = 1;
 /// The cell of an empty container, an empty string or an own that holds nothing: a null pointer and the count 0.
 const EMPTY: u64 = 1;
 
-/// Writes the default of a value: 0 for numbers, empty or null for all else.
-#[inline(always)]
-pub(crate) fn set_default<A: Allocator>(w: &mut Window<A>, types: &TypeTable, place: Place)
-    ensures host { KeepsHost w.old w.new }
-    ensures cells { LiesWithin w.old.bytes types.now place →
-        ChangesCells IsDefaulted w.old.bytes w.new.bytes types.now place.at place.type_id }
-    ensures table { IsTable types.now }
-{
-    // a value that is one cell, as most are, needs no recursion
-    if types.field_count(place.type_id) == 0 {
-        set_cell(w, types, place);
-        return;
+/// How many numbers a type's id may be. A byte finds its place in an array of so many.
+pub(crate) const IDS: usize = 256;
+
+/// What the values of a type are made of.
+#[derive(Debug, Clone, Copy, PartialEq, Eq)]
+pub(crate) enum Cells {
+    /// A number, which names nothing. Those of types that the table lacks count as such.
+    Number,
+    /// One cell that may name something.
+    Pointer,
+    /// The cells of fields.
+    Fields,
+}
+
+impl Cells {
+    ghost use Rattle.seg_value.specs.Contents.{cells_of, AreCells};
+
+    fn of(types: &TypeTable, t: TypeId) -> Cells
+        ensures cells { result ≡ cells_of (form_at types.now t) }
+        ensures table { IsTable types.now }
+    {
+        if !types.has_pointers(t) {
+            return Cells::Number;
+        }
+        if types.field_count(t) == 0 {
+            Cells::Pointer
+        } else {
+            Cells::Fields
+        }
     }
-    set_fields(w, types, place);
+
+    /// What the values of each type are made of, those of types that the table lacks too.
+    pub(crate) fn of_each(types: &TypeTable) -> [Cells; IDS]
+        ensures cells { AreCells types.now result }
+        ensures table { IsTable types.now }
+    {
+        let mut each = [Cells::of(types, TypeId::MAX); IDS];
+        for t in 0..MAX_TYPES {
+            each[t] = Cells::of(types, t as TypeId);
+        }
+        each
+    }
+}
+
+/// Writes the default of a value: 0 for numbers, empty or null for all else.
+// a value that is one cell, as most are, needs no recursion
+#[inline(always)]
+pub(crate) fn set_default<A: Allocator>(
+    w: &mut Window<A>,
+    types: &TypeTable,
+    cells: Cells,
+    place: Place,
+)
+    ensures host { KeepsHost w.old w.new }
+    ensures cells { IsTable types.now → cells ≡ cells_of (form_at types.now place.type_id) →
+        LiesWithin w.old.bytes types.now place →
+        ChangesCells IsDefaulted w.old.bytes w.new.bytes types.now place.at place.type_id }
+{
+    match cells {
+        Cells::Number => w.put64(place.at as usize, 0),
+        Cells::Pointer => w.put64(place.at as usize, EMPTY),
+        Cells::Fields => set_fields(w, types, place),
+    }
 }
 
 /// Writes the default of a value without fields.

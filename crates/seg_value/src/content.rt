@@ -4,6 +4,7 @@ ghost use Rattle.seg_spec.specs.Block as block;
 ghost use Rattle.seg_spec.specs.Block.{tag_of};
 ghost use Rattle.seg_block.specs.Tags.{word_of};
 
+use crate::cells::{Cells, IDS};
 use crate::entry::{Entry, KEY, LIST_LINKS};
 use seg_block::{Kind, Tag};
 use seg_layout::{MAX_TYPES, Type, TypeId, TypeTable};
@@ -108,23 +109,28 @@ impl Content {
     }
 }
 
-/// What the cells of each type of a table name, worked out once.
+/// What the cells of each type of a table name, and what its values are made of, worked out once.
 #[derive(Drop)]
 pub(crate) struct Contents {
     of_types: [Option<Content>; MAX_TYPES],
+    cells: [Cells; IDS],
 }
 
 impl Contents {
-    ghost use Rattle.seg_value.specs.Contents.{AreContents};
+    ghost use Rattle.seg_value.specs.Contents.{AreContents, AreCells};
+    ghost use Rattle.seg_value.specs.declared.cells.Cells.TheVariants as cells;
 
     pub(crate) fn of(types: &TypeTable) -> Contents
-        ensures { AreContents types.now result.of_types }
+        ensures contents { AreContents types.now result.of_types }
+        ensures cells { AreCells types.now result.cells }
+        ensures table { IsTable types.now }
     {
         let mut of_types = [None; MAX_TYPES];
         for t in 0..types.len() {
             of_types[t] = Content::of(types, t as TypeId);
         }
-        Contents { of_types }
+        let cells = Cells::of_each(types);
+        Contents { of_types, cells }
     }
 
     /// As [`Content::of`] a type of the table.
@@ -132,5 +138,15 @@ impl Contents {
         ensures { result ≡ get_or self.now.of_types t None }
     {
         self.of_types.get(t as usize).copied().flatten()
+    }
+
+    /// What the values of a type are made of.
+    pub(crate) fn cells(&self, t: TypeId) -> Cells
+        ensures { result ≡ get_or self.now.cells t cells.Number }
+    {
+        self.cells
+            .get(usize::from(t))
+            .copied()
+            .unwrap_or(Cells::Number)
     }
 }

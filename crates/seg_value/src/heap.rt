@@ -1,7 +1,8 @@
 ghost use Rattle.std.specs.Prelude.{◌≡◌};
-ghost use Rattle.seg_spec.specs.Types.{form_at};
-ghost use Rattle.seg_value.specs.Contents.{ContentOf};
+ghost use Rattle.seg_spec.specs.Types.{IsTable, form_at};
+ghost use Rattle.seg_value.specs.Contents.{ContentOf, cells_of};
 
+use crate::cells::Cells;
 use crate::content::{Content, Contents};
 use seg_block::Fit;
 use seg_layout::{TypeId, TypeTable};
@@ -20,14 +21,15 @@ pub struct Heap<F: Fit, A: Allocator> {
 }
 
 impl<F: Fit, A: Allocator> Model for Heap<F, A> {
-    ghost use Rattle.seg_value.specs.Contents.{AreContents};
+    ghost use Rattle.seg_value.specs.Contents.{IsDescribed};
     ghost use Rattle.seg_value.specs.Stored.{Stored};
 
     ghost Value = { Stored };
 
     ghost view = { λ heap. record { window = heap.window; types = heap.types } };
 
-    ghost invariant = { λ heap. AreContents heap.types heap.contents.of_types };
+    ghost invariant = { λ heap. IsDescribed heap.types heap.contents.of_types
+        heap.contents.cells };
 }
 
 impl<F: Fit, A: Allocator> Heap<F, A> {
@@ -107,5 +109,13 @@ impl<F: Fit, A: Allocator> Heap<F, A> {
         ensures { ContentOf self.now.types t (form_at self.now.types t) result }
     {
         self.contents.get(t)
+    }
+
+    /// What the values of a type are made of.
+    pub(crate) fn cells(&self, t: TypeId) -> Cells
+        ensures cells { result ≡ cells_of (form_at self.now.types t) }
+        ensures table { IsTable self.now.types }
+    {
+        self.contents.cells(t)
     }
 }

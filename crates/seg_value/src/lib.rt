@@ -16,7 +16,7 @@ mod pending;
 mod place;
 mod search;
 
-pub use cell::{count, load, start};
+pub use cell::{count, load, room, start};
 pub use content::{Content, Shape};
 pub use entry::{Entry, Held, KEY, LIST_LINKS, PREVIOUS};
 pub use heap::Heap;

@@ -18,7 +18,8 @@ back after fits keys o e = e ∙ ap (λ k. first_of (keys_above keys k)) (to_z-o
 pub returns-in_err-node-clause-next : goal.returns-in_err-node-clause-next
 returns-in_err-node-clause-next g c = λ inside T U keys vs blocks f s.
     c.from_residual.ensures ∙ back c.args.after c.ranges.after keys None (next_is g.F.Fit.allocator c.args.heap.now.window.bytes c.args.heap.now.types (object_at c.args.cell T) U keys vs blocks f s
-    c.window.result.now.bytes c.tree_of.result.root (ap (λ (p : Placement). p.bytes) c.window.ensures) c.tree_of.ensures (to_z w64 (of_z w64 c.args.after)) None (c.in_err-node.ensures.node tt (there c.window.result.now.bytes c.args.heap.now.window.bytes c.args.cursor.now (ap (λ (p : Placement). p.bytes) c.window.ensures) inside)))
+    c.window.result.now.bytes c.tree_of.result.root (ap (λ (p : Placement). p.bytes) c.window.ensures) c.tree_of.ensures (to_z w64 (of_z w64 c.args.after)) None
+    (c.in_err-node.ensures.node tt (there c.window.result.now.bytes c.args.heap.now.window.bytes c.args.cursor.now (ap (λ (p : Placement). p.bytes) c.window.ensures) inside)))
 
 pub returns-clause-next : goal.returns-clause-next
 returns-clause-next g c = λ inside T U keys vs blocks f s.
@@ -26,7 +27,8 @@ returns-clause-next g c = λ inside T U keys vs blocks f s.
     ap Some (to_z-of_z w64 c.key_of.result (record { sfits = c.key_of.type_inv }) ∙ key_is)
     ∙ back c.args.after c.ranges.after keys (Some (signed_long c.args.heap.now.window.bytes ((c.in_ok-node.node + 16) % 2 ^ 32))) (next_is g.F.Fit.allocator c.args.heap.now.window.bytes c.args.heap.now.types
     (object_at c.args.cell T) U keys vs blocks f s
-    c.window.result.now.bytes c.tree_of.result.root (ap (λ (p : Placement). p.bytes) c.window.ensures) c.tree_of.ensures (to_z w64 (of_z w64 c.args.after)) (Some c.in_ok-node.node) (c.in_ok-node.ensures.node tt (there c.window.result.now.bytes c.args.heap.now.window.bytes c.args.cursor.now (ap (λ (p : Placement). p.bytes) c.window.ensures) inside)))
+    c.window.result.now.bytes c.tree_of.result.root (ap (λ (p : Placement). p.bytes) c.window.ensures) c.tree_of.ensures (to_z w64 (of_z w64 c.args.after)) (Some c.in_ok-node.node)
+    (c.in_ok-node.ensures.node tt (there c.window.result.now.bytes c.args.heap.now.window.bytes c.args.cursor.now (ap (λ (p : Placement). p.bytes) c.window.ensures) inside)))
 
 pub returns-in_err-node-clause-inside : goal.returns-in_err-node-clause-inside
 returns-in_err-node-clause-inside g c = λ inside.

@@ -55,5 +55,8 @@ returns-clause-vector g c = λ U vs blocks h.
 
 pub returns-clause-some : goal.returns-clause-some
 returns-clause-some g c =
-    let of = subst (λ k. KindOf c.args.heap.now.types c.args.vector.type_id (form_at c.args.heap.now.types c.args.vector.type_id) (Ok (k, c.in-Ok-Vector-default.content))) c.in-Ok-Vector-default.field-0-0-is c.in-Ok-Vector-default.ensures in
-    vector_of c.args.heap.now.types c.args.vector.type_id c.in_ok-item.item.type_id (form_at c.args.heap.now.types c.args.vector.type_id) c.in-Ok-Vector-default.content of c.in_ok-item.ensures.held
+    let types = c.args.heap.now.types in
+    let T = c.args.vector.type_id in
+    let content = c.in-Ok-Vector-default.content in
+    let of = subst (λ k. KindOf types T (form_at types T) (Ok (k, content))) c.in-Ok-Vector-default.field-0-0-is c.in-Ok-Vector-default.ensures in
+    vector_of types T c.in_ok-item.item.type_id (form_at types T) content of c.in_ok-item.ensures.held

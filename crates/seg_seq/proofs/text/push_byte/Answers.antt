@@ -1,35 +1,26 @@
-use Rattle.std.proofs.Common.{rules, ◌≡◌, ◌≤◌, ◌<◌, ◌∷◌, [], length, refl, ap, ◌∙◌, arith, Err}
-use Rattle.seg_spec.specs.Bytes.{set_byte}
+use Rattle.std.proofs.Common.{◌≡◌, ◌∙◌, ◌+◌, ◌++◌, ◌∷◌, [], length, IfOk, refl, ap, subst}
+use Rattle.seg_spec.specs.Types.{Table}
 use Rattle.seg_spec.specs.Window.{Placement}
 use Rattle.seg_value.specs.Places.{place_of}
-use Rattle.seg_seq.proofs.TextCalls.{counted_all, all_kept, written_to, one_byte}
+use Rattle.seg_value.specs.Stored.{Stored}
+use Rattle.seg_seq.specs.Sequences.{HasText, Rewrites}
 use Rattle.seg_seq.proofs.text.push_byte.Goals as goal
 
-pub returns-in_err-added-clause-text : goal.returns-in_err-added-clause-text
-returns-in_err-added-clause-text g c = λ xs blocks t.
-    let result : c.from_residual.result ≡ Err c.in_err-added.field-0.0 = search rules in
-    let all = counted_all g.F.Fit.allocator c.args.heap.now (place_of c.args.text) xs blocks t c.count-kept.result c.count-kept.ensures in
-    let few : c.count-kept.result ≤ length xs = omega arith in
-    let lacks = c.in_err-added.ensures.text xs blocks t few in
-    rw result (rw all at lacks)
+same_stored : (a b : Stored) → a.window ≡ b.window → a.types ≡ b.types → a ≡ b
+same_stored a b w t = ap (λ (x : Placement). record { window = x; types = a.types }) w ∙ ap (λ (x : Table). record { window = b.window; types = x }) t
 
-pub returns-clause-text : goal.returns-clause-text
-returns-clause-text g c = λ xs blocks t.
-    let old = c.args.heap.now in
-    let all = counted_all g.F.Fit.allocator old (place_of c.args.text) xs blocks t c.count-kept.result c.count-kept.ensures in
-    let kept = all_kept g.F.Fit.allocator old (place_of c.args.text) xs blocks t c.count-kept.result c.count-kept.ensures in
-    let few : c.count-kept.result ≤ length xs = omega arith in
-    let m = c.in_ok-added.ensures.text xs blocks t few in
-    let mid = c.make_room.new.heap in
-    let at = c.in_ok-added.added.at in
-    let small : c.args.byte < 256 = omega (arith, c.ranges.byte) in
-    let written = ap (λ (r : Placement). r.bytes) c.put8.ensures ∙ ap (λ (r : Placement). set_byte r.bytes at c.args.byte) c.window_mut.ensures.value ∙ one_byte mid.window.bytes at c.args.byte small in
-    rw (kept, all) at (written_to g.F.Fit.allocator old (place_of c.args.text) xs blocks t c.count-kept.result 1 mid
-    (record { window = c.put8.new.self; types = mid.types }) at c.in_ok-added.added.len (c.args.byte ∷ []) refl m written)
+pub returns-in-Some-clause-length : goal.returns-in-Some-clause-length
+returns-in-Some-clause-length g c = λ xs blocks t. (c.in-Some.ensures.text xs blocks t).0
 
-pub returns-clause-length : goal.returns-clause-length
-returns-clause-length g c = λ xs blocks t.
-    let all = counted_all g.F.Fit.allocator c.args.heap.now (place_of c.args.text) xs blocks t c.count-kept.result c.count-kept.ensures in
-    let few : c.count-kept.result ≤ length xs = omega arith in
-    let m = c.in_ok-added.ensures.text xs blocks t few in
-    rw all at m.len_is
+pub returns-in-None-clause-text : goal.returns-in-None-clause-text
+returns-in-None-clause-text g c =
+    let text = place_of c.args.text in
+    let stays = same_stored c.push_byte_in_place.new.heap c.args.heap.now (c.in-None.ensures.none refl) c.in-None.ensures.types in
+    λ xs blocks t. subst (λ (s : Stored). HasText g.F.Fit.allocator s text xs blocks → Rewrites g.F.Fit.allocator s c.push_byte_asking.new.heap text (length xs + 1) (xs ++ c.args.byte ∷ []) blocks c.push_byte_asking.result)
+    stays (c.push_byte_asking.ensures.text xs blocks) t
+
+pub returns-in-None-clause-length : goal.returns-in-None-clause-length
+returns-in-None-clause-length g c =
+    let text = place_of c.args.text in
+    let stays = same_stored c.push_byte_in_place.new.heap c.args.heap.now (c.in-None.ensures.none refl) c.in-None.ensures.types in
+    λ xs blocks t. subst (λ (s : Stored). HasText g.F.Fit.allocator s text xs blocks → IfOk c.push_byte_asking.result (λ n. n ≡ length xs + 1)) stays (c.push_byte_asking.ensures.length xs blocks) t

@@ -23,6 +23,6 @@ described table contents k T all known rest = ⊎_elim (λ l. known T l)
 pub loop-t-init : goal.loop-t-init
 loop-t-init c = record { long = refl; described = λ T l. absurd (omega arith); rest = λ T l. all_none T }
 
-pub returns : goal.returns
-returns c = λ T. described c.args.types.now c.loop-t.of_types c.loop-t.t T (omega (arith, c.loop-t-test.false, c.len-t-end.ensures.len, c.loop-t.auto.t-end))
+pub returns-clause-contents : goal.returns-clause-contents
+returns-clause-contents c = λ T. described c.args.types.now c.loop-t.of_types c.loop-t.t T (omega (arith, c.loop-t-test.false, c.len-t-end.ensures.len, c.loop-t.auto.t-end))
     c.loop-t.invariant.described c.loop-t.invariant.rest
