@@ -99,11 +99,13 @@ put_moved new bytes now from to n same source target e =
     put_from new now (slice now from n) to (omega arith) (e ∙ (λ i. (take to (same i) ++ take (count i) (drop from (same i))) ++ drop (to + (count ∙ sym long) i) (same i)))
 
 -- the same over a distance that is known
-pub moved_up : (new bytes now : List ℕ) (from distance known n : ℕ) → bytes ≡ now → distance ≡ known → from + distance + n ≤ length now → new ≡ copy_within bytes from (from + n) (from + known) → new ≡ put now (from + distance) (slice now from n)
+pub moved_up : (new bytes now : List ℕ) (from distance known n : ℕ) → bytes ≡ now → distance ≡ known → from + distance + n ≤ length now
+    → new ≡ copy_within bytes from (from + n) (from + known) → new ≡ put now (from + distance) (slice now from n)
 moved_up new bytes now from distance known n same is room e =
     put_moved new bytes now from (from + distance) n same (omega arith) (omega arith) (e ∙ (λ i. copy_within bytes from (from + n) (from + sym is i)))
 
-pub moved_down : (new bytes now : List ℕ) (to distance known n : ℕ) → bytes ≡ now → distance ≡ known → to + distance + n ≤ length now → new ≡ copy_within bytes (to + known) (to + known + n) to → new ≡ put now to (slice now (to + distance) n)
+pub moved_down : (new bytes now : List ℕ) (to distance known n : ℕ) → bytes ≡ now → distance ≡ known → to + distance + n ≤ length now
+    → new ≡ copy_within bytes (to + known) (to + known + n) to → new ≡ put now to (slice now (to + distance) n)
 moved_down new bytes now to distance known n same is room e =
     put_moved new bytes now (to + distance) to n same (omega arith) (omega arith) (e ∙ (λ i. copy_within bytes (to + sym is i) (to + sym is i + n) to))
 
