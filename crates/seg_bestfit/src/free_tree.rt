@@ -145,8 +145,8 @@ fn set_free<A: Allocator>(w: &mut Window<A>, block: Block)
     set_size(w, block.at, block.units, false);
 }
 
-/// Makes the front of a gap live, of `units`. The rest stays a gap, and its node takes the place of the gap's in the tree, which
-/// is right where no other gap stands between the two in the order.
+/// Makes the front of a gap live, of `units`. The rest stays a gap, and its node takes the place of the gap's in the tree,
+/// which is right where no other gap stands between the two in the order.
 pub(crate) fn take_front<A: Allocator>(w: &mut Window<A>, gap: Block, units: u32)
     requires inside { block_end gap ≤ MAX_LEN }
     requires front { 2 ≤ units }
