@@ -77,6 +77,6 @@ module _ (bytes : List ℕ) (at : ℕ) (part : List ℕ) where
 
   pub long_eight : IsPart bytes at 8 part → 8 ≤ length part → length part < 9
       → get_or part 0 0 + get_or part 1 0 * 256 + get_or part 2 0 * 65536 + get_or part 3 0 * 16777216
-        + get_or part 4 0 * 4294967296 + get_or part 5 0 * 1099511627776 + get_or part 6 0 * 281474976710656 + get_or part 7 0 * 72057594037927936
+      + get_or part 4 0 * 4294967296 + get_or part 5 0 * 1099511627776 + get_or part 6 0 * 281474976710656 + get_or part 7 0 * 72057594037927936
       ≡ long bytes at
   long_eight is low high = let eight : length part ≡ 8 = omega arith in spelled_eight part eight ∙ number_whole 8 bytes at part is (omega arith) eight

@@ -1,6 +1,6 @@
 -- Buffers that grow, from what the steps of the calls leave.
 use Rattle.std.proofs.Common.{◌≡◌, ℕ, ◌+◌, ◌-◌, ◌*◌, ◌%◌, ◌^◌, ◌<◌, ◌≤◌, ◌⊎◌, inl, inr, true, max, List, [], ◌∷◌, length, Option, Some, None, MatchOption, option_map, refl, sym, ap, ◌∙◌, subst, arith, zero-add}
-use Rattle.std.specs.Prelude.{Contains, ⊤}
+use Rattle.std.specs.Prelude.{Contains}
 use Rattle.std.proofs.Math.Nat.{mul-le-mul_left, mul-le-mul_right}
 use Rattle.std.proofs.lemmas.Option.{slice_get_past}
 use Rattle.std.proofs.lemmas.Bool.{cases_lt}
@@ -42,7 +42,7 @@ use Rattle.seg_value.specs.Contents.{IsEntryOf, IsContent, ContentOf}
 use Rattle.seg_value.specs.Places.{object_at}
 use Rattle.seg_value.proofs.Enlarging as by_request
 use Rattle.seg_value.proofs.Enlarging.{ask, asks_nothing, NewFor}
-use Rattle.seg_value.specs.Buffers.{NamesBuffer, HasSizedBuffer}
+use Rattle.seg_value.specs.Buffers.{NamesBuffer}
 
 -- ---- the entries of a buffer, by the form of its type
 
@@ -140,13 +140,6 @@ module _ (allocator : ℕ) (old : List ℕ) (table : Table) (cell T : ℕ) (v : 
         room = room;
         owned = mine;
       }
-
-  pub has_sized : HasSizedBuffer old cell
-  has_sized = go (target old cell) refl
-    where
-      go : (o : Option ℕ) → target old cell ≡ o → MatchOption o ⊤ (λ p. IsSized old (span (block_of p) (units_at old (block_of p))))
-      go None e = tt
-      go (Some p) e = (named_block p e).sized
 
   each_large : 1 ≤ item_size table of.form
   each_large = go of.form

@@ -1,6 +1,6 @@
 -- The buffer of the flat index as it comes to have room, from what the steps of the calls leave.
 use Rattle.std.proofs.Common.{◌≡◌, ℕ, ◌+◌, ◌-◌, ◌*◌, ◌^◌, ◌<◌, ◌≤◌, max, min, List, [], ◌∷◌, length, Option, Some, None, MatchOption, option_map, refl, sym, ap, ◌∙◌, subst, arith}
-use Rattle.std.specs.Prelude.{Contains, ⊤}
+use Rattle.std.specs.Prelude.{Contains}
 use Rattle.seg_spec.specs.Pointer.{target}
 use Rattle.seg_spec.specs.Types.{Table}
 use Rattle.seg_spec.specs.Heap.{Span, span, units_at, live, IsHeap, Keeps, Takes, same, heap_start, resized}
@@ -17,7 +17,6 @@ use Rattle.seg_spec.proofs.Requested.{GrewTo, spent_same, spent_fresh}
 use Rattle.seg_block.specs.Blocks.{IsSized, IsLiveBlock}
 use Rattle.seg_block.specs.Request.{Grants, GrantsNew}
 use Rattle.seg_block.specs.declared.grant.Grant.{Grant}
-use Rattle.seg_value.specs.Buffers.{HasSizedBuffer}
 use Rattle.seg_value.specs.Names.{index_cell, FindsNames, ChangesIndex, ReservesIndex, MovesIndex}
 use Rattle.seg_value.proofs.Enlarging as by_request
 use Rattle.seg_value.proofs.Enlarging.{ask, asks_nothing, NewFor}
@@ -45,13 +44,6 @@ module _ (allocator : ℕ) (old : List ℕ) (table : Table) (s : FindsNames allo
         sized = record { aligned = l.aligned; large = l.size; inside = l.high; size_is = refl };
         room = name_block allocator old table s p e;
       }
-
-  pub index_sized : HasSizedBuffer old index_cell
-  index_sized = go (target old index_cell) refl
-    where
-      go : (o : Option ℕ) → target old index_cell ≡ o → MatchOption o ⊤ (λ p. IsSized old (span (block_of p) (units_at old (block_of p))))
-      go None e = tt
-      go (Some p) e = (index_block p e).sized
 
   pub names_fit : count_at old index_cell * 8 ≤ 2 ^ 30
   names_fit = go (target old index_cell) refl
