@@ -2,7 +2,6 @@
 use Rattle.std.proofs.Common.{◌≡◌, ℕ, ℤ, pos, negsuc, ◌<◌, ◌≤◌, ◌/◌, ◌%◌, Option, Some, None, IfNone, FitsSigned, List, [], ◌∷◌, ◌++◌, length, sym, ap, ◌∙◌, subst, arith, append_assoc, append-nil}
 use Rattle.std.specs.Prelude.{is_some}
 use Rattle.std.specs.Int.{w32}
-use Rattle.std.specs.Fmt.{decimal}
 use Rattle.seg_spec.specs.Types.{Table}
 use Rattle.client_spec.specs.declared.table.Operation.{Operation}
 use Rattle.client_spec.specs.declared.table.Operand.{Operand}
@@ -12,10 +11,9 @@ use Rattle.client_spec.specs.declared.table.Number.TheVariants as number
 use Rattle.client_spec.specs.declared.table.Row.{Row}
 use Rattle.client_spec.specs.Syntax.{Constant, Instruction}
 use Rattle.client_spec.specs.Operations.{mnemonic, row_of}
-use Rattle.client_spec.specs.Grammar.{IsOperand, IsNumber}
+use Rattle.client_spec.specs.Grammar.{IsNumber}
 use Rattle.client_spec.specs.Text.{Words, operand_words, number_words, instruction_words, type_word, constant_word}
 use Rattle.client_spec.proofs.TextWords.{tail_of}
-use Rattle.client_code.specs.Items.{IsInSomeClient}
 
 -- what a call without a result says, where another result is there as often
 pub none_given : {A B : Type 0} (r : Option A) (s : Option B) (P Q : Type 0) → is_some s ≡ is_some r → IfNone r P → (P → Q) → IfNone s Q
