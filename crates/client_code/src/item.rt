@@ -1,4 +1,4 @@
-ghost use Rattle.std.specs.Prelude.{◌≡◌, ◌≢◌, ◌≤◌, ◌<◌, ◌∷◌, ◌++◌, [], ℕ, ℤ, List, map, codes, length, All, IfSome, IfNone, OnOk, FitsSigned};
+ghost use Rattle.std.specs.Prelude.{◌≡◌, ◌≢◌, ◌≤◌, ◌<◌, ◌/◌, ◌%◌, ◌∷◌, ◌++◌, [], ℕ, ℤ, List, map, codes, length, All, IfSome, IfNone, OnOk, FitsSigned};
 ghost use Rattle.std.specs.Int.{w32};
 ghost use Rattle.std.specs.Fmt.{decimal};
 ghost use Rattle.seg_spec.specs.Types.{Form, IsForm, Table};
@@ -6,7 +6,7 @@ ghost use Rattle.seg_layout.specs.Forms.{form_of};
 ghost use Rattle.client_spec.specs.Syntax as syntax;
 ghost use Rattle.client_spec.specs.Grammar.{IsOperand, IsNumber};
 ghost use Rattle.client_spec.specs.Text as text;
-ghost use Rattle.client_spec.specs.Text.{words_of, type_word, type_words, operand_words, number_words, instruction_words, SpellsItem};
+ghost use Rattle.client_spec.specs.Text.{words_of, type_word, constant_word, type_words, operand_words, number_words, instruction_words, SpellsItem};
 ghost use Rattle.client_spec.specs.Pieces.{IsReadable, IsTold, IsToldInstruction};
 ghost use Rattle.client_spec.specs.Operations.{mnemonic};
 ghost use Rattle.client_code.specs.Views.{instruction_of};
@@ -123,7 +123,7 @@ fn read_type(words: &mut Words) -> Option<Type>
     } else if word == b"struct".as_slice() {
         Some(Type::Struct(read_fields(words)?))
     } else {
-        container(word, read_part(words)?)
+        container(word, read_index(b't', words)?)
     }
 }
 
@@ -149,13 +149,14 @@ fn container(word: &[u8], item: TypeId) -> Option<Type>
     }
 }
 
-fn read_part(words: &mut Words) -> Option<TypeId>
-    ensures found { IfSome result (λ t. words_of words.old.line.now
-        ≡ type_word t ∷ words_of words.new.line.now) }
-    ensures none { IfNone result ((t : ℕ) (rest : text.Words) → t < 256 →
-        words_of words.old.line.now ≢ type_word t ∷ rest) }
+/// The number after a letter, in the next word.
+fn read_index(letter: u8, words: &mut Words) -> Option<u8>
+    ensures found { IfSome result (λ n. words_of words.old.line.now
+        ≡ (letter ∷ decimal n) ∷ words_of words.new.line.now) }
+    ensures none { IfNone result ((n : ℕ) (rest : text.Words) → n < 256 →
+        words_of words.old.line.now ≢ (letter ∷ decimal n) ∷ rest) }
 {
-    index(b't', words.next()?)
+    index(letter, words.next()?)
 }
 
 fn read_fields(words: &mut Words) -> Option<Fields>
@@ -235,12 +236,20 @@ fn read_number(number: Number, words: &mut Words) -> Option<i32>
     match number {
         Number::Unused => Some(0),
         Number::Any | Number::Turns => signed(words.next()?),
-        Number::TypeId => index(b't', words.next()?).map(i32::from),
-        Number::Text => index(b'k', words.next()?).map(i32::from),
-        Number::TypedName => {
-            let type_id = index(b't', words.next()?)?;
-            let constant = index(b'k', words.next()?)?;
-            Some(256 * i32::from(type_id) + i32::from(constant))
-        }
+        Number::TypeId => read_index(b't', words).map(i32::from),
+        Number::Text => read_index(b'k', words).map(i32::from),
+        Number::TypedName => read_typed_name(words).map(i32::from),
     }
+}
+
+/// The number of a type and of a name, in the next two words: 256 times the first and the second.
+fn read_typed_name(words: &mut Words) -> Option<u16>
+    ensures found { IfSome result (λ n. words_of words.old.line.now
+        ≡ type_word (n / 256) ∷ constant_word (n % 256) ∷ words_of words.new.line.now) }
+    ensures none { IfNone result ((t k : ℕ) (rest : text.Words) → t < 256 → k < 256 →
+        words_of words.old.line.now ≢ type_word t ∷ constant_word k ∷ rest) }
+{
+    let type_id = read_index(b't', words)?;
+    let constant = read_index(b'k', words)?;
+    Some(256 * u16::from(type_id) + u16::from(constant))
 }
