@@ -1,3 +1,4 @@
+use crate::door::{created, grown, opened};
 use crate::listing::{blocks, objects, pictured, shown, size, statistics};
 use lezgauri::{AllocatorKind, Fault, Image, IndexKind};
 use seg_words::{Allocator, ImageTask, Index, NewImage};
@@ -11,7 +12,7 @@ pub struct Made {
 }
 
 /// Why nothing is made of an image.
-#[derive(Debug, Clone, Copy, PartialEq, Eq)]
+#[derive(Clone, Copy)]
 pub enum Unmade<'a> {
     /// What is wrong with it, or with what is asked of it.
     Fault(Fault),
@@ -41,35 +42,49 @@ pub fn new_image(alloc: Global, new: &NewImage) -> Result<Vec<u8>, Fault> {
         Index::Flat => IndexKind::Flat,
         Index::Tree => IndexKind::Tree,
     };
-    Ok(Image::create(alloc, new.size, allocator, index)?.into_bytes())
+    Ok(created(alloc, new.size, allocator, index)?.into_bytes())
 }
 
 /// What a task makes of an image.
 pub fn made_of<'a>(alloc: Global, bytes: Vec<u8>, task: ImageTask<'a>) -> Result<Made, Unmade<'a>> {
-    let mut image = opened(alloc, bytes)?;
-    let text = match task {
-        ImageTask::Check => Vec::from_slice(alloc, b"ok\n")?,
-        ImageTask::Stat => statistics(alloc, &image)?,
-        ImageTask::List => objects(alloc, &image)?,
-        ImageTask::Show { name, whole } => shown(alloc, &image, name, whole)?,
-        ImageTask::Map => blocks(alloc, &image)?,
-        ImageTask::Picture { .. } => pictured(alloc, &image)?,
-        ImageTask::Grow { extra } => size(alloc, image.grow(extra)?)?,
-        ImageTask::Shrink => size(alloc, image.shrink())?,
-    };
-    let image = match task {
-        ImageTask::Grow { .. } | ImageTask::Shrink => Some(image.into_bytes()),
-        ImageTask::Check
-        | ImageTask::Stat
-        | ImageTask::List
-        | ImageTask::Show { .. }
-        | ImageTask::Map
-        | ImageTask::Picture { .. } => None,
-    };
-    Ok(Made { text, image })
+    let image = opened(alloc, bytes)?;
+    match task {
+        ImageTask::Grow { extra } => grow(alloc, image, extra),
+        ImageTask::Shrink => shrink(alloc, image),
+        ImageTask::Show { name, whole } => Ok(Made {
+            text: shown(alloc, &image, name, whole)?,
+            image: None,
+        }),
+        ImageTask::Check => told(Vec::from_slice(alloc, b"ok\n")),
+        ImageTask::Stat => told(statistics(alloc, &image)),
+        ImageTask::List => told(objects(alloc, &image)),
+        ImageTask::Map => told(blocks(alloc, &image)),
+        ImageTask::Picture { .. } => told(pictured(alloc, &image)),
+    }
 }
 
-/// An image that is open, or its first fault.
-pub fn opened(alloc: Global, bytes: Vec<u8>) -> Result<Image<Global>, Fault> {
-    Ok(Image::open(alloc, bytes)?)
+/// A text alone.
+fn told<'a>(text: Result<Vec<u8>, AllocError>) -> Result<Made, Unmade<'a>> {
+    Ok(Made {
+        text: text?,
+        image: None,
+    })
+}
+
+fn grow<'a>(alloc: Global, mut image: Image<Global>, extra: u32) -> Result<Made, Unmade<'a>> {
+    let size = grown(&mut image, extra)?;
+    saved(alloc, image, size)
+}
+
+fn shrink<'a>(alloc: Global, mut image: Image<Global>) -> Result<Made, Unmade<'a>> {
+    let size = image.shrink();
+    saved(alloc, image, size)
+}
+
+/// The image, and its new size as a text.
+fn saved<'a>(alloc: Global, image: Image<Global>, new: u32) -> Result<Made, Unmade<'a>> {
+    Ok(Made {
+        text: size(alloc, new)?,
+        image: Some(image.into_bytes()),
+    })
 }

@@ -81,6 +81,13 @@ fn report<E: Sink>(alloc: Global, failure: &Failure, err: &mut E)
     requires works { E.has_failed err.old ≡ false }
 {
     if let Ok(line) = failure.line(alloc) {
-        let _ = write_all(err, line.as_bytes());
+        tell(err, line.as_bytes());
     }
+}
+
+/// Writes a text on the error output. That it fails changes nothing.
+pub fn tell<E: Sink>(err: &mut E, text: &[u8])
+    requires works { E.has_failed err.old ≡ false }
+{
+    let _ = write_all(err, text);
 }
