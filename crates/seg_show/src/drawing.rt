@@ -24,7 +24,7 @@ const HEIGHT: u32 = 12;
 const TOP: u32 = 40;
 
 /// A cell of the picture: a run of units, all of one length.
-#[derive(Debug, Clone, Copy)]
+#[derive(Clone, Copy)]
 struct Cell {
     /// What the block is for that has most of it.
     purpose: Purpose,

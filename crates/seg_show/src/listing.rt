@@ -19,12 +19,21 @@ pub fn heap_lines<F: Fit>(
 ) -> Result<Vec<u8>, AllocError> {
     let roots = roots(alloc, segment)?;
     let owned = owned_blocks(alloc, segment.heap(), roots.as_slice())?;
-    let largest = owned.iter().map(|it| it.block.units).max().unwrap_or(1);
+    let largest = most_units(owned.as_slice());
     let mut lines = Lines::new(alloc);
     for it in &owned {
         add_block(&mut lines, it, roots.as_slice(), largest)?;
     }
     Ok(lines.into_bytes())
+}
+
+/// The units of the largest block.
+fn most_units(owned: &[OwnedBlock]) -> u32 {
+    let mut most = 1;
+    for it in owned {
+        most = it.block.units.max(most);
+    }
+    most
 }
 
 fn add_block(
@@ -42,10 +51,15 @@ fn add_block(
     )?;
     lines.add(b" ")?;
     lines.add(Purpose::of(it).word().as_bytes())?;
-    if let Some(root) = it.root.and_then(|index| roots.get(index)) {
+    if let Some(root) = root_of(it, roots) {
         add_owner(lines, root)?;
     }
     lines.end()
+}
+
+/// The object that a block is of.
+fn root_of<'a, 'b>(it: &OwnedBlock, roots: &'b [Root<'a>]) -> Option<&'b Root<'a>> {
+    roots.get(it.root?)
 }
 
 /// How long the bar of a block of so many units is: at least 1.

@@ -9,7 +9,7 @@ use seg_value::{Heap, Place};
 use std::alloc::{AllocError, Global};
 
 /// A block of the heap, what it is for, and which of the segment's objects it belongs to.
-#[derive(Debug, Clone, Copy)]
+#[derive(Clone, Copy)]
 pub(crate) struct OwnedBlock {
     pub(crate) block: Block,
     /// None where it is free.
