@@ -3,7 +3,7 @@
 ghost use Rattle.std.specs.Prelude.{◌≡◌, false};
 
 use crate::door::{assembled, opened, printed, verified};
-use crate::failure::{Failure, STANDARD_OUTPUT};
+use crate::failure::Failure;
 use crate::inputs::read_input;
 use crate::program::print;
 use client_trace::{Untraced, trace};
@@ -59,11 +59,7 @@ fn trace_bytes<'a, O: Sink>(
 {
     let mut image = opened(alloc, image)?;
     let client = verified(&image, client)?;
-    match trace_client(alloc, &mut image, &client, input, out) {
-        Ok(()) => Ok(()),
-        Err(Untraced::Memory) => Err(Failure::from(Fault::Memory)),
-        Err(Untraced::OutputFailed) => Err(Failure::File(STANDARD_OUTPUT)),
-    }
+    Ok(trace_client(alloc, &mut image, &client, input, out)?)
 }
 
 fn trace_client<O: Sink>(

@@ -26,6 +26,11 @@ pub(crate) fn grown(image: &mut Image<Global>, extra: u32) -> Result<u32, Fault>
     image.grow(extra)
 }
 
+/// Cuts the free memory at the end, and returns the new size.
+pub(crate) fn shrunk(image: &mut Image<Global>) -> u32 {
+    image.shrink()
+}
+
 /// A client that may run on an image.
 pub(crate) fn verified<'a>(image: &Image<Global>, client: &'a [u8]) -> Result<Verified<'a>, Fault> {
     image.verify(client)

@@ -1,4 +1,4 @@
-use crate::door::{created, grown, opened};
+use crate::door::{created, grown, opened, shrunk};
 use crate::listing::{blocks, objects, pictured, shown, size, statistics};
 use lezgauri::{AllocatorKind, Fault, Image, IndexKind};
 use seg_words::{Allocator, ImageTask, Index, NewImage};
@@ -47,44 +47,43 @@ pub fn new_image(alloc: Global, new: &NewImage) -> Result<Vec<u8>, Fault> {
 
 /// What a task makes of an image.
 pub fn made_of<'a>(alloc: Global, bytes: Vec<u8>, task: ImageTask<'a>) -> Result<Made, Unmade<'a>> {
-    let image = opened(alloc, bytes)?;
+    let mut image = opened(alloc, bytes)?;
+    let text = text_of(alloc, &mut image, task)?;
+    let image = if is_change(task) {
+        Some(image.into_bytes())
+    } else {
+        None
+    };
+    Ok(Made { text, image })
+}
+
+/// Does a task, and returns the text to print.
+fn text_of<'a>(
+    alloc: Global,
+    image: &mut Image<Global>,
+    task: ImageTask<'a>,
+) -> Result<Vec<u8>, Unmade<'a>> {
     match task {
-        ImageTask::Grow { extra } => grow(alloc, image, extra),
-        ImageTask::Shrink => shrink(alloc, image),
-        ImageTask::Show { name, whole } => Ok(Made {
-            text: shown(alloc, &image, name, whole)?,
-            image: None,
-        }),
-        ImageTask::Check => told(Vec::from_slice(alloc, b"ok\n")),
-        ImageTask::Stat => told(statistics(alloc, &image)),
-        ImageTask::List => told(objects(alloc, &image)),
-        ImageTask::Map => told(blocks(alloc, &image)),
-        ImageTask::Picture { .. } => told(pictured(alloc, &image)),
+        ImageTask::Check => Ok(Vec::from_slice(alloc, b"ok\n")?),
+        ImageTask::Stat => Ok(statistics(alloc, image)?),
+        ImageTask::List => Ok(objects(alloc, image)?),
+        ImageTask::Show { name, whole } => shown(alloc, image, name, whole),
+        ImageTask::Map => Ok(blocks(alloc, image)?),
+        ImageTask::Picture { .. } => Ok(pictured(alloc, image)?),
+        ImageTask::Grow { extra } => Ok(size(alloc, grown(image, extra)?)?),
+        ImageTask::Shrink => Ok(size(alloc, shrunk(image))?),
     }
 }
 
-/// A text alone.
-fn told<'a>(text: Result<Vec<u8>, AllocError>) -> Result<Made, Unmade<'a>> {
-    Ok(Made {
-        text: text?,
-        image: None,
-    })
-}
-
-fn grow<'a>(alloc: Global, mut image: Image<Global>, extra: u32) -> Result<Made, Unmade<'a>> {
-    let size = grown(&mut image, extra)?;
-    saved(alloc, image, size)
-}
-
-fn shrink<'a>(alloc: Global, mut image: Image<Global>) -> Result<Made, Unmade<'a>> {
-    let size = image.shrink();
-    saved(alloc, image, size)
-}
-
-/// The image, and its new size as a text.
-fn saved<'a>(alloc: Global, image: Image<Global>, new: u32) -> Result<Made, Unmade<'a>> {
-    Ok(Made {
-        text: size(alloc, new)?,
-        image: Some(image.into_bytes()),
-    })
+/// Whether a task changes the image.
+fn is_change(task: ImageTask) -> bool {
+    match task {
+        ImageTask::Grow { .. } | ImageTask::Shrink => true,
+        ImageTask::Check
+        | ImageTask::Stat
+        | ImageTask::List
+        | ImageTask::Show { .. }
+        | ImageTask::Map
+        | ImageTask::Picture { .. } => false,
+    }
 }
