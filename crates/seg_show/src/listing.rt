@@ -4,7 +4,7 @@ use crate::lines::Lines;
 use crate::owners::{OwnedBlock, owned_blocks};
 use crate::purpose::Purpose;
 use crate::roots::{Root, RootName, roots};
-use seg_block::Fit;
+use seg_block::{Block, Fit};
 use seg_manager::Segment;
 use std::alloc::{AllocError, Global};
 
@@ -42,9 +42,7 @@ fn add_block(
     roots: &[Root],
     largest: u32,
 ) -> Result<(), AllocError> {
-    lines.add_number("", i64::from(it.block.at))?;
-    lines.add_number(" ", i64::from(it.block.units))?;
-    lines.add(b" ")?;
+    add_extent(lines, it.block)?;
     lines.add_bar(
         bar(it.block.units, largest),
         if it.tag.is_some() { b'#' } else { b'.' },
@@ -55,6 +53,13 @@ fn add_block(
         add_owner(lines, root)?;
     }
     lines.end()
+}
+
+/// Adds where a block is, and how large.
+fn add_extent(lines: &mut Lines, block: Block) -> Result<(), AllocError> {
+    lines.add_number("", i64::from(block.at))?;
+    lines.add_number(" ", i64::from(block.units))?;
+    lines.add(b" ")
 }
 
 /// The object that a block is of.
