@@ -30,16 +30,21 @@ impl Gathered {
             return Ok(());
         }
         text.push_str("out \"")?;
-        for byte in self.first.as_slice().escape_ascii() {
-            text.push(char::from(byte))?;
+        push_escaped(text, self.first.as_slice())?;
+        let len = self.len;
+        if self.first.len() < len {
+            write!(text, "\".. of {len}\n")
+        } else {
+            text.push_str("\"\n")
         }
-        text.push('"')?;
-        if self.first.len() < self.len {
-            let len = self.len;
-            write!(text, ".. of {len}")?;
-        }
-        text.push('\n')
     }
+}
+
+fn push_escaped(text: &mut String, bytes: &[u8]) -> Result<(), AllocError> {
+    for byte in bytes.escape_ascii() {
+        text.push(char::from(byte))?;
+    }
+    Ok(())
 }
 
 /// It takes all, and never fails.

@@ -15,10 +15,7 @@ impl Known {
         let mut in_front = Vec::new(alloc);
         for at in 0..client.instruction_count() {
             in_front.push(*verifier.registers())?;
-            if let Some(instruction) = client.instruction(at) {
-                // a verified client has no instruction that is refused
-                let _ = verifier.pass(instruction);
-            }
+            pass(&mut verifier, client, at);
         }
         in_front.push(*verifier.registers())?;
         Ok(Known { in_front })
@@ -38,5 +35,12 @@ impl Known {
             Some(registers) => *registers,
             None => Registers::new(),
         }
+    }
+}
+
+/// Lets the verifier go past the instruction at an index. A verified client has none that is refused.
+fn pass(verifier: &mut Verifier, client: &Client, at: u32) {
+    if let Some(instruction) = client.instruction(at) {
+        let _ = verifier.pass(instruction);
     }
 }

@@ -1,5 +1,6 @@
 use crate::gathered::Gathered;
 use crate::listing::Listing;
+use crate::path::push_bytes;
 use crate::paths::Paths;
 use client_code::{Client, REGISTERS};
 use client_run::{Stepped, Stepper};
@@ -38,18 +39,19 @@ impl Lines {
             is_step,
         } = stepped;
         self.text.clear();
-        if is_step {
-            self.steps = self.steps.saturating_add(1);
-            let steps = self.steps;
-            write!(self.text, "{steps:>6}")?;
-        } else {
-            self.text.push_str("     -")?;
-        }
+        self.add_step(is_step)?;
         write!(self.text, " {instruction:>4}  ")?;
-        for byte in self.listing.line(instruction) {
-            self.text.push(char::from(*byte))?;
+        push_bytes(&mut self.text, self.listing.line(instruction))
+    }
+
+    /// Adds the number of the next step, or what stands for one that is none.
+    fn add_step(&mut self, is_step: bool) -> Result<(), AllocError> {
+        if !is_step {
+            return self.text.push_str("     -");
         }
-        Ok(())
+        self.steps = self.steps.saturating_add(1);
+        let steps = self.steps;
+        write!(self.text, "{steps:>6}")
     }
 
     /// Adds the registers of which something is known after an instruction, with what they hold.
@@ -97,19 +99,33 @@ impl Lines {
         paths: &Paths,
         run: &Stepper,
     ) -> Result<bool, AllocError> {
-        let text = &mut self.text;
+        if known == RegisterType::Undefined {
+            return Ok(false);
+        }
+        write!(self.text, "{mark}r{register} ")?;
+        self.add_held(register, known, paths, run)?;
+        Ok(true)
+    }
+
+    /// Adds what a register holds.
+    fn add_held(
+        &mut self,
+        register: u8,
+        known: RegisterType,
+        paths: &Paths,
+        run: &Stepper,
+    ) -> Result<(), AllocError> {
         match known {
-            RegisterType::Undefined => return Ok(false),
+            RegisterType::Undefined => Ok(()),
             RegisterType::Int => {
                 let number = run.number(register);
-                write!(text, "{mark}r{register} = {number}")?;
+                write!(self.text, "= {number}")
             }
             RegisterType::Reference(_, _) => {
-                write!(text, "{mark}r{register} -> ")?;
-                paths.add_to(text, register)?;
+                self.text.push_str("-> ")?;
+                paths.add_to(&mut self.text, register)
             }
-            RegisterType::Owner(type_id) => write!(text, "{mark}r{register} owns t{type_id}")?,
+            RegisterType::Owner(type_id) => write!(self.text, "owns t{type_id}"),
         }
-        Ok(true)
     }
 }

@@ -1,5 +1,4 @@
 use client_code::{Client, print};
-use seg_raw::Fault;
 use std::alloc::{AllocError, Global};
 
 /// The canonical text of a client's instructions.
@@ -17,12 +16,7 @@ pub(crate) struct Listing {
 impl Listing {
     pub(crate) fn new(alloc: Global, client: &Client) -> Result<Listing, AllocError> {
         let text = printed(alloc, client)?;
-        let mut ends = Vec::new(alloc);
-        for (i, byte) in text.as_slice().iter().enumerate() {
-            if *byte == b'\n' {
-                ends.push(i)?;
-            }
-        }
+        let ends = line_ends(alloc, text.as_slice())?;
         let types = client.type_count() as usize;
         let mut listing = Listing {
             text,
@@ -70,5 +64,18 @@ impl Listing {
 }
 
 fn printed(alloc: Global, client: &Client) -> Result<Vec<u8>, AllocError> {
-    print(alloc, client).map_err(|_: Fault| AllocError)
+    match print(alloc, client) {
+        Ok(text) => Ok(text),
+        Err(_) => Err(AllocError),
+    }
+}
+
+fn line_ends(alloc: Global, text: &[u8]) -> Result<Vec<usize>, AllocError> {
+    let mut ends = Vec::new(alloc);
+    for (i, byte) in text.iter().enumerate() {
+        if *byte == b'\n' {
+            ends.push(i)?;
+        }
+    }
+    Ok(ends)
 }

@@ -7,7 +7,7 @@ use std::fmt::{self, Write};
 const MOST_PARTS: usize = 8;
 
 /// The object at which a path begins.
-#[derive(Debug, Clone, Copy, PartialEq, Eq)]
+#[derive(Clone, Copy)]
 pub(crate) enum Root {
     /// That of a constant's exact name, or of its family's name with this number.
     Named { constant: u8, number: i64 },
@@ -18,7 +18,7 @@ pub(crate) enum Root {
 }
 
 /// How a value is reached from the one that it stands in.
-#[derive(Debug, Clone, Copy, PartialEq, Eq)]
+#[derive(Clone, Copy)]
 pub(crate) enum Part {
     /// The value of an array that has a name, from 0.
     Value(i64),
@@ -33,7 +33,7 @@ pub(crate) enum Part {
 }
 
 /// How a value is reached from an object.
-#[derive(Debug, Clone, Copy)]
+#[derive(Clone, Copy)]
 pub(crate) struct Path {
     root: Root,
     /// The last parts: part n at index n modulo their number.
@@ -57,6 +57,7 @@ impl Path {
         self.len = self.len.saturating_add(1);
         self
     }
+
     /// Adds the object and the parts; of a long path the last ones, after the number of those that are left out.
     pub(crate) fn add_to(
         &self,
@@ -68,7 +69,12 @@ impl Path {
         if left_out > 0 {
             write!(text, ".({left_out} parts)")?;
         }
-        for n in left_out..self.len {
+        self.add_parts(text, left_out)
+    }
+
+    /// Adds the parts from one on.
+    fn add_parts(&self, text: &mut String, from: usize) -> Result<(), AllocError> {
+        for n in from..self.len {
             let part = self.parts[n % MOST_PARTS];
             write!(text, "{part}")?;
         }
@@ -89,11 +95,17 @@ impl Root {
     }
 }
 
-/// Adds an exact name, or a family's name with a number.
-fn add_name(text: &mut String, constant: Constant, number: i64) -> Result<(), AllocError> {
-    for byte in constant.bytes {
+/// Adds bytes that are visible.
+pub(crate) fn push_bytes(text: &mut String, bytes: &[u8]) -> Result<(), AllocError> {
+    for byte in bytes {
         text.push(char::from(*byte))?;
     }
+    Ok(())
+}
+
+/// Adds an exact name, or a family's name with a number.
+fn add_name(text: &mut String, constant: Constant, number: i64) -> Result<(), AllocError> {
+    push_bytes(text, constant.bytes)?;
     match constant.kind {
         ConstantKind::Text | ConstantKind::Name => Ok(()),
         ConstantKind::Family => write!(text, "#{number}"),
@@ -102,12 +114,13 @@ fn add_name(text: &mut String, constant: Constant, number: i64) -> Result<(), Al
 
 impl fmt::Display for Part {
     fn fmt<W: fmt::Write>(&self, f: &mut fmt::Formatter<W>) -> fmt::Result {
-        match self {
-            Part::Value(index) => write!(f, ".value {index}"),
-            Part::Item(index) => write!(f, "[{index}]"),
-            Part::Key(key) => write!(f, ".key {key}"),
-            Part::Field(index) => write!(f, ".field {index}"),
-            Part::Content => write!(f, ".content"),
-        }
+        let (before, number, after) = match *self {
+            Part::Value(index) => (".value ", index, ""),
+            Part::Item(index) => ("[", index, "]"),
+            Part::Key(key) => (".key ", key, ""),
+            Part::Field(index) => (".field ", i64::from(index), ""),
+            Part::Content => return f.write_str(".content"),
+        };
+        write!(f, "{before}{number}{after}")
     }
 }

@@ -6,7 +6,7 @@ use seg_raw::Fault;
 use std::alloc::AllocError;
 
 /// Why a trace ended before its run did.
-#[derive(Debug, Clone, Copy, PartialEq, Eq)]
+#[derive(Clone, Copy, PartialEq, Eq)]
 pub enum Untraced {
     /// Host memory was refused.
     Memory,

@@ -2,11 +2,12 @@
 
 ghost use Rattle.std.specs.Prelude.{◌≡◌, false};
 
-use crate::failure::{Failure, STANDARD_OUTPUT};
-use crate::made::opened;
+use crate::door::{assembled, opened, printed, verified};
+use crate::failure::Failure;
+use crate::inputs::read_input;
 use crate::program::print;
 use client_trace::{Untraced, trace};
-use lezgauri::{Fault, Image, Sink, assemble, parse};
+use lezgauri::{Fault, Image, Sink, Verified};
 use seg_files::{Files, read_file, read_image, write_file};
 use seg_words::Trace;
 use std::alloc::Global;
@@ -23,8 +24,13 @@ pub fn verify_file<'a, F: Files, O: Sink>(
 {
     let image = read_image(alloc, files, image)?;
     let client = read_file(alloc, files, client)?;
-    let bound = opened(alloc, image)?.verify(client.as_slice())?.bound();
+    let bound = bound_of(alloc, image, client.as_slice())?;
     print(out, format!(in alloc; "steps {bound}\n")?.as_bytes())
+}
+
+fn bound_of(alloc: Global, image: Vec<u8>, client: &[u8]) -> Result<u64, Fault> {
+    let image = opened(alloc, image)?;
+    Ok(verified(&image, client)?.bound())
 }
 
 /// `trace IMAGE CLIENT [--input FILE]`: prints each step of the client on the image with what the registers hold.
@@ -38,20 +44,36 @@ pub fn trace_file<'a, F: Files, O: Sink>(
 {
     let image = read_image(alloc, files, traced.image)?;
     let client = read_file(alloc, files, traced.client)?;
-    let input = match traced.input {
-        Some(name) => read_file(alloc, files, name)?,
-        None => Vec::new(alloc),
-    };
+    let input = read_input(alloc, files, traced.input)?;
+    trace_bytes(alloc, image, client.as_slice(), input.as_slice(), out)
+}
+
+fn trace_bytes<'a, O: Sink>(
+    alloc: Global,
+    image: Vec<u8>,
+    client: &[u8],
+    input: &[u8],
+    out: &mut O,
+) -> Result<(), Failure<'a>>
+    requires works { O.has_failed out.old ≡ false }
+{
     let mut image = opened(alloc, image)?;
-    let client = image.verify(client.as_slice())?;
-    let ended = match &mut image {
-        Image::Seq(segment) => trace(alloc, segment, &client, input.as_slice(), out),
-        Image::Best(segment) => trace(alloc, segment, &client, input.as_slice(), out),
-    };
-    match ended {
-        Ok(()) => Ok(()),
-        Err(Untraced::Memory) => Err(Failure::from(Fault::Memory)),
-        Err(Untraced::OutputFailed) => Err(Failure::File(STANDARD_OUTPUT)),
+    let client = verified(&image, client)?;
+    Ok(trace_client(alloc, &mut image, &client, input, out)?)
+}
+
+fn trace_client<O: Sink>(
+    alloc: Global,
+    image: &mut Image<Global>,
+    client: &Verified,
+    input: &[u8],
+    out: &mut O,
+) -> Result<(), Untraced>
+    requires works { O.has_failed out.old ≡ false }
+{
+    match image {
+        Image::Seq(segment) => trace(alloc, segment, client, input, out),
+        Image::Best(segment) => trace(alloc, segment, client, input, out),
     }
 }
 
@@ -63,7 +85,7 @@ pub fn assemble_file<'a, F: Files>(
     files: &mut F,
 ) -> Result<(), Failure<'a>> {
     let text = read_file(alloc, files, text)?;
-    let assembled = assemble(alloc, text.as_slice())?;
+    let assembled = assembled(alloc, text.as_slice())?;
     Ok(write_file(files, client, assembled.as_slice())?)
 }
 
@@ -77,6 +99,6 @@ pub fn print_file<'a, F: Files, O: Sink>(
     requires works { O.has_failed out.old ≡ false }
 {
     let client = read_file(alloc, files, client)?;
-    let text = lezgauri::print(alloc, &parse(client.as_slice())?)?;
+    let text = printed(alloc, client.as_slice())?;
     print(out, text.as_slice())
 }

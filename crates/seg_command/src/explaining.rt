@@ -1,7 +1,9 @@
 ghost use Rattle.std.specs.Prelude.{◌≡◌, false};
 
 use crate::failure::{Failure, STANDARD_OUTPUT};
-use lezgauri::{Sink, write_all};
+use crate::inputs::slices;
+use crate::program::tell;
+use lezgauri::{Refused, Sink};
 use seg_explain::{Sources, explain};
 use seg_files::{Files, read_file, read_files, read_image};
 use seg_words::Request;
@@ -18,31 +20,44 @@ pub fn explain_failure<'a, F: Files, E: Sink>(
 ) -> Result<(), AllocError>
     requires works { E.has_failed err.old ≡ false }
 {
-    let words = match failure {
+    let words = words_of(alloc, request, failure, files)?;
+    tell(err, words.as_slice());
+    Ok(())
+}
+
+/// Why a command failed. Nothing where the line has the words already.
+fn words_of<'a, F: Files>(
+    alloc: Global,
+    request: &Request<'a>,
+    failure: &Failure,
+    files: &mut F,
+) -> Result<Vec<u8>, AllocError> {
+    match failure {
         Failure::Refused(refused) => {
             let read = Read::again(alloc, request, files)?;
-            let clients: Vec<&[u8]> = read
-                .clients
-                .iter()
-                .map(|client| client.as_slice())
-                .collect(alloc)?;
-            let sources = Sources {
-                image: read.image.as_deref(),
-                clients: clients.as_slice(),
-                text: read.text.as_deref(),
-            };
-            // of one client alone it needn't be said which
-            let client = refused.client.filter(|_| clients.len() > 1);
-            explain(alloc, refused.fault, client, &sources)?
+            explained(alloc, refused, &read)
         }
-        Failure::Absent(name) => absent(alloc, name)?,
-        Failure::File(name) => unusable(alloc, name)?,
-        // the line has the words already
-        Failure::Words(_) => return Ok(()),
+        Failure::Absent(name) => absent(alloc, name),
+        Failure::File(name) => unusable(alloc, name),
+        Failure::Words(_) => Ok(Vec::new(alloc)),
+    }
+}
+
+/// What a refusal of the library is, where what it worked on was read.
+fn explained(alloc: Global, refused: &Refused, read: &Read) -> Result<Vec<u8>, AllocError> {
+    let clients = slices(alloc, read.clients.as_slice())?;
+    let sources = Sources {
+        image: read.image.as_deref(),
+        clients: clients.as_slice(),
+        text: read.text.as_deref(),
     };
-    // an error output that fails changes nothing
-    let _ = write_all(err, words.as_slice());
-    Ok(())
+    // of one client alone it needn't be said which
+    let client = if clients.len() > 1 {
+        refused.client
+    } else {
+        None
+    };
+    explain(alloc, refused.fault, client, &sources)
 }
 
 /// What a command worked on, where it can be read again.
@@ -63,23 +78,34 @@ impl Read {
             Some(name) => read_image(alloc, files, name).ok(),
             None => None,
         };
-        let text = match request {
-            Request::Assemble { text, .. } => read_file(alloc, files, text).ok(),
-            Request::New(_)
-            | Request::Image { .. }
-            | Request::Verify { .. }
-            | Request::Run(_)
-            | Request::Trace(_)
-            | Request::Print { .. }
-            | Request::Help(_) => None,
+        let text = match text_of(request) {
+            Some(name) => read_file(alloc, files, name).ok(),
+            None => None,
         };
-        let clients = clients_of(alloc, request)?;
-        let clients = read_files(alloc, files, clients.as_slice());
+        let names = clients_of(alloc, request)?;
+        let clients = match read_files(alloc, files, names.as_slice()) {
+            Ok(clients) => clients,
+            Err(_) => Vec::new(alloc),
+        };
         Ok(Read {
             image,
-            clients: clients.unwrap_or(Vec::new(alloc)),
+            clients,
             text,
         })
+    }
+}
+
+/// The file of the text that a command works on.
+fn text_of<'a>(request: &Request<'a>) -> Option<&'a str> {
+    match request {
+        Request::Assemble { text, .. } => Some(text),
+        Request::New(_)
+        | Request::Image { .. }
+        | Request::Verify { .. }
+        | Request::Run(_)
+        | Request::Trace(_)
+        | Request::Print { .. }
+        | Request::Help(_) => None,
     }
 }
 

@@ -1,4 +1,5 @@
 use crate::made::Unmade;
+use client_trace::Untraced;
 use lezgauri::{Fault, Refused};
 use seg_files::FileFailure;
 use seg_words::Misread;
@@ -82,6 +83,15 @@ impl From<Misread> for Failure<'_> {
         match misread {
             Misread::Memory => Failure::from(Fault::Memory),
             Misread::Words(text) => Failure::Words(text),
+        }
+    }
+}
+
+impl From<Untraced> for Failure<'_> {
+    fn from(untraced: Untraced) -> Self {
+        match untraced {
+            Untraced::Memory => Failure::from(Fault::Memory),
+            Untraced::OutputFailed => Failure::File(STANDARD_OUTPUT),
         }
     }
 }

@@ -32,15 +32,23 @@ pub fn image_file<'a, F: Files, O: Sink>(
     requires works { O.has_failed out.old ≡ false }
 {
     let made = made_of(alloc, read_image(alloc, files, file)?, task)?;
+    match picture_file(task) {
+        Some(to) => Ok(write_file(files, to, made.text.as_slice())?),
+        None => give(file, &made, files, out),
+    }
+}
+
+/// The file that a picture is written to.
+fn picture_file<'a>(task: ImageTask<'a>) -> Option<&'a str> {
     match task {
-        ImageTask::Picture { to } => Ok(write_file(files, to, made.text.as_slice())?),
+        ImageTask::Picture { to } => Some(to),
         ImageTask::Check
         | ImageTask::Stat
         | ImageTask::List
         | ImageTask::Show { .. }
         | ImageTask::Map
         | ImageTask::Grow { .. }
-        | ImageTask::Shrink => give(file, &made, files, out),
+        | ImageTask::Shrink => None,
     }
 }
 

@@ -2,9 +2,11 @@
 #![tactic(auto)]
 
 mod clients;
+mod door;
 mod explaining;
 mod failure;
 mod images;
+mod inputs;
 mod listing;
 mod made;
 mod program;

@@ -21,22 +21,35 @@ pub(crate) fn statistics(alloc: Global, image: &Image<Global>) -> Result<Vec<u8>
 /// The names in ascending order with types and counts, then the types of unique objects, a line each.
 pub(crate) fn objects(alloc: Global, image: &Image<Global>) -> Result<Vec<u8>, AllocError> {
     let mut lines = Vec::new(alloc);
+    add_named(&mut lines, alloc, image)?;
+    for t in 0..MAX_TYPES as TypeId {
+        if has_unique(image, t) {
+            lines.extend_from_slice(format!(in alloc; "unique {t}\n")?.as_bytes())?;
+        }
+    }
+    Ok(lines)
+}
+
+fn add_named(lines: &mut Vec<u8>, alloc: Global, image: &Image<Global>) -> Result<(), AllocError> {
     let mut next = image.first_name();
     for _ in 0..image.num_named() {
         let Some(named) = next else {
             break;
         };
-        lines.extend_from_slice(named.name)?;
-        let Named { type_id, count, .. } = named;
+        let Named {
+            name,
+            type_id,
+            count,
+        } = named;
+        lines.extend_from_slice(name)?;
         lines.extend_from_slice(format!(in alloc; " {type_id} {count}\n")?.as_bytes())?;
-        next = image.next_name(named.name);
+        next = image.next_name(name);
     }
-    for t in 0..MAX_TYPES as TypeId {
-        if image.find_unique(t).is_ok() {
-            lines.extend_from_slice(format!(in alloc; "unique {t}\n")?.as_bytes())?;
-        }
-    }
-    Ok(lines)
+    Ok(())
+}
+
+fn has_unique(image: &Image<Global>, t: TypeId) -> bool {
+    image.find_unique(t).is_ok()
 }
 
 /// The objects with their values, all or the one with a name, a line each value.
@@ -52,10 +65,15 @@ pub(crate) fn shown<'a>(
             Some(text) => Ok(text),
             None => Err(Unmade::Absent(name)),
         },
-        None => Ok(match image {
-            Image::Seq(segment) => all_objects(alloc, segment, extent)?,
-            Image::Best(segment) => all_objects(alloc, segment, extent)?,
-        }),
+        None => Ok(all(alloc, image, extent)?),
+    }
+}
+
+/// All objects and their values.
+fn all(alloc: Global, image: &Image<Global>, extent: Extent) -> Result<Vec<u8>, AllocError> {
+    match image {
+        Image::Seq(segment) => all_objects(alloc, segment, extent),
+        Image::Best(segment) => all_objects(alloc, segment, extent),
     }
 }
 

@@ -1,3 +1,4 @@
+use crate::door::{created, grown, opened, shrunk};
 use crate::listing::{blocks, objects, pictured, shown, size, statistics};
 use lezgauri::{AllocatorKind, Fault, Image, IndexKind};
 use seg_words::{Allocator, ImageTask, Index, NewImage};
@@ -11,7 +12,7 @@ pub struct Made {
 }
 
 /// Why nothing is made of an image.
-#[derive(Debug, Clone, Copy, PartialEq, Eq)]
+#[derive(Clone, Copy)]
 pub enum Unmade<'a> {
     /// What is wrong with it, or with what is asked of it.
     Fault(Fault),
@@ -41,35 +42,48 @@ pub fn new_image(alloc: Global, new: &NewImage) -> Result<Vec<u8>, Fault> {
         Index::Flat => IndexKind::Flat,
         Index::Tree => IndexKind::Tree,
     };
-    Ok(Image::create(alloc, new.size, allocator, index)?.into_bytes())
+    Ok(created(alloc, new.size, allocator, index)?.into_bytes())
 }
 
 /// What a task makes of an image.
 pub fn made_of<'a>(alloc: Global, bytes: Vec<u8>, task: ImageTask<'a>) -> Result<Made, Unmade<'a>> {
     let mut image = opened(alloc, bytes)?;
-    let text = match task {
-        ImageTask::Check => Vec::from_slice(alloc, b"ok\n")?,
-        ImageTask::Stat => statistics(alloc, &image)?,
-        ImageTask::List => objects(alloc, &image)?,
-        ImageTask::Show { name, whole } => shown(alloc, &image, name, whole)?,
-        ImageTask::Map => blocks(alloc, &image)?,
-        ImageTask::Picture { .. } => pictured(alloc, &image)?,
-        ImageTask::Grow { extra } => size(alloc, image.grow(extra)?)?,
-        ImageTask::Shrink => size(alloc, image.shrink())?,
+    let text = text_of(alloc, &mut image, task)?;
+    let image = if is_change(task) {
+        Some(image.into_bytes())
+    } else {
+        None
     };
-    let image = match task {
-        ImageTask::Grow { .. } | ImageTask::Shrink => Some(image.into_bytes()),
+    Ok(Made { text, image })
+}
+
+/// Does a task, and returns the text to print.
+fn text_of<'a>(
+    alloc: Global,
+    image: &mut Image<Global>,
+    task: ImageTask<'a>,
+) -> Result<Vec<u8>, Unmade<'a>> {
+    match task {
+        ImageTask::Check => Ok(Vec::from_slice(alloc, b"ok\n")?),
+        ImageTask::Stat => Ok(statistics(alloc, image)?),
+        ImageTask::List => Ok(objects(alloc, image)?),
+        ImageTask::Show { name, whole } => shown(alloc, image, name, whole),
+        ImageTask::Map => Ok(blocks(alloc, image)?),
+        ImageTask::Picture { .. } => Ok(pictured(alloc, image)?),
+        ImageTask::Grow { extra } => Ok(size(alloc, grown(image, extra)?)?),
+        ImageTask::Shrink => Ok(size(alloc, shrunk(image))?),
+    }
+}
+
+/// Whether a task changes the image.
+fn is_change(task: ImageTask) -> bool {
+    match task {
+        ImageTask::Grow { .. } | ImageTask::Shrink => true,
         ImageTask::Check
         | ImageTask::Stat
         | ImageTask::List
         | ImageTask::Show { .. }
         | ImageTask::Map
-        | ImageTask::Picture { .. } => None,
-    };
-    Ok(Made { text, image })
-}
-
-/// An image that is open, or its first fault.
-pub fn opened(alloc: Global, bytes: Vec<u8>) -> Result<Image<Global>, Fault> {
-    Ok(Image::open(alloc, bytes)?)
+        | ImageTask::Picture { .. } => false,
+    }
 }

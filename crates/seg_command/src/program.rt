@@ -7,7 +7,7 @@ use crate::images::{image_file, new_file};
 use crate::run::run_files;
 use lezgauri::{Sink, write_all};
 use seg_files::Files;
-use seg_words::Request;
+use seg_words::{Asked, Request};
 use std::alloc::Global;
 use std::convert::AsStr;
 
@@ -23,23 +23,32 @@ pub fn command<S: AsStr, F: Files, O: Sink, E: Sink>(
     requires out_works { O.has_failed out.old ≡ false }
     requires err_works { E.has_failed err.old ≡ false }
 {
-    let asked = match seg_words::read(alloc, words) {
-        Ok(asked) => asked,
-        Err(misread) => {
-            let failure = Failure::from(misread);
-            report(alloc, &failure, err);
-            return failure.status();
-        }
-    };
+    match seg_words::read(alloc, words) {
+        Ok(asked) => answer(alloc, &asked, files, out, err),
+        Err(misread) => report(alloc, &Failure::from(misread), err),
+    }
+}
+
+/// Does what is asked for, and returns the status.
+fn answer<F: Files, O: Sink, E: Sink>(
+    alloc: Global,
+    asked: &Asked,
+    files: &mut F,
+    out: &mut O,
+    err: &mut E,
+) -> u8
+    requires out_works { O.has_failed out.old ≡ false }
+    requires err_works { E.has_failed err.old ≡ false }
+{
     match perform(alloc, &asked.request, files, out) {
         Ok(()) => 0,
         Err(failure) => {
-            report(alloc, &failure, err);
+            let status = report(alloc, &failure, err);
             if asked.explained && !err.failed() {
                 // where there is no memory for the words, the line says it alone
                 let _ = explain_failure(alloc, &asked.request, &failure, files, err);
             }
-            failure.status()
+            status
         }
     }
 }
@@ -75,12 +84,20 @@ pub fn print<'a, O: Sink>(out: &mut O, text: &[u8]) -> Result<(), Failure<'a>>
     }
 }
 
-/// Writes why a command failed: one line, or for a wrong command line what it should be. Where there is no memory for it, or the
-/// error output fails, the status says it alone.
-fn report<E: Sink>(alloc: Global, failure: &Failure, err: &mut E)
+/// Writes why a command failed, one line, or for a wrong command line what it should be, and returns the status. Where there is
+/// no memory for it, or the error output fails, the status says it alone.
+fn report<E: Sink>(alloc: Global, failure: &Failure, err: &mut E) -> u8
     requires works { E.has_failed err.old ≡ false }
 {
     if let Ok(line) = failure.line(alloc) {
-        let _ = write_all(err, line.as_bytes());
+        tell(err, line.as_bytes());
     }
+    failure.status()
+}
+
+/// Writes a text on the error output. That it fails changes nothing.
+pub fn tell<E: Sink>(err: &mut E, text: &[u8])
+    requires works { E.has_failed err.old ≡ false }
+{
+    let _ = write_all(err, text);
 }

@@ -1,8 +1,9 @@
 ghost use Rattle.std.specs.Prelude.{◌≡◌, false};
 
 use crate::failure::{Failure, STANDARD_OUTPUT};
+use crate::inputs::{read_input, slices};
 use lezgauri::{Ended, Outcome, Refused, Schedule, Sink, run_image};
-use seg_files::{Files, read_file, read_files, read_image, write_file};
+use seg_files::{Files, read_files, read_image, write_file};
 use seg_words::Run;
 use std::alloc::Global;
 
@@ -18,12 +19,18 @@ pub fn run_files<'a, F: Files, O: Sink>(
 {
     let image = read_image(alloc, files, run.image)?;
     let clients = read_files(alloc, files, run.clients.as_slice())?;
-    let input = match run.input {
-        Some(name) => read_file(alloc, files, name)?,
-        None => Vec::new(alloc),
-    };
+    let input = read_input(alloc, files, run.input)?;
     let outcome = outcome_of(alloc, run, image, clients.as_slice(), input.as_slice(), out)?;
-    let saved = write_file(files, run.out, outcome.image.as_slice());
+    save(files, run.out, &outcome)
+}
+
+/// Writes the saved image, and says where the output failed.
+fn save<'a, F: Files>(
+    files: &mut F,
+    name: &'a str,
+    outcome: &Outcome<Global>,
+) -> Result<(), Failure<'a>> {
+    let saved = write_file(files, name, outcome.image.as_slice());
     match outcome.ended {
         Ended::Done => Ok(saved?),
         Ended::OutputFailed => Err(Failure::File(STANDARD_OUTPUT)),
@@ -41,10 +48,7 @@ fn outcome_of<O: Sink>(
 ) -> Result<Outcome<Global>, Refused>
     requires works { O.has_failed out.old ≡ false }
 {
-    let clients: Vec<&[u8]> = clients
-        .iter()
-        .map(|client| client.as_slice())
-        .collect(alloc)?;
+    let clients = slices(alloc, clients)?;
     let schedule = schedule_of(run, image.len());
     run_image(alloc, image, clients.as_slice(), input, &schedule, out)
 }

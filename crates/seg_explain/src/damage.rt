@@ -5,10 +5,12 @@ use crate::field::entry_flaw;
 use crate::image::Image;
 use crate::sources::type_bytes;
 use seg_layout::ENTRY;
-use seg_manager::MIN_LEN;
-use seg_ptr::{MAX_LEN, header};
+use seg_ptr::{MAX_LEN, MIN_LEN, header};
 use std::alloc::{AllocError, Global};
 use std::fmt::Write;
+
+/// Where the version stands.
+const VERSION: usize = 8;
 
 /// Adds what is wrong with an image's length or its header.
 pub(crate) fn add_bad_header(text: &mut String, image: Option<&[u8]>) -> Result<(), AllocError> {
@@ -30,35 +32,35 @@ pub(crate) fn add_bad_header(text: &mut String, image: Option<&[u8]>) -> Result<
 
 fn add_bad_word(text: &mut String, image: &[u8]) -> Result<(), AllocError> {
     let units = image.len() / 16;
-    let [version, size, allocator, index] = [
-        8,
-        header::SIZE,
-        header::ALLOCATOR,
-        header::INDEX_KIND,
-    ].map(|at| word(image, at));
-    if version != 1 {
-        write!(
-            text,
-            "the version at byte 8 is {version}, and should be 1\n"
-        )
-    } else if size as usize != units {
-        write!(
+    let size = word(image, header::SIZE);
+    if size as usize != units && word(image, VERSION) == 1 {
+        return write!(
             text,
             "the length in units at byte 12 is {size}, and should be {units}\n"
-        )
-    } else if allocator > 1 {
-        write!(
-            text,
-            "the allocator at byte 16 is {allocator}, and should be 0 (sequential fit) or 1 (best fit)\n"
-        )
-    } else if index > 1 {
-        write!(
-            text,
-            "the index at byte 20 is {index}, and should be 0 (flat) or 1 (a tree)\n"
-        )
-    } else {
-        text.push_str("bytes 28 to 31 and 40 to 63 should be 0\n")
+        );
     }
+    match wrong_number(image) {
+        Some((field, number, right)) => write!(
+            text,
+            "{field} is {number}, and should be {right}\n"
+        ),
+        None => text.push_str("bytes 28 to 31 and 40 to 63 should be 0\n"),
+    }
+}
+
+/// The first field of the header with a number that it may not have: its name, the number, and which it may have.
+fn wrong_number(image: &[u8]) -> Option<(&'static str, u32, &'static str)> {
+    let version = word(image, VERSION);
+    if version != 1 {
+        return Some(("the version at byte 8", version, "1"));
+    }
+    let allocator = word(image, header::ALLOCATOR);
+    if allocator > 1 {
+        let right = "0 (sequential fit) or 1 (best fit)";
+        return Some(("the allocator at byte 16", allocator, right));
+    }
+    let index = word(image, header::INDEX_KIND);
+    (index > 1).then_some(("the index at byte 20", index, "0 (flat) or 1 (a tree)"))
 }
 
 /// Adds what is wrong with an entry of an image's type table.
@@ -89,11 +91,10 @@ pub(crate) fn add_place(
     at: u32,
     image: Option<&[u8]>,
 ) -> Result<(), AllocError> {
-    if let Some(image) = image_of(alloc, image)? {
-        let location = image.location(at);
-        write!(text, "byte {at} lies {location}\n")?;
+    match image_of(alloc, image)? {
+        Some(image) => add_location(text, &image, at),
+        None => Ok(()),
     }
-    Ok(())
 }
 
 /// Adds where the pointer at a byte lies, and what it names.
@@ -106,15 +107,21 @@ pub(crate) fn add_pointer(
     let Some(image) = image_of(alloc, image)? else {
         return Ok(());
     };
-    let location = image.location(at);
-    write!(text, "byte {at} lies {location}\n")?;
-    match image.window().target(at as usize) {
+    add_location(text, &image, at)?;
+    match image.target(at) {
         None => text.push_str("the pointer there is null\n"),
-        Some(to) => {
-            let location = image.location(to);
-            write!(text, "the pointer there names byte {to}, {location}\n")
-        }
+        Some(to) => add_target(text, &image, to),
     }
+}
+
+fn add_location(text: &mut String, image: &Image, at: u32) -> Result<(), AllocError> {
+    let location = image.location(at);
+    write!(text, "byte {at} lies {location}\n")
+}
+
+fn add_target(text: &mut String, image: &Image, to: u32) -> Result<(), AllocError> {
+    let location = image.location(to);
+    write!(text, "the pointer there names byte {to}, {location}\n")
 }
 
 fn image_of(alloc: Global, image: Option<&[u8]>) -> Result<Option<Image>, AllocError> {

@@ -4,9 +4,8 @@ use crate::rejection::{add_bound, add_rejection};
 use crate::sources::Sources;
 use crate::text::add_bad_line;
 use crate::types::TypeWords;
-use seg_layout::{TypeId, TypeTable};
-use seg_manager::MIN_LEN;
-use seg_ptr::MAX_LEN;
+use seg_layout::{Type, TypeId, TypeTable};
+use seg_ptr::{MAX_LEN, MIN_LEN};
 use seg_raw::Fault;
 use std::alloc::{AllocError, Global};
 use std::fmt::Write;
@@ -49,18 +48,12 @@ fn add_places(
         | Fault::BadValue(at) => add_place(text, alloc, at, sources.image),
         Fault::BadFree(at) | Fault::BadPointer(at) => add_pointer(text, alloc, at, sources.image),
         Fault::BadCode(at) => add_bad_code(text, sources.file(client), at),
-        Fault::BadLine(number) => add_bad_line(text, alloc, sources.text, number),
+        Fault::BadLine(number) => add_bad_line(text, sources.text, number),
         Fault::Rejected {
             instruction,
             reason,
-        } => match sources.client(client) {
-            Some(client) => add_rejection(text, alloc, &client, instruction, reason),
-            None => Ok(()),
-        },
-        Fault::TooLong => match sources.client(client) {
-            Some(client) => add_bound(text, alloc, &client),
-            None => Ok(()),
-        },
+        } => add_rejection(text, alloc, sources.client(client), instruction, reason),
+        Fault::TooLong => add_bound(text, alloc, sources.client(client)),
     }
 }
 
@@ -86,7 +79,7 @@ fn add_kind(
     place: &str,
     types: &TypeTable,
 ) -> Result<(), AllocError> {
-    match TypeId::try_from(number).ok().and_then(|id| types.kind(id)) {
+    match kind_of(number, types) {
         Some(kind) => {
             let kind = TypeWords(kind);
             write!(text, "type {number} is {kind} {place}\n")
@@ -95,10 +88,13 @@ fn add_kind(
     }
 }
 
+fn kind_of(number: u32, types: &TypeTable) -> Option<Type> {
+    types.kind(TypeId::try_from(number).ok()?)
+}
+
 /// Adds what would be right, for a fault that has one rule.
 fn add_rule(text: &mut String, fault: Fault) -> Result<(), AllocError> {
     match fault {
-        Fault::Memory => text.push_str("the host refused memory that the command asked for\n"),
         Fault::Misplaced => write!(
             text,
             "a base is a multiple of 16, and the segment from there on ends within its room, \
@@ -108,48 +104,54 @@ with at most {MAX_LEN} bytes\n"
             text,
             "a segment has {MIN_LEN} to {MAX_LEN} bytes, a multiple of 16\n"
         ),
-        Fault::NoHostRoom => text.push_str("the region ends before the larger segment would\n"),
         Fault::BadMove(number) => write!(
             text,
             "move {number}, counted from 0, should come at a later step than the one before, 1 at least, \
 and its base be a multiple of 16 from which the segment ends within its room\n"
         ),
-        Fault::TypeMismatch(_) => {
-            text.push_str(
-                "types with the same number should be the same in a client and where it runs\n",
-            )
-        }
-        Fault::BadBlock(_) => text.push_str(
+        told => text.push_str(rule(told)),
+    }
+}
+
+/// The rule of a fault that has one without numbers, as a line.
+fn rule(fault: Fault) -> &'static str {
+    match fault {
+        Fault::Memory => "the host refused memory that the command asked for\n",
+        Fault::NoHostRoom => "the region ends before the larger segment would\n",
+        Fault::TypeMismatch(_) =>
+            "types with the same number should be the same in a client and where it runs\n",
+        Fault::BadBlock(_) => {
             "a header should have 2 units or more up to the heap's end, the units of the block before, \
-a tag and a null link; and no two free blocks are neighbours\n",
-        ),
-        Fault::BadFree(_) => text.push_str(
-            "the free blocks should be a list in ascending order (sequential fit), \
-or a red-black tree by their sizes (best fit)\n",
-        ),
-        Fault::BadIndex(_) => text.push_str(
-            "names should ascend, as many as byte 36 says, with 1 to 63 visible bytes and 1 to 65535 values each\n",
-        ),
-        Fault::BadPointer(_) => text.push_str(
-            "it should name the first payload byte of a live block of the right kind and type, with enough room\n",
-        ),
-        Fault::DoubleOwner(_) => text.push_str("one pointer should name the block, and two do\n"),
-        Fault::Unowned(_) => {
-            text.push_str(
-                "the index, a unique object's pointer or a value should name the block, and none does\n",
-            )
+a tag and a null link; and no two free blocks are neighbours\n"
         }
-        Fault::BadValue(_) => text.push_str(
+        Fault::BadFree(_) => {
+            "the free blocks should be a list in ascending order (sequential fit), \
+or a red-black tree by their sizes (best fit)\n"
+        }
+        Fault::BadIndex(_) => {
+            "names should ascend, as many as byte 36 says, with 1 to 63 visible bytes and 1 to 65535 values each\n"
+        }
+        Fault::BadPointer(_) => {
+            "it should name the first payload byte of a live block of the right kind and type, with enough room\n"
+        }
+        Fault::DoubleOwner(_) => "one pointer should name the block, and two do\n",
+        Fault::Unowned(_) => {
+            "the index, a unique object's pointer or a value should name the block, and none does\n"
+        }
+        Fault::BadValue(_) => {
             "a list should be a ring, a map a red-black tree with ascending keys, each with as many nodes as it says, \
-and a pointer null exactly where there are none\n",
-        ),
-        Fault::TooLong => text.push_str(
-            "a loop takes 1 step and its turns times the steps of its body and 1 more, so loops inside loops multiply\n",
-        ),
-        Fault::BadHeader
+and a pointer null exactly where there are none\n"
+        }
+        Fault::TooLong => {
+            "a loop takes 1 step and its turns times the steps of its body and 1 more, so loops inside loops multiply\n"
+        }
+        Fault::Misplaced
+        | Fault::BadSize
+        | Fault::BadMove(_)
+        | Fault::BadHeader
         | Fault::BadType(_)
         | Fault::BadCode(_)
         | Fault::BadLine(_)
-        | Fault::Rejected { .. } => Ok(()),
+        | Fault::Rejected { .. } => "",
     }
 }

@@ -1,9 +1,9 @@
 //! What is wrong with a field of a client file.
 
 use crate::bytes::word;
-use crate::flaw::{Flaw, Requirement, longest};
+use crate::flaw::{Flaw, is_name};
 use crate::outline::{MOST_CONSTANTS, Outline};
-use crate::text::is_name_byte;
+use crate::rule;
 use client_code::{ConstantKind, Instruction, MOST_INSTRUCTIONS, Operation};
 use seg_layout::{ENTRY, MAX_TYPES};
 use std::alloc::AllocError;
@@ -14,9 +14,9 @@ use std::fmt::Write;
 const TYPES_AT: usize = 20;
 
 /// A field of a client file. Entries are counted from 0.
-#[derive(Debug, Clone, Copy, PartialEq, Eq)]
+#[derive(Clone, Copy)]
 enum Field {
-    /// A word of the header, and what it should be.
+    /// A word of the header, and what is said of a wrong one.
     Header(&'static str, &'static str),
     Type(usize),
     Constant(usize),
@@ -26,18 +26,19 @@ enum Field {
 
 impl fmt::Display for Field {
     fn fmt<W: fmt::Write>(&self, f: &mut fmt::Formatter<W>) -> fmt::Result {
-        match self {
-            Field::Header(word, _) => write!(f, "{word}, in the header"),
-            Field::Type(number) => write!(f, "the entry of type {number}"),
-            Field::Constant(number) => write!(f, "constant {number}"),
-            Field::Instruction(number) => write!(f, "instruction {number}"),
-            Field::End => f.write_str("what follows the last instruction"),
-        }
+        let (what, number) = match *self {
+            Field::Header(word, _) => return write!(f, "{word}, in the header"),
+            Field::Type(number) => ("the entry of type", number),
+            Field::Constant(number) => ("constant", number),
+            Field::Instruction(number) => ("instruction", number),
+            Field::End => return f.write_str("what follows the last instruction"),
+        };
+        write!(f, "{what} {number}")
     }
 }
 
 /// A constant as a file spells it.
-#[derive(Debug, Clone, Copy, PartialEq, Eq)]
+#[derive(Clone, Copy)]
 struct Spelled<'a> {
     kind: u8,
     bytes: &'a [u8],
@@ -46,7 +47,7 @@ struct Spelled<'a> {
 }
 
 /// The bytes of a client file.
-#[derive(Debug, Clone, Copy)]
+#[derive(Clone, Copy)]
 struct File<'a> {
     bytes: &'a [u8],
 }
@@ -61,20 +62,12 @@ pub(crate) fn add_bad_code(
         return Ok(());
     };
     let file = File { bytes };
-    let place = at as usize;
-    let field = file.field(place);
-    write!(text, "byte {at} of the client file begins {field}\n")?;
-    match field {
-        Field::Header(_, wanted) => write!(text, "it should be {wanted}\n"),
-        Field::Type(_) => write_flaw(text, file.type_flaw(place)),
-        Field::Constant(_) => write_flaw(text, file.constant_flaw(place)),
-        Field::Instruction(number) => write_flaw(text, file.instruction_flaw(number, place)),
-        Field::End => write_flaw(text, file.end_flaw()),
-    }
-}
-
-fn write_flaw(text: &mut String, flaw: Flaw) -> Result<(), AllocError> {
-    write!(text, "{flaw}\n")
+    let field = file.field(at as usize);
+    let flaw = file.flaw(field, at as usize);
+    write!(
+        text,
+        "byte {at} of the client file begins {field}\n{flaw}\n"
+    )
 }
 
 impl<'a> File<'a> {
@@ -98,11 +91,11 @@ impl<'a> File<'a> {
     fn field(&self, at: usize) -> Field {
         let constants_at = self.constants_at();
         match at {
-            0..=3 => Field::Header("the first 4 bytes", "`SEGC`"),
-            4..=7 => Field::Header("the version", "1"),
-            8..=11 => Field::Header("the number of types", "0 to 32"),
-            12..=15 => Field::Header("the number of constants", "0 to 256"),
-            16..=19 => Field::Header("the number of instructions", "0 to 4096"),
+            0..=3 => Field::Header("the first 4 bytes", "it should be `SEGC`"),
+            4..=7 => Field::Header("the version", "it should be 1"),
+            8..=11 => Field::Header("the number of types", "it should be 0 to 32"),
+            12..=15 => Field::Header("the number of constants", "it should be 0 to 256"),
+            16..=19 => Field::Header("the number of instructions", "it should be 0 to 4096"),
             _ if at < constants_at => Field::Type((at - TYPES_AT) / ENTRY),
             _ => self.later_field(at),
         }
@@ -137,10 +130,21 @@ impl<'a> File<'a> {
         })
     }
 
+    /// What is wrong with a field, which begins at a position.
+    fn flaw(&self, field: Field, at: usize) -> Flaw<'static> {
+        match field {
+            Field::Header(_, wrong) => Flaw::Unmet(wrong),
+            Field::Type(_) => self.type_flaw(at),
+            Field::Constant(_) => self.constant_flaw(at),
+            Field::Instruction(number) => self.instruction_flaw(number, at),
+            Field::End => self.end_flaw(),
+        }
+    }
+
     /// What is wrong with a type entry.
     fn type_flaw(&self, at: usize) -> Flaw<'static> {
         match self.bytes.get(at..at.saturating_add(ENTRY)) {
-            None => Flaw::Unmet(Requirement::Whole),
+            None => Flaw::Unmet(rule::WHOLE),
             Some(entry) => entry_flaw(entry),
         }
     }
@@ -148,30 +152,35 @@ impl<'a> File<'a> {
     /// What is wrong with a constant.
     fn constant_flaw(&self, at: usize) -> Flaw<'static> {
         let Some(Spelled { kind, bytes, .. }) = self.constant(at) else {
-            return Flaw::Unmet(Requirement::Whole);
+            return Flaw::Unmet(rule::WHOLE);
         };
         match ConstantKind::from_number(kind) {
-            None => Flaw::UnknownConstant(kind),
-            Some(ConstantKind::Text) => Flaw::Unmet(Requirement::Any),
-            Some(kind) if !is_name(kind, bytes) => Flaw::Name(kind),
-            Some(_) => Flaw::Unmet(Requirement::Differ),
+            None => Flaw::Number(
+                "",
+                usize::from(kind),
+                " is no kind: 1 is a text, 2 an exact name, 3 a family",
+            ),
+            Some(ConstantKind::Text) => Flaw::Unmet(rule::ANY),
+            Some(kind) if !is_name(kind, bytes) => Flaw::name(kind),
+            Some(_) => Flaw::Unmet(rule::DIFFER),
         }
     }
 
     /// What is wrong with the instruction with a number, which begins at a position.
     fn instruction_flaw(&self, number: usize, at: usize) -> Flaw<'static> {
         let Some(spelled) = self.bytes.get(at..at.saturating_add(Instruction::SIZE)) else {
-            return Flaw::Unmet(Requirement::Whole);
+            return Flaw::Unmet(rule::WHOLE);
         };
-        match (Instruction::decode(spelled), spelled.first()) {
-            (Some(instruction), _) => {
+        match Instruction::decode(spelled) {
+            Some(instruction) => {
                 let mut outline = self.outline(number);
-                outline
-                    .flaw(instruction)
-                    .unwrap_or(Flaw::Unmet(Requirement::Any))
+                outline.flaw(instruction).unwrap_or(Flaw::Unmet(rule::ANY))
             }
-            (None, Some(operation)) => Flaw::UnknownOperation(*operation),
-            (None, None) => Flaw::Unmet(Requirement::Whole),
+            None => Flaw::Number(
+                "",
+                usize::from(spelled.first().copied().unwrap_or_default()),
+                " is no operation: they are 1 to 50",
+            ),
         }
     }
 
@@ -180,9 +189,9 @@ impl<'a> File<'a> {
             .outline(self.word(16).min(MOST_INSTRUCTIONS as usize))
             .is_closed()
         {
-            Flaw::Unmet(Requirement::Ends)
+            Flaw::Unmet(rule::ENDS)
         } else {
-            Flaw::Unmet(Requirement::Closed)
+            Flaw::Unmet(rule::CLOSED)
         }
     }
 
@@ -218,29 +227,23 @@ impl<'a> File<'a> {
     }
 }
 
-fn is_name(kind: ConstantKind, bytes: &[u8]) -> bool {
-    !bytes.is_empty()
-        && bytes.len() <= longest(kind)
-        && bytes.iter().all(|byte| is_name_byte(*byte))
-}
-
 /// What is wrong with an entry that is no type: its kind, its number of parts, or what it breaks of the rules for types.
 pub(crate) fn entry_flaw(entry: &[u8]) -> Flaw<'static> {
     let [kind, parts, rest @ ..] = entry else {
-        return Flaw::Unmet(Requirement::Whole);
+        return Flaw::Unmet(rule::WHOLE);
     };
     let right = match kind {
         1 | 2 => *parts == 0,
         3..=7 => *parts == 1,
         8 => matches!(parts, 1..=8),
-        _ => return Flaw::Unmet(Requirement::Kinds),
+        _ => return Flaw::Unmet(rule::KINDS),
     };
     if !right {
-        return Flaw::Unmet(Requirement::Parts);
+        return Flaw::Unmet(rule::PARTS);
     }
     let left = rest.get(usize::from(*parts)..).unwrap_or(&[]);
     if left.iter().any(|byte| *byte != 0) {
-        return Flaw::Unmet(Requirement::Zeros);
+        return Flaw::Unmet(rule::ZEROS);
     }
-    Flaw::Unmet(Requirement::Types)
+    Flaw::Unmet(rule::TYPES)
 }

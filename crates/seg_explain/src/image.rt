@@ -1,7 +1,7 @@
 //! Where a byte of an image lies, sound or not.
 
 use crate::location::{Area, Location, Owner};
-use crate::sources::type_bytes;
+use crate::sources::types_of;
 use seg_block::{Block, HEAP_START, Tag, UNIT, block_at, block_of, is_live, tag_word};
 use seg_index::{ENTRY, NameEntry, first_name, name_count, next_name, unique};
 use seg_layout::{MAX_TYPES, TypeId, TypeTable};
@@ -20,25 +20,21 @@ pub(crate) struct Image {
 impl Image {
     /// The image of these bytes, if they aren't too many.
     pub(crate) fn new(alloc: Global, bytes: &[u8]) -> Result<Option<Image>, AllocError> {
-        let len = match u32::try_from(bytes.len()) {
-            Ok(len) if len <= MAX_LEN => len,
-            Ok(_) | Err(_) => return Ok(None),
-        };
-        let types = match TypeTable::read(type_bytes(bytes)) {
-            Ok(types) => types,
-            Err(_) => TypeTable::new(),
-        };
-        let region = Region::from_vec(Vec::from_slice(alloc, bytes)?);
-        Ok(match Window::place(region, 0, len) {
-            Ok(window) => Some(Image {
-                heap: Heap::new(window, types),
-            }),
-            Err(_) => None,
-        })
+        match window_of(Vec::from_slice(alloc, bytes)?) {
+            Some(window) => Ok(Some(Image {
+                heap: Heap::new(window, types_of(bytes).unwrap_or(TypeTable::new())),
+            })),
+            None => Ok(None),
+        }
     }
 
-    pub(crate) fn window(&self) -> &Window<Global> {
+    fn window(&self) -> &Window<Global> {
         self.heap.window()
+    }
+
+    /// What the pointer at a byte names.
+    pub(crate) fn target(&self, at: u32) -> Option<u32> {
+        self.window().target(at as usize)
     }
 
     /// Where a byte lies.
@@ -49,10 +45,13 @@ impl Image {
         if at < HEAP_START {
             return Location::of_front(at);
         }
-        self.in_named(at)
-            .or_else(|| self.in_unique(at))
-            .or_else(|| self.in_block(at))
-            .unwrap_or(Location::Heap)
+        if let Some(found) = self.in_named(at) {
+            return found;
+        }
+        if let Some(found) = self.in_unique(at) {
+            return found;
+        }
+        self.in_block(at).unwrap_or(Location::Heap)
     }
 
     /// The same, where it is in the block of a named object. It looks at names as long as they ascend.
@@ -62,7 +61,7 @@ impl Image {
         for _ in 0..name_count(w).min(w.len() / ENTRY) {
             let name = entry.name(w, self.heap.types());
             if let Some(area) = self.area_of(entry, at) {
-                return Some(Location::Object(Owner::Name(name), area));
+                return Some(Location::Block(Owner::Name(name), area));
             }
             entry = next_name(&self.heap, name)?;
             if entry.name(w, self.heap.types()) <= name {
@@ -90,8 +89,11 @@ impl Image {
         for type_id in 0..MAX_TYPES as TypeId {
             if let Some(object) = unique(self.window(), type_id) {
                 if let Some(from) = self.offset(object, at) {
-                    let area = from.checked_sub(UNIT).map_or(Area::Header, Area::Values);
-                    return Some(Location::Object(Owner::Unique(type_id), area));
+                    let area = match from.checked_sub(UNIT) {
+                        None => Area::Header,
+                        Some(from) => Area::Values(from),
+                    };
+                    return Some(Location::Block(Owner::Unique(type_id), area));
                 }
             }
         }
@@ -107,14 +109,26 @@ impl Image {
 
     /// The same, where it is in a block that the headers before it lead to.
     fn in_block(&self, at: u32) -> Option<Location<'_>> {
-        let w = self.window();
         let block = self.block_around(at)?;
-        let tag = is_live(w, block.at)
-            .then(|| Tag::read(tag_word(w, block.at)))
-            .flatten();
-        let from = at.saturating_sub(block.at);
-        let area = from.checked_sub(UNIT).map_or(Area::Header, Area::Payload);
-        Some(Location::Block(block.at, tag, area))
+        let area = match at.saturating_sub(block.at).checked_sub(UNIT) {
+            None => Area::Header,
+            Some(from) => Area::Payload(from),
+        };
+        let owner = match self.tag(block.at) {
+            Some(tag) => Owner::Live(block.at, tag),
+            None => Owner::Free(block.at),
+        };
+        Some(Location::Block(owner, area))
+    }
+
+    /// The tag of the block at a position, if it is live.
+    fn tag(&self, block: u32) -> Option<Tag> {
+        let w = self.window();
+        if is_live(w, block) {
+            Tag::read(tag_word(w, block))
+        } else {
+            None
+        }
     }
 
     fn block_around(&self, at: u32) -> Option<Block> {
@@ -128,5 +142,13 @@ impl Image {
             }
         }
         None
+    }
+}
+
+/// A window over the bytes of an image, if they aren't too many.
+fn window_of(bytes: Vec<u8>) -> Option<Window<Global>> {
+    match u32::try_from(bytes.len()) {
+        Ok(len) if len <= MAX_LEN => Window::place(Region::from_vec(bytes), 0, len).ok(),
+        Ok(_) | Err(_) => None,
     }
 }

@@ -5,33 +5,35 @@ use seg_ptr::header;
 use std::fmt;
 
 /// Where a byte of an image lies.
-#[derive(Debug, Clone, Copy, PartialEq, Eq)]
+#[derive(Clone, Copy)]
 pub(crate) enum Location<'a> {
     /// In a field of the first 64 bytes.
     Header(&'static str),
-    /// In an entry of the type table.
+    /// In the entry of the type table with a number.
     TypeEntry(u32),
     /// In the pointer to the unique object of a type.
     Unique(u32),
-    Object(Owner<'a>, Area),
-    /// In a block of no object that was found, at this position, with this tag if it is live.
-    Block(u32, Option<Tag>, Area),
+    Block(Owner<'a>, Area),
     /// In no block that the headers before it lead to.
     Heap,
     /// After the image's end.
     Outside,
 }
 
-/// The object that a block holds.
-#[derive(Debug, Clone, Copy, PartialEq, Eq)]
+/// What a block is, or the object that it holds.
+#[derive(Clone, Copy)]
 pub(crate) enum Owner<'a> {
     Name(&'a [u8]),
     /// The unique object of a type.
     Unique(TypeId),
+    /// No object that was found. The block's position, and its tag.
+    Live(u32, Tag),
+    /// None, since the block is free. Its position.
+    Free(u32),
 }
 
 /// The part of a block that a byte is of.
-#[derive(Debug, Clone, Copy, PartialEq, Eq)]
+#[derive(Clone, Copy)]
 pub(crate) enum Area {
     Header,
     /// So many bytes after the start of its values.
@@ -68,61 +70,64 @@ impl Location<'_> {
 
 impl fmt::Display for Location<'_> {
     fn fmt<W: fmt::Write>(&self, f: &mut fmt::Formatter<W>) -> fmt::Result {
-        match self {
-            Location::Header(field) => write!(f, "in {field}, in the header"),
-            Location::TypeEntry(number) => write!(f, "in the entry of type {number}"),
-            Location::Unique(number) => {
-                write!(f, "in the pointer to the unique object of type {number}")
-            }
-            Location::Object(owner, area) => write!(f, "in {owner}, {area}"),
-            Location::Block(at, Some(tag), area) => {
-                let content = Content(*tag);
-                write!(f, "in the block at {at}, {content}, {area}")
-            }
-            Location::Block(at, None, area) => write!(f, "in the free block at {at}, {area}"),
-            Location::Heap => f.write_str("in the heap, in no block that the headers lead to"),
-            Location::Outside => f.write_str("after the image's end"),
-        }
+        let (what, number) = match *self {
+            Location::Header(field) => return write!(f, "in {field}, in the header"),
+            Location::TypeEntry(number) => ("the entry of type", number),
+            Location::Unique(number) => ("the pointer to the unique object of type", number),
+            Location::Block(owner, area) => return write!(f, "in {owner}, {area}"),
+            Location::Heap => return f.write_str(
+                "in the heap, in no block that the headers lead to",
+            ),
+            Location::Outside => return f.write_str("after the image's end"),
+        };
+        write!(f, "in {what} {number}")
     }
 }
 
 /// What a live block holds.
-#[derive(Debug, Clone, Copy, PartialEq, Eq)]
+#[derive(Clone, Copy)]
 struct Content(Tag);
 
 impl fmt::Display for Content {
     fn fmt<W: fmt::Write>(&self, f: &mut fmt::Formatter<W>) -> fmt::Result {
         let Tag { kind, type_id } = self.0;
-        match kind {
-            Kind::Named => write!(f, "a named object of type {type_id}"),
-            Kind::Object => write!(f, "an object without a name, of type {type_id}"),
-            Kind::Buffer => write!(f, "a buffer of type {type_id}"),
-            Kind::Node => write!(f, "a node of type {type_id}"),
-            Kind::IndexBuffer => f.write_str("the index's buffer"),
-            Kind::IndexNode => f.write_str("a node of the index"),
-        }
+        let what = match kind {
+            Kind::Named => "a named object",
+            Kind::Object => "an object without a name,",
+            Kind::Buffer => "a buffer",
+            Kind::Node => "a node",
+            Kind::IndexBuffer => return f.write_str("the index's buffer"),
+            Kind::IndexNode => return f.write_str("a node of the index"),
+        };
+        write!(f, "{what} of type {type_id}")
     }
 }
 
 impl fmt::Display for Owner<'_> {
     fn fmt<W: fmt::Write>(&self, f: &mut fmt::Formatter<W>) -> fmt::Result {
-        match self {
+        match *self {
             Owner::Name(name) => {
                 let name = Quoted(name);
                 write!(f, "the object {name}")
             }
             Owner::Unique(type_id) => write!(f, "the unique object of type {type_id}"),
+            Owner::Live(at, tag) => {
+                let content = Content(tag);
+                write!(f, "the block at {at}, {content}")
+            }
+            Owner::Free(at) => write!(f, "the free block at {at}"),
         }
     }
 }
 
 impl fmt::Display for Area {
     fn fmt<W: fmt::Write>(&self, f: &mut fmt::Formatter<W>) -> fmt::Result {
-        match self {
-            Area::Header => f.write_str("in the block's header"),
-            Area::Values(from) => write!(f, "at byte {from} of its values"),
-            Area::Name => f.write_str("after its values, where its name stands"),
-            Area::Payload(from) => write!(f, "at byte {from} of its payload"),
-        }
+        let (from, part) = match *self {
+            Area::Header => return f.write_str("in the block's header"),
+            Area::Values(from) => (from, "values"),
+            Area::Name => return f.write_str("after its values, where its name stands"),
+            Area::Payload(from) => (from, "payload"),
+        };
+        write!(f, "at byte {from} of its {part}")
     }
 }

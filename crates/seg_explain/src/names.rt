@@ -6,7 +6,7 @@ use seg_layout::{TypeId, TypeTable};
 use std::fmt;
 
 /// What the types and the constants of a client are.
-#[derive(Debug, Clone, Copy)]
+#[derive(Clone, Copy)]
 pub(crate) struct Names<'a> {
     client: Client<'a>,
 }
@@ -60,66 +60,85 @@ impl<'a> Names<'a> {
             .copied()
             .unwrap_or_default();
         match kind {
-            ConstantKind::Family => Whole::Family(bytes),
-            ConstantKind::Name | ConstantKind::Text => Whole::Name(bytes),
+            ConstantKind::Family => Whole::Named("family", bytes),
+            ConstantKind::Name | ConstantKind::Text => Whole::Named("name", bytes),
         }
     }
 }
 
-#[derive(Debug, Clone, Copy, PartialEq, Eq)]
+#[derive(Clone, Copy)]
 enum Tense {
     Present,
     Past,
 }
 
 /// What is known of a register, or was.
-#[derive(Debug, Clone, Copy)]
+#[derive(Clone, Copy)]
 pub(crate) struct Known<'a> {
     names: Names<'a>,
     holds: RegisterType,
     tense: Tense,
 }
 
-impl fmt::Display for Known<'_> {
-    fn fmt<W: fmt::Write>(&self, f: &mut fmt::Formatter<W>) -> fmt::Result {
-        let (hold, lead, own) = match self.tense {
-            Tense::Present => ("holds", "leads", "owns"),
-            Tense::Past => ("held", "led", "owned"),
-        };
-        match self.holds {
-            RegisterType::Undefined => write!(f, "{hold} nothing that may be used"),
-            RegisterType::Int => write!(f, "{hold} a number"),
-            RegisterType::Reference(class, to) => {
-                let (to, whole) = (self.names.type_of(to), self.names.whole(class));
-                write!(f, "{lead} to a value of {to}, of {whole}")
-            }
-            RegisterType::Owner(of) => {
-                let of = self.names.type_of(of);
-                write!(f, "{own} an object of {of}")
-            }
+impl Known<'_> {
+    fn verbs(&self) -> Verbs {
+        match self.tense {
+            Tense::Present => Verbs {
+                hold: "holds",
+                lead: "leads",
+                own: "owns",
+            },
+            Tense::Past => Verbs {
+                hold: "held",
+                lead: "led",
+                own: "owned",
+            },
         }
     }
 }
 
+/// What a register does with a value of any kind, with a reference and with an owner.
+#[derive(Clone, Copy)]
+struct Verbs {
+    hold: &'static str,
+    lead: &'static str,
+    own: &'static str,
+}
+
+impl fmt::Display for Known<'_> {
+    fn fmt<W: fmt::Write>(&self, f: &mut fmt::Formatter<W>) -> fmt::Result {
+        let Verbs { hold, lead, own } = self.verbs();
+        let what = match self.holds {
+            RegisterType::Undefined => "nothing that may be used",
+            RegisterType::Int => "a number",
+            RegisterType::Reference(class, to) => {
+                let (to, whole) = (self.names.type_of(to), self.names.whole(class));
+                return write!(f, "{lead} to a value of {to}, of {whole}");
+            }
+            RegisterType::Owner(of) => {
+                let of = self.names.type_of(of);
+                return write!(f, "{own} an object of {of}");
+            }
+        };
+        write!(f, "{hold} {what}")
+    }
+}
+
 /// What a reference leads into.
-#[derive(Debug, Clone, Copy, PartialEq, Eq)]
+#[derive(Clone, Copy)]
 enum Whole<'a> {
-    Name(&'a [u8]),
-    Family(&'a [u8]),
+    /// The objects of an exact name or of a family, as the word says.
+    Named(&'static str, &'a [u8]),
     Unique(NumberedType),
     Register(u8),
 }
 
 impl fmt::Display for Whole<'_> {
     fn fmt<W: fmt::Write>(&self, f: &mut fmt::Formatter<W>) -> fmt::Result {
-        match self {
-            Whole::Name(name) => {
+        match *self {
+            Whole::Named(kind, name) => {
                 let name = Quoted(name);
-                write!(f, "the objects of name {name}")
-            }
-            Whole::Family(front) => {
-                let front = Quoted(front);
-                write!(f, "the objects of family {front}")
+                write!(f, "the objects of {kind} {name}")
             }
             Whole::Unique(of) => write!(f, "the unique object of {of}"),
             Whole::Register(register) => write!(f, "the object that r{register} owns"),

@@ -1,4 +1,5 @@
-use crate::flaw::{Flaw, Misnamed, Requirement};
+use crate::flaw::Flaw;
+use crate::rule;
 use arrayvec::ArrayVec;
 use client_code::{ConstantKind, Instruction, Nesting, Number, Operand, REGISTERS, Role};
 
@@ -9,7 +10,7 @@ pub(crate) const MOST_CONSTANTS: usize = 256;
 const TURNS: i32 = 1_000_000_000;
 
 /// What stands in front of an instruction of a client, and how many types the whole client has.
-#[derive(Debug, Drop)]
+#[derive(Drop)]
 pub(crate) struct Outline {
     pub(crate) types: usize,
     /// The kinds of the constants.
@@ -55,7 +56,7 @@ impl Outline {
         if let Some(flaw) = self.number_flaw(row.number, instruction) {
             return Some(flaw);
         }
-        (!self.pass(row.role)).then_some(Flaw::Unmet(Requirement::of_place(row.role)))
+        (!self.pass(row.role)).then_some(Flaw::Unmet(rule::of_place(row.role)))
     }
 
     fn number_flaw(&self, number: Number, instruction: Instruction) -> Option<Flaw<'static>> {
@@ -63,45 +64,43 @@ impl Outline {
         let n = signed.unsigned_abs() as usize;
         match number {
             Number::Any => None,
-            Number::Unused => (signed != 0).then_some(Flaw::Unmet(Requirement::NoNumber)),
-            Number::Turns => (!(1..=TURNS).contains(&signed)).then_some(Flaw::Unmet(
-                Requirement::Turns,
-            )),
-            Number::TypeId => (signed < 0 || n >= self.types).then_some(Flaw::NoType(n)),
+            Number::Unused => (signed != 0).then_some(Flaw::Unmet(rule::NO_NUMBER)),
+            Number::Turns => (signed < 1 || signed > TURNS).then_some(Flaw::Unmet(rule::TURNS)),
+            Number::TypeId => (signed < 0 || n >= self.types).then_some(Flaw::no_type(n)),
             Number::Text => self.text_flaw(n),
             Number::TypedName if signed < 0 || n / 256 >= self.types => {
-                Some(Flaw::NoType(n / 256))
+                Some(Flaw::no_type(n / 256))
             }
             Number::TypedName => self.name_flaw(n % 256, instruction.b),
         }
     }
 
     fn text_flaw(&self, n: usize) -> Option<Flaw<'static>> {
-        match self.constants.get(n) {
-            None => Some(Flaw::Constant(n, Misnamed::Absent)),
-            Some(ConstantKind::Text) => None,
-            Some(ConstantKind::Name | ConstantKind::Family) => Some(Flaw::Constant(
-                n,
-                Misnamed::IsName,
-            )),
-        }
+        let wrong = match self.constants.get(n) {
+            None => ABSENT,
+            Some(ConstantKind::Text) => return None,
+            Some(ConstantKind::Name | ConstantKind::Family) => " is a name, and should be a text",
+        };
+        Some(Flaw::constant(n, wrong))
     }
 
     fn name_flaw(&self, n: usize, b: u8) -> Option<Flaw<'static>> {
-        match self.constants.get(n) {
-            None => Some(Flaw::Constant(n, Misnamed::Absent)),
-            Some(ConstantKind::Text) => Some(Flaw::Constant(n, Misnamed::IsText)),
-            Some(ConstantKind::Name) => (b < REGISTERS).then_some(Flaw::Constant(
-                n,
-                Misnamed::IsExact,
-            )),
-            Some(ConstantKind::Family) => (b >= REGISTERS).then_some(Flaw::Constant(
-                n,
-                Misnamed::IsFamily,
-            )),
-        }
+        let has_number = b < REGISTERS;
+        let wrong = match self.constants.get(n) {
+            None => ABSENT,
+            Some(ConstantKind::Text) => " is a text, and should be a name",
+            Some(ConstantKind::Name) if has_number =>
+                " is an exact name, so operand b should be none",
+            Some(ConstantKind::Family) if !has_number =>
+                " is a family, so operand b should be a register",
+            Some(ConstantKind::Name | ConstantKind::Family) => return None,
+        };
+        Some(Flaw::constant(n, wrong))
     }
 }
+
+/// Of a constant that an instruction names, where there is none.
+const ABSENT: &str = " isn't there";
 
 fn is_operand(operand: Operand, n: u8) -> bool {
     match operand {
@@ -111,11 +110,11 @@ fn is_operand(operand: Operand, n: u8) -> bool {
     }
 }
 
-/// What an operand should be.
+/// What is wrong with an operand that isn't of a kind.
 pub(crate) fn operand_words(operand: Operand) -> &'static str {
     match operand {
-        Operand::Unused => "0, since the operation doesn't have it",
-        Operand::Register => "a register, r0 to r15",
-        Operand::Optional => "a register, r0 to r15, or none",
+        Operand::Unused => "should be 0, since the operation doesn't have it",
+        Operand::Register => "should be a register, r0 to r15",
+        Operand::Optional => "should be a register, r0 to r15, or none",
     }
 }

@@ -4,7 +4,7 @@ use std::fmt;
 const MOST: usize = 100;
 
 /// Bytes between backquotes, those that aren't visible as in Rust, and of long ones the first.
-#[derive(Debug, Clone, Copy, PartialEq, Eq)]
+#[derive(Clone, Copy)]
 pub(crate) struct Quoted<'a>(pub(crate) &'a [u8]);
 
 impl fmt::Display for Quoted<'_> {

@@ -8,11 +8,9 @@ use std::fmt;
 /// The registers b and c of an instruction, each once.
 pub(crate) fn used(instruction: Instruction) -> [Option<u8>; 2] {
     let row = instruction.operation.row();
-    let (b, c) = (instruction.b, instruction.c);
-    [
-        register(row.b, b),
-        register(row.c, c).filter(|c| row.b == Operand::Unused || *c != b),
-    ]
+    let b = register(row.b, instruction.b);
+    let c = register(row.c, instruction.c);
+    [b, if c == b { None } else { c }]
 }
 
 fn register(operand: Operand, n: u8) -> Option<u8> {
@@ -23,7 +21,7 @@ fn register(operand: Operand, n: u8) -> Option<u8> {
 }
 
 /// What a register should be for an instruction.
-#[derive(Debug, Clone, Copy, PartialEq, Eq)]
+#[derive(Clone, Copy)]
 pub(crate) struct Demand {
     pub(crate) register: u8,
     need: Need,
@@ -96,29 +94,27 @@ fn is_first_met(
 
 impl fmt::Display for Demand {
     fn fmt<W: fmt::Write>(&self, f: &mut fmt::Formatter<W>) -> fmt::Result {
-        match self.need {
-            Need::Nothing => f.write_str("hold anything"),
-            Need::Int | Need::IntOrNone => f.write_str("hold a number"),
-            Need::Copyable => {
-                f.write_str("hold a number or lead to a value, since an owner isn't copied")
+        let words = match (self.need, self.content) {
+            (Need::Nothing, _) => "hold anything",
+            (Need::Int | Need::IntOrNone, _) => "hold a number",
+            (Need::Copyable, _) => {
+                "hold a number or lead to a value, since an owner isn't copied"
             }
-            Need::Owner => f.write_str("own an object"),
-            Need::Content => match self.content {
-                Some(content) => write!(f, "own an object of {content}"),
-                None => f.write_str("own an object"),
-            },
-            Need::Reference(Kinds::Struct) => {
+            (Need::Owner, _) | (Need::Content, None) => "own an object",
+            (Need::Content, Some(content)) => return write!(f, "own an object of {content}"),
+            (Need::Reference(Kinds::Struct), _) => {
                 let field = self.field;
-                write!(
+                return write!(
                     f,
                     "lead to a struct that has a field {field}, counted from 0"
-                )
+                );
             }
-            Need::Reference(kinds) => {
+            (Need::Reference(kinds), _) => {
                 let kinds = kinds_words(kinds);
-                write!(f, "lead to {kinds}")
+                return write!(f, "lead to {kinds}");
             }
-        }
+        };
+        f.write_str(words)
     }
 }
 

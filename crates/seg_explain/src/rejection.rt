@@ -25,24 +25,17 @@ struct Refusal<'a> {
 pub(crate) fn add_rejection(
     text: &mut String,
     alloc: Global,
-    client: &Client,
+    client: Option<Client>,
     number: u32,
     reason: u8,
 ) -> Result<(), AllocError> {
-    let constants = u32::try_from(client.constants().len()).unwrap_or(u32::MAX);
-    let refusal = Refusal {
-        replay: Replay::until(alloc, client, number)?,
-        names: Names::of(*client),
-        printed: print(alloc, client).map_err(|_| AllocError)?,
-        front: client.type_count().saturating_add(constants),
+    let Some(client) = client else {
+        return Ok(());
     };
+    let refusal = Refusal::of(alloc, client, number)?;
     refusal.add_head(text, number)?;
-    match client.instruction(number) {
-        Some(instruction) if instruction.operation.row().role == Role::End => {
-            refusal.add_end(text)?;
-        }
-        Some(instruction) => refusal.add_instruction(text, instruction, reason)?,
-        None => {}
+    if let Some(instruction) = client.instruction(number) {
+        refusal.add_registers(text, instruction, reason)?;
     }
     text.push_str(rule(reason))
 }
@@ -51,19 +44,35 @@ pub(crate) fn add_rejection(
 pub(crate) fn add_bound(
     text: &mut String,
     alloc: Global,
-    client: &Client,
+    client: Option<Client>,
 ) -> Result<(), AllocError> {
-    let steps = Replay::until(alloc, client, client.instruction_count())?.steps();
-    if steps == u64::MAX {
-        return write!(
+    let Some(client) = client else {
+        return Ok(());
+    };
+    let replay = Replay::until(alloc, &client, client.instruction_count())?;
+    match replay.steps() {
+        u64::MAX => write!(
             text,
             "the client could take more steps than 64 bits count, and the most is {MOST_STEPS}\n"
-        );
+        ),
+        steps => write!(
+            text,
+            "the client could take {steps} steps, and the most is {MOST_STEPS}\n"
+        ),
     }
-    write!(
-        text,
-        "the client could take {steps} steps, and the most is {MOST_STEPS}\n"
-    )
+}
+
+fn printed(alloc: Global, client: &Client) -> Result<Vec<u8>, AllocError> {
+    match print(alloc, client) {
+        Ok(text) => Ok(text),
+        Err(_) => Err(AllocError),
+    }
+}
+
+/// How many lines of a client's text stand before its code.
+fn lines_before(client: &Client) -> u32 {
+    let constants = u32::try_from(client.constants().len()).unwrap_or(u32::MAX);
+    client.type_count().saturating_add(constants)
 }
 
 /// The rule that a reason stands for.
@@ -79,7 +88,16 @@ fn rule(reason: u8) -> &'static str {
     }
 }
 
-impl Refusal<'_> {
+impl<'a> Refusal<'a> {
+    fn of(alloc: Global, client: Client<'a>, number: u32) -> Result<Refusal<'a>, AllocError> {
+        Ok(Refusal {
+            replay: Replay::until(alloc, &client, number)?,
+            names: Names::of(client),
+            printed: printed(alloc, &client)?,
+            front: lines_before(&client),
+        })
+    }
+
     /// The line of the printed text that an instruction stands in.
     fn line_of(&self, number: u32) -> u32 {
         self.front.saturating_add(number).saturating_add(1)
@@ -101,7 +119,22 @@ impl Refusal<'_> {
         self.replay.registers()
     }
 
-    fn add_instruction(
+    /// Adds what the registers hold that the instruction is refused for.
+    fn add_registers(
+        &self,
+        text: &mut String,
+        instruction: Instruction,
+        reason: u8,
+    ) -> Result<(), AllocError> {
+        match instruction.operation.row().role {
+            Role::End => self.add_end(text),
+            Role::Plain | Role::Opener | Role::Loop | Role::Else => {
+                self.add_operands(text, instruction, reason)
+            }
+        }
+    }
+
+    fn add_operands(
         &self,
         text: &mut String,
         instruction: Instruction,
@@ -194,11 +227,19 @@ impl Refusal<'_> {
             text,
             "r{register} {past} in front of the loop, and {present} at its end"
         )?;
-        if let Some(Change { held: _, by }) = self.replay.change(register) {
-            let (at, shown) = (self.line_of(by), self.shown(by));
-            write!(text, ", since {shown} in line {at}")?;
-        }
+        self.add_since(text, register)?;
         text.push('\n')
+    }
+
+    /// Adds the instruction that changed a register last.
+    fn add_since(&self, text: &mut String, register: u8) -> Result<(), AllocError> {
+        match self.replay.change(register) {
+            Some(Change { held: _, by }) => {
+                let (at, shown) = (self.line_of(by), self.shown(by));
+                write!(text, ", since {shown} in line {at}")
+            }
+            None => Ok(()),
+        }
     }
 
     /// Adds a register that owns an object at the end of one part of two.

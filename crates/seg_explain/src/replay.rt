@@ -3,14 +3,14 @@ use client_verify::{RegisterType, Registers, Verifier};
 use std::alloc::{AllocError, Global};
 
 /// What a register held before it changed last, and the number of the instruction that changed it.
-#[derive(Debug, Clone, Copy, PartialEq, Eq)]
+#[derive(Clone, Copy)]
 pub(crate) struct Change {
     pub(crate) held: RegisterType,
     pub(crate) by: u32,
 }
 
 /// A part of the code that is open, and what its end is compared with.
-#[derive(Debug, Clone, Copy)]
+#[derive(Clone, Copy)]
 pub(crate) enum Part {
     Success,
     /// What was known at the end of the success part.
@@ -40,13 +40,10 @@ impl Replay {
             parts: Vec::new(alloc),
         };
         for number in 0..end {
-            let Some(instruction) = client.instruction(number) else {
+            let Some(role) = passed(&mut verifier, client, number) else {
                 break;
             };
-            if verifier.pass(instruction).is_err() {
-                break;
-            }
-            replay.nest(instruction.operation.row().role)?;
+            replay.nest(role)?;
             replay.know(number, verifier.registers());
         }
         replay.steps = verifier.steps();
@@ -100,4 +97,11 @@ impl Replay {
         }
         self.registers = *after;
     }
+}
+
+/// Lets the verifier go past the instruction with a number, and returns its role, if it isn't refused.
+fn passed(verifier: &mut Verifier, client: &Client, number: u32) -> Option<Role> {
+    let instruction = client.instruction(number)?;
+    verifier.pass(instruction).ok()?;
+    Some(instruction.operation.row().role)
 }

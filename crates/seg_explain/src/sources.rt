@@ -3,7 +3,7 @@ use seg_layout::{ENTRY, MAX_TYPES, TypeTable};
 use seg_ptr::header;
 
 /// What a refused command worked on, where it was read.
-#[derive(Debug, Clone, Copy)]
+#[derive(Clone, Copy)]
 pub struct Sources<'a> {
     /// The image's bytes.
     pub image: Option<&'a [u8]>,
@@ -28,17 +28,30 @@ impl<'a> Sources<'a> {
 
     /// The client with the fault, where its file has none.
     pub(crate) fn client(&self, client: Option<usize>) -> Option<Client<'a>> {
-        parse(self.file(client)?).ok()
+        client_of(self.file(client)?)
     }
 
     /// The types that a client finds: the image's, and those of the clients before it.
     pub(crate) fn types_before(&self, client: Option<usize>) -> Option<TypeTable> {
-        let mut types = TypeTable::read(type_bytes(self.image?)).ok()?;
+        let mut types = types_of(self.image?)?;
         for file in self.clients.iter().take(client.unwrap_or(0)) {
-            if let Ok(client) = parse(file) {
-                types = types.extends(&client.types()).ok()?;
+            if let Some(client) = client_of(file) {
+                types = with_types_of(types, &client)?;
             }
         }
         Some(types)
     }
+}
+
+fn client_of(file: &[u8]) -> Option<Client<'_>> {
+    parse(file).ok()
+}
+
+/// The types of an image, if they are a table.
+pub(crate) fn types_of(image: &[u8]) -> Option<TypeTable> {
+    TypeTable::read(type_bytes(image)).ok()
+}
+
+fn with_types_of(types: TypeTable, client: &Client) -> Option<TypeTable> {
+    types.extends(&client.types()).ok()
 }

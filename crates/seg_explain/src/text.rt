@@ -1,62 +1,62 @@
 //! What is wrong with a line of a client's text.
 
-use crate::flaw::{Flaw, Requirement, longest};
+use crate::flaw::{Flaw, is_name};
 use crate::outline::{MOST_CONSTANTS, Outline, operand_words};
+use crate::pieces::Pieces;
 use crate::quoted::Quoted;
+use crate::rule;
 use client_code::{ConstantKind, Instruction, MOST_INSTRUCTIONS, Number, Operand, Operation};
 use seg_layout::MAX_TYPES;
-use std::alloc::{AllocError, Global};
+use std::alloc::AllocError;
 use std::fmt::Write;
-use std::slice::Iter;
 use std::str;
 
 /// The line with a number, counted from 1, without its end.
 pub(crate) fn line(text: &[u8], number: u32) -> Option<&[u8]> {
-    let index = (number as usize).checked_sub(1)?;
-    text.split(|byte| *byte == b'\n').nth(index)
+    let mut lines = Pieces::lines(text);
+    for _ in 0..number.checked_sub(1)? {
+        lines.next()?;
+    }
+    lines.next()
 }
 
 /// Adds the line with a number, counted from 1, and what is wrong with it.
 pub(crate) fn add_bad_line(
     text: &mut String,
-    alloc: Global,
     source: Option<&[u8]>,
     number: u32,
 ) -> Result<(), AllocError> {
     let Some(source) = source else {
         return Ok(());
     };
-    let shown = line(source, number).filter(|line| is_meant(line));
-    let Some(shown) = shown else {
-        let flaw = Requirement::Closed.words();
-        return write!(text, "line {number}, after the last: {flaw}\n");
-    };
-    let mut outline = outline(source, number);
-    let flaw = line_flaw(alloc, source, number, shown, &mut outline)?;
-    let shown = Quoted(shown);
-    write!(text, "line {number}: {shown}\n{flaw}\n")
+    match meant_line(source, number) {
+        Some(shown) => {
+            let flaw = line_flaw(source, number, shown);
+            let shown = Quoted(shown);
+            write!(text, "line {number}: {shown}\n{flaw}\n")
+        }
+        None => {
+            let flaw = rule::CLOSED;
+            write!(text, "line {number}, after the last: {flaw}\n")
+        }
+    }
 }
 
-/// The words of a line.
-fn words(alloc: Global, line: &[u8]) -> Result<Vec<&[u8]>, AllocError> {
-    line.split(|byte| *byte == b' ')
-        .filter(|word| !word.is_empty())
-        .collect(alloc)
+/// The line with a number, if it says something.
+fn meant_line(source: &[u8], number: u32) -> Option<&[u8]> {
+    match line(source, number)? {
+        [b';', ..] => None,
+        shown if first_word(shown).is_empty() => None,
+        shown => Some(shown),
+    }
 }
 
 fn first_word(line: &[u8]) -> &[u8] {
-    line.split(|byte| *byte == b' ')
-        .find(|word| !word.is_empty())
-        .unwrap_or(&[])
-}
-
-/// Whether a line says something.
-fn is_meant(line: &[u8]) -> bool {
-    line.first() != Some(&b';') && !first_word(line).is_empty()
+    Pieces::words(line).next_word().unwrap_or(&[])
 }
 
 /// What a line is, by its first word.
-#[derive(Debug, Clone, Copy, PartialEq, Eq)]
+#[derive(Clone, Copy)]
 enum Statement {
     Type,
     Constant(ConstantKind),
@@ -66,105 +66,160 @@ enum Statement {
 
 impl Statement {
     fn of(line: &[u8]) -> Statement {
-        let word = first_word(line);
         if line.starts_with(b"text ") {
-            Statement::Constant(ConstantKind::Text)
-        } else if word == b"type".as_slice() {
-            Statement::Type
-        } else if word == b"name".as_slice() {
-            Statement::Constant(ConstantKind::Name)
-        } else if word == b"family".as_slice() {
-            Statement::Constant(ConstantKind::Family)
-        } else {
-            Operation::from_word(word).map_or(Statement::Unknown, Statement::Instruction)
+            return Statement::Constant(ConstantKind::Text);
+        }
+        match first_word(line) {
+            b"type" => Statement::Type,
+            b"name" => Statement::Constant(ConstantKind::Name),
+            b"family" => Statement::Constant(ConstantKind::Family),
+            word => match Operation::from_word(word) {
+                Some(operation) => Statement::Instruction(operation),
+                None => Statement::Unknown,
+            },
         }
     }
 }
 
-/// What stands in front of the line with a number.
+/// What stands in front of the line with a number, and the types of the whole text.
 fn outline(source: &[u8], number: u32) -> Outline {
-    let mut outline = Outline::new(0);
-    for (index, line) in source.split(|byte| *byte == b'\n').enumerate() {
-        let is_before = index.saturating_add(1) < number as usize;
-        match Statement::of(line) {
-            Statement::Type => outline.types = outline.types.saturating_add(1),
-            Statement::Constant(kind) if is_before => outline.add_constant(kind),
-            Statement::Instruction(operation) if is_before => {
-                outline.pass(operation.row().role);
-            }
-            Statement::Constant(_) | Statement::Instruction(_) | Statement::Unknown => {}
+    let mut outline = Outline::new(type_count(source));
+    let mut lines = Pieces::lines(source);
+    for _ in 1..number {
+        match lines.next() {
+            Some(line) => add_statement(&mut outline, Statement::of(line)),
+            None => break,
         }
     }
     outline
 }
 
-fn line_flaw<'a>(
-    alloc: Global,
-    source: &[u8],
-    number: u32,
-    line: &'a [u8],
-    outline: &mut Outline,
-) -> Result<Flaw<'a>, AllocError> {
-    let words = words(alloc, line)?;
-    let operands = words.as_slice().get(1..).unwrap_or(&[]);
-    Ok(match Statement::of(line) {
-        Statement::Unknown => Flaw::UnknownWord(first_word(line)),
-        Statement::Type if !outline.constants.is_empty() || outline.instructions > 0 => Flaw::Unmet(
-            Requirement::Order,
+fn add_statement(outline: &mut Outline, statement: Statement) {
+    match statement {
+        Statement::Constant(kind) => outline.add_constant(kind),
+        Statement::Instruction(operation) => {
+            outline.pass(operation.row().role);
+        }
+        Statement::Type | Statement::Unknown => {}
+    }
+}
+
+fn type_count(source: &[u8]) -> usize {
+    let mut count = 0usize;
+    let mut lines = Pieces::lines(source);
+    for _ in 0..source.len() {
+        match lines.next() {
+            Some(line) if first_word(line) == b"type".as_slice() => count = count.saturating_add(1),
+            Some(_) => {}
+            None => break,
+        }
+    }
+    count
+}
+
+fn line_flaw<'a>(source: &[u8], number: u32, line: &'a [u8]) -> Flaw<'a> {
+    let outline = outline(source, number);
+    let statement = Statement::of(line);
+    if let Some(rule) = misplaced(&outline, statement) {
+        return Flaw::Unmet(rule);
+    }
+    let mut words = Pieces::words(line);
+    let word = words.next_word();
+    match statement {
+        Statement::Unknown => Flaw::Word(
+            word.unwrap_or(&[]),
+            "is no operation, and none of type, text, name and family",
         ),
-        Statement::Type => type_flaw(operands, outline.types),
-        Statement::Constant(_) if outline.instructions > 0 => Flaw::Unmet(Requirement::Order),
-        Statement::Constant(_) if outline.constants.len() >= MOST_CONSTANTS => Flaw::Unmet(
-            Requirement::Few,
+        Statement::Type => type_flaw(words, outline.types),
+        Statement::Constant(ConstantKind::Text) => Flaw::Unmet(text_flaw(line)),
+        Statement::Constant(kind) => name_flaw(source, number, kind, words),
+        Statement::Instruction(operation) => instruction_flaw(operation, words, outline),
+    }
+}
+
+/// What a statement doesn't meet by standing where it does.
+fn misplaced(outline: &Outline, statement: Statement) -> Option<&'static str> {
+    match statement {
+        Statement::Type => (!outline.constants.is_empty() || outline.instructions > 0).then_some(
+            rule::ORDER,
         ),
-        Statement::Constant(ConstantKind::Text) => text_flaw(line),
-        Statement::Constant(kind) => name_flaw(alloc, source, number, kind, operands)?,
-        Statement::Instruction(_) if outline.instructions >= MOST_INSTRUCTIONS => Flaw::Unmet(
-            Requirement::Few,
+        Statement::Constant(_) if outline.instructions > 0 => Some(rule::ORDER),
+        Statement::Constant(_) => (outline.constants.len() >= MOST_CONSTANTS).then_some(rule::FEW),
+        Statement::Instruction(_) => (outline.instructions >= MOST_INSTRUCTIONS).then_some(
+            rule::FEW,
         ),
-        Statement::Instruction(operation) => instruction_flaw(operation, operands, outline),
-    })
+        Statement::Unknown => None,
+    }
+}
+
+/// The words for types, each with the most parts that may follow.
+const TYPES: [(&str, usize); 8] = [
+    ("i64", 0),
+    ("str", 0),
+    ("vec", 1),
+    ("list", 1),
+    ("flat_map", 1),
+    ("map", 1),
+    ("own", 1),
+    ("struct", 8),
+];
+
+fn most_parts(word: &[u8]) -> Option<usize> {
+    for (name, most) in TYPES {
+        if name.as_bytes() == word {
+            return Some(most);
+        }
+    }
+    None
 }
 
 /// What is wrong with a type, where the client has so many.
-fn type_flaw<'a>(words: &[&'a [u8]], types: usize) -> Flaw<'a> {
-    let Some((word, parts)) = words.split_first() else {
-        return Flaw::Unmet(Requirement::Parts);
+fn type_flaw<'a>(mut words: Pieces<'a>, types: usize) -> Flaw<'a> {
+    let Some(word) = words.next_word() else {
+        return Flaw::Unmet(rule::PARTS);
     };
-    let most = if ["i64", "str"].iter().any(|it| it.as_bytes() == *word) {
-        0
-    } else if ["vec", "list", "flat_map", "map", "own"]
-        .iter()
-        .any(|it| it.as_bytes() == *word)
-    {
-        1
-    } else if *word == b"struct".as_slice() {
-        8
-    } else {
-        return Flaw::UnknownType(word);
+    let Some(most) = most_parts(word) else {
+        return Flaw::Word(
+            word,
+            "is none of i64, str, vec, list, flat_map, map, own and struct",
+        );
     };
-    if parts.len() > most || (most > 0 && parts.is_empty()) {
-        return Flaw::Unmet(Requirement::Parts);
+    let parts = words.count_words();
+    if parts > most || (most > 0 && parts == 0) {
+        return Flaw::Unmet(rule::PARTS);
     }
-    match parts.iter().find(|part| index(b't', part).is_none_or(|part| part as usize >= types)) {
-        Some(part) => Flaw::Word(part, "a type of this client, as `t0`"),
-        None if types > MAX_TYPES => Flaw::Unmet(Requirement::Few),
-        None => Flaw::Unmet(Requirement::Types),
+    match wrong_part(words, parts, types) {
+        Some(part) => Flaw::Word(part, "should be a type of this client, as `t0`"),
+        None if types > MAX_TYPES => Flaw::Unmet(rule::FEW),
+        None => Flaw::Unmet(rule::TYPES),
     }
 }
 
-fn text_flaw(line: &[u8]) -> Flaw<'_> {
+/// The first of so many words that is no type of a client that has so many.
+fn wrong_part<'a>(mut words: Pieces<'a>, parts: usize, types: usize) -> Option<&'a [u8]> {
+    for _ in 0..parts {
+        let part = words.next_word()?;
+        match index(b't', part) {
+            Some(type_id) if usize::from(type_id) < types => {}
+            Some(_) | None => return Some(part),
+        }
+    }
+    None
+}
+
+/// What is wrong with a text.
+fn text_flaw(line: &[u8]) -> &'static str {
     let mut left = line.get(5..).unwrap_or(&[]);
     for _ in 0..line.len() {
         left = match left {
-            [] => return Flaw::Unmet(Requirement::ShortText),
+            [] => return rule::SHORT_TEXT,
             [b'\\', high, low, rest @ ..] if is_hex(*high) && is_hex(*low) => rest,
-            [b'\\', ..] => return Flaw::Unmet(Requirement::TextBytes),
+            [b'\\', ..] => return rule::TEXT_BYTES,
             [b' '..=b'~', rest @ ..] => rest,
-            [_, ..] => return Flaw::Unmet(Requirement::TextBytes),
+            [_, ..] => return rule::TEXT_BYTES,
         };
     }
-    Flaw::Unmet(Requirement::ShortText)
+    rule::SHORT_TEXT
 }
 
 fn is_hex(digit: u8) -> bool {
@@ -172,61 +227,89 @@ fn is_hex(digit: u8) -> bool {
 }
 
 fn name_flaw<'a>(
-    alloc: Global,
     source: &[u8],
     number: u32,
     kind: ConstantKind,
-    operands: &[&'a [u8]],
-) -> Result<Flaw<'a>, AllocError> {
-    let [name] = operands else {
-        return Ok(Flaw::Unmet(Requirement::OneWord));
+    mut words: Pieces<'a>,
+) -> Flaw<'a> {
+    let (Some(name), None) = (words.next_word(), words.next_word()) else {
+        return Flaw::Unmet(rule::ONE_WORD);
     };
-    if name.len() > longest(kind) || !name.iter().all(|byte| is_name_byte(*byte)) {
-        return Ok(Flaw::Name(kind));
+    if !is_name(kind, name) {
+        return Flaw::name(kind);
     }
-    let before = (number as usize).saturating_sub(1);
-    for line in source.split(|byte| *byte == b'\n').take(before) {
-        if Statement::of(line) == Statement::Constant(kind)
-            && words(alloc, line)?.as_slice().get(1) == Some(name)
-        {
-            return Ok(Flaw::Unmet(Requirement::Differ));
-        }
-    }
-    Ok(Flaw::Unmet(Requirement::Any))
+    Flaw::Unmet(if is_named_before(source, number, kind, name) {
+        rule::DIFFER
+    } else {
+        rule::ANY
+    })
 }
 
-pub(crate) fn is_name_byte(byte: u8) -> bool {
-    matches!(byte, b'!'..=b'~') && byte != b'#'
+/// Whether a line before the one with a number has this name.
+fn is_named_before(source: &[u8], number: u32, kind: ConstantKind, name: &[u8]) -> bool {
+    let mut lines = Pieces::lines(source);
+    for _ in 1..number {
+        match lines.next() {
+            Some(line) if is_naming(line, kind, name) => return true,
+            Some(_) => {}
+            None => break,
+        }
+    }
+    false
+}
+
+fn is_naming(line: &[u8], kind: ConstantKind, name: &[u8]) -> bool {
+    match Statement::of(line) {
+        Statement::Constant(it) if it == kind => second_word(line) == name,
+        Statement::Constant(_) | Statement::Type | Statement::Instruction(_) | Statement::Unknown =>
+            false,
+    }
+}
+
+fn second_word(line: &[u8]) -> &[u8] {
+    let mut words = Pieces::words(line);
+    words.next_word();
+    words.next_word().unwrap_or(&[])
 }
 
 fn instruction_flaw<'a>(
     operation: Operation,
-    operands: &[&'a [u8]],
-    outline: &mut Outline,
+    mut words: Pieces<'a>,
+    mut outline: Outline,
 ) -> Flaw<'a> {
-    let row = operation.row();
-    let wanted = [row.a, row.b, row.c]
-        .iter()
-        .filter(|operand| **operand != Operand::Unused)
-        .count()
-        .saturating_add(number_words(row.number));
-    if operands.len() != wanted {
+    let (wanted, found) = (word_count(operation), words.count_words());
+    if found != wanted {
         return Flaw::Count {
             operation,
             wanted,
-            found: operands.len(),
+            found,
         };
     }
-    match read_instruction(operation, operands) {
-        Ok(instruction) => outline
-            .flaw(instruction)
-            .unwrap_or(Flaw::Unmet(Requirement::Any)),
+    match read_instruction(operation, &mut words) {
+        Ok(instruction) => outline.flaw(instruction).unwrap_or(Flaw::Unmet(rule::ANY)),
         Err(flaw) => flaw,
     }
 }
 
+/// How many words follow an operation.
+fn word_count(operation: Operation) -> usize {
+    let row = operation.row();
+    operand_count(row.a)
+        .saturating_add(operand_count(row.b))
+        .saturating_add(operand_count(row.c))
+        .saturating_add(number_count(row.number))
+}
+
+/// How many words spell an operand.
+fn operand_count(operand: Operand) -> usize {
+    match operand {
+        Operand::Unused => 0,
+        Operand::Register | Operand::Optional => 1,
+    }
+}
+
 /// How many words spell a number.
-fn number_words(number: Number) -> usize {
+fn number_count(number: Number) -> usize {
     match number {
         Number::Unused => 0,
         Number::Any | Number::Turns | Number::TypeId | Number::Text => 1,
@@ -236,28 +319,23 @@ fn number_words(number: Number) -> usize {
 
 fn read_instruction<'a>(
     operation: Operation,
-    operands: &[&'a [u8]],
+    words: &mut Pieces<'a>,
 ) -> Result<Instruction, Flaw<'a>> {
     let row = operation.row();
-    let mut words = operands.iter();
     Ok(Instruction {
         operation,
-        a: read_operand(row.a, &mut words)?,
-        b: read_operand(row.b, &mut words)?,
-        c: read_operand(row.c, &mut words)?,
-        number: read_number(row.number, &mut words)?,
+        a: read_operand(row.a, words)?,
+        b: read_operand(row.b, words)?,
+        c: read_operand(row.c, words)?,
+        number: read_number(row.number, words)?,
     })
 }
 
-fn next_word<'a>(words: &mut Iter<&'a [u8]>) -> &'a [u8] {
-    words.next().copied().unwrap_or(&[])
-}
-
-fn read_operand<'a>(operand: Operand, words: &mut Iter<&'a [u8]>) -> Result<u8, Flaw<'a>> {
+fn read_operand<'a>(operand: Operand, words: &mut Pieces<'a>) -> Result<u8, Flaw<'a>> {
     if operand == Operand::Unused {
         return Ok(0);
     }
-    let word = next_word(words);
+    let word = words.next_word().unwrap_or(&[]);
     if operand == Operand::Optional && word == b"-".as_slice() {
         return Ok(Instruction::NONE);
     }
@@ -267,49 +345,67 @@ fn read_operand<'a>(operand: Operand, words: &mut Iter<&'a [u8]>) -> Result<u8, 
     }
 }
 
-fn read_number<'a>(number: Number, words: &mut Iter<&'a [u8]>) -> Result<i32, Flaw<'a>> {
+fn read_number<'a>(number: Number, words: &mut Pieces<'a>) -> Result<i32, Flaw<'a>> {
     match number {
         Number::Unused => Ok(0),
-        Number::Any | Number::Turns => {
-            let word = next_word(words);
-            signed(word).ok_or(Flaw::Word(
-                word,
-                "a decimal number of 32 bits, without leading zeros",
-            ))
-        }
-        Number::TypeId => read_index(b't', words),
-        Number::Text => read_index(b'k', words),
+        Number::Any | Number::Turns => read_signed(words),
+        Number::TypeId => read_type(words),
+        Number::Text => read_constant(words),
         Number::TypedName => {
-            let type_id = read_index(b't', words)?;
-            let constant = read_index(b'k', words)?;
+            let type_id = read_type(words)?;
+            let constant = read_constant(words)?;
             Ok(type_id.saturating_mul(256).saturating_add(constant))
         }
     }
 }
 
-fn read_index<'a>(letter: u8, words: &mut Iter<&'a [u8]>) -> Result<i32, Flaw<'a>> {
-    let word = next_word(words);
-    let wanted = if letter == b't' {
-        "a type, as `t0`"
-    } else {
-        "a constant, as `k0`"
-    };
-    index(letter, word)
-        .map(i32::from)
-        .ok_or(Flaw::Word(word, wanted))
+fn read_signed<'a>(words: &mut Pieces<'a>) -> Result<i32, Flaw<'a>> {
+    let word = words.next_word().unwrap_or(&[]);
+    match signed(word) {
+        Some(number) => Ok(number),
+        None => Err(Flaw::Word(
+            word,
+            "should be a decimal number of 32 bits, without leading zeros",
+        )),
+    }
+}
+
+fn read_type<'a>(words: &mut Pieces<'a>) -> Result<i32, Flaw<'a>> {
+    read_index(b't', words, "should be a type, as `t0`")
+}
+
+fn read_constant<'a>(words: &mut Pieces<'a>) -> Result<i32, Flaw<'a>> {
+    read_index(b'k', words, "should be a constant, as `k0`")
+}
+
+fn read_index<'a>(
+    letter: u8,
+    words: &mut Pieces<'a>,
+    wrong: &'static str,
+) -> Result<i32, Flaw<'a>> {
+    let word = words.next_word().unwrap_or(&[]);
+    match index(letter, word) {
+        Some(index) => Ok(i32::from(index)),
+        None => Err(Flaw::Word(word, wrong)),
+    }
 }
 
 /// The number after a letter, without leading zeros.
 fn index(letter: u8, word: &[u8]) -> Option<u8> {
-    let digits = word.strip_prefix([letter].as_slice())?;
+    let (first, digits) = word.split_first()?;
+    if *first != letter {
+        return None;
+    }
     u8::try_from(signed(digits)?).ok()
 }
 
-/// The signed number that a word spells, without leading zeros.
+/// The signed number that a word spells, without a plus sign and leading zeros.
 fn signed(word: &[u8]) -> Option<i32> {
-    let digits = word.strip_prefix(b"-".as_slice()).unwrap_or(word);
-    let has_zeros = digits.first() == Some(&b'0') && word.len() > 1;
-    if has_zeros || !digits.iter().all(|digit| digit.is_ascii_digit()) {
+    let is_plain = match word {
+        [b'+', ..] | [b'0', _, ..] | [b'-', b'0', ..] => false,
+        _ => true,
+    };
+    if !is_plain {
         return None;
     }
     str::from_utf8(word).ok()?.parse().ok()

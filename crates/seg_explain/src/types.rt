@@ -2,21 +2,22 @@ use seg_layout::{Type, TypeId};
 use std::fmt;
 
 /// What a type is.
-#[derive(Debug, Clone, Copy, PartialEq, Eq)]
+#[derive(Clone, Copy)]
 pub(crate) struct TypeWords(pub(crate) Type);
 
 impl fmt::Display for TypeWords {
     fn fmt<W: fmt::Write>(&self, f: &mut fmt::Formatter<W>) -> fmt::Result {
-        match self.0 {
-            Type::I64 => f.write_str("i64"),
-            Type::Str => f.write_str("str"),
-            Type::Vec(item) => write!(f, "vector of type {item}"),
-            Type::List(item) => write!(f, "list of type {item}"),
-            Type::FlatMap(value) => write!(f, "flat map of type {value}"),
-            Type::Map(value) => write!(f, "map of type {value}"),
-            Type::Own(object) => write!(f, "own of type {object}"),
-            Type::Struct(fields) => write_fields(f, fields.as_slice()),
-        }
+        let (word, part) = match self.0 {
+            Type::I64 => return f.write_str("i64"),
+            Type::Str => return f.write_str("str"),
+            Type::Vec(item) => ("vector", item),
+            Type::List(item) => ("list", item),
+            Type::FlatMap(value) => ("flat map", value),
+            Type::Map(value) => ("map", value),
+            Type::Own(object) => ("own", object),
+            Type::Struct(fields) => return write_fields(f, fields.as_slice()),
+        };
+        write!(f, "{word} of type {part}")
     }
 }
 
@@ -30,7 +31,7 @@ fn write_fields<W: fmt::Write>(f: &mut fmt::Formatter<W>, fields: &[TypeId]) -> 
 }
 
 /// A type of a table: its number, and what it is where the table has it.
-#[derive(Debug, Clone, Copy, PartialEq, Eq)]
+#[derive(Clone, Copy)]
 pub(crate) struct NumberedType {
     pub(crate) number: TypeId,
     pub(crate) kind: Option<Type>,

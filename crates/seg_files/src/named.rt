@@ -8,7 +8,7 @@ const MAX_IMAGE: u64 = 1 << 30;
 const MAX_FILE: u64 = 1 << 20;
 
 /// Why a file wasn't read or written.
-#[derive(Debug, Clone, Copy, PartialEq, Eq)]
+#[derive(Clone, Copy)]
 pub enum FileFailure<'a> {
     /// A request for memory was refused.
     Memory,

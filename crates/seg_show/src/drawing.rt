@@ -24,7 +24,7 @@ const HEIGHT: u32 = 12;
 const TOP: u32 = 40;
 
 /// A cell of the picture: a run of units, all of one length.
-#[derive(Debug, Clone, Copy)]
+#[derive(Clone, Copy)]
 struct Cell {
     /// What the block is for that has most of it.
     purpose: Purpose,
@@ -106,16 +106,21 @@ fn begin(lines: &mut Lines, rows: u32) -> Result<(), AllocError> {
 fn add_legend(lines: &mut Lines, scale: u32) -> Result<(), AllocError> {
     let mut x = 0u32;
     for purpose in PURPOSES {
-        let (colour, word) = (purpose.colour(), purpose.word());
-        let after = x.saturating_add(20);
-        lines.add(format!(in lines.alloc();
-            "<rect x=\"{x}\" y=\"8\" width=\"16\" height=\"16\" fill=\"{colour}\"/><text x=\"{after}\" y=\"21\">{word}</text>\n"
-        )?.as_bytes())?;
+        add_key(lines, x, purpose)?;
         x = x.saturating_add(90);
     }
     let bytes = scale.saturating_mul(UNIT);
     lines.add(format!(in lines.alloc();
         "<text x=\"{x}\" y=\"21\">a cell: {bytes} bytes</text>\n"
+    )?.as_bytes())
+}
+
+/// Adds a purpose's colour to the legend, and its word.
+fn add_key(lines: &mut Lines, x: u32, purpose: Purpose) -> Result<(), AllocError> {
+    let (colour, word) = (purpose.colour(), purpose.word());
+    let after = x.saturating_add(20);
+    lines.add(format!(in lines.alloc();
+        "<rect x=\"{x}\" y=\"8\" width=\"16\" height=\"16\" fill=\"{colour}\"/><text x=\"{after}\" y=\"21\">{word}</text>\n"
     )?.as_bytes())
 }
 

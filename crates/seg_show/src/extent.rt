@@ -1,5 +1,5 @@
 /// How much is shown of what is long or deep.
-#[derive(Debug, Clone, Copy, PartialEq, Eq)]
+#[derive(Clone, Copy)]
 pub enum Extent {
     /// The first bytes of a string, the first parts of a value, and the values that aren't deep inside others.
     Cut,

@@ -4,7 +4,7 @@ use crate::lines::Lines;
 use crate::owners::{OwnedBlock, owned_blocks};
 use crate::purpose::Purpose;
 use crate::roots::{Root, RootName, roots};
-use seg_block::Fit;
+use seg_block::{Block, Fit};
 use seg_manager::Segment;
 use std::alloc::{AllocError, Global};
 
@@ -19,12 +19,21 @@ pub fn heap_lines<F: Fit>(
 ) -> Result<Vec<u8>, AllocError> {
     let roots = roots(alloc, segment)?;
     let owned = owned_blocks(alloc, segment.heap(), roots.as_slice())?;
-    let largest = owned.iter().map(|it| it.block.units).max().unwrap_or(1);
+    let largest = most_units(owned.as_slice());
     let mut lines = Lines::new(alloc);
     for it in &owned {
         add_block(&mut lines, it, roots.as_slice(), largest)?;
     }
     Ok(lines.into_bytes())
+}
+
+/// The units of the largest block.
+fn most_units(owned: &[OwnedBlock]) -> u32 {
+    let mut most = 1;
+    for it in owned {
+        most = it.block.units.max(most);
+    }
+    most
 }
 
 fn add_block(
@@ -33,19 +42,29 @@ fn add_block(
     roots: &[Root],
     largest: u32,
 ) -> Result<(), AllocError> {
-    lines.add_number("", i64::from(it.block.at))?;
-    lines.add_number(" ", i64::from(it.block.units))?;
-    lines.add(b" ")?;
+    add_extent(lines, it.block)?;
     lines.add_bar(
         bar(it.block.units, largest),
         if it.tag.is_some() { b'#' } else { b'.' },
     )?;
     lines.add(b" ")?;
     lines.add(Purpose::of(it).word().as_bytes())?;
-    if let Some(root) = it.root.and_then(|index| roots.get(index)) {
+    if let Some(root) = root_of(it, roots) {
         add_owner(lines, root)?;
     }
     lines.end()
+}
+
+/// Adds where a block is, and how large.
+fn add_extent(lines: &mut Lines, block: Block) -> Result<(), AllocError> {
+    lines.add_number("", i64::from(block.at))?;
+    lines.add_number(" ", i64::from(block.units))?;
+    lines.add(b" ")
+}
+
+/// The object that a block is of.
+fn root_of<'a, 'b>(it: &OwnedBlock, roots: &'b [Root<'a>]) -> Option<&'b Root<'a>> {
+    roots.get(it.root?)
 }
 
 /// How long the bar of a block of so many units is: at least 1.

@@ -33,7 +33,7 @@ pub fn one_object<F: Fit>(
 ) -> Result<Option<Vec<u8>>, AllocError> {
     let mut lines = Lines::new(alloc);
     for root in &roots(alloc, segment)? {
-        if root.name == RootName::Named(name) {
+        if root.is_named(name) {
             add_object(&mut lines, segment.heap(), root, extent)?;
             return Ok(Some(lines.into_bytes()));
         }
@@ -123,21 +123,34 @@ fn end_line<F: Fit>(
     extent: Extent,
 ) -> Result<(), AllocError> {
     lines.add(b": ")?;
-    let count = heap.count(value.at);
-    match heap.types().kind(value.type_id) {
-        Some(Type::I64) => lines.add_number("", heap.load(value.at))?,
-        Some(Type::Str) => add_text(lines, heap, value, extent)?,
-        Some(Type::Vec(_)) => lines.add_number("vector of ", i64::from(count))?,
-        Some(Type::List(_)) => lines.add_number("list of ", i64::from(count))?,
-        Some(Type::FlatMap(_)) => lines.add_number("flat map of ", i64::from(count))?,
-        Some(Type::Map(_)) => lines.add_number("map of ", i64::from(count))?,
-        Some(Type::Own(_)) if count == 0 => lines.add(b"nothing")?,
-        Some(Type::Own(_)) => lines.add(b"an object")?,
-        Some(Type::Struct(_)) => lines.add(b"struct")?,
-        // a sound image has no value of another type
-        None => {}
-    }
+    add_content(lines, heap, value, extent)?;
     lines.end()
+}
+
+fn add_content<F: Fit>(
+    lines: &mut Lines,
+    heap: &Heap<F, Global>,
+    value: Place,
+    extent: Extent,
+) -> Result<(), AllocError> {
+    let word = match heap.types().kind(value.type_id) {
+        Some(Type::I64) => return lines.add_number("", heap.load(value.at)),
+        Some(Type::Str) => return add_text(lines, heap, value, extent),
+        Some(Type::Vec(_)) => "vector of ",
+        Some(Type::List(_)) => "list of ",
+        Some(Type::FlatMap(_)) => "flat map of ",
+        Some(Type::Map(_)) => "map of ",
+        Some(Type::Own(_)) => return lines.add(own_word(heap.count(value.at))),
+        Some(Type::Struct(_)) => return lines.add(b"struct"),
+        // a sound image has no value of another type
+        None => return Ok(()),
+    };
+    lines.add_number(word, i64::from(heap.count(value.at)))
+}
+
+/// What an own of so many objects holds.
+fn own_word(count: u32) -> &'static [u8] {
+    if count == 0 { b"nothing" } else { b"an object" }
 }
 
 /// Adds a string's bytes in quotation marks, and how many it has where some aren't shown.

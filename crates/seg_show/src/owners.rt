@@ -9,7 +9,7 @@ use seg_value::{Heap, Place};
 use std::alloc::{AllocError, Global};
 
 /// A block of the heap, what it is for, and which of the segment's objects it belongs to.
-#[derive(Debug, Clone, Copy)]
+#[derive(Clone, Copy)]
 pub(crate) struct OwnedBlock {
     pub(crate) block: Block,
     /// None where it is free.
@@ -24,18 +24,24 @@ pub(crate) fn owned_blocks<F: Fit>(
     heap: &Heap<F, Global>,
     roots: &[Root],
 ) -> Result<Vec<OwnedBlock>, AllocError> {
-    let mut owned = Vec::new(alloc);
-    for block in &blocks(alloc, heap.window())? {
-        owned.push(OwnedBlock {
-            block: *block,
-            tag: tag_of(heap.window(), *block),
-            root: None,
-        })?;
-    }
+    let mut owned = unowned_blocks(alloc, heap.window())?;
     for (index, root) in roots.iter().enumerate() {
         claim_object(alloc, heap, owned.as_mut_slice(), root, index)?;
     }
     Ok(owned)
+}
+
+/// The same, each without an object.
+fn unowned_blocks(alloc: Global, w: &Window<Global>) -> Result<Vec<OwnedBlock>, AllocError> {
+    let mut unowned = Vec::new(alloc);
+    for block in &blocks(alloc, w)? {
+        unowned.push(OwnedBlock {
+            block: *block,
+            tag: tag_of(w, *block),
+            root: None,
+        })?;
+    }
+    Ok(unowned)
 }
 
 fn tag_of(w: &Window<Global>, block: Block) -> Option<Tag> {

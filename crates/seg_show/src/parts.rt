@@ -3,10 +3,10 @@ use seg_layout::{Type, TypeId};
 use seg_map::{first_key, get, next_key};
 use seg_seq::{at, next};
 use seg_value::{Heap, Place};
-use std::alloc::Allocator;
+use std::alloc::Global;
 
 /// How a value is reached from the one that it stands in.
-#[derive(Debug, Clone, Copy, PartialEq, Eq)]
+#[derive(Clone, Copy)]
 pub(crate) enum Step {
     /// The item of a vector or a list, from 0.
     Index(u32),
@@ -19,7 +19,7 @@ pub(crate) enum Step {
 }
 
 /// A value that stands right inside another one.
-#[derive(Debug, Clone, Copy)]
+#[derive(Clone, Copy)]
 pub(crate) struct Part {
     pub(crate) step: Step,
     pub(crate) place: Place,
@@ -35,7 +35,7 @@ impl Part {
 }
 
 /// The values right inside a value, one after the other.
-#[derive(Debug, Clone, Copy)]
+#[derive(Clone, Copy)]
 pub(crate) struct Parts {
     whole: Place,
     /// How many came so far.
@@ -48,7 +48,7 @@ pub(crate) struct Parts {
 }
 
 impl Parts {
-    pub(crate) fn of<F: Fit, A: Allocator>(heap: &Heap<F, A>, whole: Place) -> Parts {
+    pub(crate) fn of<F: Fit>(heap: &Heap<F, Global>, whole: Place) -> Parts {
         Parts {
             whole,
             came: 0,
@@ -68,24 +68,21 @@ impl Parts {
         self.left
     }
 
-    pub(crate) fn next<F: Fit, A: Allocator>(&mut self, heap: &Heap<F, A>) -> Option<Part> {
+    pub(crate) fn next<F: Fit>(&mut self, heap: &Heap<F, Global>) -> Option<Part> {
         self.left = self.left.checked_sub(1)?;
         let index = self.came;
         self.came = index.saturating_add(1);
         match heap.types().kind(self.whole.type_id)? {
             Type::I64 | Type::Str => None,
             Type::Struct(_) => self.field(heap, index),
-            Type::Vec(t) => {
-                let item = at(heap, self.whole, index).ok()?;
-                Some(Part::new(Step::Index(index), item, t))
-            }
-            Type::List(t) => self.item(heap, index, t),
+            Type::Vec(t) => self.item(heap, index, t),
+            Type::List(t) => self.list_item(heap, index, t),
             Type::FlatMap(t) | Type::Map(t) => self.entry(heap, index, t),
             Type::Own(t) => Some(Part::new(Step::Content, heap.start(self.whole.at), t)),
         }
     }
 
-    fn field<F: Fit, A: Allocator>(&self, heap: &Heap<F, A>, index: u32) -> Option<Part> {
+    fn field<F: Fit>(&self, heap: &Heap<F, Global>, index: u32) -> Option<Part> {
         let cell = heap.types().field(self.whole.type_id, index)?;
         Some(Part {
             step: Step::Field(index),
@@ -93,38 +90,49 @@ impl Parts {
         })
     }
 
+    fn item<F: Fit>(&self, heap: &Heap<F, Global>, index: u32, t: TypeId) -> Option<Part> {
+        let item = item_at(heap, self.whole, index)?;
+        Some(Part::new(Step::Index(index), item, t))
+    }
+
     /// The item after the one that came last.
-    fn item<F: Fit, A: Allocator>(
-        &mut self,
-        heap: &Heap<F, A>,
-        index: u32,
-        t: TypeId,
-    ) -> Option<Part> {
+    fn list_item<F: Fit>(&mut self, heap: &Heap<F, Global>, index: u32, t: TypeId) -> Option<Part> {
         self.item = match index {
-            0 => at(heap, self.whole, 0).ok()?,
+            0 => item_at(heap, self.whole, 0)?,
             1.. => next(heap, self.item),
         };
         Some(Part::new(Step::Index(index), self.item, t))
     }
 
     /// The value of the key after the one that came last.
-    fn entry<F: Fit, A: Allocator>(
-        &mut self,
-        heap: &Heap<F, A>,
-        index: u32,
-        t: TypeId,
-    ) -> Option<Part> {
+    fn entry<F: Fit>(&mut self, heap: &Heap<F, Global>, index: u32, t: TypeId) -> Option<Part> {
         self.key = match index {
-            0 => first_key(heap, self.whole).ok()?,
-            1.. => next_key(heap, self.whole, self.key).ok()?,
+            0 => least_key(heap, self.whole)?,
+            1.. => key_after(heap, self.whole, self.key)?,
         };
-        let value = get(heap, self.whole, self.key).ok()?;
+        let value = value_of(heap, self.whole, self.key)?;
         Some(Part::new(Step::Key(self.key), value, t))
     }
 }
 
+fn item_at<F: Fit>(heap: &Heap<F, Global>, whole: Place, index: u32) -> Option<u32> {
+    at(heap, whole, index).ok()
+}
+
+fn least_key<F: Fit>(heap: &Heap<F, Global>, map: Place) -> Option<i64> {
+    first_key(heap, map).ok()
+}
+
+fn key_after<F: Fit>(heap: &Heap<F, Global>, map: Place, key: i64) -> Option<i64> {
+    next_key(heap, map, key).ok()
+}
+
+fn value_of<F: Fit>(heap: &Heap<F, Global>, map: Place, key: i64) -> Option<u32> {
+    get(heap, map, key).ok()
+}
+
 /// How many values stand right inside a value.
-fn part_count<F: Fit, A: Allocator>(heap: &Heap<F, A>, whole: Place) -> u32 {
+fn part_count<F: Fit>(heap: &Heap<F, Global>, whole: Place) -> u32 {
     match heap.types().kind(whole.type_id) {
         None | Some(Type::I64 | Type::Str) => 0,
         Some(Type::Struct(_)) => heap.types().field_count(whole.type_id),

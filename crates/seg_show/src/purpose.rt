@@ -2,7 +2,7 @@ use crate::owners::OwnedBlock;
 use seg_block::Kind;
 
 /// What a block of the heap is for.
-#[derive(Debug, Clone, Copy, PartialEq, Eq)]
+#[derive(Clone, Copy, PartialEq, Eq)]
 pub(crate) enum Purpose {
     Object,
     Buffer,

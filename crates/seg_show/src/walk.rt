@@ -3,10 +3,10 @@ use crate::parts::{Part, Parts};
 use seg_block::Fit;
 use seg_layout::MAX_TYPES;
 use seg_value::{Heap, Place};
-use std::alloc::{AllocError, Allocator, Global};
+use std::alloc::{AllocError, Global};
 
 /// What a walk through a value meets.
-#[derive(Debug, Clone, Copy)]
+#[derive(Clone, Copy)]
 pub(crate) enum Met {
     /// A value inside it, at a level from 1.
     Part { level: usize, part: Part },
@@ -23,21 +23,22 @@ pub(crate) struct Walk {
 }
 
 impl Walk {
-    pub(crate) fn new<F: Fit, A: Allocator>(
+    pub(crate) fn new<F: Fit>(
         alloc: Global,
-        heap: &Heap<F, A>,
+        heap: &Heap<F, Global>,
         value: Place,
         extent: Extent,
     ) -> Result<Walk, AllocError> {
-        let mut open = Vec::new(alloc);
-        open.push(Parts::of(heap, value))?;
-        Ok(Walk { open, extent })
+        Ok(Walk {
+            open: Vec::from_slice(alloc, &[Parts::of(heap, value)])?,
+            extent,
+        })
     }
 
     /// What comes next, until the parts of the whole value have ended.
-    pub(crate) fn next<F: Fit, A: Allocator>(
+    pub(crate) fn next<F: Fit>(
         &mut self,
-        heap: &Heap<F, A>,
+        heap: &Heap<F, Global>,
     ) -> Result<Option<Met>, AllocError> {
         let level = self.open.len();
         let Some(mut parts) = self.open.pop() else {

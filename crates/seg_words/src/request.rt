@@ -22,7 +22,7 @@ pub enum Request<'a> {
 }
 
 /// What is asked of an image.
-#[derive(Debug, Clone, Copy, PartialEq, Eq)]
+#[derive(Clone, Copy)]
 pub enum ImageTask<'a> {
     Check,
     Stat,
@@ -39,21 +39,21 @@ pub enum ImageTask<'a> {
 }
 
 /// How a segment keeps its free blocks: by sequential fit or by best fit.
-#[derive(Debug, Clone, Copy, PartialEq, Eq)]
+#[derive(Clone, Copy)]
 pub enum Allocator {
     Seq,
     Best,
 }
 
 /// How a segment keeps its names.
-#[derive(Debug, Clone, Copy, PartialEq, Eq)]
+#[derive(Clone, Copy)]
 pub enum Index {
     Flat,
     Tree,
 }
 
 /// An image to be made, of an empty segment of so many bytes.
-#[derive(Debug, Clone, Copy)]
+#[derive(Clone, Copy)]
 pub struct NewImage<'a> {
     pub file: &'a str,
     pub size: u32,
@@ -73,7 +73,7 @@ pub struct Run<'a> {
 }
 
 /// A client to be run on an image step by step. Nothing is saved.
-#[derive(Debug, Clone, Copy)]
+#[derive(Clone, Copy)]
 pub struct Trace<'a> {
     pub image: &'a str,
     pub client: &'a str,
