@@ -1,4 +1,5 @@
 mod clients;
+mod host;
 mod images;
 mod memory;
 mod objects;

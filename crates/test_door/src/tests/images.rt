@@ -1,15 +1,15 @@
-use lezgauri::{AllocatorKind, Fault, Image, IndexKind, MAX_LEN, Type, check, type_table};
-use std::alloc::Global;
+use crate::tests::host::{Host, types_in};
+use lezgauri::{AllocatorKind, Fault, IndexKind, MAX_LEN, Type};
 use std::process::Abort;
 use std::test::Fail;
 use support_data::{counter, counter_with, front};
 
 /// An image with a number that is 7, of 1024 bytes: the heap begins at 704 and has 320, all free before the object comes.
-fn made(rt: &(impl Abort + AllocGlobal), allocator: AllocatorKind) -> Result<Image<Global>, Fail> {
-    let mut image = Image::create(rt.alloc(), 1024, allocator, IndexKind::Flat)?;
+fn made(rt: &(impl Abort + AllocGlobal), allocator: AllocatorKind) -> Result<Host, Fail> {
+    let mut image = Host::create(rt.alloc(), 1024, allocator, IndexKind::Flat)?;
     assert_eq!(rt; image.free_memory(), 320);
     assert!(rt; image.all_memory_deallocated());
-    image.add_types(&type_table(&[Type::I64])?)?;
+    image.add_types(&[Type::I64])?;
     let seven = image.construct(b"seven", 0, 1)?;
     image.store(seven, 7)?;
     Ok(image)
@@ -30,10 +30,12 @@ fn changes_size(rt: &(impl Abort + AllocGlobal), allocator: AllocatorKind) -> Re
 }
 
 /// An image without a gap, as it is opened anew: its number is 7, and it grows.
-fn opens_again(rt: &(impl Abort + AllocGlobal), image: Image<Global>) -> Result<(), Fail> {
+fn opens_again(rt: &(impl Abort + AllocGlobal), image: Host) -> Result<(), Fail> {
     assert_eq!(rt; image.largest_gap(), 0);
-    assert_eq!(rt; check(rt.alloc(), image.bytes())?.len(), 1);
-    let mut again = Image::open(rt.alloc(), image.into_bytes()).map_err(Fault::from)?;
+    assert_eq!(rt; types_in(rt.alloc(), image.bytes()), Ok(1));
+    let Ok(mut again) = Host::open(rt.alloc(), image.into_bytes()) else {
+        return Err(Fail::from("not opened"));
+    };
     let seven = again.find(b"seven", 0)?;
     assert_eq!(rt; again.load(seven), Ok(7));
     assert!(rt; again.grow(16).is_ok());
@@ -48,12 +50,12 @@ fn an_image_changes_its_size(rt: HostRuntime) -> Result<(), Fail> {
 
 /// Bytes that are no image are refused, and come back.
 fn is_no_image(rt: &(impl Abort + AllocGlobal), faulty: &[u8]) -> Result<(), Fail> {
-    assert_eq!(rt; check(rt.alloc(), faulty).err(), Some(Fault::BadHeader));
-    match Image::open(rt.alloc(), Vec::from_slice(rt.alloc(), faulty)?) {
+    assert_eq!(rt; types_in(rt.alloc(), faulty), Err(Fault::BadHeader));
+    match Host::open(rt.alloc(), Vec::from_slice(rt.alloc(), faulty)?) {
         Ok(_image) => Err(Fail::from("opened")),
-        Err(unopened) => {
-            assert_eq!(rt; unopened.fault, Fault::BadHeader);
-            assert_eq!(rt; unopened.bytes.as_slice(), faulty);
+        Err((fault, bytes)) => {
+            assert_eq!(rt; fault, Fault::BadHeader);
+            assert_eq!(rt; bytes.as_slice(), faulty);
             Ok(())
         }
     }
@@ -71,7 +73,7 @@ fn faulty_images_are_refused(rt: HostRuntime) -> Result<(), Fail> {
 #[test]
 fn no_segment_has_other_sizes(rt: HostRuntime) {
     for size in [0, 720, 1000, MAX_LEN.saturating_add(16)] {
-        let image = Image::create(rt.alloc(), size, AllocatorKind::Seq, IndexKind::Tree);
+        let image = Host::create(rt.alloc(), size, AllocatorKind::Seq, IndexKind::Tree);
         assert_eq!(rt; image.err(), Some(Fault::BadSize));
     }
 }

@@ -1,15 +1,12 @@
-use lezgauri::{
-    AllocatorKind, Code, Fault, Fields, Image, IndexKind, Place, Type, TypeId, TypeTable, check,
-    type_table,
-};
-use std::alloc::Global;
+use crate::tests::host::{Host, types_in};
+use lezgauri::{AllocatorKind, Code, Fault, Fields, IndexKind, Place, Type, TypeId, type_table};
 use std::process::Abort;
 use std::test::Fail;
 
 /// A number, a string, a vector, a list, two maps and an own of numbers, and a struct of a number and a string.
-fn types() -> Result<TypeTable, Fail> {
+fn types() -> Result<[Type; 8], Fail> {
     let fields = Fields::new(&[0, 1]).ok_or("no fields")?;
-    Ok(type_table(&[
+    Ok([
         Type::I64,
         Type::Str,
         Type::Vec(0),
@@ -18,17 +15,13 @@ fn types() -> Result<TypeTable, Fail> {
         Type::Map(0),
         Type::Own(0),
         Type::Struct(fields),
-    ])?)
+    ])
 }
 
 /// An empty image with these types.
-fn empty(
-    rt: &impl AllocGlobal,
-    allocator: AllocatorKind,
-    index: IndexKind,
-) -> Result<Image<Global>, Fail> {
-    let mut image = Image::create(rt.alloc(), 4096, allocator, index)?;
-    image.add_types(&types()?)?;
+fn empty(rt: &impl AllocGlobal, allocator: AllocatorKind, index: IndexKind) -> Result<Host, Fail> {
+    let mut image = Host::create(rt.alloc(), 4096, allocator, index)?;
+    image.add_types(types()?.as_slice())?;
     Ok(image)
 }
 
@@ -43,17 +36,17 @@ fn gives(rt: &impl Abort, found: Result<Place, Code>, place: Place) {
 }
 
 /// A place has this number, or has none for this reason.
-fn holds(rt: &impl Abort, image: &Image<Global>, place: Place, number: Result<i64, Code>) {
+fn holds(rt: &impl Abort, image: &Host, place: Place, number: Result<i64, Code>) {
     assert_eq!(rt; image.load(place), number);
 }
 
 /// A container or a text has so many items or bytes.
-fn has_length(rt: &impl Abort, image: &Image<Global>, place: Place, len: u32) {
+fn has_length(rt: &impl Abort, image: &Host, place: Place, len: u32) {
     assert_eq!(rt; image.len(place), Ok(len));
 }
 
 /// An array `b` of three numbers, and what other objects are refused for.
-fn makes_names(rt: &impl Abort, image: &mut Image<Global>) -> Result<(), Fail> {
+fn makes_names(rt: &impl Abort, image: &mut Host) -> Result<(), Fail> {
     let b = image.construct(b"b", 0, 3)?;
     refused(rt, image.construct(b"b", 0, 1), Code::AlreadyExists);
     refused(rt, image.construct(b"", 0, 1), Code::OutOfRange);
@@ -65,7 +58,7 @@ fn makes_names(rt: &impl Abort, image: &mut Image<Global>) -> Result<(), Fail> {
 }
 
 /// The items of `b`.
-fn finds_items(rt: &impl Abort, image: &Image<Global>) -> Result<(), Fail> {
+fn finds_items(rt: &impl Abort, image: &Host) -> Result<(), Fail> {
     let first = image.find(b"b", 0)?;
     let last = image.find_item(b"b", 0, 2)?;
     assert_eq!(rt; last.at, first.at.saturating_add(16));
@@ -76,7 +69,7 @@ fn finds_items(rt: &impl Abort, image: &Image<Global>) -> Result<(), Fail> {
 }
 
 /// The names `a` and `b`, in order.
-fn lists_names(rt: &impl Abort, image: &mut Image<Global>) -> Result<(), Fail> {
+fn lists_names(rt: &impl Abort, image: &mut Host) -> Result<(), Fail> {
     image.find_or_construct(b"a", 1)?;
     assert_eq!(rt; image.num_named(), 2);
     let first = image.first_name().ok_or("no name")?;
@@ -88,7 +81,7 @@ fn lists_names(rt: &impl Abort, image: &mut Image<Global>) -> Result<(), Fail> {
 }
 
 /// The unique number.
-fn has_uniques(rt: &impl Abort, image: &mut Image<Global>) -> Result<(), Fail> {
+fn has_uniques(rt: &impl Abort, image: &mut Host) -> Result<(), Fail> {
     let unique = image.construct_unique(0)?;
     gives(rt, image.find_or_construct_unique(0), unique);
     gives(rt, image.find_unique(0), unique);
@@ -99,7 +92,7 @@ fn has_uniques(rt: &impl Abort, image: &mut Image<Global>) -> Result<(), Fail> {
 }
 
 /// The fields of a struct.
-fn has_fields(rt: &impl Abort, image: &mut Image<Global>) -> Result<(), Fail> {
+fn has_fields(rt: &impl Abort, image: &mut Host) -> Result<(), Fail> {
     let pair = image.construct(b"pair", 7, 1)?;
     let number = image.field(pair, 0)?;
     refused(rt, image.field(pair, 2), Code::OutOfRange);
@@ -112,7 +105,7 @@ fn has_fields(rt: &impl Abort, image: &mut Image<Global>) -> Result<(), Fail> {
 }
 
 /// The text of a field.
-fn has_texts(rt: &impl Abort, image: &mut Image<Global>) -> Result<(), Fail> {
+fn has_texts(rt: &impl Abort, image: &mut Host) -> Result<(), Fail> {
     let pair = image.find(b"pair", 7)?;
     let text = image.field(pair, 1)?;
     holds(rt, image, text, Err(Code::OtherType));
@@ -125,7 +118,7 @@ fn has_texts(rt: &impl Abort, image: &mut Image<Global>) -> Result<(), Fail> {
 }
 
 /// What an own holds, and what takes its place.
-fn has_content(rt: &impl Abort, image: &mut Image<Global>) -> Result<(), Fail> {
+fn has_content(rt: &impl Abort, image: &mut Host) -> Result<(), Fail> {
     let own = image.construct(b"own", 6, 1)?;
     refused(rt, image.content(own), Code::Null);
     let inside = image.put_content(own)?;
@@ -137,12 +130,7 @@ fn has_content(rt: &impl Abort, image: &mut Image<Global>) -> Result<(), Fail> {
 }
 
 /// The numbers 1 and 2 in a vector or a list, after a 3 went.
-fn has_items(
-    rt: &impl Abort,
-    image: &mut Image<Global>,
-    name: &[u8],
-    t: TypeId,
-) -> Result<(), Fail> {
+fn has_items(rt: &impl Abort, image: &mut Host, name: &[u8], t: TypeId) -> Result<(), Fail> {
     let items = image.construct(name, t, 1)?;
     assert_eq!(rt; image.pop_back(items), Err(Code::Null));
     for number in 1..4 {
@@ -157,7 +145,7 @@ fn has_items(
 }
 
 /// A new number at the front of the list, and the 1 after it.
-fn has_a_front(rt: &impl Abort, image: &mut Image<Global>) -> Result<(), Fail> {
+fn has_a_front(rt: &impl Abort, image: &mut Host) -> Result<(), Fail> {
     let list = image.find(b"l", 3)?;
     image.push_front(list)?;
     holds(rt, image, image.item(list, 0)?, Ok(0));
@@ -167,12 +155,7 @@ fn has_a_front(rt: &impl Abort, image: &mut Image<Global>) -> Result<(), Fail> {
 }
 
 /// The keys -10 and 30 of a map, each its own value.
-fn has_keys(
-    rt: &impl Abort,
-    image: &mut Image<Global>,
-    name: &[u8],
-    t: TypeId,
-) -> Result<(), Fail> {
+fn has_keys(rt: &impl Abort, image: &mut Host, name: &[u8], t: TypeId) -> Result<(), Fail> {
     let map = image.construct(name, t, 1)?;
     assert_eq!(rt; image.first_key(map), Err(Code::Null));
     for key in [30, -10] {
@@ -186,7 +169,7 @@ fn has_keys(
 }
 
 /// The key 30 goes.
-fn loses_a_key(rt: &impl Abort, image: &mut Image<Global>, map: Place) -> Result<(), Fail> {
+fn loses_a_key(rt: &impl Abort, image: &mut Host, map: Place) -> Result<(), Fail> {
     holds(rt, image, image.get(map, 30)?, Ok(30));
     assert!(rt; image.remove(map, 30) && !image.remove(map, 30));
     refused(rt, image.get(map, 30), Code::Absent);
@@ -212,7 +195,7 @@ fn hosts_work_on_values(rt: HostRuntime) -> Result<(), Fail> {
     has_fields(&rt, &mut image)?;
     has_texts(&rt, &mut image)?;
     has_content(&rt, &mut image)?;
-    assert!(rt; check(rt.alloc(), image.bytes()).is_ok());
+    assert!(rt; types_in(rt.alloc(), image.bytes()).is_ok());
     Ok(())
 }
 
@@ -224,7 +207,7 @@ fn hosts_work_on_containers(rt: HostRuntime) -> Result<(), Fail> {
     has_a_front(&rt, &mut image)?;
     has_keys(&rt, &mut image, b"f", 4)?;
     has_keys(&rt, &mut image, b"m", 5)?;
-    assert!(rt; check(rt.alloc(), image.bytes()).is_ok());
+    assert!(rt; types_in(rt.alloc(), image.bytes()).is_ok());
     Ok(())
 }
 
