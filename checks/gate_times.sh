@@ -11,7 +11,7 @@ tab=$'\t'
 
 # The crates, one a line.
 crates() {
-  awk -F: '!/^#/ && NF {print $1}' crates.txt
+  awk -F: '!/^#/ && NF {sub(/ .*/, "", $1); print $1}' crates.txt
 }
 
 # For each process of the prover that runs now: its number, what it is for, the crate, and its processor time in hundredths.
@@ -88,7 +88,7 @@ rules() {
   local crate below it
   while IFS=: read -r crate below; do
     case $crate in '' | \#*) continue ;; esac
-    printf '%s:' "$crate"
+    printf '%s:' "${crate%% *}"
     for it in $below; do
       [ -d "crates/$it" ] && printf ' %s' "$it"
     done

@@ -5,7 +5,7 @@ set -euo pipefail
 cd "$(dirname "$0")"
 kit=$(dirname "$(rt doc)")
 if [ "${1-}" != --link ]; then
-  rt lib
+  rt lib --jobs "$(nproc)"
 fi
 work=$(mktemp -d)
 trap 'rm -rf "$work"' EXIT
