@@ -50,6 +50,7 @@ module _ (bytes : List ℕ) (table : Table) where
   buffered_by place (Form.list U) v blocks opened inside owned b o hs v_is blocks_is = absurd (cc)
   buffered_by place (Form.map U) v blocks opened inside owned b o hs v_is blocks_is = absurd (cc)
   buffered_by place (Form.own U) v blocks opened inside owned b o hs v_is blocks_is = absurd (cc)
+  buffered_by place (Form.shared U) v blocks opened inside owned b o hs v_is blocks_is = absurd (cc)
   buffered_by place (Form.struct Us) v blocks opened inside owned b o hs v_is blocks_is = absurd (cc)
   buffered_by place Form.str v blocks opened inside owned b o hs v_is blocks_is =
       let none = no_parts (subst (λ ps. HoldsEach bytes table ps inside owned) (ap (λ (r : Opened). r.parts) o.opened_is) hs) in
@@ -97,6 +98,7 @@ module _ (bytes : List ℕ) (table : Table) where
   holds_buffered place (Form.list U) v owned f b room e = absurd (cc)
   holds_buffered place (Form.map U) v owned f b room e = absurd (cc)
   holds_buffered place (Form.own U) v owned f b room e = absurd (cc)
+  holds_buffered place (Form.shared U) v owned f b room e = absurd (cc)
   holds_buffered place (Form.struct Us) v owned f b room e = absurd (cc)
   holds_buffered place Form.str v owned f b room e =
       holds {place = place} Form.str (record { label = Label.text (slice bytes (start bytes place.at) (count_at bytes place.at)); blocks = named bytes place.at; parts = [] }) nil [] f
@@ -180,6 +182,7 @@ module _ (old new : List ℕ) (table : Table) (valid : IsTable table) (from to n
     entries_moved (Form.list U) v owned from_in to_in beside m e = absurd m
     entries_moved (Form.map U) v owned from_in to_in beside m e = absurd m
     entries_moved (Form.own U) v owned from_in to_in beside m e = absurd m
+    entries_moved (Form.shared U) v owned from_in to_in beside m e = absurd m
     entries_moved (Form.struct Us) v owned from_in to_in beside m e = absurd m
     entries_moved Form.str v owned from_in to_in beside m e =
         let one : n * 1 ≡ n = mul-one n in
@@ -209,6 +212,7 @@ module _ (old new : List ℕ) (table : Table) (valid : IsTable table) (from to n
     entries_changes (Form.list U) from_in m = absurd m
     entries_changes (Form.map U) from_in m = absurd m
     entries_changes (Form.own U) from_in m = absurd m
+    entries_changes (Form.shared U) from_in m = absurd m
     entries_changes (Form.struct Us) from_in m = absurd m
     entries_changes Form.str from_in m =
         let long = length-slice old from (n * 1) from_in.fits in
@@ -223,6 +227,7 @@ entries_kept old new table valid Form.i64 at n v owned same kept e = absurd e
 entries_kept old new table valid (Form.list U) at n v owned same kept e = absurd e
 entries_kept old new table valid (Form.map U) at n v owned same kept e = absurd e
 entries_kept old new table valid (Form.own U) at n v owned same kept e = absurd e
+entries_kept old new table valid (Form.shared U) at n v owned same kept e = absurd e
 entries_kept old new table valid (Form.struct Us) at n v owned same kept e = absurd e
 entries_kept old new table valid Form.str at n v owned same kept e =
     let text : slice new at n ≡ slice old at n = rw (mul-one n) at same in
@@ -245,6 +250,7 @@ entries_none bytes table Form.i64 at to v owned e = absurd e
 entries_none bytes table (Form.list U) at to v owned e = absurd e
 entries_none bytes table (Form.map U) at to v owned e = absurd e
 entries_none bytes table (Form.own U) at to v owned e = absurd e
+entries_none bytes table (Form.shared U) at to v owned e = absurd e
 entries_none bytes table (Form.struct Us) at to v owned e = absurd e
 entries_none bytes table Form.str at to v owned e = (e.0 ∙ ap (λ bs. Text bs) (slice_none bytes at ∙ sym (slice_none bytes to)), e.1)
 entries_none bytes table (Form.vec U) at to v owned e = e

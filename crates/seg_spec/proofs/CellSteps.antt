@@ -48,6 +48,7 @@ module _ (table : Table) (valid : IsTable table) where
   one_cell T (Form.flat_map U) f h = cells-form table valid T (Form.flat_map U) f
   one_cell T (Form.map U) f h = cells-form table valid T (Form.map U) f
   one_cell T (Form.own U) f h = cells-form table valid T (Form.own U) f
+  one_cell T (Form.shared U) f h = cells-form table valid T (Form.shared U) f
 
   pub each_one : (P : ℕ → Option Form → Type 0) (T : ℕ) (form : Form) → form_at table T ≡ Some form → IsOne table valid form → P 0 (Some form) → EachCell table T P
   each_one P T form f h p = rw (one_cell T form f h) (rw f p, tt)
@@ -72,6 +73,7 @@ module _ (table : Table) (valid : IsTable table) where
     by_form T q (Some (Form.flat_map U)) e = on_one T (Form.flat_map U) e tt
     by_form T q (Some (Form.map U)) e = on_one T (Form.map U) e tt
     by_form T q (Some (Form.own U)) e = on_one T (Form.own U) e tt
+    by_form T q (Some (Form.shared U)) e = on_one T (Form.shared U) e tt
 
     below : (k T : ℕ) → T < k → Q T
     below zero T l = absurd (omega arith)
@@ -93,6 +95,7 @@ module _ (table : Table) (valid : IsTable table) where
   size_one T (Form.flat_map U) f h = size-form table valid T (Form.flat_map U) f
   size_one T (Form.map U) f h = size-form table valid T (Form.map U) f
   size_one T (Form.own U) f h = size-form table valid T (Form.own U) f
+  size_one T (Form.shared U) f h = size-form table valid T (Form.shared U) f
 
   pub size_none : (T : ℕ) → form_at table T ≡ None → size table T ≡ 8
   unfolding size
@@ -282,6 +285,7 @@ defaulted_local a b c d at (Some (Form.list U)) s t r = fresh_cell b d at t r
 defaulted_local a b c d at (Some (Form.flat_map U)) s t r = fresh_cell b d at t r
 defaulted_local a b c d at (Some (Form.map U)) s t r = fresh_cell b d at t r
 defaulted_local a b c d at (Some (Form.own U)) s t r = fresh_cell b d at t r
+defaulted_local a b c d at (Some (Form.shared U)) s t r = fresh_cell b d at t r
 defaulted_local a b c d at (Some (Form.struct Us)) s t r = fresh_cell b d at t r
 
 further_cell : (n : ℕ) (a b c d : List ℕ) (at : ℕ) → IsSame a c at 8 → IsSame b d at 8 → (word b at ≡ Rattle.seg_spec.specs.Cells.further n (word a at)) × (count_at b at ≡ count_at a at) →
@@ -297,6 +301,7 @@ further_local n a b c d at (Some (Form.list U)) s t r = further_cell n a b c d a
 further_local n a b c d at (Some (Form.flat_map U)) s t r = further_cell n a b c d at s t r
 further_local n a b c d at (Some (Form.map U)) s t r = further_cell n a b c d at s t r
 further_local n a b c d at (Some (Form.own U)) s t r = further_cell n a b c d at s t r
+further_local n a b c d at (Some (Form.shared U)) s t r = further_cell n a b c d at s t r
 further_local n a b c d at (Some (Form.struct Us)) s t r = further_cell n a b c d at s t r
 
 -- ---- the fields of a type, by their index

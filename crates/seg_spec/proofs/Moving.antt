@@ -150,6 +150,10 @@ module _ (old new : List ℕ) (table : Table) (valid : IsTable table) where
         };
         parts = rw (ap (λ (r : Opened). r.parts) o.opened_is) (places-same old new table valid U _ (spaced-same old new (start old at) (size table U) (count_at old at) room));
       }
+  Opens-moved place to (Form.shared U) opened flat m ks o = record {
+    opens = record { payload = rw m.0 o.payload; counted = rw (m.0, m.1) o.counted; opened_is = rw m.0 o.opened_is };
+    parts = rw (ap (λ (r : Opened). r.parts) o.opened_is) tt;
+  }
   Opens-moved place to (Form.struct Us) opened flat m ks o = absurd (flat Us refl)
 
   -- ---- all cells of a value
@@ -207,6 +211,8 @@ module _ (old new : List ℕ) (table : Table) (valid : IsTable table) where
         by_cell place to (Form.map U) opened inside owned f o v_is blocks_is (λ Us e. cc) (one_cell place.at to place.type (Form.map U) f refl a) ks hs
     Holds-moved {place = place} to (holds (Form.own U) opened inside owned f o hs v_is blocks_is) a ks =
         by_cell place to (Form.own U) opened inside owned f o v_is blocks_is (λ Us e. cc) (one_cell place.at to place.type (Form.own U) f refl a) ks hs
+    Holds-moved {place = place} to (holds (Form.shared U) opened inside owned f o hs v_is blocks_is) a ks =
+        by_cell place to (Form.shared U) opened inside owned f o v_is blocks_is (λ Us e. cc) (one_cell place.at to place.type (Form.shared U) f refl a) ks hs
     Holds-moved {place = place} to (holds (Form.struct Us) opened inside owned f o hs v_is blocks_is) a ks =
         let each = struct_fields table valid _ place.type Us f a in
         let none : opened.blocks ≡ [] = ap (λ (r : Opened). r.blocks) o in

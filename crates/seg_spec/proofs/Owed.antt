@@ -22,6 +22,7 @@ module _ (old new : List ℕ) (table : Table) (valid : IsTable table) where
   nothing_kept at (Some (Form.flat_map U)) s h = target-same old new at (IsSame-part old new at 8 at 4 (omega arith) (omega arith) s) ∙ h
   nothing_kept at (Some (Form.map U)) s h = target-same old new at (IsSame-part old new at 8 at 4 (omega arith) (omega arith) s) ∙ h
   nothing_kept at (Some (Form.own U)) s h = target-same old new at (IsSame-part old new at 8 at 4 (omega arith) (omega arith) s) ∙ h
+  nothing_kept at (Some (Form.shared U)) s h = target-same old new at (IsSame-part old new at 8 at 4 (omega arith) (omega arith) s) ∙ h
   nothing_kept at (Some (Form.struct Us)) s h = target-same old new at (IsSame-part old new at 8 at 4 (omega arith) (omega arith) s) ∙ h
 
   pub part_kept : (place : Place) (blocks : List ℕ) → SamePlace old new table place → AllByRecursion (KeepsBlock old new) blocks → IsPart old table place blocks → IsPart new table place blocks

@@ -28,9 +28,9 @@ use Rattle.seg_spec.proofs.WriteInside.{KeptBut, live_kept_but}
 -- ---- what cells name
 
 module _ (bytes : List ℕ) (table : Table) (valid : IsTable table) where
-  -- where the word names something, it is the payload of one of the blocks
+  -- where the word names something, it is the payload of one of the blocks, or one that other values share
   abbrev pub NamesIn : List ℕ → ℕ → Type 0
-  NamesIn blocks at = (t : ℕ) → target bytes at ≡ Some t → (16 ≤ t) × (1 ≤ times (block_of t) blocks)
+  NamesIn blocks at = (t : ℕ) → target bytes at ≡ Some t → (16 ≤ t) × ((1 ≤ times (block_of t) blocks) ⊎ (t % 16 ≡ 0))
 
   abbrev pub NamesOwned : List ℕ → ℕ → Option Form → Type 0
   NamesOwned blocks at (Some Form.i64) = Unit {0}
@@ -45,18 +45,27 @@ module _ (bytes : List ℕ) (table : Table) (valid : IsTable table) where
   from_names blocks at (Some (Form.flat_map U)) h = h
   from_names blocks at (Some (Form.map U)) h = h
   from_names blocks at (Some (Form.own U)) h = h
+  from_names blocks at (Some (Form.shared U)) h = h
   from_names blocks at (Some (Form.struct Us)) h = h
 
+  more_in : (xs ys : List ℕ) → ((h : ℕ) → 1 ≤ times h xs → 1 ≤ times h ys) → (t : ℕ) → (16 ≤ t) × ((1 ≤ times (block_of t) xs) ⊎ (t % 16 ≡ 0)) → (16 ≤ t) × ((1 ≤ times (block_of t) ys) ⊎ (t % 16 ≡ 0))
+  more_in xs ys more t (low, inl mine) = (low, inl (more (block_of t) mine))
+  more_in xs ys more t (low, inr aligned) = (low, inr aligned)
+
+  own_name : (blocks : List ℕ) (at : ℕ) → ((t : ℕ) → target bytes at ≡ Some t → (16 ≤ t) × (1 ≤ times (block_of t) blocks)) → NamesIn blocks at
+  own_name blocks at h t e = ((h t e).0, inl (h t e).1)
+
   owned_more : (xs ys : List ℕ) (at : ℕ) (form : Option Form) → ((h : ℕ) → 1 ≤ times h xs → 1 ≤ times h ys) → NamesOwned xs at form → NamesOwned ys at form
-  owned_more xs ys at None more h = λ t e. ((h t e).0, more (block_of t) (h t e).1)
+  owned_more xs ys at None more h = λ t e. more_in xs ys more t (h t e)
   owned_more xs ys at (Some Form.i64) more h = tt
-  owned_more xs ys at (Some Form.str) more h = λ t e. ((h t e).0, more (block_of t) (h t e).1)
-  owned_more xs ys at (Some (Form.vec U)) more h = λ t e. ((h t e).0, more (block_of t) (h t e).1)
-  owned_more xs ys at (Some (Form.list U)) more h = λ t e. ((h t e).0, more (block_of t) (h t e).1)
-  owned_more xs ys at (Some (Form.flat_map U)) more h = λ t e. ((h t e).0, more (block_of t) (h t e).1)
-  owned_more xs ys at (Some (Form.map U)) more h = λ t e. ((h t e).0, more (block_of t) (h t e).1)
-  owned_more xs ys at (Some (Form.own U)) more h = λ t e. ((h t e).0, more (block_of t) (h t e).1)
-  owned_more xs ys at (Some (Form.struct Us)) more h = λ t e. ((h t e).0, more (block_of t) (h t e).1)
+  owned_more xs ys at (Some Form.str) more h = λ t e. more_in xs ys more t (h t e)
+  owned_more xs ys at (Some (Form.vec U)) more h = λ t e. more_in xs ys more t (h t e)
+  owned_more xs ys at (Some (Form.list U)) more h = λ t e. more_in xs ys more t (h t e)
+  owned_more xs ys at (Some (Form.flat_map U)) more h = λ t e. more_in xs ys more t (h t e)
+  owned_more xs ys at (Some (Form.map U)) more h = λ t e. more_in xs ys more t (h t e)
+  owned_more xs ys at (Some (Form.own U)) more h = λ t e. more_in xs ys more t (h t e)
+  owned_more xs ys at (Some (Form.shared U)) more h = λ t e. more_in xs ys more t (h t e)
+  owned_more xs ys at (Some (Form.struct Us)) more h = λ t e. more_in xs ys more t (h t e)
 
   room_named : (o : Option ℕ) (n kind each t : ℕ) → o ≡ Some t → MatchOption o (n ≡ 0) (λ p. IsBlock bytes p kind (n * each)) → (16 ≤ t) × (1 ≤ times (block_of t) (option_to_list (option_map block_of o)))
   room_named None n kind each t e r = absurd (cc)
@@ -88,18 +97,19 @@ module _ (bytes : List ℕ) (table : Table) (valid : IsTable table) where
   opens_named : (place : Place) (form : Form) (opened : Opened) → IsOne table valid form → Opens bytes table place form opened → NamesIn opened.blocks place.at
   opens_named place Form.i64 opened one o = absurd one
   opens_named place (Form.struct Us) opened one o = absurd one
-  opens_named place Form.str opened one o = λ t e. rw (ap (λ (r : Opened). r.blocks) o.opened_is) (room_named (target bytes place.at) _ _ 1 t e o.named_room)
-  opens_named place (Form.vec U) opened one o = λ t e. rw (ap (λ (r : Opened). r.blocks) o.opened_is) (room_named (target bytes place.at) _ _ (size table U) t e o.named_room)
-  opens_named place (Form.flat_map U) opened one o = λ t e. rw (ap (λ (r : Opened). r.blocks) o.opened_is) (room_named (target bytes place.at) _ _ (8 + size table U) t e o.named_room)
-  opens_named place (Form.own U) opened one o = λ t e. rw (ap (λ (r : Opened). r.blocks) o.opened_is) (room_named (target bytes place.at) _ _ (size table U) t e o.named_room)
-  opens_named place (Form.list U) opened one o = λ t e. rw (ap (λ (r : Opened). r.blocks) o.opened_is) (ring_named (target bytes place.at) _ (8 + size table U) t o.nodes e o.ring o.are_nodes)
-  opens_named place (Form.map U) opened one o = λ t e. rw (ap (λ (r : Opened). r.blocks) o.opened_is) (tree_named (target bytes place.at) _ (map_words + size table U) t o.tree e o.is_tree o.are_nodes)
+  opens_named place Form.str opened one o = own_name opened.blocks place.at (λ t e. rw (ap (λ (r : Opened). r.blocks) o.opened_is) (room_named (target bytes place.at) _ _ 1 t e o.named_room))
+  opens_named place (Form.vec U) opened one o = own_name opened.blocks place.at (λ t e. rw (ap (λ (r : Opened). r.blocks) o.opened_is) (room_named (target bytes place.at) _ _ (size table U) t e o.named_room))
+  opens_named place (Form.flat_map U) opened one o = own_name opened.blocks place.at (λ t e. rw (ap (λ (r : Opened). r.blocks) o.opened_is) (room_named (target bytes place.at) _ _ (8 + size table U) t e o.named_room))
+  opens_named place (Form.own U) opened one o = own_name opened.blocks place.at (λ t e. rw (ap (λ (r : Opened). r.blocks) o.opened_is) (room_named (target bytes place.at) _ _ (size table U) t e o.named_room))
+  opens_named place (Form.shared U) opened one o = λ t e. let payload = o.payload t e in (omega (arith, payload.low), inr payload.aligned)
+  opens_named place (Form.list U) opened one o = own_name opened.blocks place.at (λ t e. rw (ap (λ (r : Opened). r.blocks) o.opened_is) (ring_named (target bytes place.at) _ (8 + size table U) t o.nodes e o.ring o.are_nodes))
+  opens_named place (Form.map U) opened one o = own_name opened.blocks place.at (λ t e. rw (ap (λ (r : Opened). r.blocks) o.opened_is) (tree_named (target bytes place.at) _ (map_words + size table U) t o.tree e o.is_tree o.are_nodes))
 
   one_owned : (place : Place) (form : Form) (opened : Opened) (blocks owned : List ℕ) → form_at table place.type ≡ Some form → IsOne table valid form → Opens bytes table place form opened →
       blocks ≡ opened.blocks ++ owned → EachCell table place.type (λ d f. NamesOwned blocks (place.at + d) f)
   one_owned place form opened blocks owned f one o blocks_is =
       each_one table valid (λ d g. NamesOwned blocks (place.at + d) g) place.type form f one
-      (from_names blocks (place.at + 0) (Some form) (rw (add-zero place.at, blocks_is) (λ t e. let n = opens_named place form opened one o t e in (n.0, omega (arith, n.1, times-append (block_of t) opened.blocks owned)))))
+      (from_names blocks (place.at + 0) (Some form) (rw (add-zero place.at, blocks_is) (λ t e. more_in opened.blocks (opened.blocks ++ owned) (λ h mine. omega (arith, mine, times-append h opened.blocks owned)) t (opens_named place form opened one o t e))))
 
   head_or : Place → List Place → Place
   head_or d [] = d
@@ -133,6 +143,7 @@ module _ (bytes : List ℕ) (table : Table) (valid : IsTable table) where
     names_owned {place = place} {blocks = blocks} (holds (Form.flat_map U) opened inside owned f o hs v_is blocks_is) = one_owned place (Form.flat_map U) opened blocks owned f tt o blocks_is
     names_owned {place = place} {blocks = blocks} (holds (Form.map U) opened inside owned f o hs v_is blocks_is) = one_owned place (Form.map U) opened blocks owned f tt o blocks_is
     names_owned {place = place} {blocks = blocks} (holds (Form.own U) opened inside owned f o hs v_is blocks_is) = one_owned place (Form.own U) opened blocks owned f tt o blocks_is
+    names_owned {place = place} {blocks = blocks} (holds (Form.shared U) opened inside owned f o hs v_is blocks_is) = one_owned place (Form.shared U) opened blocks owned f tt o blocks_is
     names_owned {place = place} {blocks = blocks} (holds (Form.struct Us) opened inside owned f o hs v_is blocks_is) =
         let parts : opened.parts ≡ fields table place.at Us = ap (λ (r : Opened). r.parts) o in
         let from_0 : opened.parts ≡ fields table (place.at + 0) Us = rw (add-zero place.at) parts in
@@ -198,7 +209,7 @@ module _ (old raw new : List ℕ) (table : Table) (valid : IsTable table) (n : �
   pointer_there blocks p q aligned far small eight s names f =
       let first : word raw q ≡ word old p = number-slice 4 old raw q p (part_same 0 4 (omega arith)) in
       let second : count_at raw q ≡ count_at old p = number-slice 4 old raw (q + 4) (p + 4) (part_at 4 4 (omega arith)) in (
-        pointer_moved old new p q n (f.0 ∙ ap (cells_words.further n) first) far small (λ t e. not_after t (names t e).0 (aligned (block_of t) (names t e).1)),
+        pointer_moved old new p q n (f.0 ∙ ap (cells_words.further n) first) far small (λ t e. not_after t (names t e).0 (even t (names t e))),
         f.1 ∙ second,
       )
     where
@@ -207,6 +218,10 @@ module _ (old raw new : List ℕ) (table : Table) (valid : IsTable table) (n : �
 
       part_same : (i m : ℕ) → m ≤ 8 → slice raw q m ≡ slice old p m
       part_same i m fits = let e = part_at 0 m (omega arith) in rw (add-zero q, add-zero p) at e
+
+      even : (t : ℕ) → (16 ≤ t) × ((1 ≤ times (block_of t) blocks) ⊎ (t % 16 ≡ 0)) → (t - 16) % 16 ≡ 0
+      even t (low, inl mine) = aligned (block_of t) mine
+      even t (low, inr itself) = omega arith
 
       not_after : (t : ℕ) → 16 ≤ t → (t - 16) % 16 ≡ 0 → t ≢ q + 1
       not_after t low even = λ e. omega arith
@@ -221,6 +236,7 @@ module _ (old raw new : List ℕ) (table : Table) (valid : IsTable table) (n : �
   cell_there blocks p q (Some (Form.flat_map U)) aligned far small eight s names f = pointer_there blocks p q aligned far small eight s names f
   cell_there blocks p q (Some (Form.map U)) aligned far small eight s names f = pointer_there blocks p q aligned far small eight s names f
   cell_there blocks p q (Some (Form.own U)) aligned far small eight s names f = pointer_there blocks p q aligned far small eight s names f
+  cell_there blocks p q (Some (Form.shared U)) aligned far small eight s names f = pointer_there blocks p q aligned far small eight s names f
   cell_there blocks p q (Some (Form.struct Us)) aligned far small eight s names f = pointer_there blocks p q aligned far small eight s names f
 
   pub value_there : (p q T : ℕ) (v : Value) (blocks : List ℕ) → ((h : ℕ) → 1 ≤ times h blocks → h % 16 ≡ 0) → (q + n) % 2 ^ 32 ≡ p → q + size table T < 2 ^ 31 → p + size table T < 2 ^ 31 → q % 8 ≡ 0
