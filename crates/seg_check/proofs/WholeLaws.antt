@@ -128,6 +128,7 @@ module _ (bytes : List ℕ) (table : Table) (known : Known) (front : HasFront by
           header = front.header;
           types = front.types;
           is_table = front.is_table;
+          of_version = front.of_version;
           heap = is_heap bytes table front tiles free;
           blocks = tiles.ownable;
           names = record { index = r.index; opens = r.opens; entries = roots.are_entries; ascending = of_after (map (λ (x : Root). x.name) roots.names) roots.ascending; blocks_are = refl };

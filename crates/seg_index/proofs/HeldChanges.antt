@@ -48,6 +48,7 @@ laid_out_named old new picture blocks spans names others l c =
       header = header_named old new picture.table spans blocks names others c l.header;
       types = IsSame-part old new reserved 664 types_start types_size (omega arith) (omega arith) c.back_kept ∙ l.types;
       is_table = l.is_table;
+      of_version = l.of_version;
       heap = rw allocator c.heap;
       blocks = c.ownable;
       names = c.lists;

@@ -1,7 +1,8 @@
 ghost use Rattle.std.specs.Prelude.{◌≡◌, ℕ, ◌<◌, ◌≤◌, ◌==◌, ◌↔◌, ◌%◌, ◌*◌, ◌+◌, ◌++◌, [], map, sum_by, length, slice_get, IsOk, IfOk, IfErr, IfSome};
 ghost use Rattle.arrayvec.specs.ArrayVec.{array_vec_len};
-ghost use Rattle.seg_spec.specs.Types.{Table, Agree, IsFirstDifference, longer, fields_of, fields_from, pointers, IsTable, form_at, entry_at, size, Spells, IsWrong, IsFirstWrong};
+ghost use Rattle.seg_spec.specs.Types.{Table, Agree, IsFirstDifference, longer, fields_of, fields_from, pointers, IsTable, form_at, entry_at, AreOfVersion, size, Spells, IsWrong, IsFirstWrong};
 ghost use Rattle.seg_layout.specs.Forms.{cell_of, form_of, map_option, has_cells};
+ghost use Rattle.seg_layout.specs.Reading.{IsReading};
 
 use crate::entry::{Entries, Entry, MAX_TYPES, Slot};
 use crate::kind::{Cell, ENTRY, Fields, Type, TypeId};
@@ -41,19 +42,35 @@ impl TypeTable {
     }
 
     /// The table whose entries of 16 bytes these are, the unused ones (all zero) last; else
-    /// `BadType` with the first wrong entry. An entry that is cut is wrong, and so is a 33rd.
+    /// `BadType` with the first wrong entry. An entry that is cut is wrong, and so is a 33rd, or
+    /// a type that images of version 1 don't have.
     pub fn read(bytes: &[u8]) -> Result<TypeTable, Fault>
-        ensures right { IsOk result ↔ ((k : ℕ) → IsWrong bytes.now k → ⊥) }
-        ensures table { IfOk result (λ table. IsTable table × Spells bytes.now table) }
+        ensures { IsReading 1 bytes.now result }
+    {
+        TypeTable::read_version(bytes, 1)
+    }
+
+    /// The table whose entries these are, as `read` does, with the types that images of version 2 have too.
+    pub fn read_shared(bytes: &[u8]) -> Result<TypeTable, Fault>
+        ensures { IsReading 2 bytes.now result }
+    {
+        TypeTable::read_version(bytes, 2)
+    }
+
+    /// The table whose entries these are, with the types that images of a version have.
+    fn read_version(bytes: &[u8], version: u32) -> Result<TypeTable, Fault>
+        ensures right { IsOk result ↔ ((k : ℕ) → IsWrong version bytes.now k → ⊥) }
+        ensures table { IfOk result (λ table.
+            IsTable table × AreOfVersion version table × Spells bytes.now table) }
         ensures wrong { IfErr result (λ fault.
-            (k : ℕ) × (fault ≡ Fault.BadType k) × IsFirstWrong bytes.now k) }
-        ensures given { (table : Table) → IsTable table → Spells bytes.now table →
-            length bytes.now % ENTRY ≡ 0 →
+            (k : ℕ) × (fault ≡ Fault.BadType k) × IsFirstWrong version bytes.now k) }
+        ensures given { (table : Table) → IsTable table → AreOfVersion version table →
+            Spells bytes.now table → length bytes.now % ENTRY ≡ 0 →
             length bytes.now ≤ ENTRY * MAX_TYPES → result ≡ Ok table }
     {
         let mut entries = ArrayVec::new();
         for index in 0..bytes.len().div_ceil(ENTRY) {
-            match Slot::read(bytes, index, &entries) {
+            match Slot::read(bytes, index, &entries, version) {
                 Slot::Used(entry) => entries.push(entry),
                 Slot::Unused => {}
                 Slot::Wrong => return Err(Fault::BadType(index as u32)),

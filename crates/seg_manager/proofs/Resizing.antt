@@ -175,6 +175,7 @@ module _ (old new : List ℕ) (picture : Picture) (held : IsHeld old picture) (r
           header = header;
           types = high types_start types_size (omega arith) (omega arith) ∙ l.types;
           is_table = l.is_table;
+          of_version = l.of_version;
           heap = rw allocator_then r.heap;
           blocks = ownable;
           names = ListsNames-kept old new picture.names held.index_blocks (middle index_kind_word 4 (omega arith) (omega arith)) (high index_cell 8 (omega arith) (omega arith))

@@ -88,6 +88,7 @@ module _ (old new : List ℕ) (picture : Picture) (held : IsHeld old picture) (T
         header = header_same old new changes.length_kept (low_same 0 64 (omega arith)) l.header;
         types = low_same types_start types_size (omega arith) ∙ l.types;
         is_table = l.is_table;
+        of_version = l.of_version;
         heap = rw word_allocator word_heap;
         blocks = header_ownable allocator old new (unique_word T) 4 heap changes fits after_root picture.table l.blocks;
         names = ListsNames-kept old new picture.names held.index_blocks (low_same index_kind_word 4 (omega arith)) (low_same index_cell 8 (omega arith)) index_kept l.names;

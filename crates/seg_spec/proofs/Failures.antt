@@ -27,10 +27,10 @@ right_types bytes table k f l =
     let h = f.header in
     let long : length (slice bytes 64 512) ≡ 512 = length-slice bytes 64 512 (let small = h.not_small in omega arith) in
     let spelled : Spells (slice bytes 64 512) table = f.types ∙ ap (λ n. padded n (flat_map form_bytes table)) (sym long) in
-    valid_right (slice bytes 64 512) table f.is_table spelled (ap (λ n. n % 16) long) (omega arith) k l.1.wrong
+    valid_right 1 (slice bytes 64 512) table f.is_table f.of_version spelled (ap (λ n. n % 16) long) (omega arith) k l.1.wrong
 
 front_held : (bytes : List ℕ) (s : IsSound bytes) → HasFront bytes s.picture.table
-front_held bytes s = record { header = s.held.laid_out.header; types = s.held.laid_out.types; is_table = s.held.laid_out.is_table }
+front_held bytes s = record { header = s.held.laid_out.header; types = s.held.laid_out.types; is_table = s.held.laid_out.is_table; of_version = s.held.laid_out.of_version }
 
 pub unsound : (bytes : List ℕ) (failure : Failure) → Lacks bytes failure → IsSound bytes → ⊥
 unsound bytes Failure.bad_header l s = l s.held.laid_out.header

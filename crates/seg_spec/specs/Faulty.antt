@@ -10,7 +10,7 @@
 use Rattle.std.specs.Prelude.{◌≡◌, ℕ, ◌%◌, ◌≤◌, true, List, [], ◌++◌, length}
 use Rattle.std.specs.List.{AllByRecursion}
 use Rattle.seg_spec.specs.Bytes.{word, slice}
-use Rattle.seg_spec.specs.Types.{Table, IsTable, HasTable, IsFirstWrong}
+use Rattle.seg_spec.specs.Types.{Table, IsTable, AreOfVersion, HasTable, IsFirstWrong}
 use Rattle.seg_spec.specs.Heap.{heap_start, tiles, Fill, AreHeaders, AreApart, live, gaps, HoldsGaps}
 use Rattle.seg_spec.specs.Block.{IsOwnable}
 use Rattle.seg_spec.specs.Sound.{Picture, roots_of, HasHeader, HoldsRoots, IsLaidOut, IsSound, times, positions}
@@ -48,6 +48,7 @@ pub record HasFront (bytes : List ℕ) (table : Table) : Type 0 where
   pub header : HasHeader bytes
   pub types : HasTable bytes types_start table
   pub is_table : IsTable table
+  pub of_version : AreOfVersion 1 table
 
 -- the fixed words or the length
 abbrev pub LacksHeader : List ℕ → Type 0
@@ -55,7 +56,7 @@ LacksHeader bytes = HasHeader bytes → ⊥
 
 -- entry k of the table of types
 abbrev pub LacksType : List ℕ → ℕ → Type 0
-LacksType bytes k = HasHeader bytes × IsFirstWrong (slice bytes types_start types_size) k
+LacksType bytes k = HasHeader bytes × IsFirstWrong 1 (slice bytes types_start types_size) k
 
 -- tiles, headers, tags or links
 abbrev pub LacksTiles : List ℕ → Type 0
