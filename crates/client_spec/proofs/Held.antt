@@ -1,11 +1,11 @@
 -- What a place holds has the shape of its type, whatever numbers its bytes are.
-use Rattle.std.proofs.Common.{◌≡◌, ℕ, ◌+◌, List, length, map, refl, ap, sym, ◌∙◌, subst}
+use Rattle.std.proofs.Common.{◌≡◌, ℕ, ◌+◌, List, length, map, Option, Some, None, arith, refl, ap, sym, ◌∙◌, subst}
 use Rattle.std.proofs.lemmas.List.{length-map}
 use Rattle.seg_spec.specs.Pointer.{target}
 use Rattle.seg_spec.specs.Types.{Form, Table, size}
-use Rattle.seg_spec.specs.Value.{Value, Values, types_inside}
+use Rattle.seg_spec.specs.Value.{Label, Value, Values, types_inside}
 use Rattle.seg_spec.specs.Shapes.{nodes_of}
-use Rattle.seg_spec.specs.Reads.{Place, Opened, count_at, start, spaced, places_of, keys_at, Opens, Holds, holds, HoldsEach, holds_none, holds_more}
+use Rattle.seg_spec.specs.Reads.{shared_label, Place, Opened, count_at, start, spaced, places_of, keys_at, Opens, Holds, holds, HoldsEach, holds_none, holds_more}
 use Rattle.seg_spec.proofs.Fits.{length-spaced, types_of, types_of-fields, length-places_of, typed, one_at_most}
 use Rattle.seg_spec.proofs.Paths.{count_is}
 use Rattle.client_spec.specs.Shape.{IsLabel, HasShape, HaveShapes}
@@ -20,6 +20,10 @@ shaped_as form a b e o = rw e o
 
 keyed : (bytes : List ℕ) (U m head : ℕ) (ps : List ℕ) → length (keys_at bytes (map (λ p. p + m) ps)) ≡ length (places_of U (map (λ p. p + head) ps))
 keyed bytes U m head ps = length-map (map (λ p. p + m) ps) _ ∙ length-map ps _ ∙ sym (length-places_of U (map (λ p. p + head) ps) ∙ length-map ps _)
+
+shared_shape : (U : ℕ) (o : Option ℕ) → IsLabel (Form.shared U) (shared_label U o) 0
+shared_shape U None = omega arith
+shared_shape U (Some p) = (refl, refl)
 
 Opens-shaped : (bytes : List ℕ) (table : Table) (place : Place) (form : Form) (opened : Opened) → Opens bytes table place form opened → OpensShaped form opened
 Opens-shaped bytes table place Form.i64 opened o = shaped_as Form.i64 _ _ o (record { label = refl; types = refl })
@@ -39,6 +43,7 @@ Opens-shaped bytes table place (Form.own U) opened o = shaped_as (Form.own U) _ 
   ) (one_at_most (target bytes place.at));
   types = typed U _;
 })
+Opens-shaped bytes table place (Form.shared U) opened o = shaped_as (Form.shared U) _ _ o.opened_is (record { label = shared_shape U (target bytes place.at); types = refl })
 Opens-shaped bytes table place (Form.struct Us) opened o = shaped_as (Form.struct Us) _ _ o (record { label = tt; types = types_of-fields table place.at Us })
 
 module _ (bytes : List ℕ) (table : Table) where
