@@ -71,6 +71,7 @@ of_by table T content (Some (Form.struct Us)) f c e = absurd c
 of_by table T content (Some (Form.list U)) f c e = of_list table T (tag_of block.Kind.node T) 8 U content c e
 of_by table T content (Some (Form.map U)) f c e = of_map table T (tag_of block.Kind.node T) 24 U content c e
 of_by table T content (Some (Form.own U)) f c e = of_own table T (tag_of block.Kind.object U) 0 U content c e
+of_by table T content (Some (Form.shared U)) f c e = absurd c
 of_by table T content (Some Form.str) f c e = record {
   form = Form.str;
   form_is = f;
@@ -152,6 +153,7 @@ module _ (allocator : ℕ) (old : List ℕ) (table : Table) (cell T : ℕ) (v : 
       go (Form.list U) = omega arith
       go (Form.map U) = omega arith
       go (Form.own U) = omega arith
+      go (Form.shared U) = omega arith
       go (Form.struct Us) = omega arith
 
   each_small : item_size table of.form ≤ 4104
@@ -165,6 +167,7 @@ module _ (allocator : ℕ) (old : List ℕ) (table : Table) (cell T : ℕ) (v : 
       go (Form.list U) = omega arith
       go (Form.map U) = omega arith
       go (Form.own U) = omega arith
+      go (Form.shared U) = omega arith
       go (Form.struct Us) = omega arith
 
   -- the entries are no more bytes than the segment has

@@ -61,6 +61,7 @@ a_number (Some (Form.list U)) h = absurd (cc)
 a_number (Some (Form.flat_map U)) h = absurd (cc)
 a_number (Some (Form.map U)) h = absurd (cc)
 a_number (Some (Form.own U)) h = absurd (cc)
+a_number (Some (Form.shared U)) h = absurd (cc)
 a_number (Some (Form.struct Us)) h = absurd (cc)
 
 pub no_pointers : (o : Option Form) → cells_of o ≡ cells.Number → has_cells o ≡ false
@@ -72,6 +73,7 @@ no_pointers (Some (Form.list U)) h = absurd (cc)
 no_pointers (Some (Form.flat_map U)) h = absurd (cc)
 no_pointers (Some (Form.map U)) h = absurd (cc)
 no_pointers (Some (Form.own U)) h = absurd (cc)
+no_pointers (Some (Form.shared U)) h = absurd (cc)
 no_pointers (Some (Form.struct Us)) h = absurd (cc)
 
 module _ (table : Table) (valid : IsTable table) (T : ℕ) where
@@ -89,6 +91,7 @@ module _ (table : Table) (valid : IsTable table) (T : ℕ) where
   struct_by (Some (Form.flat_map U)) e h = absurd (omega arith)
   struct_by (Some (Form.map U)) e h = absurd (omega arith)
   struct_by (Some (Form.own U)) e h = absurd (omega arith)
+  struct_by (Some (Form.shared U)) e h = absurd (omega arith)
 
   -- what has fields is a struct
   pub struct_of : 1 ≤ length (fields_of table T) → IsStruct
@@ -113,6 +116,7 @@ module _ (table : Table) (valid : IsTable table) (T : ℕ) where
   cell_by (Some (Form.flat_map U)) e h n = record { form = Form.flat_map U; form_is = e; one = tt }
   cell_by (Some (Form.map U)) e h n = record { form = Form.map U; form_is = e; one = tt }
   cell_by (Some (Form.own U)) e h n = record { form = Form.own U; form_is = e; one = tt }
+  cell_by (Some (Form.shared U)) e h n = record { form = Form.shared U; form_is = e; one = tt }
 
   -- what has a pointer and no fields is one cell
   pub cell_of_type : has_cells (form_at table T) ≡ true → length (fields_of table T) ≡ 0 → IsCell
@@ -127,6 +131,7 @@ module _ (table : Table) (valid : IsTable table) (T : ℕ) where
   one_pointer (Form.flat_map U) h = refl
   one_pointer (Form.map U) h = refl
   one_pointer (Form.own U) h = refl
+  one_pointer (Form.shared U) h = refl
 
   pub a_pointer : has_cells (form_at table T) ≡ true → length (fields_of table T) ≡ 0 → cells_of (form_at table T) ≡ cells.Pointer
   a_pointer h n = let k = cell_of_type h n in ap cells_of k.form_is ∙ one_pointer k.form k.one
@@ -144,6 +149,7 @@ module _ (table : Table) (valid : IsTable table) (T : ℕ) where
   cell_of_pointer_by (Some (Form.flat_map U)) e h = record { form = Form.flat_map U; form_is = e; one = tt }
   cell_of_pointer_by (Some (Form.map U)) e h = record { form = Form.map U; form_is = e; one = tt }
   cell_of_pointer_by (Some (Form.own U)) e h = record { form = Form.own U; form_is = e; one = tt }
+  cell_of_pointer_by (Some (Form.shared U)) e h = record { form = Form.shared U; form_is = e; one = tt }
 
   pub cell_of_pointer : cells_of (form_at table T) ≡ cells.Pointer → IsCell
   cell_of_pointer h = cell_of_pointer_by (form_at table T) refl h
@@ -159,6 +165,7 @@ module _ (table : Table) (valid : IsTable table) (T : ℕ) where
     further_none n (Some (Form.flat_map U)) e h = absurd (cc)
     further_none n (Some (Form.map U)) e h = absurd (cc)
     further_none n (Some (Form.own U)) e h = absurd (cc)
+    further_none n (Some (Form.shared U)) e h = absurd (cc)
 
     pub further_no_cells : (n : ℕ) → has_cells (form_at table T) ≡ false → ChangesCells (λ old new p form. IsFurther old new n p form) a a table at T
     further_no_cells n h = further_none n (form_at table T) refl h
@@ -182,6 +189,7 @@ module _ (table : Table) (valid : IsTable table) (T : ℕ) where
       defaulted_one (Form.flat_map U) h b e f = (e, f)
       defaulted_one (Form.map U) h b e f = (e, f)
       defaulted_one (Form.own U) h b e f = (e, f)
+      defaulted_one (Form.shared U) h b e f = (e, f)
 
       -- an empty cell is written
       pub empty_cell : IsCell → ChangesCells IsDefaulted a (set_long a at 1) table at T
@@ -201,6 +209,7 @@ module _ (table : Table) (valid : IsTable table) (T : ℕ) where
       number_by (Some (Form.flat_map U)) e h = absurd (cc)
       number_by (Some (Form.map U)) e h = absurd (cc)
       number_by (Some (Form.own U)) e h = absurd (cc)
+      number_by (Some (Form.shared U)) e h = absurd (cc)
 
       -- 0 is written
       pub zero_cell : has_cells (form_at table T) ≡ false → ChangesCells IsDefaulted a (set_long a at 0) table at T
@@ -215,6 +224,7 @@ module _ (table : Table) (valid : IsTable table) (T : ℕ) where
       further_one n (Form.flat_map U) h b e f = (e, f)
       further_one n (Form.map U) h b e f = (e, f)
       further_one n (Form.own U) h b e f = (e, f)
+      further_one n (Form.shared U) h b e f = (e, f)
 
       pub further_one_cell : (n : ℕ) → IsCell → further n (word a at) < 2 ^ 32 → ChangesCells (λ old new p form. IsFurther old new n p form) a (set_word a at (further n (word a at))) table at T
       further_one_cell n k small =

@@ -51,6 +51,7 @@ module _ (bytes : List ℕ) (table : Table) where
       (rw zero_count refl) hs is
   null_by place (Form.own U) opened inside owned xs e flat o hs is =
       opened_nothing opened _ inside owned xs (blocks_of o.opened_is ∙ no_named place.at e) (parts_of o.opened_is) (no_items (start bytes place.at) U (count_at bytes place.at) (rw e at o.named_room)) hs is
+  null_by place (Form.shared U) opened inside owned xs e flat o hs is = opened_nothing opened [] inside owned xs (blocks_of o.opened_is) (parts_of o.opened_is) refl hs is
   null_by place (Form.list U) opened inside owned xs e flat o hs is =
       let none : o.nodes ≡ [] = no_nodes o.nodes (subst (λ t. IsRing bytes t o.nodes) e o.ring) in
       opened_nothing opened (places_of U (map (λ p. p + 8) o.nodes)) inside owned xs (blocks_of o.opened_is ∙ ap (map block_of) none) (parts_of o.opened_is) (ap (λ ns. places_of U (map (λ p. p + 8) ns)) none) hs is
@@ -94,6 +95,7 @@ module _ (bytes : List ℕ) (table : Table) where
   no_cells_by place (Some (Form.flat_map U)) xs f h (inl n) = absurd (cc)
   no_cells_by place (Some (Form.map U)) xs f h (inl n) = absurd (cc)
   no_cells_by place (Some (Form.own U)) xs f h (inl n) = absurd (cc)
+  no_cells_by place (Some (Form.shared U)) xs f h (inl n) = absurd (cc)
 
   pub no_cells_own : (place : Place) (xs : List ℕ) → has_cells (form_at table place.type) ≡ false → IsPart bytes table place xs → xs ≡ []
   no_cells_own place xs h part = no_cells_by place (form_at table place.type) xs refl h part
@@ -114,6 +116,11 @@ module _ (bytes : List ℕ) (table : Table) where
   no_content_by place (Some (Form.flat_map U)) xs valid few f h part = absurd h
   no_content_by place (Some (Form.map U)) xs valid few f h part = absurd h
   no_content_by place (Some (Form.own U)) xs valid few f h part = absurd h
+  no_content_by place (Some (Form.shared U)) xs valid few f h (inr n) = n.1
+  no_content_by place (Some (Form.shared U)) xs valid few f h (inl (v, holds form opened inside owned g o hs v_is is)) =
+      let same = same_form form (Form.shared U) (sym g ∙ f) in
+      let o' : Opens bytes table place (Form.shared U) opened = subst (λ k. Opens bytes table place k opened) same o in
+      opened_nothing opened [] inside owned xs (blocks_of o'.opened_is) (parts_of o'.opened_is) refl hs is
 
   pub no_content_owns : (place : Place) (xs : List ℕ) (content : Option Content) → IsTable table → length (fields_of table place.type) ≡ 0 → content ≡ None → ContentOf table place.type (form_at table place.type) content →
       IsPart bytes table place xs → xs ≡ []
@@ -135,6 +142,7 @@ module _ (bytes : List ℕ) (table : Table) where
       first at (Form.flat_map U) one h = h
       first at (Form.map U) one h = h
       first at (Form.own U) one h = h
+      first at (Form.shared U) one h = h
 
   held_by : (place : Place) (o : Option Form) (content : Content) (p : ℕ) (valid : IsTable table) → form_at table place.type ≡ o → ContentOf table place.type o (Some content) → target bytes place.at ≡ Some p →
       EachCell table place.type (λ d k. NamesNothing bytes (place.at + d) k) → ⊥
@@ -147,6 +155,7 @@ module _ (bytes : List ℕ) (table : Table) where
   held_by place (Some (Form.flat_map U)) content p valid f h e n = let z = at_first place (Form.flat_map U) valid f tt n in cc
   held_by place (Some (Form.map U)) content p valid f h e n = let z = at_first place (Form.map U) valid f tt n in cc
   held_by place (Some (Form.own U)) content p valid f h e n = let z = at_first place (Form.own U) valid f tt n in cc
+  held_by place (Some (Form.shared U)) content p valid f h e n = h
 
   pub held_there : (place : Place) (content : Content) (p : ℕ) (xs : List ℕ) → IsTable table → ContentOf table place.type (form_at table place.type) (Some content) → target bytes place.at ≡ Some p →
       IsPart bytes table place xs → (v : Value) × Holds bytes table place v xs

@@ -99,6 +99,7 @@ module _ (bytes : List ℕ) (table : Table) (valid : IsTable table) (p : ℕ) wh
     buffer_shows T (Some (Form.list U)) f o tag of = absurd o
     buffer_shows T (Some (Form.map U)) f o tag of = absurd o
     buffer_shows T (Some (Form.own U)) f o tag of = absurd o
+    buffer_shows T (Some (Form.shared U)) f o tag of = absurd o
     buffer_shows T (Some (Form.struct Us)) f o tag of = absurd o
     buffer_shows T (Some Form.str) f o tag of =
         let is = same_buffer k t T (sym tag ∙ o.0.has_tag) in
@@ -152,6 +153,7 @@ module _ (bytes : List ℕ) (table : Table) (valid : IsTable table) (p : ℕ) wh
     node_shows T (Some (Form.vec U)) f o tag of = absurd o
     node_shows T (Some (Form.flat_map U)) f o tag of = absurd o
     node_shows T (Some (Form.own U)) f o tag of = absurd o
+    node_shows T (Some (Form.shared U)) f o tag of = absurd o
     node_shows T (Some (Form.struct Us)) f o tag of = absurd o
     node_shows T (Some (Form.list U)) f o tag of =
         let is = same_node k t T (sym tag ∙ o.0.has_tag) in
@@ -225,6 +227,7 @@ module _ (bytes : List ℕ) (table : Table) (valid : IsTable table) (p : ℕ) wh
   no_content_by k t values links block.Kind.buffer T (Some (Form.list U)) f o tag of = o
   no_content_by k t values links block.Kind.buffer T (Some (Form.map U)) f o tag of = o
   no_content_by k t values links block.Kind.buffer T (Some (Form.own U)) f o tag of = o
+  no_content_by k t values links block.Kind.buffer T (Some (Form.shared U)) f o tag of = o
   no_content_by k t values links block.Kind.buffer T (Some (Form.struct Us)) f o tag of = o
   no_content_by k t values links block.Kind.buffer T (Some Form.str) f o tag of =
       let is = same_buffer k t T (sym tag ∙ o.0.has_tag) in
@@ -241,6 +244,7 @@ module _ (bytes : List ℕ) (table : Table) (valid : IsTable table) (p : ℕ) wh
   no_content_by k t values links block.Kind.node T (Some (Form.vec U)) f o tag of = o
   no_content_by k t values links block.Kind.node T (Some (Form.flat_map U)) f o tag of = o
   no_content_by k t values links block.Kind.node T (Some (Form.own U)) f o tag of = o
+  no_content_by k t values links block.Kind.node T (Some (Form.shared U)) f o tag of = o
   no_content_by k t values links block.Kind.node T (Some (Form.struct Us)) f o tag of = o
   no_content_by k t values links block.Kind.node T (Some (Form.list U)) f o tag of =
       let is = same_node k t T (sym tag ∙ o.0.has_tag) in
@@ -288,6 +292,7 @@ module _ (bytes : List ℕ) (table : Table) (valid : IsTable table) (p : ℕ) wh
       tag_is (Form.list U) o = absurd o
       tag_is (Form.map U) o = absurd o
       tag_is (Form.own U) o = absurd o
+      tag_is (Form.shared U) o = absurd o
       tag_is (Form.struct Us) o = absurd o
   unread_by values links us bs block.Kind.node T None f o parts more none = absurd o
   unread_by values links us bs block.Kind.node T (Some form) f o parts more none = absurd (none (record { kind = kind.Node; type_id = T }) (small T form f) (tag_is form o))
@@ -303,6 +308,7 @@ module _ (bytes : List ℕ) (table : Table) (valid : IsTable table) (p : ℕ) wh
       tag_is (Form.vec U) o = absurd o
       tag_is (Form.flat_map U) o = absurd o
       tag_is (Form.own U) o = absurd o
+      tag_is (Form.shared U) o = absurd o
       tag_is (Form.struct Us) o = absurd o
   unread_by values links us bs block.Kind.named T form f o parts more none = absurd o
   unread_by values links us bs block.Kind.index_buffer T form f o parts more none = absurd o

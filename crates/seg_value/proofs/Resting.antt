@@ -28,6 +28,7 @@ defaulted_nothing old new at (Some (Form.list U)) h = h.0
 defaulted_nothing old new at (Some (Form.flat_map U)) h = h.0
 defaulted_nothing old new at (Some (Form.map U)) h = h.0
 defaulted_nothing old new at (Some (Form.own U)) h = h.0
+defaulted_nothing old new at (Some (Form.shared U)) h = h.0
 defaulted_nothing old new at (Some (Form.struct Us)) h = h.0
 
 module _ (table : Table) (valid : IsTable table) (U : ℕ) where
@@ -41,6 +42,7 @@ module _ (table : Table) (valid : IsTable table) (U : ℕ) where
   nothing_by bytes q (Some (Form.flat_map V)) f h = absurd (cc)
   nothing_by bytes q (Some (Form.map V)) f h = absurd (cc)
   nothing_by bytes q (Some (Form.own V)) f h = absurd (cc)
+  nothing_by bytes q (Some (Form.shared V)) f h = absurd (cc)
 
   -- values of a type without pointers name nothing
   pub no_rest : (bytes : List ℕ) (p before used : ℕ) → has_cells (form_at table U) ≡ false → DefaultsRest bytes bytes table p before U used

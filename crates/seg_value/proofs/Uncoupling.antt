@@ -37,6 +37,7 @@ module _ (allocator : ℕ) (old : List ℕ) (table : Table) (valid : IsTable tab
   single_by (Some (Form.list U)) f k (inr s) = let t = k.shape_is in absurd (cc)
   single_by (Some (Form.map U)) f k s = unchanged (tree_goes old table place p e U v xs f h)
   single_by (Some (Form.own U)) f k s = unchanged (own_goes old table place p e U v xs f h)
+  single_by (Some (Form.shared U)) f k s = absurd k
 
   pub single : ContentOf table place.type (form_at table place.type) (Some content) → (content.shape ≡ shape.Tree) ⊎ (content.shape ≡ shape.Object) → Uncouples allocator old old table p xs
   single k s = single_by (form_at table place.type) refl k s
@@ -52,6 +53,7 @@ module _ (allocator : ℕ) (old : List ℕ) (table : Table) (valid : IsTable tab
   ring_by new (Some (Form.flat_map U)) f k s opened = let t = k.shape_is in absurd (cc)
   ring_by new (Some (Form.map U)) f k s opened = let t = k.shape_is in absurd (cc)
   ring_by new (Some (Form.own U)) f k s opened = let t = k.shape_is in absurd (cc)
+  ring_by new (Some (Form.shared U)) f k s opened = absurd k
   ring_by new (Some (Form.list U)) f k s opened =
       let r = list_goes allocator old table valid heap place p e v xs fits U f h in
       subst (λ b. Uncouples allocator old b table p xs) (sym (opened r.last r.names)) r.uncouples
@@ -71,6 +73,7 @@ module _ (allocator : ℕ) (old : List ℕ) (table : Table) (valid : IsTable tab
   buffer_by new used (Some (Form.list U)) f k s count text rest = let t = k.shape_is in absurd (cc)
   buffer_by new used (Some (Form.map U)) f k s count text rest = let t = k.shape_is in absurd (cc)
   buffer_by new used (Some (Form.own U)) f k s count text rest = let t = k.shape_is in absurd (cc)
+  buffer_by new used (Some (Form.shared U)) f k s count text rest = absurd k
   buffer_by new used (Some Form.str) f k s count text rest = subst (λ b. Uncouples allocator old b table p xs) (sym (text k.held_is)) (unchanged (text_goes old table place p e v xs f h))
   buffer_by new used (Some (Form.vec U)) f k s count text rest =
       let b = vector_named old table place p U v xs f e h in

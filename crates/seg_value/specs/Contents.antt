@@ -61,6 +61,7 @@ abbrev pub ContentOf : Table → ℕ → Option Form → Option Content → Type
 ContentOf table T None None = ⊤
 ContentOf table T (Some Form.i64) None = ⊤
 ContentOf table T (Some (Form.struct Us)) None = ⊤
+ContentOf table T (Some (Form.shared U)) None = ⊤
 ContentOf table T (Some Form.str) (Some content) = IsText (tag_of block.Kind.buffer T) content
 ContentOf table T (Some (Form.vec U)) (Some content) =
     IsContent table shape.Buffer (tag_of block.Kind.buffer T) 0 U content
@@ -100,6 +101,7 @@ cells_of (Some (Form.flat_map U)) = cells.Pointer
 cells_of (Some (Form.map U)) = cells.Pointer
 cells_of (Some (Form.own U)) = cells.Pointer
 cells_of (Some (Form.struct Us)) = cells.Fields
+cells_of (Some (Form.shared U)) = cells.Pointer
 
 -- what the values of each type are made of, one after the other
 abbrev pub AreCells : Table → List Cells → Type 0

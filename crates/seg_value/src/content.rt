@@ -37,13 +37,13 @@ impl Content {
     ghost use Rattle.seg_value.specs.Contents.{IsContent, ContentOf, OfBlock, kind_of_shape};
     ghost use Rattle.seg_value.specs.Names.{IsIndexBuffer};
 
-    /// What the cell of a type names. None for types whose values name nothing themselves, numbers and structs, and for
-    /// those that the table lacks.
+    /// What the cell of a type names. None for types whose values own nothing themselves, numbers, structs and those that
+    /// share an object with others, and for types that the table lacks.
     pub fn of(types: &TypeTable, t: TypeId) -> Option<Content>
         ensures { ContentOf types.now t (form_at types.now t) result }
     {
         let (shape, entry) = match types.kind(t)? {
-            Type::I64 | Type::Struct(_) => return None,
+            Type::I64 | Type::Struct(_) | Type::Shared(_) => return None,
             Type::Own(held) => return Some(Content::object(types, held)),
             Type::Str => (Shape::Buffer, Entry::byte()),
             Type::Vec(item) => (Shape::Buffer, Entry::with_value(types, item, 0)),
