@@ -18,16 +18,17 @@ pub other_word : (word slice text : List ℕ) (r : Bool) → r ≡ lib.Pointwise
 other_word word slice text r e same f is = not_from_Decides r (slice_eq-Decides Decides-eqb word slice r e) f (is ∙ sym same)
 
 -- the forms of one part have five words
-pub no_container : (word : List ℕ) → word ≢ codes "vec" → word ≢ codes "list" → word ≢ codes "flat_map" → word ≢ codes "map" → word ≢ codes "own" → word ≢ codes "struct"
+pub no_container : (word : List ℕ) → word ≢ codes "vec" → word ≢ codes "list" → word ≢ codes "flat_map" → word ≢ codes "map" → word ≢ codes "own" → word ≢ codes "shared" → word ≢ codes "struct"
     → (form : Form) (part : ℕ) → type_words form ≡ word ∷ type_word part ∷ [] → ⊥
-no_container word v l f m o s Form.i64 part e = let l = ap length e in omega arith
-no_container word v l f m o s Form.str part e = let l = ap length e in omega arith
-no_container word v l f m o s (Form.vec U) part e = v (sym (tail_of _ _ _ _ e).0)
-no_container word v l f m o s (Form.list U) part e = l (sym (tail_of _ _ _ _ e).0)
-no_container word v l f m o s (Form.flat_map U) part e = f (sym (tail_of _ _ _ _ e).0)
-no_container word v l f m o s (Form.map U) part e = m (sym (tail_of _ _ _ _ e).0)
-no_container word v l f m o s (Form.own U) part e = o (sym (tail_of _ _ _ _ e).0)
-no_container word v l f m o s (Form.struct Us) part e = s (sym (tail_of _ _ _ _ e).0)
+no_container word v l f m o h s Form.i64 part e = let l = ap length e in omega arith
+no_container word v l f m o h s Form.str part e = let l = ap length e in omega arith
+no_container word v l f m o h s (Form.vec U) part e = v (sym (tail_of _ _ _ _ e).0)
+no_container word v l f m o h s (Form.list U) part e = l (sym (tail_of _ _ _ _ e).0)
+no_container word v l f m o h s (Form.flat_map U) part e = f (sym (tail_of _ _ _ _ e).0)
+no_container word v l f m o h s (Form.map U) part e = m (sym (tail_of _ _ _ _ e).0)
+no_container word v l f m o h s (Form.own U) part e = o (sym (tail_of _ _ _ _ e).0)
+no_container word v l f m o h s (Form.shared U) part e = h (sym (tail_of _ _ _ _ e).0)
+no_container word v l f m o h s (Form.struct Us) part e = s (sym (tail_of _ _ _ _ e).0)
 
 -- a line that begins with `type` and goes on with no type
 pub no_type : (line word : List ℕ) (left : Words) → words_of line ≡ word ∷ left → word ≡ codes "type" → ((form : Form) → left ≢ type_words form)

@@ -93,6 +93,7 @@ module _ (file : List ℕ) (client : Client) (place : ℕ) (parts : AreParts fil
   parts_spell few_constants few_instructions = record {
     valid = record {
       types = parts.types.valid;
+      of_version = parts.types.of_version;
       few_constants = few_constants;
       constants = parts.constants.each;
       different = parts.constants.different;
@@ -190,6 +191,7 @@ spelled_parts file client spells =
       };
       types = record {
         valid = v.types;
+        of_version = v.of_version;
         whole = omega arith;
         spelled = types_there file S (word_bytes 1) (word_bytes t) (word_bytes c) (word_bytes i) types constants code (16 * t) e refl (four 1) (four t) (four c) (four i) lt;
       };

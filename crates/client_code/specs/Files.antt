@@ -9,7 +9,7 @@
 --     IsCodeAt file at table constants code            this code stands there, up to the end
 use Rattle.std.specs.Prelude.{◌≡◌, ℕ, ◌+◌, ◌*◌, ◌≤◌, List, ◌++◌, length, take, drop, flat_map, codes, All, AllPairs}
 use Rattle.seg_spec.specs.Bytes as bytes
-use Rattle.seg_spec.specs.Types.{Table, IsTable, form_bytes}
+use Rattle.seg_spec.specs.Types.{AreOfVersion, Table, IsTable, form_bytes}
 use Rattle.client_spec.specs.Syntax.{Constant, Statements, Client}
 use Rattle.client_spec.specs.Grammar.{constant_bytes, instruction_bytes, listing, IsConstant, Differ, IsCode, depth}
 
@@ -42,6 +42,7 @@ pub record AreConstants (file : List ℕ) (at : ℕ) (constants : List Constant)
 -- the types that stand after the header
 pub record AreTypes (file : List ℕ) (table : Table) : Type 0 where
   pub valid : IsTable table
+  pub of_version : AreOfVersion 1 table
   pub whole : 20 + 16 * length table ≤ length file
   pub spelled : bytes.slice file 20 (16 * length table) ≡ flat_map form_bytes table
 

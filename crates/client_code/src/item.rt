@@ -144,6 +144,8 @@ fn container(word: &[u8], item: TypeId) -> Option<Type>
         Some(Type::Map(item))
     } else if word == b"own".as_slice() {
         Some(Type::Own(item))
+    } else if word == b"shared".as_slice() {
+        Some(Type::Shared(item))
     } else {
         None
     }

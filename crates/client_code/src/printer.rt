@@ -103,6 +103,7 @@ fn print_type<A: Allocator>(text: &mut String<A>, kind: Type) -> Result<(), Allo
         Type::Map(part) => write!(text, "type map t{part}\n"),
         Type::Own(part) => write!(text, "type own t{part}\n"),
         Type::Struct(fields) => print_struct(text, fields.as_slice()),
+        Type::Shared(part) => write!(text, "type shared t{part}\n"),
     }
 }
 

@@ -69,6 +69,7 @@ module _ (bytes : List ℕ) (table : Table) (valid : IsTable table) where
       (spaced_aligned _ (8 + size table U) _ (start_aligned bytes _ _ _ _ o.named_room b) (let e = size_aligned table valid U in omega arith))))
   parts_aligned place (Form.map U) opened o a = same_parts _ _ o.opened_is (λ b. places_aligned U _ (further_aligned map_words (nodes_of o.tree) refl (nodes_aligned bytes _ _ (nodes_of o.tree) o.are_nodes b)))
   parts_aligned place (Form.own U) opened o a = same_parts _ _ o.opened_is (λ b. items_aligned _ U _ (start_aligned bytes _ _ _ _ o.named_room b))
+  parts_aligned place (Form.shared U) opened o a = same_parts _ _ o.opened_is (λ b. tt)
   parts_aligned place (Form.struct Us) opened o a = same_parts _ _ o (λ b. fields_aligned place.at Us a)
 
   -- a path

@@ -102,6 +102,7 @@ sized_forms number = (each, refl)
     each Form.i64 = refl
     each (Form.own t) = refl
     each (Form.struct ts) = refl
+    each (Form.shared t) = refl
     each k = refl
 
 index_inside : (ts : List ℕ) (n : ℕ) (b : Bool) → nat_lt n (length ts) ≡ b → option_and_then (slice_get ts) (if b then Some n else None) ≡ slice_get ts n

@@ -54,6 +54,7 @@ part_of number (Form.flat_map t) = Some t
 part_of number (Form.map t) = Some t
 part_of number (Form.own t) = Some t
 part_of number (Form.struct fields) = field_at number fields
+part_of number (Form.shared t) = None
 
 -- the type of a part of what a reference leads to
 abbrev pub part_in : Table → ℤ → RegisterType → Option ℕ
@@ -85,6 +86,7 @@ is_kind number kinds.Map (Form.map t) = true
 is_kind number kinds.Sized Form.i64 = false
 is_kind number kinds.Sized (Form.own t) = false
 is_kind number kinds.Sized (Form.struct fields) = false
+is_kind number kinds.Sized (Form.shared t) = false
 is_kind number kinds.Sized k = true
 is_kind number kinds k = false
 

@@ -187,7 +187,10 @@ impl<'a> Rule<'a> {
             Kinds::Indexed => matches!(kind, Type::Str | Type::Vec(_) | Type::List(_)),
             Kinds::Buffered => matches!(kind, Type::Str | Type::Vec(_) | Type::FlatMap(_)),
             Kinds::Map => matches!(kind, Type::FlatMap(_) | Type::Map(_)),
-            Kinds::Sized => !matches!(kind, Type::I64 | Type::Own(_) | Type::Struct(_)),
+            Kinds::Sized => !matches!(
+                kind,
+                Type::I64 | Type::Own(_) | Type::Struct(_) | Type::Shared(_)
+            ),
         }
     }
 
@@ -206,7 +209,7 @@ impl<'a> Rule<'a> {
         ensures { result ≡ part_of self.now.instruction.number (form_of kind) }
     {
         match kind {
-            Type::I64 | Type::Str => None,
+            Type::I64 | Type::Str | Type::Shared(_) => None,
             Type::Vec(part)
             | Type::List(part)
             | Type::FlatMap(part)

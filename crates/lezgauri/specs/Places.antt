@@ -54,6 +54,7 @@ abbrev pub is_counted : Option Form → Bool
 is_counted None = false
 is_counted (Some Form.i64) = false
 is_counted (Some (Form.struct fields)) = false
+is_counted (Some (Form.shared T)) = false
 is_counted (Some _) = true
 
 -- the type of the objects that values of this form own

@@ -1,6 +1,6 @@
 ghost use Rattle.std.specs.Prelude.{◌≡◌, ◌↔◌, ℕ, [], length, IsOk, IfOk, IfErr, OnOk, OnErr, IsOkUnless};
 ghost use Rattle.seg_spec.specs.Sound.{Picture, IsSound};
-ghost use Rattle.seg_spec.specs.Types.{Agree, IsFirstDifference, longer};
+ghost use Rattle.seg_spec.specs.Types.{AreOfVersion, Agree, IsFirstDifference, longer};
 ghost use Rattle.seg_spec.specs.Window.{KeepsHost};
 ghost use Rattle.seg_manager.specs.Segments.{AddsTypes};
 ghost use Rattle.lezgauri.specs.Images.{segment_of, allocator_of, IsOpen};
@@ -71,8 +71,8 @@ impl<A: Allocator> Image<A> {
         ensures types { OnOk result ((segment_of self.new).types
             ≡ longer (segment_of self.old).types types.now) }
         ensures adds { OnOk result ((picture : Picture) → IsOpen self.old picture →
-            AddsTypes (allocator_of self.old) (segment_of self.old) (segment_of self.new)
-            picture types.now) }
+            AreOfVersion 1 types.now → AddsTypes (allocator_of self.old)
+            (segment_of self.old) (segment_of self.new) picture types.now) }
         ensures differs { IfErr result (λ fault. (k : ℕ) × (fault ≡ Fault.TypeMismatch k)
             × IsFirstDifference (segment_of self.old).types types.now k) }
         ensures allocator { allocator_of self.new ≡ allocator_of self.old }

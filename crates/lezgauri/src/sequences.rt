@@ -82,7 +82,7 @@ impl<A: Allocator> Image<A> {
             | Type::FlatMap(_)
             | Type::Map(_)
             | Type::Own(_) => Ok(count(self.window(), place.at)),
-            Type::I64 | Type::Struct(_) => Err(Code::OtherType),
+            Type::I64 | Type::Struct(_) | Type::Shared(_) => Err(Code::OtherType),
         }
     }
 

@@ -97,6 +97,7 @@ module _ (bytes : List ℕ) (table : Table) where
   items_advance old new at T n p (Form.flat_map U) content ready has by n_is c = absurd has
   items_advance old new at T n p (Form.map U) content ready has by n_is c = absurd has
   items_advance old new at T n p (Form.own U) content ready has by n_is c = absurd has
+  items_advance old new at T n p (Form.shared U) content ready has by n_is c = absurd has
   items_advance old new at T n p Form.str content ready has by n_is c =
       let is = by.content_of in
       let d = claimed_as old new at n p (word_of content.tag) (tag_of Kind.buffer T) content.entry.size 1 (has_turns table content.entry.held) false is.tag_is is.size_is (ap (has_turns table) is.held_is) c in
@@ -124,6 +125,7 @@ module _ (bytes : List ℕ) (table : Table) where
   items_nothing known at T (Form.flat_map U) content has by e n = absurd has
   items_nothing known at T (Form.map U) content has by e n = absurd has
   items_nothing known at T (Form.own U) content has by e n = absurd has
+  items_nothing known at T (Form.shared U) content has by e n = absurd has
   items_nothing known at T Form.str content has by e n =
       advance_nothing bytes table known (record { at = at; type = T }) Form.str (text_opened at) by.form_is
       (record { named_room = no_room bytes at (tag_of Kind.buffer T) 1 e n; ascending = tt; opened_is = refl }) (named_none bytes at e) refl
@@ -158,6 +160,7 @@ module _ (bytes : List ℕ) (table : Table) where
   items_can known at T n p (Form.flat_map U) content has by e n_is r = absurd has
   items_can known at T n p (Form.map U) content has by e n_is r = absurd has
   items_can known at T n p (Form.own U) content has by e n_is r = absurd has
+  items_can known at T n p (Form.shared U) content has by e n_is r = absurd has
   items_can known at T n p Form.str content has by e n_is r =
       let can = text_can known at T by.form_is r in
       let is = by.content_of in

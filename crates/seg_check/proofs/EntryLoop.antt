@@ -116,6 +116,7 @@ module _ (bytes : List ℕ) (table : Table) where
   pub ready_same : (old new : Known) → IsReady bytes table old → new.unclaimed ≡ old.unclaimed → IsReady bytes table new
   ready_same old new ready same = record {
     is_table = ready.is_table;
+    of_version = ready.of_version;
     blocks = (λ h some. ready.blocks h (subst (λ xs. 1 ≤ times h xs) same some));
     few = omega (arith, ready.few, ap length same);
     small = ready.small;

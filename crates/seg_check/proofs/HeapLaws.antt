@@ -35,6 +35,7 @@ module _ (bytes : List ℕ) (table : Table) (front : HasFront bytes table) (tile
   pub ready_known : (known : Known) → KnowsTiles bytes known → IsReady bytes table known
   ready_known known knows = record {
     is_table = front.is_table;
+    of_version = front.of_version;
     blocks = blocks_known known knows;
     few = few_known known knows;
     small = front.header.not_large;
@@ -43,6 +44,7 @@ module _ (bytes : List ℕ) (table : Table) (front : HasFront bytes table) (tile
 pub ready_within : (bytes : List ℕ) (table : Table) (old new : Known) → Within new.unclaimed old.unclaimed → IsReady bytes table old → IsReady bytes table new
 ready_within bytes table old new less r = record {
   is_table = r.is_table;
+  of_version = r.of_version;
   blocks = (λ h some. r.blocks h (omega (arith, less h)));
   few = omega (arith, r.few, within_length new.unclaimed old.unclaimed less);
   small = r.small;

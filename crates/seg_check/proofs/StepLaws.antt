@@ -164,6 +164,7 @@ module _ (bytes : List ℕ) (table : Table) where
       go (Some (Form.flat_map U)) e = let n : true ≡ false = sym (ap has_cells e) ∙ none in cc
       go (Some (Form.map U)) e = let n : true ≡ false = sym (ap has_cells e) ∙ none in cc
       go (Some (Form.own U)) e = let n : true ≡ false = sym (ap has_cells e) ∙ none in cc
+      go (Some (Form.shared U)) e = let n : true ≡ false = sym (ap has_cells e) ∙ none in cc
       go (Some (Form.struct Us)) e = let n : true ≡ false = sym (ap has_cells e) ∙ none in cc
 
   one_more : (u l : List ℕ) (p : Place) (ps qs others : List Place) → (Resolves bytes table u l (ps ++ (p ∷ others)) → Resolves bytes table u l (qs ++ (p ∷ others))) → Resolves bytes table u l (p ∷ (ps ++ others))
@@ -299,6 +300,7 @@ module _ (bytes : List ℕ) (table : Table) where
   pub ready_within : (old new : Known) → IsReady bytes table old → Within new.unclaimed old.unclaimed → IsReady bytes table new
   ready_within old new ready within = record {
     is_table = ready.is_table;
+    of_version = ready.of_version;
     blocks = (λ h some. ready.blocks h (omega (arith, within h)));
     few = omega (arith, ready.few, within_length new.unclaimed old.unclaimed within);
     small = ready.small;

@@ -3,7 +3,7 @@ use Rattle.std.proofs.Common.{◌≡◌, ℕ, suc, ◌+◌, ◌<◌, ◌≤◌, 
 use Rattle.std.proofs.lemmas.Option.{slice_get-map}
 use Rattle.std.specs.Option.{option_map}
 use Rattle.std.specs.Prelude.{slice_get}
-use Rattle.seg_spec.specs.Types.{Form, Table, IsTable, form_at, size, Cell, fields_from, fields_by, fields_of}
+use Rattle.seg_spec.specs.Types.{Form, Table, IsTable, AreOfVersion, form_at, size, Cell, fields_from, fields_by, fields_of}
 use Rattle.seg_spec.specs.Reads.{fields}
 use Rattle.seg_spec.proofs.Geometry.{InFields, fields_in}
 use Rattle.seg_spec.proofs.TypesLaws.{size-form}
@@ -26,6 +26,7 @@ struct_by table (Some (Form.list U)) l = absurd (omega arith)
 struct_by table (Some (Form.flat_map U)) l = absurd (omega arith)
 struct_by table (Some (Form.map U)) l = absurd (omega arith)
 struct_by table (Some (Form.own U)) l = absurd (omega arith)
+struct_by table (Some (Form.shared U)) l = absurd (omega arith)
 
 length_parts : (at : ℕ) (cells : List Cell) → length (parts_at at cells) ≡ length cells
 length_parts at [] = refl
@@ -81,20 +82,21 @@ module _ (bytes : List ℕ) (table : Table) (valid : IsTable table) (at T : ℕ)
 known_form : (bytes : List ℕ) (table : Table) (T : ℕ) → T < length table → form_at table T ≡ None → ⊥
 known_form bytes table T known e = let number : form_at table T ≡ Some Form.i64 = known_number bytes table T known (ap has_cells e) in cc
 
-pub no_cell : (bytes : List ℕ) (table : Table) (valid : IsTable table) (known : Known) (at T : ℕ) → T < length table → length (fields_of table T) ≡ 0 → (o : Option Form) → form_at table T ≡ o → ContentOf table T o None
+pub no_cell : (bytes : List ℕ) (table : Table) (valid : IsTable table) (of_version : AreOfVersion 1 table) (known : Known) (at T : ℕ) → T < length table → length (fields_of table T) ≡ 0 → (o : Option Form) → form_at table T ≡ o → ContentOf table T o None
     → Advances bytes table known known (record { at = at; type = T } ∷ [])
-no_cell bytes table valid known at T l none None f c = absurd (known_form bytes table T l f)
-no_cell bytes table valid known at T l none (Some Form.i64) f c = advance_number bytes table known (record { at = at; type = T }) f
-no_cell bytes table valid known at T l none (Some (Form.struct [])) f c = absurd (omega (arith, (valid.forms T (Form.struct []) f).0))
-no_cell bytes table valid known at T l none (Some (Form.struct (U ∷ Us))) f c =
+no_cell bytes table valid of_version known at T l none None f c = absurd (known_form bytes table T l f)
+no_cell bytes table valid of_version known at T l none (Some Form.i64) f c = advance_number bytes table known (record { at = at; type = T }) f
+no_cell bytes table valid of_version known at T l none (Some (Form.struct [])) f c = absurd (omega (arith, (valid.forms T (Form.struct []) f).0))
+no_cell bytes table valid of_version known at T l none (Some (Form.struct (U ∷ Us))) f c =
     let long : length (fields_of table T) ≡ suc (length (fields_from table (0 + size table U) Us)) = ap (λ o. length (fields_by table o)) f in
     absurd (omega arith)
-no_cell bytes table valid known at T l none (Some Form.str) f c = absurd c
-no_cell bytes table valid known at T l none (Some (Form.vec U)) f c = absurd c
-no_cell bytes table valid known at T l none (Some (Form.list U)) f c = absurd c
-no_cell bytes table valid known at T l none (Some (Form.flat_map U)) f c = absurd c
-no_cell bytes table valid known at T l none (Some (Form.map U)) f c = absurd c
-no_cell bytes table valid known at T l none (Some (Form.own U)) f c = absurd c
+no_cell bytes table valid of_version known at T l none (Some Form.str) f c = absurd c
+no_cell bytes table valid of_version known at T l none (Some (Form.vec U)) f c = absurd c
+no_cell bytes table valid of_version known at T l none (Some (Form.list U)) f c = absurd c
+no_cell bytes table valid of_version known at T l none (Some (Form.flat_map U)) f c = absurd c
+no_cell bytes table valid of_version known at T l none (Some (Form.map U)) f c = absurd c
+no_cell bytes table valid of_version known at T l none (Some (Form.own U)) f c = absurd c
+no_cell bytes table valid of_version known at T l none (Some (Form.shared U)) f c = let old = of_version.each T (Form.shared U) f in absurd (omega arith)
 
 pub no_type : (bytes : List ℕ) (table : Table) (known : Known) (at T : ℕ) → T < length table → form_at table T ≡ None → Advances bytes table known known (record { at = at; type = T } ∷ [])
 no_type bytes table known at T l f = absurd (known_form bytes table T l f)

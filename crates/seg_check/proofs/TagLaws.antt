@@ -68,6 +68,7 @@ module _ (bytes : List ℕ) (table : Table) (valid : IsTable table) where
   stands_by b k T None content f are has e c = absurd c
   stands_by b k T (Some Form.i64) content f are has e c = absurd c
   stands_by b k T (Some (Form.struct Us)) content f are has e c = absurd c
+  stands_by b k T (Some (Form.shared U)) content f are has e c = absurd c
   stands_by b k T (Some (Form.own U)) content f are has e c = absurd (apart has)
     where
       apart : (false ≡ true) ⊎ (false ≡ true) → ⊥
@@ -104,6 +105,7 @@ module _ (bytes : List ℕ) (table : Table) (valid : IsTable table) where
   none_by T start n (Some (Form.flat_map U)) c = absurd c
   none_by T start n (Some (Form.map U)) c = absurd c
   none_by T start n (Some (Form.own U)) c = absurd c
+  none_by T start n (Some (Form.shared U)) c = refl
   none_by T start n (Some (Form.struct Us)) c = refl
 
   pub none_in : (b : ℕ) (k : Kind) (T : ℕ) → (k ≡ kind.Named → ⊥) → tag_at bytes b ≡ tag_of (kind_of k) T → OfBlock table k T None → (turn : Turn) → b ≡ block_of turn.start → places_in bytes table turn ≡ []

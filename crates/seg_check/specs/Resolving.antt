@@ -7,7 +7,7 @@
 --     IsReady bytes table known                      what each step rests on
 --     Steps bytes table old new places result        a step did that, or the places can't be resolved
 use Rattle.std.specs.Prelude.{◌≡◌, ℕ, ◌+◌, ◌*◌, ◌^◌, ◌≤◌, List, ◌++◌, length, Result, Ok, Err}
-use Rattle.seg_spec.specs.Types.{Table, IsTable}
+use Rattle.seg_spec.specs.Types.{Table, IsTable, AreOfVersion}
 use Rattle.seg_spec.specs.Header.{heap_start}
 use Rattle.seg_spec.specs.Value.{Values}
 use Rattle.seg_spec.specs.Reads.{Place, HoldsEach}
@@ -52,6 +52,7 @@ pub record Advances (bytes : List ℕ) (table : Table) (old new : Known)
 -- image that is not too long
 pub record IsReady (bytes : List ℕ) (table : Table) (known : Known) : Type 0 where
   pub is_table : IsTable table
+  pub of_version : AreOfVersion 1 table
   pub blocks : AreBlocks bytes table known.unclaimed
   pub few : heap_start + 32 * length known.unclaimed ≤ length bytes
   pub small : length bytes ≤ 2 ^ 30

@@ -121,7 +121,8 @@ impl<A: Allocator> Image<'_, A> {
             return Ok(());
         };
         match kind {
-            Type::I64 | Type::Struct(_) => Ok(()),
+            // None is of a type of version 2.
+            Type::I64 | Type::Struct(_) | Type::Shared(_) => Ok(()),
             Type::Str | Type::Vec(_) => self.check_buffer(claims, &content, place.at),
             Type::FlatMap(_) => self.check_flat_map(claims, &content, place.at),
             Type::List(_) => self.check_list(claims, &content, place.at),

@@ -61,7 +61,8 @@ fn own_content(names: &Names, holds: RegisterType) -> Option<TypeId> {
             | Type::List(_)
             | Type::FlatMap(_)
             | Type::Map(_)
-            | Type::Struct(_) => None,
+            | Type::Struct(_)
+            | Type::Shared(_) => None,
         },
         RegisterType::Undefined | RegisterType::Int | RegisterType::Owner(_) => None,
     }

@@ -15,6 +15,7 @@ impl fmt::Display for TypeWords {
             Type::FlatMap(value) => ("flat map", value),
             Type::Map(value) => ("map", value),
             Type::Own(object) => ("own", object),
+            Type::Shared(object) => ("shared", object),
             Type::Struct(fields) => return write_fields(f, fields.as_slice()),
         };
         write!(f, "{word} of type {part}")

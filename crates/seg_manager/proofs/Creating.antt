@@ -6,7 +6,7 @@ use Rattle.std.proofs.lemmas.List.{length-replicate, take-replicate, drop-replic
 use Rattle.seg_spec.specs.Bytes.{slice, put, number, number_of, word, set_word, IsSame, ChangesOnly}
 use Rattle.seg_spec.specs.Header.{version_word, units_word, allocator_word, index_kind_word, free_word, index_cell, back_start, reserved, reserved_size, types_start, types_size, uniques_start, uniques_size, heap_start, min_length}
 use Rattle.seg_spec.specs.Pointer.{target, set_pointer, distance}
-use Rattle.seg_spec.specs.Types.{IsTable, size}
+use Rattle.seg_spec.specs.Types.{Form, form_at, version_of, IsTable, size}
 use Rattle.seg_spec.specs.Heap.{Begins}
 use Rattle.seg_spec.specs.Shapes.{leaf}
 use Rattle.seg_spec.specs.Reads.{count_at}
@@ -224,6 +224,7 @@ module _ (len allocator kind : ℕ) (old zeros magic version units with_allocato
             header = header;
             types = middle types_start types_size (omega arith) (omega arith) ∙ f.types_there;
             is_table = no_types;
+            of_version = record { each = λ T form e. cc };
             heap = rw allocator_then begins.heap;
             blocks = rw begins.no_block tt;
             names = record { index = record { blocks = []; entries = [] }; opens = no_index new (word new index_kind_word) index_is count_is; entries = tt; ascending = tt; blocks_are = refl };

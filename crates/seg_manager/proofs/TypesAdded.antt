@@ -5,7 +5,7 @@ use Rattle.std.proofs.lemmas.Bool.Decides.{nat_tests}
 use Rattle.std.proofs.lemmas.List.{take-append-drop, take_all}
 use Rattle.seg_spec.specs.Bytes.{word, IsSame, ChangesOnly}
 use Rattle.seg_spec.specs.Header.{allocator_word, types_start, types_size, uniques_start, heap_start}
-use Rattle.seg_spec.specs.Types.{Table, IsTable, HasTable, Agree, longer}
+use Rattle.seg_spec.specs.Types.{AreOfVersion, Table, IsTable, HasTable, Agree, longer}
 use Rattle.seg_spec.specs.Sound.{Picture, IsHeld}
 use Rattle.seg_spec.proofs.Frame.{word-same}
 use Rattle.seg_spec.proofs.HeapFrame.{live-kept}
@@ -38,9 +38,16 @@ longer_valid old new a b = go (leb (length new) (length old))
     go true = a
     go false = b
 
-pub adds_types : (allocator : ℕ) (old new : Stored) (picture : Picture) (more : Table) → IsSegment allocator old picture → Agree old.types more → IsTable old.types → IsTable more → new.types ≡ longer old.types more
+longer_of : (old new : Table) → AreOfVersion 1 old → AreOfVersion 1 new → AreOfVersion 1 (longer old new)
+longer_of old new a b = go (leb (length new) (length old))
+  where
+    go : (t : Rattle.std.proofs.Common.Bool) → AreOfVersion 1 (cond t old new)
+    go true = a
+    go false = b
+
+pub adds_types : (allocator : ℕ) (old new : Stored) (picture : Picture) (more : Table) → IsSegment allocator old picture → Agree old.types more → IsTable old.types → IsTable more → AreOfVersion 1 more → new.types ≡ longer old.types more
     → ChangesOnly old.window.bytes new.window.bytes types_start types_size → HasTable new.window.bytes types_start (longer old.types more) → AddsTypes allocator old new picture more
-adds_types allocator old new picture more is agree valid valid_more types_are changes has =
+adds_types allocator old new picture more is agree valid valid_more of_version types_are changes has =
     let a = old.window.bytes in
     let b = new.window.bytes in
     let g = goes_on old.types more agree in
@@ -51,7 +58,8 @@ adds_types allocator old new picture more is agree valid valid_more types_are ch
     let root : IsSame a b 24 4 = changes.others 24 4 (inl (omega arith)) in
     let in_heap : IsSame a b heap_start (length a - heap_start) = changes.others heap_start (length a - heap_start) (inr (omega arith)) in
     let same : longer old.types more ≡ picture.table ++ g.rest = g.is ∙ ap (λ t. t ++ g.rest) is.table_is in
-    let held = types_added a b picture g.rest is.held changes.length_kept low high (subst (HasTable b types_start) same has) (subst IsTable same (longer_valid old.types more valid valid_more)) in
+    let held = types_added a b picture g.rest is.held changes.length_kept low high (subst (HasTable b types_start) same has) (subst IsTable same (longer_valid old.types more valid valid_more))
+    (subst (AreOfVersion 1) same (longer_of old.types more (subst (AreOfVersion 1) (sym is.table_is) l.of_version) of_version)) in
     record {
       segment = record {
         held = subst (λ t. IsHeld b (record picture { table = t })) (sym same) held;
@@ -64,9 +72,9 @@ adds_types allocator old new picture more is agree valid valid_more types_are ch
 
 -- the same from what the steps of the call leave
 pub adds_by : (allocator : ℕ) (old new : Stored) (picture : Picture) (more mine then_types : Table) (from to : Placement) → IsSegment allocator old picture → from ≡ old.window → new.window ≡ to → new.types ≡ then_types → mine ≡ old.types
-    → then_types ≡ longer mine more → Agree mine more → IsTable mine → IsTable more → (IsTable then_types → ChangesOnly from.bytes to.bytes types_start types_size)
+    → then_types ≡ longer mine more → Agree mine more → IsTable mine → IsTable more → AreOfVersion 1 more → (IsTable then_types → ChangesOnly from.bytes to.bytes types_start types_size)
     → (IsTable then_types → types_start + types_size ≤ length from.bytes → HasTable to.bytes types_start then_types) → AddsTypes allocator old new picture more
-adds_by allocator old new picture more mine then_types from to is from_is to_is types_are mine_is then_is agree valid valid_more changes table =
+adds_by allocator old new picture more mine then_types from to is from_is to_is types_are mine_is then_is agree valid valid_more of_version changes table =
     let bytes_from : from.bytes ≡ old.window.bytes = ap (λ (p : Placement). p.bytes) from_is in
     let bytes_to : to.bytes ≡ new.window.bytes = ap (λ (p : Placement). p.bytes) (sym to_is) in
     let valid_then : IsTable then_types = subst IsTable (sym then_is) (longer_valid mine more valid valid_more) in
@@ -74,4 +82,4 @@ adds_by allocator old new picture more mine then_types from to is from_is to_is 
     let long : types_start + types_size ≤ length from.bytes = rw bytes_from (let n = is.held.laid_out.header.not_small in omega arith) in
     let changed = changes valid_then in
     let has = table valid_then long in
-    adds_types allocator old new picture more is (rw mine_is at agree) (rw mine_is at valid) valid_more (types_are ∙ whole) (rw (bytes_from, bytes_to) at changed) (rw (bytes_to, whole) at has)
+    adds_types allocator old new picture more is (rw mine_is at agree) (rw mine_is at valid) valid_more of_version (types_are ∙ whole) (rw (bytes_from, bytes_to) at changed) (rw (bytes_to, whole) at has)

@@ -4,7 +4,7 @@ ghost use Rattle.seg_spec.specs.Faulty.{IsImageLength};
 ghost use Rattle.seg_spec.specs.Header.{allocator_word, index_kind_word, types_start, types_size};
 ghost use Rattle.seg_spec.specs.Heap.{live};
 ghost use Rattle.seg_spec.specs.Sound.{Picture, IsHeld};
-ghost use Rattle.seg_spec.specs.Types.{IsTable, HasTable, Agree, IsFirstDifference, longer};
+ghost use Rattle.seg_spec.specs.Types.{AreOfVersion, IsTable, HasTable, Agree, IsFirstDifference, longer};
 ghost use Rattle.seg_spec.specs.Window.{region_of, IsPlace, KeepsHost};
 ghost use Rattle.seg_manager.specs.Segments.{IsSegment, nothing, word_of_kind, IsNew, AddsTypes};
 
@@ -114,7 +114,7 @@ impl<F: Fit, A: Allocator> Segment<F, A> {
         ensures agree { IsOk result ↔ Agree self.old.types types.now }
         ensures types { OnOk result (self.new.types ≡ longer self.old.types types.now) }
         ensures adds { OnOk result ((picture : Picture) →
-            IsSegment F.allocator self.old picture →
+            IsSegment F.allocator self.old picture → AreOfVersion 1 types.now →
             AddsTypes F.allocator self.old self.new picture types.now) }
         ensures differs { IfErr result (λ fault. (k : ℕ) × (fault ≡ Fault.TypeMismatch k)
             × IsFirstDifference self.old.types types.now k) }

@@ -30,6 +30,7 @@ module _ (table : Table) (T : ℕ) where
   no_kind (Some (Form.flat_map U)) of = absurd of
   no_kind (Some (Form.map U)) of = absurd of
   no_kind (Some (Form.own U)) of = absurd of
+  no_kind (Some (Form.shared U)) of = refl
 
   module _ (c : Content) where
     no_shape : (s t : Shape) → c.shape ≡ s → c.shape ≡ t → s ≡ t
@@ -45,6 +46,7 @@ module _ (table : Table) (T : ℕ) where
     flat_kind (Some (Form.flat_map U)) of is keys = of
     flat_kind (Some (Form.map U)) of is keys = let e = no_shape shape.Tree shape.Buffer of.shape_is is in absurd (cc)
     flat_kind (Some (Form.own U)) of is keys = let e = no_shape shape.Object shape.Buffer of.shape_is is in absurd (cc)
+    flat_kind (Some (Form.shared U)) of is keys = absurd of
 
     pub tree_kind : (o : Option Form) → ContentOf table T o (Some c) → c.shape ≡ shape.Tree → KindOf table T o (Ok (kind.Tree c))
     tree_kind None of is = absurd of
@@ -56,6 +58,7 @@ module _ (table : Table) (T : ℕ) where
     tree_kind (Some (Form.flat_map U)) of is = let e = no_shape shape.Buffer shape.Tree of.shape_is is in absurd (cc)
     tree_kind (Some (Form.map U)) of is = of
     tree_kind (Some (Form.own U)) of is = let e = no_shape shape.Object shape.Tree of.shape_is is in absurd (cc)
+    tree_kind (Some (Form.shared U)) of is = absurd of
 
     pub other_kind : (o : Option Form) → ContentOf table T o (Some c) → (c.shape ≡ shape.Buffer → c.entry.before ≡ 8 → ⊥) → (c.shape ≡ shape.Tree → ⊥) → KindOf table T o (Err code.OtherType)
     other_kind None of no_flat no_tree = refl
@@ -67,6 +70,7 @@ module _ (table : Table) (T : ℕ) where
     other_kind (Some (Form.flat_map U)) of no_flat no_tree = absurd (no_flat of.shape_is of.entry_is.before_is)
     other_kind (Some (Form.map U)) of no_flat no_tree = absurd (no_tree of.shape_is)
     other_kind (Some (Form.own U)) of no_flat no_tree = refl
+    other_kind (Some (Form.shared U)) of no_flat no_tree = refl
 
 content_found : (o : Option Content) (r : Result Content Code) (c : Content) → r ≡ ok_or o code.OtherType → r ≡ Ok c → o ≡ Some c
 content_found None r c e f = cc
@@ -93,6 +97,7 @@ as_flat table T (Some (Form.vec V)) c U k m = absurd k
 as_flat table T (Some (Form.list V)) c U k m = absurd k
 as_flat table T (Some (Form.map V)) c U k m = absurd k
 as_flat table T (Some (Form.own V)) c U k m = absurd k
+as_flat table T (Some (Form.shared V)) c U k m = absurd k
 as_flat table T (Some (Form.struct Us)) c U k m = absurd k
 as_flat table T (Some (Form.flat_map V)) c U k m = (ap (λ W. Some (Form.flat_map W)) m, subst (λ W. IsContent table shape.Buffer (tag_of block.buffer T) 8 W c) m k)
 
@@ -104,6 +109,7 @@ as_tree table T (Some (Form.vec V)) c U k m = absurd k
 as_tree table T (Some (Form.list V)) c U k m = absurd k
 as_tree table T (Some (Form.flat_map V)) c U k m = absurd k
 as_tree table T (Some (Form.own V)) c U k m = absurd k
+as_tree table T (Some (Form.shared V)) c U k m = absurd k
 as_tree table T (Some (Form.struct Us)) c U k m = absurd k
 as_tree table T (Some (Form.map V)) c U k m = (ap (λ W. Some (Form.map W)) m, subst (λ W. NamesTree table T W c) m k)
 
@@ -115,6 +121,7 @@ kind_keys table T (Some Form.str) k h = absurd h
 kind_keys table T (Some (Form.vec V)) k h = absurd h
 kind_keys table T (Some (Form.list V)) k h = absurd h
 kind_keys table T (Some (Form.own V)) k h = absurd h
+kind_keys table T (Some (Form.shared V)) k h = absurd h
 kind_keys table T (Some (Form.struct Us)) k h = absurd h
 kind_keys table T (Some (Form.flat_map V)) k h = refl
 kind_keys table T (Some (Form.map V)) k h = refl
@@ -131,6 +138,7 @@ kind_none table T (Some Form.str) e h = record { keys = refl; code_is = h; no_ma
 kind_none table T (Some (Form.vec V)) e h = record { keys = refl; code_is = h; no_map = λ U m. m }
 kind_none table T (Some (Form.list V)) e h = record { keys = refl; code_is = h; no_map = λ U m. m }
 kind_none table T (Some (Form.own V)) e h = record { keys = refl; code_is = h; no_map = λ U m. m }
+kind_none table T (Some (Form.shared V)) e h = record { keys = refl; code_is = h; no_map = λ U m. m }
 kind_none table T (Some (Form.struct Us)) e h = record { keys = refl; code_is = h; no_map = λ U m. m }
 kind_none table T (Some (Form.flat_map V)) e h = absurd h
 kind_none table T (Some (Form.map V)) e h = absurd h

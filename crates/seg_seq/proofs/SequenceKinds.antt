@@ -52,6 +52,7 @@ text_of table T (Some (Form.list U)) c k = absurd k
 text_of table T (Some (Form.flat_map U)) c k = absurd k
 text_of table T (Some (Form.map U)) c k = absurd k
 text_of table T (Some (Form.own U)) c k = absurd k
+text_of table T (Some (Form.shared U)) c k = absurd k
 
 -- a vector whose entries hold values of a type is one of that type
 pub vector_of : (table : Table) (T V : ℕ) (form : Option Form) (c : Content) → KindOf table T form (Ok (kind.Vector, c)) → c.entry.held ≡ held.Value V → form ≡ Some (Form.vec V)
@@ -64,3 +65,4 @@ vector_of table T V (Some (Form.list U)) c k h = absurd k
 vector_of table T V (Some (Form.flat_map U)) c k h = absurd k
 vector_of table T V (Some (Form.map U)) c k h = absurd k
 vector_of table T V (Some (Form.own U)) c k h = absurd k
+vector_of table T V (Some (Form.shared U)) c k h = absurd k

@@ -142,8 +142,8 @@ fn add_content<F: Fit>(
         Some(Type::Map(_)) => "map of ",
         Some(Type::Own(_)) => return lines.add(own_word(heap.count(value.at))),
         Some(Type::Struct(_)) => return lines.add(b"struct"),
-        // a sound image has no value of another type
-        None => return Ok(()),
+        // a sound image has no value of another type, or of one of version 2
+        Some(Type::Shared(_)) | None => return Ok(()),
     };
     lines.add_number(word, i64::from(heap.count(value.at)))
 }

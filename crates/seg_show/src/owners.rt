@@ -101,7 +101,7 @@ fn claim_blocks<F: Fit>(
         }
         // what these name is met as a value
         Some(Type::List(_) | Type::Map(_) | Type::Own(_)) => {}
-        Some(Type::I64 | Type::Struct(_)) | None => {}
+        Some(Type::I64 | Type::Struct(_) | Type::Shared(_)) | None => {}
     }
 }
 

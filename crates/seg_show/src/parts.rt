@@ -73,7 +73,7 @@ impl Parts {
         let index = self.came;
         self.came = index.saturating_add(1);
         match heap.types().kind(self.whole.type_id)? {
-            Type::I64 | Type::Str => None,
+            Type::I64 | Type::Str | Type::Shared(_) => None,
             Type::Struct(_) => self.field(heap, index),
             Type::Vec(t) => self.item(heap, index, t),
             Type::List(t) => self.list_item(heap, index, t),
@@ -134,7 +134,7 @@ fn value_of<F: Fit>(heap: &Heap<F, Global>, map: Place, key: i64) -> Option<u32>
 /// How many values stand right inside a value.
 fn part_count<F: Fit>(heap: &Heap<F, Global>, whole: Place) -> u32 {
     match heap.types().kind(whole.type_id) {
-        None | Some(Type::I64 | Type::Str) => 0,
+        None | Some(Type::I64 | Type::Str | Type::Shared(_)) => 0,
         Some(Type::Struct(_)) => heap.types().field_count(whole.type_id),
         Some(Type::Vec(_) | Type::List(_) | Type::FlatMap(_) | Type::Map(_) | Type::Own(_)) => {
             heap.count(whole.at)

@@ -4,7 +4,7 @@ use Rattle.std.proofs.lemmas.List.Elements.{All-cons, All-nil, All-from_recursio
 use Rattle.std.specs.List.{AllByRecursion}
 use Rattle.seg_spec.specs.Bytes.{slice, number_of, number, signed, signed_long}
 use Rattle.seg_spec.specs.Pointer.{target}
-use Rattle.seg_spec.specs.Types.{Form, size, form_at, IsForm, IsTable}
+use Rattle.seg_spec.specs.Types.{Form, size, form_at, AreOfVersion, IsForm, IsTable}
 use Rattle.seg_spec.specs.Value.{Int, Text, Seq, Map, Full, nil, cons}
 use Rattle.seg_spec.specs.Shapes.{leaf, fork, black, red}
 use Rattle.seg_spec.specs.Heap.{Tile, Fill, AreHeaders, live, heap_start}
@@ -13,7 +13,7 @@ use Rattle.seg_spec.specs.Reads.{Holds, holds, holds_none, holds_more}
 use Rattle.seg_spec.specs.Index.{Root}
 use Rattle.seg_spec.specs.Sound.{HoldsRoot, holds_no_root, holds_more_roots, IsLaidOut, IsHeld, times, positions}
 use Rattle.seg_spec.specs.Fixtures.{every, every_table, every_value, every_picture, many}
-use Rattle.test_definitions.proofs.Evaluating.{live_evaluated, heap_evaluated, uniques_evaluated}
+use Rattle.test_definitions.proofs.Evaluating.{live_evaluated, heap_evaluated, uniques_evaluated, all_old}
 
 abbrev tile : ℕ → ℕ → Bool → Tile
 tile at units live = record { at = at; units = units; live = live }
@@ -156,6 +156,9 @@ loose = record { block = record { after_header = lit≤ tt; live = refl; has_tag
 some_is : (a b : Form) → Some a ≡ Some b → a ≡ b
 some_is a b e = cc
 
+every_table-old : AreOfVersion 1 every_table
+every_table-old = all_old every_table (lit≤ tt, (lit≤ tt, (lit≤ tt, (lit≤ tt, (lit≤ tt, (lit≤ tt, (lit≤ tt, (lit≤ tt, tt))))))))
+
 every_table-valid : IsTable every_table
 unfolding size
 every_table-valid = record { few = lit≤ tt; forms = forms; sizes = sizes }
@@ -200,6 +203,7 @@ laid_out = record {
   };
   types = refl;
   is_table = every_table-valid;
+  of_version = every_table-old;
   heap = heap_evaluated every every_tiles every_fill every_headers 1 (λ e. cc, (λ e. cc, (λ e. cc, (λ e. refl, (λ e. cc, (λ e. cc, (λ e. cc, (λ e. cc, (λ e. cc, (λ e. cc, (λ e. cc, (λ e. cc, (λ e. cc, (λ e. cc, tt)))))))))))))) (record {
     tree = fork (fork leaf 1264 red leaf) 848 black leaf;
     is_tree = (refl, record { colour_is = refl; zero_is = refl }, (refl, record { colour_is = refl; zero_is = refl }, tt, tt), tt);

@@ -5,7 +5,7 @@ use Rattle.std.proofs.lemmas.Bool.{cases_lt}
 use Rattle.std.specs.List.{AllByRecursion}
 use Rattle.seg_spec.specs.Bytes.{slice, put, number, number_of, set_number}
 use Rattle.seg_spec.specs.Pointer.{target}
-use Rattle.seg_spec.specs.Types.{Form, Table, size, form_bytes, IsRight, IsFirstWrong}
+use Rattle.seg_spec.specs.Types.{Form, Table, size, form_bytes, version_of, IsRight, IsFirstWrong}
 use Rattle.seg_spec.specs.Heap.{Tile, Fill, AreHeaders, AreApart, heap_start, live, live_of, gaps, gaps_of, HoldsGaps, IsHeap}
 use Rattle.seg_spec.specs.Block.{Kind, IsOwnable}
 use Rattle.seg_spec.specs.Sound.{HasHeader, IsLaidOut, holds_no_root, IsSound, SameBlocks, times, positions}
@@ -15,7 +15,7 @@ use Rattle.seg_spec.proofs.Failures.{right_types}
 use Rattle.seg_spec.proofs.OneTable.{HasTable-one}
 use Rattle.seg_spec.proofs.TileLaws.{tiles-unique}
 use Rattle.seg_spec.proofs.LiveLaws.{each_there}
-use Rattle.test_definitions.proofs.Evaluating.{live_evaluated, gaps_evaluated, heap_evaluated, uniques_evaluated, numbers-valid}
+use Rattle.test_definitions.proofs.Evaluating.{live_evaluated, gaps_evaluated, heap_evaluated, uniques_evaluated, numbers-valid, numbers-old}
 use Rattle.test_definitions.proofs.SoundImages.{counter_tiles, empty_tiles, counter_sound}
 use Rattle.test_definitions.proofs.UnsoundImages.{linked_live, odd_kind_live, no_seventh, two_free, two_owners-unsound, no_owner-unsound}
 
@@ -50,7 +50,7 @@ sound_of_all bytes h owners = record {
 tiles_there : (bytes : List ℕ) (t u : Table) → HasFront bytes t → HasFront bytes u → HasTiles bytes t → HasTiles bytes u
 tiles_there bytes t u f g tiles = subst (HasTiles bytes) (HasTable-one bytes 64 t u f.is_table g.is_table f.types g.types) tiles
 
-one_entry : (bytes : List ℕ) (j k : ℕ) → IsFirstWrong bytes j → IsFirstWrong bytes k → j ≡ k
+one_entry : (bytes : List ℕ) (j k : ℕ) → IsFirstWrong 1 bytes j → IsFirstWrong 1 bytes k → j ≡ k
 one_entry bytes j k f g = elim (cases_lt j k) [
   | inl less ↦ absurd (g.right_before j less f.wrong)
   | inr above ↦ (elim (cases_lt k j) [
@@ -90,7 +90,7 @@ pub owner_is_content : (bytes : List ℕ) → LacksOwner bytes → LacksContent 
 owner_is_content bytes l =
     let laid_out = l.0.laid_out in (
       l.0.picture.table,
-      record { header = laid_out.header; types = laid_out.types; is_table = laid_out.is_table },
+      record { header = laid_out.header; types = laid_out.types; is_table = laid_out.is_table; of_version = laid_out.of_version },
       record { filled = laid_out.heap.filled; headers = laid_out.heap.headers; apart = laid_out.heap.apart; ownable = laid_out.blocks },
       laid_out.heap.free,
       l.1,
@@ -164,6 +164,7 @@ no_owner-laid_out = record {
   };
   types = refl;
   is_table = numbers-valid;
+  of_version = numbers-old;
   heap = heap_evaluated no_owner counter_tiles no_owner-fill no_owner-headers 0 ((λ e. refl), ((λ e. refl), tt)) refl (lit≤ tt);
   blocks = subst (λ bs. AllByRecursion (λ b. IsOwnable no_owner (Form.i64 ∷ []) b.at) bs) (sym (live_evaluated no_owner counter_tiles no_owner-fill no_owner-headers))
       (record { kind = Kind.named; type = 0; allowed = lit< tt; tag_is = refl; link_is = refl }, (record { kind = Kind.index_buffer; type = 0; allowed = refl; tag_is = refl; link_is = refl }, tt));
@@ -200,6 +201,7 @@ lost_gap-lacks = (
     };
     types = refl;
     is_table = numbers-valid;
+    of_version = numbers-old;
   },
   lost_gap-tiles,
   λ free.
@@ -211,21 +213,22 @@ lost_gap-lacks = (
 pub no_owner-lacks : LacksOwner no_owner
 no_owner-lacks = (no_owner-all, no_owner-unsound)
 
-kinds_few : (form : Form) → get_or (form_bytes form) 0 0 ≤ 8
-kinds_few Form.i64 = lit≤ tt
-kinds_few Form.str = lit≤ tt
-kinds_few (Form.vec U) = lit≤ tt
-kinds_few (Form.list U) = lit≤ tt
-kinds_few (Form.flat_map U) = lit≤ tt
-kinds_few (Form.map U) = lit≤ tt
-kinds_few (Form.own U) = lit≤ tt
-kinds_few (Form.struct Us) = lit≤ tt
+kinds_few : (form : Form) → version_of form ≤ 1 → get_or (form_bytes form) 0 0 ≤ 8
+kinds_few Form.i64 old = lit≤ tt
+kinds_few Form.str old = lit≤ tt
+kinds_few (Form.vec U) old = lit≤ tt
+kinds_few (Form.list U) old = lit≤ tt
+kinds_few (Form.flat_map U) old = lit≤ tt
+kinds_few (Form.map U) old = lit≤ tt
+kinds_few (Form.own U) old = lit≤ tt
+kinds_few (Form.shared U) old = absurd (omega arith)
+kinds_few (Form.struct Us) old = lit≤ tt
 
-odd_entry : IsRight (slice odd_type 64 512) 0 → ⊥
+odd_entry : IsRight 1 (slice odd_type 64 512) 0 → ⊥
 unfolding odd_type counter slice put set_number
 odd_entry r = elim r.1 [
   | inl zeros ↦ absurd (omega (arith, ap (λ xs. get_or xs 0 0) zeros))
-  | inr entry ↦ absurd (let few = kinds_few entry.0 in omega (arith, ap (λ xs. get_or xs 0 0) (entry.1.spelled)))
+  | inr entry ↦ absurd (let few = kinds_few entry.0 entry.1.of_version in omega (arith, ap (λ xs. get_or xs 0 0) (entry.1.spelled)))
 ]
 
 pub odd_type-lacks : LacksType odd_type 0
@@ -263,6 +266,7 @@ linked-front = record {
   };
   types = refl;
   is_table = numbers-valid;
+  of_version = numbers-old;
 }
 
 pub linked-lacks : LacksTiles linked
@@ -292,6 +296,7 @@ two_owners-lacks =
         };
         types = refl;
         is_table = numbers-valid;
+        of_version = numbers-old;
       },
       has_tiles two_owners (Form.i64 ∷ []) counter_tiles fill headers ((λ e. refl), ((λ e. refl), tt))
           (record { kind = Kind.named; type = 0; allowed = lit< tt; tag_is = refl; link_is = refl }, (record { kind = Kind.index_buffer; type = 0; allowed = refl; tag_is = refl; link_is = refl }, tt)),

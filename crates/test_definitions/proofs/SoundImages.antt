@@ -13,7 +13,7 @@ use Rattle.seg_spec.specs.Reads.{Holds, holds, holds_none, holds_more}
 use Rattle.seg_spec.specs.Index.{Root}
 use Rattle.seg_spec.specs.Sound.{HoldsRoot, holds_no_root, holds_more_roots, IsLaidOut, IsHeld, IsSound, times, positions}
 use Rattle.seg_spec.specs.Fixtures.{counter, greeting, empty, empty_tree, counter_picture, greeting_picture, empty_picture}
-use Rattle.test_definitions.proofs.Evaluating.{live_evaluated, heap_evaluated, uniques_evaluated, numbers-valid, texts-valid}
+use Rattle.test_definitions.proofs.Evaluating.{live_evaluated, heap_evaluated, uniques_evaluated, numbers-valid, texts-valid, numbers-old, texts-old}
 
 abbrev counter_root : Root
 counter_root = record { name = 120 ∷ []; at = 720; type = 0; values = cons (Int (pos 41)) nil }
@@ -60,6 +60,7 @@ counter_laid_out = record {
   };
   types = refl;
   is_table = numbers-valid;
+  of_version = numbers-old;
   heap = heap_evaluated counter counter_tiles counter_fill counter_headers 0 ((λ e. refl), ((λ e. refl), tt)) refl (lit≤ tt);
   blocks = subst (λ bs. AllByRecursion (λ b. IsOwnable counter (Form.i64 ∷ []) b.at) bs) (sym (live_evaluated counter counter_tiles counter_fill counter_headers))
       (record { kind = Kind.named; type = 0; allowed = lit< tt; tag_is = refl; link_is = refl }, (record { kind = Kind.index_buffer; type = 0; allowed = refl; tag_is = refl; link_is = refl }, tt));
@@ -155,6 +156,7 @@ greeting_laid_out = record {
   };
   types = refl;
   is_table = texts-valid;
+  of_version = texts-old;
   heap = heap_evaluated greeting greeting_tiles greeting_fill greeting_headers 0 ((λ e. refl), ((λ e. refl), ((λ e. refl), tt))) refl (lit≤ tt);
   blocks = subst (λ bs. AllByRecursion (λ b. IsOwnable greeting (Form.str ∷ []) b.at) bs) (sym (live_evaluated greeting greeting_tiles greeting_fill greeting_headers)) (
     record { kind = Kind.named; type = 0; allowed = lit< tt; tag_is = refl; link_is = refl },
@@ -231,6 +233,7 @@ empty_laid_out = record {
   };
   types = refl;
   is_table = numbers-valid;
+  of_version = numbers-old;
   heap = heap_evaluated empty empty_tiles empty_fill empty_headers 0 ((λ e. cc), tt) (refl, refl) (lit≤ tt);
   blocks = subst (λ bs. AllByRecursion (λ b. IsOwnable empty (Form.i64 ∷ []) b.at) bs) (sym (live_evaluated empty empty_tiles empty_fill empty_headers)) tt;
   names = record {
@@ -286,6 +289,7 @@ empty_tree_laid_out = record {
   };
   types = refl;
   is_table = numbers-valid;
+  of_version = numbers-old;
   heap = heap_evaluated empty_tree empty_tree_tiles empty_tree_fill empty_tree_headers 1 ((λ e. cc), tt)
       (record {
         tree = fork leaf 720 black leaf;

@@ -71,6 +71,7 @@ fn pieces<F: Fit>(alloc: Global, s: &Segment<F>, t: TypeId, at: u32) -> Result<V
         Type::FlatMap(item) | Type::Map(item) => entries(alloc, s, t, item, at),
         Type::Own(item) => own(alloc, s, item, at),
         Type::Struct(_) => fields(alloc, s, t, at),
+        Type::Shared(_) => Err(Fail::from("a type of version 2")),
     }
 }
 

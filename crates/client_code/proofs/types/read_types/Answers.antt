@@ -10,13 +10,13 @@ pub returns-in-Ok-clause-count : goal.returns-in-Ok-clause-count
 returns-in-Ok-clause-count c =
     let found = c.in-Some.ensures.found in
     let table = c.in-Ok.ensures.table in
-    (full c.in-Some.bytes.now c.in-Ok.types c.args.count table.0 table.1 found.2 found.3).0
+    (full c.in-Some.bytes.now c.in-Ok.types c.args.count table.0 table.2 found.2 found.3).0
 
 pub returns-in-Ok-clause-found : goal.returns-in-Ok-clause-found
 returns-in-Ok-clause-found c =
     let found = c.in-Some.ensures.found in
     let table = c.in-Ok.ensures.table in
-    are_types c.args.file.now c.in-Some.bytes.now c.in-Ok.types c.args.count found.0 found.1 table.0 table.1 found.2 found.3
+    are_types c.args.file.now c.in-Some.bytes.now c.in-Ok.types c.args.count found.0 found.1 table.0 table.1 table.2 found.2 found.3
 
 pub returns-clause-wrong : goal.returns-clause-wrong
 returns-clause-wrong c table count are =
@@ -27,7 +27,7 @@ returns-clause-wrong c table count are =
           let same = found.1 ∙ spelled in
           let size = found.2 in
           let few = are.valid.few in
-          w.in_default-read.not-Ok table (w.read.ensures.given table are.valid (spells_flat w.in-Some.bytes.now table same) (omega arith) (omega arith))
+          w.in_default-read.not-Ok table (w.read.ensures.given table are.valid are.of_version (spells_flat w.in-Some.bytes.now table same) (omega arith) (omega arith))
           )
       | in_default w ↦ w.in_default.ensures.none (let a = are.whole in omega arith) (λ k h. all_used _ table are.valid spelled k (omega arith))
     ]

@@ -9,7 +9,7 @@ pub returns-in_default-clause-steps : goal.returns-in_default-clause-steps
 returns-in_default-clause-steps g c = λ ready known none.
     let table = c.args.self.now.types.now in
     let T = c.args.place.type_id in
-    no_cell c.args.self.now.w.now.bytes table ready.is_table c.args.claims.now c.args.place.at T known none (form_at table T) refl (subst (ContentOf table T (form_at table T)) c.in_default.is-1 c.of.ensures)
+    no_cell c.args.self.now.w.now.bytes table ready.is_table ready.of_version c.args.claims.now c.args.place.at T known none (form_at table T) refl (subst (ContentOf table T (form_at table T)) c.in_default.is-1 c.of.ensures)
 
 pub returns-in_default-2-clause-steps : goal.returns-in_default-2-clause-steps
 returns-in_default-2-clause-steps g c = λ ready known none.
