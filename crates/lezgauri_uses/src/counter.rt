@@ -1,6 +1,6 @@
 ghost use Rattle.std.specs.Prelude.{◌≡◌, false};
 
-use lezgauri::{AllocatorKind, Fault, Image, IndexKind, Sink};
+use lezgauri::{AllocatorKind, Fault, Image, IndexKind, Sink, run, verify};
 use std::alloc::Global;
 
 /// An image with room for a counter, which the first client makes.
@@ -21,12 +21,12 @@ pub fn count<W: Sink>(
     requires works { W.has_failed out.old ≡ false }
 {
     let mut image = Image::open(alloc, image)?;
-    let client = image.verify(client)?;
+    let client = verify(&image, client)?;
     for _ in 0..times {
         if out.failed() {
             break;
         }
-        image.run(&client, b"", out)?;
+        run(&mut image, &client, b"", out)?;
     }
     Ok(image.into_bytes())
 }

@@ -1,6 +1,6 @@
 //! The calls of the library that the commands make. What they promise isn't passed on: the commands are tested.
 
-use lezgauri::{AllocatorKind, Client, Fault, Image, IndexKind, Verified, assemble, parse, print};
+use lezgauri::{AllocatorKind, Client, Fault, Image, IndexKind, Verified, assemble, parse, print, verify};
 use std::alloc::Global;
 
 /// The image of an empty segment.
@@ -33,7 +33,7 @@ pub(crate) fn shrunk(image: &mut Image<Global>) -> u32 {
 
 /// A client that may run on an image.
 pub(crate) fn verified<'a>(image: &Image<Global>, client: &'a [u8]) -> Result<Verified<'a>, Fault> {
-    image.verify(client)
+    verify(image, client)
 }
 
 /// The client that a text spells.

@@ -2,7 +2,7 @@
 
 use lezgauri::{
     AllocatorKind, Code, Fault, Image, IndexKind, Named, Place, Report, Through, Type, TypeId,
-    TypeTable, Verified, check, type_table,
+    TypeTable, Verified, check, run, type_table, verify,
 };
 use std::alloc::Global;
 
@@ -53,7 +53,7 @@ impl Host {
     }
 
     pub(crate) fn verify<'c>(&self, client: &'c [u8]) -> Result<Verified<'c>, Fault> {
-        self.image.verify(client)
+        verify(&self.image, client)
     }
 
     /// Runs a client without input. What it told, and these bytes with what it wrote after them.
@@ -63,7 +63,7 @@ impl Host {
         written: Vec<u8>,
     ) -> Result<(Report, Vec<u8>), Fault> {
         let mut out = Through::new(written);
-        let report = self.image.run(client, b"", &mut out)?;
+        let report = run(&mut self.image, client, b"", &mut out)?;
         Ok((report, out.into_inner()))
     }
 }

@@ -1,0 +1,47 @@
+ghost use Rattle.std.specs.Prelude.{◌≡◌};
+ghost use Rattle.seg_raw.specs.declared.fault.Fault.TheVariants.{Memory};
+ghost use Rattle.seg_image.specs.declared.error.Error.TheVariants as error;
+
+use crate::opening::Unopened;
+use seg_raw::{Code, Fault};
+use std::alloc::{AllocError, Allocator};
+
+/// Why a host's work on an image ends, for functions that meet both: a call of the host was refused, or a request within the
+/// image. `?` makes it of either.
+#[derive(Debug, Clone, Copy, PartialEq, Eq)]
+pub enum Error {
+    Fault(Fault),
+    Code(Code),
+}
+
+impl From<Fault> for Error {
+    ghost from_gives = { λ fault made. made ≡ error.Fault fault };
+
+    fn from(fault: Fault) -> Error {
+        Error::Fault(fault)
+    }
+}
+
+impl From<AllocError> for Error {
+    ghost from_gives = { λ _ made. made ≡ error.Fault Memory };
+
+    fn from(_: AllocError) -> Error {
+        Error::Fault(Fault::Memory)
+    }
+}
+
+impl From<Code> for Error {
+    ghost from_gives = { λ code made. made ≡ error.Code code };
+
+    fn from(code: Code) -> Error {
+        Error::Code(code)
+    }
+}
+
+impl<A: Allocator> From<Unopened<A>> for Error {
+    ghost from_gives = { λ unopened made. made ≡ error.Fault unopened.fault };
+
+    fn from(unopened: Unopened<A>) -> Error {
+        Error::Fault(unopened.fault)
+    }
+}

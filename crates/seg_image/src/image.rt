@@ -1,0 +1,101 @@
+ghost use Rattle.std.specs.Prelude.{◌≡◌, ◌↔◌, ℕ, [], length, IsOk, IfOk, IfErr, OnOk, OnErr, IsOkUnless};
+ghost use Rattle.seg_spec.specs.Sound.{Picture, IsSound};
+ghost use Rattle.seg_spec.specs.Types.{AreOfVersion, Agree, IsFirstDifference, longer};
+ghost use Rattle.seg_spec.specs.Window.{KeepsHost};
+ghost use Rattle.seg_manager.specs.Segments.{AddsTypes};
+ghost use Rattle.seg_image.specs.Images.{segment_of, allocator_of, IsOpen};
+
+use seg_bestfit::BestFit;
+use seg_layout::TypeTable;
+use seg_manager::Segment;
+use seg_open::save;
+use seg_ptr::Window;
+use seg_raw::Fault;
+use seg_seqfit::SeqFit;
+use std::alloc::Allocator;
+
+/// An open image: a segment on the allocator that the image names.
+#[derive(Drop)]
+pub enum Image<A: Allocator> {
+    Seq(Segment<SeqFit, A>),
+    Best(Segment<BestFit, A>),
+}
+
+/// A call on the segment of an image, whichever allocator it is on.
+macro_rules! on {
+    ($image:expr, $segment:ident => $call:expr) => {
+        match $image {
+            Image::Seq($segment) => $call,
+            Image::Best($segment) => $call,
+        }
+    };
+}
+
+pub(crate) use on;
+
+impl<A: Allocator> Image<A> {
+    /// The segment's window on its memory.
+    pub fn window(&self) -> &Window<A>
+        ensures { result.now ≡ (segment_of self.now).window }
+    {
+        on!(self, segment => segment.window())
+    }
+
+    /// How many bytes the image has.
+    pub fn size(&self) -> u32
+        ensures { result ≡ length (segment_of self.now).window.bytes }
+    {
+        self.window().len()
+    }
+
+    /// The bytes of the image.
+    #[tactic(auto, unfolding(seg_spec::specs::Bytes::slice))]
+    pub fn bytes(&self) -> &[u8]
+        ensures { result.now ≡ (segment_of self.now).window.bytes }
+    {
+        let window = self.window();
+        window.slice(0, window.len() as usize)
+    }
+
+    /// The types of the image's objects.
+    pub fn types(&self) -> &TypeTable
+        ensures { result.now ≡ (segment_of self.now).types }
+    {
+        on!(self, segment => segment.types())
+    }
+
+    /// Adds the types of a longer table. `TypeMismatch` where both tables have an entry that differs; then nothing changes.
+    pub fn add_types(&mut self, types: &TypeTable) -> Result<(), Fault>
+        ensures window { KeepsHost (segment_of self.old).window (segment_of self.new).window }
+        ensures agree { IsOk result ↔ Agree (segment_of self.old).types types.now }
+        ensures types { OnOk result ((segment_of self.new).types
+            ≡ longer (segment_of self.old).types types.now) }
+        ensures adds { OnOk result ((picture : Picture) → IsOpen self.old picture →
+            AreOfVersion 1 types.now → AddsTypes (allocator_of self.old)
+            (segment_of self.old) (segment_of self.new) picture types.now) }
+        ensures differs { IfErr result (λ fault. (k : ℕ) × (fault ≡ Fault.TypeMismatch k)
+            × IsFirstDifference (segment_of self.old).types types.now k) }
+        ensures allocator { allocator_of self.new ≡ allocator_of self.old }
+        ensures unchanged { OnErr result (self.new ≡ self.old) }
+    {
+        on!(self, segment => segment.add_types(types))
+    }
+
+    /// A copy of the image's bytes, in memory of this allocator. The image stays open.
+    pub fn save<B: Allocator>(&self, alloc: B) -> Result<Vec<u8, B>, Fault>
+        ensures image { IfOk result
+            (λ saved. saved.items ≡ (segment_of self.now).window.bytes) }
+        ensures sound { (picture : Picture) → IsOpen self.now picture → picture.loose ≡ [] →
+            IfOk result (λ saved. IsSound saved.items) }
+        ensures refused { IsOkUnless result Fault.Memory }
+    {
+        on!(self, segment => save(alloc, segment))
+    }
+
+    /// The image's bytes in their own memory, which isn't copied.
+    pub fn into_bytes(self) -> Vec<u8, A>
+        ensures { result.items ≡ (segment_of self).window.bytes }
+    {
+        on!(self, segment => segment.into_window().into_bytes())
+    }
+}

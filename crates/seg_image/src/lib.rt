@@ -1,0 +1,26 @@
+//! An open image: a segment on whichever allocator the image names. It is opened where it is sound, then read and changed by
+//! the host's own calls, grown, and saved.
+//!
+//! [`Image`] is where to begin. Its calls are those of the crates below, which are named there, on an allocator that is
+//! known when the image is opened.
+#![tactic(auto)]
+
+mod creating;
+mod error;
+mod image;
+mod maps;
+mod named;
+mod opening;
+mod owners;
+mod places;
+mod sequences;
+mod size;
+mod table;
+mod uniques;
+mod values;
+
+pub use creating::AllocatorKind;
+pub use error::Error;
+pub use image::Image;
+pub use opening::{Unopened, check};
+pub use table::type_table;

@@ -1,0 +1,99 @@
+ghost use Rattle.std.specs.Prelude.{◌≡◌, true, false, Err, IfOk, IsOkUnless};
+ghost use Rattle.std.specs.Result.{result_ok};
+ghost use Rattle.seg_spec.specs.Items.{key_place};
+ghost use Rattle.seg_spec.specs.Types.{form_at};
+ghost use Rattle.seg_value.specs.Places.{place_of};
+ghost use Rattle.seg_map.specs.EitherMap.{has_keys, IsMapOf, key_asks, KeepsTreePaths, KeepsKeysBut};
+ghost use Rattle.seg_map.specs.Maps.{FindsValue, PutsKey, RemovesKey, first_of, keys_above};
+ghost use Rattle.seg_image.specs.Images.{segment_of, allocator_of, bytes_in, types_of, ChangesBytes};
+ghost use Rattle.seg_image.specs.Places.{position_of, WhereMap};
+
+use crate::image::{Image, on};
+use crate::places::placed;
+use seg_map::{first_key, get, next_key, put, remove};
+use seg_raw::Code;
+use seg_value::Place;
+use std::alloc::Allocator;
+
+/// Flat maps and maps, from numbers to values. `OtherType` where a place's type is none.
+impl<A: Allocator> Image<A> {
+    /// The value of a key. `Absent` where the map doesn't have it.
+    pub fn get(&self, map: Place, key: i64) -> Result<Place, Code>
+        ensures of_type { IfOk result
+            (λ value. IsMapOf (form_at (types_of self.now) map.type_id) value.type_id) }
+        ensures other { has_keys (form_at (types_of self.now) map.type_id) ≡ false →
+            result ≡ Err Code.OtherType }
+        ensures code { has_keys (form_at (types_of self.now) map.type_id) ≡ true →
+            IsOkUnless (position_of result) Code.Absent }
+        ensures finds { WhereMap self.now map
+            (λ U keys vs blocks. FindsValue (bytes_in self.now) (types_of self.now) (place_of map)
+            U keys key (result_ok (position_of result))) }
+    {
+        let value = self.value_type(map)?;
+        on!(self, segment => placed(get(segment.heap(), map, key), value))
+    }
+
+    /// The value of a key, which gets a default one where the map doesn't have it. `BadAlloc` where there is no room; then
+    /// nothing changes. Values of a flat map may move: places in it end.
+    pub fn put(&mut self, map: Place, key: i64) -> Result<Place, Code>
+        ensures bytes { ChangesBytes self.old self.new }
+        ensures of_type { IfOk result
+            (λ value. IsMapOf (form_at (types_of self.old) map.type_id) value.type_id) }
+        ensures other { has_keys (form_at (types_of self.old) map.type_id) ≡ false →
+            (result ≡ Err Code.OtherType) × (self.new ≡ self.old) }
+        ensures code { has_keys (form_at (types_of self.old) map.type_id) ≡ true →
+            IsOkUnless (position_of result) Code.BadAlloc }
+        ensures puts { WhereMap self.old map
+            (λ U keys vs blocks. PutsKey (allocator_of self.old) (bytes_in self.old)
+            (bytes_in self.new) (types_of self.old) (place_of map) U keys vs key blocks
+            (key_asks (bytes_in self.old) (types_of self.old) map.at
+            (form_at (types_of self.old) map.type_id)) (key_place keys key)
+            (position_of result)) }
+        ensures keeps { WhereMap self.old map
+            (λ U keys vs blocks. KeepsTreePaths (form_at (types_of self.old) map.type_id)
+            (bytes_in self.old) (bytes_in self.new) (types_of self.old) (place_of map)) }
+    {
+        let value = self.value_type(map)?;
+        on!(self, segment => placed(put(segment.heap_mut(), map, key), value))
+    }
+
+    /// Removes a key and destroys its value. False where the map doesn't have it, or the place is no map.
+    pub fn remove(&mut self, map: Place, key: i64) -> bool
+        ensures bytes { ChangesBytes self.old self.new }
+        ensures other { has_keys (form_at (types_of self.old) map.type_id) ≡ false →
+            (result ≡ false) × (bytes_in self.new ≡ bytes_in self.old) }
+        ensures removes { WhereMap self.old map
+            (λ U keys vs blocks. RemovesKey (allocator_of self.old) (bytes_in self.old)
+            (bytes_in self.new) (types_of self.old) (place_of map) keys vs blocks
+            (key_place keys key) result) }
+        ensures keeps { WhereMap self.old map
+            (λ U keys vs blocks. KeepsKeysBut (form_at (types_of self.old) map.type_id)
+            (bytes_in self.old) (bytes_in self.new) (types_of self.old) (place_of map) key) }
+    {
+        on!(self, segment => remove(segment.heap_mut(), map, key))
+    }
+
+    /// The least key. `Null` where the map is empty.
+    pub fn first_key(&self, map: Place) -> Result<i64, Code>
+        ensures other { has_keys (form_at (types_of self.now) map.type_id) ≡ false →
+            result ≡ Err Code.OtherType }
+        ensures code { has_keys (form_at (types_of self.now) map.type_id) ≡ true →
+            IsOkUnless result Code.Null }
+        ensures first { WhereMap self.now map
+            (λ U keys vs blocks. result_ok result ≡ first_of keys) }
+    {
+        on!(self, segment => first_key(segment.heap(), map))
+    }
+
+    /// The least key above another one, which need not be there. `Null` where there is none.
+    pub fn next_key(&self, map: Place, after: i64) -> Result<i64, Code>
+        ensures other { has_keys (form_at (types_of self.now) map.type_id) ≡ false →
+            result ≡ Err Code.OtherType }
+        ensures code { has_keys (form_at (types_of self.now) map.type_id) ≡ true →
+            IsOkUnless result Code.Null }
+        ensures next { WhereMap self.now map
+            (λ U keys vs blocks. result_ok result ≡ first_of (keys_above keys after)) }
+    {
+        on!(self, segment => next_key(segment.heap(), map, after))
+    }
+}

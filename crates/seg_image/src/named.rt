@@ -1,0 +1,177 @@
+ghost use Rattle.std.specs.Prelude.{◌≡◌, ℕ, ◌<◌, ◌≤◌, false, length, None, Err, IsSomeAnd, IsTrue, IfErr, IfOk, OnOk, MatchOption, MatchResult, slice_get, is_ok};
+ghost use Rattle.seg_spec.specs.Index.{root_named};
+ghost use Rattle.seg_spec.specs.Sound.{Picture};
+ghost use Rattle.seg_spec.specs.Spending.{object_asks};
+ghost use Rattle.seg_index.specs.Lists.{root_after};
+ghost use Rattle.seg_manager.specs.NamedObjects.{found_as, Says, IsMissing, IsCount, RefusesName, FindsOrMakesNamed, RefusesToFind};
+ghost use Rattle.seg_manager.specs.NewNamed.{MakesNamed, FindsNoRoom};
+ghost use Rattle.seg_manager.specs.LeavingNamed.{LosesNamed};
+ghost use Rattle.seg_image.specs.Images.{segment_of, allocator_of, bytes_in, types_of, IsOpen, ChangesBytes};
+ghost use Rattle.seg_image.specs.Places.{position_of, first_place, item_place, value_count};
+
+use crate::image::{Image, on};
+use crate::places::placed;
+use seg_layout::{MAX_TYPES, TypeId};
+use seg_manager::{Found, Named};
+use seg_raw::Code;
+use seg_value::Place;
+use std::alloc::Allocator;
+
+/// Named objects. A name has 1 to 63 bytes, each visible and in ASCII, and its object 1 to 65535 values of one type.
+impl<A: Allocator> Image<A> {
+    /// Makes an object of `count` default values, and returns the place of the first one. `OtherType` where the image has
+    /// no such type, `OutOfRange` where the name is none or the count isn't from 1 to 65535, `AlreadyExists` where an
+    /// object has the name, `BadAlloc` where there is no room; then nothing changes.
+    pub fn construct(&mut self, name: &[u8], t: TypeId, count: u32) -> Result<Place, Code>
+        ensures bytes { ChangesBytes self.old self.new }
+        ensures of_type { IfOk result (λ place. place.type_id ≡ t) }
+        ensures unknown { length (types_of self.old) ≤ t →
+            (result ≡ Err Code.OtherType) × (self.new ≡ self.old) }
+        ensures tells { (picture : Picture) → IsOpen self.old picture →
+            t < length (types_of self.old) →
+            MatchResult (position_of result)
+            (λ _. IsMissing picture.names name.now × IsCount count)
+            (RefusesName (segment_of self.old) (segment_of self.new) picture.names name.now
+            count) }
+        ensures makes { (picture : Picture) → (s : IsOpen self.old picture) →
+            IfOk (position_of result) (MakesNamed (allocator_of self.old) (segment_of self.old)
+            (segment_of self.new) picture s.held.index_blocks name.now t count) }
+        ensures no_room { (picture : Picture) → IsOpen self.old picture →
+            position_of result ≡ Err Code.BadAlloc →
+            FindsNoRoom (allocator_of self.old) (segment_of self.old) (segment_of self.new)
+            picture (object_asks (bytes_in self.old) (types_of self.old) t count name.now) }
+    {
+        self.known(t)?;
+        on!(self, segment => placed(segment.construct(name, t, count), t))
+    }
+
+    /// The place of the first value of a name's object. `Absent` where there is none, `OtherType` where it has another type.
+    pub fn find(&self, name: &[u8], t: TypeId) -> Result<Place, Code>
+        ensures { (picture : Picture) → IsOpen self.now picture →
+            result ≡ first_place t (found_as t (root_named picture.names name.now)) }
+    {
+        let found = self.found(name, t)?;
+        Ok(Place {
+            at: found.at,
+            type_id: t,
+        })
+    }
+
+    /// The place of the value of a name's object that has this index, counted from 0. `OutOfRange` where it has fewer, and
+    /// the codes of [`find`](Image::find).
+    pub fn find_item(&self, name: &[u8], t: TypeId, index: u32) -> Result<Place, Code>
+        ensures { (picture : Picture) → IsOpen self.now picture →
+            result ≡ item_place (types_of self.now) t index
+            (found_as t (root_named picture.names name.now)) }
+    {
+        let found = self.found(name, t)?;
+        if index >= u32::from(found.count) {
+            return Err(Code::OutOfRange);
+        }
+        let from = index.saturating_mul(self.types().size(t));
+        Ok(Place {
+            at: found.at.saturating_add(from),
+            type_id: t,
+        })
+    }
+
+    /// How many values a name's object has. Codes as of [`find`](Image::find).
+    pub fn count(&self, name: &[u8], t: TypeId) -> Result<u16, Code>
+        ensures { (picture : Picture) → IsOpen self.now picture →
+            result ≡ value_count (found_as t (root_named picture.names name.now)) }
+    {
+        let found = self.found(name, t)?;
+        Ok(found.count)
+    }
+
+    /// The object of a name. Codes as of [`find`](Image::find).
+    fn found(&self, name: &[u8], t: TypeId) -> Result<Found, Code>
+        ensures { (picture : Picture) → IsOpen self.now picture →
+            result ≡ found_as t (root_named picture.names name.now) }
+    {
+        on!(self, segment => segment.find(name, t))
+    }
+
+    /// The place of the first value of a name's object, which is made with one default value where there is none.
+    /// `OtherType` where its object has another type or the image has no such type, `OutOfRange` where the name is none,
+    /// `BadAlloc` where there is no room; then nothing changes.
+    pub fn find_or_construct(&mut self, name: &[u8], t: TypeId) -> Result<Place, Code>
+        ensures bytes { ChangesBytes self.old self.new }
+        ensures of_type { IfOk result (λ place. place.type_id ≡ t) }
+        ensures unknown { length (types_of self.old) ≤ t →
+            (result ≡ Err Code.OtherType) × (self.new ≡ self.old) }
+        ensures tells { (picture : Picture) → IsOpen self.old picture →
+            t < length (types_of self.old) →
+            MatchResult (position_of result)
+            (FindsOrMakesNamed (segment_of self.old) (segment_of self.new) picture.names name.now
+            t)
+            (RefusesToFind (segment_of self.old) (segment_of self.new) picture.names name.now
+            t) }
+        ensures makes { (picture : Picture) → (s : IsOpen self.old picture) →
+            root_named picture.names name.now ≡ None →
+            IfOk (position_of result) (MakesNamed (allocator_of self.old) (segment_of self.old)
+            (segment_of self.new) picture s.held.index_blocks name.now t 1) }
+        ensures no_room { (picture : Picture) → IsOpen self.old picture →
+            position_of result ≡ Err Code.BadAlloc →
+            FindsNoRoom (allocator_of self.old) (segment_of self.old) (segment_of self.new)
+            picture (object_asks (bytes_in self.old) (types_of self.old) t 1 name.now) }
+    {
+        self.known(t)?;
+        on!(self, segment => placed(segment.find_or_construct(name, t), t))
+    }
+
+    /// Destroys a name's object, with all that its values own. False where there is none of this type.
+    pub fn destroy(&mut self, name: &[u8], t: TypeId) -> bool
+        ensures bytes { ChangesBytes self.old self.new }
+        ensures tells { (picture : Picture) → IsOpen self.old picture →
+            result ≡ is_ok (found_as t (root_named picture.names name.now)) }
+        ensures loses { (picture : Picture) → (s : IsOpen self.old picture) →
+            IsTrue result → LosesNamed (allocator_of self.old) (segment_of self.old)
+            (segment_of self.new) picture s.held.index_blocks name.now t }
+        ensures unchanged { result ≡ false → self.new ≡ self.old }
+    {
+        on!(self, segment => segment.destroy(name, t))
+    }
+
+    /// How many names there are.
+    pub fn num_named(&self) -> u32
+        ensures { (picture : Picture) → IsOpen self.now picture →
+            result ≡ length picture.names }
+    {
+        on!(self, segment => segment.num_named())
+    }
+
+    /// The least name, with the type and the number of values of its object.
+    pub fn first_name(&self) -> Option<Named<'_>>
+        ensures { (picture : Picture) → IsOpen self.now picture →
+            MatchOption result (slice_get picture.names 0 ≡ None)
+            (λ it. IsSomeAnd (slice_get picture.names 0)
+            (Says it.name.now it.type_id it.count)) }
+    {
+        on!(self, segment => segment.first_name())
+    }
+
+    /// The least name above another one, which need not be there.
+    pub fn next_name(&self, after: &[u8]) -> Option<Named<'_>>
+        ensures { (picture : Picture) → IsOpen self.now picture →
+            MatchOption result (root_after picture.names after.now ≡ None)
+            (λ it. IsSomeAnd (root_after picture.names after.now)
+            (Says it.name.now it.type_id it.count)) }
+    {
+        on!(self, segment => segment.next_name(after))
+    }
+
+    /// Whether the image has a type, or `OtherType`.
+    pub(crate) fn known(&self, t: TypeId) -> Result<(), Code>
+        ensures known { OnOk result (t < length (types_of self.now)) }
+        ensures few { OnOk result (t < MAX_TYPES) }
+        ensures unknown { IfErr result
+            (λ code. (code ≡ Code.OtherType) × (length (types_of self.now) ≤ t)) }
+    {
+        if (t as usize) < self.types().len() {
+            Ok(())
+        } else {
+            Err(Code::OtherType)
+        }
+    }
+}

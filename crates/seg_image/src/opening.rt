@@ -1,0 +1,102 @@
+ghost use Rattle.std.specs.Prelude.{◌≡◌, ◌≤◌, Err, length, IfOk, IfErr, OnOk};
+ghost use Rattle.seg_spec.specs.Bytes.{word};
+ghost use Rattle.seg_spec.specs.Header.{allocator_word};
+ghost use Rattle.seg_raw.specs.declared.fault.Fault.TheVariants.{Memory};
+ghost use Rattle.seg_check.specs.Faults.{IsImageOf, IsFaultOf, IsFrontRight};
+ghost use Rattle.seg_image.specs.Images.{segment_of, allocator_of};
+
+use crate::image::Image;
+use seg_bestfit::BestFit;
+use seg_block::Fit;
+use seg_layout::TypeTable;
+use seg_manager::Segment;
+use seg_ptr::{MAX_LEN, Window, header};
+use seg_raw::{Fault, Region};
+use seg_seqfit::SeqFit;
+use std::alloc::Allocator;
+
+/// Bytes that aren't opened, and why. `?` makes it the fault alone.
+#[derive(Drop)]
+pub struct Unopened<A: Allocator> {
+    pub fault: Fault,
+    pub bytes: Vec<u8, A>,
+}
+
+impl<A: Allocator> From<Unopened<A>> for Fault {
+    ghost from_gives = { λ unopened fault. fault ≡ unopened.fault };
+
+    fn from(unopened: Unopened<A>) -> Fault {
+        unopened.fault
+    }
+}
+
+/// The types of an image, or its first fault: [`Image::open`] opens it exactly where this accepts it. It works on a copy.
+pub fn check<A: Allocator + Copy>(alloc: A, bytes: &[u8]) -> Result<TypeTable, Fault>
+    ensures image { IfOk result (IsImageOf bytes.now) }
+    ensures fault { IfErr result (IsFaultOf bytes.now) }
+{
+    let window = window_of(Vec::from_slice(alloc, bytes)?)?;
+    seg_check::check(alloc, &window)
+}
+
+impl<A: Allocator + Copy> Image<A> {
+    /// Opens an image where it is sound, in its own memory. The bytes come back with the image's first fault, or with
+    /// `Memory` where host memory for the check is refused: up to 5 bytes for each 16 of the image, freed before it returns.
+    pub fn open(alloc: A, bytes: Vec<u8, A>) -> Result<Image<A>, Unopened<A>>
+        ensures opened { IfOk result
+            (λ image. (segment_of image).window.bytes ≡ bytes.items) }
+        ensures image { IfOk result
+            (λ image. IsImageOf bytes.items (segment_of image).types) }
+        ensures allocator { IfOk result
+            (λ image. word bytes.items allocator_word ≡ allocator_of image) }
+        ensures fault { IfErr result (λ unopened. IsFaultOf bytes.items unopened.fault) }
+        ensures refused { IfErr result (λ unopened. unopened.bytes.items ≡ bytes.items) }
+    {
+        let window = window_of(bytes)?;
+        if window.get32(header::ALLOCATOR) == BestFit::word() {
+            Ok(Image::Best(open_on(alloc, window)?))
+        } else {
+            Ok(Image::Seq(open_on(alloc, window)?))
+        }
+    }
+}
+
+/// The segment of an image, on one allocator.
+fn open_on<F: Fit, A: Allocator + Copy>(
+    alloc: A,
+    window: Window<A>,
+) -> Result<Segment<F, A>, Unopened<A>>
+    ensures opened { IfOk result (λ segment. segment.window.bytes ≡ window.bytes) }
+    ensures image { IfOk result (λ segment. IsImageOf window.bytes segment.types) }
+    ensures allocator { OnOk result (word window.bytes allocator_word ≡ F.allocator) }
+    ensures fault { (word window.bytes allocator_word ≤ 1 →
+        word window.bytes allocator_word ≡ F.allocator) →
+        IfErr result (λ unopened. IsFaultOf window.bytes unopened.fault) }
+    ensures refused { IfErr result (λ unopened. unopened.bytes.items ≡ window.bytes) }
+{
+    match seg_open::open(alloc, window) {
+        Ok(segment) => Ok(segment),
+        Err((fault, window)) => Err(Unopened {
+            fault,
+            bytes: window.into_bytes(),
+        }),
+    }
+}
+
+/// A window on all bytes of an image. Bytes that are too many for a segment are no image.
+fn window_of<A: Allocator>(bytes: Vec<u8, A>) -> Result<Window<A>, Unopened<A>>
+    ensures window { IfOk result (λ window. window.bytes ≡ bytes.items) }
+    ensures fault { IfErr result (λ unopened. IsFaultOf bytes.items unopened.fault) }
+    ensures refused { IfErr result (λ unopened. unopened.bytes.items ≡ bytes.items) }
+{
+    let len = match u32::try_from(bytes.len()) {
+        Ok(len) if len <= MAX_LEN => len,
+        _ => {
+            return Err(Unopened {
+                fault: Fault::BadHeader,
+                bytes,
+            });
+        }
+    };
+    Ok(Window::place(Region::from_vec(bytes), 0, len).unwrap())
+}

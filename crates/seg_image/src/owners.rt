@@ -1,0 +1,81 @@
+ghost use Rattle.std.specs.Prelude.{◌≡◌, ℕ, List, [], ◌∷◌, None, Some, Err, IfOk, MatchResult};
+ghost use Rattle.seg_spec.specs.Block.{block_of};
+ghost use Rattle.seg_spec.specs.Growing.{Succeeds};
+ghost use Rattle.seg_spec.specs.Owning.{Stands};
+ghost use Rattle.seg_spec.specs.Pointer.{target};
+ghost use Rattle.seg_spec.specs.Types.{Form, form_at};
+ghost use Rattle.seg_spec.specs.Value.{Value, Full, default_of};
+ghost use Rattle.seg_spec.specs.Window.{KeepsHost};
+ghost use Rattle.seg_value.specs.Places.{place_of};
+ghost use Rattle.seg_manager.specs.Segments.{one_value};
+ghost use Rattle.seg_seq.specs.Sequences.{LacksRoom};
+ghost use Rattle.seg_image.specs.Images.{segment_of, allocator_of, bytes_in, types_of, ChangesBytes};
+ghost use Rattle.seg_image.specs.Places.{position_of, object_type, content_place, StandsIn};
+
+use crate::image::{Image, on};
+use crate::places::placed;
+use seg_block::Fit;
+use seg_layout::TypeId;
+use seg_raw::Code;
+use seg_value::{Content, Heap, Place};
+use std::alloc::Allocator;
+
+/// Owns: values that hold an object without a name, or none.
+impl<A: Allocator> Image<A> {
+    /// The value of the object that an own holds. `OtherType` where a place's type is none, `Null` where it holds none.
+    pub fn content(&self, own: Place) -> Result<Place, Code>
+        ensures { result ≡ content_place (object_type (form_at (types_of self.now) own.type_id))
+            (target (bytes_in self.now) own.at) }
+    {
+        let type_id = self.object_type(own)?;
+        match self.window().target(own.at as usize) {
+            Some(at) => Ok(Place { at, type_id }),
+            None => Err(Code::Null),
+        }
+    }
+
+    /// Makes an object with a default value, which the own holds in place of the one before, and that one is destroyed.
+    /// `OtherType` where a place's type is none, `BadAlloc` where there is no room; then nothing changes.
+    pub fn put_content(&mut self, own: Place) -> Result<Place, Code>
+        ensures bytes { ChangesBytes self.old self.new }
+        ensures of_type { IfOk result (λ place.
+            object_type (form_at (types_of self.old) own.type_id) ≡ Some place.type_id) }
+        ensures puts { (U : ℕ) (v : Value) (blocks : List ℕ) →
+            form_at (types_of self.old) own.type_id ≡ Some (Form.own U) →
+            StandsIn self.old own v blocks → MatchResult (position_of result)
+            (λ at. Succeeds (allocator_of self.old) (bytes_in self.old) (bytes_in self.new)
+            (types_of self.old) (place_of own) (Full (default_of (types_of self.old) U))
+            (one_value (types_of self.old) U) blocks blocks (block_of at ∷ []))
+            (LacksRoom (allocator_of self.old) (segment_of self.old) (segment_of self.new)
+            (one_value (types_of self.old) U)) }
+        ensures other { object_type (form_at (types_of self.old) own.type_id) ≡ None →
+            (result ≡ Err Code.OtherType) × (self.new ≡ self.old) }
+    {
+        let object = self.object_type(own)?;
+        on!(self, segment => placed(put_new(segment.heap_mut(), own, object), object))
+    }
+}
+
+/// Makes an own hold a new object of this type, and returns the position of its value. `BadAlloc` where there is no room;
+/// then nothing changes.
+fn put_new<F: Fit, A: Allocator>(
+    heap: &mut Heap<F, A>,
+    own: Place,
+    object: TypeId,
+) -> Result<u32, Code>
+    ensures window { KeepsHost heap.old.window heap.new.window }
+    ensures types { heap.new.types ≡ heap.old.types }
+    ensures puts { (v : Value) (blocks : List ℕ) →
+        form_at heap.old.types own.type_id ≡ Some (Form.own object) →
+        Stands F.allocator heap.old.window.bytes heap.old.types (place_of own) v blocks →
+        MatchResult result
+        (λ at. Succeeds F.allocator heap.old.window.bytes heap.new.window.bytes heap.old.types
+        (place_of own) (Full (default_of heap.old.types object))
+        (one_value heap.old.types object) blocks blocks (block_of at ∷ []))
+        (LacksRoom F.allocator heap.old heap.new (one_value heap.old.types object)) }
+{
+    let content = Content::object(heap.types(), object);
+    let at = heap.new_block(&content)?;
+    heap.set_own(own, at);
+    Ok(at)
+}

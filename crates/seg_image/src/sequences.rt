@@ -1,0 +1,214 @@
+ghost use Rattle.std.specs.Prelude.{◌≡◌, ◌≢◌, ℕ, ◌+◌, ◌-◌, ◌≤◌, false, true, List, [], ◌∷◌, ◌++◌, length, take, None, Some, Ok, Err, IsOk, IfOk, IsOkUnless, MatchResult, suc};
+ghost use Rattle.seg_spec.specs.Bytes.{slice};
+ghost use Rattle.seg_spec.specs.Calls.{Refuses};
+ghost use Rattle.seg_spec.specs.Demand.{block_for};
+ghost use Rattle.seg_spec.specs.Items.{without_last};
+ghost use Rattle.seg_spec.specs.Reads.{count_at, start};
+ghost use Rattle.seg_spec.specs.Types.{Form, form_at, size};
+ghost use Rattle.seg_spec.specs.Value.{Value, Values, Text, nil, cons, count, append, default_of};
+ghost use Rattle.seg_value.specs.Places.{place_of};
+ghost use Rattle.seg_seq.specs.Kinds.{is_sequence};
+ghost use Rattle.seg_seq.specs.Lists.{HasList, IsNoList, AddsItem, RemovesItem};
+ghost use Rattle.seg_seq.specs.Sequences.{HasText, HasItems, item_type, Declines, HasNone, ComesToHold, LacksRoom, Rewrites, push_asks, PushesBack, PopsBack, IsPast, ShowsItem};
+ghost use Rattle.seg_image.specs.Images.{segment_of, allocator_of, bytes_in, types_of, ChangesBytes};
+ghost use Rattle.seg_image.specs.Places.{position_of, is_counted};
+
+use crate::image::{Image, on};
+use crate::places::placed;
+use seg_layout::Type;
+use seg_raw::Code;
+use seg_seq::{append, assign, at, pop_back, pop_front, push_back, push_front};
+use seg_value::{Place, count, start};
+use std::alloc::Allocator;
+
+/// Strings.
+impl<A: Allocator> Image<A> {
+    /// The bytes of a string. `OtherType` where a place's type is none.
+    pub fn text(&self, place: Place) -> Result<&[u8], Code>
+        ensures bytes { MatchResult result
+            (λ text. (form_at (types_of self.now) place.type_id ≡ Some Form.str)
+            × (text.now ≡ slice (bytes_in self.now) (start (bytes_in self.now) place.at)
+            (count_at (bytes_in self.now) place.at)))
+            (λ code. (code ≡ Code.OtherType)
+            × (form_at (types_of self.now) place.type_id ≢ Some Form.str)) }
+    {
+        self.string(place)?;
+        let window = self.window();
+        let (from, len) = (start(window, place.at), count(window, place.at));
+        Ok(window.slice(from as usize, len as usize))
+    }
+
+    /// Makes a string these bytes. `OtherType` where a place's type is none, `BadAlloc` where there is no room; then nothing
+    /// changes.
+    pub fn assign(&mut self, place: Place, bytes: &[u8]) -> Result<(), Code>
+        ensures bytes { ChangesBytes self.old self.new }
+        ensures text { (xs blocks : List ℕ) →
+            HasText (allocator_of self.old) (segment_of self.old) (place_of place) xs blocks →
+            Rewrites (allocator_of self.old) (segment_of self.old) (segment_of self.new)
+            (place_of place) (length bytes.now) bytes.now blocks result }
+        ensures other { form_at (types_of self.old) place.type_id ≢ Some Form.str →
+            Declines Code.OtherType (segment_of self.old) (segment_of self.new) result }
+    {
+        on!(self, segment => assign(segment.heap_mut(), place, bytes))
+    }
+
+    /// Adds bytes to a string. Codes as of [`assign`](Image::assign).
+    pub fn append(&mut self, place: Place, bytes: &[u8]) -> Result<(), Code>
+        ensures bytes { ChangesBytes self.old self.new }
+        ensures text { (xs blocks : List ℕ) →
+            HasText (allocator_of self.old) (segment_of self.old) (place_of place) xs blocks →
+            Rewrites (allocator_of self.old) (segment_of self.old) (segment_of self.new)
+            (place_of place) (length xs + length bytes.now) (xs ++ bytes.now) blocks result }
+        ensures other { form_at (types_of self.old) place.type_id ≢ Some Form.str →
+            Declines Code.OtherType (segment_of self.old) (segment_of self.new) result }
+    {
+        on!(self, segment => append(segment.heap_mut(), place, bytes))
+    }
+}
+
+/// Vectors and lists, and what they share with strings and maps.
+impl<A: Allocator> Image<A> {
+    /// How many bytes a string has, items a vector or a list, keys a map, and objects an own. `OtherType` elsewhere.
+    pub fn len(&self, place: Place) -> Result<u32, Code>
+        ensures counted { is_counted (form_at (types_of self.now) place.type_id) ≡ true →
+            result ≡ Ok (count_at (bytes_in self.now) place.at) }
+        ensures other { is_counted (form_at (types_of self.now) place.type_id) ≡ false →
+            result ≡ Err Code.OtherType }
+    {
+        match self.kind(place)? {
+            Type::Str
+            | Type::Vec(_)
+            | Type::List(_)
+            | Type::FlatMap(_)
+            | Type::Map(_)
+            | Type::Own(_) => Ok(count(self.window(), place.at)),
+            Type::I64 | Type::Struct(_) | Type::Shared(_) => Err(Code::OtherType),
+        }
+    }
+
+    /// An item of a vector or a list, counted from 0. `OtherType` where a place's type is none, `OutOfRange` where it has
+    /// fewer. In a list it is a walk from its nearer end.
+    pub fn item(&self, place: Place, index: u32) -> Result<Place, Code>
+        ensures of_type { IfOk result (λ item.
+            item_type (form_at (types_of self.now) place.type_id) ≡ Some item.type_id) }
+        ensures vector { (U : ℕ) (vs : Values) (blocks : List ℕ) →
+            HasItems (allocator_of self.now) (segment_of self.now) (place_of place) U vs blocks →
+            MatchResult (position_of result)
+            (ShowsItem (segment_of self.now) (place_of place) U index)
+            (IsPast index (count vs)) }
+        ensures list { (U : ℕ) (vs : Values) (blocks : List ℕ) →
+            HasList (allocator_of self.now) (segment_of self.now) (place_of place) U vs blocks →
+            MatchResult (position_of result)
+            (ShowsItem (segment_of self.now) (place_of place) U index)
+            (IsPast index (count vs)) }
+        ensures other { item_type (form_at (types_of self.now) place.type_id) ≡ None →
+            result ≡ Err Code.OtherType }
+    {
+        let item = self.item_type(place)?;
+        on!(self, segment => placed(at(segment.heap(), place, index), item))
+    }
+
+    /// Adds a default item after the last one of a vector or a list. `OtherType` where a place's type is none, `BadAlloc`
+    /// where there is no room; then nothing changes. Items of a vector may move: places in it end.
+    pub fn push_back(&mut self, place: Place) -> Result<Place, Code>
+        ensures bytes { ChangesBytes self.old self.new }
+        ensures of_type { IfOk result (λ item.
+            item_type (form_at (types_of self.old) place.type_id) ≡ Some item.type_id) }
+        ensures vector { (U : ℕ) (vs : Values) (blocks : List ℕ) →
+            HasItems (allocator_of self.old) (segment_of self.old) (place_of place) U vs blocks →
+            MatchResult (position_of result)
+            (PushesBack (allocator_of self.old) (segment_of self.old) (segment_of self.new)
+            (place_of place) U vs blocks)
+            (LacksRoom (allocator_of self.old) (segment_of self.old) (segment_of self.new)
+            (push_asks (segment_of self.old) (place_of place) U)) }
+        ensures list { (U : ℕ) (vs : Values) (blocks : List ℕ) →
+            HasList (allocator_of self.old) (segment_of self.old) (place_of place) U vs blocks →
+            MatchResult (position_of result)
+            (λ at. AddsItem (allocator_of self.old) (bytes_in self.old) (bytes_in self.new)
+            (types_of self.old) (place_of place) U
+            (append vs (cons (default_of (types_of self.old) U) nil)) blocks (count vs) at
+            (λ i. Some i))
+            (LacksRoom (allocator_of self.old) (segment_of self.old) (segment_of self.new)
+            (block_for (8 + size (types_of self.old) U) ∷ [])) }
+        ensures other { item_type (form_at (types_of self.old) place.type_id) ≡ None →
+            (result ≡ Err Code.OtherType) × (self.new ≡ self.old) }
+    {
+        let item = self.item_type(place)?;
+        on!(self, segment => placed(push_back(segment.heap_mut(), place), item))
+    }
+
+    /// Adds a default item before the first one of a list. `OtherType` where a place's type is none, `BadAlloc` where there
+    /// is no room; then nothing changes.
+    pub fn push_front(&mut self, place: Place) -> Result<Place, Code>
+        ensures bytes { ChangesBytes self.old self.new }
+        ensures of_type { IfOk result (λ item.
+            item_type (form_at (types_of self.old) place.type_id) ≡ Some item.type_id) }
+        ensures code { (U : ℕ) →
+            form_at (types_of self.old) place.type_id ≡ Some (Form.list U) →
+            IsOkUnless (position_of result) Code.BadAlloc }
+        ensures pushed { (U : ℕ) (vs : Values) (blocks : List ℕ) →
+            HasList (allocator_of self.old) (segment_of self.old) (place_of place) U vs blocks →
+            MatchResult (position_of result)
+            (λ at. AddsItem (allocator_of self.old) (bytes_in self.old) (bytes_in self.new)
+            (types_of self.old) (place_of place) U
+            (cons (default_of (types_of self.old) U) vs) blocks 0 at (λ i. Some (suc i)))
+            (λ code. Refuses (allocator_of self.old) (bytes_in self.old) (bytes_in self.new)
+            (block_for (8 + size (types_of self.old) U) ∷ [])) }
+        ensures other { IsNoList (types_of self.old) place.type_id →
+            (position_of result ≡ Err Code.OtherType)
+            × (bytes_in self.new ≡ bytes_in self.old) }
+    {
+        let item = self.item_type(place)?;
+        on!(self, segment => placed(push_front(segment.heap_mut(), place), item))
+    }
+
+    /// Destroys the last item of a vector or a list, or drops the last byte of a string. `OtherType` where a place's type is
+    /// none, `Null` where it is empty.
+    pub fn pop_back(&mut self, place: Place) -> Result<(), Code>
+        ensures bytes { ChangesBytes self.old self.new }
+        ensures text { (xs blocks : List ℕ) →
+            HasText (allocator_of self.old) (segment_of self.old) (place_of place) xs blocks →
+            MatchResult result
+            (λ done. ComesToHold (allocator_of self.old) (segment_of self.old)
+            (segment_of self.new) (place_of place) (Text (take (length xs - 1) xs)) [] [] blocks)
+            (HasNone (segment_of self.old) (segment_of self.new) (length xs)) }
+        ensures vector { (U : ℕ) (vs : Values) (blocks : List ℕ) →
+            HasItems (allocator_of self.old) (segment_of self.old) (place_of place) U vs blocks →
+            MatchResult result
+            (λ done. PopsBack (allocator_of self.old) (segment_of self.old) (segment_of self.new)
+            (place_of place) vs blocks)
+            (HasNone (segment_of self.old) (segment_of self.new) (count vs)) }
+        ensures list { (U : ℕ) (vs : Values) (blocks : List ℕ) →
+            HasList (allocator_of self.old) (segment_of self.old) (place_of place) U vs blocks →
+            MatchResult result
+            (λ done. (1 ≤ count vs) × RemovesItem (allocator_of self.old) (bytes_in self.old)
+            (bytes_in self.new) (types_of self.old) (place_of place) (without_last vs) blocks
+            (count vs - 1))
+            (HasNone (segment_of self.old) (segment_of self.new) (count vs)) }
+        ensures other { is_sequence (form_at (types_of self.old) place.type_id) ≡ false →
+            Declines Code.OtherType (segment_of self.old) (segment_of self.new) result }
+        ensures counted { is_sequence (form_at (types_of self.old) place.type_id) ≡ true →
+            MatchResult result (λ done. 1 ≤ count_at (bytes_in self.old) place.at)
+            (HasNone (segment_of self.old) (segment_of self.new)
+            (count_at (bytes_in self.old) place.at)) }
+    {
+        on!(self, segment => pop_back(segment.heap_mut(), place))
+    }
+
+    /// Destroys the first item of a list. `OtherType` where a place's type is none, `Null` where it is empty.
+    pub fn pop_front(&mut self, place: Place) -> Result<(), Code>
+        ensures bytes { ChangesBytes self.old self.new }
+        ensures other { IsNoList (types_of self.old) place.type_id →
+            Declines Code.OtherType (segment_of self.old) (segment_of self.new) result }
+        ensures empty { (U : ℕ) (blocks : List ℕ) →
+            HasList (allocator_of self.old) (segment_of self.old) (place_of place) U nil blocks →
+            Declines Code.Null (segment_of self.old) (segment_of self.new) result }
+        ensures popped { (U : ℕ) (v : Value) (vs : Values) (blocks : List ℕ) →
+            HasList (allocator_of self.old) (segment_of self.old) (place_of place) U (cons v vs)
+            blocks →
+            IsOk result × RemovesItem (allocator_of self.old) (bytes_in self.old)
+            (bytes_in self.new) (types_of self.old) (place_of place) vs blocks 0 }
+    {
+        on!(self, segment => pop_front(segment.heap_mut(), place))
+    }
+}

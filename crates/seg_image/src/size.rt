@@ -1,0 +1,139 @@
+ghost use Rattle.std.specs.Prelude.{◌≡◌, ◌+◌, ◌≤◌, ◌⊎◌, ◌↔◌, [], length, IsTrue, IfOk, IfErr, OnOk, OnErr, IsOkUnless};
+ghost use Rattle.seg_spec.specs.Heap.{IsHeap, live, gaps};
+ghost use Rattle.seg_spec.specs.Sound.{Picture};
+ghost use Rattle.seg_spec.specs.Window.{region_of};
+ghost use Rattle.seg_manager.specs.Gaps.{bytes_of, largest_of, ZeroesGaps};
+ghost use Rattle.seg_manager.specs.Segments.{IsSegment};
+ghost use Rattle.seg_manager.specs.Sizes.{MayGrowTo, Shrinks};
+ghost use Rattle.seg_image.specs.Images.{segment_of, allocator_of, bytes_in, types_of, IsOpen, ChangesBytes};
+ghost use Rattle.seg_image.specs.Growth.{Lengthens};
+
+use crate::image::{Image, on};
+use core::mem::replace_with;
+use seg_block::Fit;
+use seg_manager::Segment;
+use seg_ptr::{MAX_LEN, Window};
+use seg_raw::{Fault, Region};
+use std::alloc::{AllocError, Allocator};
+
+/// Its size and its free memory, in bytes.
+impl<A: Allocator> Image<A> {
+    /// The bytes of all gaps of the heap, with their headers of 16 bytes.
+    pub fn free_memory(&self) -> u32
+        ensures { IsHeap (allocator_of self.now) (bytes_in self.now) →
+            result ≡ bytes_of (gaps (bytes_in self.now)) }
+    {
+        on!(self, segment => segment.free_memory())
+    }
+
+    /// The bytes of the largest gap, with its header.
+    pub fn largest_gap(&self) -> u32
+        ensures { IsHeap (allocator_of self.now) (bytes_in self.now) →
+            result ≡ largest_of (gaps (bytes_in self.now)) }
+    {
+        on!(self, segment => segment.largest_gap())
+    }
+
+    /// Whether no object holds memory: one gap is the whole heap.
+    pub fn all_memory_deallocated(&self) -> bool
+        ensures { IsHeap (allocator_of self.now) (bytes_in self.now) →
+            (IsTrue result ↔ (live (bytes_in self.now) ≡ [])) }
+    {
+        on!(self, segment => segment.all_memory_deallocated())
+    }
+
+    /// Writes 0 to the bytes of gaps that the allocator doesn't use, so that a saved image tells nothing of what was freed.
+    pub fn zero_free_memory(&mut self)
+        ensures bytes { ChangesBytes self.old self.new }
+        ensures zeroes { (picture : Picture) → IsOpen self.old picture →
+            ZeroesGaps (allocator_of self.old) (segment_of self.old) (segment_of self.new)
+            picture }
+    {
+        on!(self, segment => segment.zero_free_memory())
+    }
+
+    /// Adds `extra` bytes at the end, and returns the new size in bytes. `BadSize` where that is no size of a segment or
+    /// `extra` is no multiple of 16, `Memory` where host memory is refused; then nothing changes.
+    ///
+    /// The host's memory of the image grows with it, which copies the image where it has to move. Places stay good.
+    pub fn grow(&mut self, extra: u32) -> Result<u32, Fault>
+        ensures allocator { allocator_of self.new ≡ allocator_of self.old }
+        ensures types { types_of self.new ≡ types_of self.old }
+        ensures size { IfOk result (λ size. size ≡ length (bytes_in self.old) + extra) }
+        ensures fault { IfErr result (λ fault.
+            ((fault ≡ Fault.BadSize) × ¬ MayGrowTo extra (length (bytes_in self.old) + extra))
+            ⊎ ((fault ≡ Fault.Memory) × MayGrowTo extra (length (bytes_in self.old) + extra))) }
+        ensures done { OnOk result (MayGrowTo extra (length (bytes_in self.old) + extra)) }
+        ensures grows { (picture : Picture) → IsOpen self.old picture →
+            OnOk result (Lengthens (allocator_of self.old) (bytes_in self.old)
+            (segment_of self.new) picture extra) }
+        ensures unchanged { OnErr result (bytes_in self.new ≡ bytes_in self.old) }
+    {
+        on!(self, segment => grow(segment, extra))
+    }
+
+    /// Cuts the gap at the end, and returns the new size in bytes. The host's memory of the image stays as large as it was.
+    pub fn shrink(&mut self) -> u32
+        ensures allocator { allocator_of self.new ≡ allocator_of self.old }
+        ensures types { types_of self.new ≡ types_of self.old }
+        ensures shrinks { (picture : Picture) → IsOpen self.old picture →
+            Shrinks (allocator_of self.old) (segment_of self.old) (segment_of self.new) picture
+            result }
+    {
+        on!(self, segment => segment.shrink_to_fit())
+    }
+}
+
+/// Grows the segment, in the memory that it has where there is room, and else in more.
+fn grow<F: Fit, A: Allocator>(segment: &mut Segment<F, A>, extra: u32) -> Result<u32, Fault>
+    ensures types { segment.new.types ≡ segment.old.types }
+    ensures size { IfOk result (λ size. size ≡ length segment.old.window.bytes + extra) }
+    ensures fault { IfErr result (λ fault.
+        ((fault ≡ Fault.BadSize) × ¬ MayGrowTo extra (length segment.old.window.bytes + extra))
+        ⊎ ((fault ≡ Fault.Memory)
+        × MayGrowTo extra (length segment.old.window.bytes + extra))) }
+    ensures done { OnOk result (MayGrowTo extra (length segment.old.window.bytes + extra)) }
+    ensures grows { (picture : Picture) → IsSegment F.allocator segment.old picture →
+        OnOk result (Lengthens F.allocator segment.old.window.bytes segment.new picture extra) }
+    ensures unchanged { OnErr result (segment.new.window.bytes ≡ segment.old.window.bytes) }
+{
+    match segment.grow(extra) {
+        Err(Fault::NoHostRoom) => grow_memory(segment, extra),
+        grown => grown,
+    }
+}
+
+/// Grows the segment in more memory.
+fn grow_memory<F: Fit, A: Allocator>(segment: &mut Segment<F, A>, extra: u32) -> Result<u32, Fault>
+    requires { MayGrowTo extra (length segment.old.window.bytes + extra) }
+    ensures types { segment.new.types ≡ segment.old.types }
+    ensures size { IfOk result (λ size. size ≡ length segment.old.window.bytes + extra) }
+    ensures fault { IsOkUnless result Fault.Memory }
+    ensures grows { (picture : Picture) → IsSegment F.allocator segment.old picture →
+        OnOk result (Lengthens F.allocator segment.old.window.bytes segment.new picture extra) }
+    ensures unchanged { OnErr result (segment.new.window.bytes ≡ segment.old.window.bytes) }
+{
+    let size = segment.window().len() + extra;
+    replace_with(segment, size, with_room)?;
+    segment.grow(extra)
+}
+
+/// The segment at the start of its memory, which then has `room` bytes, or as many as before where more are refused.
+fn with_room<F: Fit, A: Allocator>(
+    segment: Segment<F, A>,
+    room: u32,
+) -> (Segment<F, A>, Result<(), AllocError>)
+    requires more { length segment.window.bytes ≤ room }
+    requires at_most { room ≤ MAX_LEN }
+    ensures bytes { result.0.window.bytes ≡ segment.window.bytes }
+    ensures types { result.0.types ≡ segment.types }
+    ensures base { result.0.window.before ≡ [] }
+    ensures room { OnOk result.1 (length (region_of result.0.window) ≡ room) }
+{
+    let types = segment.types().copy();
+    let len = segment.window().len();
+    let mut bytes = segment.into_window().into_bytes();
+    let resized = bytes.resize(room as usize, 0);
+    let window = Window::place(Region::from_vec(bytes), 0, len).unwrap();
+    (Segment::new(window, types), resized)
+}

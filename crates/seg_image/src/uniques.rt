@@ -1,0 +1,89 @@
+ghost use Rattle.std.specs.Prelude.{◌≡◌, ◌<◌, ◌≤◌, false, length, None, Some, Err, IsTrue, IfOk, MatchResult};
+ghost use Rattle.seg_spec.specs.Sound.{Picture};
+ghost use Rattle.seg_manager.specs.Segments.{unique_at, MakesUnique, FindsOrMakes, RefusesUnique, LosesUnique};
+ghost use Rattle.seg_image.specs.Images.{segment_of, allocator_of, types_of, IsOpen, ChangesBytes};
+ghost use Rattle.seg_image.specs.Places.{position_of};
+
+use crate::image::{Image, on};
+use crate::places::placed;
+use seg_layout::TypeId;
+use seg_raw::Code;
+use seg_value::Place;
+use std::alloc::Allocator;
+
+/// Unique objects: one value for each type at most.
+impl<A: Allocator> Image<A> {
+    /// Makes the unique object of a type, with its default value. `OtherType` where the image has no such type,
+    /// `AlreadyExists` where the object is there, `BadAlloc` where there is no room; then nothing changes.
+    pub fn construct_unique(&mut self, t: TypeId) -> Result<Place, Code>
+        ensures bytes { ChangesBytes self.old self.new }
+        ensures of_type { IfOk result (λ place. place.type_id ≡ t) }
+        ensures unknown { length (types_of self.old) ≤ t →
+            (result ≡ Err Code.OtherType) × (self.new ≡ self.old) }
+        ensures makes { (picture : Picture) → IsOpen self.old picture →
+            t < length (types_of self.old) → MatchResult (position_of result)
+            (MakesUnique (allocator_of self.old) (segment_of self.old) (segment_of self.new)
+            picture t)
+            (RefusesUnique (allocator_of self.old) (segment_of self.old) (segment_of self.new)
+            picture t) }
+    {
+        self.known(t)?;
+        on!(self, segment => placed(segment.construct_unique(t), t))
+    }
+
+    /// The unique object of a type. `OtherType` where the image has no such type, `Absent` where there is no such object.
+    pub fn find_unique(&self, t: TypeId) -> Result<Place, Code>
+        ensures of_type { IfOk result (λ place. place.type_id ≡ t) }
+        ensures unknown { length (types_of self.now) ≤ t → result ≡ Err Code.OtherType }
+        ensures finds { (picture : Picture) → IsOpen self.now picture →
+            t < length (types_of self.now) → MatchResult (position_of result)
+            (λ at. unique_at picture t ≡ Some at)
+            (λ code. (code ≡ Code.Absent) × (unique_at picture t ≡ None)) }
+    {
+        self.known(t)?;
+        on!(self, segment => placed(segment.find_unique(t), t))
+    }
+
+    /// The unique object of a type, which is made where there is none. Codes as of
+    /// [`construct_unique`](Image::construct_unique), but for `AlreadyExists`.
+    pub fn find_or_construct_unique(&mut self, t: TypeId) -> Result<Place, Code>
+        ensures bytes { ChangesBytes self.old self.new }
+        ensures of_type { IfOk result (λ place. place.type_id ≡ t) }
+        ensures unknown { length (types_of self.old) ≤ t →
+            (result ≡ Err Code.OtherType) × (self.new ≡ self.old) }
+        ensures makes { (picture : Picture) → IsOpen self.old picture →
+            t < length (types_of self.old) → MatchResult (position_of result)
+            (FindsOrMakes (allocator_of self.old) (segment_of self.old) (segment_of self.new)
+            picture t)
+            (λ code. (code ≡ Code.BadAlloc) × RefusesUnique (allocator_of self.old)
+            (segment_of self.old) (segment_of self.new) picture t code) }
+    {
+        self.known(t)?;
+        on!(self, segment => placed(segment.find_or_construct_unique(t), t))
+    }
+
+    /// Destroys the unique object of a type, with all that it owns. False where there is none.
+    pub fn destroy_unique(&mut self, t: TypeId) -> bool
+        ensures bytes { ChangesBytes self.old self.new }
+        ensures unknown { length (types_of self.old) ≤ t → result ≡ false }
+        ensures loses { (picture : Picture) → IsOpen self.old picture →
+            IsTrue result → LosesUnique (allocator_of self.old) (segment_of self.old)
+            (segment_of self.new) picture t }
+        ensures none { (picture : Picture) → IsOpen self.old picture →
+            t < length (types_of self.old) → result ≡ false → unique_at picture t ≡ None }
+        ensures unchanged { result ≡ false → self.new ≡ self.old }
+    {
+        if self.known(t).is_err() {
+            return false;
+        }
+        on!(self, segment => segment.destroy_unique(t))
+    }
+
+    /// How many unique objects there are.
+    pub fn num_unique(&self) -> usize
+        ensures { (picture : Picture) → IsOpen self.now picture →
+            result ≡ length picture.uniques }
+    {
+        on!(self, segment => segment.num_unique())
+    }
+}

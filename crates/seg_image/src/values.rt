@@ -1,0 +1,72 @@
+ghost use Rattle.std.specs.Prelude.{◌≡◌, ◌≢◌, ℕ, ◌+◌, ◌≤◌, List, [], length, Some, Ok, Err, IsOk, OnOk};
+ghost use Rattle.seg_spec.specs.Bytes.{signed_long, ChangesOnly};
+ghost use Rattle.seg_spec.specs.Demand.{after_gives};
+ghost use Rattle.seg_spec.specs.Heap.{live};
+ghost use Rattle.seg_spec.specs.Roots.{ChangesPlace};
+ghost use Rattle.seg_spec.specs.Types.{Form, form_at};
+ghost use Rattle.seg_spec.specs.Value.{Value, default_of};
+ghost use Rattle.seg_value.specs.Places.{place_of};
+ghost use Rattle.seg_image.specs.Images.{bytes_in, types_of, ChangesBytes};
+ghost use Rattle.seg_image.specs.Places.{StandsIn, FieldPlace};
+
+use crate::image::{Image, on};
+use seg_raw::Code;
+use seg_value::{Place, load};
+use std::alloc::Allocator;
+
+/// Values of any type. A place is one that a call on this image returned, and that is still there: it ends when its object is
+/// destroyed, or a container around it changes by more than its other values. A call on an old place reads and writes the
+/// image's bytes alone, but may spoil other values, so that a saved image may be refused.
+impl<A: Allocator> Image<A> {
+    /// The number at a place. `OtherType` where its type is no `i64`.
+    pub fn load(&self, place: Place) -> Result<i64, Code>
+        ensures number { form_at (types_of self.now) place.type_id ≡ Some Form.i64 →
+            result ≡ Ok (signed_long (bytes_in self.now) place.at) }
+        ensures other { form_at (types_of self.now) place.type_id ≢ Some Form.i64 →
+            result ≡ Err Code.OtherType }
+    {
+        self.number(place)?;
+        Ok(load(self.window(), place.at))
+    }
+
+    /// Makes the number at a place this one. `OtherType` where its type is no `i64`; then nothing changes.
+    pub fn store(&mut self, place: Place, number: i64) -> Result<(), Code>
+        ensures bytes { ChangesBytes self.old self.new }
+        ensures number { form_at (types_of self.old) place.type_id ≡ Some Form.i64 → IsOk result }
+        ensures stored { place.at + 8 ≤ length (bytes_in self.old) →
+            OnOk result (signed_long (bytes_in self.new) place.at ≡ number) }
+        ensures changes { OnOk result
+            (ChangesOnly (bytes_in self.old) (bytes_in self.new) place.at 8) }
+        ensures other { form_at (types_of self.old) place.type_id ≢ Some Form.i64 →
+            (result ≡ Err Code.OtherType) × (self.new ≡ self.old) }
+    {
+        self.number(place)?;
+        on!(self, segment => {
+            segment.heap_mut().store(place.at, number);
+            Ok(())
+        })
+    }
+
+    /// A field of a struct, counted from 0. `OtherType` where a place's type is no struct, `OutOfRange` where it has fewer.
+    pub fn field(&self, place: Place, index: u32) -> Result<Place, Code>
+        ensures { FieldPlace (types_of self.now) place index result }
+    {
+        let types = self.types();
+        match types.field(place.type_id, index) {
+            Some(field) => Ok(place.part(field)),
+            None if types.field_count(place.type_id) == 0 => Err(Code::OtherType),
+            None => Err(Code::OutOfRange),
+        }
+    }
+
+    /// Frees all that a value owns, and makes it the default of its type.
+    pub fn clear(&mut self, place: Place)
+        ensures bytes { ChangesBytes self.old self.new }
+        ensures cleared { (v : Value) (blocks : List ℕ) → StandsIn self.old place v blocks →
+            ChangesPlace (bytes_in self.old) (bytes_in self.new) (types_of self.old)
+            (place_of place) (default_of (types_of self.old) place.type_id) []
+            (after_gives (live (bytes_in self.old)) blocks) blocks [] }
+    {
+        on!(self, segment => segment.heap_mut().clear(place))
+    }
+}
