@@ -26,3 +26,4 @@ pub mod Spending
 pub mod Shrinking
 pub mod Fixtures
 pub mod Growing
+pub mod Shared

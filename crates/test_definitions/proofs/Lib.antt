@@ -8,3 +8,6 @@ pub mod NoRoots
 pub mod Denials
 pub mod CutBuffers
 pub mod WorkedCalls
+pub mod SharedLaws
+pub mod Unfolding
+pub mod Sharing

@@ -7,5 +7,6 @@ pub mod bytes;
 pub mod examples;
 pub mod heaps;
 pub mod images;
+pub mod shared;
 pub mod trees;
 pub mod values;

@@ -1,0 +1,136 @@
+-- Objects that several values share, as images of version 2 have them. Such an object is frozen: its value doesn't
+-- change. It counts the cells that name it, and has a number that is above those of the objects that it names.
+--     Frozen                               such an object
+--     names_in v, names_of frozen          what the shared cells in a value name, and those in the objects
+--     IsBelow n frozen place               the place is that of one of the objects, with a number below n
+--     IsCounted next frozen cells          each object counts the cells that name it, these and those in the
+--                                          objects, and names those of lower numbers alone; next is above all
+--     unfolded n frozen v                  the value as a tree: each shared cell owns a copy of what it names
+--     raised p frozen                      the objects, where one more cell names that at a position
+--     left gone frozen, freed gone frozen  what is left where cells with these names are gone, and what goes
+--                                          with them: what no cell names any more
+use Rattle.std.specs.Prelude.{◌≡◌, ◌≢◌, ℕ, zero, suc, ◌+◌, ◌-◌, ◌<◌, ◌≤◌, ◌==◌, ◌⊎◌, ⊤, if◌then◌else◌, List, [], ◌∷◌, ◌++◌, map, Option, Some, None}
+use Rattle.std.specs.List.{AllByRecursion}
+use Rattle.seg_spec.specs.Value.{Label, Value, node, Values, nil, cons, Empty, Full}
+use Rattle.seg_spec.specs.Reads.{Place}
+use Rattle.seg_spec.specs.Sound.{times}
+
+-- an object that values share: the position of its payload, its type, its number, how many cells
+-- name it, and its value
+pub record Frozen : Type 0 where
+  pub at : ℕ
+  pub type : ℕ
+  pub number : ℕ
+  pub count : ℕ
+  pub value : Value
+
+-- ---- what shared cells name
+
+unfoldable mutual
+  pub names_in : Value → List Place
+  names_in (node (Label.shared T p) vs) = record { at = p; type = T } ∷ names_each vs
+  names_in (node label vs) = names_each vs
+
+  pub names_each : Values → List Place
+  names_each nil = []
+  names_each (cons v vs) = names_in v ++ names_each vs
+
+-- the names in all objects together
+abbrev pub names_of : List Frozen → List Place
+names_of [] = []
+names_of (f ∷ fs) = names_in f.value ++ names_of fs
+
+-- how often an object at a position is named
+abbrev pub times_named : ℕ → List Place → ℕ
+times_named p names = times p (map (λ q. q.at) names)
+
+-- ---- objects that are counted
+
+-- the name is that of one of the objects, which has a number below n
+abbrev pub IsBelow : ℕ → List Frozen → Place → Type 0
+IsBelow n [] q = ⊥
+IsBelow n (f ∷ fs) q = ((f.at ≡ q.at) × (f.type ≡ q.type) × (f.number < n)) ⊎ IsBelow n fs q
+
+-- no two objects stand at one position
+abbrev pub AreDistinct : List Frozen → Type 0
+AreDistinct [] = ⊤
+AreDistinct (f ∷ fs) = AllByRecursion (λ g. g.at ≢ f.at) fs × AreDistinct fs
+
+pub record IsCounted (next : ℕ) (frozen : List Frozen) (cells : List Place) : Type 0 where
+  pub distinct : AreDistinct frozen
+  pub numbered : AllByRecursion (λ f. f.number < next) frozen
+  pub named : AllByRecursion (IsBelow next frozen) cells
+  pub falling : AllByRecursion
+      (λ f. AllByRecursion (IsBelow f.number frozen) (names_in f.value)) frozen
+  pub some : AllByRecursion (λ f. 1 ≤ f.count) frozen
+  pub counts : AllByRecursion
+      (λ f. f.count ≡ times_named f.at (cells ++ names_of frozen)) frozen
+
+-- ---- values as trees
+
+unfoldable mutual
+  -- each shared cell with what it means in its place
+  pub replaced : (ℕ → Value) → Value → Value
+  replaced meaning (node (Label.shared T p) vs) = meaning p
+  replaced meaning (node label vs) = node label (replaced_each meaning vs)
+
+  pub replaced_each : (ℕ → Value) → Values → Values
+  replaced_each meaning nil = nil
+  replaced_each meaning (cons v vs) = cons (replaced meaning v) (replaced_each meaning vs)
+
+-- the value of the object at a position
+abbrev pub value_at_position : List Frozen → ℕ → Option Value
+value_at_position [] p = None
+value_at_position (f ∷ fs) p = if f.at == p then Some f.value else value_at_position fs p
+
+abbrev pub owner_by : (Value → Value) → Option Value → Value
+owner_by tree None = Empty
+owner_by tree (Some v) = Full (tree v)
+
+-- what a cell means that names the object at a position, going down at most n objects
+unfoldable pub meaning : ℕ → List Frozen → ℕ → Value
+meaning zero frozen p = Empty
+meaning (suc n) frozen p =
+    owner_by (λ v. replaced (meaning n frozen) v) (value_at_position frozen p)
+
+abbrev pub unfolded : ℕ → List Frozen → Value → Value
+unfolded n frozen v = replaced (meaning n frozen) v
+
+-- ---- a cell more
+
+abbrev pub with_count : Frozen → ℕ → Frozen
+with_count f n = record f { count = n }
+
+-- the object at a position counts one cell more
+abbrev pub raised : ℕ → List Frozen → List Frozen
+raised p [] = []
+raised p (f ∷ fs) = (if f.at == p then with_count f (suc f.count) else f) ∷ raised p fs
+
+-- ---- cells that go
+
+-- the numbers don't rise
+abbrev pub IsFalling : List Frozen → Type 0
+IsFalling [] = ⊤
+IsFalling (f ∷ fs) = AllByRecursion (λ g. g.number ≤ f.number) fs × IsFalling fs
+
+-- an object of which n cells are left stays, and goes where that is 0
+abbrev pub kept_with : Frozen → ℕ → List Frozen → List Frozen → List Frozen
+kept_with f zero without with_it = without
+kept_with f (suc n) without with_it = with_count f (suc n) ∷ with_it
+
+-- of objects in falling order, those that stay where cells with these names are gone: an object that
+-- goes takes its own cells with it
+abbrev pub left : List Place → List Frozen → List Frozen
+left gone [] = []
+left gone (f ∷ fs) = kept_with f (f.count - times_named f.at gone)
+    (left (gone ++ names_in f.value) fs) (left gone fs)
+
+abbrev pub freed_with : Frozen → ℕ → List Frozen → List Frozen → List Frozen
+freed_with f zero without with_it = f ∷ without
+freed_with f (suc n) without with_it = with_it
+
+-- those that go
+abbrev pub freed : List Place → List Frozen → List Frozen
+freed gone [] = []
+freed gone (f ∷ fs) = freed_with f (f.count - times_named f.at gone)
+    (freed (gone ++ names_in f.value) fs) (freed gone fs)

@@ -1,0 +1,5 @@
+use Rattle.test_definitions.proofs.Sharing.{one_frozen}
+use Rattle.test_definitions.proofs.shared.freezing.Goals as goal
+
+pub returns : goal.returns
+returns c = λ next at type v frozen kept apart counted. one_frozen next at type v frozen kept apart counted

@@ -1,0 +1,5 @@
+use Rattle.test_definitions.proofs.Sharing.{shared}
+use Rattle.test_definitions.proofs.shared.sharing.Goals as goal
+
+pub returns : goal.returns
+returns c = λ next frozen cells cell counted below. shared next frozen cells cell counted below
