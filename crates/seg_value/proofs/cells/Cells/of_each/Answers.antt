@@ -1,6 +1,7 @@
 use Rattle.std.proofs.Common.{◌≡◌, ℕ, ◌<◌, ◌≤◌, ◌∙◌, ⊎_elim, get_or, length, List, replicate, refl, ap, sym, subst, arith}
-use Rattle.std.proofs.lemmas.Bool.{cases_lt}
-use Rattle.std.proofs.lemmas.List.{get_or-replicate, get_or_past}
+use Rattle.std.proofs.lemmas.Bool.{cases_eq, cases_lt}
+use Rattle.std.proofs.lemmas.List.{length-set, get_or-set_same, get_or-set_other, get_or-replicate, get_or_past}
+use Rattle.std.specs.Prelude.{slice_set}
 use Rattle.std.proofs.lemmas.Option.{slice_get_past}
 use Rattle.seg_spec.specs.Types.{Table, form_at}
 use Rattle.seg_value.specs.Contents.{cells_of}
@@ -27,6 +28,20 @@ loop-t-init c =
       long = refl;
       described = λ T l. absurd (omega arith);
       rest = λ T l. all_numbers c.of-each.result T (c.of-each.ensures.cells ∙ lacking c.args.types.now 255 (omega arith));
+    }
+
+pub loop-t-preserved : goal.loop-t-preserved
+loop-t-preserved c =
+    let long = c.loop-t.invariant.long in
+    let below = c.loop-t-test.true in
+    let end = c.loop-t.auto.t-end in
+    let same : get_or (slice_set c.loop-t.each c.loop-t.t c.of.result) c.loop-t.t cells.Number ≡ cells_of (form_at c.args.types.now c.loop-t.t) =
+    get_or-set_same c.loop-t.each c.loop-t.t c.of.result cells.Number (omega arith) ∙ c.of.ensures.cells in
+    record {
+      long = length-set c.loop-t.each c.loop-t.t c.of.result ∙ long;
+      described = λ T l. ⊎_elim (λ e. subst (λ U. get_or (slice_set c.loop-t.each c.loop-t.t c.of.result) U cells.Number ≡ cells_of (form_at c.args.types.now U)) (sym e) same)
+          (λ other. get_or-set_other c.loop-t.each c.loop-t.t T c.of.result cells.Number other ∙ c.loop-t.invariant.described T (omega arith)) (cases_eq T c.loop-t.t);
+      rest = λ T l. get_or-set_other c.loop-t.each c.loop-t.t T c.of.result cells.Number (λ e. omega arith) ∙ c.loop-t.invariant.rest T (omega arith);
     }
 
 pub returns-clause-cells : goal.returns-clause-cells
