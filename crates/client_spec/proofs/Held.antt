@@ -3,7 +3,7 @@ use Rattle.std.proofs.Common.{◌≡◌, ℕ, ◌+◌, List, length, map, Option
 use Rattle.std.proofs.lemmas.List.{length-map}
 use Rattle.seg_spec.specs.Pointer.{target}
 use Rattle.seg_spec.specs.Types.{Form, Table, size}
-use Rattle.seg_spec.specs.Value.{Label, Value, Values, types_inside}
+use Rattle.seg_spec.specs.Value.{Value, Values, types_inside}
 use Rattle.seg_spec.specs.Shapes.{nodes_of}
 use Rattle.seg_spec.specs.Reads.{shared_label, Place, Opened, count_at, start, spaced, places_of, keys_at, Opens, Holds, holds, HoldsEach, holds_none, holds_more}
 use Rattle.seg_spec.proofs.Fits.{length-spaced, types_of, types_of-fields, length-places_of, typed, one_at_most}

@@ -1,13 +1,12 @@
 -- Objects that values share: what is left where cells that name some are gone.
-use Rattle.std.proofs.Common.{◌≡◌, ◌≢◌, ℕ, zero, suc, ◌+◌, ◌-◌, ◌<◌, ◌≤◌, ◌⊎◌, inl, inr, List, [], ◌∷◌, ◌++◌, length, map, refl, sym, ap, ◌∙◌, subst, arith}
+use Rattle.std.proofs.Common.{◌≡◌, ◌≢◌, ℕ, zero, suc, ◌+◌, ◌-◌, ◌<◌, ◌≤◌, inl, inr, List, [], ◌∷◌, ◌++◌, map, refl, sym, ap, ◌∙◌, subst, arith}
 use Rattle.std.specs.List.{AllByRecursion}
-use Rattle.std.proofs.lemmas.List.{map-append, append_assoc, append-nil}
-use Rattle.seg_spec.specs.Value.{Value}
+use Rattle.std.proofs.lemmas.List.{map-append}
 use Rattle.seg_spec.specs.Reads.{Place}
 use Rattle.seg_spec.specs.Sound.{times}
 use Rattle.seg_spec.specs.Shared.{Frozen, names_in, names_of, times_named, IsBelow, AreDistinct, IsCounted, IsFalling, with_count, kept_with, left, freed_with, freed}
 use Rattle.seg_spec.proofs.LiveLaws.{times-append, times-same, times-other}
-use Rattle.seg_spec.proofs.Frame.{each_weaker, each_both, each_left, each_right}
+use Rattle.seg_spec.proofs.Frame.{each_weaker, each_left, each_right}
 
 -- ---- how often an object is named
 

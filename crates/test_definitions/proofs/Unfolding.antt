@@ -1,11 +1,10 @@
 -- Objects that values share, read as trees.
-use Rattle.std.proofs.Common.{◌≡◌, ◌≢◌, ℕ, zero, suc, ◌+◌, ◌-◌, ◌<◌, ◌≤◌, ◌⊎◌, inl, inr, ⊎_elim, Bool, true, false, List, [], ◌∷◌, ◌++◌, length, map, Option, Some, None, cond, eqb, refl, sym, ap, ◌∙◌, subst, arith}
+use Rattle.std.proofs.Common.{◌≡◌, ◌≢◌, ℕ, zero, suc, ◌-◌, ◌<◌, ◌≤◌, inl, inr, true, false, List, [], ◌∷◌, ◌++◌, Some, cond, eqb, refl, sym, ap, ◌∙◌, arith}
 use Rattle.std.specs.List.{AllByRecursion}
 use Rattle.std.proofs.lemmas.Bool.Decides.{nat_tests}
-use Rattle.std.proofs.lemmas.Bool.{cases_eq}
 use Rattle.seg_spec.specs.Value.{Label, Value, node, Values, nil, cons, Full}
 use Rattle.seg_spec.specs.Reads.{Place}
-use Rattle.seg_spec.specs.Shared.{Frozen, names_in, names_each, names_of, IsBelow, AreDistinct, IsCounted, with_count, kept_with, left, replaced, replaced_each, value_at_position, owner_by, meaning, unfolded, times_named}
+use Rattle.seg_spec.specs.Shared.{Frozen, names_in, names_each, IsBelow, AreDistinct, with_count, kept_with, left, replaced, replaced_each, value_at_position, owner_by, meaning, unfolded, times_named}
 use Rattle.seg_spec.proofs.Frame.{each_left, each_right, each_weaker}
 use Rattle.test_definitions.proofs.SharedLaws.{left_each}
 
