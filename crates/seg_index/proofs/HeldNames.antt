@@ -64,7 +64,6 @@ finds_held bytes picture held =
       allocator_is = refl;
       kind_is = l.header.index_is;
       is_table = l.is_table;
-      of_version = l.of_version;
       ownable = l.blocks;
       lists = l.names;
       owned = λ h. omega (arith, both h);
