@@ -59,6 +59,27 @@ fn finds_the_first_wrong_entry(rt: HostRuntime) -> Result<(), Fail> {
 }
 
 #[test]
+fn shared_types_are_of_version_2(rt: HostRuntime) -> Result<(), Fail> {
+    let shared_1 = [9, 1, 1, 0, 0, 0, 0, 0, 0, 0];
+    let shared_2 = [9, 1, 2, 0, 0, 0, 0, 0, 0, 0];
+    let no_part = [9, 0, 0, 0, 0, 0, 0, 0, 0, 0];
+    check_file(&rt, &[shared_1, I64], Err(Fault::BadType(0)))?;
+    for (entries, types) in [
+        ([shared_1, I64], Ok(2)),
+        ([I64, shared_2], Err(Fault::BadType(1))),
+        ([no_part, I64], Err(Fault::BadType(0))),
+    ] {
+        let bytes = file(rt.alloc(), &entries)?;
+        let read = TypeTable::read_shared(&bytes);
+        assert_eq!(&rt;
+            read.map(|table| (table.len(), table.size(0))),
+            types.map(|n| (n, 8))
+        );
+    }
+    Ok(())
+}
+
+#[test]
 fn keeps_the_limits(rt: HostRuntime) -> Result<(), Fail> {
     check_file(&rt, &[I64; 32], Ok(32))?;
     check_file(&rt, &[I64; 33], Err(Fault::BadType(32)))?;

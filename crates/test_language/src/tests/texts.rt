@@ -91,7 +91,7 @@ fn canonical_texts(rt: HostRuntime) {
     }
 }
 
-static WRONG: [(&[u8], u32); 83] = [
+static WRONG: [(&[u8], u32); 84] = [
     // words and numbers
     (b"ADD r1 r16 r2", 1),
     (b"CONST r0 -0", 1),
@@ -167,6 +167,8 @@ static WRONG: [(&[u8], u32); 83] = [
         5,
     ),
     // sections
+    // a type of version 2
+    (b"type i64\ntype shared t0\nname x", 2),
     (b"type i64\nname x\ntype str", 3),
     (b"type i64\n\nCONST r0 1\n; x\nname x", 5),
     (b"CONST r0 1\ntype i64", 2),
