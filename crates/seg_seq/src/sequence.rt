@@ -16,6 +16,7 @@ use crate::kind::Kind;
 use crate::list::{item_of, push_node, remove_node};
 use crate::ring::{Way, neighbour, node_at};
 use seg_block::Fit;
+use seg_layout::Type;
 use seg_raw::Code;
 use seg_value::{Content, Heap, Place};
 use std::alloc::Allocator;
@@ -94,16 +95,13 @@ pub fn push_in_place<F: Fit, A: Allocator>(heap: &mut Heap<F, A>, vector: Place)
         (IsFull heap.old (place_of vector) U)
         (λ item. PushesBack F.allocator heap.old heap.new (place_of vector) U vs blocks item.at) }
 {
-    let Ok((Kind::Vector, content)) = Kind::of(heap, vector) else {
+    let Some(Type::Vec(type_id)) = heap.types().kind(vector.type_id) else {
         return None;
     };
     let buffer = Buffer::of(heap.window(), vector.at)?;
-    let len = buffer.count.checked_add(1)?;
-    if !buffer.has_room(content.entry, len) {
-        return None;
-    }
-    let item = content.entry.value(buffer.start, buffer.count)?;
-    heap.set_count(vector.at, len);
+    let at = buffer.next(heap.types().size(type_id))?;
+    let item = Place { at, type_id };
+    heap.set_count(vector.at, buffer.count.wrapping_add(1));
     heap.init_default(item);
     Some(item)
 }

@@ -1,18 +1,11 @@
-use Rattle.std.proofs.Common.{rules, ◌≡◌, ◌+◌, ◌*◌, ◌%◌, ◌^◌, ◌≤◌, min, inr, refl, ap, subst, arith, None, Some, Ok}
+use Rattle.std.proofs.Common.{rules, ◌≡◌, ◌+◌, ◌*◌, ◌%◌, ◌^◌, refl, sym, ◌∙◌, ap, subst, arith, None, zero-add}
 use Rattle.seg_spec.specs.Bytes.{set_word}
-use Rattle.seg_spec.specs.Pointer.{target}
-use Rattle.seg_spec.specs.Reads.{start, count_at}
-use Rattle.seg_spec.specs.Types.{form_at}
-use Rattle.seg_spec.specs.Value.{Seq}
+use Rattle.seg_spec.specs.Types.{Table, size}
 use Rattle.seg_spec.specs.Window.{Placement, with_bytes}
 use Rattle.seg_spec.proofs.Placements.{bytes_of}
-use Rattle.seg_value.specs.Places.{object_at}
-use Rattle.seg_value.specs.declared.place.Place.{Place}
-use Rattle.seg_value.proofs.Buffers.{of_form, has_room}
-use Rattle.seg_seq.specs.Kinds.{KindOf}
-use Rattle.seg_seq.proofs.SequenceKinds.{buffer_vector, vector_of}
-use Rattle.seg_seq.proofs.ItemAdded.{count_few}
-use Rattle.seg_seq.proofs.ItemCalls.{vector_entry, one_place, none_is_full, item_pushed}
+use Rattle.seg_seq.specs.Buffers.{IsBuffer, LacksEntry, HasEntry}
+use Rattle.seg_seq.proofs.InPlace.{vector_form, item_first, lacks_item, item_more, item_room}
+use Rattle.seg_seq.proofs.ItemCalls.{none_is_full, item_pushed}
 use Rattle.seg_seq.proofs.sequence.push_in_place.Goals as goal
 
 pub returns-in_err-buffer-clause-vector : goal.returns-in_err-buffer-clause-vector
@@ -21,42 +14,36 @@ returns-in_err-buffer-clause-vector g c = λ U vs blocks h.
     let here = ap (λ (w : Placement). w.bytes) c.window.ensures in
     rw result (none_is_full g.F.Fit.allocator c.args.heap.now c.args.vector.at c.args.vector.type_id U vs blocks h (rw here at c.in_err-buffer.ensures))
 
-pub returns-in_err-len-clause-vector : goal.returns-in_err-len-clause-vector
-returns-in_err-len-clause-vector g c = λ U vs blocks h.
-    let old = c.args.heap.now in
+pub returns-in_err-at-clause-vector : goal.returns-in_err-at-clause-vector
+returns-in_err-at-clause-vector g c = λ U vs blocks h.
+    let result : c.from_residual-in_err-at.result ≡ None = search rules in
     let here = ap (λ (w : Placement). w.bytes) c.window.ensures in
-    let counted : c.in_ok-buffer.buffer.count ≡ count_at old.window.bytes c.args.vector.at = rw here at c.in_ok-buffer.ensures.count_is in
-    let few = count_few g.F.Fit.allocator old.window.bytes old.types (object_at c.args.vector.at c.args.vector.type_id) U vs blocks h.form_is h.stands in
-    absurd (omega (arith, c.in_err-len.ensures))
+    let V = c.in-Some-Vec.type_id in
+    let same : V ≡ U = (vector_form c.args.heap.now.types c.args.vector.type_id U V c.kind.result c.in-Some-Vec.field-0 (rw c.types.ensures at c.kind.ensures) c.in-Some-Vec.is c.in-Some-Vec.field-0-is).1 h.form_is in
+    let size_is : c.size.result ≡ size c.args.heap.now.types U = c.size.ensures.value ∙ ap (λ (t : Table). size t V) c.types-2.ensures ∙ ap (size c.args.heap.now.types) same in
+    rw result (lacks_item g.F.Fit.allocator c.args.heap.now c.args.vector.at c.args.vector.type_id U vs blocks h c.in_ok-buffer.buffer (subst (λ bytes. IsBuffer bytes c.args.vector.at c.in_ok-buffer.buffer) here c.in_ok-buffer.ensures)
+    (subst (LacksEntry c.in_ok-buffer.buffer) size_is c.in_err-at.ensures))
 
 pub returns-clause-vector : goal.returns-clause-vector
 returns-clause-vector g c = λ U vs blocks h.
     let old = c.args.heap.now in
     let cell = c.args.vector.at in
     let T = c.args.vector.type_id in
-    let content = c.in-Ok-Vector-default.content in
+    let V = c.in-Some-Vec.type_id in
     let buffer = c.in_ok-buffer.buffer in
-    let len = c.in_ok-len.len in
-    let names = buffer_vector old.types T content c.in-Ok-Vector-default.field-0-0 (inr c.in-Ok-Vector-default.field-0-0-is) c.in-Ok-Vector-default.ensures U h.form_is in
-    let entry = vector_entry old.types T U content h.form_is names in
+    let at = c.in_ok-at.at in
+    let len = (buffer.count + 1) % 2 ^ 32 in
+    let same : V ≡ U = (vector_form old.types T U V c.kind.result c.in-Some-Vec.field-0 (rw c.types.ensures at c.kind.ensures) c.in-Some-Vec.is c.in-Some-Vec.field-0-is).1 h.form_is in
+    let size_is : c.size.result ≡ size old.types U = c.size.ensures.value ∙ ap (λ (t : Table). size t V) c.types-2.ensures ∙ ap (size old.types) same in
     let here = ap (λ (w : Placement). w.bytes) c.window.ensures in
-    let counted_is : buffer.count ≡ count_at old.window.bytes cell = rw here at c.in_ok-buffer.ensures.count_is in
-    let named : target old.window.bytes cell ≡ Some buffer.start = rw here at c.in_ok-buffer.ensures.start_is in
-    let first_is : buffer.start ≡ start old.window.bytes cell = rw named refl in
-    let len_is : len ≡ min (buffer.count + 1) 4294967295 = omega (arith, c.in_ok-len.ensures) in
-    let fits : len * content.entry.size ≤ buffer.room = search (rules, c.has_room.ensures, c.if-not-has_room.ensures) in
-    let reserves = has_room g.F.Fit.allocator old.window.bytes old.types cell T (Seq vs) blocks content (of_form old.types T content names) h.stands len buffer.room (rw here at c.in_ok-buffer.ensures.room_is) fits in
+    let is : IsBuffer old.window.bytes cell buffer = subst (λ bytes. IsBuffer bytes cell buffer) here c.in_ok-buffer.ensures in
+    let has : HasEntry buffer (size old.types U) at = subst (λ z. HasEntry buffer z at) size_is c.in_ok-at.ensures in
     let counted = c.set_count.new.self in
     let written = bytes_of counted.window (with_bytes old.window (set_word old.window.bytes (cell + 4) len)) c.set_count.ensures.window in
-    let item = c.in_ok-item.item in
-    let place = one_place c.value.result item (record { at = (buffer.start + buffer.count * content.entry.size + content.entry.before) % 2 ^ 32; type_id = U }) c.in_ok-item.was (c.value.ensures.value U entry.held_is) in
-    item_pushed g.F.Fit.allocator old cell T U vs blocks h content.entry.size buffer.count len entry.size_is counted_is len_is old counted c.init_default.new.self reserves written c.set_count.ensures.types
-    buffer.start content.entry.before item.at item.type_id first_is entry.before_is (ap (λ (x : Place). x.at) place) (ap (λ (x : Place). x.type_id) place) c.init_default.ensures.changes c.init_default.ensures.default
+    let at_is : at ≡ (buffer.start + buffer.count * size old.types U + 0) % 2 ^ 32 = omega (arith, has.at_is) in
+    item_pushed g.F.Fit.allocator old cell T U vs blocks h (size old.types U) buffer.count len (sym (zero-add (size old.types U))) is.count_is (item_more g.F.Fit.allocator old cell T U vs blocks h buffer is at len has refl) old counted
+    c.init_default.new.self (item_room g.F.Fit.allocator old cell T U vs blocks h buffer is at len has refl) written c.set_count.ensures.types
+    buffer.start 0 at V (item_first g.F.Fit.allocator old cell T U vs blocks h buffer is) refl at_is same c.init_default.ensures.changes c.init_default.ensures.default
 
 pub returns-clause-some : goal.returns-clause-some
-returns-clause-some g c =
-    let types = c.args.heap.now.types in
-    let T = c.args.vector.type_id in
-    let content = c.in-Ok-Vector-default.content in
-    let of = subst (λ k. KindOf types T (form_at types T) (Ok (k, content))) c.in-Ok-Vector-default.field-0-0-is c.in-Ok-Vector-default.ensures in
-    vector_of types T c.in_ok-item.item.type_id (form_at types T) content of c.in_ok-item.ensures.held
+returns-clause-some g c = (vector_form c.args.heap.now.types c.args.vector.type_id c.in-Some-Vec.type_id c.in-Some-Vec.type_id c.kind.result c.in-Some-Vec.field-0 (rw c.types.ensures at c.kind.ensures) c.in-Some-Vec.is c.in-Some-Vec.field-0-is).0
