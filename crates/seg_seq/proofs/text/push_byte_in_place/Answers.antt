@@ -3,6 +3,7 @@ use Rattle.seg_spec.specs.Bytes.{set_byte, set_word}
 use Rattle.seg_spec.specs.Window.{Placement, with_bytes}
 use Rattle.seg_spec.proofs.Placements.{bytes_of}
 use Rattle.seg_value.specs.Places.{place_of}
+use Rattle.seg_value.specs.Stored.{Stored}
 use Rattle.seg_seq.specs.Buffers.{IsBuffer}
 use Rattle.seg_seq.proofs.InPlace.{text_form, lacks_byte, byte_more, byte_at, byte_room}
 use Rattle.seg_seq.proofs.TextCalls.{counted_all, all_kept, makes_room, written_to, one_byte, none_lacks}
@@ -36,11 +37,13 @@ returns-clause-text g c = λ xs blocks t.
     let few : buffer.count ≤ length xs = omega arith in
     let counted = c.set_count.new.self in
     let counts = bytes_of counted.window (with_bytes old.window (set_word old.window.bytes (place.at + 4) len)) c.set_count.ensures.window in
-    let made = makes_room g.F.Fit.allocator old place xs blocks t buffer.count 1 old counted 1 len at refl (byte_more g.F.Fit.allocator old place xs blocks t buffer is at len has refl) few (byte_room g.F.Fit.allocator old place xs blocks t buffer is at len has refl) counts
+    let more = byte_more g.F.Fit.allocator old place xs blocks t buffer is at len has refl in
+    let made = makes_room g.F.Fit.allocator old place xs blocks t buffer.count 1 old counted 1 len at refl more few (byte_room g.F.Fit.allocator old place xs blocks t buffer is at len has refl) counts
     (byte_at g.F.Fit.allocator old place xs blocks t buffer is at len has refl) in
     let small : c.args.byte < 256 = omega (arith, c.ranges.byte) in
     let written = ap (λ (r : Placement). r.bytes) c.put8.ensures ∙ ap (λ (r : Placement). set_byte r.bytes at c.args.byte) c.window_mut.ensures.value ∙ one_byte counted.window.bytes at c.args.byte small in
-    (made.len_is ∙ ap (λ n. n + 1) all, rw (kept, all) at (written_to g.F.Fit.allocator old place xs blocks t buffer.count 1 counted (record { window = c.put8.new.self; types = counted.types }) at len (c.args.byte ∷ []) refl made written))
+    let new : Stored = record { window = c.put8.new.self; types = counted.types } in
+    (made.len_is ∙ ap (λ n. n + 1) all, rw (kept, all) at (written_to g.F.Fit.allocator old place xs blocks t buffer.count 1 counted new at len (c.args.byte ∷ []) refl made written))
 
 pub returns-clause-some : goal.returns-clause-some
 returns-clause-some g c = text_form c.args.heap.now.types c.args.text.type_id c.kind.result c.in-Some-Str.field-0 (rw c.types.ensures at c.kind.ensures) c.in-Some-Str.is c.in-Some-Str.field-0-is
