@@ -21,5 +21,6 @@ mod TextCalls
 mod Items
 mod ItemAdded
 mod ItemCalls
+mod InPlace
 mod ItemRemoved
 mod Found

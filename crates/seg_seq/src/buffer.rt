@@ -1,8 +1,9 @@
-ghost use Rattle.std.specs.Prelude.{◌↔◌, ◌*◌, ◌≤◌, IsTrue, MatchOption};
-ghost use Rattle.seg_seq.specs.Buffers.{IsBuffer, NamesNone};
+ghost use Rattle.std.specs.Prelude.{◌≡◌, ◌+◌, ◌*◌, ◌%◌, ◌^◌, ◌<◌, ◌≤◌, MatchOption};
+ghost use Rattle.seg_seq.specs.Buffers.{IsBuffer, NamesNone, LacksEntry, HasEntry};
 
+use seg_block::{UNIT, units};
 use seg_ptr::Window;
-use seg_value::{Entry, count, room};
+use seg_value::count;
 use std::alloc::Allocator;
 
 /// The bytes of a cell.
@@ -13,15 +14,15 @@ const CELL: usize = 8;
 pub(crate) struct Buffer {
     /// Where its payload begins.
     pub(crate) start: u32,
-    /// The bytes of its payload.
-    pub(crate) room: u64,
+    /// The units of its block, as the header before the payload states.
+    pub(crate) units: u32,
     /// How many entries the cell counts.
     pub(crate) count: u32,
 }
 
 impl Buffer {
     /// The buffer that a cell names. None where it names none, or doesn't all lie in the segment.
-    // One test of the whole cell serves both of its words.
+    // One test of the whole cell serves both of its words. Before a payload that begins in the first unit no header is found.
     #[inline(always)]
     pub(crate) fn of<A: Allocator>(w: &Window<A>, cell: u32) -> Option<Buffer>
         ensures { MatchOption result (NamesNone w.now.bytes cell) (IsBuffer w.now.bytes cell) }
@@ -32,16 +33,20 @@ impl Buffer {
         let start = w.target(cell as usize)?;
         Some(Buffer {
             start,
-            room: room(w, start),
+            units: units(w, start.wrapping_sub(UNIT)),
             count: count(w, cell),
         })
     }
 
-    /// Whether it has room for so many entries.
+    /// The position of an entry more of `size` bytes, after the others. None where there is no room for it.
     #[inline(always)]
-    pub(crate) fn has_room(self, entry: Entry, entries: u32) -> bool
-        ensures { IsTrue result ↔ entries * entry.size ≤ self.room }
+    pub(crate) fn next(self, size: u32) -> Option<u32>
+        ensures { MatchOption result (LacksEntry self size) (HasEntry self size) }
     {
-        u64::from(entries) * u64::from(entry.size) <= self.room
+        let used = u64::from(self.count) * u64::from(size);
+        if used + u64::from(size) + u64::from(UNIT) > u64::from(UNIT) * u64::from(self.units) {
+            return None;
+        }
+        Some(self.start.wrapping_add((used % (1 << 32)) as u32))
     }
 }

@@ -5,10 +5,12 @@
 mod buffer;
 mod kind;
 mod list;
+mod pushing;
 mod ring;
 mod sequence;
 mod text;
 
 pub use list::{next, pop_front, prev, push_front};
-pub use sequence::{at, pop_back, push_back, push_in_place};
+pub use pushing::push_in_place;
+pub use sequence::{at, pop_back, push_back};
 pub use text::{append, assign, push_byte};

@@ -1,4 +1,4 @@
-ghost use Rattle.std.specs.Prelude.{◌≡◌, ℕ, ◌+◌, ◌-◌, ◌<◌, ◌≤◌, List, [], ◌∷◌, length, take, Some, None, true, false, Err, IfSome, MatchOption, MatchResult};
+ghost use Rattle.std.specs.Prelude.{◌≡◌, ℕ, ◌+◌, ◌-◌, ◌<◌, ◌≤◌, List, [], ◌∷◌, length, take, Some, None, true, false, Err, MatchResult};
 ghost use Rattle.seg_spec.specs.Reads.{count_at};
 ghost use Rattle.seg_spec.specs.Demand.{block_for};
 ghost use Rattle.seg_spec.specs.Items.{without_last};
@@ -9,9 +9,8 @@ ghost use Rattle.seg_value.specs.Buffers.{NamesBuffer};
 ghost use Rattle.seg_value.specs.Places.{place_of, object_at};
 ghost use Rattle.seg_seq.specs.Kinds.{is_sequence};
 ghost use Rattle.seg_seq.specs.Lists.{HasList, AddsItem, RemovesItem};
-ghost use Rattle.seg_seq.specs.Sequences.{HasText, HasItems, item_type, IsFull, Declines, HasNone, ComesToHold, LacksRoom, push_asks, PushesBack, PopsBack, IsPast, ShowsByte, ShowsItem};
+ghost use Rattle.seg_seq.specs.Sequences.{HasText, HasItems, item_type, Declines, HasNone, ComesToHold, LacksRoom, push_asks, PushesBack, PopsBack, IsPast, ShowsByte, ShowsItem};
 
-use crate::buffer::Buffer;
 use crate::kind::Kind;
 use crate::list::{item_of, push_node, remove_node};
 use crate::ring::{Way, neighbour, node_at};
@@ -77,35 +76,6 @@ pub fn push_back<F: Fit, A: Allocator>(heap: &mut Heap<F, A>, sequence: Place) -
         Kind::Vector => push_entry(heap, &content, sequence.at),
         Kind::List => push_node(heap, &content, sequence.at),
     }
-}
-
-/// Adds a default item after the others of a vector whose buffer has room for it, and returns it. None where there is no such
-/// room, or the place is no vector; then nothing changes.
-#[inline(always)]
-pub fn push_in_place<F: Fit, A: Allocator>(heap: &mut Heap<F, A>, vector: Place) -> Option<Place>
-    ensures window { KeepsHost heap.old.window heap.new.window }
-    ensures types { heap.new.types ≡ heap.old.types }
-    ensures none { result ≡ None → heap.new.window ≡ heap.old.window }
-    ensures some { IfSome result
-        (λ item. form_at heap.old.types vector.type_id ≡ Some (Form.vec item.type_id)) }
-    ensures vector { (U : ℕ) (vs : Values) (blocks : List ℕ) →
-        HasItems F.allocator heap.old (place_of vector) U vs blocks →
-        MatchOption result
-        (IsFull heap.old (place_of vector) U)
-        (λ item. PushesBack F.allocator heap.old heap.new (place_of vector) U vs blocks item.at) }
-{
-    let Ok((Kind::Vector, content)) = Kind::of(heap, vector) else {
-        return None;
-    };
-    let buffer = Buffer::of(heap.window(), vector.at)?;
-    let len = buffer.count.checked_add(1)?;
-    if !buffer.has_room(content.entry, len) {
-        return None;
-    }
-    let item = content.entry.value(buffer.start, buffer.count)?;
-    heap.set_count(vector.at, len);
-    heap.init_default(item);
-    Some(item)
 }
 
 /// Adds a default entry to a buffer, and returns the position of its value.

@@ -8,6 +8,7 @@ ghost use Rattle.seg_seq.specs.Sequences.{HasText, Declines, LacksRoom, LacksByt
 use crate::buffer::Buffer;
 use crate::kind::Kind;
 use seg_block::Fit;
+use seg_layout::Type;
 use seg_raw::Code;
 use seg_value::{Heap, Place};
 use std::alloc::Allocator;
@@ -97,17 +98,14 @@ fn push_byte_in_place<F: Fit, A: Allocator>(
         ComesToHold F.allocator heap.old heap.new (place_of text) (Text (xs ++ byte ∷ []))
         (text_asks heap.old (place_of text) (length xs + 1)) [] blocks) }
 {
-    let Ok((Kind::Text, content)) = Kind::of(heap, text) else {
+    let Some(Type::Str) = heap.types().kind(text.type_id) else {
         return None;
     };
     let buffer = Buffer::of(heap.window(), text.at)?;
-    let len = buffer.count.checked_add(1)?;
-    if !buffer.has_room(content.entry, len) {
-        return None;
-    }
+    let at = buffer.next(1)?;
+    let len = buffer.count.wrapping_add(1);
     heap.set_count(text.at, len);
-    let at = buffer.start as usize + buffer.count as usize;
-    heap.window_mut().put8(at, byte);
+    heap.window_mut().put8(at as usize, byte);
     Some(len)
 }
 

@@ -1,0 +1,118 @@
+//! A push onto a vector that has room for the item, without asking for memory.
+
+ghost use Rattle.std.specs.Prelude.{◌≡◌, ℕ, ◌+◌, List, length, Some, None, IfSome, MatchOption};
+ghost use Rattle.seg_spec.specs.Bytes.{set_word, set_long};
+ghost use Rattle.seg_spec.specs.Types.{Form, form_at};
+ghost use Rattle.seg_spec.specs.Value.{Values};
+ghost use Rattle.seg_spec.specs.Window.{KeepsHost};
+ghost use Rattle.seg_value.specs.Places.{place_of, object_at};
+ghost use Rattle.seg_seq.specs.Sequences.{HasItems, IsFull, PushesBack};
+
+use crate::buffer::Buffer;
+use seg_block::Fit;
+use seg_layout::{Type, TypeId};
+use seg_ptr::words::put_word;
+use seg_value::{Heap, Place};
+use std::alloc::Allocator;
+
+/// The bytes of a number.
+const NUMBER: usize = 8;
+
+/// Adds a default item after the others of a vector whose buffer has room for it, and returns it. None where there is no such
+/// room, or the place is no vector; then nothing changes.
+#[inline(always)]
+pub fn push_in_place<F: Fit, A: Allocator>(heap: &mut Heap<F, A>, vector: Place) -> Option<Place>
+    ensures window { KeepsHost heap.old.window heap.new.window }
+    ensures types { heap.new.types ≡ heap.old.types }
+    ensures none { result ≡ None → heap.new.window ≡ heap.old.window }
+    ensures some { IfSome result
+        (λ item. form_at heap.old.types vector.type_id ≡ Some (Form.vec item.type_id)) }
+    ensures vector { (U : ℕ) (vs : Values) (blocks : List ℕ) →
+        HasItems F.allocator heap.old (place_of vector) U vs blocks →
+        MatchOption result
+        (IsFull heap.old (place_of vector) U)
+        (λ item. PushesBack F.allocator heap.old heap.new (place_of vector) U vs blocks item.at) }
+{
+    let Some(Type::Vec(type_id)) = heap.types().kind(vector.type_id) else {
+        return None;
+    };
+    let at = push_default(heap, vector.at, type_id)?;
+    Some(Place { at, type_id })
+}
+
+/// Adds a default item of this type to the vector whose cell stands at a position, and returns the item's. None where its
+/// buffer has no room.
+#[inline(always)]
+fn push_default<F: Fit, A: Allocator>(
+    heap: &mut Heap<F, A>,
+    cell: u32,
+    type_id: TypeId,
+) -> Option<u32>
+    ensures window { KeepsHost heap.old.window heap.new.window }
+    ensures types { heap.new.types ≡ heap.old.types }
+    ensures none { result ≡ None → heap.new.window ≡ heap.old.window }
+    ensures vector { (T U : ℕ) (vs : Values) (blocks : List ℕ) →
+        HasItems F.allocator heap.old (object_at cell T) U vs blocks → type_id ≡ U →
+        MatchOption result (IsFull heap.old (object_at cell T) U)
+        (PushesBack F.allocator heap.old heap.new (object_at cell T) U vs blocks) }
+{
+    match heap.types().kind(type_id) {
+        Some(Type::I64) => push_number(heap, cell),
+        Some(_) | None => push_value(heap, cell, type_id),
+    }
+}
+
+/// As [`push_default`], of a vector of numbers.
+#[inline(always)]
+fn push_number<F: Fit, A: Allocator>(heap: &mut Heap<F, A>, cell: u32) -> Option<u32>
+    ensures window { KeepsHost heap.old.window heap.new.window }
+    ensures types { heap.new.types ≡ heap.old.types }
+    ensures none { result ≡ None → heap.new.window ≡ heap.old.window }
+    ensures vector { (T U : ℕ) (vs : Values) (blocks : List ℕ) →
+        HasItems F.allocator heap.old (object_at cell T) U vs blocks →
+        form_at heap.old.types U ≡ Some Form.i64 →
+        MatchOption result (IsFull heap.old (object_at cell T) U)
+        (PushesBack F.allocator heap.old heap.new (object_at cell T) U vs blocks) }
+{
+    let buffer = Buffer::of(heap.window(), cell)?;
+    let at = buffer.next(NUMBER as u32)?;
+    let len = buffer.count.wrapping_add(1);
+    put_zero(heap.window_mut().bytes_mut(), cell, len, at);
+    Some(at)
+}
+
+/// Writes the count of a cell, and the number 0 to a position.
+// Both into the same lent bytes, which stay in registers.
+#[inline(always)]
+fn put_zero(bytes: &mut [u8], cell: u32, count: u32, at: u32)
+    ensures bytes { bytes.new ≡ set_long (set_word bytes.old (cell + 4) count) at 0 }
+    ensures length { length bytes.new ≡ length bytes.old }
+{
+    put_word(bytes, cell as usize + 4, count);
+    let from = at as usize;
+    if from + NUMBER <= bytes.len() {
+        bytes[from..from + NUMBER].copy_from_slice(&u64::to_le_bytes(0));
+    }
+}
+
+/// As [`push_default`], of a vector of any values.
+#[inline(always)]
+fn push_value<F: Fit, A: Allocator>(
+    heap: &mut Heap<F, A>,
+    cell: u32,
+    type_id: TypeId,
+) -> Option<u32>
+    ensures window { KeepsHost heap.old.window heap.new.window }
+    ensures types { heap.new.types ≡ heap.old.types }
+    ensures none { result ≡ None → heap.new.window ≡ heap.old.window }
+    ensures vector { (T U : ℕ) (vs : Values) (blocks : List ℕ) →
+        HasItems F.allocator heap.old (object_at cell T) U vs blocks → type_id ≡ U →
+        MatchOption result (IsFull heap.old (object_at cell T) U)
+        (PushesBack F.allocator heap.old heap.new (object_at cell T) U vs blocks) }
+{
+    let buffer = Buffer::of(heap.window(), cell)?;
+    let at = buffer.next(heap.types().size(type_id))?;
+    heap.set_count(cell, buffer.count.wrapping_add(1));
+    heap.init_default(Place { at, type_id });
+    Some(at)
+}
