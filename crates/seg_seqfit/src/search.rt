@@ -56,6 +56,10 @@ pub(crate) fn first_fit<A: Allocator>(w: &Window<A>, need: u32) -> Option<Found>
     let mut link = FREE;
     let mut next = next_above(view, LIST);
     while let Some(at) = next {
+        // the one test of where the words of a step lie
+        if view.len() < at as usize + UNIT as usize {
+            return None;
+        }
         let header = Header::read(view, at);
         if header.units >= need {
             let block = block_within(len, at, header.units)?;

@@ -34,6 +34,15 @@ loop-next-init g c = record {
 pub loop-next-smaller : goal.loop-next-smaller
 loop-next-smaller g c = fewer 12 c.in-Some.at c.loop-next.next c.next_above-next-in-Some.result c.in-Some.is c.loop-next.invariant.bounds c.next_above-next-in-Some.ensures.bounds
 
+pub returns-then-len-at-clause-first : goal.returns-then-len-at-clause-first
+returns-then-len-at-clause-first g c = λ gs links blocks.
+    let bytes = c.args.w.now.bytes in
+    let at = c.in-Some.at in
+    let i = c.loop-next.invariant.searching gs links blocks in
+    absurd (searched_always bytes gs c.args.need c.loop-next.link i.low at (reads bytes c.loop-next.link i.low at c.loop-next.next i.follows c.in-Some.is)
+    (λ s is sized. omega (arith, is, sized.large, sized.inside, ap length c.view-view.ensures, c.len.ensures, c.if-len-at.true))
+    i.searched)
+
 pub returns-in_err-block-clause-first : goal.returns-in_err-block-clause-first
 returns-in_err-block-clause-first g c = λ gs links blocks.
     let bytes = c.args.w.now.bytes in
