@@ -153,6 +153,7 @@ pub(crate) fn first_key<F: Fit, A: Allocator>(
 }
 
 /// The least key above another.
+#[inline(never)]
 pub(crate) fn next_key<F: Fit, A: Allocator>(
     heap: &Heap<F, A>,
     entry: Entry,

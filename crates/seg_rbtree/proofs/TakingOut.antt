@@ -146,11 +146,8 @@ pub record IsDescending (bytes : List ℕ) (path : Path) (layers : List Layer) (
   pub left_hangs : IsTree bytes (target bytes first) left
   pub count_is : count ≡ length lower
 
-pub descending_start : (bytes : List ℕ) (path : Path) (to : Option ℕ) (first : ℕ) → to ≡ target bytes (last_word path.root path.steps.items) → to ≡ Some first → (layers : List Layer) (tree : Tree) → IsPartAt bytes path layers tree
-    → IsDescending bytes path layers tree first 0
-descending_start bytes path to first e n layers tree s =
-    let named : target bytes (place path.root layers) ≡ Some first = ap (target bytes) (sym (part_word bytes path layers tree s)) ∙ sym e ∙ n in
-    start tree (subst (λ o. IsTree bytes o tree) named (part_here bytes path layers tree s))
+pub descending_start : (bytes : List ℕ) (path : Path) (first : ℕ) (layers : List Layer) (tree : Tree) → IsPartAt bytes path layers tree → target bytes (place path.root layers) ≡ Some first → IsDescending bytes path layers tree first 0
+descending_start bytes path first layers tree s named = start tree (subst (λ o. IsTree bytes o tree) named (part_here bytes path layers tree s))
   where
     start : (tree : Tree) → IsTree bytes (Some first) tree → IsDescending bytes path layers tree first 0
     start leaf h = absurd h

@@ -1,12 +1,11 @@
 //! From a place of a tree to the next node in order.
 
-ghost use Rattle.std.specs.Prelude.{◌≡◌, ◌≢◌, ◌↔◌, ◌∷◌, [], IsTrue, true, None, IsSomeAnd, MatchOption};
-ghost use Rattle.std.specs.Ordering.{ordering_reverse};
+ghost use Rattle.std.specs.Prelude.{◌≡◌, ◌≢◌, ◌∷◌, [], IsTrue, true, Some, None, IfSome, MatchOption};
 ghost use Rattle.seg_spec.specs.Pointer.{target};
 ghost use Rattle.seg_spec.specs.Shapes.{fork, nodes_of};
 ghost use Rattle.seg_spec.specs.Search.{reaches, first_where, IsSearchTree};
 ghost use Rattle.seg_rbtree.specs.Nodes.{side_word};
-ghost use Rattle.seg_rbtree.specs.Ways.{place, steps_of, LeadsTo};
+ghost use Rattle.seg_rbtree.specs.Ways.{place, steps_of};
 ghost use Rattle.seg_rbtree.specs.Paths.{WhereOrdered, IsLastAt, node_at};
 ghost use Rattle.seg_rbtree.specs.Removing.{layer_at, Descends};
 ghost use Rattle.seg_rbtree.specs.Following.{IsPartAt, LeadsInside, AreRight, Climbs, GoesOn};
@@ -44,6 +43,7 @@ impl Path {
 
     /// Goes on from a key to the first node of a tree above it: one step where the path leads to the tree's node with that
     /// key, and else from the root. None where no node is above it.
+    #[inline]
     pub fn next_after<K: Copy, O: UniqueKeys<K>, A: Allocator>(
         &mut self,
         w: &Window<A>,
@@ -59,43 +59,58 @@ impl Path {
         ensures inside { O.exact → LeadsInside w.now.bytes self.old
             → LeadsInside w.now.bytes self.new }
     {
-        self.lead_to_key(w, tree, order, key);
-        self.go_on(w.view())
+        let view = w.view();
+        match self.node_with_key(view, tree, order, key) {
+            Some(node) => self.go_on_from(view, node),
+            None => self.search_after(w, tree, order, key),
+        }
     }
 
-    /// Makes the path one to the node of a tree that equals a key, or to the empty place where one would stand.
-    fn lead_to_key<K: Copy, O: UniqueKeys<K>, A: Allocator>(
+    /// The node at the path's end, where the path goes down a tree and the node equals a key.
+    #[inline]
+    fn node_with_key<K: Copy, O: NodeOrder<K>>(
+        &self,
+        view: View,
+        tree: Tree,
+        order: &O,
+        key: K,
+    ) -> Option<u32>
+        ensures there { IfSome result (λ node. (path_root self.now ≡ root_word tree)
+            × (node_at view.entry.bytes.now self.now ≡ Some node)) }
+        ensures equals { O.exact → IfSome result
+            (λ node. O.compare_key order.now view.entry.bytes.now node key ≡ Ordering.Equal) }
+    {
+        if self.root != tree.root {
+            return None;
+        }
+        let node = self.node_in(view)?;
+        if order.key(view, node, key) == Ordering::Equal {
+            Some(node)
+        } else {
+            None
+        }
+    }
+
+    /// Goes from the root to the first node of a tree above a key. None where no node is above it.
+    // Apart from `next_after`, which then has few registers to save.
+    #[inline(never)]
+    fn search_after<K: Copy, O: UniqueKeys<K>, A: Allocator>(
         &mut self,
         w: &Window<A>,
         tree: Tree,
         order: &O,
         key: K,
-    )
-        ensures root { path_root self.new ≡ root_word tree }
-        ensures leads { O.exact → LeadsInside w.now.bytes self.old
-            → WhereOrdered (O.compare order.now) w.now (root_word tree)
-            (λ shape. LeadsTo (λ x. ordering_reverse (O.compare_key order.now w.now.bytes x key))
-            shape self.new) }
-        ensures inside { O.exact → LeadsInside w.now.bytes self.old
-            → LeadsInside w.now.bytes self.new }
+    ) -> Option<u32>
+        ensures node { O.exact → WhereOrdered (O.compare order.now) w.now (root_word tree)
+            (λ shape. result ≡ first_where
+            (λ node. reaches Ordering.Greater (O.compare_key order.now w.now.bytes node key))
+            (nodes_of shape)) }
+        ensures inside { O.exact → LeadsInside w.now.bytes self.new }
     {
-        if self.root == tree.root && self.equals(w.view(), order, key) {
-            return;
-        }
         self.root = tree.root;
         self.rewind();
         self.descend(w, order, Sought::Key(key));
-    }
-
-    /// Whether the node at the path's end equals a key.
-    fn equals<K: Copy, O: NodeOrder<K>>(&self, view: View, order: &O, key: K) -> bool
-        ensures { O.exact → IsTrue result ↔ IsSomeAnd (node_at view.entry.bytes.now self.now)
-            (λ node. O.compare_key order.now view.entry.bytes.now node key ≡ Ordering.Equal) }
-    {
-        match self.node_in(view) {
-            Some(node) => order.key(view, node, key) == Ordering::Equal,
-            None => false,
-        }
+        self.go_on(w.view())
     }
 
     /// Goes on to the next node: the one after the node at the path's end, or after the empty place there. None, and back at
@@ -105,11 +120,22 @@ impl Path {
         ensures on { (layers : _) (part : _) → IsPartAt view.entry.bytes.now self.old layers part
             → GoesOn view.entry.bytes.now layers part self.new result }
     {
-        let Some(node) = self.node_in(view) else {
-            return self.climb();
-        };
+        match self.node_in(view) {
+            Some(node) => self.go_on_from(view, node),
+            None => self.climb(),
+        }
+    }
+
+    /// The same, from the node at the path's end.
+    #[inline]
+    fn go_on_from(&mut self, view: View, node: u32) -> Option<u32>
+        ensures root { path_root self.new ≡ path_root self.old }
+        ensures on { node_at view.entry.bytes.now self.old ≡ Some node
+            → (layers : _) (part : _) → IsPartAt view.entry.bytes.now self.old layers part
+            → GoesOn view.entry.bytes.now layers part self.new result }
+    {
         match child_in(view, node, Side::Right) {
-            Some(_) => descend_to_next(view, self, node),
+            Some(right) => descend_right(view, self, node, right),
             None => self.climb(),
         }
     }
@@ -139,8 +165,20 @@ pub(crate) fn descend_to_next(view: View, path: &mut Path, node: u32) -> Option<
         → target view.entry.bytes.now (side_word node Side.Right) ≢ None
         → Descends path.new (layer_at Side.Right node colour left ∷ layers) right result }
 {
+    let right = child_in(view, node, Side::Right)?;
+    descend_right(view, path, node, right)
+}
+
+/// The same, where the node's right child is known.
+fn descend_right(view: View, path: &mut Path, node: u32, right: u32) -> Option<u32>
+    ensures root { path.new.root ≡ path.old.root }
+    ensures descended { (layers : _) (left tree : _) (colour : _)
+        → IsPartAt view.entry.bytes.now path.old layers (fork left node colour tree)
+        → target view.entry.bytes.now (side_word node Side.Right) ≡ Some right
+        → Descends path.new (layer_at Side.Right node colour left ∷ layers) tree result }
+{
     if path.push(node, Side::Right) {
-        descend_to_first(view, path)
+        descend_from(view, path, right)
     } else {
         None
     }
@@ -156,7 +194,19 @@ fn descend_to_first(view: View, path: &mut Path) -> Option<u32>
         → target view.entry.bytes.now (place path.old.root layers) ≢ None
         → Descends path.new layers tree result }
 {
-    let mut first = path.node_in(view)?;
+    let first = path.node_in(view)?;
+    descend_from(view, path, first)
+}
+
+/// The same, where the node at the place is known.
+fn descend_from(view: View, path: &mut Path, node: u32) -> Option<u32>
+    ensures root { path.new.root ≡ path.old.root }
+    ensures descended { (layers : _) (tree : _)
+        → IsPartAt view.entry.bytes.now path.old layers tree
+        → target view.entry.bytes.now (place path.old.root layers) ≡ Some node
+        → Descends path.new layers tree result }
+{
+    let mut first = node;
     for _ in 0..DEPTH {
         let Some(left) = child_in(view, first, Side::Left) else {
             return Some(first);

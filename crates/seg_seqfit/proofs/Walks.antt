@@ -1,8 +1,9 @@
 -- A walk along the free list.
-use Rattle.std.proofs.Common.{◌≡◌, ℕ, ◌+◌, ◌-◌, ◌<◌, ◌≤◌, false, leb, List, [], ◌∷◌, ◌++◌, Option, Some, None, refl, sym, ap, ◌∙◌, subst, arith, le-leb}
+use Rattle.std.proofs.Common.{◌≡◌, ℕ, ◌+◌, ◌-◌, ◌%◌, ◌^◌, ◌<◌, ◌≤◌, Bool, true, false, cond, leb, List, [], ◌∷◌, ◌++◌, Option, Some, None, refl, sym, ap, ◌∙◌, subst, arith, le-leb}
 use Rattle.std.proofs.lemmas.List.{append_assoc, append-nil}
 use Rattle.std.proofs.lemmas.Bool.Decides.{nat_tests}
-use Rattle.std.specs.Prelude.{IfSome, ⊤}
+use Rattle.std.specs.Prelude.{IfSome, ⊤, ◌==◌}
+use Rattle.seg_spec.specs.Bytes.{word}
 use Rattle.seg_spec.specs.Pointer.{target}
 use Rattle.seg_spec.specs.Heap.{Span, end_of, Links, first_fit}
 use Rattle.seg_block.specs.declared.block.Block.{Block}
@@ -44,14 +45,48 @@ Reads bytes link low at =
 abbrev pub ReadsNone : List ℕ → ℕ → ℕ → Type 0
 ReadsNone bytes link low = (g : Span) → target bytes link ≡ Some (g.at + 16) → IsSized bytes g → low ≤ g.at → ⊥
 
+-- ---- the block that a distance leads to
+
+none_is : (b : Bool) (n : ℕ) → cond b None (Some n) ≡ None → b ≡ true
+none_is true n e = refl
+none_is false n e = cc
+
+some_is : (b : Bool) (n p : ℕ) → cond b None (Some n) ≡ Some p → n ≡ p
+some_is true n p e = cc
+some_is false n p e = cc
+
+one_is : (n : ℕ) → (n == 1) ≡ true → n ≡ 1
+one_is n e = grind (arith, nat_tests)
+
+-- the block that is named by the link of a block at a position, where the link holds this distance
+abbrev pub led : ℕ → ℕ → ℕ
+led at distance = ((at + distance) % 2 ^ 32 + (2 ^ 32 - 4)) % 2 ^ 32
+
+pub led_back : (bytes : List ℕ) (at distance : ℕ) → distance ≡ word bytes (at + 12) → 4 ≤ at → at < 2 ^ 32 → target bytes (at + 12) ≡ None → led at distance ≤ at
+unfolding target
+led_back bytes at distance is far fits none =
+    let d = word bytes (at + 12) in
+    let one = one_is d (none_is (d == 1) ((at + 12 + d) % 2 ^ 32) none) in
+    omega (arith, is, one, far, fits)
+
+pub led_to : (bytes : List ℕ) (at distance p : ℕ) → distance ≡ word bytes (at + 12) → target bytes (at + 12) ≡ Some (p + 16) → led at distance ≡ p
+unfolding target
+led_to bytes at distance p is named =
+    let d = word bytes (at + 12) in
+    let same = some_is (d == 1) ((at + 12 + d) % 2 ^ 32) (p + 16) named in
+    omega (arith, is, same)
+
 -- what a pointer word leads to: the position of what it names from low on
 pub record Follows (bytes : List ℕ) (link low : ℕ) (next : Option ℕ) : Type 0 where
   pub none : target bytes link ≡ None → next ≡ None
   pub named : (p : ℕ) → target bytes link ≡ Some (p + 16) → low ≤ p → next ≡ Some p
 
-pub follows : (bytes : List ℕ) (link low payload : ℕ) (pointer next : Option ℕ) → pointer ≡ target bytes link → payload < low + 16 → (pointer ≡ None → next ≡ None)
-    → ((p : ℕ) → pointer ≡ Some (p + 16) → payload < p + 16 → next ≡ Some p) → Follows bytes link low next
-follows bytes link low payload pointer next is above none named = record { none = λ e. none (is ∙ e); named = λ p e le. named p (is ∙ e) (omega arith) }
+pub follows : (bytes view : List ℕ) (at low : ℕ) (next : Option ℕ) → view ≡ bytes → at < low → (target view (at + 12) ≡ None → next ≡ None)
+    → ((p : ℕ) → target view (at + 12) ≡ Some (p + 16) → at < p → next ≡ Some p) → Follows bytes (at + 12) low next
+follows bytes view at low next same above none named = record {
+  none = λ e. none (ap (λ bs. target bs (at + 12)) same ∙ e);
+  named = λ p e le. named p (ap (λ bs. target bs (at + 12)) same ∙ e) (omega (arith, above, le));
+}
 
 pub reads : (bytes : List ℕ) (link low at : ℕ) (next : Option ℕ) → Follows bytes link low next → next ≡ Some at → Reads bytes link low at
 reads bytes link low at next f is = (λ e. never (sym is ∙ f.none e), λ g e sized le. same (sym is ∙ f.named g.at e le))
@@ -70,17 +105,24 @@ abbrev pub left : Option ℕ → ℕ
 left None = 0
 left (Some at) = 4294967296 - at
 
-pub fits : (payload : ℕ) (next : Option ℕ) → IfSome next (λ p. (payload < p + 16) × (p + 16 < 4294967296)) → IfSome next (λ p. p + 16 < 4294967296)
-fits payload None bounds = bounds
-fits payload (Some p) bounds = bounds.1
+-- what is left lies past the list's first word, in 32 bits
+abbrev pub IsAhead : ℕ → Option ℕ → Type 0
+IsAhead at next = IfSome next (λ p. (at < p) × (p < 4294967296))
 
-pub fewer : (at : ℕ) (now next : Option ℕ) → now ≡ Some at → IfSome now (λ p. p + 16 < 4294967296) → IfSome next (λ p. (at + 16 < p + 16) × (p + 16 < 4294967296)) → left next < left now
-fewer at now next is inside bounds = subst (λ o. left next < left o) (sym is) (go next bounds)
+pub ahead : (low at : ℕ) (next : Option ℕ) → low ≤ at → IsAhead at next → IsAhead low next
+ahead low at None le bounds = bounds
+ahead low at (Some p) le bounds = (omega (arith, le, bounds.0), bounds.1)
+
+pub ahead_of : (low at : ℕ) (now : Option ℕ) → now ≡ Some at → IsAhead low now → (low < at) × (at < 4294967296)
+ahead_of low at now is bounds = subst (λ o. IsAhead low o) is bounds
+
+pub fewer : (low at : ℕ) (now next : Option ℕ) → now ≡ Some at → IsAhead low now → IsAhead at next → left next < left now
+fewer low at now next is inside bounds = subst (λ o. left next < left o) (sym is) (go next bounds)
   where
-    here : at + 16 < 4294967296
-    here = subst (λ o. IfSome o (λ p. p + 16 < 4294967296)) is inside
+    here : (low < at) × (at < 4294967296)
+    here = ahead_of low at now is inside
 
-    go : (next : Option ℕ) → IfSome next (λ p. (at + 16 < p + 16) × (p + 16 < 4294967296)) → left next < 4294967296 - at
+    go : (next : Option ℕ) → IsAhead at next → left next < 4294967296 - at
     go None bounds = omega (arith, here)
     go (Some p) bounds = omega (arith, here, bounds)
 

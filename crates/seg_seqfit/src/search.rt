@@ -2,6 +2,7 @@
 
 ghost use Rattle.std.specs.Prelude.{◌≡◌, ℕ, ◌+◌, ◌^◌, ◌<◌, ◌≤◌, Bool, List, ◌∷◌, ◌++◌, IfSome, MatchOption, Some, None};
 ghost use Rattle.seg_spec.specs.Heap.{Span, Tile, IsFreeList, first_fit, link_at};
+ghost use Rattle.seg_spec.specs.Pointer.{target};
 ghost use Rattle.seg_block.specs.Blocks.{LiesIn};
 ghost use Rattle.seg_block.specs.FreeBlocks.{AreFreeBlocks};
 ghost use Rattle.seg_block.specs.Tiling.{tile_of, IsTiling};
@@ -9,8 +10,8 @@ ghost use Rattle.seg_seqfit.specs.FreeBlocks.{IsFirstFit};
 ghost use Rattle.seg_seqfit.specs.Retiling.{link_to};
 
 use seg_block::{Block, HEAP_START, Header, LINK, UNIT, block_within, is_live, previous};
-use seg_ptr::Window;
 use seg_ptr::header::FREE;
+use seg_ptr::{View, Window};
 use std::alloc::Allocator;
 
 /// A free block, the pointer word that names it, and what its own names.
@@ -21,19 +22,24 @@ pub(crate) struct Found {
     pub(crate) next: Option<u32>,
 }
 
-/// The position of the free block that a pointer names, where its payload begins above `payload`.
-fn free_above(pointer: Option<u32>, payload: u32) -> Option<u32>
-    requires { UNIT ≤ payload }
-    ensures bounds { IfSome result (λ at. (payload < at + UNIT) × (at + UNIT < 2 ^ 32)) }
-    ensures none { pointer ≡ None → result ≡ None }
-    ensures named { (at : ℕ) → pointer ≡ Some (at + UNIT) → payload < at + UNIT
-        → result ≡ Some at }
+/// From a block's link to its payload, in bytes.
+const PAST_LINK: u32 = 4;
+
+/// Where a block would begin whose link is the list's first word.
+const LIST: u32 = 12;
+
+/// The free block that the link of the block at a position names, where it begins above that position.
+fn next_above(view: View, at: u32) -> Option<u32>
+    requires { PAST_LINK ≤ at }
+    ensures bounds { IfSome result (λ next. (at < next) × (next < 2 ^ 32)) }
+    ensures none { target view.entry.bytes.now (at + LINK) ≡ None → result ≡ None }
+    ensures named { (next : ℕ) → target view.entry.bytes.now (at + LINK) ≡ Some (next + UNIT)
+        → at < next → result ≡ Some next }
 {
-    let next = pointer?;
-    if next <= payload {
-        return None;
-    }
-    Some(next - UNIT)
+    // a pointer's distance counts from its own word; 1, which names nothing, leads back
+    let distance = view.get32(at as usize + LINK);
+    let next = at.wrapping_add(distance).wrapping_sub(PAST_LINK);
+    if next > at { Some(next) } else { None }
 }
 
 /// The lowest free block of at least `need` units.
@@ -48,8 +54,12 @@ pub(crate) fn first_fit<A: Allocator>(w: &Window<A>, need: u32) -> Option<Found>
     let len = w.len();
     let view = w.view();
     let mut link = FREE;
-    let mut next = free_above(view.target(FREE), HEAP_START);
+    let mut next = next_above(view, LIST);
     while let Some(at) = next {
+        // the one test of where the words of a step lie
+        if view.len() < at as usize + UNIT as usize {
+            return None;
+        }
         let header = Header::read(view, at);
         if header.units >= need {
             let block = block_within(len, at, header.units)?;
@@ -57,7 +67,7 @@ pub(crate) fn first_fit<A: Allocator>(w: &Window<A>, need: u32) -> Option<Found>
             return Some(Found { link, block, next });
         }
         link = at as usize + LINK;
-        next = free_above(header.link, at + UNIT);
+        next = next_above(view, at);
     }
     None
 }
@@ -71,14 +81,14 @@ pub(crate) fn link_before<A: Allocator>(w: &Window<A>, block: Block) -> usize
 {
     let view = w.view();
     let mut link = FREE;
-    let mut next = free_above(view.target(FREE), HEAP_START);
+    let mut next = next_above(view, LIST);
     let mut near = block;
     while let Some(gap) = next {
         if gap >= block.at {
             return link;
         }
         link = gap as usize + LINK;
-        next = free_above(view.target(link), gap + UNIT);
+        next = next_above(view, gap);
         let Some(before) = previous(w, near) else {
             return FREE;
         };

@@ -1,16 +1,8 @@
-use Rattle.std.proofs.Common.{◌∷◌}
-use Rattle.seg_rbtree.specs.declared.node.Side.TheVariants.{Right}
-use Rattle.seg_rbtree.specs.Removing.{layer_at}
-use Rattle.seg_rbtree.proofs.TakingOut.{stepped, step_room}
+use Rattle.std.proofs.Common.{sym, ◌∙◌}
 use Rattle.seg_rbtree.proofs.next.descend_to_next.Goals as goal
 
-pub returns-else-push-clause-descended : goal.returns-else-push-clause-descended
-returns-else-push-clause-descended c = λ layers left right colour s some.
-    let room = c.push.ensures.room (step_room c.args.view.bytes.now c.args.path.now layers left right c.args.node colour s) in
-    let none = c.if-push.false in
-    cc
+pub returns-in_err-right-clause-descended : goal.returns-in_err-right-clause-descended
+returns-in_err-right-clause-descended c = λ layers left right colour s some. absurd (some (sym c.child_in.ensures ∙ c.in_err-right.was))
 
-pub returns-then-push-clause-descended : goal.returns-then-push-clause-descended
-returns-then-push-clause-descended c = λ layers left right colour s some.
-    let stands = stepped c.args.view.bytes.now c.args.path.now c.push.new.self layers left right c.args.node colour s c.push.ensures.root (c.push.ensures.pushed c.if-push.true) in
-    c.descend_to_first.ensures.descended (layer_at Right c.args.node colour left ∷ layers) right stands some
+pub returns-clause-descended : goal.returns-clause-descended
+returns-clause-descended c = λ layers left right colour s some. c.descend_right.ensures.descended layers left right colour s (sym c.child_in.ensures ∙ c.in_ok-right.was)

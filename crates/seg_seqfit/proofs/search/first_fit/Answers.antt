@@ -6,7 +6,7 @@ use Rattle.seg_block.specs.declared.block.Block.{Block}
 use Rattle.seg_block.specs.declared.header.Header.{Header}
 use Rattle.seg_block.specs.Blocks.{IsSized}
 use Rattle.seg_block.specs.Headers.{header_at, no_header}
-use Rattle.seg_seqfit.proofs.Walks.{fits, fewer, follows, reads, reads_none, searched_none, searched_more, searched_found, searched_always, searched_end}
+use Rattle.seg_seqfit.proofs.Walks.{ahead, ahead_of, fewer, follows, reads, reads_none, searched_none, searched_more, searched_found, searched_always, searched_end}
 use Rattle.seg_seqfit.proofs.search.first_fit.Goals as goal
 
 -- the units that a header states which was read once
@@ -23,16 +23,25 @@ header_link bytes view at h same inside past =
 
 pub loop-next-init : goal.loop-next-init
 loop-next-init g c = record {
-  bounds = fits 704 c.free_above-next.result c.free_above-next.ensures.bounds;
+  bounds = c.next_above-next.ensures.bounds;
   searching = λ gs links blocks. record {
     low = 704;
     searched = searched_none c.args.w.now.bytes gs c.args.need links blocks;
-    follows = follows c.args.w.now.bytes 24 704 704 c.target.result c.free_above-next.result (c.target.ensures ∙ ap (λ b. target b 24) c.view-view.ensures) (omega arith) c.free_above-next.ensures.none c.free_above-next.ensures.named;
+    follows = follows c.args.w.now.bytes c.view-view.result.bytes.now 12 704 c.next_above-next.result c.view-view.ensures (omega arith) c.next_above-next.ensures.none c.next_above-next.ensures.named;
   };
 }
 
 pub loop-next-smaller : goal.loop-next-smaller
-loop-next-smaller g c = fewer c.in-Some.at c.loop-next.next c.free_above-next-in-Some.result c.in-Some.is c.loop-next.invariant.bounds c.free_above-next-in-Some.ensures.bounds
+loop-next-smaller g c = fewer 12 c.in-Some.at c.loop-next.next c.next_above-next-in-Some.result c.in-Some.is c.loop-next.invariant.bounds c.next_above-next-in-Some.ensures.bounds
+
+pub returns-then-len-at-clause-first : goal.returns-then-len-at-clause-first
+returns-then-len-at-clause-first g c = λ gs links blocks.
+    let bytes = c.args.w.now.bytes in
+    let at = c.in-Some.at in
+    let i = c.loop-next.invariant.searching gs links blocks in
+    absurd (searched_always bytes gs c.args.need c.loop-next.link i.low at (reads bytes c.loop-next.link i.low at c.loop-next.next i.follows c.in-Some.is)
+    (λ s is sized. omega (arith, is, sized.large, sized.inside, ap length c.view-view.ensures, c.len.ensures, c.if-len-at.true))
+    i.searched)
 
 pub returns-in_err-block-clause-first : goal.returns-in_err-block-clause-first
 returns-in_err-block-clause-first g c = λ gs links blocks.
@@ -71,9 +80,9 @@ loop-next-preserved g c =
     let at = c.in-Some.at in
     let view = c.view-view.result.bytes.now in
     let header = c.read-header.result in
-    let link_is = header_link bytes view at header c.view-view.ensures c.read-header.ensures.inside c.read-header.ensures.past in
+    let here = ahead_of 12 at c.loop-next.next c.in-Some.is c.loop-next.invariant.bounds in
     record {
-      bounds = fits (at + 16) c.free_above-next-in-Some.result c.free_above-next-in-Some.ensures.bounds;
+      bounds = ahead 12 at c.next_above-next-in-Some.result (omega (arith, here.0)) c.next_above-next-in-Some.ensures.bounds;
       searching = λ gs links blocks.
           let i = c.loop-next.invariant.searching gs links blocks in
           record {
@@ -81,7 +90,7 @@ loop-next-preserved g c =
             searched = searched_more bytes gs c.args.need c.loop-next.link i.low at (reads bytes c.loop-next.link i.low at c.loop-next.next i.follows c.in-Some.is)
                 (λ s is sized. subst (λ n. n < c.args.need) (header_units bytes view at header c.view-view.ensures c.read-header.ensures.inside s is sized) c.if-header-need.false)
                 i.searched;
-            follows = follows bytes (at + 12) (at + 16) (at + 16) header.link c.free_above-next-in-Some.result link_is (omega arith) c.free_above-next-in-Some.ensures.none c.free_above-next-in-Some.ensures.named;
+            follows = follows bytes view at (at + 16) c.next_above-next-in-Some.result c.view-view.ensures (omega arith) c.next_above-next-in-Some.ensures.none c.next_above-next-in-Some.ensures.named;
           };
     }
 

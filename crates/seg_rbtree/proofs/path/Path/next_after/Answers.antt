@@ -1,22 +1,36 @@
-use Rattle.std.proofs.Common.{ℕ, List, sym, subst}
+use Rattle.std.proofs.Common.{ℕ, List, ◌≡◌, Some, sym, subst, ap, ◌∙◌}
+use Rattle.std.specs.Prelude.{IfSome}
+use Rattle.std.specs.declared.cmp.Ordering.TheVariants.{Equal}
 use Rattle.seg_spec.specs.Shapes.{Tree}
 use Rattle.seg_spec.specs.Search.{IsSearchTree}
-use Rattle.seg_rbtree.proofs.Climbing.{goes_above, goes_inside}
+use Rattle.seg_rbtree.specs.Paths.{node_at}
+use Rattle.seg_rbtree.proofs.Climbing.{goes_above, goes_inside, leads_there}
 use Rattle.seg_rbtree.proofs.path.Path.next_after.Goals as goal
 
-pub returns-clause-node : goal.returns-clause-node
-returns-clause-node g c = λ exact inside shape t a.
+pub returns-in-Some-clause-node : goal.returns-in-Some-clause-node
+returns-in-Some-clause-node g c = λ exact inside shape t a.
+    let now = c.view-view.result.bytes.now in
     let bytes = c.args.w.now.bytes in
-    let now = c.view.result.bytes.now in
-    let path = c.lead_to_key.new.self in
-    let way = c.lead_to_key.ensures.leads exact inside shape t a in
-    let hung = subst (λ (root : ℕ). IsSearchTree now root shape) (sym c.lead_to_key.ensures.root) (subst (λ (bs : List ℕ). IsSearchTree bs c.args.tree.root shape) (sym c.view.ensures) t) in
-    goes_above (λ (x : ℕ). g.O.NodeOrder.compare_key c.args.order.now bytes x c.args.key) (g.O.NodeOrder.compare c.args.order.now bytes) (λ x y less. g.met.O.NodeOrder.keyed exact c.args.order.now bytes x y c.args.key less)
-    (λ x y e f. g.met.O.UniqueKeys.one exact c.args.order.now bytes x y c.args.key e f) now path c.go_on.new.self shape c.go_on.result hung a way (c.go_on.ensures.on way.layers way.rest)
+    let path = c.args.self.now in
+    let node = c.in-Some.node in
+    let compare = λ (x : ℕ). g.O.NodeOrder.compare_key c.args.order.now bytes x c.args.key in
+    let order = g.O.NodeOrder.compare c.args.order.now bytes in
+    let there = subst (λ o. IfSome o (λ n. (path.root ≡ c.args.tree.root) × (node_at now path ≡ Some n))) c.in-Some.is c.node_with_key.ensures.there in
+    let equals : compare node ≡ Equal = subst (λ bs. g.O.NodeOrder.compare_key c.args.order.now bs node c.args.key ≡ Equal) c.view-view.ensures
+    (subst (λ o. IfSome o (λ n. g.O.NodeOrder.compare_key c.args.order.now now n c.args.key ≡ Equal)) c.in-Some.is (c.node_with_key.ensures.equals exact)) in
+    let hung = subst (λ (root : ℕ). IsSearchTree bytes root shape) (sym there.0) t in
+    let named = sym (ap (λ (bs : List ℕ). node_at bs path) c.view-view.ensures) ∙ there.1 in
+    let way = leads_there compare order (λ x y less. g.met.O.NodeOrder.keyed exact c.args.order.now bytes x y c.args.key less)
+    (λ x y e f. g.met.O.UniqueKeys.one exact c.args.order.now bytes x y c.args.key e f) bytes path shape node hung a (inside shape hung) named equals in
+    goes_above compare order (λ x y less. g.met.O.NodeOrder.keyed exact c.args.order.now bytes x y c.args.key less)
+    (λ x y e f. g.met.O.UniqueKeys.one exact c.args.order.now bytes x y c.args.key e f) now path c.go_on_from.new.self shape c.go_on_from.result
+    (subst (λ (bs : List ℕ). IsSearchTree bs path.root shape) (sym c.view-view.ensures) hung) a way (c.go_on_from.ensures.on there.1 way.layers way.rest)
 
-pub returns-clause-inside : goal.returns-clause-inside
-returns-clause-inside g c = λ exact inside shape t.
-    let now = c.view.result.bytes.now in
-    let path = c.lead_to_key.new.self in
-    let back = λ (x : Tree) (u : IsSearchTree now path.root x). c.lead_to_key.ensures.inside exact inside x (subst (λ (bs : List ℕ). IsSearchTree bs path.root x) c.view.ensures u) in
-    goes_inside now path c.go_on.new.self c.go_on.result c.go_on.ensures.root c.go_on.ensures.on back shape (subst (λ (bs : List ℕ). IsSearchTree bs c.go_on.new.self.root shape) (sym c.view.ensures) t)
+pub returns-in-Some-clause-inside : goal.returns-in-Some-clause-inside
+returns-in-Some-clause-inside g c = λ exact inside shape t.
+    let now = c.view-view.result.bytes.now in
+    let path = c.args.self.now in
+    let there = subst (λ o. IfSome o (λ n. (path.root ≡ c.args.tree.root) × (node_at now path ≡ Some n))) c.in-Some.is c.node_with_key.ensures.there in
+    let back = λ (x : Tree) (u : IsSearchTree now path.root x). inside x (subst (λ (bs : List ℕ). IsSearchTree bs path.root x) c.view-view.ensures u) in
+    goes_inside now path c.go_on_from.new.self c.go_on_from.result c.go_on_from.ensures.root (c.go_on_from.ensures.on there.1) back shape
+    (subst (λ (bs : List ℕ). IsSearchTree bs c.go_on_from.new.self.root shape) (sym c.view-view.ensures) t)
