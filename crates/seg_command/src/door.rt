@@ -1,6 +1,8 @@
 //! The calls of the library that the commands make. What they promise isn't passed on: the commands are tested.
 
-use lezgauri::{AllocatorKind, Client, Fault, Image, IndexKind, Verified, assemble, parse, print, verify};
+use lezgauri::{
+    AllocatorKind, Client, Fault, Image, IndexKind, Verified, assemble, parse, print, verify,
+};
 use std::alloc::Global;
 
 /// The image of an empty segment.
