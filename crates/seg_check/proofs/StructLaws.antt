@@ -82,7 +82,8 @@ module _ (bytes : List ℕ) (table : Table) (valid : IsTable table) (at T : ℕ)
 known_form : (bytes : List ℕ) (table : Table) (T : ℕ) → T < length table → form_at table T ≡ None → ⊥
 known_form bytes table T known e = let number : form_at table T ≡ Some Form.i64 = known_number bytes table T known (ap has_cells e) in cc
 
-pub no_cell : (bytes : List ℕ) (table : Table) (valid : IsTable table) (of_version : AreOfVersion 1 table) (known : Known) (at T : ℕ) → T < length table → length (fields_of table T) ≡ 0 → (o : Option Form) → form_at table T ≡ o → ContentOf table T o None
+pub no_cell : (bytes : List ℕ) (table : Table) (valid : IsTable table) (of_version : AreOfVersion 1 table) (known : Known) (at T : ℕ) → T < length table → length (fields_of table T) ≡ 0
+    → (o : Option Form) → form_at table T ≡ o → ContentOf table T o None
     → Advances bytes table known known (record { at = at; type = T } ∷ [])
 no_cell bytes table valid of_version known at T l none None f c = absurd (known_form bytes table T l f)
 no_cell bytes table valid of_version known at T l none (Some Form.i64) f c = advance_number bytes table known (record { at = at; type = T }) f

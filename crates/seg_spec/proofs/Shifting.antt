@@ -109,7 +109,8 @@ module _ (bytes : List ℕ) (table : Table) (valid : IsTable table) where
       blocks ≡ opened.blocks ++ owned → EachCell table place.type (λ d f. NamesOwned blocks (place.at + d) f)
   one_owned place form opened blocks owned f one o blocks_is =
       each_one table valid (λ d g. NamesOwned blocks (place.at + d) g) place.type form f one
-      (from_names blocks (place.at + 0) (Some form) (rw (add-zero place.at, blocks_is) (λ t e. more_in opened.blocks (opened.blocks ++ owned) (λ h mine. omega (arith, mine, times-append h opened.blocks owned)) t (opens_named place form opened one o t e))))
+      (from_names blocks (place.at + 0) (Some form) (rw (add-zero place.at, blocks_is)
+      (λ t e. more_in opened.blocks (opened.blocks ++ owned) (λ h mine. omega (arith, mine, times-append h opened.blocks owned)) t (opens_named place form opened one o t e))))
 
   head_or : Place → List Place → Place
   head_or d [] = d

@@ -20,7 +20,8 @@ loop-index-preserved c =
           record { read = on.0; sized = on.1 }
           )
       | in-Unused w ↦ (
-          let on = read_unused c.args.version c.args.bytes.now c.loop-index.index c.loop-index.entries.items c.match-read.entries.items (ap (λ v. v.items) w.entries-is) c.loop-index.invariant.read c.loop-index.invariant.sized w.in-Unused.ensures in
+          let on = read_unused c.args.version c.args.bytes.now c.loop-index.index c.loop-index.entries.items c.match-read.entries.items (ap (λ v. v.items) w.entries-is)
+          c.loop-index.invariant.read c.loop-index.invariant.sized w.in-Unused.ensures in
           record { read = on.0; sized = on.1 }
           )
     ]
@@ -36,8 +37,11 @@ pub returns-clause-table : goal.returns-clause-table
 returns-clause-table c =
     let a = c.loop-index-test.false in
     let b = c.div_ceil-index-end.ensures in
-    let ended : length c.args.bytes.now ≤ 16 * c.loop-index.index = omega arith in
-    (is_table c.args.version c.args.bytes.now c.loop-index.index (forms c.loop-index.entries.items) c.loop-index.invariant.read ended, c.loop-index.invariant.read.of_version, is_spelled c.args.version c.args.bytes.now c.loop-index.index (forms c.loop-index.entries.items) c.loop-index.invariant.read ended)
+    let ended : length c.args.bytes.now ≤ 16 * c.loop-index.index = omega arith in (
+      is_table c.args.version c.args.bytes.now c.loop-index.index (forms c.loop-index.entries.items) c.loop-index.invariant.read ended,
+      c.loop-index.invariant.read.of_version,
+      is_spelled c.args.version c.args.bytes.now c.loop-index.index (forms c.loop-index.entries.items) c.loop-index.invariant.read ended,
+    )
 
 pub returns-clause-given : goal.returns-clause-given
 returns-clause-given c table valid of_version spells whole few =
