@@ -1,6 +1,6 @@
 -- From a place of a tree to the next node in order.
 use Rattle.std.proofs.Common.{◌≡◌, ◌≢◌, ℕ, ◌+◌, ◌≤◌, Bool, true, false, List, [], ◌∷◌, ◌++◌, Option, Some, None, MatchOption, refl, sym, ap, ◌∙◌, subst, append_assoc, arith}
-use Rattle.std.specs.Prelude.{slice_get, IsSomeAnd}
+use Rattle.std.specs.Prelude.{slice_get}
 use Rattle.std.specs.Option.{option_or}
 use Rattle.std.specs.List.{AllByRecursion}
 use Rattle.std.specs.Ordering.{ordering_reverse}
@@ -349,13 +349,3 @@ first_found bytes path new shape result e none descends t = go (target bytes pat
         let n = none (ap (λ ss. target bytes (last_word path.root ss)) e ∙ is) in
         (n.0 ∙ sym (first_empty bytes (target bytes path.root) shape t.is_tree is), root_inside new shape (n.1 ∙ e))
     go (Some p) is = first_down shape new result (descends [] shape (record { steps_are = e; whole = t }) (λ n. let both = sym is ∙ n in cc))
-
--- a node there, which equals a key
-pub record IsThere (compare : ℕ → Ordering) (to : Option ℕ) : Type 0 where
-  pub node : ℕ
-  pub named : to ≡ Some node
-  pub equals : compare node ≡ Equal
-
-pub there : (compare : ℕ → Ordering) (to : Option ℕ) → IsSomeAnd to (λ node. compare node ≡ Equal) → IsThere compare to
-there compare None h = absurd h
-there compare (Some node) h = record { node = node; named = refl; equals = h }

@@ -9,6 +9,6 @@ use Rattle.seg_rbtree.proofs.next.descend_from.Given as goal
 abbrev pub invariant-loop : goal.invariant-loop
 invariant-loop l = record {
   root : l.path.root ≡ l.fn.path.root;
-  descending : (layers : List Layer) (tree : Tree) → IsPartAt l.view.bytes.now l.fn.path layers tree → target l.view.bytes.now (place l.fn.path.root layers) ≡ Some l.fn.node
-      → IsDescending l.view.bytes.now l.path layers tree l.first l.counter;
+  descending : (layers : List Layer) (tree : Tree) → IsPartAt l.view.bytes.now l.fn.path layers tree
+      → target l.view.bytes.now (place l.fn.path.root layers) ≡ Some l.fn.node → IsDescending l.view.bytes.now l.path layers tree l.first l.counter;
 }
