@@ -57,6 +57,7 @@ increment_valid : IsClient increment
 unfolding listing depth
 increment_valid = record {
   types = counter_held.laid_out.is_table;
+  of_version = counter_held.laid_out.of_version;
   few_constants = omega arith;
   constants = All-cons IsConstant (Constant.Name (codes "x")) [] name_x (All-nil IsConstant);
   different = λ k l d lt h. absurd (omega arith);
