@@ -53,7 +53,7 @@ names_later [] l a = tt
 names_later (f ∷ fs) l a = (later_each f.number f fs (names_in f.value) (omega arith) a.0, names_later fs l.1 (later_all f fs fs l.0 a.1))
 
 -- the names in objects that stand elsewhere are elsewhere
-below_elsewhere : (p n : ℕ) (fs : List Frozen) (q : Place) → AllByRecursion (λ (g : Frozen). g.at ≢ p) fs → IsBelow n fs q → q.at ≢ p
+pub below_elsewhere : (p n : ℕ) (fs : List Frozen) (q : Place) → AllByRecursion (λ (g : Frozen). g.at ≢ p) fs → IsBelow n fs q → q.at ≢ p
 below_elsewhere p n [] q a h = absurd h
 below_elsewhere p n (f ∷ fs) q a (inl h) = λ e. a.0 (h.0 ∙ e)
 below_elsewhere p n (f ∷ fs) q a (inr h) = below_elsewhere p n fs q a.1 h

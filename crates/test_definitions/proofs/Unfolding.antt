@@ -6,7 +6,7 @@ use Rattle.seg_spec.specs.Value.{Label, Value, node, Values, nil, cons, Full}
 use Rattle.seg_spec.specs.Reads.{Place}
 use Rattle.seg_spec.specs.Shared.{Frozen, names_in, names_each, IsBelow, AreDistinct, with_count, kept_with, left, replaced, replaced_each, value_at_position, owner_by, meaning, unfolded, times_named}
 use Rattle.seg_spec.proofs.Frame.{each_left, each_right, each_weaker}
-use Rattle.test_definitions.proofs.SharedLaws.{left_each}
+use Rattle.test_definitions.proofs.SharedLaws.{below_elsewhere, left_each}
 
 -- ---- values that mean the same
 
@@ -47,18 +47,13 @@ found_here f fs p e = ap (λ b. cond b (Some f.value) (value_at_position fs p)) 
 found_after : (f : Frozen) (fs : List Frozen) (p : ℕ) → f.at ≢ p → value_at_position (f ∷ fs) p ≡ value_at_position fs p
 found_after f fs p e = ap (λ b. cond b (Some f.value) (value_at_position fs p)) (let other : eqb f.at p ≡ false = grind (arith, nat_tests) in other)
 
-not_at : (p n : ℕ) (gs : List Frozen) (q : Place) → AllByRecursion (λ (g : Frozen). g.at ≢ p) gs → IsBelow n gs q → q.at ≢ p
-not_at p n [] q a h = absurd h
-not_at p n (g ∷ gs) q a (inl h) = λ e. a.0 (h.0 ∙ e)
-not_at p n (g ∷ gs) q a (inr h) = not_at p n gs q a.1 h
-
 found_in : (n : ℕ) (all fs : List Frozen) (q : Place) → AreDistinct fs → AllByRecursion (λ (f : Frozen). AllByRecursion (IsBelow f.number all) (names_in f.value)) fs → IsBelow n fs q
     → (f : Frozen) × (f.number < n) × (value_at_position fs q.at ≡ Some f.value) × AllByRecursion (IsBelow f.number all) (names_in f.value)
 found_in n all [] q d a h = absurd h
 found_in n all (f ∷ fs) q d a (inl h) = (f, h.2, found_here f fs q.at h.0, a.0)
 found_in n all (f ∷ fs) q d a (inr h) =
     let rest = found_in n all fs q d.1 a.1 h in
-    (rest.0, rest.1, found_after f fs q.at (λ e. not_at f.at n fs q d.0 h (sym e)) ∙ rest.2, rest.3)
+    (rest.0, rest.1, found_after f fs q.at (λ e. below_elsewhere f.at n fs q d.0 h (sym e)) ∙ rest.2, rest.3)
 
 pub found : (n : ℕ) (fs : List Frozen) (q : Place) → AreDistinct fs → AllByRecursion (λ (f : Frozen). AllByRecursion (IsBelow f.number fs) (names_in f.value)) fs → IsBelow n fs q → Found n fs q
 found n fs q d a h = let f = found_in n fs fs q d a h in record { object = f.0; less = f.1; value_is = f.2; names = f.3 }
@@ -101,11 +96,11 @@ left_value n gone (f ∷ fs) q d h = go (f.count - times_named f.at gone) (left_
         → value_at_position (kept_with f k (left (gone ++ names_in f.value) fs) (left gone fs)) q.at ≡ value_at_position (f ∷ fs) q.at
     go zero goes stays_too b =
         let apart = left_each (λ (g : Frozen). g.at ≢ f.at) (λ g j a. a) (gone ++ names_in f.value) fs d.0 in
-        goes b ∙ sym (found_after f fs q.at (λ e. not_at f.at n (left (gone ++ names_in f.value) fs) q apart b (sym e)))
+        goes b ∙ sym (found_after f fs q.at (λ e. below_elsewhere f.at n (left (gone ++ names_in f.value) fs) q apart b (sym e)))
     go (suc k) goes stays_too (inl b) = found_here (with_count f (suc k)) (left gone fs) q.at b.0 ∙ sym (found_here f fs q.at b.0)
     go (suc k) goes stays_too (inr b) =
         let apart = left_each (λ (g : Frozen). g.at ≢ f.at) (λ g j a. a) gone fs d.0 in
-        let other : f.at ≢ q.at = λ e. not_at f.at n (left gone fs) q apart b (sym e) in
+        let other : f.at ≢ q.at = λ e. below_elsewhere f.at n (left gone fs) q apart b (sym e) in
         found_after (with_count f (suc k)) (left gone fs) q.at other ∙ stays_too b ∙ sym (found_after f fs q.at other)
 
 module _ (gone : List Place) (fs : List Frozen) (distinct : AreDistinct fs) (left_distinct : AreDistinct (left gone fs))
