@@ -7,7 +7,7 @@ use client_code::{Constant, ConstantKind};
 use itoa::Buffer;
 
 /// The most bytes of a name: those of an exact name, or of a family's prefix, `#` and a number.
-const MAX_NAME: usize = 63;
+const MAX_NAME: usize = seg_manager::MAX_NAME as usize;
 
 /// The bytes of a name.
 pub(crate) type Name = ArrayVec<u8, MAX_NAME>;
