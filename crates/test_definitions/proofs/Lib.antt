@@ -11,3 +11,4 @@ pub mod WorkedCalls
 pub mod SharedLaws
 pub mod Unfolding
 pub mod Sharing
+pub mod Releasing

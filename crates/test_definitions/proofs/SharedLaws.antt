@@ -29,7 +29,7 @@ unnamed p (q ∷ qs) a = times-other p q.at (map (λ (r : Place). r.at) qs) a.0 
 
 -- ---- each names only objects after it
 
-pub NamesLater : List Frozen → Type 0
+unfoldable pub NamesLater : List Frozen → Type 0
 NamesLater [] = Unit {0}
 NamesLater (f ∷ fs) = AllByRecursion (IsBelow f.number fs) (names_in f.value) × NamesLater fs
 
@@ -68,6 +68,13 @@ later_elsewhere p [] a l = refl
 later_elsewhere p (f ∷ fs) a l =
     named-append p (names_in f.value) (names_of fs)
     ∙ (let first = elsewhere p f.number fs (names_in f.value) a.1 l.0 in let rest = later_elsewhere p fs a.1 l.1 in omega arith)
+
+-- the first object is named neither by itself nor by those after it
+pub first_unnamed : (f : Frozen) (fs : List Frozen) → AllByRecursion (λ (g : Frozen). g.at ≢ f.at) fs → NamesLater (f ∷ fs) → times_named f.at (names_of (f ∷ fs)) ≡ 0
+unfolding NamesLater
+first_unnamed f fs a l =
+    named-append f.at (names_in f.value) (names_of fs)
+    ∙ (let own = elsewhere f.at f.number fs (names_in f.value) a l.0 in let rest = later_elsewhere f.at fs a l.1 in omega arith)
 
 -- ---- what stays is as it was, but for its count
 
@@ -144,29 +151,22 @@ what_is_left gone stay [] d l c = record { distinct = tt; later = tt; some = tt;
 what_is_left gone stay (f ∷ fs) d l c =
     go (f.count - times_named f.at gone) refl (λ more. what_is_left (gone ++ names_in f.value) stay fs d.1 l.1 more) (λ more. what_is_left gone (stay ++ names_in f.value) fs d.1 l.1 more)
   where
-    inner : times_named f.at (names_of (f ∷ fs)) ≡ 0
-    inner =
-        named-append f.at (names_in f.value) (names_of fs)
-        ∙ (let a = elsewhere f.at f.number fs (names_in f.value) d.0 l.0 in let b = later_elsewhere f.at fs d.0 l.1 in omega arith)
-
     go : (n : ℕ) → f.count - times_named f.at gone ≡ n → (CountsAll (gone ++ names_in f.value) stay fs → Left stay fs (left (gone ++ names_in f.value) fs))
         → (CountsAll gone (stay ++ names_in f.value) fs → Left (stay ++ names_in f.value) fs (left gone fs)) → Left stay (f ∷ fs) (kept_with f n (left (gone ++ names_in f.value) fs) (left gone fs))
     go zero e goes stays_too =
         let r = goes (counts_more gone stay (gone ++ names_in f.value) stay f fs fs (λ p. let n = named-append p gone (names_in f.value) in omega arith) c.1) in
-        let none : times_named f.at stay ≡ 0 = (let now = c.0 in let z = inner in omega arith) in
+        let none : times_named f.at stay ≡ 0 = (let now = c.0 in let z = first_unnamed f fs d.0 l in omega arith) in
         record { distinct = r.distinct; later = r.later; some = r.some; counts = r.counts; stays = λ n. stays_on n f fs (left (gone ++ names_in f.value) fs) stay none (r.stays n) }
     go (suc n) e goes stays_too =
         let r = stays_too (counts_more gone stay gone (stay ++ names_in f.value) f fs fs (λ p. let m = named-append p stay (names_in f.value) in omega arith) c.1) in
         let apart = left_each (λ (g : Frozen). g.at ≢ f.at) (λ g k h. h) gone fs d.0 in
         let mine = all_stay f.number fs (left gone fs) (names_in f.value) (each_right _ stay (names_in f.value) (r.stays f.number)) l.0 in
-        let inside : times_named f.at (names_in f.value ++ names_of (left gone fs)) ≡ 0 =
-        named-append f.at (names_in f.value) (names_of (left gone fs))
-        ∙ (let a = elsewhere f.at f.number fs (names_in f.value) d.0 l.0 in let b = later_elsewhere f.at (left gone fs) apart r.later in omega arith) in
+        let inside : times_named f.at (names_in f.value ++ names_of (left gone fs)) ≡ 0 = first_unnamed f (left gone fs) apart (mine, r.later) in
         record {
           distinct = (apart, r.distinct);
           later = (mine, r.later);
           some = (omega arith, r.some);
-          counts = ((let now = c.0 in let z = inner in omega (arith, inside)), regrouped stay (names_in f.value) (left gone fs) (left gone fs) r.counts);
+          counts = ((let now = c.0 in let z = first_unnamed f fs d.0 l in omega (arith, inside)), regrouped stay (names_in f.value) (left gone fs) (left gone fs) r.counts);
           stays = λ k. stays_with k (suc n) f fs (left gone fs) stay (each_left _ stay (names_in f.value) (r.stays k));
         }
 
@@ -226,11 +226,6 @@ what_goes gone stay (f ∷ fs) d l c =
     go (f.count - times_named f.at gone) refl (λ more. (what_is_left (gone ++ names_in f.value) stay fs d.1 l.1 more, what_goes (gone ++ names_in f.value) stay fs d.1 l.1 more))
     (λ more. what_goes gone (stay ++ names_in f.value) fs d.1 l.1 more)
   where
-    inner : times_named f.at (names_of (f ∷ fs)) ≡ 0
-    inner =
-        named-append f.at (names_in f.value) (names_of fs)
-        ∙ (let a = elsewhere f.at f.number fs (names_in f.value) d.0 l.0 in let b = later_elsewhere f.at fs d.0 l.1 in omega arith)
-
     Gone : List Frozen → List Place → List Frozen → Type 0
     Gone rs stays gs = AllByRecursion (λ (g : Frozen). times_named g.at stays + times_named g.at (names_of rs) ≡ 0) gs
 
@@ -242,7 +237,7 @@ what_goes gone stay (f ∷ fs) d l c =
         let more = goes (counts_more gone stay (gone ++ names_in f.value) stay f fs fs (λ p. let n = named-append p gone (names_in f.value) in omega arith) c.1) in
         let apart = left_each (λ (g : Frozen). g.at ≢ f.at) (λ g k h. h) (gone ++ names_in f.value) fs d.0 in
         let none = later_elsewhere f.at (left (gone ++ names_in f.value) fs) apart more.0.later in
-        ((let now = c.0 in let z = inner in omega arith), more.1)
+        ((let now = c.0 in let z = first_unnamed f fs d.0 l in omega arith), more.1)
     go (suc n) e goes stays_too =
         unnamed_over stay (names_in f.value) (left gone fs) (freed gone fs)
         (stays_too (counts_more gone stay gone (stay ++ names_in f.value) f fs fs (λ p. let m = named-append p stay (names_in f.value) in omega arith) c.1))

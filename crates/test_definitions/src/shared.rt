@@ -1,11 +1,12 @@
 //! Laws of objects that values share.
 
-ghost use Rattle.std.specs.Prelude.{◌≡◌, ◌≢◌, ℕ, suc, ◌+◌, ◌≤◌, List, ◌∷◌, ◌++◌, map};
+ghost use Rattle.std.specs.Prelude.{◌≡◌, ◌≢◌, ℕ, suc, ◌+◌, ◌≤◌, List, [], ◌∷◌, ◌++◌, length, map};
 ghost use Rattle.std.specs.List.{AllByRecursion};
 ghost use Rattle.seg_spec.specs.Value.{Value};
 ghost use Rattle.seg_spec.specs.Reads.{Place};
 ghost use Rattle.seg_spec.specs.Sound.{times};
 ghost use Rattle.seg_spec.specs.Shared.{Frozen, names_in, names_of, times_named, IsBelow, IsCounted, IsFalling, meaning, unfolded, raised, left, freed};
+ghost use Rattle.test_definitions.specs.Releasing.{Releases};
 
 /// An object that becomes frozen, with the next number, is named by the one cell that takes it.
 pub fn freezing()
@@ -36,6 +37,24 @@ pub fn releasing()
     ensures all { (at : ℕ) (gone : List Place) (frozen : List Frozen) →
         times at (map (λ f. f.at) (left gone frozen)) + times at (map (λ f. f.at) (freed gone frozen))
         ≡ times at (map (λ f. f.at) frozen) }
+{}
+
+/// Names are released one after another, in whichever order. After each turn the objects count the names that are still to be
+/// released and the cells that are kept, and in the end the same is left. Each turn takes one name, of those that were gone or
+/// stood in an object that went: there are as many turns as names that go, and from wherever it is a release comes to its end.
+pub fn releasing_in_turns()
+    ensures counted { (next turns : ℕ) (gone kept pending : List Place) (frozen now : List Frozen) →
+        IsFalling frozen → IsCounted next frozen (gone ++ kept) →
+        Releases gone frozen turns pending now →
+        IsFalling now × IsCounted next now (pending ++ kept) }
+    ensures order { (next turns : ℕ) (gone kept : List Place) (frozen result : List Frozen) →
+        IsFalling frozen → IsCounted next frozen (gone ++ kept) →
+        Releases gone frozen turns [] result → result ≡ left gone frozen }
+    ensures turns { (turns : ℕ) (gone pending : List Place) (frozen now : List Frozen) →
+        Releases gone frozen turns pending now →
+        turns + length pending + length (names_of now) ≡ length gone + length (names_of frozen) }
+    ensures ends { (gone : List Place) (frozen : List Frozen) →
+        (turns : ℕ) × (result : List Frozen) × Releases gone frozen turns [] result }
 {}
 
 /// Numbers fall along cells, so that none leads round in a circle: what a cell means is the same tree, however far one may go
