@@ -3,12 +3,10 @@
 ghost use Rattle.std.specs.Prelude.{◌≡◌, false};
 
 use crate::door::{assembled, opened, printed, verified};
-use crate::failure::Failure;
-use crate::inputs::read_input;
-use crate::program::print;
 use client_trace::{Untraced, trace};
 use lezgauri::{Fault, Image, Sink, Verified};
 use seg_files::{Files, read_file, read_image, write_file};
+use seg_program::{Failure, STANDARD_OUTPUT, print, read_input};
 use seg_words::Trace;
 use std::alloc::Global;
 
@@ -59,7 +57,15 @@ fn trace_bytes<'a, O: Sink>(
 {
     let mut image = opened(alloc, image)?;
     let client = verified(&image, client)?;
-    Ok(trace_client(alloc, &mut image, &client, input, out)?)
+    trace_client(alloc, &mut image, &client, input, out).map_err(ended)
+}
+
+/// Why a trace ended before its run did.
+fn ended<'a>(untraced: Untraced) -> Failure<'a> {
+    match untraced {
+        Untraced::Memory => Failure::from(Fault::Memory),
+        Untraced::OutputFailed => Failure::File(STANDARD_OUTPUT),
+    }
 }
 
 fn trace_client<O: Sink>(

@@ -1,11 +1,9 @@
 ghost use Rattle.std.specs.Prelude.{◌≡◌, false};
 
-use crate::failure::{Failure, STANDARD_OUTPUT};
-use crate::inputs::slices;
-use crate::program::tell;
 use lezgauri::{Refused, Sink};
 use seg_explain::{Sources, explain};
 use seg_files::{Files, read_file, read_files, read_image};
+use seg_program::{Failure, STANDARD_OUTPUT, slices, tell};
 use seg_words::Request;
 use std::alloc::{AllocError, Global};
 

@@ -2,11 +2,10 @@
 
 ghost use Rattle.std.specs.Prelude.{◌≡◌, false};
 
-use crate::failure::Failure;
 use crate::made::{Made, made_of, new_image};
-use crate::program::print;
 use lezgauri::Sink;
 use seg_files::{Files, read_image, write_file};
+use seg_program::{Failure, print};
 use seg_words::{ImageTask, NewImage};
 use std::alloc::Global;
 

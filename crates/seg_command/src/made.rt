@@ -1,6 +1,7 @@
 use crate::door::{created, grown, opened, shrunk};
 use crate::listing::{blocks, objects, pictured, shown, size, statistics};
 use lezgauri::{AllocatorKind, Fault, Image, IndexKind};
+use seg_program::Failure;
 use seg_words::{Allocator, ImageTask, Index, NewImage};
 use std::alloc::{AllocError, Global};
 
@@ -23,6 +24,15 @@ pub enum Unmade<'a> {
 impl From<Fault> for Unmade<'_> {
     fn from(fault: Fault) -> Self {
         Unmade::Fault(fault)
+    }
+}
+
+impl<'a> From<Unmade<'a>> for Failure<'a> {
+    fn from(unmade: Unmade<'a>) -> Self {
+        match unmade {
+            Unmade::Fault(fault) => Failure::from(fault),
+            Unmade::Absent(name) => Failure::Absent(name),
+        }
     }
 }
 

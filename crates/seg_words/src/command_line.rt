@@ -240,7 +240,27 @@ const LINES: &[Line] = &[
     },
 ];
 
-/// The words that the program understands.
+/// The program that runs clients and does nothing else: it takes what the command `run` takes.
+const SEGRUN: &Line = &Line {
+    name: "segrun",
+    about: "Runs verified clients on an image of a managed segment, prints their output and saves the image",
+    arguments: &RUN,
+    examples: "Examples:\n  segrun shop.image shop.image stock.client\n  segrun shop.image saved.image stock.client sell.client --input orders.txt",
+};
+
+/// The words that `segrun` understands.
+pub fn run_line<'a>(alloc: Global) -> Result<Command<'a>, AllocError> {
+    let mut program = Command::new(alloc, SEGRUN.name)
+        .about(SEGRUN.about)
+        .after_help(SEGRUN.examples)
+        .arg_required_else_help(true);
+    for argument in SEGRUN.arguments {
+        program = program.arg(built(alloc, argument))?;
+    }
+    Ok(program)
+}
+
+/// The words that `segtool` understands.
 pub fn command_line<'a>(alloc: Global) -> Result<Command<'a>, AllocError> {
     let mut program = Command::new(alloc, "segtool")
         .about("Checks images of managed segments, and runs verified clients on them")

@@ -1,4 +1,4 @@
-//! The words of the program's command line, and what they ask for.
+//! The words of the programs' command lines, and what they ask for.
 #![tactic(auto)]
 
 mod command_line;
@@ -7,5 +7,5 @@ mod reading;
 mod request;
 
 pub use misread::Misread;
-pub use reading::read;
-pub use request::{Allocator, Asked, ImageTask, Index, NewImage, Request, Run, Trace};
+pub use reading::{read, read_run};
+pub use request::{Allocator, Asked, ImageTask, Index, NewImage, Request, Run, RunRequest, Trace};

@@ -1,11 +1,13 @@
-use crate::command_line::command_line;
+use crate::command_line::{command_line, run_line};
 use crate::misread::Misread;
-use crate::request::{Allocator, Asked, ImageTask, Index, NewImage, Request, Run, Trace};
+use crate::request::{
+    Allocator, Asked, ImageTask, Index, NewImage, Request, Run, RunRequest, Trace,
+};
 use clap::ArgMatches;
 use std::alloc::{AllocError, Global};
 use std::convert::AsStr;
 
-/// What the words ask for, the program's name first.
+/// What the words of `segtool` ask for, the program's name first.
 pub fn read<'a, S: AsStr>(alloc: Global, words: &'a [S]) -> Result<Asked<'a>, Misread> {
     match command_line(alloc)?.try_get_matches_from(words) {
         Ok(matches) => Ok(Asked {
@@ -16,6 +18,15 @@ pub fn read<'a, S: AsStr>(alloc: Global, words: &'a [S]) -> Result<Asked<'a>, Mi
             request: Request::Help(error.to_string(alloc)?),
             explained: false,
         }),
+        Err(error) => Err(Misread::of(alloc, &error)),
+    }
+}
+
+/// What the words of `segrun` ask for, the program's name first.
+pub fn read_run<'a, S: AsStr>(alloc: Global, words: &'a [S]) -> Result<RunRequest<'a>, Misread> {
+    match run_line(alloc)?.try_get_matches_from(words) {
+        Ok(matches) => Ok(RunRequest::Run(run_of(alloc, &matches)?)),
+        Err(error) if !error.use_stderr() => Ok(RunRequest::Help(error.to_string(alloc)?)),
         Err(error) => Err(Misread::of(alloc, &error)),
     }
 }

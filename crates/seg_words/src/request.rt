@@ -1,4 +1,4 @@
-/// What the words of a command line ask for.
+/// What the words of `segtool` ask for.
 #[derive(Drop)]
 pub struct Asked<'a> {
     pub request: Request<'a>,
@@ -17,6 +17,14 @@ pub enum Request<'a> {
     Trace(Trace<'a>),
     Assemble { text: &'a str, client: &'a str },
     Print { client: &'a str },
+    /// A text for the standard output.
+    Help(String),
+}
+
+/// What the words of `segrun` ask for.
+#[derive(Drop)]
+pub enum RunRequest<'a> {
+    Run(Run<'a>),
     /// A text for the standard output.
     Help(String),
 }

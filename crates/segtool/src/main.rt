@@ -1,14 +1,11 @@
-//! The program `segtool`: checks images of managed segments, and runs clients on them. Here the host's words, files and
-//! outputs are put after the commands.
+//! The program `segtool`: makes, checks and shows images of managed segments, and runs clients on them. Here the host's words,
+//! files and outputs are put after the commands.
 #![tactic(auto)]
 
-ghost use Rattle.std.specs.Prelude.{◌≡◌, false};
-
-use seg_command::{Sink, Through, command, write_all};
+use seg_command::command;
 use seg_files::HostFiles;
+use seg_program::{Through, refuse, words};
 use std::process::ExitCode;
-use std::rt::Env;
-use std::{env, io};
 
 fn main(rt: HostRuntime) -> ExitCode {
     let mut out = Through::new(rt.stdout());
@@ -19,22 +16,4 @@ fn main(rt: HostRuntime) -> ExitCode {
         Err(error) => refuse(&error, &mut err),
     };
     ExitCode::from(status)
-}
-
-/// The words of the command line.
-fn words(rt: &(impl Env + AllocGlobal)) -> io::Result<Vec<String>> {
-    Ok(env::args(rt)?.collect(rt.alloc())?)
-}
-
-/// The status where the words can't be had: for want of memory, or since one of them isn't text.
-fn refuse<E: Sink>(error: &io::Error, err: &mut E) -> u8
-    requires { E.has_failed err.old ≡ false }
-{
-    if error.kind() == io::ErrorKind::OutOfMemory {
-        let _ = write_all(err, b"fault 1\n");
-        1
-    } else {
-        let _ = write_all(err, b"error: a word of the command line isn't text\n");
-        2
-    }
 }

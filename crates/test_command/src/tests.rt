@@ -5,6 +5,7 @@ mod files;
 mod language;
 mod memory;
 mod rows;
+mod runner;
 mod segments;
 mod views;
 mod writers;

@@ -1,4 +1,4 @@
-//! Tests of the allocators against a plain model of the heap: a list of live blocks.
+//! Tests of what stands in the heap, over both allocators: blocks, values, containers, and the names of an index.
 #![tactic(auto)]
 
 #[cfg(test)]

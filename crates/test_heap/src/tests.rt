@@ -1,4 +1,7 @@
-mod model;
-mod random;
-mod read;
-mod rows;
+mod allocators;
+mod containers;
+mod growth;
+mod names;
+mod refused;
+mod support;
+mod tiles;

@@ -1,4 +1,4 @@
-//! Tests of whole segments over both allocators and both indexes: worked examples, and random calls beside a plain model.
+//! Tests of whole segments, over both allocators and both indexes: worked examples.
 #![tactic(auto)]
 
 #[cfg(test)]

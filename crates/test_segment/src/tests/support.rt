@@ -13,21 +13,9 @@ pub(crate) type Spelled = [u8; 4];
 
 pub(crate) const I64: Spelled = [1, 0, 0, 0];
 
-pub(crate) const STR: Spelled = [2, 0, 0, 0];
-
-/// A vector of a type.
-pub(crate) fn vector(item: TypeId) -> Spelled {
-    [3, 1, item, 0]
-}
-
 /// A map to values of a type.
 pub(crate) fn map(item: TypeId) -> Spelled {
     [6, 1, item, 0]
-}
-
-/// An own of a type.
-pub(crate) fn own(item: TypeId) -> Spelled {
-    [7, 1, item, 0]
 }
 
 /// A struct of two fields.

@@ -1,8 +1,7 @@
 //! Sizes of blocks that follow from the rules of growth, worked out by hand.
 
-use crate::tests::blocks::is_one_gap;
 use crate::tests::support::{I64, ROOT, STR, Segment, new_segment, of, pair, place_of};
-use crate::tests::trial::reads_as;
+use crate::tests::tiles::{is_one_gap, live_are, tiles};
 use seg_map::put;
 use seg_raw::Code;
 use seg_seq::{append, assign, pop_back, push_back};
@@ -10,44 +9,27 @@ use seg_seqfit::SeqFit;
 use seg_value::Content;
 use std::process::Abort;
 use std::test::Fail;
-use support_heap::tiles;
-
-/// The first blocks of the heap that are live: where they are, and their units.
-fn live_are(
-    rt: &(impl Abort + AllocGlobal),
-    s: &Segment<SeqFit>,
-    wanted: &[(u32, u32)],
-) -> Result<(), Fail> {
-    let mut live = Vec::new(rt.alloc());
-    for tile in tiles(rt.alloc(), s.heap.window())?.as_slice() {
-        if tile.live {
-            live.push((tile.at, tile.units))?;
-        }
-    }
-    assert_eq!(rt; live.as_slice(), wanted);
-    Ok(())
-}
 
 #[test]
 fn a_string_grows_and_shrinks_in_place(rt: HostRuntime) -> Result<(), Fail> {
     let mut s = new_segment::<SeqFit>(rt.alloc(), 1024, &[STR], 0)?;
     assign(&mut s.heap, place_of(0, ROOT), b"hello")?;
-    live_are(&rt, &s, &[(704, 2)])?;
+    live_are(&rt, s.heap.window(), &[(704, 2)])?;
     append(&mut s.heap, place_of(0, ROOT), b", dear neighbours!!")?;
-    live_are(&rt, &s, &[(704, 3)])?;
+    live_are(&rt, s.heap.window(), &[(704, 3)])?;
     assert_eq!(rt;
         s.heap.window().slice(720, 24),
         b"hello, dear neighbours!!".as_slice()
     );
     // an assigned text keeps the buffer
     assign(&mut s.heap, place_of(0, ROOT), b"hello")?;
-    live_are(&rt, &s, &[(704, 3)])?;
+    live_are(&rt, s.heap.window(), &[(704, 3)])?;
     s.heap.shrink_to_fit(place_of(0, ROOT));
-    live_are(&rt, &s, &[(704, 2)])?;
+    live_are(&rt, s.heap.window(), &[(704, 2)])?;
     assign(&mut s.heap, place_of(0, ROOT), b"")?;
-    live_are(&rt, &s, &[(704, 2)])?;
+    live_are(&rt, s.heap.window(), &[(704, 2)])?;
     s.heap.shrink_to_fit(place_of(0, ROOT));
-    is_one_gap(&rt, &s)
+    is_one_gap(&rt, s.heap.window())
 }
 
 /// A vector of numbers has room for 4, then for 8 where it stands.
@@ -56,7 +38,7 @@ fn a_vector_doubles_in_place(rt: HostRuntime) -> Result<(), Fail> {
     let mut s = new_segment::<SeqFit>(rt.alloc(), 1024, &[I64, of(3, 0)], 1)?;
     for units in [3, 3, 3, 3, 5] {
         let _ = push_back(&mut s.heap, place_of(1, ROOT))?;
-        live_are(&rt, &s, &[(704, units)])?;
+        live_are(&rt, s.heap.window(), &[(704, units)])?;
     }
     Ok(())
 }
@@ -70,14 +52,14 @@ fn a_fifth_push_takes_its_limit(rt: HostRuntime) -> Result<(), Fail> {
     }
     let number = Content::object(s.heap.types(), 0);
     let _ = s.heap.new_block(&number)?;
-    live_are(&rt, &s, &[(704, 3), (752, 2)])?;
+    live_are(&rt, s.heap.window(), &[(704, 3), (752, 2)])?;
     for _ in 0..2 {
         let _ = push_back(&mut s.heap, place_of(1, ROOT))?;
-        live_are(&rt, &s, &[(752, 2), (784, 4)])?;
+        live_are(&rt, s.heap.window(), &[(752, 2), (784, 4)])?;
     }
     let seventh = push_back(&mut s.heap, place_of(1, ROOT));
     assert_eq!(rt; seventh, Err(Code::BadAlloc));
-    live_are(&rt, &s, &[(752, 2), (784, 4)])
+    live_are(&rt, s.heap.window(), &[(752, 2), (784, 4)])
 }
 
 #[test]
@@ -86,9 +68,9 @@ fn list_nodes_of_numbers_have_2_units(rt: HostRuntime) -> Result<(), Fail> {
     for _ in 0..3 {
         let _ = push_back(&mut s.heap, place_of(1, ROOT))?;
     }
-    live_are(&rt, &s, &[(704, 2), (736, 2), (768, 2)])?;
+    live_are(&rt, s.heap.window(), &[(704, 2), (736, 2), (768, 2)])?;
     pop_back(&mut s.heap, place_of(1, ROOT))?;
-    live_are(&rt, &s, &[(704, 2), (736, 2)])
+    live_are(&rt, s.heap.window(), &[(704, 2), (736, 2)])
 }
 
 #[test]
@@ -96,7 +78,7 @@ fn a_flat_map_of_numbers_has_5_then_9_units(rt: HostRuntime) -> Result<(), Fail>
     let mut s = new_segment::<SeqFit>(rt.alloc(), 1024, &[I64, of(5, 0)], 1)?;
     for (key, units) in [(1, 5), (2, 5), (3, 5), (4, 5), (5, 9)] {
         let _ = put(&mut s.heap, place_of(1, ROOT), key)?;
-        live_are(&rt, &s, &[(704, units)])?;
+        live_are(&rt, s.heap.window(), &[(704, units)])?;
     }
     Ok(())
 }
@@ -122,7 +104,7 @@ fn a_deep_value_is_destroyed(rt: HostRuntime) -> Result<(), Fail> {
     }
     assert_eq!(rt; tiles(rt.alloc(), s.heap.window())?.len(), 20_001);
     s.heap.clear(place_of(1, ROOT));
-    is_one_gap(&rt, &s)
+    is_one_gap(&rt, s.heap.window())
 }
 
 /// Values that move over part of their own place still name their blocks.
@@ -130,10 +112,13 @@ fn a_deep_value_is_destroyed(rt: HostRuntime) -> Result<(), Fail> {
 fn shifted_values_read_the_same(rt: HostRuntime) -> Result<(), Fail> {
     let mut s = new_segment::<SeqFit>(rt.alloc(), 1024, &[STR, pair(0, 0)], 1)?;
     assign(&mut s.heap, place_of(0, ROOT), b"ab")?;
-    reads_as(&rt, &s, "([97, 98], [])")?;
-    s.heap.shift(1, ROOT, ROOT + 8, 1);
-    s.heap.shift(1, ROOT + 8, ROOT, 1);
-    reads_as(&rt, &s, "([97, 98], [])")
+    for (from, to) in [(ROOT, ROOT + 8), (ROOT + 8, ROOT)] {
+        s.heap.shift(1, from, to, 1);
+        assert_eq!(rt; s.heap.count(to), 2);
+        assert_eq!(rt; s.heap.start(to), 720);
+    }
+    assert_eq!(rt; s.heap.window().slice(720, 2), b"ab".as_slice());
+    live_are(&rt, s.heap.window(), &[(704, 2)])
 }
 
 /// Bytes after the used items may be a pointer to a block that something else owns, which stays.
@@ -144,8 +129,8 @@ fn unused_items_own_nothing(rt: HostRuntime) -> Result<(), Fail> {
     assign(&mut s.heap, place_of(0, item), b"hello")?;
     let other = Content::object(s.heap.types(), 0);
     let stays = s.heap.new_block(&other)?;
-    live_are(&rt, &s, &[(704, 3), (752, 2), (784, 2)])?;
+    live_are(&rt, s.heap.window(), &[(704, 3), (752, 2), (784, 2)])?;
     s.heap.window_mut().point(item as usize + 8, Some(stays));
     s.heap.clear(place_of(1, ROOT));
-    live_are(&rt, &s, &[(784, 2)])
+    live_are(&rt, s.heap.window(), &[(784, 2)])
 }

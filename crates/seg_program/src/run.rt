@@ -2,7 +2,7 @@ ghost use Rattle.std.specs.Prelude.{◌≡◌, false};
 
 use crate::failure::{Failure, STANDARD_OUTPUT};
 use crate::inputs::{read_input, slices};
-use lezgauri::{Ended, Outcome, Refused, Schedule, Sink, run_image};
+use client_vm::{Ended, Outcome, Refused, Schedule, Sink, run_image};
 use seg_files::{Files, read_files, read_image, write_file};
 use seg_words::Run;
 use std::alloc::Global;

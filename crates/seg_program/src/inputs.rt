@@ -2,7 +2,7 @@ use seg_files::{FileFailure, Files, read_file};
 use std::alloc::{AllocError, Global};
 
 /// The bytes of the file that clients read, none where it is left out.
-pub(crate) fn read_input<'a, F: Files>(
+pub fn read_input<'a, F: Files>(
     alloc: Global,
     files: &mut F,
     name: Option<&'a str>,
@@ -14,7 +14,7 @@ pub(crate) fn read_input<'a, F: Files>(
 }
 
 /// The bytes of each of some files.
-pub(crate) fn slices(alloc: Global, files: &[Vec<u8>]) -> Result<Vec<&[u8]>, AllocError> {
+pub fn slices(alloc: Global, files: &[Vec<u8>]) -> Result<Vec<&[u8]>, AllocError> {
     let mut slices = Vec::new(alloc);
     for file in files {
         slices.push(file.as_slice())?;

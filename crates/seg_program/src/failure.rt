@@ -1,7 +1,6 @@
-use crate::made::Unmade;
-use client_trace::Untraced;
-use lezgauri::{Fault, Refused};
+use client_vm::Refused;
 use seg_files::FileFailure;
+use seg_raw::Fault;
 use seg_words::Misread;
 use std::alloc::{AllocError, Global};
 
@@ -54,15 +53,6 @@ impl From<Fault> for Failure<'_> {
     }
 }
 
-impl<'a> From<Unmade<'a>> for Failure<'a> {
-    fn from(unmade: Unmade<'a>) -> Self {
-        match unmade {
-            Unmade::Fault(fault) => Failure::from(fault),
-            Unmade::Absent(name) => Failure::Absent(name),
-        }
-    }
-}
-
 impl From<AllocError> for Failure<'_> {
     fn from(_: AllocError) -> Self {
         Failure::from(Fault::Memory)
@@ -83,15 +73,6 @@ impl From<Misread> for Failure<'_> {
         match misread {
             Misread::Memory => Failure::from(Fault::Memory),
             Misread::Words(text) => Failure::Words(text),
-        }
-    }
-}
-
-impl From<Untraced> for Failure<'_> {
-    fn from(untraced: Untraced) -> Self {
-        match untraced {
-            Untraced::Memory => Failure::from(Fault::Memory),
-            Untraced::OutputFailed => Failure::File(STANDARD_OUTPUT),
         }
     }
 }

@@ -1,14 +1,16 @@
-//! Blocks and bytes that follow from the rules of growth and from the format, worked out by hand.
+//! Blocks and bytes that follow from the rules of growth and from the format of an index, worked out by hand.
 
-use crate::tests::support::{Segment, add, new_object, new_segment, remove};
-use seg_block::{Fit, block_of};
-use seg_index::{IndexKind, name_count, set_unique, unique};
+use crate::tests::support::{I64, Segment, new_segment};
+use crate::tests::tiles::{live_are, tags_are, tiles};
+use seg_block::{Fit, Kind, Tag, UNIT, block_of, need};
+use seg_index::{
+    IndexKind, NameEntry, find, first_name, look_up, name_count, next_name, set_unique, unique,
+};
 use seg_ptr::header;
 use seg_raw::Code;
 use seg_seqfit::SeqFit;
 use std::process::Abort;
 use std::test::Fail;
-use support_heap::tiles;
 
 const OBJECT: u32 = 1;
 
@@ -16,30 +18,55 @@ const BUFFER: u32 = 5;
 
 const NODE: u32 = 6;
 
+/// A segment of numbers without names, whose heap is one gap.
 fn segment(rt: &impl AllocGlobal, len: u32, kind: IndexKind) -> Result<Segment<SeqFit>, Fail> {
-    new_segment(rt.alloc(), len, kind)
+    let mut s = new_segment::<SeqFit>(rt.alloc(), len, &[I64], 0)?;
+    let w = s.heap.window_mut();
+    w.put32(header::INDEX_KIND, kind.word());
+    w.point(header::INDEX, None);
+    Ok(s)
 }
 
-/// An object of one number that has a name, and is in the index.
-fn add_named<F: Fit>(s: &mut Segment<F>, name: &[u8]) -> Result<(), Code> {
-    let object = new_object(s, name, 1).ok_or(Code::BadAlloc)?;
-    add(s, name, object, 1)
+/// A block with a number, and a name after it. No index has it yet. Returns the position of the number, none where there is no
+/// room.
+fn new_object<F: Fit>(s: &mut Segment<F>, name: &[u8]) -> Option<u32> {
+    let tag = Tag {
+        kind: Kind::Named,
+        type_id: 0,
+    };
+    let w = s.heap.window_mut();
+    let block = F::allocate(w, need(8 + u32::from(name_len(name))))?;
+    tag.write(w, block);
+    let object = block.wrapping_add(UNIT);
+    w.put64(object as usize, 0);
+    w.copy_in(object as usize + 8, name);
+    Some(object)
 }
 
-/// The live blocks: where they are, their units and their tags.
-fn live_are<F: Fit>(
-    rt: &(impl Abort + AllocGlobal),
-    s: &Segment<F>,
-    wanted: &[(u32, u32, u32)],
-) -> Result<(), Fail> {
-    let mut live = Vec::new(rt.alloc());
-    for tile in tiles(rt.alloc(), s.heap.window())?.as_slice() {
-        if tile.live {
-            live.push((tile.at, tile.units, tile.tag))?;
-        }
+fn name_len(name: &[u8]) -> u8 {
+    u8::try_from(name.len()).unwrap_or(0)
+}
+
+/// Enters a name for an object of one number. The index doesn't have the name.
+fn add<F: Fit>(s: &mut Segment<F>, name: &[u8], object: u32) -> Result<(), Code> {
+    match look_up(&s.heap, name) {
+        Ok(_) => Err(Code::AlreadyExists),
+        Err(vacant) => vacant.insert(&mut s.heap, object, 1, name_len(name)),
     }
-    assert_eq!(rt; live.as_slice(), wanted);
-    Ok(())
+}
+
+/// Takes out the entry of a name, and returns it.
+fn remove<F: Fit>(s: &mut Segment<F>, name: &[u8]) -> Option<NameEntry> {
+    let occupied = look_up(&s.heap, name).ok()?;
+    let entry = occupied.entry();
+    occupied.remove(&mut s.heap);
+    Some(entry)
+}
+
+/// An object that has a name, and is in the index.
+fn add_named<F: Fit>(s: &mut Segment<F>, name: &[u8]) -> Result<(), Code> {
+    let object = new_object(s, name).ok_or(Code::BadAlloc)?;
+    add(s, name, object)
 }
 
 /// The first name takes a buffer for 4 entries, whose words are those of the format. Without names there is none.
@@ -47,7 +74,8 @@ fn live_are<F: Fit>(
 fn the_first_name_takes_a_buffer_of_4(rt: HostRuntime) -> Result<(), Fail> {
     let mut s = segment(&rt, 1024, IndexKind::Flat)?;
     add_named(&mut s, b"x")?;
-    live_are(&rt, &s, &[(704, 2, OBJECT), (736, 3, BUFFER)])?;
+    live_are(&rt, s.heap.window(), &[(704, 2), (736, 3)])?;
+    tags_are(&rt, s.heap.window(), &[OBJECT, BUFFER])?;
     assert_eq!(rt;
         s.heap.window().slice(32, 8),
         [0xd0, 2, 0, 0, 1, 0, 0, 0].as_slice()
@@ -57,7 +85,8 @@ fn the_first_name_takes_a_buffer_of_4(rt: HostRuntime) -> Result<(), Fail> {
         [0xe0, 0xff, 0xff, 0xff, 1, 0, 1, 0].as_slice()
     );
     assert!(rt; remove(&mut s, b"x").is_some());
-    live_are(&rt, &s, &[(704, 2, OBJECT)])?;
+    live_are(&rt, s.heap.window(), &[(704, 2)])?;
+    tags_are(&rt, s.heap.window(), &[OBJECT])?;
     assert_eq!(rt; s.heap.window().target(header::INDEX), None);
     assert_eq!(rt; name_count(s.heap.window()), 0);
     Ok(())
@@ -68,7 +97,8 @@ fn the_first_name_takes_a_buffer_of_4(rt: HostRuntime) -> Result<(), Fail> {
 fn a_buffer_takes_its_limit(rt: HostRuntime) -> Result<(), Fail> {
     let mut s = segment(&rt, 768, IndexKind::Flat)?;
     add_named(&mut s, b"x")?;
-    live_are(&rt, &s, &[(704, 2, OBJECT), (736, 2, BUFFER)])
+    live_are(&rt, s.heap.window(), &[(704, 2), (736, 2)])?;
+    tags_are(&rt, s.heap.window(), &[OBJECT, BUFFER])
 }
 
 /// An object takes the last 3 units, and the index finds none.
@@ -77,7 +107,8 @@ fn an_index_finds_no_room(rt: HostRuntime) -> Result<(), Fail> {
     for kind in [IndexKind::Flat, IndexKind::Tree] {
         let mut s = segment(&rt, 752, kind)?;
         assert_eq!(rt; add_named(&mut s, b"x"), Err(Code::BadAlloc));
-        live_are(&rt, &s, &[(704, 3, OBJECT)])?;
+        live_are(&rt, s.heap.window(), &[(704, 3)])?;
+        tags_are(&rt, s.heap.window(), &[OBJECT])?;
         assert_eq!(rt; s.heap.window().target(header::INDEX), None);
         assert_eq!(rt; name_count(s.heap.window()), 0);
     }
@@ -106,11 +137,11 @@ fn buffer_has<F: Fit>(
 fn the_fifth_name_doubles_the_buffer(rt: HostRuntime) -> Result<(), Fail> {
     let mut s = segment(&rt, 1024, IndexKind::Flat)?;
     for name in FIVE {
-        let _ = new_object(&mut s, name, 1);
+        let _ = new_object(&mut s, name);
     }
     let wanted = [(720, 3), (752, 3), (784, 3), (816, 3), (848, 5)];
     for (name, (object, units)) in FIVE.into_iter().zip(wanted) {
-        add(&mut s, name, object, 1)?;
+        add(&mut s, name, object)?;
         buffer_has(&rt, &s, units)?;
     }
     Ok(())
@@ -125,15 +156,13 @@ fn the_doubled_buffer_stands_elsewhere(rt: HostRuntime) -> Result<(), Fail> {
     }
     live_are(
         &rt,
-        &s,
-        &[
-            (704, 2, OBJECT),
-            (784, 2, OBJECT),
-            (816, 2, OBJECT),
-            (848, 2, OBJECT),
-            (880, 2, OBJECT),
-            (912, 5, BUFFER),
-        ],
+        s.heap.window(),
+        &[(704, 2), (784, 2), (816, 2), (848, 2), (880, 2), (912, 5)],
+    )?;
+    tags_are(
+        &rt,
+        s.heap.window(),
+        &[OBJECT, OBJECT, OBJECT, OBJECT, OBJECT, BUFFER],
     )
 }
 
@@ -145,14 +174,10 @@ fn a_tree_node_takes_3_units(rt: HostRuntime) -> Result<(), Fail> {
     add_named(&mut s, b"x")?;
     live_are(
         &rt,
-        &s,
-        &[
-            (704, 2, OBJECT),
-            (736, 3, NODE),
-            (784, 2, OBJECT),
-            (816, 3, NODE),
-        ],
+        s.heap.window(),
+        &[(704, 2), (736, 3), (784, 2), (816, 3)],
     )?;
+    tags_are(&rt, s.heap.window(), &[OBJECT, NODE, OBJECT, NODE])?;
     // the root's left child, no right one, black; the object, one number, one byte of a name
     assert_eq!(rt; s.heap.window().target(header::INDEX), Some(752));
     assert_eq!(rt;
@@ -163,11 +188,8 @@ fn a_tree_node_takes_3_units(rt: HostRuntime) -> Result<(), Fail> {
         .as_slice()
     );
     assert!(rt; remove(&mut s, b"y").is_some());
-    live_are(
-        &rt,
-        &s,
-        &[(704, 2, OBJECT), (784, 2, OBJECT), (816, 3, NODE)],
-    )
+    live_are(&rt, s.heap.window(), &[(704, 2), (784, 2), (816, 3)])?;
+    tags_are(&rt, s.heap.window(), &[OBJECT, OBJECT, NODE])
 }
 
 /// The word of a type's unique object, and no other.
@@ -188,4 +210,33 @@ fn a_type_has_one_unique_object(rt: HostRuntime) -> Result<(), Fail> {
     );
     assert_eq!(rt; block_of(720), 704);
     Ok(())
+}
+
+/// Names in order, and what a name leads to, in either index.
+#[test]
+fn names_are_found_and_follow_one_another(rt: HostRuntime) -> Result<(), Fail> {
+    for kind in [IndexKind::Flat, IndexKind::Tree] {
+        let mut s = segment(&rt, 2048, kind)?;
+        for name in FIVE {
+            add_named(&mut s, name)?;
+        }
+        goes_over_five(&rt, &s);
+    }
+    Ok(())
+}
+
+fn goes_over_five<F: Fit>(rt: &impl Abort, s: &Segment<F>) {
+    let mut entry = first_name(&s.heap);
+    for name in [b"a", b"b", b"c", b"d", b"e"] {
+        is_entry_of(rt, s, entry, name);
+        is_entry_of(rt, s, find(&s.heap, name), name);
+        entry = next_name(&s.heap, name);
+    }
+    assert!(rt; entry.is_none());
+    assert!(rt; find(&s.heap, b"bb").is_none());
+}
+
+fn is_entry_of<F: Fit>(rt: &impl Abort, s: &Segment<F>, entry: Option<NameEntry>, name: &[u8]) {
+    let found = entry.is_some_and(|entry| entry.name(s.heap.window(), s.heap.types()) == name);
+    assert!(rt; found);
 }

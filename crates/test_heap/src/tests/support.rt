@@ -5,7 +5,6 @@ use seg_raw::Region;
 use seg_value::{Heap, Place};
 use std::alloc::{AllocError, Global};
 use std::test::Fail;
-use support_data::Random;
 
 /// Where the root value stands, before the heap: the heap's live blocks are those that it owns.
 pub(crate) const ROOT: u32 = 64;
@@ -66,17 +65,5 @@ pub(crate) fn new_segment<F: Fit>(
             Ok(Segment { heap, root })
         }
         Err(_) => Err(Fail::from("misplaced")),
-    }
-}
-
-/// A text of 0 to 40 bytes.
-pub(crate) fn some_text(random: &mut Random) -> &'static [u8] {
-    match random.below(6) {
-        0 => b"",
-        1 => b"a",
-        2 => b"hello",
-        3 => b"seventeen letters",
-        4 => b"twenty-four letters long",
-        _ => b"a text of forty bytes, which is 3 units.",
     }
 }

@@ -1,0 +1,83 @@
+//! The blocks of a heap as a list.
+
+use seg_block::{HEAP_START, UNIT, block_at, is_live, tag_word};
+use seg_ptr::Window;
+use seg_ptr::header::FREE;
+use std::alloc::{AllocError, Global};
+use std::process::Abort;
+use std::test::Fail;
+
+/// A block of the heap. The tag is 0 where it is free.
+#[derive(Debug, Clone, Copy, PartialEq, Eq)]
+pub(crate) struct Tile {
+    pub(crate) at: u32,
+    pub(crate) units: u32,
+    pub(crate) live: bool,
+    pub(crate) tag: u32,
+}
+
+/// The blocks of the heap, in order.
+pub(crate) fn tiles(alloc: Global, w: &Window<Global>) -> Result<Vec<Tile>, AllocError> {
+    let mut tiles = Vec::new(alloc);
+    let mut at = HEAP_START;
+    for _ in 0..w.len() / UNIT {
+        let Some(block) = block_at(w, at) else {
+            break;
+        };
+        tiles.push(Tile {
+            at,
+            units: block.units,
+            live: is_live(w, at),
+            tag: tag_word(w, at),
+        })?;
+        at = block.at + UNIT * block.units;
+    }
+    Ok(tiles)
+}
+
+fn live(alloc: Global, w: &Window<Global>) -> Result<Vec<Tile>, AllocError> {
+    let mut live = tiles(alloc, w)?;
+    live.retain(|tile| tile.live);
+    Ok(live)
+}
+
+/// These are the live blocks: where they are, and their units.
+pub(crate) fn live_are(
+    rt: &(impl Abort + AllocGlobal),
+    w: &Window<Global>,
+    wanted: &[(u32, u32)],
+) -> Result<(), Fail> {
+    let live = live(rt.alloc(), w)?;
+    let found: Vec<(u32, u32)> = live
+        .iter()
+        .map(|tile| (tile.at, tile.units))
+        .collect(rt.alloc())?;
+    assert_eq!(rt; found.as_slice(), wanted);
+    Ok(())
+}
+
+/// These are the tags of the live blocks.
+pub(crate) fn tags_are(
+    rt: &(impl Abort + AllocGlobal),
+    w: &Window<Global>,
+    wanted: &[u32],
+) -> Result<(), Fail> {
+    let live = live(rt.alloc(), w)?;
+    let found: Vec<u32> = live.iter().map(|tile| tile.tag).collect(rt.alloc())?;
+    assert_eq!(rt; found.as_slice(), wanted);
+    Ok(())
+}
+
+/// The heap is one gap, with which the free structure starts. Its link is null.
+pub(crate) fn is_one_gap(rt: &(impl Abort + AllocGlobal), w: &Window<Global>) -> Result<(), Fail> {
+    let whole = Tile {
+        at: HEAP_START,
+        units: w.len().saturating_sub(HEAP_START) / UNIT,
+        live: false,
+        tag: 0,
+    };
+    assert_eq!(rt; tiles(rt.alloc(), w)?.as_slice(), [whole].as_slice());
+    assert_eq!(rt; w.target(FREE), Some(HEAP_START + UNIT));
+    assert_eq!(rt; w.target(HEAP_START as usize + 12), None);
+    Ok(())
+}

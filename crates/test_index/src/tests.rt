@@ -1,4 +1,0 @@
-mod examples;
-mod model;
-mod random;
-mod support;
