@@ -250,14 +250,7 @@ const SEGRUN: &Line = &Line {
 
 /// The words that `segrun` understands.
 pub fn run_line<'a>(alloc: Global) -> Result<Command<'a>, AllocError> {
-    let mut program = Command::new(alloc, SEGRUN.name)
-        .about(SEGRUN.about)
-        .after_help(SEGRUN.examples)
-        .arg_required_else_help(true);
-    for argument in SEGRUN.arguments {
-        program = program.arg(built(alloc, argument))?;
-    }
-    Ok(program)
+    Ok(with_arguments(alloc, SEGRUN)?.arg_required_else_help(true))
 }
 
 /// The words that `segtool` understands.
@@ -273,10 +266,19 @@ pub fn command_line<'a>(alloc: Global) -> Result<Command<'a>, AllocError> {
 }
 
 fn command<'a>(alloc: Global, line: &'static Line) -> Result<Command<'a>, AllocError> {
+    let mut command = with_arguments(alloc, line)?;
+    for argument in SHARED {
+        command = command.arg(built(alloc, argument))?;
+    }
+    Ok(command)
+}
+
+/// A command with its own arguments.
+fn with_arguments<'a>(alloc: Global, line: &'static Line) -> Result<Command<'a>, AllocError> {
     let mut command = Command::new(alloc, line.name)
         .about(line.about)
         .after_help(line.examples);
-    for argument in line.arguments.iter().chain(SHARED) {
+    for argument in line.arguments {
         command = command.arg(built(alloc, argument))?;
     }
     Ok(command)
