@@ -1,19 +1,16 @@
-use crate::tests::clients::client;
+use crate::tests::clients::{client, counter_files};
 use crate::tests::files::{Printed, Stored, run};
 use client_vm::{Move, Schedule, Through, run_bytes};
 use seg_raw::Fault;
 use std::alloc::Global;
 use std::process::Abort;
 use std::test::Fail;
-use support_data::{INCREMENT, counter, counter_with, front};
+use support_data::{INCREMENT_FILE, counter, counter_with, front};
 
-/// The counter's image, the increment client, and that client without its last byte.
+/// The counter's image, the increment client, that client without its last byte, and a text that is no client.
 fn files(alloc: Global) -> Result<Stored, Fail> {
-    let mut files = Stored::new(alloc);
-    files.add("image", counter(alloc)?.as_slice())?;
-    let file = client(alloc, INCREMENT)?;
-    files.add("client", file.as_slice())?;
-    files.add("cut", front(file.as_slice(), 102))?;
+    let mut files = counter_files(alloc)?;
+    files.add("cut", front(&INCREMENT_FILE, 102))?;
     files.add("text", client(alloc, "type str\nname x\n")?.as_slice())?;
     Ok(files)
 }

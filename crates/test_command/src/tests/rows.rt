@@ -1,18 +1,9 @@
-use crate::tests::clients::client;
-use crate::tests::files::{Printed, Stored, run};
+use crate::tests::clients::counter_files;
+use crate::tests::files::{Printed, run};
 use client_vm::{Move, Schedule, Through, run_bytes};
-use std::alloc::Global;
 use std::process::Abort;
 use std::test::Fail;
-use support_data::{INCREMENT, counter, counter_with};
-
-/// The counter's image and the increment client.
-fn files(alloc: Global) -> Result<Stored, Fail> {
-    let mut files = Stored::new(alloc);
-    files.add("image", counter(alloc)?.as_slice())?;
-    files.add("client", client(alloc, INCREMENT)?.as_slice())?;
-    Ok(files)
-}
+use support_data::{INCREMENT_FILE, counter, counter_with};
 
 fn prints(rt: &impl Abort, printed: &Printed, out: &str) {
     assert_eq!(rt; printed.status, 0);
@@ -22,7 +13,7 @@ fn prints(rt: &impl Abort, printed: &Printed, out: &str) {
 
 /// The increment client on the counter's image, at a base of a room.
 fn increments_at(rt: &(impl Abort + AllocGlobal), base: &str, room: &str) -> Result<(), Fail> {
-    let mut files = files(rt.alloc())?;
+    let mut files = counter_files(rt.alloc())?;
     let words = [
         "segtool", "run", "image", "saved", "client", "--base", base, "--room", room,
     ];
@@ -43,7 +34,7 @@ fn increments_the_counter(rt: HostRuntime) -> Result<(), Fail> {
 #[test]
 fn runs_clients_one_after_the_other(rt: HostRuntime) -> Result<(), Fail> {
     let alloc = rt.alloc();
-    let mut files = files(alloc)?;
+    let mut files = counter_files(alloc)?;
     files.add("input", b"unread")?;
     let words = [
         "segtool", "run", "image", "saved", "client", "client", "--input", "input",
@@ -57,7 +48,7 @@ fn runs_clients_one_after_the_other(rt: HostRuntime) -> Result<(), Fail> {
 
 #[test]
 fn checks_an_image(rt: HostRuntime) -> Result<(), Fail> {
-    let mut files = files(rt.alloc())?;
+    let mut files = counter_files(rt.alloc())?;
     let printed = run(
         rt.alloc(),
         ["segtool", "check", "image"].as_slice(),
@@ -81,8 +72,7 @@ fn runs_alike_where_it_moves(rt: HostRuntime) -> Result<(), Fail> {
         base: 0,
         moves: moves.as_slice(),
     };
-    let file = client(alloc, INCREMENT)?;
-    let clients = [file.as_slice(), file.as_slice()];
+    let clients = [INCREMENT_FILE.as_slice(), INCREMENT_FILE.as_slice()];
     let mut out = Through::new(Vec::new(alloc));
     let image = counter(alloc)?;
     match run_bytes(

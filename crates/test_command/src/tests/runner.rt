@@ -1,20 +1,13 @@
 //! The program `segrun`, on files in memory.
 
-use crate::tests::clients::client;
+use crate::tests::clients::counter_files;
 use crate::tests::files::{Printed, Stored, is};
 use client_vm::Through;
 use seg_program::run_command;
 use std::alloc::Global;
 use std::process::Abort;
 use std::test::Fail;
-use support_data::{INCREMENT, counter, counter_with};
-
-fn files(alloc: Global) -> Result<Stored, Fail> {
-    let mut files = Stored::new(alloc);
-    files.add("image", counter(alloc)?.as_slice())?;
-    files.add("client", client(alloc, INCREMENT)?.as_slice())?;
-    Ok(files)
-}
+use support_data::counter_with;
 
 fn run(alloc: Global, words: &[&str], files: &mut Stored) -> Printed {
     let mut out = Through::new(Vec::new(alloc));
@@ -29,7 +22,7 @@ fn run(alloc: Global, words: &[&str], files: &mut Stored) -> Printed {
 
 #[test]
 fn runs_clients(rt: HostRuntime) -> Result<(), Fail> {
-    let mut files = files(rt.alloc())?;
+    let mut files = counter_files(rt.alloc())?;
     let words = ["segrun", "image", "saved", "client", "client"];
     let printed = run(rt.alloc(), words.as_slice(), &mut files);
     is(&rt, &printed, 0, "42\n43\n", "");
@@ -40,7 +33,7 @@ fn runs_clients(rt: HostRuntime) -> Result<(), Fail> {
 
 #[test]
 fn tells_faults_and_files(rt: HostRuntime) -> Result<(), Fail> {
-    let mut files = files(rt.alloc())?;
+    let mut files = counter_files(rt.alloc())?;
     let words = ["segrun", "image", "saved", "client", "--base", "8"];
     let printed = run(rt.alloc(), words.as_slice(), &mut files);
     is(&rt, &printed, 1, "", "fault 2\n");
@@ -53,7 +46,7 @@ fn tells_faults_and_files(rt: HostRuntime) -> Result<(), Fail> {
 
 #[test]
 fn tells_what_it_takes(rt: HostRuntime) -> Result<(), Fail> {
-    let mut files = files(rt.alloc())?;
+    let mut files = counter_files(rt.alloc())?;
     let printed = run(rt.alloc(), ["segrun", "--help"].as_slice(), &mut files);
     assert_eq!(rt; printed.status, 0);
     assert!(rt; !printed.out.is_empty() && printed.err.is_empty());

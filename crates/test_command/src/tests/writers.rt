@@ -1,23 +1,15 @@
-use crate::tests::clients::client;
-use crate::tests::files::{Stored, run, run_into};
-use std::alloc::Global;
+use crate::tests::clients::counter_files;
+use crate::tests::files::{run, run_into};
 use std::process::Abort;
 use std::test::Fail;
-use support_data::{INCREMENT, Limited, counter, counter_with, front};
-
-fn files(alloc: Global) -> Result<Stored, Fail> {
-    let mut files = Stored::new(alloc);
-    files.add("image", counter(alloc)?.as_slice())?;
-    files.add("client", client(alloc, INCREMENT)?.as_slice())?;
-    Ok(files)
-}
+use support_data::{Limited, counter_with, front};
 
 const RUN: [&str; 5] = ["segtool", "run", "image", "saved", "client"];
 
 /// An output that takes so many bytes: what came before was taken, and the image is saved, with what the client did up to
 /// there.
 fn stops_after(rt: &(impl Abort + AllocGlobal), limit: usize) -> Result<(), Fail> {
-    let mut files = files(rt.alloc())?;
+    let mut files = counter_files(rt.alloc())?;
     let out = Limited::new(rt.alloc(), usize::MAX, limit);
     let printed = run_into(rt.alloc(), RUN.as_slice(), &mut files, out);
     assert_eq!(rt; printed.status, 3);
@@ -40,7 +32,7 @@ fn stops_at_a_failed_output(rt: HostRuntime) -> Result<(), Fail> {
 #[test]
 fn writes_a_byte_at_a_time(rt: HostRuntime) -> Result<(), Fail> {
     let alloc = rt.alloc();
-    let mut files = files(alloc)?;
+    let mut files = counter_files(alloc)?;
     let out = Limited::new(alloc, 1, usize::MAX);
     let printed = run_into(alloc, RUN.as_slice(), &mut files, out);
     assert_eq!(rt; printed.status, 0);
@@ -54,7 +46,7 @@ fn tells_of_a_failed_read(
     read: usize,
     line: &str,
 ) -> Result<(), Fail> {
-    let mut files = files(rt.alloc())?;
+    let mut files = counter_files(rt.alloc())?;
     files.failing_read = read;
     let printed = run(rt.alloc(), RUN.as_slice(), &mut files);
     assert_eq!(rt; printed.status, 3);
@@ -72,7 +64,7 @@ fn tells_of_failed_reads(rt: HostRuntime) -> Result<(), Fail> {
 
 #[test]
 fn tells_of_a_failed_write(rt: HostRuntime) -> Result<(), Fail> {
-    let mut files = files(rt.alloc())?;
+    let mut files = counter_files(rt.alloc())?;
     files.failing_write = 1;
     let printed = run(rt.alloc(), RUN.as_slice(), &mut files);
     assert_eq!(rt; printed.status, 3);
