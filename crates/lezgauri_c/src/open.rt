@@ -61,6 +61,8 @@ pub extern "C" fn lezgauri_raw_run_on(
     ensures kept { (0 < result) × (result ≢ 101) → image.new ≡ image.old }
     ensures unwritten { (0 < result) × (result ≤ 100) →
         (output.new ≡ output.old) × (written.new ≡ 0) × (report.new ≡ report.old) }
+    ensures small { IsSound image.old → result ≢ 102 }
+    ensures status { result ≤ 102 }
 {
     match run_in_room(alloc, image, client, input, output.len()) {
         Ok(ran) => {
@@ -100,7 +102,7 @@ fn run_in_room(
     ensures within { IfOk result (λ ran. IsReportOf client.now ran.told) }
     ensures outcome { IfOk result (λ ran. IsSound image.now →
         IsRun image.now (client.now ∷ []) input.now (printed ran.sink) ran.image.items
-        (ran.told ∷ []) ran.told.ended) }
+        (ran.told ∷ []) ran.told.ended × (length (printed ran.sink) ≤ room)) }
     ensures refused { IfErr result (λ refused. IsSound image.now →
         IsWrong image.now (client.now ∷ []) refused) }
 {

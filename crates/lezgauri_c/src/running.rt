@@ -47,6 +47,8 @@ pub extern "C" fn lezgauri_raw_run(
     ensures no_fault { (ended : Ended) → result ≡ status_number ended → fault.new ≡ no_fault }
     ensures unwritten { (0 < result) × (result ≤ 100) → (output.new ≡ output.old) ×
         (written.new ≡ 0) × (saved.new ≡ saved.old) × (reports.new ≡ reports.old) }
+    ensures small { result ≡ 102 → length saved.old < length image.now }
+    ensures status { result ≤ 102 }
 {
     match run_in_room(alloc, image, clients, input, output.len()) {
         Ok((outcome, sink)) => {
@@ -78,6 +80,7 @@ fn run_in_room(
     ensures outcome { IfOk result (λ it. IsRun image.now
         (map (λ c. c.bytes.now) clients.now) input.now (printed it.1) it.0.image.items
         it.0.reports.items it.0.ended) }
+    ensures room { IfOk result (λ it. length (printed it.1) ≤ room) }
     ensures refused { IfErr result (IsRefusedFor image.now
         (map (λ c. c.bytes.now) clients.now) (length image.now) 0 []) }
 {

@@ -1,6 +1,5 @@
 pub mod Simulated
 pub mod Worked
-pub mod Placed
 pub mod Following
 pub mod Stopped
 pub mod Several

@@ -1,11 +1,13 @@
-use Rattle.std.proofs.Common.{[], ◌∷◌, List, ℕ, length, sym, ◌∙◌, subst}
+use Rattle.std.proofs.Common.{[], ◌∷◌, List, ℕ, Some, length, sym, ap, ◌∙◌, subst, arith}
 use Rattle.client_run.specs.declared.report.Ended.{Ended}
 use Rattle.client_vm.proofs.Refusing.{why}
 use Rattle.lezgauri_c.specs.Calls.{IsRun}
 use Rattle.lezgauri_c.proofs.Fronts.{front_is, front_fits}
 use Rattle.lezgauri_c.proofs.Numbers.{status_one}
 use Rattle.lezgauri_c.proofs.OneClient.{can_move}
+use Rattle.lezgauri_c.proofs.Sizes.{saved_size}
 use Rattle.lezgauri_c.proofs.open.lezgauri_raw_run_on.Goals as goal
+use Rattle.lezgauri_c.proofs.open.lezgauri_raw_run_on.Goals.{else-put-via-then-put+else-replace, else-put-via-else-put}
 
 pub returns-clause-refused : goal.returns-clause-refused
 returns-clause-refused c number sound = (
@@ -30,5 +32,17 @@ returns-then-replace-clause-outcome c ended is =
       written_there = front_fits bytes c.bytes.result.now c.bytes-in-Ok.result.now c.args.output.now c.put.new.to c.bytes.ensures c.bytes-in-Ok.ensures put;
       run = λ sound.
           subst (λ (p : List ℕ). its p c.replace.new.to ended) (sym (front_is bytes c.bytes.result.now c.bytes-in-Ok.result.now c.args.output.now c.put.new.to c.bytes.ensures c.bytes-in-Ok.ensures put))
-          (subst (λ (i : List ℕ). its bytes i ended) (sym saved) (subst (λ e. its bytes c.in-Ok.ran.image.items e) same (c.in-Ok.ensures.outcome sound)));
+          (subst (λ (i : List ℕ). its bytes i ended) (sym saved) (subst (λ e. its bytes c.in-Ok.ran.image.items e) same (c.in-Ok.ensures.outcome sound).0));
     }
+
+pub returns-in-Ok-clause-small : goal.returns-in-Ok-clause-small
+returns-in-Ok-clause-small c sound is =
+    let image = c.args.image.now in
+    let ran = c.in-Ok.ran in
+    let run = c.in-Ok.ensures.outcome sound in
+    let size = saved_size image (c.args.client.now ∷ []) c.args.input.now (length image) 0 [] ran.image.items (ran.told ∷ []) ran.told.ended (Some []) (Some ran.sink.bytes.items) run.0 in
+    let room = run.1 in
+    elim c.else-put.branch [
+      | else-put-via-then-put+else-replace w ↦ w.replace.ensures.other w.if-replace.false (sym size ∙ sym (ap length w.as_slice.ensures.value))
+      | else-put-via-else-put w ↦ (let full = c.put.ensures.full w.if-put.false in let bytes = ap length c.bytes-in-Ok.ensures in omega (arith, full, bytes, room))
+    ]

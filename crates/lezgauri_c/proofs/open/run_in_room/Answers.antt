@@ -1,4 +1,4 @@
-use Rattle.std.proofs.Common.{◌∷◌, [], List, ℕ, None, Some, length, sym, ap, subst}
+use Rattle.std.proofs.Common.{◌∷◌, [], List, ℕ, None, Some, length, sym, ap, subst, arith}
 use Rattle.std.proofs.lemmas.Result.{IfErr-at_err}
 use Rattle.seg_spec.specs.Sound.{IsSound}
 use Rattle.seg_check.specs.Faults.{IsImageOf}
@@ -11,6 +11,7 @@ use Rattle.client_vm.specs.Together.{HaveRunOn}
 use Rattle.client_vm.proofs.Refusing.{err_is, if_wrong}
 use Rattle.client_vm.proofs.TogetherLaws.{has_outcome}
 use Rattle.lezgauri_c.proofs.OneClient.{can_move, has_types, has_no_fault}
+use Rattle.lezgauri_c.proofs.Sizes.{same_room, told_bytes}
 use Rattle.lezgauri_c.proofs.open.run_in_room.Goals as goal
 
 pub returns-in_err-types-clause-refused : goal.returns-in_err-types-clause-refused
@@ -32,18 +33,25 @@ returns-in_err-client-clause-refused c =
 pub returns-clause-outcome : goal.returns-clause-outcome
 returns-clause-outcome c sound =
     let image = c.args.image.now in
+    let input = c.args.input.now in
     let text = c.args.client.now in
     let window = c.in_ok-window.window in
     let types = c.in_ok-types.types in
     let told = c.run_alone-image.result.0 in
     let saved = c.run_alone-image.result.1.items in
-    let after = c.run_alone-image.new.sink.bytes.items in
+    let before = c.in_ok-sink.sink in
+    let sink = c.run_alone-image.new.sink in
+    let after = sink.room ∷ sink.bytes.items in
     let is = has_types image window.bytes sound c.types_of.result c.in_ok-window.ensures.bytes c.types_of.ensures types c.in_ok-types.was in
     let here : IsImageOf window.bytes types = subst (λ (b : List ℕ). IsImageOf b types) (sym c.in_ok-window.ensures.bytes) is in
     let a = c.in_ok-client.ensures.accepted in
     let file = c.in_ok-client.ensures.text in
     let ran = c.run_alone-image.ensures.runs here a.0 (subst (λ (t : List ℕ). SpellsClient t a.0) (sym file) a.1) a.2 in
-    let its = λ (t before : List ℕ). HaveRunOn (t ∷ []) [] c.args.input.now window (Some before) saved (Some after) (told ∷ []) (ending_of told.ended) in
-    let from_none = subst (λ (before : List ℕ). its (bytes_of (client_of c.in_ok-client.client)) before) c.in_ok-sink.ensures.empty ran in
-    has_outcome (text ∷ []) [] c.args.input.now window (Some []) saved (Some after) (told ∷ []) told.ended (subst (λ (t : List ℕ). its t []) file from_none) image (length image) 0 c.in_ok-window.ensures.bytes
-    (ap length c.in_ok-window.ensures.region) c.in_ok-window.ensures.base (can_move image sound)
+    let its = λ (t taken : List ℕ). HaveRunOn (t ∷ []) [] input window (Some (before.room ∷ taken)) saved (Some after) (told ∷ []) (ending_of told.ended) in
+    let from_none = subst (λ (taken : List ℕ). its (bytes_of (client_of c.in_ok-client.client)) taken) c.in_ok-sink.ensures.empty ran in
+    let run = has_outcome (text ∷ []) [] input window (Some (before.room ∷ [])) saved (Some after) (told ∷ []) told.ended (subst (λ (t : List ℕ). its t []) file from_none) image (length image) 0 c.in_ok-window.ensures.bytes
+    (ap length c.in_ok-window.ensures.region) c.in_ok-window.ensures.base (can_move image sound) in
+    let same = same_room image (text ∷ []) input (length image) 0 [] saved (told ∷ []) told.ended before.room sink.room sink.bytes.items run in
+    let in_room = sink.in_room in
+    let room = c.in_ok-sink.ensures.room in
+    (told_bytes image (text ∷ []) input (length image) 0 [] saved (told ∷ []) told.ended before.room sink.room sink.bytes.items run, omega (arith, same, in_room, room))

@@ -1,4 +1,4 @@
-use Rattle.test_machine.proofs.Placed.{left_in_place}
+use Rattle.client_places.proofs.Placed.{left_in_place}
 use Rattle.test_machine.proofs.pictures.placed_at_last.Goals as goal
 
 pub returns : goal.returns

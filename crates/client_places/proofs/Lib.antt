@@ -1,0 +1,2 @@
+pub mod Placed
+pub mod Sizes
