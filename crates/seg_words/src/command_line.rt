@@ -245,7 +245,7 @@ const SEGRUN: &Line = &Line {
     name: "segrun",
     about: "Runs verified clients on an image of a managed segment, prints their output and saves the image",
     arguments: &RUN,
-    examples: "Examples:\n  segrun shop.image shop.image stock.client\n  segrun shop.image saved.image stock.client sell.client --input orders.txt",
+    examples: "Examples:\n  segrun shop.image shop.image stock.client\n  segrun shop.image saved.image stock.client sell.client --input orders.txt\n\nThe command run of segtool does the same, and tells a fault in words where --explain is added.",
 };
 
 /// The words that `segrun` understands.
