@@ -61,7 +61,8 @@ fn tries_a_map<F: Fit>(rt: &(impl Abort + AllocGlobal), kind: u8) -> Result<(), 
     keys_are(rt, &s, &[]);
     for key in [3, -5, 4, 3] {
         let value = put(&mut s.heap, s.root, key)?;
-        s.heap.store(value, s.heap.load(value).wrapping_add(key));
+        let number = s.heap.load(value).wrapping_add(key);
+        s.heap.store(value, number);
     }
     keys_are(rt, &s, &[-5, 3, 4]);
     let value = get(&s.heap, s.root, 3)?;
