@@ -57,7 +57,10 @@ fn trace_bytes<'a, O: Sink>(
 {
     let mut image = opened(alloc, image)?;
     let client = verified(&image, client)?;
-    trace_client(alloc, &mut image, &client, input, out).map_err(ended)
+    match trace_client(alloc, &mut image, &client, input, out) {
+        Ok(()) => Ok(()),
+        Err(untraced) => Err(ended(untraced)),
+    }
 }
 
 /// Why a trace ended before its run did.
