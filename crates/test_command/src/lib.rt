@@ -1,4 +1,4 @@
-//! Tests of the program's commands, on files in memory.
+//! Tests of the programs' commands, on files in memory, and of the traces and the words for refusals that they write.
 #![tactic(auto)]
 
 #[cfg(test)]

@@ -1,4 +1,5 @@
 mod clients;
+mod explain;
 mod explained;
 mod faults;
 mod files;
@@ -7,5 +8,6 @@ mod memory;
 mod rows;
 mod runner;
 mod segments;
+mod traces;
 mod views;
 mod writers;

@@ -1,4 +1,4 @@
-use crate::tests::sources::{clients_alone, image_alone};
+use crate::tests::explain::sources::{clients_alone, image_alone};
 use seg_check::check;
 use seg_explain::explain;
 use seg_ptr::{MAX_LEN, Window};

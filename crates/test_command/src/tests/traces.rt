@@ -1,3 +1,5 @@
+//! Traces, whose lines are worked out by hand from what instructions do.
+
 use client_code::{assemble, parse};
 use client_trace::{Untraced, trace};
 use client_verify::verify;

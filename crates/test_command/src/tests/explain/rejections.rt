@@ -1,4 +1,4 @@
-use crate::tests::sources::{clients_alone, run_of};
+use crate::tests::explain::sources::{clients_alone, run_of};
 use client_code::{assemble, parse};
 use client_verify::verify;
 use seg_explain::explain;

@@ -1,4 +1,4 @@
-use crate::tests::sources::clients_alone;
+use crate::tests::explain::sources::clients_alone;
 use client_code::parse;
 use seg_explain::explain;
 use std::alloc::Global;

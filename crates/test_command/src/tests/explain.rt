@@ -1,3 +1,5 @@
+//! The words for refusals.
+
 mod files;
 mod images;
 mod rejections;

@@ -1,5 +1,0 @@
-//! Tests of the words for refusals.
-#![tactic(auto)]
-
-#[cfg(test)]
-mod tests;
