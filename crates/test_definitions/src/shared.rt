@@ -43,7 +43,8 @@ pub fn releasing()
 /// released and the cells that are kept, and in the end the same is left. Each turn takes one name, of those that were gone or
 /// stood in an object that went: there are as many turns as names that go, and from wherever it is a release comes to its end.
 pub fn releasing_in_turns()
-    ensures counted { (next turns : ℕ) (gone kept pending : List Place) (frozen now : List Frozen) →
+    ensures counted { (next turns : ℕ) (gone kept pending : List Place)
+        (frozen now : List Frozen) →
         IsFalling frozen → IsCounted next frozen (gone ++ kept) →
         Releases gone frozen turns pending now →
         IsFalling now × IsCounted next now (pending ++ kept) }
