@@ -13,6 +13,7 @@ use Rattle.seg_spec.proofs.Frame.{each_left, each_right}
 use Rattle.seg_spec.proofs.Paths.{opened_as, middle}
 use Rattle.seg_spec.proofs.Leading.{each_at}
 use Rattle.seg_spec.proofs.CellSteps.{size_aligned}
+use Rattle.seg_spec.proofs.PlainRoots.{plain_of}
 use Rattle.seg_spec.proofs.RootPart.{items_nth}
 
 -- ---- positions, and places at them
@@ -83,10 +84,11 @@ module _ (bytes : List ℕ) (table : Table) (valid : IsTable table) where
       let inside : AreAligned (m.xs ++ (m.zs ++ m.ys)) = subst AreAligned m.blocks_are (each_right _ opened.blocks opens_as.owned all) in
       leads_aligned rest m.holds_it (each_at (λ (q : Place). Aligned q.at) opened.parts i part parts part_is) (each_left _ m.zs m.ys (each_right _ m.xs (m.zs ++ m.ys) inside))
 
-  -- a path from an item of a root
-  pub root_aligned : (root : Root) (blocks : List ℕ) → HoldsRoot bytes table root blocks → AreAligned blocks → (j : ℕ) → j < count root.values
+  -- a path from an item of a root whose block begins with its values
+  pub root_aligned : (root : Root) (blocks : List ℕ) → root.words ≡ [] → HoldsRoot bytes table root blocks → AreAligned blocks → (j : ℕ) → j < count root.values
       → {path : List Selector} {inner : Place} → Leads bytes table (item_of table root j) path inner → Aligned inner.at
-  root_aligned root blocks o b j within leads =
+  root_aligned root blocks no_words h b j within leads =
+      let o = plain_of bytes table root blocks no_words h in
       let all : AreAligned (block_of root.at ∷ o.inside) = subst AreAligned o.blocks_are b in
       let start : Aligned root.at = (let e = all.0 in let low = o.block.after_header in omega arith) in
       let part_is = items_nth table root.at root.type (count root.values) j within in

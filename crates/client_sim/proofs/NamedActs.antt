@@ -12,7 +12,7 @@ use Rattle.seg_spec.specs.Types.{Table}
 use Rattle.seg_spec.specs.Value.{Value, nth, count, copies, default_of}
 use Rattle.seg_spec.specs.Heap.{live}
 use Rattle.seg_spec.specs.Block.{KeepsBlock}
-use Rattle.seg_spec.specs.Index.{Root, IsName, root_named}
+use Rattle.seg_spec.specs.Index.{Root, plain_root, IsName, root_named}
 use Rattle.seg_spec.specs.Reads.{Place, Leads, here}
 use Rattle.seg_spec.specs.Sound.{Picture, IsHeld, HoldsRoot, times, positions}
 use Rattle.seg_spec.specs.Roots.{Listed, with_roots, item_of}
@@ -57,7 +57,7 @@ OfHeld allocator w P = (picture : Picture) (held : IsHeld w.image picture) → w
 
 -- a new object of n default values
 abbrev pub object_root : Table → List ℕ → ℕ → ℕ → ℕ → Root
-object_root table name T n at = record { name = name; at = at; type = T; values = copies n (default_of table T) }
+object_root table name T n at = plain_root name at T (copies n (default_of table T))
 
 module _ (allocator : ℕ) (old : List ℕ) (table : Table) (name : List ℕ) (T : ℕ) (picture : Picture) (index_blocks new : List ℕ) where
   -- the requests for a new object and its entry were granted, and it stands here

@@ -10,7 +10,7 @@ use Rattle.client_spec.specs.Pictures.{Pictures, object_of, root_at, root_of_reg
 use Rattle.client_spec.proofs.States.{same_name_is, same_name_refl}
 use Rattle.client_sim.proofs.FirstRoots.{Among, among_left, among_right, first_of, first_split, first_among, first_here, first_beside, is_named, is_of_type, named_first, typed_first, each_among}
 use Rattle.client_sim.proofs.Looks.{looks_of}
-use Rattle.client_sim.proofs.RootPuts.{root_of_pair, among_loose}
+use Rattle.client_sim.proofs.RootPuts.{root_of_pair, unlisted, among_unlisted}
 use Rattle.client_sim.proofs.Rooted.{KeepsRoots}
 
 -- ---- names in order differ
@@ -95,14 +95,14 @@ none_in_front test (r ∷ before) after e = choose (test r) (none_in_front test 
 pub origin_among : {others : List Root} {s : State} {bytes : List ℕ} (pictured : Pictures others s bytes) (o : Origin) (r : Root) (i : ℕ) → root_at pictured o ≡ Some (r, i) → Among (roots_of pictured.picture) r
 origin_among pictured (Origin.Name m k) r i h =
     let p = root_of_pair (root_named pictured.picture.names m) k r i h in
-    among_left pictured.picture.names (pictured.picture.uniques ++ pictured.picture.loose) r (first_among (is_named m) pictured.picture.names r (sym (named_first pictured.picture.names m) ∙ p.0))
+    among_left pictured.picture.names (pictured.picture.uniques ++ unlisted pictured.picture) r (first_among (is_named m) pictured.picture.names r (sym (named_first pictured.picture.names m) ∙ p.0))
 origin_among pictured (Origin.Unique U) r i h =
     let p = root_of_pair (root_of_type pictured.picture.uniques U) 0 r i h in
-    among_right pictured.picture.names (pictured.picture.uniques ++ pictured.picture.loose) r
-    (among_left pictured.picture.uniques pictured.picture.loose r (first_among (is_of_type U) pictured.picture.uniques r (sym (typed_first pictured.picture.uniques U) ∙ p.0)))
+    among_right pictured.picture.names (pictured.picture.uniques ++ unlisted pictured.picture) r
+    (among_left pictured.picture.uniques (unlisted pictured.picture) r (first_among (is_of_type U) pictured.picture.uniques r (sym (typed_first pictured.picture.uniques U) ∙ p.0)))
 origin_among {s = s} pictured (Origin.Owned k) r i h =
     let p = root_of_pair (root_of_register s.registers pictured.owned k) 0 r i h in
-    among_right pictured.picture.names (pictured.picture.uniques ++ pictured.picture.loose) r (among_right pictured.picture.uniques pictured.picture.loose r (among_loose (looks_of pictured) k r p.0))
+    among_right pictured.picture.names (pictured.picture.uniques ++ unlisted pictured.picture) r (among_right pictured.picture.uniques (unlisted pictured.picture) r (among_unlisted (looks_of pictured) k r p.0))
 
 abbrev named_place : ℕ → Option Root → Option (Root × ℕ)
 named_place k o = option_map {T = Root} {U = Root × ℕ} (λ root. (root, k)) o
@@ -241,7 +241,7 @@ module _ {others : List Root} {s : State} {old : List ℕ} (pictured : Pictures 
   names_left m false g = ap (λ b. if b then None else s.names m) g ∙ pictured.names m ∙ ap (option_map object_of) (sym (others_without m g))
 
   abbrev rest : List Root
-  rest = pictured.picture.uniques ++ pictured.picture.loose
+  rest = pictured.picture.uniques ++ unlisted pictured.picture
 
   module _ (held : IsHeld new (with_roots pictured.picture Listed.by_name (before ++ after))) (paths : AllByRecursion (KeepsPaths old new pictured.picture.table) (before ++ (after ++ rest))) where
     abbrev without_then : Pictures others state_without new
@@ -265,10 +265,10 @@ module _ {others : List Root} {s : State} {old : List ℕ} (pictured : Pictures 
     begins_without : (o : Origin) (r : Root) (i : ℕ) → root_at pictured o ≡ Some (r, i) → EndsAt o ⊎ ((root_at without_then o ≡ Some (r, i)) × KeepsPaths old new pictured.picture.table r)
     begins_without (Origin.Unique U) r i e =
         let p = root_of_pair (root_of_type pictured.picture.uniques U) 0 r i e in
-        inr (e, kept r (behind r (among_left pictured.picture.uniques pictured.picture.loose r (first_among (is_of_type U) pictured.picture.uniques r (sym (typed_first pictured.picture.uniques U) ∙ p.0)))))
+        inr (e, kept r (behind r (among_left pictured.picture.uniques (unlisted pictured.picture) r (first_among (is_of_type U) pictured.picture.uniques r (sym (typed_first pictured.picture.uniques U) ∙ p.0)))))
     begins_without (Origin.Owned k) r i e =
         let p = root_of_pair (root_of_register s.registers pictured.owned k) 0 r i e in
-        inr (e, kept r (behind r (among_right pictured.picture.uniques pictured.picture.loose r (among_loose (looks_of pictured) k r p.0))))
+        inr (e, kept r (behind r (among_right pictured.picture.uniques (unlisted pictured.picture) r (among_unlisted (looks_of pictured) k r p.0))))
     begins_without (Origin.Name m k) r i e = by_name (same_name m name) refl
       where
         by_name : (b : Bool) → same_name m name ≡ b → EndsAt (Origin.Name m k) ⊎ ((root_at without_then (Origin.Name m k) ≡ Some (r, i)) × KeepsPaths old new pictured.picture.table r)

@@ -7,13 +7,14 @@ use Rattle.seg_spec.specs.Types.{Table, size}
 use Rattle.seg_spec.specs.Value.{Value, nil, cons, count}
 use Rattle.seg_spec.specs.Heap.{live}
 use Rattle.seg_spec.specs.Block.{IsBlock, Kind, tag_of, block_of}
-use Rattle.seg_spec.specs.Index.{Root}
+use Rattle.seg_spec.specs.Index.{Root, plain_root}
 use Rattle.seg_spec.specs.Reads.{Place, Holds, HoldsEach, holds_none, holds_more, Leads, here}
 use Rattle.seg_spec.specs.Sound.{IsPlain, HoldsRoot, times, positions}
 use Rattle.seg_spec.specs.Roots.{roots_before, roots_after, item_of}
 use Rattle.seg_spec.specs.Calls.{IsLoose}
 use Rattle.seg_spec.specs.Owning.{Stands}
 use Rattle.seg_spec.proofs.LiveLaws.{times-append, times-more}
+use Rattle.seg_spec.proofs.PlainRoots.{HoldsPlain, plain_of, root_of_plain}
 use Rattle.seg_spec.proofs.RootLaws.{roots_are}
 use Rattle.client_spec.specs.Syntax.{Constant}
 use Rattle.client_spec.specs.Machine.{Origin, Path, Register, State, register}
@@ -36,15 +37,15 @@ no_bytes bytes at = refl
 
 -- the root of a loose object
 abbrev pub root_of : Place → Value → Root
-root_of object v = record { name = []; at = object.at; type = object.type; values = cons v nil }
+root_of object v = plain_root [] object.at object.type (cons v nil)
 
 module _ (bytes : List ℕ) (table : Table) where
   only_value : (place : Place) (v : Value) (xs : List ℕ) → HoldsEach bytes table (place ∷ []) (cons v nil) xs → Holds bytes table place v xs
   only_value place v xs (holds_more {blocks = mine} h holds_none) = rw (append-nil mine) h
 
-  pub loose_of_root : (root : Root) (v : Value) (its : List ℕ) → root.name ≡ [] → root.values ≡ cons v nil → HoldsRoot bytes table root its → ((h : ℕ) → times h its ≤ times h (positions (live bytes)))
+  loose_of_plain : (root : Root) (v : Value) (its : List ℕ) → root.name ≡ [] → root.values ≡ cons v nil → HoldsPlain bytes table root its → ((h : ℕ) → times h its ≤ times h (positions (live bytes)))
       → (inside : List ℕ) × (its ≡ block_of root.at ∷ inside) × IsLoose bytes table (record { at = root.at; type = root.type }) v inside
-  loose_of_root root v its no_name values h owned =
+  loose_of_plain root v its no_name values h owned =
       let sized : 1 * size table root.type + 0 ≡ size table root.type = omega arith in
       let block = rw (no_name, values, sized) at h.block in
       let each = rw values at h.values in (
@@ -53,16 +54,20 @@ module _ (bytes : List ℕ) (table : Table) where
         record { block = block; holds_it = only_value (record { at = root.at; type = root.type }) v h.inside each; owned = λ n. let l = owned n in rw h.blocks_are at l },
       )
 
+  pub loose_of_root : (root : Root) (v : Value) (its : List ℕ) → root.name ≡ [] → root.words ≡ [] → root.values ≡ cons v nil → HoldsRoot bytes table root its → ((h : ℕ) → times h its ≤ times h (positions (live bytes)))
+      → (inside : List ℕ) × (its ≡ block_of root.at ∷ inside) × IsLoose bytes table (record { at = root.at; type = root.type }) v inside
+  loose_of_root root v its no_name no_words values h owned = loose_of_plain root v its no_name values (plain_of bytes table root its no_words h) owned
+
   pub root_of_loose : (object : Place) (v : Value) (inside : List ℕ) → IsLoose bytes table object v inside → HoldsRoot bytes table (root_of object v) (block_of object.at ∷ inside)
   root_of_loose object v inside h =
       let sized : size table object.type ≡ 1 * size table object.type + 0 = omega arith in
-      record {
+      root_of_plain bytes table (root_of object v) (block_of object.at ∷ inside) refl (record {
         block = subst (λ n. IsBlock bytes object.at (tag_of Kind.object object.type) n) sized h.block;
         name_is = no_bytes bytes (object.at + 1 * size table object.type);
         inside = inside;
         values = subst (λ bs. HoldsEach bytes table (object ∷ []) (cons v nil) bs) (append-nil inside) (holds_more h.holds_it holds_none);
         blocks_are = refl;
-      }
+      })
 
 -- ---- what register c owns
 
@@ -85,6 +90,7 @@ module _ {others : List Root} {types : Table} {constants : List Constant} {first
     pub type_is : root.type ≡ U
     pub values_are : root.values ≡ cons value nil
     pub no_name : root.name ≡ []
+    pub no_words : root.words ≡ []
 
   pub owns_here : (U : ℕ) → known ks c ≡ RegisterType.Owner U → OwnsHere U
   owns_here U is =
@@ -107,6 +113,7 @@ module _ {others : List Root} {types : Table} {constants : List Constant} {first
         type_is = (let t : led.root.type ≡ U = cc in t);
         values_are = o.values_are;
         no_name = plain.no_name;
+        no_words = plain.no_words;
       }
 
   -- apart from what stands at a place of another root
@@ -126,7 +133,7 @@ module _ {others : List Root} {types : Table} {constants : List Constant} {first
       (roots_are picture f.root.which f.root.before (led.root ∷ []) f.root.after f.root.among) led.item f.within path.selectors place led.leads v f.blocks f.holds_it allocator stands o.root among in
       let live_there : (n : ℕ) → times n it.0 ≤ times n (positions (live w.image)) = λ n.
       (let m = it.2 n in let k = times-append n f.blocks it.0 in let j = times-more n stands.home (f.blocks ++ it.0) in omega (arith, m, k, j)) in
-      let l = loose_of_root w.image picture.table o.root o.value it.0 o.no_name o.values_are it.1 live_there in (
+      let l = loose_of_root w.image picture.table o.root o.value it.0 o.no_name o.no_words o.values_are it.1 live_there in (
         l.0,
         subst (HoldsRoot w.image picture.table o.root) l.1 it.1,
         l.2,

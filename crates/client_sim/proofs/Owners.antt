@@ -8,7 +8,7 @@ use Rattle.seg_spec.specs.Header.{KeepsFront}
 use Rattle.seg_spec.specs.Types.{Table, size}
 use Rattle.seg_spec.specs.Value.{Value, nil, cons, copies, default_of}
 use Rattle.seg_spec.specs.Heap.{live}
-use Rattle.seg_spec.specs.Index.{Root}
+use Rattle.seg_spec.specs.Index.{Root, plain_root}
 use Rattle.seg_spec.specs.Reads.{Place, Leads, here}
 use Rattle.seg_spec.specs.Sound.{Picture, roots_of, HoldsRoot}
 use Rattle.seg_spec.specs.Roots.{Listed, roots_in, with_roots, roots_before, roots_after, item_of, KeepsPaths}
@@ -54,7 +54,7 @@ without_owner w new b = record w { image = new; owns = slice_set w.owns b false 
 
 -- a new object without a name, of the default value
 abbrev pub new_object : Table → ℕ → ℕ → Root
-new_object table T at = record { name = []; at = at; type = T; values = copies 1 (default_of table T) }
+new_object table T at = plain_root [] at T (copies 1 (default_of table T))
 
 module _ {others : List Root} {types : Table} {constants : List Constant} (one : OneEach constants) {first : Option (List ℕ)} {allocator : ℕ} {ks : RegisterTypes} {s : State} {w : World}
     (h : Shows others types constants first allocator ks s w) where

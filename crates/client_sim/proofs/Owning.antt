@@ -8,13 +8,14 @@ use Rattle.seg_spec.specs.Value.{Value, nil, cons}
 use Rattle.seg_spec.specs.Index.{Root, root_named, root_of_type}
 use Rattle.seg_spec.specs.Sound.{roots_of, IsHeld}
 use Rattle.seg_spec.specs.Roots.{Listed, with_roots, roots_before, roots_after, KeepsPaths}
+use Rattle.seg_spec.proofs.RootLaws.{roots_with}
 use Rattle.client_spec.specs.Machine.{Origin, Register, State, register, set_register, owned_by}
 use Rattle.client_spec.specs.Pictures.{root_of_register, AreOwned, Pictures, root_at}
 use Rattle.client_sim.proofs.FirstRoots.{Among, each_among, among_left, among_right, first_among, is_named, is_of_type, named_first, typed_first}
 use Rattle.client_sim.proofs.OwnedRoots.{owned_split}
 use Rattle.client_sim.proofs.Giving.{first_none, later_none}
 use Rattle.client_sim.proofs.Looks.{looks_of}
-use Rattle.client_sim.proofs.RootPuts.{root_of_pair, among_loose}
+use Rattle.client_sim.proofs.RootPuts.{root_of_pair, unlisted, among_unlisted}
 use Rattle.client_sim.proofs.Rooted.{KeepsRoots}
 
 -- ---- where the object of a register stands among those of all
@@ -149,15 +150,15 @@ module _ {others : List Root} {s : State} {old : List ℕ} (pictured : Pictures 
   root_among (Origin.Name name i) root item e =
       let picture = pictured.picture in
       let p = root_of_pair (root_named picture.names name) i root item e in
-      among_left picture.names (picture.uniques ++ picture.loose) root (first_among (is_named name) picture.names root (sym (named_first picture.names name) ∙ p.0))
+      among_left picture.names (picture.uniques ++ unlisted picture) root (first_among (is_named name) picture.names root (sym (named_first picture.names name) ∙ p.0))
   root_among (Origin.Unique T) root item e =
       let picture = pictured.picture in
       let p = root_of_pair (root_of_type picture.uniques T) 0 root item e in
-      among_right picture.names (picture.uniques ++ picture.loose) root (among_left picture.uniques picture.loose root (first_among (is_of_type T) picture.uniques root (sym (typed_first picture.uniques T) ∙ p.0)))
+      among_right picture.names (picture.uniques ++ unlisted picture) root (among_left picture.uniques (unlisted picture) root (first_among (is_of_type T) picture.uniques root (sym (typed_first picture.uniques T) ∙ p.0)))
   root_among (Origin.Owned r) root item e =
       let picture = pictured.picture in
       let p = root_of_pair (root_of_register s.registers pictured.owned r) 0 root item e in
-      among_right picture.names (picture.uniques ++ picture.loose) root (among_right picture.uniques picture.loose root (among_loose (looks_of pictured) r root p.0))
+      among_right picture.names (picture.uniques ++ unlisted picture) root (among_right picture.uniques (unlisted picture) root (among_unlisted (looks_of pictured) r root p.0))
 
   -- the roots where paths begin are found again
   pub found_again : {s' : State} {new : List ℕ} (later : Pictures others s' new) (Ends : Origin → Type 0)
@@ -266,8 +267,7 @@ module _ {others : List Root} {s : State} {old : List ℕ} (pictured : Pictures 
               are_owned = m.seat.empty Register.Undefined refl;
               loose = append_assoc others m.before m.after;
             } in
-            let among : (picture.names ++ (picture.uniques ++ (others ++ m.before))) ++ m.after ≡ picture.names ++ (picture.uniques ++ ((others ++ m.before) ++ m.after)) =
-            append_assoc picture.names (picture.uniques ++ (others ++ m.before)) m.after ∙ ap (λ xs. picture.names ++ xs) (append_assoc picture.uniques (others ++ m.before) m.after) in
+            let among : roots_before picture Listed.loose (others ++ m.before) ++ roots_after picture Listed.loose m.after ≡ roots_of later.picture = sym (roots_with picture Listed.loose (others ++ m.before) [] m.after) in
             let there : (q : ℕ) (r : Root) → root_of_register s.registers pictured.owned q ≡ Some r
             → (Origin.Owned q ≡ Origin.Owned b) ⊎ (root_of_register (slice_set s.registers b Register.Undefined) (m.before ++ m.after) q ≡ Some r) = λ q r f. elim (cases_eq q b) [
               | inl same ↦ inl (ap Origin.Owned same)

@@ -10,7 +10,7 @@ use Rattle.seg_spec.specs.Heap.{live}
 use Rattle.seg_spec.specs.Block.{block_of, KeepsBlock}
 use Rattle.seg_spec.specs.Index.{Root}
 use Rattle.seg_spec.specs.Reads.{Place, Leads}
-use Rattle.seg_spec.specs.Sound.{Picture, roots_of, HoldsRoot, IsHeld, times, positions}
+use Rattle.seg_spec.specs.Sound.{payload_of, Picture, roots_of, HoldsRoot, IsHeld, times, positions}
 use Rattle.seg_spec.specs.Roots.{Listed, roots_in, roots_before, roots_after, item_of, KeepsPaths}
 use Rattle.seg_spec.proofs.SliceLaws.{IsSame-part}
 use Rattle.seg_spec.proofs.Frame.{word-same}
@@ -46,7 +46,7 @@ module _ (old new : List ℕ) (picture : Picture) (held : IsHeld old picture) (g
       → AllByRecursion (KeepsPaths old new picture.table) (roots_before picture which before ++ roots_after picture which after)
   other_paths which before root after among objects holds few =
       let a = root_comes_apart old picture held which before root after among in
-      let same : a.its ≡ objects = a.holds_it.blocks_are ∙ ap (λ bs. block_of root.at ∷ bs) (HoldsEach-one old picture.table a.holds_it.values holds.values).1 ∙ sym holds.blocks_are in
+      let same : a.its ≡ objects = a.holds_it.blocks_are ∙ ap (λ bs. block_of (payload_of root) ∷ bs) (HoldsEach-one old picture.table a.holds_it.values holds.values).1 ∙ sym holds.blocks_are in
       let stay : (h : ℕ) → 1 ≤ times h a.left + times h a.right → KeepsBlock old new h = λ h some.
       (let e = held.owners h ∙ times-append h held.index_blocks held.root_blocks in
       let f = ap (times h) a.blocks_are ∙ times-append h a.left (a.its ++ a.right) in

@@ -132,7 +132,7 @@ module _ (allocator : ℕ) (constants : List Constant) (role : Role) (a b c : �
             let holds : HoldsRoot new picture_table root l.found.blocks = subst (HoldsRoot new picture_table root) (sym t.2)
             (root_of_loose new picture_table (record { at = at; type = U }) v t.1 (subst (λ (ts : Table). IsLoose new ts (record { at = at; type = U }) v t.1) table t.3)) in
             let within : a < length s.registers = (let n = h.as_known.count in let m = h.sixteen in omega (arith, n, m, valid.a)) in
-            let plain : IsPlain root = record { no_name = refl; value = v; values_are = refl } in
+            let plain : IsPlain root = record { no_name = refl; no_words = refl; value = v; values_are = refl } in
             let moved = take_moves h.pictured l.in_image l.value l.found new Empty a U v root within free plain refl refl holds changes in
             let after_put = put_at s l.path Empty in
             let owner = Register.Owner v U in

@@ -1,5 +1,5 @@
 -- Unique objects come and go: the image pictures the state then, and paths that still begin somewhere lead where they led.
-use Rattle.std.proofs.Common.{◌≡◌, ℕ, suc, ◌≤◌, ◌⊎◌, inl, inr, Bool, true, false, List, [], ◌∷◌, ◌++◌, eqb, Option, Some, None, refl, sym, ◌∙◌, ap, subst, arith, append_assoc}
+use Rattle.std.proofs.Common.{◌≡◌, ℕ, suc, ◌≤◌, ◌⊎◌, inl, inr, Bool, true, false, List, [], ◌∷◌, ◌++◌, eqb, Option, Some, None, refl, sym, ◌∙◌, ap, subst, arith}
 use Rattle.std.specs.Prelude.{◌==◌, if◌then◌else◌, option_and_then}
 use Rattle.std.specs.List.{AllByRecursion}
 use Rattle.std.proofs.lemmas.Bool.{eqb-true}
@@ -8,6 +8,7 @@ use Rattle.seg_spec.specs.Value.{Value, nil, cons, nth}
 use Rattle.seg_spec.specs.Index.{Root, root_of_type, AreRising}
 use Rattle.seg_spec.specs.Sound.{roots_of, IsHeld}
 use Rattle.seg_spec.specs.Roots.{Listed, with_roots, roots_before, roots_after, KeepsPaths}
+use Rattle.seg_spec.proofs.RootLaws.{roots_with}
 use Rattle.seg_spec.proofs.UniqueLaws.{none_below, none_root}
 use Rattle.client_spec.specs.Machine.{Origin, State, with_unique}
 use Rattle.client_spec.specs.Pictures.{Pictures}
@@ -125,8 +126,7 @@ module _ {others : List Root} {s : State} {old : List ℕ} (pictured : Pictures 
         are_owned = pictured.are_owned;
         loose = pictured.loose;
       } in
-      let among : (picture.names ++ before) ++ (after ++ picture.loose) ≡ picture.names ++ ((before ++ after) ++ picture.loose) =
-      append_assoc picture.names before (after ++ picture.loose) ∙ ap (λ xs. picture.names ++ xs) (sym (append_assoc before after picture.loose)) in
+      let among : roots_before picture Listed.by_type before ++ roots_after picture Listed.by_type after ≡ roots_of later.picture = sym (roots_with picture Listed.by_type before [] after) in
       record {
         later = later;
         keeps = keeps_others pictured later (λ o. o ≡ Origin.Unique T) refl

@@ -7,7 +7,7 @@ use Rattle.seg_spec.specs.Block.{tag_of, AllowsType}
 use Rattle.seg_block.specs.Tags.{kind_of, word_of}
 use Rattle.seg_block.specs.declared.tag.Tag.{Tag}
 use Rattle.seg_check.specs.Tiles.{IsAllowed, AreLiveTags}
-use Rattle.seg_check.proofs.TagNumbers.{number_small, one_tag, type_small, kind_from, kind_of-from}
+use Rattle.seg_check.proofs.TagNumbers.{number_allowed, one_tag, type_small, kind_from, kind_of-from}
 
 -- the turn of a word, and the word of a turn: kind by kind, and type by type
 abbrev pub turn_of : ℕ → ℕ
@@ -24,7 +24,7 @@ AreLiveTagsTo table are_right turn =
 module _ (table : Table) (valid : IsTable table) where
   allowed_small : (word : ℕ) → IsAllowed table word → (word % 256 ≤ 6) × (word / 256 < 32)
   allowed_small word a =
-      let n = number_small a.kind in
+      let n = number_allowed table a.kind a.type a.allowed in
       let t = type_small table valid a.kind a.type a.allowed in
       let e = a.tag_is in
       (omega arith, omega arith)
@@ -70,7 +70,7 @@ module _ (table : Table) (valid : IsTable table) where
   no_tag word o every none a =
       let t : Tag = record { kind = kind_from a.kind; type_id = a.type } in
       let small = type_small table valid a.kind a.type a.allowed in
-      let is : word ≡ word_of t = a.tag_is ∙ ap (λ k. tag_of k a.type) (sym (kind_of-from a.kind)) in
+      let is : word ≡ word_of t = a.tag_is ∙ ap (λ k. tag_of k a.type) (sym (kind_of-from table a.kind a.type a.allowed)) in
       let some : o ≡ Some t = every t (omega arith) is in
       cc
 

@@ -7,8 +7,8 @@ use Rattle.seg_spec.specs.Value.{Values, count}
 use Rattle.seg_spec.specs.Block.{Kind, IsBlock, AllowsType, block_of, tag_of}
 use Rattle.seg_spec.specs.Owing.{entries_at}
 use Rattle.seg_spec.specs.Reads.{Place, items, spaced, HoldsEach, holds_none, holds_more, holds}
-use Rattle.seg_spec.specs.Index.{Root, IsName, IsEntry, AreEntries, AreAscending, Precedes}
-use Rattle.seg_spec.specs.Sound.{HoldsRoots, kind_by_name, times, SameBlocks}
+use Rattle.seg_spec.specs.Index.{Root, plain_root, IsName, IsEntry, AreEntries, AreAscending, Precedes}
+use Rattle.seg_spec.specs.Sound.{HoldsRoots, kind_with, times, SameBlocks}
 use Rattle.seg_spec.proofs.CellOwed.{items_entries}
 use Rattle.seg_spec.proofs.LiveLaws.{times-append, times-same}
 use Rattle.seg_spec.proofs.MoreTypes.{below_length}
@@ -27,31 +27,32 @@ use Rattle.seg_check.proofs.TagLaws.{places_tagged, allowed_as}
 use Rattle.seg_check.proofs.StepLaws.{cells_forth, cells_back, within_taken}
 use Rattle.seg_check.proofs.OpenLaws.{entries_low, known_places, claimed_waiting}
 use Rattle.seg_check.proofs.RootSteps.{joined, rooted}
+use Rattle.seg_spec.proofs.PlainRoots.{plain_of}
 
 -- ---- the kind of an object
 
-known_by : (table : Table) (name : List ℕ) (T : ℕ) → AllowsType table (kind_by_name name) T → T < length table
+known_by : (table : Table) (name : List ℕ) (T : ℕ) → AllowsType table (kind_with [] name) T → T < length table
 known_by table [] T a = a
 known_by table (b ∷ name) T a = a
 
-places_by_name : (table : Table) (name : List ℕ) (T start n : ℕ) → places_with table (Some (kind_by_name name)) T start n ≡ entries_at table start 0 T n
+places_by_name : (table : Table) (name : List ℕ) (T start n : ℕ) → places_with table (Some (kind_with [] name)) T start n ≡ entries_at table start 0 T n
 places_by_name table [] T start n = refl
 places_by_name table (b ∷ name) T start n = refl
 
-kind_named : (name : List ℕ) → 1 ≤ length name → kind_by_name name ≡ Kind.named
+kind_named : (name : List ℕ) → 1 ≤ length name → kind_with [] name ≡ Kind.named
 kind_named [] l = absurd (omega arith)
 kind_named (b ∷ name) l = refl
 
 -- ---- the values of a claimed object
 
 module _ (bytes : List ℕ) (table : Table) (old new : Known) (ready : IsReady bytes table old) (at p T n : ℕ) (name : List ℕ)
-    (c : ClaimsBlock bytes old new at (tag_of (kind_by_name name) T) (n * size table T + length name) (turns_where (has_cells (form_at table T)) p n) p) where
+    (c : ClaimsBlock bytes old new at (tag_of (kind_with [] name) T) (n * size table T + length name) (turns_where (has_cells (form_at table T)) p n) p) where
   pub claimed_some : 1 ≤ times (block_of p) old.unclaimed
   claimed_some = omega (arith, c.claims.claimed (block_of p), times-same (block_of p) new.unclaimed)
 
   -- its type is one of the table
   pub type_known : T < length table
-  type_known = known_by table name T (allowed_as bytes table ready.is_table (block_of p) (kind_by_name name) T (ready.blocks (block_of p) claimed_some).1 c.is_block.has_tag)
+  type_known = known_by table name T (allowed_as bytes table ready.is_table (block_of p) (kind_with [] name) T (ready.blocks (block_of p) claimed_some).1 c.is_block.has_tag)
 
   -- the block lies in the segment
   pub room_inside : p + (n * size table T + length name) ≤ length bytes
@@ -64,7 +65,7 @@ module _ (bytes : List ℕ) (table : Table) (old new : Known) (ready : IsReady b
       omega arith
 
   places : places_in bytes table (record { start = p; count = n }) ≡ entries_at table p 0 T n
-  places = places_tagged bytes table ready.is_table (record { start = p; count = n }) (kind_by_name name) T c.is_block.has_tag ∙ places_by_name table name T p n
+  places = places_tagged bytes table ready.is_table (record { start = p; count = n }) (kind_with [] name) T c.is_block.has_tag ∙ places_by_name table name T p n
 
   turns_of : (b : Bool) → AreTurns bytes table (turns_where b p n)
   turns_of false = tt
@@ -110,7 +111,7 @@ module _ (bytes : List ℕ) (table : Table) where
     pub same_name : root.name ≡ name
 
   pub root_of : (at p T n room : ℕ) (name : List ℕ) (root : Root) → StandsAt at p T n name → IsBlock bytes p (tag_of Kind.named T) room → IsEntry bytes at root
-      → IsBlock bytes root.at (tag_of (kind_by_name root.name) root.type) (count root.values * size table root.type + length root.name)
+      → IsBlock bytes root.at (tag_of (kind_with [] root.name) root.type) (count root.values * size table root.type + length root.name)
       → slice bytes (root.at + count root.values * size table root.type) (length root.name) ≡ root.name → IsRootOf root p T n name
   root_of at p T n room name root s block e rooted name_is =
       let both : Some root.at ≡ Some p = sym e.points ∙ s.points in
@@ -124,7 +125,7 @@ module _ (bytes : List ℕ) (table : Table) where
       record { at_is = at_is; type_is = type_is; count_is = count_is; same_name = name_same }
 
   module _ (old new : Known) (ready : IsReady bytes table old) (at p T n : ℕ) (name : List ℕ) (stands : StandsAt at p T n name) (is_name : IsName name)
-      (c : ClaimsBlock bytes old new at (tag_of (kind_by_name name) T) (n * size table T + length name) (turns_where (has_cells (form_at table T)) p n) p) where
+      (c : ClaimsBlock bytes old new at (tag_of (kind_with [] name) T) (n * size table T + length name) (turns_where (has_cells (form_at table T)) p n) p) where
     block_named : IsBlock bytes p (tag_of Kind.named T) (n * size table T + length name)
     block_named = subst (λ k. IsBlock bytes p (tag_of k T) (n * size table T + length name)) (kind_named name is_name.not_empty) c.is_block
 
@@ -136,7 +137,7 @@ module _ (bytes : List ℕ) (table : Table) where
             → ResolvesRoots bytes table new.unclaimed l (record { entries = es; last = name; type = t }) (waiting bytes table (turns_where (has_cells (form_at table T)) p n) ++ places)
         go [] e a h = absurd e
         go (root ∷ names) e a h =
-            let j = joined bytes table root (names ++ r.uniques) old.unclaimed new.unclaimed l r.root_blocks r.rest places h r.resolves r.owners in
+            let j = joined bytes table root e.0.no_words (names ++ r.uniques) old.unclaimed new.unclaimed l r.root_blocks r.rest places h r.resolves r.owners in
             let is = root_of at p T n (n * size table T + length name) name root stands block_named e.0 j.block j.name_is in
             record {
               names = names;
@@ -162,8 +163,9 @@ module _ (bytes : List ℕ) (table : Table) where
     entry_back l es last t places above r =
         let k = rooted bytes table name p T n (r.names ++ r.uniques) old.unclaimed new.unclaimed l r.root_blocks r.rest places c.is_block stands.name_is c.claims.claimed r.roots
         (values_back bytes table old new ready at p T n name c r.rest l places r.resolves) r.owners in
-        let root : Root = record { name = name; at = p; type = T; values = k.values } in
+        let root : Root = plain_root name p T k.values in
         let entry : IsEntry bytes at root = record {
+          no_words = refl;
           points = stands.points;
           counted = stands.counted ∙ sym k.count_is;
           measured = stands.measured;
@@ -205,7 +207,7 @@ module _ (bytes : List ℕ) (table : Table) where
     pub root : Root
     pub entry : IsEntry bytes at root
     pub above : Precedes last root.name
-    pub block : IsBlock bytes root.at (tag_of (kind_by_name root.name) root.type) (count root.values * size table root.type + length root.name)
+    pub block : IsBlock bytes root.at (tag_of (kind_with [] root.name) root.type) (count root.values * size table root.type + length root.name)
     pub name_is : slice bytes (root.at + count root.values * size table root.type) (length root.name) ≡ root.name
     pub known : root.type < length table
     pub can : CanClaim bytes old at (tag_of Kind.named root.type) (count root.values * size table root.type + length root.name)
@@ -238,7 +240,7 @@ module _ (bytes : List ℕ) (table : Table) where
       go [] e a h = absurd e
       go (root ∷ names) e a h =
           let s = HoldsRoots-split bytes table (root ∷ []) (names ++ r.uniques) r.root_blocks h in
-          let it = HoldsRoots-only bytes table root s.left s.lefts in
+          let it = plain_of bytes table root s.left e.0.no_words (HoldsRoots-only bytes table root s.left s.lefts) in
           let own = owned (block_of root.at) r.root_blocks s.left (block_of root.at ∷ []) s.right it.inside r.rest old.unclaimed (r.owners (block_of root.at)) s.blocks_are it.blocks_are in
           record {
             root = root;
@@ -303,7 +305,7 @@ module _ (bytes : List ℕ) (table : Table) where
       name_is = ap (slice bytes (c.start + n * size table c.type)) name_long ∙ sym name_slice;
     }
 
-    claims_again : IsName name → ClaimsBlock bytes old new at (tag_of (kind_by_name name) c.type) (n * size table c.type + length name) (turns_where (has_cells (form_at table c.type)) c.start n) c.start
+    claims_again : IsName name → ClaimsBlock bytes old new at (tag_of (kind_with [] name) c.type) (n * size table c.type + length name) (turns_where (has_cells (form_at table c.type)) c.start n) c.start
     claims_again is_name =
         subst (λ k. ClaimsBlock bytes old new at (tag_of k c.type) (n * size table c.type + length name) (turns_where (has_cells (form_at table c.type)) c.start n) c.start) (sym (kind_named name is_name.not_empty))
         (subst (λ m. ClaimsBlock bytes old new at (tag_of Kind.named c.type) (n * size table c.type + m) (turns_where (has_cells (form_at table c.type)) c.start n) c.start) (sym name_long) c.claims)

@@ -6,8 +6,8 @@ use Rattle.seg_spec.specs.Types.{Table, size}
 use Rattle.seg_spec.specs.Value.{Values, append, count}
 use Rattle.seg_spec.specs.Block.{IsBlock, block_of, tag_of}
 use Rattle.seg_spec.specs.Reads.{Place, items, spaced, HoldsEach}
-use Rattle.seg_spec.specs.Index.{Root}
-use Rattle.seg_spec.specs.Sound.{HoldsRoot, HoldsRoots, holds_more_roots, kind_by_name, times, SameBlocks}
+use Rattle.seg_spec.specs.Index.{Root, plain_root}
+use Rattle.seg_spec.specs.Sound.{HoldsRoot, HoldsRoots, holds_more_roots, kind_with, times, SameBlocks}
 use Rattle.seg_spec.proofs.Fits.{length-spaced}
 use Rattle.seg_spec.proofs.LiveLaws.{times-append}
 use Rattle.seg_spec.proofs.Paths.{count_is}
@@ -18,6 +18,7 @@ use Rattle.seg_check.specs.Turns.{waiting}
 use Rattle.seg_check.specs.Resolving.{Resolves, IsReady}
 use Rattle.seg_check.specs.Roots.{Ahead, ResolvesRoots, CanResolveRoots, AdvancesRoots}
 use Rattle.seg_check.proofs.StepLaws.{each_joined, resolves_swap, waiting-append, turns_both, within_trans, ready_within}
+use Rattle.seg_spec.proofs.PlainRoots.{plain_of, root_of_plain}
 
 -- ---- steps one after the other
 
@@ -110,16 +111,17 @@ module _ (bytes : List ℕ) (table : Table) where
     pub root_blocks : List ℕ
     pub rest : List ℕ
     pub held : HoldsRoots bytes table others root_blocks
-    pub block : IsBlock bytes root.at (tag_of (kind_by_name root.name) root.type) (count root.values * size table root.type + length root.name)
+    pub block : IsBlock bytes root.at (tag_of (kind_with [] root.name) root.type) (count root.values * size table root.type + length root.name)
     pub name_is : slice bytes (root.at + count root.values * size table root.type) (length root.name) ≡ root.name
     pub resolves : Resolves bytes table rest l (items table root.at root.type (count root.values) ++ places)
     pub owners : SameBlocks u (block_of root.at ∷ v) → SameBlocks v (root_blocks ++ rest)
 
-  pub joined : (root : Root) (others : List Root) (u v l root_blocks rest : List ℕ) (places : List Place) → HoldsRoots bytes table (root ∷ others) root_blocks → Resolves bytes table rest l places → SameBlocks u (root_blocks ++ rest)
+  pub joined : (root : Root) → root.words ≡ [] → (others : List Root) (u v l root_blocks rest : List ℕ) (places : List Place)
+      → HoldsRoots bytes table (root ∷ others) root_blocks → Resolves bytes table rest l places → SameBlocks u (root_blocks ++ rest)
       → Joined root others u v l places
-  joined root others u v l root_blocks rest places h r owners =
+  joined root no_words others u v l root_blocks rest places h r owners =
       let s = HoldsRoots-split bytes table (root ∷ []) others root_blocks h in
-      let it = HoldsRoots-only bytes table root s.left s.lefts in
+      let it = plain_of bytes table root s.left no_words (HoldsRoots-only bytes table root s.left s.lefts) in
       record {
         root_blocks = s.right;
         rest = it.inside ++ rest;
@@ -141,27 +143,27 @@ module _ (bytes : List ℕ) (table : Table) where
     pub count_is : count values ≡ n
     pub root_blocks : List ℕ
     pub rest : List ℕ
-    pub held : HoldsRoots bytes table (record { name = name; at = p; type = T; values = values } ∷ others) root_blocks
+    pub held : HoldsRoots bytes table (plain_root name p T values ∷ others) root_blocks
     pub resolves : Resolves bytes table rest l places
     pub owners : SameBlocks u (root_blocks ++ rest)
 
   items_count : (p T n : ℕ) → length (items table p T n) ≡ n
   items_count p T n = length-map (spaced p (size table T) n) (λ q. record { at = q; type = T }) ∙ length-spaced p (size table T) n
 
-  pub rooted : (name : List ℕ) (p T n : ℕ) (others : List Root) (u v l root_blocks rest : List ℕ) (places : List Place) → IsBlock bytes p (tag_of (kind_by_name name) T) (n * size table T + length name)
+  pub rooted : (name : List ℕ) (p T n : ℕ) (others : List Root) (u v l root_blocks rest : List ℕ) (places : List Place) → IsBlock bytes p (tag_of (kind_with [] name) T) (n * size table T + length name)
       → slice bytes (p + n * size table T) (length name) ≡ name → SameBlocks u (block_of p ∷ v) → HoldsRoots bytes table others root_blocks → Resolves bytes table rest l (items table p T n ++ places) → SameBlocks v (root_blocks ++ rest)
       → Rooted name p T n others u l places
   rooted name p T n others u v l root_blocks rest places block name_is taken held r owners =
       let s = each_split bytes table (items table p T n) places r.values r.blocks r.holds in
       let n_is : count s.lefts ≡ n = sym (count_is bytes table s.left) ∙ items_count p T n in
-      let root : Root = record { name = name; at = p; type = T; values = s.lefts } in
-      let it : HoldsRoot bytes table root (block_of p ∷ s.front) = record {
-        block = subst (λ k. IsBlock bytes p (tag_of (kind_by_name name) T) (k * size table T + length name)) (sym n_is) block;
+      let root : Root = plain_root name p T s.lefts in
+      let it : HoldsRoot bytes table root (block_of p ∷ s.front) = root_of_plain bytes table root (block_of p ∷ s.front) refl (record {
+        block = subst (λ k. IsBlock bytes p (tag_of (kind_with [] name) T) (k * size table T + length name)) (sym n_is) block;
         name_is = subst (λ k. slice bytes (p + k * size table T) (length name) ≡ name) (sym n_is) name_is;
         inside = s.front;
         values = subst (λ k. HoldsEach bytes table (items table p T k) s.lefts s.front) (sym n_is) s.left;
         blocks_are = refl;
-      } in
+      }) in
       record {
         values = s.lefts;
         count_is = n_is;

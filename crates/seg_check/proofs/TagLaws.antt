@@ -24,6 +24,7 @@ kind_again block.Kind.buffer T = let e : (3 + 256 * T) % 256 ≡ 3 = omega arith
 kind_again block.Kind.node T = let e : (4 + 256 * T) % 256 ≡ 4 = omega arith in ap kind_with e
 kind_again block.Kind.index_buffer T = let e : (5 + 256 * T) % 256 ≡ 5 = omega arith in ap kind_with e
 kind_again block.Kind.index_node T = let e : (6 + 256 * T) % 256 ≡ 6 = omega arith in ap kind_with e
+kind_again block.Kind.frozen T = let e : (7 + 256 * T) % 256 ≡ 7 = omega arith in ap kind_with e
 
 type_again : (k : block.Kind) (T : ℕ) → tag_of k T / 256 ≡ T
 type_again k T = let s = (number_small k).1 in omega arith
@@ -122,4 +123,4 @@ module _ (bytes : List ℕ) (table : Table) (valid : IsTable table) where
   has_tag b own every =
       let t : Tag = record { kind = kind_from own.kind; type_id = own.type } in
       let small = type_small table valid own.kind own.type own.allowed in
-      none_some t (every t (omega arith) (own.tag_is ∙ sym (ap (λ k. tag_of k own.type) (kind_of-from own.kind))))
+      none_some t (every t (omega arith) (own.tag_is ∙ sym (ap (λ k. tag_of k own.type) (kind_of-from table own.kind own.type own.allowed))))

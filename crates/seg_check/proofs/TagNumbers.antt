@@ -8,17 +8,19 @@ use Rattle.seg_block.specs.Tags.{kind_of}
 use Rattle.seg_block.specs.declared.tag.Kind.{Kind}
 use Rattle.seg_block.specs.declared.tag.Kind.TheVariants as kind
 
-pub number_small : (k : block.Kind) → (1 ≤ kind_number k) × (kind_number k ≤ 6)
+pub number_small : (k : block.Kind) → (1 ≤ kind_number k) × (kind_number k ≤ 7)
 number_small block.Kind.named = (omega arith, omega arith)
 number_small block.Kind.object = (omega arith, omega arith)
 number_small block.Kind.buffer = (omega arith, omega arith)
 number_small block.Kind.node = (omega arith, omega arith)
 number_small block.Kind.index_buffer = (omega arith, omega arith)
 number_small block.Kind.index_node = (omega arith, omega arith)
+number_small block.Kind.frozen = (omega arith, omega arith)
 
--- the kind of a number from 1 to 6
+-- the kind of a number from 1 to 7
 abbrev kind_with : ℕ → block.Kind
-kind_with (suc (suc (suc (suc (suc (suc n)))))) = block.Kind.index_node
+kind_with (suc (suc (suc (suc (suc (suc (suc n))))))) = block.Kind.frozen
+kind_with (suc (suc (suc (suc (suc (suc zero)))))) = block.Kind.index_node
 kind_with (suc (suc (suc (suc (suc zero))))) = block.Kind.index_buffer
 kind_with (suc (suc (suc (suc zero)))) = block.Kind.node
 kind_with (suc (suc (suc zero))) = block.Kind.buffer
@@ -32,6 +34,7 @@ kind_again block.Kind.buffer = refl
 kind_again block.Kind.node = refl
 kind_again block.Kind.index_buffer = refl
 kind_again block.Kind.index_node = refl
+kind_again block.Kind.frozen = refl
 
 pub one_tag : (j k : block.Kind) (S T : ℕ) → tag_of j S ≡ tag_of k T → (j ≡ k) × (S ≡ T)
 one_tag j k S T e =
@@ -42,7 +45,7 @@ one_tag j k S T e =
 
 -- ---- tags that a table allows
 
--- the library's kind
+-- the library's kind; it has none for frozen objects, which no table allows
 abbrev pub kind_from : block.Kind → Kind
 kind_from block.Kind.named = kind.Named
 kind_from block.Kind.object = kind.Object
@@ -50,14 +53,26 @@ kind_from block.Kind.buffer = kind.Buffer
 kind_from block.Kind.node = kind.Node
 kind_from block.Kind.index_buffer = kind.IndexBuffer
 kind_from block.Kind.index_node = kind.IndexNode
+kind_from block.Kind.frozen = kind.Named
 
-pub kind_of-from : (k : block.Kind) → kind_of (kind_from k) ≡ k
-kind_of-from block.Kind.named = refl
-kind_of-from block.Kind.object = refl
-kind_of-from block.Kind.buffer = refl
-kind_of-from block.Kind.node = refl
-kind_of-from block.Kind.index_buffer = refl
-kind_of-from block.Kind.index_node = refl
+module _ (table : Table) where
+  pub kind_of-from : (k : block.Kind) (T : ℕ) → AllowsType table k T → kind_of (kind_from k) ≡ k
+  kind_of-from block.Kind.named T a = refl
+  kind_of-from block.Kind.object T a = refl
+  kind_of-from block.Kind.buffer T a = refl
+  kind_of-from block.Kind.node T a = refl
+  kind_of-from block.Kind.index_buffer T a = refl
+  kind_of-from block.Kind.index_node T a = refl
+  kind_of-from block.Kind.frozen T a = absurd a
+
+  pub number_allowed : (k : block.Kind) (T : ℕ) → AllowsType table k T → kind_number k ≤ 6
+  number_allowed block.Kind.named T a = omega arith
+  number_allowed block.Kind.object T a = omega arith
+  number_allowed block.Kind.buffer T a = omega arith
+  number_allowed block.Kind.node T a = omega arith
+  number_allowed block.Kind.index_buffer T a = omega arith
+  number_allowed block.Kind.index_node T a = omega arith
+  number_allowed block.Kind.frozen T a = absurd a
 
 module _ (table : Table) (valid : IsTable table) where
   has_form : (T : ℕ) (o : Option Form) → form_at table T ≡ o → (o ≡ None → ⊥) → T < 32
@@ -78,3 +93,4 @@ module _ (table : Table) (valid : IsTable table) where
       no_nodes e = cc
   type_small block.Kind.index_buffer T a = omega (arith, a)
   type_small block.Kind.index_node T a = omega (arith, a)
+  type_small block.Kind.frozen T a = absurd a

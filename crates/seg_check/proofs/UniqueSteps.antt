@@ -9,8 +9,8 @@ use Rattle.seg_spec.specs.Types.{Table, form_at, size}
 use Rattle.seg_spec.specs.Value.{Value, Values, nil, cons, count}
 use Rattle.seg_spec.specs.Block.{Kind, IsBlock, block_of, tag_of}
 use Rattle.seg_spec.specs.Reads.{Place, items}
-use Rattle.seg_spec.specs.Index.{Root, AreEntries, position_of, AreRising, unique_word}
-use Rattle.seg_spec.specs.Sound.{IsPlain, HoldsRoots, holds_no_root, holds_more_roots, kind_by_name, times, SameBlocks}
+use Rattle.seg_spec.specs.Index.{Root, plain_root, AreEntries, position_of, AreRising, unique_word}
+use Rattle.seg_spec.specs.Sound.{IsPlain, HoldsRoots, holds_no_root, holds_more_roots, kind_with, times, SameBlocks}
 use Rattle.seg_spec.proofs.LiveLaws.{times-append, times-same}
 use Rattle.seg_spec.proofs.RootLaws.{HoldsRoots-split, HoldsRoots-only}
 use Rattle.seg_spec.proofs.UniqueLaws.{at_head, past_head, none_below}
@@ -29,6 +29,7 @@ use Rattle.seg_value.specs.Contents.{IsContent}
 use Rattle.seg_value.specs.declared.content.Content.{Content}
 use Rattle.seg_value.specs.declared.content.Shape.{Shape}
 use Rattle.seg_check.specs.Claiming.{has_turns}
+use Rattle.seg_spec.proofs.PlainRoots.{plain_of}
 
 -- the unique objects of the types from one on
 abbrev pub from_type : ℕ → Ahead
@@ -131,14 +132,14 @@ module _ (bytes : List ℕ) (table : Table) where
   -- ---- a type with one
 
   module _ (old new : Known) (ready : IsReady bytes table old) (T p : ℕ) (small : T < 32) (named : target bytes (unique_word T) ≡ Some p)
-      (c : ClaimsBlock bytes old new (unique_word T) (tag_of (kind_by_name []) T) (1 * size table T + 0) (turns_where (has_cells (form_at table T)) p 1) p) where
+      (c : ClaimsBlock bytes old new (unique_word T) (tag_of (kind_with [] []) T) (1 * size table T + 0) (turns_where (has_cells (form_at table T)) p 1) p) where
     unique_forth : (l : List ℕ) (places : List Place) → ResolvesRoots bytes table old.unclaimed l (from_type T) places
         → ResolvesRoots bytes table new.unclaimed l (from_type (suc T)) (waiting bytes table (turns_where (has_cells (form_at table T)) p 1) ++ places)
     unique_forth l places r =
         let f = first T p r.uniques r.rising (sym (r.words T (omega arith) small) ∙ named) in
         let both : r.names ++ r.uniques ≡ f.root ∷ f.others = ap (λ ns. ns ++ r.uniques) (no_names bytes r.names r.are_entries) ∙ f.roots_are in
-        let j = joined bytes table f.root f.others old.unclaimed new.unclaimed l r.root_blocks r.rest places (subst (λ rs. HoldsRoots bytes table rs r.root_blocks) both r.roots) r.resolves r.owners in
         let plain : AllByRecursion IsPlain (f.root ∷ f.others) = subst (AllByRecursion IsPlain) f.roots_are r.plain in
+        let j = joined bytes table f.root plain.0.no_words f.others old.unclaimed new.unclaimed l r.root_blocks r.rest places (subst (λ rs. HoldsRoots bytes table rs r.root_blocks) both r.roots) r.resolves r.owners in
         let rising : AreRising T (f.root ∷ f.others) = subst (AreRising T) f.roots_are r.rising in
         let one : count f.root.values ≡ 1 = ap count plain.0.values_are in
         record {
@@ -168,7 +169,7 @@ module _ (bytes : List ℕ) (table : Table) where
         let k = rooted bytes table [] p T 1 r.uniques old.unclaimed new.unclaimed l r.root_blocks r.rest places c.is_block (slice_none bytes (p + 1 * size table T)) c.claims.claimed
         (subst (λ ns. HoldsRoots bytes table (ns ++ r.uniques) r.root_blocks) none r.roots)
         (values_back bytes table old new ready (unique_word T) p T 1 [] c r.rest l places r.resolves) r.owners in
-        let root : Root = record { name = []; at = p; type = T; values = k.values } in
+        let root : Root = plain_root [] p T k.values in
         let value = one_value k.values k.count_is in
         record {
           names = [];
@@ -179,7 +180,7 @@ module _ (bytes : List ℕ) (table : Table) where
           ascending = tt;
           words = λ U low less. word_of root r.uniques refl refl r.words U (cases_eq T U) low less;
           rising = (omega arith, small, r.rising);
-          plain = (record { no_name = refl; value = value.0; values_are = value.1 }, r.plain);
+          plain = (record { no_name = refl; no_words = refl; value = value.0; values_are = value.1 }, r.plain);
           roots = k.held;
           resolves = k.resolves;
           owners = k.owners;
@@ -207,8 +208,8 @@ module _ (bytes : List ℕ) (table : Table) where
       let f = first T p r.uniques r.rising (sym (r.words T (omega arith) small) ∙ named) in
       let both : r.names ++ r.uniques ≡ f.root ∷ f.others = ap (λ ns. ns ++ r.uniques) (no_names bytes r.names r.are_entries) ∙ f.roots_are in
       let s = HoldsRoots-split bytes table (f.root ∷ []) f.others r.root_blocks (subst (λ rs. HoldsRoots bytes table rs r.root_blocks) both r.roots) in
-      let it = HoldsRoots-only bytes table f.root s.left s.lefts in
       let plain : AllByRecursion IsPlain (f.root ∷ f.others) = subst (AllByRecursion IsPlain) f.roots_are r.plain in
+      let it = plain_of bytes table f.root s.left plain.0.no_words (HoldsRoots-only bytes table f.root s.left s.lefts) in
       let one : count f.root.values ≡ 1 = ap count plain.0.values_are in
       let no_name = plain.0.no_name in
       let exact : count f.root.values * size table f.root.type + length f.root.name ≡ 1 * size table T =
@@ -218,7 +219,7 @@ module _ (bytes : List ℕ) (table : Table) where
         names = named;
         is_block = subst (λ q. IsBlock bytes q (tag_of Kind.object T) (1 * size table T)) f.at_is
             (subst (λ m. IsBlock bytes f.root.at (tag_of Kind.object T) m) exact
-            (subst (λ t. IsBlock bytes f.root.at t (count f.root.values * size table f.root.type + length f.root.name)) (λ i. tag_of (kind_by_name (no_name i)) (f.type_is i)) it.block));
+            (subst (λ t. IsBlock bytes f.root.at t (count f.root.values * size table f.root.type + length f.root.name)) (λ i. tag_of (kind_with [] (no_name i)) (f.type_is i)) it.block));
         unclaimed = subst (λ q. 1 ≤ times (block_of q) old.unclaimed) f.at_is
             (let i = r.owners (block_of f.root.at) in
             let j = times-append (block_of f.root.at) r.root_blocks r.rest in

@@ -22,6 +22,8 @@ use Rattle.seg_check.specs.Cells.{Owned}
 use Rattle.seg_check.specs.Roots.{uniques_ahead, ResolvesRoots, ResolvesIndex, AdvancesIndex, AdvancesUniques}
 use Rattle.seg_check.proofs.StepLaws.{resolves_swap, waiting-append, turns_both}
 use Rattle.seg_check.proofs.HeapLaws.{is_heap}
+use Rattle.seg_spec.specs.Frozen.{root_of_frozen}
+use Rattle.seg_check.proofs.NoFrozen.{no_frozen}
 
 -- ---- names after none
 
@@ -92,7 +94,8 @@ module _ (bytes : List ℕ) (table : Table) (known : Known) (front : HasFront by
       let h = s.held in
       let same : p.table ≡ table = HasTable-one bytes types_start p.table table h.laid_out.is_table front.is_table h.laid_out.types front.types in
       let names = h.laid_out.names in
-      let none : roots_of p ≡ p.names ++ p.uniques = ap (λ rs. p.names ++ (p.uniques ++ rs)) s.none_loose ∙ ap (λ rs. p.names ++ rs) (append-nil p.uniques) in
+      let none : roots_of p ≡ p.names ++ p.uniques =
+      ap (λ fs. p.names ++ (p.uniques ++ (p.loose ++ map root_of_frozen fs))) (no_frozen bytes p h) ∙ ap (λ rs. p.names ++ (p.uniques ++ (rs ++ []))) s.none_loose ∙ ap (λ rs. p.names ++ rs) (append-nil p.uniques) in
       record {
         index = names.index;
         opens = names.opens;
@@ -120,7 +123,7 @@ module _ (bytes : List ℕ) (table : Table) (known : Known) (front : HasFront by
       let values = roots.resolves in
       let none : values.blocks ≡ [] = no_blocks bytes table values.holds in
       record {
-        picture = record { table = table; names = roots.names; uniques = roots.uniques; loose = [] };
+        picture = record { table = table; names = roots.names; uniques = roots.uniques; loose = []; frozen = [] };
         table_is = refl;
         none_loose = refl;
         index_blocks = r.index.blocks;

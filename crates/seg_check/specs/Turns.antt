@@ -29,6 +29,7 @@ kind_with (suc (suc (suc zero))) = Some Kind.buffer
 kind_with (suc (suc (suc (suc zero)))) = Some Kind.node
 kind_with (suc (suc (suc (suc (suc zero))))) = Some Kind.index_buffer
 kind_with (suc (suc (suc (suc (suc (suc zero)))))) = Some Kind.index_node
+kind_with (suc (suc (suc (suc (suc (suc (suc zero))))))) = Some Kind.frozen
 kind_with _ = None
 
 -- the values of n entries in a block for a type of this form

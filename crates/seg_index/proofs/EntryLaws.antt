@@ -1,5 +1,5 @@
 -- Entries of the index as the code reads and writes them, against what the definitions say of them.
-use Rattle.std.proofs.Common.{◌≡◌, ◌≢◌, ℕ, ◌+◌, ◌-◌, ◌/◌, ◌%◌, ◌^◌, ◌<◌, ◌≤◌, inl, List, length, Some, refl, sym, ap, ◌∙◌, subst, arith}
+use Rattle.std.proofs.Common.{◌≡◌, ◌≢◌, ℕ, ◌+◌, ◌-◌, ◌/◌, ◌%◌, ◌^◌, ◌<◌, ◌≤◌, inl, List, length, Some, refl, sym, ap, ◌∙◌, subst, arith, []}
 use Rattle.seg_spec.specs.Bytes.{half, byte, slice, number, number_of, set_number, set_word, spelling, ChangesOnly}
 use Rattle.seg_spec.specs.Index.{Root, IsName, IsEntry}
 use Rattle.seg_spec.specs.Pointer.{set_pointer, distance}
@@ -54,6 +54,7 @@ entry_moved old new from to root s o =
     let part = λ (i w : ℕ) (inside : i + w ≤ 4). number-slice w old new (to + 4 + i) (from + 4 + i)
     (sym (slice-slice new (to + 4) 4 i w inside) ∙ ap (λ b. slice b i w) s.1 ∙ slice-slice old (from + 4) 4 i w inside) in
     record {
+      no_words = o.no_words;
       points = s.0 ∙ o.points;
       counted = ap (half new) (let e : to + 4 ≡ to + 4 + 0 = omega arith in e) ∙ part 0 2 (omega arith) ∙ ap (half old) (let e : from + 4 + 0 ≡ from + 4 = omega arith in e) ∙ o.counted;
       measured = ap (byte new) (let e : to + 6 ≡ to + 4 + 2 = omega arith in e) ∙ part 2 1 (omega arith) ∙ ap (byte old) (let e : from + 4 + 2 ≡ from + 6 = omega arith in e) ∙ o.measured;
@@ -73,7 +74,7 @@ write_entry-changes old at entry =
     (ChangesOnly-wider mid (write_entry old at entry) (at + 4) 4 at 8 (omega arith) (omega arith) (set_number-changes 4 mid (at + 4) (rest_of entry)))
 
 module _ (old : List ℕ) (at : ℕ) (root : Root) (within : IsWithin old at 8) (low : root.at < 2 ^ 32) (apart : root.at ≢ at + 1)
-    (is_name : IsName root.name) (some : 1 ≤ count root.values) (few : count root.values ≤ 65535) where
+    (is_name : IsName root.name) (no_words : root.words ≡ []) (some : 1 ≤ count root.values) (few : count root.values ≤ 65535) where
   abbrev mid : List ℕ
   mid = set_pointer old at (Some root.at)
 
@@ -91,6 +92,7 @@ module _ (old : List ℕ) (at : ℕ) (root : Root) (within : IsWithin old at 8) 
       let short = is_name.short in
       let small = within.small in
       record {
+        no_words = no_words;
         points =
             target-same mid (write_entry old at (entry_of root)) at (number-set_other 4 4 mid (at + 4) rest at (inl (omega arith)))
             ∙ target-set_same old at (Some root.at) (omega (arith, within.fits)) (omega (arith, within.fits))
@@ -119,6 +121,7 @@ type_small bytes table root valid ownable named = by o.kind o.allowed (sym named
     by Kind.node allowed e = absurd (omega arith)
     by Kind.index_buffer allowed e = absurd (omega arith)
     by Kind.index_node allowed e = absurd (omega arith)
+    by Kind.frozen allowed e = absurd allowed
 
 module _ (bytes : List ℕ) (table : Table) (root : Root) (small : root.type < 32) (named : IsNamed bytes table root) where
   pub type_is : type_at bytes root.at ≡ Some root.type

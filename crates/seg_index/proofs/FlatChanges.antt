@@ -114,7 +114,7 @@ module _ (allocator : ℕ) (old : List ℕ) (table : Table) (names : List Root) 
       written : IsEntry new at root
       written =
           let lies = object_lies allocator old table names blocks f flat root enters.named in
-          entry_written mid at root o.within lies.1 (λ e. omega (arith, o.aligned, lies.0)) enters.is_name enters.some enters.few
+          entry_written mid at root o.within lies.1 (λ e. omega (arith, o.aligned, lies.0)) enters.is_name enters.no_words enters.some enters.few
 
       -- the entries that were there
       was : (i : ℕ) (r : Root) → slice_get (s.before ++ s.after) i ≡ Some r → IsEntry old (start old index_cell + i * 8) r

@@ -10,7 +10,7 @@ use Rattle.seg_spec.specs.Types.{Table}
 use Rattle.seg_spec.specs.Heap.{Span, IsHeap, live}
 use Rattle.seg_spec.specs.Block.{KeepsBlock, IsOwnable}
 use Rattle.seg_spec.specs.Index.{Root}
-use Rattle.seg_spec.specs.Sound.{Picture, HoldsRoot, HoldsRoots, holds_no_root, HasHeader, IsLaidOut, IsHeld, times, positions}
+use Rattle.seg_spec.specs.Sound.{Picture, HoldsRoot, HoldsRoots, holds_no_root, HasHeader, IsLaidOut, IsHeld, times, positions, frozen_roots}
 use Rattle.seg_spec.specs.Roots.{RootsComeApart}
 use Rattle.seg_spec.proofs.SliceLaws.{IsSame-part}
 use Rattle.seg_spec.proofs.Composing.{kept_twice}
@@ -66,7 +66,7 @@ module _ (allocator : ℕ) (old mid new : List ℕ) (picture : Picture) (held : 
     (kept : (h : ℕ) → 1 ≤ times h (positions (live old)) → KeepsBlock old mid h) (holds : HoldsRoot mid picture.table root its) (counts : (h : ℕ) → times h (positions (live mid)) ≡ times h its + times h (positions (live old)))
     (f : FindsNamesOf allocator mid picture.table picture.names held.index_blocks) (e : EntersName allocator mid new picture.table picture.names held.index_blocks root) where
   abbrev rest : List Root
-  rest = picture.uniques ++ picture.loose
+  rest = picture.uniques ++ (picture.loose ++ frozen_roots picture)
 
   apart : RootsComeApart old picture held e.before [] (e.after ++ rest)
   apart = roots_come_apart old picture held e.before [] (e.after ++ rest) (ap (λ ns. ns ++ rest) e.names_are ∙ append_assoc e.before e.after rest)
@@ -116,7 +116,7 @@ module _ (allocator : ℕ) (old mid new : List ℕ) (picture : Picture) (held : 
 -- ---- an object goes
 
 module _ (old mid new : List ℕ) (picture : Picture) (held : IsHeld old picture) (root : Root) (e : LeavesName old mid picture.table picture.names held.index_blocks root)
-    (apart : RootsComeApart old picture held e.before (root ∷ []) (e.after ++ (picture.uniques ++ picture.loose))) (length_kept : length new ≡ length mid) (front : KeepsFront mid new) (back : KeepsBack mid new)
+    (apart : RootsComeApart old picture held e.before (root ∷ []) (e.after ++ (picture.uniques ++ (picture.loose ++ frozen_roots picture)))) (length_kept : length new ≡ length mid) (front : KeepsFront mid new) (back : KeepsBack mid new)
     (heap : IsHeap (word mid allocator_word) new) (ownable : AllByRecursion (λ b. IsOwnable new picture.table b.at) (live new))
     (kept : (h : ℕ) → 1 ≤ times h (positions (live mid)) → times h apart.its ≡ 0 → KeepsBlock mid new h) (counts : (h : ℕ) → times h (positions (live new)) + times h apart.its ≡ times h (positions (live mid))) where
   were_owned : (h : ℕ) → times h (positions (live old)) ≡ times h held.index_blocks + (times h (apart.left ++ apart.right) + times h apart.its)
@@ -153,7 +153,7 @@ module _ (old mid new : List ℕ) (picture : Picture) (held : IsHeld old picture
 
   -- the image holds the other objects
   pub held_left : IsHeld new (with_names picture (e.before ++ e.after))
-  held_left = apart.becomes new (with_names picture (e.before ++ e.after)) [] e.others [] refl (append_assoc e.before e.after (picture.uniques ++ picture.loose)) laid_out_less left_kept holds_no_root (λ h.
+  held_left = apart.becomes new (with_names picture (e.before ++ e.after)) [] e.others [] refl (append_assoc e.before e.after (picture.uniques ++ (picture.loose ++ frozen_roots picture))) laid_out_less left_kept holds_no_root (λ h.
       let o = were_owned h in
       let c = counts h in
       let l = e.changes.live_are h in

@@ -8,11 +8,12 @@ use Rattle.seg_spec.specs.Value.{count}
 use Rattle.seg_spec.specs.Heap.{Span, live}
 use Rattle.seg_spec.specs.Block.{Kind, tag_of, block_of, IsBlock}
 use Rattle.seg_spec.specs.Index.{Root, IsName, AreEntries}
-use Rattle.seg_spec.specs.Sound.{Picture, kind_by_name, HoldsRoots, holds_more_roots, IsHeld, times, positions}
+use Rattle.seg_spec.specs.Sound.{Picture, frozen_roots, kind_with, HoldsRoots, holds_more_roots, IsHeld, times, positions}
 use Rattle.seg_spec.proofs.SliceLaws.{IsSame-part}
 use Rattle.seg_spec.proofs.Frame.{word-same, IsBlock-kept, payload-same, each_weaker, each_left, each_right}
 use Rattle.seg_spec.proofs.LiveLaws.{live-once, times-append, times-same}
 use Rattle.seg_index.specs.Lists.{IsNamed, FindsNamesOf, MayEnter, ChangesNames, EntersName, LeavesName}
+use Rattle.seg_spec.proofs.PlainRoots.{plain_of}
 
 -- ---- lists
 
@@ -25,29 +26,30 @@ each_beside P xs y ys a = each_append P xs ys (each_left P xs (y ∷ ys) a) (eac
 
 -- ---- in an image
 
-entry_names : (bytes entries : List ℕ) (names : List Root) → AreEntries bytes entries names → AllByRecursion (λ r. IsName r.name) names
+entry_names : (bytes entries : List ℕ) (names : List Root) → AreEntries bytes entries names → AllByRecursion (λ r. IsName r.name × (r.words ≡ [])) names
 entry_names bytes [] [] h = tt
 entry_names bytes [] (r ∷ names) h = absurd h
 entry_names bytes (e ∷ entries) [] h = absurd h
-entry_names bytes (e ∷ entries) (r ∷ names) h = (h.0.is_name, entry_names bytes entries names h.1)
+entry_names bytes (e ∷ entries) (r ∷ names) h = ((h.0.is_name, h.0.no_words), entry_names bytes entries names h.1)
 
 -- the kind of an object with a name
-named_kind : (name : List ℕ) → 1 ≤ length name → kind_by_name name ≡ Kind.named
+named_kind : (name : List ℕ) → 1 ≤ length name → kind_with [] name ≡ Kind.named
 named_kind [] h = absurd (omega arith)
 named_kind (b ∷ name) h = refl
 
 module _ (bytes : List ℕ) (table : Table) (index_blocks : List ℕ) where
-  each_named : (names rest : List Root) (blocks : List ℕ) → HoldsRoots bytes table (names ++ rest) blocks → AllByRecursion (λ r. IsName r.name) names
+  each_named : (names rest : List Root) (blocks : List ℕ) → HoldsRoots bytes table (names ++ rest) blocks → AllByRecursion (λ r. IsName r.name × (r.words ≡ [])) names
       → ((h : ℕ) → 1 ≤ times h blocks → (1 ≤ times h (positions (live bytes))) × (times h index_blocks ≡ 0))
       → AllByRecursion (λ r. IsNamed bytes table r × (times (block_of r.at) index_blocks ≡ 0)) names
   each_named [] rest blocks h are own = tt
   each_named (r ∷ names) rest _ (holds_more_roots {blocks = mine} {rest = others} h hs) are own =
-      let its : 1 ≤ times (block_of r.at) mine = subst (λ bs. 1 ≤ times (block_of r.at) bs) (sym h.blocks_are) (omega (arith, times-same (block_of r.at) h.inside)) in
+      let p = plain_of bytes table r mine are.0.1 h in
+      let its : 1 ≤ times (block_of r.at) mine = subst (λ bs. 1 ≤ times (block_of r.at) bs) (sym p.blocks_are) (omega (arith, times-same (block_of r.at) p.inside)) in
       let here = own (block_of r.at) (omega (arith, times-append (block_of r.at) mine others)) in (
         (
           record {
-            block = subst (λ kind. IsBlock bytes r.at (tag_of kind r.type) (count r.values * size table r.type + length r.name)) (named_kind r.name are.0.not_empty) h.block;
-            name_is = h.name_is;
+            block = subst (λ kind. IsBlock bytes r.at (tag_of kind r.type) (count r.values * size table r.type + length r.name)) (named_kind r.name are.0.0.not_empty) p.block;
+            name_is = p.name_is;
             is_live = here.0;
           },
           here.1,
@@ -67,7 +69,7 @@ finds_held bytes picture held =
       ownable = l.blocks;
       lists = l.names;
       owned = λ h. omega (arith, both h);
-      named = each_named bytes picture.table held.index_blocks picture.names (picture.uniques ++ picture.loose) held.root_blocks held.roots (entry_names bytes l.names.index.entries picture.names l.names.entries)
+      named = each_named bytes picture.table held.index_blocks picture.names (picture.uniques ++ (picture.loose ++ frozen_roots picture)) held.root_blocks held.roots (entry_names bytes l.names.index.entries picture.names l.names.entries)
           (λ h some. (omega (arith, both h), omega (arith, both h, live-once bytes (word bytes allocator_word) l.heap h)));
     }
 

@@ -266,7 +266,7 @@ module _ (allocator : ℕ) (old mid wrote : List ℕ) (table : Table) (names : L
       let within : IsWithin mid (node + 16) 8 = record { fits = omega arith; small = small } in
       let low : root.at < 2 ^ 32 = omega arith in
       let apart : root.at ≢ node + 16 + 1 = (λ e. let odd : root.at % 16 ≡ 1 = omega arith in let none : root.at % 16 ≡ 0 = omega arith in omega arith) in
-      subst (λ bs. IsEntry bs (node + 16) root) (sym wrote_is) (entry_written mid (node + 16) root within low apart may.is_name may.some may.few)
+      subst (λ bs. IsEntry bs (node + 16) root) (sym wrote_is) (entry_written mid (node + 16) root within low apart may.is_name may.no_words may.some may.few)
 
   its_listed : IsListed wrote table node root
   its_listed =

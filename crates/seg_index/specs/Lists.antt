@@ -160,6 +160,7 @@ IsRootOf object n len root =
 -- a named object in a block of its own, which the index may come to list
 pub record MayEnter (bytes : List ℕ) (table : Table) (blocks : List ℕ) (root : Root) : Type 0 where
   pub is_name : IsName root.name
+  pub no_words : root.words ≡ []
   pub some : 1 ≤ count root.values
   pub few : count root.values ≤ 65535
   pub named : IsNamed bytes table root

@@ -11,7 +11,7 @@ use Rattle.seg_spec.specs.Block.{KeepsBlock, IsOwnable, IsInside, block_of, payl
 use Rattle.seg_spec.specs.Reads.{Place, Holds, HoldsEach, holds_none, holds_more, items, spaced}
 use Rattle.seg_spec.specs.Index.{Root}
 use Rattle.seg_spec.specs.Apart.{Separate, KeepsBlockAround}
-use Rattle.seg_spec.specs.Sound.{times, positions}
+use Rattle.seg_spec.specs.Sound.{times, positions, words_size, payload_of}
 use Rattle.seg_spec.specs.Roots.{ChangesPlace}
 use Rattle.seg_spec.specs.Owning.{Stands}
 use Rattle.seg_spec.specs.Demand.{after_gives}
@@ -272,9 +272,18 @@ module _ (allocator : ℕ) (old now new : List ℕ) (table : Table) (at T n k : 
 -- ---- an object that no index lists
 
 module _ (allocator : ℕ) (old : List ℕ) (table : Table) (root : Root) (blocks : List ℕ) (u : IsUnlisted allocator old table root blocks) where
+  begins : payload_of root ≡ root.at
+  begins = let none : length root.words ≡ 0 = ap length u.no_words in omega arith
+
+  owned_are : blocks ≡ block_of root.at ∷ u.holds_it.inside
+  owned_are = u.holds_it.blocks_are ∙ ap (λ p. block_of p ∷ u.holds_it.inside) begins
+
+  has_room : words_size root + (count root.values * size table root.type + length root.name) ≤ payload_size old (block_of root.at)
+  has_room = subst (λ p. words_size root + (count root.values * size table root.type + length root.name) ≤ payload_size old (block_of p)) begins u.holds_it.block.room
+
   pub root_first : Cleared allocator old old table root.at root.type (count root.values) u.holds_it.inside 0
-  root_first = cleared_first allocator old table root.at root.type (count root.values) u.holds_it.inside root.values u.heap u.allocator_is u.ownable u.holds_it.block.after_header (omega (arith, u.holds_it.block.room)) u.holds_it.values
-      (λ h. let l = u.owned h in rw u.holds_it.blocks_are at l)
+  root_first = cleared_first allocator old table root.at root.type (count root.values) u.holds_it.inside root.values u.heap u.allocator_is u.ownable (omega (arith, u.holds_it.block.after_header)) (omega (arith, has_room)) u.holds_it.values
+      (λ h. let l = u.owned h in rw owned_are at l)
 
   module _ (now next : List ℕ) (found : Found) (found_is : found ≡ found_of root) (k : ℕ) (c : Cleared allocator old now table root.at root.type (count root.values) u.holds_it.inside k) where
     at_is : found.at ≡ root.at
@@ -306,5 +315,5 @@ module _ (allocator : ℕ) (old : List ℕ) (table : Table) (root : Root) (block
         let past' : count root.values ≤ k = subst (λ n. n ≤ k) count_is past in
         let l = is_live allocator old now next table root.at root.type (count root.values) k u.holds_it.inside c past' in
         let free' = subst (λ p. IsHeap allocator now → IsLive now (block_of p) → Gives allocator now next (block_of p)) at_is free in
-        subst (λ bs. GivesBack allocator old next table bs) (sym u.holds_it.blocks_are)
+        subst (λ bs. GivesBack allocator old next table bs) (sym owned_are)
         (given_back allocator old now next table root.at root.type (count root.values) k u.holds_it.inside c past' (free' c.heap l))

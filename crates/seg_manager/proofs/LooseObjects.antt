@@ -9,7 +9,7 @@ use Rattle.seg_spec.specs.Value.{Value, nil, cons, default_of}
 use Rattle.seg_spec.specs.Heap.{live, IsHeap}
 use Rattle.seg_spec.specs.Block.{Kind, tag_of, IsOwnable, IsBlock, block_of}
 use Rattle.seg_spec.specs.Reads.{Place, Holds, HoldsEach, holds_none, holds_more, items}
-use Rattle.seg_spec.specs.Index.{Root}
+use Rattle.seg_spec.specs.Index.{Root, plain_root}
 use Rattle.seg_spec.specs.Sound.{Picture, IsPlain, HoldsRoot, HoldsRoots, IsHeld, times, positions}
 use Rattle.seg_spec.specs.Roots.{loose, with_roots}
 use Rattle.seg_spec.specs.Demand.{need}
@@ -25,6 +25,7 @@ use Rattle.seg_value.specs.Stored.{Stored}
 use Rattle.seg_manager.specs.Segments.{IsSegment, Becomes, new_root, MakesLoose, LosesLoose}
 use Rattle.seg_spec.proofs.LooseRoots.{Trades, its, holds_its, its_live, loose_traded}
 use Rattle.seg_spec.proofs.OneRequest.{spent_one, counts_one}
+use Rattle.seg_spec.proofs.PlainRoots.{HoldsPlain, plain_of, root_of_plain}
 
 pub allocator_same : (old new : List ℕ) → KeepsFront old new → word new allocator_word ≡ word old allocator_word
 allocator_same old new front = word-same old new allocator_word (IsSame-part old new 0 free_word allocator_word 4 (omega arith) (omega arith) front)
@@ -36,16 +37,16 @@ unfolding slice
 no_bytes bytes at = refl
 
 one_root : (bytes : List ℕ) (table : Table) (T at : ℕ) (v : Value) (inside : List ℕ) → IsBlock bytes at (tag_of Kind.object T) (size table T) → Holds bytes table (record { at = at; type = T }) v inside
-    → HoldsRoot bytes table (record { name = []; at = at; type = T; values = cons v nil }) (block_of at ∷ inside)
+    → HoldsRoot bytes table (plain_root [] at T (cons v nil)) (block_of at ∷ inside)
 one_root bytes table T at v inside block held =
     let sized : 1 * size table T + 0 ≡ size table T = omega arith in
-    record {
+    root_of_plain bytes table (plain_root [] at T (cons v nil)) (block_of at ∷ inside) refl (record {
       block = rw sized block;
       name_is = no_bytes bytes (at + 1 * size table T);
       inside = inside;
       values = subst (λ bs. HoldsEach bytes table (items table at T 1) (cons v nil) bs) (append-nil inside) (holds_more held holds_none);
       blocks_are = refl;
-    }
+    })
 
 -- ---- it comes
 
@@ -114,7 +115,7 @@ module _ (allocator : ℕ) (old new : Stored) (picture : Picture) (is : IsSegmen
     joined = record {
       segment = record {
         held = loose_traded a b picture is.held before [] after split (new_root old.types [] T 1 at ∷ []) (block_of at ∷ []) trades (HoldsRoots-one b picture.table root)
-            (record { no_name = refl; value = default_of old.types T; values_are = refl }, tt);
+            (record { no_name = refl; no_words = refl; value = default_of old.types T; values_are = refl }, tt);
         table_is = same ∙ table_is;
         allocator_is = allocator_same a b given.front_kept ∙ is.allocator_is;
       };
@@ -166,7 +167,7 @@ module _ (allocator : ℕ) (old new : Stored) (picture : Picture) (is : IsSegmen
   only_value : (table : Table) (place : Place) (v : Value) (xs : List ℕ) → HoldsEach a' table (place ∷ []) (cons v nil) xs → Holds a' table place v xs
   only_value table place v xs (holds_more {blocks = mine} h holds_none) = rw (append-nil mine) h
 
-  one_value_in : (r : Root) (v : Value) → r.name ≡ [] → r.values ≡ cons v nil → (h : HoldsRoot a' picture.table r blocks) → IsBlock a' r.at (tag_of Kind.object r.type) (size picture.table r.type)
+  one_value_in : (r : Root) (v : Value) → r.name ≡ [] → r.values ≡ cons v nil → (h : HoldsPlain a' picture.table r blocks) → IsBlock a' r.at (tag_of Kind.object r.type) (size picture.table r.type)
       × Holds a' picture.table (record { at = r.at; type = r.type }) v h.inside
   one_value_in r v no_name values h =
       let sized : 1 * size picture.table r.type + 0 ≡ size picture.table r.type = omega arith in
@@ -175,8 +176,10 @@ module _ (allocator : ℕ) (old new : Stored) (picture : Picture) (is : IsSegmen
       (block, only_value picture.table (record { at = r.at; type = r.type }) v h.inside each)
 
   one : OneValue
-  one = let i = one_value_in root plain.value plain.no_name plain.values_are holds_it in
-      record { inside = holds_it.inside; blocks_are = holds_it.blocks_are; block = i.0; holds_value = i.1 }
+  one =
+      let p = plain_of a' picture.table root blocks plain.no_words holds_it in
+      let i = one_value_in root plain.value plain.no_name plain.values_are p in
+      record { inside = p.inside; blocks_are = p.blocks_are; block = i.0; holds_value = i.1 }
 
   loose_value : IsLoose a' old.types (record { at = root.at; type = root.type }) plain.value one.inside
   loose_value = subst (λ t. IsLoose a' t (record { at = root.at; type = root.type }) plain.value one.inside) (sym is.table_is) (record {

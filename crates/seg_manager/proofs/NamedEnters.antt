@@ -36,6 +36,7 @@ use Rattle.seg_manager.specs.NewNamed.{GivesNamed, MakesNamed, FindsNoRoom}
 use Rattle.seg_spec.proofs.OneRequest.{counts_one}
 use Rattle.seg_manager.proofs.NewNamed.{count-copies, named_kind}
 use Rattle.seg_manager.proofs.ObjectAsks.{entry_asks_kept, spent_after, asks_after, returned_one, no_room_first}
+use Rattle.seg_spec.proofs.PlainRoots.{HoldsPlain, plain_of}
 
 times_cons : (h x : ℕ) (xs : List ℕ) → times h (x ∷ xs) ≡ times h (x ∷ []) + times h xs
 times_cons h x xs = times-append h (x ∷ []) xs
@@ -54,8 +55,11 @@ module _ (allocator : ℕ) (old mid : List ℕ) (picture : Picture) (held : IsHe
   kept : (h : ℕ) → 1 ≤ times h (positions (live old)) → KeepsBlock old mid h
   kept h is_live = (g.kept h is_live).whole.kept
 
+  plain : HoldsPlain mid picture.table root (block_of object ∷ [])
+  plain = plain_of mid picture.table root (block_of object ∷ []) refl g.holds
+
   object_block : IsBlock mid object (tag_of Kind.named T) (count root.values * size picture.table T + length name)
-  object_block = subst (λ kind. IsBlock mid object (tag_of kind T) (count root.values * size picture.table T + length name)) (named_kind name is_name.not_empty) g.holds.block
+  object_block = subst (λ kind. IsBlock mid object (tag_of kind T) (count root.values * size picture.table T + length name)) (named_kind name is_name.not_empty) plain.block
 
   own_ownable : IsOwnable mid picture.table (block_of object)
   own_ownable = record { kind = Kind.named; type = T; allowed = known; tag_is = object_block.has_tag; link_is = g.link_is }
@@ -83,6 +87,7 @@ module _ (allocator : ℕ) (old mid : List ℕ) (picture : Picture) (held : IsHe
       let c = count-copies n (default_of picture.table T) in
       record {
         is_name = is_name;
+        no_words = refl;
         some = rw c some;
         few = rw c few;
         named = record { block = object_block; name_is = g.holds.name_is; is_live = let one = g.now_live in omega arith };

@@ -7,8 +7,8 @@ use Rattle.seg_spec.specs.Bytes.{word}
 use Rattle.seg_spec.specs.Header.{allocator_word}
 use Rattle.seg_spec.specs.Heap.{IsHeap, live}
 use Rattle.seg_spec.specs.Block.{KeepsBlock}
-use Rattle.seg_spec.specs.Index.{Root, root_named}
-use Rattle.seg_spec.specs.Sound.{Picture, HoldsRoot, IsHeld, times, positions}
+use Rattle.seg_spec.specs.Index.{Root, root_named, AreEntries}
+use Rattle.seg_spec.specs.Sound.{Picture, HoldsRoot, IsHeld, times, positions, frozen_roots}
 use Rattle.seg_spec.specs.Roots.{RootsComeApart}
 use Rattle.seg_spec.specs.Demand.{after_gives}
 use Rattle.seg_spec.specs.Spending.{killed}
@@ -61,6 +61,13 @@ not_killed T (Some root) e = go (cases_eq root.type T)
         let test : eqb root.type T ≡ false = grind (arith, nat_tests) in
         rw test refl
 
+-- nothing stands before the values of an object that the index lists
+nothing_before : (bytes entries : List ℕ) (before : List Root) (root : Root) (after : List Root) → AreEntries bytes entries (before ++ root ∷ after) → root.words ≡ []
+nothing_before bytes [] [] root after h = absurd h
+nothing_before bytes (entry ∷ entries) [] root after h = h.0.no_words
+nothing_before bytes [] (r ∷ before) root after h = absurd h
+nothing_before bytes (entry ∷ entries) (r ∷ before) root after h = nothing_before bytes entries before root after h.1
+
 module _ (allocator : ℕ) (old mid : Stored) (picture : Picture) (is : IsSegment allocator old picture) (root : Root)
     (e : LeavesName old.window.bytes mid.window.bytes picture.table picture.names is.held.index_blocks root) where
   abbrev a : List ℕ
@@ -70,7 +77,7 @@ module _ (allocator : ℕ) (old mid : Stored) (picture : Picture) (is : IsSegmen
   b = mid.window.bytes
 
   abbrev rest : List Root
-  rest = picture.uniques ++ picture.loose
+  rest = picture.uniques ++ (picture.loose ++ frozen_roots picture)
 
   apart : RootsComeApart a picture is.held e.before (root ∷ []) (e.after ++ rest)
   apart = roots_come_apart a picture is.held e.before (root ∷ []) (e.after ++ rest) (ap (λ ns. ns ++ rest) e.names_are ∙ append_assoc e.before (root ∷ e.after) rest)
@@ -110,6 +117,7 @@ module _ (allocator : ℕ) (old mid : Stored) (picture : Picture) (is : IsSegmen
     is_table = is.held.laid_out.is_table;
     ownable = e.changes.ownable;
     holds_it = HoldsRoot-kept a b picture.table is.held.laid_out.is_table root its its_kept holds_old;
+    no_words = nothing_before a is.held.laid_out.names.index.entries e.before root e.after (subst (AreEntries a is.held.laid_out.names.index.entries) e.names_are is.held.laid_out.names.entries);
     owned = λ h. omega (arith, were_owned h, mid_are h);
   }
 

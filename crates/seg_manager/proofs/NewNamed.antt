@@ -7,7 +7,7 @@ use Rattle.seg_spec.specs.Heap.{Span, IsHeap, live, link_at, after_take, Takes}
 use Rattle.seg_spec.specs.Block.{Kind, tag_of, block_of, IsBlock}
 use Rattle.seg_spec.specs.Demand.{need, block_for}
 use Rattle.seg_spec.specs.Calls.{Refuses}
-use Rattle.seg_spec.specs.Sound.{kind_by_name, HoldsRoot}
+use Rattle.seg_spec.specs.Sound.{kind_with, HoldsRoot}
 use Rattle.seg_spec.proofs.BytesLaws.{length-set_number, length-put}
 use Rattle.seg_spec.proofs.SliceLaws.{put-changes, slice-put_same}
 use Rattle.seg_spec.proofs.NewBlock.{block_fits, was_free, new_heap, all_kept, is_block, new_length, new_front, new_back, new_link, taken_units}
@@ -20,6 +20,7 @@ use Rattle.seg_spec.proofs.Frame.{Holds-kept}
 use Rattle.seg_spec.proofs.CellSteps.{ChangesOnly-trans, ChangesOnly-wider}
 use Rattle.seg_manager.specs.NewNamed.{HasValuesRoom, GivesNamed}
 use Rattle.seg_manager.specs.Segments.{new_root}
+use Rattle.seg_spec.proofs.PlainRoots.{root_of_plain}
 
 -- the place of a value among those of an object
 abbrev pub value_at : Table → ℕ → ℕ → ℕ → Place
@@ -81,7 +82,7 @@ pub count-copies : (n : ℕ) (v : Value) → count (copies n v) ≡ n
 count-copies zero v = refl
 count-copies (suc n) v = ap suc (count-copies n v)
 
-pub named_kind : (name : List ℕ) → 1 ≤ length name → kind_by_name name ≡ Kind.named
+pub named_kind : (name : List ℕ) → 1 ≤ length name → kind_with [] name ≡ Kind.named
 named_kind [] some = absurd (omega arith)
 named_kind (b ∷ name) some = refl
 
@@ -137,13 +138,13 @@ module _ (allocator h : ℕ) (old taken new : List ℕ) (table : Table) (name : 
     root_holds =
         let c = count-copies n (default_of table T) in
         let kind = named_kind name some in
-        record {
+        root_of_plain new table (new_root table name T n (h + 16)) (block_of (h + 16) ∷ []) refl (record {
           block = rw (c, kind) block;
           name_is = rw c name_is;
           inside = [];
           values = rw c holds;
           blocks_are = refl;
-        }
+        })
 
     pub gives_named : GivesNamed allocator old new table (new_root table name T n (h + 16))
     gives_named =

@@ -9,7 +9,7 @@ use Rattle.seg_spec.specs.Value.{Value}
 use Rattle.seg_spec.specs.Heap.{live, IsHeap}
 use Rattle.seg_spec.specs.Block.{KeepsBlock, block_of}
 use Rattle.seg_spec.specs.Index.{Root, unique_word, position_of}
-use Rattle.seg_spec.specs.Sound.{Picture, HoldsRoot, IsHeld, times, positions}
+use Rattle.seg_spec.specs.Sound.{Picture, HoldsRoot, IsHeld, times, positions, IsPlain}
 use Rattle.seg_spec.specs.Roots.{loose, with_roots}
 use Rattle.seg_spec.specs.Calls.{IsLoose}
 use Rattle.seg_spec.specs.Demand.{after_gives}
@@ -25,6 +25,8 @@ use Rattle.seg_spec.proofs.LooseRoots.{its, holds_its, its_live}
 use Rattle.seg_manager.proofs.LooseObjects.{lost, lost_owned}
 use Rattle.seg_spec.proofs.UniqueLaws.{position_root, none_root, unique_of, between}
 use Rattle.seg_manager.proofs.UniqueWords.{word_changes, word_written, word_live, word_kept, above_kept, word_allocator, unique_joined, unique_left}
+use Rattle.seg_spec.proofs.PlainRoots.{plain_of}
+use Rattle.seg_spec.proofs.Frame.{each_right}
 
 -- what the word of a type names
 pub names_unique : (allocator : ℕ) (s : Stored) (picture : Picture) (T : ℕ) → IsSegment allocator s picture → T < 32 → target s.window.bytes (unique_word T) ≡ unique_at picture T
@@ -44,7 +46,8 @@ above allocator s picture is h some = (there (LiesIn s.window.bytes heap_start (
 first_high : (bytes : List ℕ) (picture : Picture) (held : IsHeld bytes picture) (root : Root) (rest : List Root) → picture.loose ≡ root ∷ rest → (heap_start ≤ root.at) × (root.at < 2 ^ 32)
 first_high bytes picture held root rest split =
     let mine = its bytes bytes picture held [] (root ∷ []) rest split in
-    let h = HoldsRoots-only bytes picture.table root mine (holds_its bytes bytes picture held [] (root ∷ []) rest split) in
+    let plain = (subst (AllByRecursion IsPlain) split (each_right IsPlain picture.uniques picture.loose held.laid_out.plain)).0 in
+    let h = plain_of bytes picture.table root mine plain.no_words (HoldsRoots-only bytes picture.table root mine (holds_its bytes bytes picture held [] (root ∷ []) rest split)) in
     let once = its_live bytes bytes picture held [] (root ∷ []) rest split (block_of root.at) in
     let some : times (block_of root.at) mine ≡ times (block_of root.at) (block_of root.at ∷ h.inside) = ap (times (block_of root.at)) h.blocks_are in
     let one = times-same (block_of root.at) h.inside in

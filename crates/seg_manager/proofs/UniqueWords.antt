@@ -10,7 +10,7 @@ use Rattle.seg_spec.specs.Types.{Table}
 use Rattle.seg_spec.specs.Heap.{live, IsHeap}
 use Rattle.seg_spec.specs.Block.{KeepsBlock, payload_size}
 use Rattle.seg_spec.specs.Index.{Root, unique_word, ListsUniques, AreRising}
-use Rattle.seg_spec.specs.Sound.{Picture, roots_of, IsPlain, HoldsRoots, holds_no_root, IsLaidOut, IsHeld, times, SameBlocks, positions}
+use Rattle.seg_spec.specs.Sound.{Picture, roots_of, IsPlain, HoldsRoots, holds_no_root, IsLaidOut, IsHeld, times, SameBlocks, positions, frozen_roots}
 use Rattle.seg_spec.specs.Roots.{StretchesComeApart}
 use Rattle.seg_spec.proofs.Frame.{each_left, each_right, word-same, target-same}
 use Rattle.seg_spec.proofs.LiveLaws.{times-append, each_there}
@@ -154,10 +154,14 @@ module _ (old new : List ℕ) (picture : Picture) (held : IsHeld old picture) (T
         let ls : AllByRecursion IsPlain (root ∷ rest) = subst (λ rs. AllByRecursion IsPlain rs) loose_are p.1 in
         each_joined IsPlain (before ++ root ∷ after) rest (each_joined IsPlain before (root ∷ after) us.0 (ls.0, us.1)) ls.1
 
-    parts_old : roots_of picture ≡ (picture.names ++ before) ++ ([] ++ (after ++ ((root ∷ []) ++ rest)))
-    parts_old = ap (λ us. picture.names ++ (us ++ picture.loose)) uniques_are ∙ ap (λ ls. picture.names ++ ((before ++ after) ++ ls)) loose_are ∙ simp append_assoc
+    -- the roots after them
+    abbrev others_then : List Root
+    others_then = rest ++ frozen_roots picture
 
-    parts_new : roots_of with_it ≡ (picture.names ++ before) ++ ((root ∷ []) ++ (after ++ ([] ++ rest)))
+    parts_old : roots_of picture ≡ (picture.names ++ before) ++ ([] ++ (after ++ ((root ∷ []) ++ others_then)))
+    parts_old = ap (λ us. picture.names ++ (us ++ (picture.loose ++ frozen_roots picture))) uniques_are ∙ ap (λ ls. picture.names ++ ((before ++ after) ++ (ls ++ frozen_roots picture))) loose_are ∙ simp append_assoc
+
+    parts_new : roots_of with_it ≡ (picture.names ++ before) ++ ((root ∷ []) ++ (after ++ ([] ++ others_then)))
     parts_new = simp append_assoc
 
     pub unique_joined : IsHeld new with_it
@@ -165,9 +169,9 @@ module _ (old new : List ℕ) (picture : Picture) (held : IsHeld old picture) (T
         let layout = laid_out (before ++ root ∷ after) rest lists plain in
         let b = picture.names ++ before in
         let one = root ∷ [] in
-        let apart = s b [] after one rest one [] with_it refl parts_old parts_new layout in
-        changed_places b [] after one rest one [] with_it refl parts_old parts_new layout apart.seconds []
-        (seconds_then b [] after one rest one [] with_it refl parts_old parts_new layout) holds_no_root
+        let apart = s b [] after one others_then one [] with_it refl parts_old parts_new layout in
+        changed_places b [] after one others_then one [] with_it refl parts_old parts_new layout apart.seconds []
+        (seconds_then b [] after one others_then one [] with_it refl parts_old parts_new layout) holds_no_root
         (λ h. let n = none_held picture.table apart.firsts apart.holds_first h in omega arith)
 
   -- the unique object of the type becomes the first loose one
@@ -184,10 +188,14 @@ module _ (old new : List ℕ) (picture : Picture) (held : IsHeld old picture) (T
         let us = plain_apart before (root ∷ after) (subst (λ rs. AllByRecursion IsPlain rs) uniques_are p.0) in
         each_joined IsPlain (before ++ after) (root ∷ picture.loose) (each_joined IsPlain before after us.0 us.1.1) (us.1.0, p.1)
 
-    parts_old' : roots_of picture ≡ (picture.names ++ before) ++ ((root ∷ []) ++ (after ++ ([] ++ picture.loose)))
-    parts_old' = ap (λ us. picture.names ++ (us ++ picture.loose)) uniques_are ∙ simp append_assoc
+    -- the roots after it
+    abbrev others_then' : List Root
+    others_then' = picture.loose ++ frozen_roots picture
 
-    parts_new' : roots_of without_it ≡ (picture.names ++ before) ++ ([] ++ (after ++ ((root ∷ []) ++ picture.loose)))
+    parts_old' : roots_of picture ≡ (picture.names ++ before) ++ ((root ∷ []) ++ (after ++ ([] ++ others_then')))
+    parts_old' = ap (λ us. picture.names ++ (us ++ others_then')) uniques_are ∙ simp append_assoc
+
+    parts_new' : roots_of without_it ≡ (picture.names ++ before) ++ ([] ++ (after ++ ((root ∷ []) ++ others_then')))
     parts_new' = simp append_assoc
 
     pub unique_left : IsHeld new without_it
@@ -195,7 +203,7 @@ module _ (old new : List ℕ) (picture : Picture) (held : IsHeld old picture) (T
         let layout = laid_out (before ++ after) (root ∷ picture.loose) lists' plain' in
         let b = picture.names ++ before in
         let one = root ∷ [] in
-        let apart = s b one after [] picture.loose [] one without_it refl parts_old' parts_new' layout in
-        changed_places b one after [] picture.loose [] one without_it refl parts_old' parts_new' layout [] apart.firsts holds_no_root
-        (firsts_then b one after [] picture.loose [] one without_it refl parts_old' parts_new' layout)
+        let apart = s b one after [] others_then' [] one without_it refl parts_old' parts_new' layout in
+        changed_places b one after [] others_then' [] one without_it refl parts_old' parts_new' layout [] apart.firsts holds_no_root
+        (firsts_then b one after [] others_then' [] one without_it refl parts_old' parts_new' layout)
         (λ h. let n = none_held picture.table apart.seconds apart.holds_second h in omega arith)

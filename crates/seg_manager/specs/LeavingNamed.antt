@@ -4,7 +4,7 @@
 --     GivesBack allocator old new table gives
 --                                            these blocks were given back, all others are kept
 --     LosesNamed ..                          the object of a name and a type goes, with its entry
-use Rattle.std.specs.Prelude.{◌≡◌, ℕ, ◌+◌, ◌≤◌, List, ◌∷◌, ◌++◌, length, Some}
+use Rattle.std.specs.Prelude.{◌≡◌, ℕ, ◌+◌, ◌≤◌, List, [], ◌∷◌, ◌++◌, length, Some}
 use Rattle.std.specs.List.{AllByRecursion}
 use Rattle.seg_spec.specs.Bytes.{word}
 use Rattle.seg_spec.specs.Header.{allocator_word, index_kind_word, KeepsFront, KeepsBack}
@@ -19,7 +19,8 @@ use Rattle.seg_spec.specs.Spending.{EntryBlocks, killed}
 use Rattle.seg_value.specs.Stored.{Stored}
 use Rattle.seg_manager.specs.Segments.{Becomes}
 
--- an object that no index lists: the root holds its values in these live blocks, each once
+-- an object that no index lists: the root holds its values in these live blocks, each once, and
+-- nothing before them
 pub record IsUnlisted (allocator : ℕ) (bytes : List ℕ) (table : Table) (root : Root)
     (blocks : List ℕ) : Type 0 where
   pub heap : IsHeap allocator bytes
@@ -27,6 +28,7 @@ pub record IsUnlisted (allocator : ℕ) (bytes : List ℕ) (table : Table) (root
   pub is_table : IsTable table
   pub ownable : AllByRecursion (λ b. IsOwnable bytes table b.at) (live bytes)
   pub holds_it : HoldsRoot bytes table root blocks
+  pub no_words : root.words ≡ []
   pub owned : (h : ℕ) → times h blocks ≤ times h (positions (live bytes))
 
 -- these blocks were given back, and each other live block is kept

@@ -19,7 +19,7 @@ use Rattle.seg_spec.specs.Types.{Table, size, longer}
 use Rattle.seg_spec.specs.Value.{copies, default_of}
 use Rattle.seg_spec.specs.Heap.{live}
 use Rattle.seg_spec.specs.Block.{KeepsBlock}
-use Rattle.seg_spec.specs.Index.{Root, root_of_type}
+use Rattle.seg_spec.specs.Index.{Root, root_of_type, plain_root}
 use Rattle.seg_spec.specs.Sound.{Picture, IsHeld, HoldsRoot, times, positions}
 use Rattle.seg_spec.specs.Roots.{Listed, with_roots}
 use Rattle.seg_spec.specs.Demand.{Ask, block_for, after_gives}
@@ -55,8 +55,7 @@ Spends allocator old new asks gives =
 
 -- an object of n default values of a type
 abbrev pub new_root : Table → List ℕ → ℕ → ℕ → ℕ → Root
-new_root table name T n at =
-    record { name = name; at = at; type = T; values = copies n (default_of table T) }
+new_root table name T n at = plain_root name at T (copies n (default_of table T))
 
 -- the request for an object of one value of a type
 abbrev pub one_value : Table → ℕ → List Ask
@@ -66,7 +65,7 @@ one_value table T = block_for (size table T) ∷ []
 
 -- no types and no roots
 abbrev pub nothing : Picture
-nothing = record { table = []; names = []; uniques = []; loose = [] }
+nothing = record { table = []; names = []; uniques = []; loose = []; frozen = [] }
 
 -- what the image's word for the index says of a kind
 abbrev pub word_of_kind : IndexKind → ℕ

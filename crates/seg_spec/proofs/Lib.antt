@@ -12,6 +12,7 @@ pub mod Fits
 pub mod Defaults
 pub mod MoreTypes
 pub mod OneTable
+pub mod PlainRoots
 pub mod RootFrame
 pub mod RootLaws
 pub mod LiveLaws

@@ -1,5 +1,5 @@
 -- Paths from the roots of an image, where a root is kept, and where a place changes.
-use Rattle.std.proofs.Common.{◌≡◌, ℕ, ◌+◌, ◌*◌, ◌<◌, List, [], ◌∷◌, ◌++◌, sym, subst, length, arith}
+use Rattle.std.proofs.Common.{◌≡◌, ℕ, ◌+◌, ◌*◌, ◌<◌, ◌≤◌, List, [], ◌∷◌, ◌++◌, sym, subst, length, arith}
 use Rattle.std.specs.List.{AllByRecursion}
 use Rattle.seg_spec.specs.Types.{Table, IsTable, size}
 use Rattle.seg_spec.specs.Value.{Value, count, Selector}
@@ -7,7 +7,7 @@ use Rattle.seg_spec.specs.Heap.{Span}
 use Rattle.seg_spec.specs.Block.{KeepsBlock}
 use Rattle.seg_spec.specs.Reads.{Place, Holds, Leads}
 use Rattle.seg_spec.specs.Index.{Root}
-use Rattle.seg_spec.specs.Sound.{Picture, IsHeld, HoldsRoot, HoldsRoots, holds_no_root, holds_more_roots}
+use Rattle.seg_spec.specs.Sound.{words_size, payload_of, Picture, IsHeld, HoldsRoot, HoldsRoots, holds_no_root, holds_more_roots}
 use Rattle.seg_spec.specs.Roots.{Listed, roots_in, roots_before, roots_after, item_of, KeepsPaths, KeepsPathsBeside, ChangesPlace}
 use Rattle.seg_spec.proofs.Frame.{each_left, each_right, payload-same, places-same, spaced-same}
 use Rattle.seg_spec.proofs.Leading.{Leads-each}
@@ -24,9 +24,12 @@ module _ (old new : List ℕ) (table : Table) (valid : IsTable table) where
   pub root_paths : (root : Root) (blocks : List ℕ) → HoldsRoot old table root blocks → AllByRecursion (KeepsBlock old new) blocks → KeepsPaths old new table root
   root_paths root blocks o kept i path target within l =
       let all = subst (AllByRecursion (KeepsBlock old new)) o.blocks_are kept in
+      let p = payload_of root in
+      let w = words_size root in
       let n = count root.values * size table root.type in
-      let whole = payload-same old new root.at _ (n + length root.name) all.0 o.block in
-      let values = IsSame-part old new root.at (n + length root.name) root.at n (omega arith) (omega arith) whole in
+      let before : w ≤ root.at = o.before in
+      let whole = payload-same old new p _ (w + (n + length root.name)) all.0 o.block in
+      let values = IsSame-part old new p (w + (n + length root.name)) root.at n (omega arith) (omega arith) whole in
       Leads-each old new table valid (item_of table root i) i o.values (items_nth table root.at root.type (count root.values) i within)
       (places-same old new table valid root.type _ (spaced-same old new root.at (size table root.type) (count root.values) values)) all.1 l
 

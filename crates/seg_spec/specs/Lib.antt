@@ -12,6 +12,7 @@ pub mod Reads
 pub mod Fresh
 pub mod Apart
 pub mod Index
+pub mod Frozen
 pub mod Sound
 pub mod Faulty
 pub mod Roots

@@ -1,6 +1,5 @@
 -- Objects that several values share, as images of version 2 have them. Such an object is frozen: its value doesn't
 -- change. It counts the cells that name it, and has a number that is above those of the objects that it names.
---     Frozen                               such an object
 --     names_in v, names_of frozen          what the shared cells in a value name, and those in the objects
 --     IsBelow n frozen place               the place is that of one of the objects, with a number below n
 --     IsCounted next frozen cells          each object counts the cells that name it, these and those in the
@@ -13,16 +12,8 @@ use Rattle.std.specs.Prelude.{◌≡◌, ◌≢◌, ℕ, zero, suc, ◌-◌, ◌
 use Rattle.std.specs.List.{AllByRecursion}
 use Rattle.seg_spec.specs.Value.{Label, Value, node, Values, nil, cons, Empty, Full}
 use Rattle.seg_spec.specs.Reads.{Place}
+use Rattle.seg_spec.specs.Frozen.{Frozen}
 use Rattle.seg_spec.specs.Sound.{times}
-
--- an object that values share: the position of its payload, its type, its number, how many cells
--- name it, and its value
-pub record Frozen : Type 0 where
-  pub at : ℕ
-  pub type : ℕ
-  pub number : ℕ
-  pub count : ℕ
-  pub value : Value
 
 -- ---- what shared cells name
 

@@ -197,6 +197,7 @@ module _ (bytes : List ℕ) (table : Table) (valid : IsTable table) (p : ℕ) wh
     shows_by block.Kind.named T o tag of = absurd o
     shows_by block.Kind.index_buffer T o tag of = absurd o
     shows_by block.Kind.index_node T o tag of = absurd o
+    shows_by block.Kind.frozen T o tag of = absurd o
 
   -- what goes with a block, by its content
   pub record Parted (content : Content) (xs : List ℕ) : Type 0 where
@@ -255,6 +256,7 @@ module _ (bytes : List ℕ) (table : Table) (valid : IsTable table) (p : ℕ) wh
   no_content_by k t values links block.Kind.named T form f o tag of = o
   no_content_by k t values links block.Kind.index_buffer T form f o tag of = o
   no_content_by k t values links block.Kind.index_node T form f o tag of = o
+  no_content_by k t values links block.Kind.frozen T form f o tag of = o
 
   pub some_content : (k : Kind) (t : ℕ) (xs : List ℕ) → tag_at bytes (block_of p) ≡ tag_of (kind_of k) t → OfBlock table k t None → GoesWith bytes table p xs → ⊥
   some_content k t xs tag of goes = go goes.owed goes.owes_it
@@ -313,6 +315,7 @@ module _ (bytes : List ℕ) (table : Table) (valid : IsTable table) (p : ℕ) wh
   unread_by values links us bs block.Kind.named T form f o parts more none = absurd o
   unread_by values links us bs block.Kind.index_buffer T form f o parts more none = absurd o
   unread_by values links us bs block.Kind.index_node T form f o parts more none = absurd o
+  unread_by values links us bs block.Kind.frozen T form f o parts more none = absurd o
 
   pub unread : (xs : List ℕ) → ((t : Tag) → t.type_id < 256 → tag_at bytes (block_of p) ≡ word_of t → ⊥) → GoesWith bytes table p xs → SameBlocks xs (block_of p ∷ [])
   unread xs none goes = go goes.owed goes.owes_it goes.owed_are

@@ -10,7 +10,7 @@ use Rattle.seg_spec.specs.Shapes.{leaf, fork, black, red}
 use Rattle.seg_spec.specs.Heap.{Tile, Fill, AreHeaders, live, heap_start}
 use Rattle.seg_spec.specs.Block.{Kind, IsOwnable}
 use Rattle.seg_spec.specs.Reads.{Holds, holds, holds_none, holds_more}
-use Rattle.seg_spec.specs.Index.{Root}
+use Rattle.seg_spec.specs.Index.{Root, plain_root}
 use Rattle.seg_spec.specs.Sound.{HoldsRoot, holds_no_root, holds_more_roots, IsLaidOut, IsHeld, times, positions}
 use Rattle.seg_spec.specs.Fixtures.{every, every_table, every_value, every_picture, many}
 use Rattle.test_definitions.proofs.Evaluating.{live_evaluated, heap_evaluated, uniques_evaluated, all_old}
@@ -137,19 +137,43 @@ struct = holds {place = record { at = 720; type = 7 }} (Form.struct (0 ∷ 1 ∷
 -- ---- roots
 
 abbrev named_root : Root
-named_root = record { name = 97 ∷ []; at = 720; type = 7; values = cons every_value nil }
+named_root = plain_root (97 ∷ []) 720 7 (cons every_value nil)
 
 named : HoldsRoot every every_table named_root (704 ∷ every_blocks)
 unfolding every slice number number_of size
-named = record { block = record { after_header = lit≤ tt; live = refl; has_tag = refl; room = lit≤ tt }; name_is = refl; inside = every_blocks; values = holds_more struct holds_none; blocks_are = refl }
+named = record {
+  before = lit≤ tt;
+  block = record { after_header = lit≤ tt; live = refl; has_tag = refl; room = lit≤ tt };
+  words_are = tt;
+  name_is = refl;
+  inside = every_blocks;
+  values = holds_more struct holds_none;
+  blocks_are = refl;
+}
 
-unique : HoldsRoot every every_table (record { name = []; at = 1200; type = 0; values = cons (Int (pos 7)) nil }) (1184 ∷ [])
+unique : HoldsRoot every every_table (plain_root [] 1200 0 (cons (Int (pos 7)) nil)) (1184 ∷ [])
 unfolding every slice number number_of size signed
-unique = record { block = record { after_header = lit≤ tt; live = refl; has_tag = refl; room = lit≤ tt }; name_is = refl; inside = []; values = holds_more (number_at 1200 (pos 7) refl) holds_none; blocks_are = refl }
+unique = record {
+  before = lit≤ tt;
+  block = record { after_header = lit≤ tt; live = refl; has_tag = refl; room = lit≤ tt };
+  words_are = tt;
+  name_is = refl;
+  inside = [];
+  values = holds_more (number_at 1200 (pos 7) refl) holds_none;
+  blocks_are = refl;
+}
 
-loose : HoldsRoot every every_table (record { name = []; at = 1232; type = 0; values = cons (Int (pos 8)) nil }) (1216 ∷ [])
+loose : HoldsRoot every every_table (plain_root [] 1232 0 (cons (Int (pos 8)) nil)) (1216 ∷ [])
 unfolding every slice number number_of size signed
-loose = record { block = record { after_header = lit≤ tt; live = refl; has_tag = refl; room = lit≤ tt }; name_is = refl; inside = []; values = holds_more (number_at 1232 (pos 8) refl) holds_none; blocks_are = refl }
+loose = record {
+  before = lit≤ tt;
+  block = record { after_header = lit≤ tt; live = refl; has_tag = refl; room = lit≤ tt };
+  words_are = tt;
+  name_is = refl;
+  inside = [];
+  values = holds_more (number_at 1232 (pos 8) refl) holds_none;
+  blocks_are = refl;
+}
 
 -- ---- the image
 
@@ -254,6 +278,7 @@ laid_out = record {
     };
     entries = (
       record {
+        no_words = refl;
         points = refl;
         counted = refl;
         measured = refl;
@@ -268,7 +293,7 @@ laid_out = record {
     blocks_are = refl;
   };
   uniques = uniques_evaluated every every_picture.uniques (search parts 40) (lit≤ tt, lit< tt, tt);
-  plain = (record { no_name = refl; value = Int (pos 7); values_are = refl }, (record { no_name = refl; value = Int (pos 8); values_are = refl }, tt));
+  plain = (record { no_name = refl; no_words = refl; value = Int (pos 7); values_are = refl }, (record { no_name = refl; no_words = refl; value = Int (pos 8); values_are = refl }, tt));
 }
 
 pub every_held : IsHeld every every_picture

@@ -9,7 +9,7 @@ use Rattle.seg_spec.specs.Block.{block_of}
 use Rattle.seg_spec.specs.Shapes.{nodes_of}
 use Rattle.seg_spec.specs.Reads.{count_at, start, spaced}
 use Rattle.seg_spec.specs.Index.{Root, Index, OpensIndex, AreEntries}
-use Rattle.seg_spec.specs.Sound.{Picture, roots_of, HoldsRoots, holds_no_root, IsHeld, times, positions}
+use Rattle.seg_spec.specs.Sound.{Picture, frozen_roots, roots_of, HoldsRoots, holds_no_root, IsHeld, times, positions}
 use Rattle.seg_spec.proofs.LiveLaws.{times-same}
 
 left_empty : {X : Type 0} (xs ys : List X) → xs ++ ys ≡ [] → xs ≡ []
@@ -47,7 +47,7 @@ none_at (b ∷ bs) s = absurd (let e = s b.at in omega (arith, times-same b.at (
 
 pub nothing_held : (bytes : List ℕ) (picture : Picture) → IsHeld bytes picture → roots_of picture ≡ [] → (live bytes ≡ []) × (gaps bytes ≡ span heap_start ((length bytes - heap_start) / 16) ∷ [])
 nothing_held bytes picture held e =
-    let names : picture.names ≡ [] = left_empty picture.names (picture.uniques ++ picture.loose) e in
+    let names : picture.names ≡ [] = left_empty picture.names (picture.uniques ++ (picture.loose ++ frozen_roots picture)) e in
     let lists = held.laid_out.names in
     let entries = no_entries bytes lists.index.entries picture.names lists.entries names in
     let index : held.index_blocks ≡ [] = lists.blocks_are ∙ no_index bytes (word bytes 20) lists.index lists.opens entries in

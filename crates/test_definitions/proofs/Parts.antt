@@ -16,7 +16,8 @@ use Rattle.seg_spec.proofs.TileLaws.{tiles-unique}
 use Rattle.seg_spec.proofs.LiveLaws.{each_there}
 use Rattle.test_definitions.proofs.Evaluating.{live_evaluated, gaps_evaluated, heap_evaluated, uniques_evaluated, numbers-valid, numbers-old}
 use Rattle.test_definitions.proofs.SoundImages.{counter_tiles, empty_tiles, counter_sound}
-use Rattle.test_definitions.proofs.UnsoundImages.{linked_live, odd_kind_live, no_seventh, two_free, two_owners-unsound, no_owner-unsound}
+use Rattle.test_definitions.proofs.NoFrozen.{no_seventh}
+use Rattle.test_definitions.proofs.UnsoundImages.{linked_live, odd_kind_live, two_free, two_owners-unsound, no_owner-unsound}
 
 pub image_length : (bytes : List ℕ) → HasHeader bytes → IsImageLength (length bytes)
 image_length bytes h = record { not_small = h.not_small; not_large = h.not_large; whole_units = h.whole_units }
@@ -133,7 +134,7 @@ pub odd_kind-tiles : (table : Table) → HasTiles odd_kind table → ⊥
 unfolding odd_kind counter slice put set_number number number_of
 odd_kind-tiles table t =
     let blocks = subst (λ bs. AllByRecursion (λ b. IsOwnable odd_kind table b.at) bs) odd_kind_live t.ownable in
-    no_seventh blocks.0.kind blocks.0.type blocks.0.tag_is
+    no_seventh table blocks.0.kind blocks.0.type 0 blocks.0.allowed blocks.0.tag_is
 
 pub counter-all : HoldsAll counter
 counter-all = all_held counter counter_sound

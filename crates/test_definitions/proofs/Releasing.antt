@@ -8,7 +8,8 @@ use Rattle.std.proofs.lemmas.List.Elements.{All-from_recursion, recursion_from_A
 use Rattle.std.proofs.lemmas.List.Recursion.{is_sum_by}
 use Rattle.std.proofs.lemmas.List.Sorted.{All-permutation, sum_by-IsPermutation, length_permutation, IsPermutation-refl}
 use Rattle.seg_spec.specs.Reads.{Place}
-use Rattle.seg_spec.specs.Shared.{Frozen, names_in, names_of, times_named, IsBelow, AreDistinct, IsCounted, IsFalling, with_count, kept_with, left}
+use Rattle.seg_spec.specs.Frozen.{Frozen}
+use Rattle.seg_spec.specs.Shared.{names_in, names_of, times_named, IsBelow, AreDistinct, IsCounted, IsFalling, with_count, kept_with, left}
 use Rattle.seg_spec.proofs.LiveLaws.{times-same, times-other}
 use Rattle.seg_spec.proofs.Frame.{each_weaker, each_left, each_right}
 use Rattle.seg_spec.proofs.LooseRoots.{each_joined}

@@ -4,7 +4,8 @@ use Rattle.std.specs.List.{AllByRecursion}
 use Rattle.std.proofs.lemmas.List.{map-append}
 use Rattle.seg_spec.specs.Reads.{Place}
 use Rattle.seg_spec.specs.Sound.{times}
-use Rattle.seg_spec.specs.Shared.{Frozen, names_in, names_of, times_named, IsBelow, AreDistinct, IsCounted, IsFalling, with_count, kept_with, left, freed_with, freed}
+use Rattle.seg_spec.specs.Frozen.{Frozen}
+use Rattle.seg_spec.specs.Shared.{names_in, names_of, times_named, IsBelow, AreDistinct, IsCounted, IsFalling, with_count, kept_with, left, freed_with, freed}
 use Rattle.seg_spec.proofs.LiveLaws.{times-append, times-same, times-other}
 use Rattle.seg_spec.proofs.Frame.{each_weaker, each_left, each_right}
 

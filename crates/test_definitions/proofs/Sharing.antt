@@ -6,7 +6,8 @@ use Rattle.std.proofs.lemmas.Bool.{cases_eq}
 use Rattle.seg_spec.specs.Value.{Value}
 use Rattle.seg_spec.specs.Reads.{Place}
 use Rattle.seg_spec.specs.Sound.{times}
-use Rattle.seg_spec.specs.Shared.{Frozen, names_in, names_of, times_named, IsBelow, AreDistinct, IsCounted, with_count, raised}
+use Rattle.seg_spec.specs.Frozen.{Frozen}
+use Rattle.seg_spec.specs.Shared.{names_in, names_of, times_named, IsBelow, AreDistinct, IsCounted, with_count, raised}
 use Rattle.seg_spec.proofs.LiveLaws.{times-same, times-other}
 use Rattle.seg_spec.proofs.Frame.{each_weaker, each_left, each_right}
 use Rattle.test_definitions.proofs.SharedLaws.{named-append, elsewhere}

@@ -10,13 +10,13 @@ use Rattle.seg_spec.specs.Shapes.{leaf, fork, black}
 use Rattle.seg_spec.specs.Heap.{Tile, Fill, AreHeaders, heap_start}
 use Rattle.seg_spec.specs.Block.{Kind, IsOwnable}
 use Rattle.seg_spec.specs.Reads.{Holds, holds, holds_none, holds_more}
-use Rattle.seg_spec.specs.Index.{Root}
+use Rattle.seg_spec.specs.Index.{Root, plain_root}
 use Rattle.seg_spec.specs.Sound.{HoldsRoot, holds_no_root, holds_more_roots, IsLaidOut, IsHeld, IsSound, times, positions}
 use Rattle.seg_spec.specs.Fixtures.{counter, greeting, empty, empty_tree, counter_picture, greeting_picture, empty_picture}
 use Rattle.test_definitions.proofs.Evaluating.{live_evaluated, heap_evaluated, uniques_evaluated, numbers-valid, texts-valid, numbers-old, texts-old}
 
 abbrev counter_root : Root
-counter_root = record { name = 120 ∷ []; at = 720; type = 0; values = cons (Int (pos 41)) nil }
+counter_root = plain_root (120 ∷ []) 720 0 (cons (Int (pos 41)) nil)
 
 abbrev pub counter_tiles : List Tile
 counter_tiles = record { at = 704; units = 2; live = true } ∷ record { at = 736; units = 3; live = true } ∷ []
@@ -28,7 +28,9 @@ counter_x = holds Form.i64 _ nil [] refl refl holds_none refl refl
 counter_holds : HoldsRoot counter (Form.i64 ∷ []) counter_root (704 ∷ [])
 unfolding counter slice number number_of size
 counter_holds = record {
+  before = lit≤ tt;
   block = record { after_header = lit≤ tt; live = refl; has_tag = refl; room = lit≤ tt };
+  words_are = tt;
   name_is = refl;
   inside = [];
   values = holds_more counter_x holds_none;
@@ -73,6 +75,7 @@ counter_laid_out = record {
     };
     entries = (
       record {
+        no_words = refl;
         points = refl;
         counted = refl;
         measured = refl;
@@ -105,7 +108,7 @@ counter_sound = record { picture = counter_picture; held = counter_held; none_lo
 -- ---- the text
 
 abbrev greeting_root : Root
-greeting_root = record { name = 115 ∷ []; at = 720; type = 0; values = cons (Text (104 ∷ 105 ∷ [])) nil }
+greeting_root = plain_root (115 ∷ []) 720 0 (cons (Text (104 ∷ 105 ∷ [])) nil)
 
 abbrev pub greeting_tiles : List Tile
 greeting_tiles = record { at = 704; units = 2; live = true } ∷ record { at = 736; units = 3; live = true } ∷ record { at = 784; units = 2; live = true } ∷ []
@@ -118,7 +121,9 @@ greeting_s = holds {place = record { at = 720; type = 0 }} Form.str _ nil [] ref
 greeting_holds : HoldsRoot greeting (Form.str ∷ []) greeting_root (704 ∷ 784 ∷ [])
 unfolding greeting slice number number_of size
 greeting_holds = record {
+  before = lit≤ tt;
   block = record { after_header = lit≤ tt; live = refl; has_tag = refl; room = lit≤ tt };
+  words_are = tt;
   name_is = refl;
   inside = 784 ∷ [];
   values = holds_more greeting_s holds_none;
@@ -174,6 +179,7 @@ greeting_laid_out = record {
     };
     entries = (
       record {
+        no_words = refl;
         points = refl;
         counted = refl;
         measured = refl;

@@ -4,7 +4,8 @@ use Rattle.std.specs.List.{AllByRecursion}
 use Rattle.std.proofs.lemmas.Bool.Decides.{nat_tests}
 use Rattle.seg_spec.specs.Value.{Label, Value, node, Values, nil, cons, Full}
 use Rattle.seg_spec.specs.Reads.{Place}
-use Rattle.seg_spec.specs.Shared.{Frozen, names_in, names_each, IsBelow, AreDistinct, with_count, kept_with, left, replaced, replaced_each, value_at_position, owner_by, meaning, unfolded, times_named}
+use Rattle.seg_spec.specs.Frozen.{Frozen}
+use Rattle.seg_spec.specs.Shared.{names_in, names_each, IsBelow, AreDistinct, with_count, kept_with, left, replaced, replaced_each, value_at_position, owner_by, meaning, unfolded, times_named}
 use Rattle.seg_spec.proofs.Frame.{each_left, each_right, each_weaker}
 use Rattle.test_definitions.proofs.SharedLaws.{below_elsewhere, left_each}
 

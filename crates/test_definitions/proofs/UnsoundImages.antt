@@ -10,13 +10,15 @@ use Rattle.seg_spec.specs.Heap.{Tile, live, live_of, tag_at}
 use Rattle.seg_spec.specs.Block.{Kind, tag_of, block_of, IsOwnable}
 use Rattle.seg_spec.specs.Reads.{Place, Opened, Opens, count_at, named, start, spaced, items, Holds, holds, HoldsEach, holds_more}
 use Rattle.seg_spec.specs.Index.{Root, Index, OpensIndex, AreEntries, position_of, ListsNames}
-use Rattle.seg_spec.specs.Sound.{IsPlain, kind_by_name, HoldsRoots, holds_no_root, holds_more_roots, IsSound, times, positions}
+use Rattle.seg_spec.specs.Sound.{IsPlain, kind_with, frozen_roots, HoldsRoots, holds_no_root, holds_more_roots, IsSound, times, positions}
 use Rattle.seg_spec.specs.Fixtures.{counter, greeting, empty, empty_tree, other_magic, other_size, linked, odd_kind, lost_gap, red_root, neighbours, no_items, named_as_unique, no_buffer, own_buffer, two_owners, no_owner}
 use Rattle.seg_spec.proofs.OneTable.{HasTable-one}
+use Rattle.seg_spec.proofs.PlainRoots.{plain_of}
 use Rattle.seg_spec.proofs.RootLaws.{HoldsRoots-split}
 use Rattle.seg_spec.proofs.Frame.{each_left}
 use Rattle.seg_spec.proofs.LiveLaws.{live-once, times-append, times-same}
 use Rattle.test_definitions.proofs.Evaluating.{live_evaluated, apart_evaluated, free_evaluated, numbers-valid, texts-valid}
+use Rattle.test_definitions.proofs.NoFrozen.{no_seventh, no_frozen}
 use Rattle.test_definitions.proofs.SoundImages.{counter_tiles, empty_tiles, empty_tree_tiles}
 
 -- ---- the header
@@ -52,19 +54,11 @@ odd_kind_live = live_evaluated odd_kind counter_tiles (refl, lit≤ tt, (refl, l
   (record { units_is = refl; live_is = refl; before_is = refl; tag_is = λ e. cc }, tt),
 )
 
-pub no_seventh : (kind : Kind) (T : ℕ) → 7 ≡ tag_of kind T → ⊥
-no_seventh Kind.named T e = omega arith
-no_seventh Kind.object T e = omega arith
-no_seventh Kind.buffer T e = omega arith
-no_seventh Kind.node T e = omega arith
-no_seventh Kind.index_buffer T e = omega arith
-no_seventh Kind.index_node T e = omega arith
-
 pub odd_kind-unsound : IsSound odd_kind → ⊥
 unfolding odd_kind counter slice put set_number number number_of
 odd_kind-unsound s =
     let blocks = subst (λ bs. AllByRecursion (λ b. IsOwnable odd_kind s.picture.table b.at) bs) odd_kind_live s.held.laid_out.blocks in
-    no_seventh blocks.0.kind blocks.0.type blocks.0.tag_is
+    no_seventh s.picture.table blocks.0.kind blocks.0.type 0 blocks.0.allowed blocks.0.tag_is
 
 abbrev pub two_free : List Tile
 two_free = record { at = 704; units = 2; live = false } ∷ record { at = 736; units = 2; live = false } ∷ []
@@ -126,12 +120,13 @@ no_items-unsound s = some_items no_items 752 s.picture.names (flat_entries no_it
 -- a word that leads to a unique object names a block of the kind
 unique_tag : (bytes : List ℕ) (table : Table) (roots : List Root) (blocks : List ℕ) (T p : ℕ) → HoldsRoots bytes table roots blocks → AllByRecursion IsPlain roots → Some p ≡ position_of roots T → tag_at bytes (block_of p) % 256 ≡ 2
 unique_tag bytes table [] blocks T p h plain e = cc
-unique_tag bytes table (root ∷ roots) blocks T p (holds_more_roots {rest = rest} h hs) plain e =
+unique_tag bytes table (root ∷ roots) blocks T p (holds_more_roots {blocks = xs} {rest = rest} h hs) plain e =
+    let o = plain_of bytes table root xs plain.0.no_words h in
     elim (root.type == T) as (λ b. Some p ≡ cond b (Some root.at) (position_of roots T) → tag_at bytes (block_of p) % 256 ≡ 2) [
       | true ↦ (λ f.
           let at : p ≡ root.at = cc in
-          let kind : kind_by_name root.name ≡ Kind.object = ap kind_by_name plain.0.no_name in
-          let tag : tag_at bytes (block_of root.at) ≡ 2 + 256 * root.type = h.block.has_tag ∙ ap (λ k. tag_of k root.type) kind in
+          let kind : kind_with [] root.name ≡ Kind.object = ap (kind_with []) plain.0.no_name in
+          let tag : tag_at bytes (block_of root.at) ≡ 2 + 256 * root.type = o.block.has_tag ∙ ap (λ k. tag_of k root.type) kind in
           subst (λ q. tag_at bytes (block_of q) % 256 ≡ 2) (sym at) (omega arith))
       | false ↦ (λ f. unique_tag bytes table roots rest T p hs plain.1 f)
     ] e
@@ -140,8 +135,8 @@ pub named_as_unique-unsound : IsSound named_as_unique → ⊥
 unfolding named_as_unique counter slice put set_number number number_of target
 named_as_unique-unsound s =
     let picture = s.picture in
-    let all = HoldsRoots-split named_as_unique picture.table picture.names (picture.uniques ++ picture.loose) s.held.root_blocks s.held.roots in
-    let them = HoldsRoots-split named_as_unique picture.table picture.uniques picture.loose all.right all.rights in
+    let all = HoldsRoots-split named_as_unique picture.table picture.names (picture.uniques ++ (picture.loose ++ frozen_roots picture)) s.held.root_blocks s.held.roots in
+    let them = HoldsRoots-split named_as_unique picture.table picture.uniques (picture.loose ++ frozen_roots picture) all.right all.rights in
     let tag = unique_tag named_as_unique picture.table picture.uniques them.left 0 720 them.lefts (each_left IsPlain picture.uniques picture.loose s.held.laid_out.plain) (s.held.laid_out.uniques.words 0 (omega arith)) in
     absurd (omega arith)
 
@@ -151,7 +146,7 @@ first_place : (bytes : List ℕ) (table : Table) (place : Place) (places : List 
 first_place bytes table place places nil blocks h = elim h [ ]
 first_place bytes table place places (cons v vs) blocks (holds_more {blocks = xs} h hs) = (v, xs, h)
 
-kind_named : (name : List ℕ) → 1 ≤ length name → kind_by_name name ≡ Kind.named
+kind_named : (name : List ℕ) → 1 ≤ length name → kind_with [] name ≡ Kind.named
 kind_named [] some = absurd (omega arith)
 kind_named (b ∷ name) some = refl
 
@@ -159,11 +154,12 @@ kind_named (b ∷ name) some = refl
 the_item : (bytes : List ℕ) (table : Table) (names rest : List Root) (blocks : List ℕ) → AreEntries bytes (752 ∷ []) names → target bytes 752 ≡ Some 720 → half bytes 756 ≡ 1 → tag_at bytes 704 ≡ 1
     → HoldsRoots bytes table (names ++ rest) blocks → (v : Value) × (xs : List ℕ) × Holds bytes table (record { at = 720; type = 0 }) v xs
 the_item bytes table [] rest blocks a points counted tag h = absurd a
-the_item bytes table (root ∷ names) rest blocks a points counted tag (holds_more_roots h hs) =
+the_item bytes table (root ∷ names) rest blocks a points counted tag (holds_more_roots {blocks = xs} h hs) =
+    let o = plain_of bytes table root xs a.0.no_words h in
     let at : 720 ≡ root.at = cc (points, a.0.points) in
     let one : count root.values ≡ 1 = sym a.0.counted ∙ counted in
     let kind = kind_named root.name a.0.is_name.not_empty in
-    let tags : tag_at bytes (block_of root.at) ≡ 1 + 256 * root.type = h.block.has_tag ∙ ap (λ k. tag_of k root.type) kind in
+    let tags : tag_at bytes (block_of root.at) ≡ 1 + 256 * root.type = o.block.has_tag ∙ ap (λ k. tag_of k root.type) kind in
     let same : tag_at bytes 704 ≡ tag_at bytes (block_of root.at) = ap (λ p. tag_at bytes (block_of p)) at in
     let type : root.type ≡ 0 = omega arith in
     let each = subst (λ n. HoldsEach bytes table (items table root.at root.type n) root.values h.inside) one h.values in
@@ -180,7 +176,7 @@ no_buffer-unsound s =
     let l = s.held.laid_out in
     let table : s.picture.table ≡ Form.str ∷ [] = HasTable-one no_buffer 64 s.picture.table (Form.str ∷ []) l.is_table texts-valid l.types refl in
     let entries = flat_entries no_buffer s.picture.names s.held.index_blocks refl l.names in
-    let it = the_item no_buffer s.picture.table s.picture.names (s.picture.uniques ++ s.picture.loose) s.held.root_blocks entries refl refl refl s.held.roots in
+    let it = the_item no_buffer s.picture.table s.picture.names (s.picture.uniques ++ (s.picture.loose ++ frozen_roots s.picture)) s.held.root_blocks entries refl refl refl s.held.roots in
     let o = text_opens no_buffer it.0 it.1 (subst (λ t. Holds no_buffer t (record { at = 720; type = 0 }) it.0 it.1) table it.2) in
     let none = o.1.named_room in
     absurd (omega arith)
@@ -191,7 +187,7 @@ own_buffer-unsound s =
     let l = s.held.laid_out in
     let table : s.picture.table ≡ Form.str ∷ [] = HasTable-one own_buffer 64 s.picture.table (Form.str ∷ []) l.is_table texts-valid l.types refl in
     let entries = flat_entries own_buffer s.picture.names s.held.index_blocks refl l.names in
-    let it = the_item own_buffer s.picture.table s.picture.names (s.picture.uniques ++ s.picture.loose) s.held.root_blocks entries refl refl refl s.held.roots in
+    let it = the_item own_buffer s.picture.table s.picture.names (s.picture.uniques ++ (s.picture.loose ++ frozen_roots s.picture)) s.held.root_blocks entries refl refl refl s.held.roots in
     let o = text_opens own_buffer it.0 it.1 (subst (λ t. Holds own_buffer t (record { at = 720; type = 0 }) it.0 it.1) table it.2) in
     let room = o.1.named_room in
     absurd (omega (arith, room.has_tag))
@@ -204,20 +200,22 @@ twice : (bytes : List ℕ) (table : Table) (names rest : List Root) (blocks : Li
 twice bytes table [] rest blocks a p q h = absurd a
 twice bytes table (x ∷ []) rest blocks a p q h = absurd a.1
 twice bytes table (x ∷ y ∷ names) rest blocks a p q (holds_more_roots {blocks = xs} h (holds_more_roots {blocks = ys} {rest = zs} k hs)) =
+    let o = plain_of bytes table x xs a.0.no_words h in
+    let u = plain_of bytes table y ys a.1.0.no_words k in
     let at_x : 720 ≡ x.at = cc (p, a.0.points) in
     let at_y : 720 ≡ y.at = cc (q, a.1.0.points) in
-    let first : xs ≡ 704 ∷ h.inside = h.blocks_are ∙ ap (λ b. block_of b ∷ h.inside) (sym at_x) in
-    let second : ys ≡ 704 ∷ k.inside = k.blocks_are ∙ ap (λ b. block_of b ∷ k.inside) (sym at_y) in
-    let n1 : times 704 xs ≡ times 704 (704 ∷ h.inside) = ap (times 704) first in
-    let n2 : times 704 ys ≡ times 704 (704 ∷ k.inside) = ap (times 704) second in
-    omega (arith, times-append 704 xs (ys ++ zs), times-append 704 ys zs, times-same 704 h.inside, times-same 704 k.inside)
+    let first : xs ≡ 704 ∷ o.inside = o.blocks_are ∙ ap (λ b. block_of b ∷ o.inside) (sym at_x) in
+    let second : ys ≡ 704 ∷ u.inside = u.blocks_are ∙ ap (λ b. block_of b ∷ u.inside) (sym at_y) in
+    let n1 : times 704 xs ≡ times 704 (704 ∷ o.inside) = ap (times 704) first in
+    let n2 : times 704 ys ≡ times 704 (704 ∷ u.inside) = ap (times 704) second in
+    omega (arith, times-append 704 xs (ys ++ zs), times-append 704 ys zs, times-same 704 o.inside, times-same 704 u.inside)
 
 pub two_owners-unsound : IsSound two_owners → ⊥
 unfolding two_owners counter slice put set_number number number_of target
 two_owners-unsound s =
     let l = s.held.laid_out in
     let entries = flat_entries two_owners s.picture.names s.held.index_blocks refl l.names in
-    let two = twice two_owners s.picture.table s.picture.names (s.picture.uniques ++ s.picture.loose) s.held.root_blocks entries refl refl s.held.roots in
+    let two = twice two_owners s.picture.table s.picture.names (s.picture.uniques ++ (s.picture.loose ++ frozen_roots s.picture)) s.held.root_blocks entries refl refl s.held.roots in
     let once = live-once two_owners 0 l.heap 704 in
     absurd (omega (arith, s.held.owners 704, times-append 704 s.held.index_blocks s.held.root_blocks))
 
@@ -262,11 +260,12 @@ no_owner-unsound s =
     let table : picture.table ≡ Form.i64 ∷ [] = HasTable-one no_owner 64 picture.table (Form.i64 ∷ []) l.is_table numbers-valid l.types refl in
     let names : picture.names ≡ [] = no_names no_owner picture.names (flat_entries no_owner picture.names s.held.index_blocks refl l.names) in
     let index : s.held.index_blocks ≡ [] = flat_blocks no_owner picture.names s.held.index_blocks refl l.names in
-    let all = HoldsRoots-split no_owner picture.table picture.names (picture.uniques ++ picture.loose) s.held.root_blocks s.held.roots in
-    let them = HoldsRoots-split no_owner picture.table picture.uniques picture.loose all.right all.rights in
+    let all = HoldsRoots-split no_owner picture.table picture.names (picture.uniques ++ (picture.loose ++ frozen_roots picture)) s.held.root_blocks s.held.roots in
+    let them = HoldsRoots-split no_owner picture.table picture.uniques (picture.loose ++ frozen_roots picture) all.right all.rights in
     let uniques : picture.uniques ≡ [] = no_unique no_owner picture.uniques them.left (subst (λ t. HoldsRoots no_owner t picture.uniques them.left) table them.lefts) (each_left IsPlain picture.uniques picture.loose l.plain)
     (l.uniques.words 0 (omega arith)) in
-    let roots : picture.names ++ (picture.uniques ++ picture.loose) ≡ [] = rw (names, uniques, s.none_loose) refl in
+    let none_frozen = no_frozen no_owner picture s.held in
+    let roots : picture.names ++ (picture.uniques ++ (picture.loose ++ frozen_roots picture)) ≡ [] = rw (names, uniques, s.none_loose, none_frozen) refl in
     let none : s.held.root_blocks ≡ [] = no_blocks no_owner picture.table _ s.held.root_blocks roots s.held.roots in
     let one : times 704 (positions (live no_owner)) ≡ 1 = ap (λ bs. times 704 (positions bs)) no_owner_live in
     let zero_is : times 704 (s.held.index_blocks ++ s.held.root_blocks) ≡ 0 = rw (index, none) refl in

@@ -6,7 +6,8 @@
 --                               these names are still to be released, and these objects are there, after so many turns
 use Rattle.std.specs.Prelude.{ℕ, zero, suc, ◌-◌, ◌==◌, if◌then◌else◌, List, [], ◌∷◌, ◌++◌, IsPermutation}
 use Rattle.seg_spec.specs.Reads.{Place}
-use Rattle.seg_spec.specs.Shared.{Frozen, names_in, kept_with}
+use Rattle.seg_spec.specs.Frozen.{Frozen}
+use Rattle.seg_spec.specs.Shared.{names_in, kept_with}
 
 -- the object at a position counts one cell fewer, and goes where that is 0
 abbrev pub lowered : ℕ → List Frozen → List Frozen

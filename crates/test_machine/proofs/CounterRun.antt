@@ -8,7 +8,7 @@ use Rattle.seg_spec.specs.Window.{IsPlace}
 use Rattle.seg_spec.specs.Value.{Int, nil, cons}
 use Rattle.seg_spec.specs.Heap.{live}
 use Rattle.seg_spec.specs.Reads.{here}
-use Rattle.seg_spec.specs.Index.{Root, same_name}
+use Rattle.seg_spec.specs.Index.{Root, plain_root, same_name}
 use Rattle.seg_spec.specs.Sound.{Picture, IsHeld, holds_no_root}
 use Rattle.seg_spec.specs.Faulty.{IsImageLength}
 use Rattle.seg_spec.specs.Roots.{Listed}
@@ -57,7 +57,7 @@ abbrev image : List ℕ
 image = set_long counter 720 42
 
 abbrev root : Root
-root = record { name = codes "x"; at = 720; type = 0; values = cons (Int (pos 41)) nil }
+root = plain_root (codes "x") 720 0 (cons (Int (pos 41)) nil)
 
 abbrev picture : Picture
 picture = record counter_picture { names = record root { values = cons (Int (pos 42)) nil } ∷ [] }
@@ -79,7 +79,7 @@ same_names : (output name : List ℕ) → (more output).names name ≡ names_in 
 same_names output name = choose (same_name name (codes "x"))
   where
     choose : (b : Bool) → (if b then Some (record { type = 0; values = cons (Int (pos 42)) nil }) else (if b then Some (record { type = 0; values = cons (Int (pos 41)) nil }) else None))
-        ≡ option_map object_of (if b then Some (record { name = codes "x"; at = 720; type = 0; values = cons (Int (pos 42)) nil }) else None)
+        ≡ option_map object_of (if b then Some (plain_root (codes "x") 720 0 (cons (Int (pos 42)) nil)) else None)
     choose true = refl
     choose false = refl
 

@@ -7,7 +7,7 @@ use Rattle.std.proofs.lemmas.List.Elements.{All-nil, All-cons}
 use Rattle.seg_spec.specs.Types.{Table}
 use Rattle.seg_spec.specs.Value.{Int, nil, cons}
 use Rattle.seg_spec.specs.Fixtures.{counter, counter_picture}
-use Rattle.seg_spec.specs.Index.{same_name}
+use Rattle.seg_spec.specs.Index.{plain_root, same_name}
 use Rattle.test_definitions.proofs.SoundImages.{counter_held}
 use Rattle.client_spec.specs.declared.table.Operation.{Operation}
 use Rattle.client_spec.specs.Syntax.{Constant}
@@ -73,7 +73,7 @@ pub same_x : (name : List ℕ) → counted.names name ≡ names_in counter_pictu
 same_x name = choose (same_name name (codes "x"))
   where
     choose : (b : Bool) → (if b then Some (record { type = 0; values = cons (Int (pos 41)) nil }) else None) ≡ option_map object_of
-        (if b then Some (record { name = codes "x"; at = 720; type = 0; values = cons (Int (pos 41)) nil }) else None)
+        (if b then Some (plain_root (codes "x") 720 0 (cons (Int (pos 41)) nil)) else None)
     choose true = refl
     choose false = refl
 
