@@ -2,7 +2,7 @@
 use Rattle.std.specs.Prelude.{ℕ}
 use Rattle.seg_spec.specs.Block as block
 use Rattle.seg_block.specs.declared.tag.Kind.{Kind}
-use Rattle.seg_block.specs.declared.tag.Kind.TheVariants.{Named, Object, Buffer, Node, IndexBuffer, IndexNode}
+use Rattle.seg_block.specs.declared.tag.Kind.TheVariants.{Named, Object, Buffer, Node, IndexBuffer, IndexNode, Frozen}
 use Rattle.seg_block.specs.declared.tag.Tag.{Tag}
 
 -- what a kind is called there
@@ -13,6 +13,7 @@ kind_of Buffer = block.Kind.buffer
 kind_of Node = block.Kind.node
 kind_of IndexBuffer = block.Kind.index_buffer
 kind_of IndexNode = block.Kind.index_node
+kind_of Frozen = block.Kind.frozen
 
 -- the word that spells a tag
 abbrev pub word_of : Tag → ℕ

@@ -22,6 +22,8 @@ pub enum Kind {
     IndexBuffer = 5,
     /// A node of the tree index.
     IndexNode = 6,
+    /// An object that values share: how many cells name it, its number, then its value. No table of version 1 allows any.
+    Frozen = 7,
 }
 
 /// What a live block is for, and the id of the type that it is for (0 where there is none). The header of a free block has
@@ -45,6 +47,7 @@ impl Tag {
             4 => Kind::Node,
             5 => Kind::IndexBuffer,
             6 => Kind::IndexNode,
+            7 => Kind::Frozen,
             _ => return None,
         };
         let type_id = u8::try_from(word / 256).ok()?;

@@ -31,5 +31,4 @@ pub mod FreeWalk
 pub mod MapLaws
 pub mod TreeIndex
 pub mod HeapLaws
-pub mod NoFrozen
 pub mod WholeLaws

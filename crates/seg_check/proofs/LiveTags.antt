@@ -7,7 +7,7 @@ use Rattle.seg_spec.specs.Block.{tag_of, AllowsType}
 use Rattle.seg_block.specs.Tags.{kind_of, word_of}
 use Rattle.seg_block.specs.declared.tag.Tag.{Tag}
 use Rattle.seg_check.specs.Tiles.{IsAllowed, AreLiveTags}
-use Rattle.seg_check.proofs.TagNumbers.{number_allowed, one_tag, type_small, kind_from, kind_of-from}
+use Rattle.seg_check.proofs.TagNumbers.{number_small, one_tag, type_small, kind_from, kind_of-from}
 
 -- the turn of a word, and the word of a turn: kind by kind, and type by type
 abbrev pub turn_of : ℕ → ℕ
@@ -22,14 +22,14 @@ AreLiveTagsTo table are_right turn =
     (word : ℕ) → (get_or are_right word false ≡ true) ↔ (IsAllowed table word × (turn_of word < turn))
 
 module _ (table : Table) (valid : IsTable table) where
-  allowed_small : (word : ℕ) → IsAllowed table word → (word % 256 ≤ 6) × (word / 256 < 32)
+  allowed_small : (word : ℕ) → IsAllowed table word → (word % 256 ≤ 7) × (word / 256 < 32)
   allowed_small word a =
-      let n = number_allowed table a.kind a.type a.allowed in
+      let n = (number_small a.kind).1 in
       let t = type_small table valid a.kind a.type a.allowed in
       let e = a.tag_is in
       (omega arith, omega arith)
 
-  pub turn_small : (word : ℕ) → IsAllowed table word → turn_of word < 224
+  pub turn_small : (word : ℕ) → IsAllowed table word → turn_of word < 256
   turn_small word a = let s = allowed_small word a in omega arith
 
   same_word : (word turn : ℕ) → IsAllowed table word → turn_of word ≡ turn → word ≡ word_at turn
@@ -44,7 +44,7 @@ module _ (table : Table) (valid : IsTable table) where
         (cases_eq (turn_of word) turn),
   )
 
-  pub marked : (tags : List Bool) (turn : ℕ) (b : Bool) → word_at turn < length tags → turn < 224 → (b ≡ true) ↔ IsAllowed table (word_at turn) → AreLiveTagsTo table tags turn → AreLiveTagsTo table (set tags (word_at turn) b) (turn + 1)
+  pub marked : (tags : List Bool) (turn : ℕ) (b : Bool) → word_at turn < length tags → turn < 256 → (b ≡ true) ↔ IsAllowed table (word_at turn) → AreLiveTagsTo table tags turn → AreLiveTagsTo table (set tags (word_at turn) b) (turn + 1)
   marked tags turn b inside few right known = λ word. ⊎_elim
       (λ (same : word ≡ word_at turn).
       let e : get_or (set tags (word_at turn) b) word false ≡ b = ap (λ k. get_or (set tags (word_at turn) b) k false) same ∙ get_or-set_same tags (word_at turn) b false inside in
@@ -62,7 +62,7 @@ module _ (table : Table) (valid : IsTable table) where
       before : (word : ℕ) → IsAllowed table word → word ≢ word_at turn → turn_of word < turn + 1 → turn_of word < turn
       before word a other less = ⊎_elim (λ e. absurd (other (same_word word turn a e))) (λ ne. omega (arith, less, ne)) (cases_eq (turn_of word) turn)
 
-  pub all_known : (tags : List Bool) → AreLiveTagsTo table tags 224 → AreLiveTags table tags
+  pub all_known : (tags : List Bool) → AreLiveTagsTo table tags 256 → AreLiveTags table tags
   all_known tags known = λ word. (λ e. ((known word).0 e).0, λ a. (known word).1 (a, turn_small word a))
 
   -- a word that spells no tag is none that is allowed
@@ -70,7 +70,7 @@ module _ (table : Table) (valid : IsTable table) where
   no_tag word o every none a =
       let t : Tag = record { kind = kind_from a.kind; type_id = a.type } in
       let small = type_small table valid a.kind a.type a.allowed in
-      let is : word ≡ word_of t = a.tag_is ∙ ap (λ k. tag_of k a.type) (sym (kind_of-from table a.kind a.type a.allowed)) in
+      let is : word ≡ word_of t = a.tag_is ∙ ap (λ k. tag_of k a.type) (sym (kind_of-from a.kind)) in
       let some : o ≡ Some t = every t (omega arith) is in
       cc
 

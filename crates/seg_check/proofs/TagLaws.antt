@@ -94,6 +94,7 @@ module _ (bytes : List ℕ) (table : Table) (valid : IsTable table) where
   stands_in b kind.Node T content other own e s = stands_by b block.Kind.node T (form_at table T) content refl (λ start n. refl) (inr (allowed_as b block.Kind.node T own e)) e s
   stands_in b kind.IndexBuffer T content other own e s = absurd (none_some content (sym s))
   stands_in b kind.IndexNode T content other own e s = absurd (none_some content (sym s))
+  stands_in b kind.Frozen T content other own e s = absurd (allowed_as b block.Kind.frozen T own e)
 
   -- ---- where no values stand
 
@@ -116,6 +117,7 @@ module _ (bytes : List ℕ) (table : Table) (valid : IsTable table) where
   none_in b kind.Node T other e s turn same = tagged_at b turn block.Kind.node T e same ∙ none_by T turn.start turn.count (form_at table T) s
   none_in b kind.IndexBuffer T other e s turn same = tagged_at b turn block.Kind.index_buffer T e same
   none_in b kind.IndexNode T other e s turn same = tagged_at b turn block.Kind.index_node T e same
+  none_in b kind.Frozen T other e s turn same = absurd s
 
   -- ---- a block of the table has a tag
 
@@ -123,4 +125,4 @@ module _ (bytes : List ℕ) (table : Table) (valid : IsTable table) where
   has_tag b own every =
       let t : Tag = record { kind = kind_from own.kind; type_id = own.type } in
       let small = type_small table valid own.kind own.type own.allowed in
-      none_some t (every t (omega arith) (own.tag_is ∙ sym (ap (λ k. tag_of k own.type) (kind_of-from table own.kind own.type own.allowed))))
+      none_some t (every t (omega arith) (own.tag_is ∙ sym (ap (λ k. tag_of k own.type) (kind_of-from own.kind))))

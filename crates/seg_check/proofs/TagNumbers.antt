@@ -45,7 +45,7 @@ one_tag j k S T e =
 
 -- ---- tags that a table allows
 
--- the library's kind; it has none for frozen objects, which no table allows
+-- the library's kind
 abbrev pub kind_from : block.Kind → Kind
 kind_from block.Kind.named = kind.Named
 kind_from block.Kind.object = kind.Object
@@ -53,26 +53,16 @@ kind_from block.Kind.buffer = kind.Buffer
 kind_from block.Kind.node = kind.Node
 kind_from block.Kind.index_buffer = kind.IndexBuffer
 kind_from block.Kind.index_node = kind.IndexNode
-kind_from block.Kind.frozen = kind.Named
+kind_from block.Kind.frozen = kind.Frozen
 
-module _ (table : Table) where
-  pub kind_of-from : (k : block.Kind) (T : ℕ) → AllowsType table k T → kind_of (kind_from k) ≡ k
-  kind_of-from block.Kind.named T a = refl
-  kind_of-from block.Kind.object T a = refl
-  kind_of-from block.Kind.buffer T a = refl
-  kind_of-from block.Kind.node T a = refl
-  kind_of-from block.Kind.index_buffer T a = refl
-  kind_of-from block.Kind.index_node T a = refl
-  kind_of-from block.Kind.frozen T a = absurd a
-
-  pub number_allowed : (k : block.Kind) (T : ℕ) → AllowsType table k T → kind_number k ≤ 6
-  number_allowed block.Kind.named T a = omega arith
-  number_allowed block.Kind.object T a = omega arith
-  number_allowed block.Kind.buffer T a = omega arith
-  number_allowed block.Kind.node T a = omega arith
-  number_allowed block.Kind.index_buffer T a = omega arith
-  number_allowed block.Kind.index_node T a = omega arith
-  number_allowed block.Kind.frozen T a = absurd a
+pub kind_of-from : (k : block.Kind) → kind_of (kind_from k) ≡ k
+kind_of-from block.Kind.named = refl
+kind_of-from block.Kind.object = refl
+kind_of-from block.Kind.buffer = refl
+kind_of-from block.Kind.node = refl
+kind_of-from block.Kind.index_buffer = refl
+kind_of-from block.Kind.index_node = refl
+kind_of-from block.Kind.frozen = refl
 
 module _ (table : Table) (valid : IsTable table) where
   has_form : (T : ℕ) (o : Option Form) → form_at table T ≡ o → (o ≡ None → ⊥) → T < 32

@@ -23,7 +23,7 @@ use Rattle.seg_check.specs.Roots.{uniques_ahead, ResolvesRoots, ResolvesIndex, A
 use Rattle.seg_check.proofs.StepLaws.{resolves_swap, waiting-append, turns_both}
 use Rattle.seg_check.proofs.HeapLaws.{is_heap}
 use Rattle.seg_spec.specs.Frozen.{root_of_frozen}
-use Rattle.seg_check.proofs.NoFrozen.{no_frozen}
+use Rattle.seg_spec.proofs.NoFrozen.{no_frozen}
 
 -- ---- names after none
 

@@ -15,7 +15,7 @@ use seg_layout::{MAX_TYPES, Type, TypeTable};
 use std::alloc::Allocator;
 
 /// One more than the greatest number of a kind.
-const KINDS: usize = 7;
+const KINDS: usize = 8;
 
 /// More than any word has that spells the tag of a type: the kind's number is the lowest byte, the type the next one.
 const TAG_WORDS: usize = 256 * MAX_TYPES;
@@ -118,5 +118,6 @@ fn is_live_tag(types: &TypeTable, tag: Tag) -> bool
         Kind::Buffer => matches!(kind, Some(Type::Str | Type::Vec(_) | Type::FlatMap(_))),
         Kind::Node => matches!(kind, Some(Type::List(_) | Type::Map(_))),
         Kind::IndexBuffer | Kind::IndexNode => tag.type_id == 0,
+        Kind::Frozen => false,
     }
 }

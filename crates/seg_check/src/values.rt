@@ -65,9 +65,12 @@ impl<A: Allocator> Image<'_, A> {
         let tag = Tag::read(tag_word(self.w, block))?;
         let content = match tag.kind {
             Kind::Named => Content::object(self.types, tag.type_id),
-            Kind::Object | Kind::Buffer | Kind::Node | Kind::IndexBuffer | Kind::IndexNode => {
-                Content::of_block(self.types, tag)?
-            }
+            Kind::Object
+            | Kind::Buffer
+            | Kind::Node
+            | Kind::IndexBuffer
+            | Kind::IndexNode
+            | Kind::Frozen => Content::of_block(self.types, tag)?,
         };
         Some(content.entry)
     }

@@ -96,6 +96,7 @@ impl fmt::Display for Content {
             Kind::Object => "an object without a name,",
             Kind::Buffer => "a buffer",
             Kind::Node => "a node",
+            Kind::Frozen => "a frozen object",
             Kind::IndexBuffer => return f.write_str("the index's buffer"),
             Kind::IndexNode => return f.write_str("a node of the index"),
         };

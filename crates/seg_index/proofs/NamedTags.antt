@@ -3,7 +3,7 @@ use Rattle.std.proofs.Common.{◌≡◌, ℕ, ◌+◌, ◌-◌, ◌*◌, ◌/◌
 use Rattle.std.specs.Prelude.{◌==◌, nat_le, nat_lt, ◌&&◌, if◌then◌else◌}
 use Rattle.std.proofs.lemmas.Bool.{cases_lt}
 use Rattle.std.proofs.lemmas.Bool.Decides.{nat_tests}
-use Rattle.seg_block.specs.declared.tag.Kind.TheVariants.{Named, Object, Buffer, Node, IndexBuffer, IndexNode}
+use Rattle.seg_block.specs.declared.tag.Kind.TheVariants.{Named, Object, Buffer, Node, IndexBuffer, IndexNode, Frozen}
 use Rattle.seg_block.specs.declared.tag.Tag.{Tag}
 use Rattle.seg_spec.specs.Block.{tag_of}
 use Rattle.seg_spec.specs.Heap.{tag_at}
@@ -39,12 +39,14 @@ no_tag word r every none = go (word % 256 == 1) (nat_lt (word / 256) 256) refl r
         absurd (let both : None ≡ Some (record { kind = Named; type_id = word / 256 }) = sym none ∙ some in cc)
 
 -- neither is a word that spells another tag
-pub other_tag : (word : ℕ) (t : Tag) → word ≡ word_of t → (t.kind ≡ Object) ⊎ ((t.kind ≡ Buffer) ⊎ ((t.kind ≡ Node) ⊎ ((t.kind ≡ IndexBuffer) ⊎ (t.kind ≡ IndexNode)))) → named_type word ≡ None
+pub other_tag : (word : ℕ) (t : Tag) → word ≡ word_of t → (t.kind ≡ Object) ⊎ ((t.kind ≡ Buffer) ⊎ ((t.kind ≡ Node) ⊎ ((t.kind ≡ IndexBuffer) ⊎ ((t.kind ≡ IndexNode) ⊎ (t.kind ≡ Frozen))))) →
+    named_type word ≡ None
 other_tag word t e (inl k) = not_named word 2 t.type_id (e ∙ ap (λ k. tag_of (kind_of k) t.type_id) k) (omega arith) (omega arith)
 other_tag word t e (inr (inl k)) = not_named word 3 t.type_id (e ∙ ap (λ k. tag_of (kind_of k) t.type_id) k) (omega arith) (omega arith)
 other_tag word t e (inr (inr (inl k))) = not_named word 4 t.type_id (e ∙ ap (λ k. tag_of (kind_of k) t.type_id) k) (omega arith) (omega arith)
 other_tag word t e (inr (inr (inr (inl k)))) = not_named word 5 t.type_id (e ∙ ap (λ k. tag_of (kind_of k) t.type_id) k) (omega arith) (omega arith)
-other_tag word t e (inr (inr (inr (inr k)))) = not_named word 6 t.type_id (e ∙ ap (λ k. tag_of (kind_of k) t.type_id) k) (omega arith) (omega arith)
+other_tag word t e (inr (inr (inr (inr (inl k))))) = not_named word 6 t.type_id (e ∙ ap (λ k. tag_of (kind_of k) t.type_id) k) (omega arith) (omega arith)
+other_tag word t e (inr (inr (inr (inr (inr k))))) = not_named word 7 t.type_id (e ∙ ap (λ k. tag_of (kind_of k) t.type_id) k) (omega arith) (omega arith)
 
 -- ---- the types of objects
 

@@ -32,7 +32,12 @@ fn named_type(word: u32) -> Option<TypeId>
     let Tag { kind, type_id } = Tag::read(word)?;
     match kind {
         Kind::Named => Some(type_id),
-        Kind::Object | Kind::Buffer | Kind::Node | Kind::IndexBuffer | Kind::IndexNode => None,
+        Kind::Object
+        | Kind::Buffer
+        | Kind::Node
+        | Kind::IndexBuffer
+        | Kind::IndexNode
+        | Kind::Frozen => None,
     }
 }
 

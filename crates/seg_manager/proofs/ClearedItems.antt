@@ -4,7 +4,7 @@ use Rattle.std.proofs.lemmas.List.{append_assoc, append-nil}
 use Rattle.std.specs.List.{AllByRecursion}
 use Rattle.seg_spec.specs.Bytes.{word, IsSame}
 use Rattle.seg_spec.specs.Header.{allocator_word, free_word, heap_start, KeepsFront, KeepsBack}
-use Rattle.seg_spec.specs.Types.{Table, IsTable, size}
+use Rattle.seg_spec.specs.Types.{Table, IsTable, size, AreOfVersion}
 use Rattle.seg_spec.specs.Value.{Value, Values, count, default_of}
 use Rattle.seg_spec.specs.Heap.{Span, units_at, IsHeap, live, after_give, IsLive, Gives}
 use Rattle.seg_spec.specs.Block.{KeepsBlock, IsOwnable, IsInside, block_of, payload_size}
@@ -99,7 +99,8 @@ cleared_first allocator old table at T n inside vs heap allocator_is ownable aft
 
 -- ---- the next one
 
-module _ (allocator : ℕ) (old now : List ℕ) (table : Table) (valid : IsTable table) (at T n k : ℕ) (inside : List ℕ) (c : Cleared allocator old now table at T n inside k) (below : k < n) where
+module _ (allocator : ℕ) (old now : List ℕ) (table : Table) (valid : IsTable table) (of_version : AreOfVersion 1 table) (at T n k : ℕ) (inside : List ℕ) (c : Cleared allocator old now table at T n inside k)
+    (below : k < n) where
   abbrev each : ℕ
   each = size table T
 
@@ -152,6 +153,7 @@ module _ (allocator : ℕ) (old now : List ℕ) (table : Table) (valid : IsTable
     heap = c.heap;
     allocator_is = c.allocator_is;
     is_table = valid;
+    of_version = of_version;
     ownable = c.ownable;
     holds_it = f.holds_it;
     aligned = c.aligned;
@@ -298,16 +300,16 @@ module _ (allocator : ℕ) (old : List ℕ) (table : Table) (root : Root) (block
         → Cleared allocator old next table root.at root.type (count root.values) u.holds_it.inside (k + 1)
     root_next here T each p type T_is below here_is type_is each_is p_is clears =
         let below' : k < count root.values = subst (λ n. k < n) count_is below in
-        let few = small allocator old now table u.is_table root.at root.type (count root.values) k u.holds_it.inside c below' in
+        let few = small allocator old now table u.is_table u.of_version root.at root.type (count root.values) k u.holds_it.inside c below' in
         let each_is' : each ≡ size table root.type = each_is ∙ ap (size table) (sym T_is) in
         let p_at : p ≡ root.at + k * size table root.type = rw (at_is, each_is') at p_is ∙ omega (arith, few) in
         let Clears : Table → ℕ → ℕ → Type 0 = λ t U q. (v : Value) (bs : List ℕ) → Stands allocator now t (record { at = q; type = U }) v bs
         → ChangesPlace now next t (record { at = q; type = U }) (default_of t U) [] (after_gives (live now) bs) bs [] in
         let clears' = subst (λ q. Clears table root.type q) p_at (subst (λ U. Clears table U p) (type_is ∙ sym T_is) (subst (λ t. Clears t type p) here_is clears)) in
-        let it = f allocator old now table u.is_table root.at root.type (count root.values) k u.holds_it.inside c below' in
-        let s = stands allocator old now table u.is_table root.at root.type (count root.values) k u.holds_it.inside c below' in
+        let it = f allocator old now table u.is_table u.of_version root.at root.type (count root.values) k u.holds_it.inside c below' in
+        let s = stands allocator old now table u.is_table u.of_version root.at root.type (count root.values) k u.holds_it.inside c below' in
         subst (λ m. Cleared allocator old next table root.at root.type (count root.values) u.holds_it.inside m) (let e : suc k ≡ k + 1 = omega arith in e)
-        (cleared_next allocator old now table u.is_table root.at root.type (count root.values) k u.holds_it.inside c below' next (clears' it.v it.its s))
+        (cleared_next allocator old now table u.is_table u.of_version root.at root.type (count root.values) k u.holds_it.inside c below' next (clears' it.v it.its s))
 
     -- and as it gives its block back
     pub root_last : found.count ≤ k → (IsHeap allocator now → IsLive now (block_of found.at) → Gives allocator now next (block_of found.at)) → GivesBack allocator old next table blocks

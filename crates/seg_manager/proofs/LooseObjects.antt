@@ -4,7 +4,7 @@ use Rattle.std.proofs.lemmas.Bool.{cases_eq}
 use Rattle.std.specs.List.{AllByRecursion}
 use Rattle.seg_spec.specs.Bytes.{word, slice}
 use Rattle.seg_spec.specs.Header.{allocator_word, free_word, KeepsFront}
-use Rattle.seg_spec.specs.Types.{Table, IsTable, size}
+use Rattle.seg_spec.specs.Types.{Table, IsTable, size, AreOfVersion}
 use Rattle.seg_spec.specs.Value.{Value, nil, cons, default_of}
 use Rattle.seg_spec.specs.Heap.{live, IsHeap}
 use Rattle.seg_spec.specs.Block.{Kind, tag_of, IsOwnable, IsBlock, block_of}
@@ -17,7 +17,7 @@ use Rattle.seg_spec.specs.Calls.{IsLoose}
 use Rattle.seg_spec.specs.Destroying.{Frees}
 use Rattle.seg_spec.proofs.SliceLaws.{IsSame-part}
 use Rattle.seg_spec.proofs.Frame.{word-same}
-use Rattle.seg_spec.proofs.LiveLaws.{times-same, times-other}
+use Rattle.seg_spec.proofs.LiveLaws.{times-append, times-same, times-other}
 use Rattle.seg_spec.proofs.Standing.{each_live_at, live_at, ownable_linked}
 use Rattle.seg_spec.proofs.RootLaws.{HoldsRoots-one, HoldsRoots-only}
 use Rattle.seg_value.specs.Contents.{GivesBlock}
@@ -189,9 +189,13 @@ module _ (allocator : ℕ) (old new : Stored) (picture : Picture) (is : IsSegmen
   })
 
   -- where its destruction frees what it owns
-  module _ (frees : (U : ℕ) (v : Value) (inside : List ℕ) → IsTable old.types → IsHeap allocator a' → IsLoose a' old.types (record { at = root.at; type = U }) v inside → Frees allocator a' b' (block_of root.at ∷ inside)) where
-    freed : Frees allocator a' b' blocks
-    freed = rw one.blocks_are (frees root.type plain.value one.inside (rw is.table_is is.held.laid_out.is_table) (rw is.allocator_is at is.held.laid_out.heap) loose_value)
+  module _ (frees : (U : ℕ) (v : Value) (inside : List ℕ) → IsTable old.types → AreOfVersion 1 old.types → IsHeap allocator a' → IsLoose a' old.types (record { at = root.at; type = U }) v inside →
+      Frees allocator a' b' (block_of root.at ∷ inside) []) where
+    freed : Frees allocator a' b' blocks []
+    freed = rw one.blocks_are (frees root.type plain.value one.inside (rw is.table_is is.held.laid_out.is_table) (rw is.table_is is.held.laid_out.of_version) (rw is.allocator_is at is.held.laid_out.heap) loose_value)
+
+    none_but : (h : ℕ) → times h blocks ≡ 0 → times h (blocks ++ []) ≡ 0
+    none_but h none = omega (arith, none, times-append h blocks [])
 
     still : (h : ℕ) → 1 ≤ times h (positions (live b')) → (1 ≤ times h (positions (live a'))) × (times h blocks ≡ 0)
     still h some =
@@ -202,7 +206,7 @@ module _ (allocator : ℕ) (old new : Stored) (picture : Picture) (is : IsSegmen
     ownable_then : (h : ℕ) → 1 ≤ times h (positions (live b')) → IsOwnable b' picture.table h
     ownable_then h some =
         let s = still h some in
-        ownable_linked a' b' picture.table h (freed.kept h s.0 s.1) (live_at (IsOwnable a' picture.table) (live a') h is.held.laid_out.blocks s.0)
+        ownable_linked a' b' picture.table h (freed.kept h s.0 (none_but h s.1)) (live_at (IsOwnable a' picture.table) (live a') h is.held.laid_out.blocks s.0)
 
     trades' : Trades a' b' picture blocks []
     trades' = record {
@@ -211,7 +215,7 @@ module _ (allocator : ℕ) (old new : Stored) (picture : Picture) (is : IsSegmen
       back_kept = freed.back_kept;
       heap = rw is.allocator_is freed.heap;
       ownable = each_live_at (IsOwnable b' picture.table) (live b') ownable_then;
-      kept = λ h some none. (freed.kept h some none).whole.kept;
+      kept = λ h some none. (freed.kept h some (none_but h none)).whole.kept;
       counts = λ h. let c = freed.live_are h in omega arith;
     }
 
@@ -227,7 +231,7 @@ module _ (allocator : ℕ) (old new : Stored) (picture : Picture) (is : IsSegmen
         };
         length_kept = freed.length_kept;
         front_kept = freed.front_kept;
-        kept = λ h some none. (freed.kept h some none).whole.kept;
+        kept = λ h some none. (freed.kept h some (none_but h none)).whole.kept;
       };
       live_is = freed.live_is;
     }

@@ -115,6 +115,7 @@ module _ (allocator : ℕ) (old mid : Stored) (picture : Picture) (is : IsSegmen
     heap = subst (λ n. IsHeap n b) is.allocator_is e.changes.heap;
     allocator_is = allocator_same a b e.changes.front_kept ∙ is.allocator_is;
     is_table = is.held.laid_out.is_table;
+    of_version = is.held.laid_out.of_version;
     ownable = e.changes.ownable;
     holds_it = HoldsRoot-kept a b picture.table is.held.laid_out.is_table root its its_kept holds_old;
     no_words = nothing_before a is.held.laid_out.names.index.entries e.before root e.after (subst (AreEntries a is.held.laid_out.names.index.entries) e.names_are is.held.laid_out.names.entries);

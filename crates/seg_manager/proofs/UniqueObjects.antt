@@ -4,7 +4,7 @@ use Rattle.std.specs.List.{AllByRecursion}
 use Rattle.seg_spec.specs.Bytes.{word, ChangesOnly}
 use Rattle.seg_spec.specs.Header.{allocator_word, free_word, heap_start}
 use Rattle.seg_spec.specs.Pointer.{target, set_pointer}
-use Rattle.seg_spec.specs.Types.{IsTable}
+use Rattle.seg_spec.specs.Types.{IsTable, AreOfVersion}
 use Rattle.seg_spec.specs.Value.{Value}
 use Rattle.seg_spec.specs.Heap.{live, IsHeap}
 use Rattle.seg_spec.specs.Block.{KeepsBlock, block_of}
@@ -117,8 +117,8 @@ back old new at n c = record { length_kept = sym c.length_kept; others = λ p m 
 
 module _ (allocator : ℕ) (old mid new : Stored) (picture : Picture) (is : IsSegment allocator old picture) (T at : ℕ) (less : T < 32) (named : target old.window.bytes (unique_word T) ≡ Some at)
     (bytes_are : mid.window.bytes ≡ set_pointer old.window.bytes (unique_word T) None) (types_are : mid.types ≡ old.types) (types_then : new.types ≡ mid.types)
-    (frees : (U : ℕ) (v : Value) (inside : List ℕ) → IsTable mid.types → IsHeap allocator mid.window.bytes → IsLoose mid.window.bytes mid.types (record { at = at; type = U }) v inside
-    → Frees allocator mid.window.bytes new.window.bytes (block_of at ∷ inside)) where
+    (frees : (U : ℕ) (v : Value) (inside : List ℕ) → IsTable mid.types → AreOfVersion 1 mid.types → IsHeap allocator mid.window.bytes → IsLoose mid.window.bytes mid.types (record { at = at; type = U }) v inside
+    → Frees allocator mid.window.bytes new.window.bytes (block_of at ∷ inside) []) where
   abbrev a : List ℕ
   a = old.window.bytes
 
@@ -135,13 +135,14 @@ module _ (allocator : ℕ) (old mid new : Stored) (picture : Picture) (is : IsSe
   word_is' = rw bytes_are (word_written a T None less long' (λ t e. absurd (let f : None ≡ Some t = e in cc)))
 
   -- what its destruction leaves
-  abbrev Destroys : ℕ → Type 0
-  Destroys p = (U : ℕ) (v : Value) (inside : List ℕ) → IsTable mid.types → IsHeap allocator b → IsLoose b mid.types (record { at = p; type = U }) v inside → Frees allocator b new.window.bytes (block_of p ∷ inside)
+  abbrev FreesIt : ℕ → Type 0
+  FreesIt p = (U : ℕ) (v : Value) (inside : List ℕ) → IsTable mid.types → AreOfVersion 1 mid.types → IsHeap allocator b → IsLoose b mid.types (record { at = p; type = U }) v inside
+      → Frees allocator b new.window.bytes (block_of p ∷ inside) []
 
   pub lost_unique : LosesUnique allocator old new picture T
   lost_unique =
       let u = unique_of T at picture.uniques (sym (is.held.laid_out.uniques.words T less) ∙ named) in
-      let destroys : Destroys u.root.at = subst Destroys (sym u.at_is) frees in
+      let destroys : FreesIt u.root.at = subst FreesIt (sym u.at_is) frees in
       let without = record picture { uniques = u.before ++ u.after; loose = u.root ∷ picture.loose } in
       let held : IsHeld b without = unique_left a b picture is.held T less changes' u.before u.root u.after u.parts u.type_is word_is' in
       let is_then : IsSegment allocator mid without = record {

@@ -8,7 +8,7 @@ use Rattle.std.specs.Prelude.{◌≡◌, ℕ, ◌+◌, ◌≤◌, List, [], ◌�
 use Rattle.std.specs.List.{AllByRecursion}
 use Rattle.seg_spec.specs.Bytes.{word}
 use Rattle.seg_spec.specs.Header.{allocator_word, index_kind_word, KeepsFront, KeepsBack}
-use Rattle.seg_spec.specs.Types.{Table, IsTable}
+use Rattle.seg_spec.specs.Types.{Table, IsTable, AreOfVersion}
 use Rattle.seg_spec.specs.Heap.{IsHeap, live}
 use Rattle.seg_spec.specs.Block.{IsOwnable, KeepsBlock}
 use Rattle.seg_spec.specs.Index.{Root, root_named}
@@ -26,6 +26,7 @@ pub record IsUnlisted (allocator : ℕ) (bytes : List ℕ) (table : Table) (root
   pub heap : IsHeap allocator bytes
   pub allocator_is : word bytes allocator_word ≡ allocator
   pub is_table : IsTable table
+  pub of_version : AreOfVersion 1 table
   pub ownable : AllByRecursion (λ b. IsOwnable bytes table b.at) (live bytes)
   pub holds_it : HoldsRoot bytes table root blocks
   pub no_words : root.words ≡ []

@@ -25,7 +25,7 @@ impl Purpose {
         match it.tag {
             None => Purpose::Gap,
             Some(tag) => match tag.kind {
-                Kind::Named | Kind::Object => Purpose::Object,
+                Kind::Named | Kind::Object | Kind::Frozen => Purpose::Object,
                 Kind::Buffer => Purpose::Buffer,
                 Kind::Node => Purpose::Node,
                 Kind::IndexBuffer | Kind::IndexNode => Purpose::Index,

@@ -7,7 +7,7 @@ use Rattle.std.proofs.lemmas.List.{map-append}
 use Rattle.seg_spec.specs.Bytes.{ChangesOnly}
 use Rattle.seg_spec.specs.Pointer.{target}
 use Rattle.seg_spec.specs.Types.{Form, Table, form_at, IsTable, size}
-use Rattle.seg_spec.specs.Value.{Label, Value, Values}
+use Rattle.seg_spec.specs.Value.{Label, Value, Values, node}
 use Rattle.seg_spec.specs.Heap.{units_at, IsHeap, live, heap_start}
 use Rattle.seg_spec.specs.Block.{Kind, tag_of, IsBlock, KeepsBlock, IsInside, block_of, payload_size}
 use Rattle.seg_spec.specs.Shapes.{nodes_of}
@@ -23,7 +23,8 @@ use Rattle.seg_spec.proofs.WriteInside.{KeptBut, live_kept_but}
 use Rattle.seg_spec.proofs.Owed.{parts_kept}
 use Rattle.seg_spec.proofs.TreeOwed.{tree_owes}
 use Rattle.seg_spec.proofs.Destruction.{others_more, no_common, heap_written, payload_written}
-use Rattle.seg_spec.proofs.PartsOwed.{each_parts, parts_append}
+use Rattle.seg_spec.proofs.PartsOwed.{each_parts, parts_append, named_inside}
+use Rattle.seg_spec.specs.Shared.{named_in, named_each}
 
 -- ---- the headers of live blocks, where one payload is written
 
@@ -53,7 +54,7 @@ module _ (bytes : List ℕ) (table : Table) (place : Place) (p : ℕ) (e : targe
 
   own_by : (U : ℕ) (opened : Opened) (inside : Values) (owned xs : List ℕ) →
       OpensOwn bytes place.at (tag_of Kind.object U) (size table U) opened (record { label = Label.opt; blocks = named bytes place.at; parts = items table (start bytes place.at) U (count_at bytes place.at) })
-      → HoldsEach bytes table opened.parts inside owned → xs ≡ opened.blocks ++ owned → GoesWith bytes table p xs
+      → HoldsEach bytes table opened.parts inside owned → xs ≡ opened.blocks ++ owned → GoesWith bytes table p xs (named_each inside)
   own_by U opened inside owned xs o hs is =
       let parts : opened.parts ≡ items table (start bytes place.at) U (count_at bytes place.at) = ap (λ (r : Opened). r.parts) o.opened_is in
       let one : count_at bytes place.at ≡ 1 = o.counted ∙ ap length named_is in
@@ -65,62 +66,73 @@ module _ (bytes : List ℕ) (table : Table) (place : Place) (p : ℕ) (e : targe
       let blocks : opened.blocks ≡ block_of p ∷ [] = ap (λ (r : Opened). r.blocks) o.opened_is ∙ named_is in
       record {
         owed = block_of p ∷ (owned ++ []);
-        owes_it = owes Kind.object U (record { at = p; type = U } ∷ []) [] owned [] (subst (λ n. IsBlock bytes p (tag_of Kind.object U) n) one_size room, refl, refl) (each_parts bytes table hs') no_links refl;
+        named = named_each inside ++ [];
+        named_are = λ h. let n = times-append h (named_each inside) [] in omega arith;
+        owes_it = owes Kind.object U (record { at = p; type = U } ∷ []) [] owned [] (named_each inside) [] (subst (λ n. IsBlock bytes p (tag_of Kind.object U) n) one_size room, refl, refl) (each_parts bytes table hs') no_links refl refl;
         owed_are = λ h. let n = times-append h owned [] in let f : times h xs ≡ times h (block_of p ∷ owned) = ap (times h) (is ∙ ap (λ bs. bs ++ owned) blocks) in omega arith;
       }
 
-  pub own_goes : (U : ℕ) (v : Value) (xs : List ℕ) → form_at table place.type ≡ Some (Form.own U) → Holds bytes table place v xs → GoesWith bytes table p xs
+  -- what a value names, where its label is known
+  inside_names : (v : Value) (opened : Opened) (inside : Values) (label : Label) → v ≡ node opened.label inside → opened.label ≡ label → ((T q : ℕ) → label ≢ Label.shared T q) → named_each inside ≡ named_in v
+  inside_names v opened inside label v_is e other = sym (ap named_in v_is ∙ ap (λ l. named_in (node l inside)) e ∙ named_inside label inside other)
+
+  pub own_goes : (U : ℕ) (v : Value) (xs : List ℕ) → form_at table place.type ≡ Some (Form.own U) → Holds bytes table place v xs → GoesWith bytes table p xs (named_in v)
   own_goes U v xs f (holds form opened inside owned g o hs v_is is) =
       let same = same_form form (Form.own U) (sym g ∙ f) in
       let o' : Opens bytes table place (Form.own U) opened = subst (λ h. Opens bytes table place h opened) same o in
-      own_by U opened inside owned xs o' hs is
+      subst (GoesWith bytes table p xs) (inside_names v opened inside Label.opt v_is (ap (λ (r : Opened). r.label) o'.opened_is) (λ T q e. cc)) (own_by U opened inside owned xs o' hs is)
 
   -- ---- a map
 
   tree_by : (U : ℕ) (f : form_at table place.type ≡ Some (Form.map U)) (opened : Opened) (inside : Values) (owned xs : List ℕ) → OpensTree bytes table place.at (tag_of Kind.node place.type) U opened →
-      HoldsEach bytes table opened.parts inside owned → xs ≡ opened.blocks ++ owned → GoesWith bytes table p xs
+      HoldsEach bytes table opened.parts inside owned → xs ≡ opened.blocks ++ owned → GoesWith bytes table p xs (named_each inside)
   tree_by U f opened inside owned xs o hs is =
       let parts : opened.parts ≡ places_of U (map (λ p. p + map_words) (nodes_of o.tree)) = ap (λ (r : Opened). r.parts) o.opened_is in
       let blocks : opened.blocks ≡ map block_of (nodes_of o.tree) = ap (λ (r : Opened). r.blocks) o.opened_is in
       let r = tree_owes bytes table place.type U f (target bytes place.at) o.tree inside owned o.is_tree o.are_nodes (subst (λ ps. HoldsEach bytes table ps inside owned) parts hs) in
       record {
         owed = r.blocks;
-        owes_it = subst (λ o. MatchOption o (r.blocks ≡ []) (λ q. Owes bytes table q r.blocks)) e r.owes_it;
+        named = r.names;
+        named_are = r.names_are;
+        owes_it = subst (λ o. MatchOption o ((r.blocks ≡ []) × (r.names ≡ [])) (λ q. Owes bytes table q r.blocks r.names)) e r.owes_it;
         owed_are = λ h. let c = r.counts h in let n = times-append h (map block_of (nodes_of o.tree)) owned in
             let a : times h xs ≡ times h (map block_of (nodes_of o.tree) ++ owned) = ap (times h) (is ∙ ap (λ bs. bs ++ owned) blocks) in omega arith;
       }
 
-  pub tree_goes : (U : ℕ) (v : Value) (xs : List ℕ) → form_at table place.type ≡ Some (Form.map U) → Holds bytes table place v xs → GoesWith bytes table p xs
+  pub tree_goes : (U : ℕ) (v : Value) (xs : List ℕ) → form_at table place.type ≡ Some (Form.map U) → Holds bytes table place v xs → GoesWith bytes table p xs (named_in v)
   tree_goes U v xs f (holds form opened inside owned g o hs v_is is) =
       let same = same_form form (Form.map U) (sym g ∙ f) in
       let o' : Opens bytes table place (Form.map U) opened = subst (λ h. Opens bytes table place h opened) same o in
-      tree_by U f opened inside owned xs o' hs is
+      subst (GoesWith bytes table p xs) (inside_names v opened inside _ v_is (ap (λ (r : Opened). r.label) o'.opened_is) (λ T q e. cc)) (tree_by U f opened inside owned xs o' hs is)
 
   -- ---- a string
 
   text_by : (f : form_at table place.type ≡ Some Form.str) (opened is : Opened) (inside : Values) (owned xs : List ℕ) → OpensBuffer bytes place.at (tag_of Kind.buffer place.type) 1 [] opened is →
       is.blocks ≡ named bytes place.at → is.parts ≡ [] →
-      HoldsEach bytes table opened.parts inside owned → xs ≡ opened.blocks ++ owned → GoesWith bytes table p xs
+      HoldsEach bytes table opened.parts inside owned → xs ≡ opened.blocks ++ owned → GoesWith bytes table p xs (named_each inside)
+  unfolding named_each
   text_by f opened is inside owned xs o blocks_is parts_is hs xs_is =
       let room : IsBlock bytes p (tag_of Kind.buffer place.type) (count_at bytes place.at * 1) = rw e at o.named_room in
       let block : IsBlock bytes p (tag_of Kind.buffer place.type) 0 = record { after_header = room.after_header; live = room.live; has_tag = room.has_tag; room = omega arith } in
-      let none : owned ≡ [] = nothing inside owned (subst (λ ps. HoldsEach bytes table ps inside owned) (ap (λ (r : Opened). r.parts) o.opened_is ∙ parts_is) hs) in
+      let none : (owned ≡ []) × (named_each inside ≡ []) = nothing inside owned (subst (λ ps. HoldsEach bytes table ps inside owned) (ap (λ (r : Opened). r.parts) o.opened_is ∙ parts_is) hs) in
       let blocks : opened.blocks ≡ block_of p ∷ [] = ap (λ (r : Opened). r.blocks) o.opened_is ∙ blocks_is ∙ named_is in
       let shown : OpensBlock bytes table p Kind.buffer place.type (form_at table place.type) [] [] = rw f (block, refl, refl) in
       record {
         owed = block_of p ∷ [];
-        owes_it = owes Kind.buffer place.type [] [] [] [] shown no_parts no_links refl;
-        owed_are = λ h. ap (times h) (sym (xs_is ∙ ap (λ bs. bs ++ owned) blocks ∙ ap (λ bs. block_of p ∷ bs) none));
+        named = [];
+        named_are = λ h. ap (times h) (sym none.1);
+        owes_it = owes Kind.buffer place.type [] [] [] [] [] [] shown no_parts no_links refl refl;
+        owed_are = λ h. ap (times h) (sym (xs_is ∙ ap (λ bs. bs ++ owned) blocks ∙ ap (λ bs. block_of p ∷ bs) none.0));
       }
     where
-      nothing : (vs : Values) (bs : List ℕ) → HoldsEach bytes table [] vs bs → bs ≡ []
-      nothing vs bs holds_none = refl
+      nothing : (vs : Values) (bs : List ℕ) → HoldsEach bytes table [] vs bs → (bs ≡ []) × (named_each vs ≡ [])
+      nothing vs bs holds_none = (refl, refl)
 
-  pub text_goes : (v : Value) (xs : List ℕ) → form_at table place.type ≡ Some Form.str → Holds bytes table place v xs → GoesWith bytes table p xs
+  pub text_goes : (v : Value) (xs : List ℕ) → form_at table place.type ≡ Some Form.str → Holds bytes table place v xs → GoesWith bytes table p xs (named_in v)
   text_goes v xs f (holds form opened inside owned g o hs v_is is) =
       let same = same_form form Form.str (sym g ∙ f) in
       let o' : Opens bytes table place Form.str opened = subst (λ h. Opens bytes table place h opened) same o in
-      text_by f opened _ inside owned xs o' refl refl hs is
+      subst (GoesWith bytes table p xs) (inside_names v opened inside _ v_is (ap (λ (r : Opened). r.label) o'.opened_is) (λ T q e. cc)) (text_by f opened _ inside owned xs o' refl refl hs is)
 
 -- ---- a buffer of values, the rest of which names nothing
 
@@ -150,9 +162,9 @@ items_entries table start U (suc n) =
     let rest = items_entries table (start + size table U) U n in
     rw (z, a) (rw z at (ap (λ ps. record { at = start; type = U } ∷ ps) rest))
 
-nothing_parts : (bytes : List ℕ) (table : Table) (U : ℕ) (qs : List ℕ) → AllByRecursion (λ q. EachCell table U (λ d form. NamesNothing bytes (q + d) form)) qs → AreParts bytes table (places_of U qs) []
+nothing_parts : (bytes : List ℕ) (table : Table) (U : ℕ) (qs : List ℕ) → AllByRecursion (λ q. EachCell table U (λ d form. NamesNothing bytes (q + d) form)) qs → AreParts bytes table (places_of U qs) [] []
 nothing_parts bytes table U [] a = no_parts
-nothing_parts bytes table U (q ∷ qs) a = more_parts {blocks = []} (inr (a.0, refl)) (nothing_parts bytes table U qs a.1)
+nothing_parts bytes table U (q ∷ qs) a = more_parts {blocks = []} {names = []} (inr (a.0, refl, refl)) (nothing_parts bytes table U qs a.1)
 
 -- as many as fit are no more than there is room for
 fits_in : (n each room : ℕ) → 1 ≤ each → n * each ≤ room → n ≤ room / each
@@ -187,7 +199,7 @@ module _ (allocator : ℕ) (old new : List ℕ) (table : Table) (valid : IsTable
 
   -- the whole buffer
   pub buffer_goes : (vs : Values) (xs : List ℕ) → SameBlocks (block_of p ∷ owned) xs → HoldsEach old table (entries_at table p before U n) vs owned →
-      (IsBlock new p (tag_of Kind.buffer T) 0 → OpensBlock new table p Kind.buffer T (form_at table T) (entries_of new table p before U) []) → Uncouples allocator old new table p xs
+      (IsBlock new p (tag_of Kind.buffer T) 0 → OpensBlock new table p Kind.buffer T (form_at table T) (entries_of new table p before U) []) → Uncouples allocator old new table p xs (named_each vs)
   buffer_goes vs xs same hs shows =
       let block_new = block_there allocator old new (p + n * (before + size table U)) (payload_size old (block_of p) - n * (before + size table U)) (block_of p) heap inside here d.changes p (tag_of Kind.buffer T) (n *
       (before + size table U)) here block in
@@ -205,9 +217,11 @@ module _ (allocator : ℕ) (old new : List ℕ) (table : Table) (valid : IsTable
         keeps = others_more old new (block_of p ∷ []) xs (λ h none. let s = same h in omega arith) others;
         goes = record {
           owed = block_of p ∷ ((owned ++ []) ++ []);
-          owes_it = owes Kind.buffer T (entries_of new table p before U) [] (owned ++ []) []
+          named = (named_each vs ++ []) ++ [];
+          named_are = λ h. let a = times-append h (named_each vs) [] in let b = times-append h (named_each vs ++ []) [] in omega arith;
+          owes_it = owes Kind.buffer T (entries_of new table p before U) [] (owned ++ []) [] (named_each vs ++ []) []
               (shows (record { after_header = block_new.after_header; live = block_new.live; has_tag = block_new.has_tag; room = omega arith }))
-              (subst (λ ps. AreParts new table ps (owned ++ [])) (sym entries) all) no_links refl;
+              (subst (λ ps. AreParts new table ps (owned ++ []) (named_each vs ++ [])) (sym entries) all) no_links refl refl;
           owed_are = λ h. let a = times-append h owned [] in let b = times-append h (owned ++ []) [] in let s = same h in omega arith;
         };
       }
@@ -219,7 +233,7 @@ module _ (allocator : ℕ) (old new : List ℕ) (table : Table) (valid : IsTable
   entries_by : (before U : ℕ) (keys : List Rattle.std.proofs.Common.ℤ) (opened is : Opened) (inside : Values) (owned : List ℕ) →
       OpensBuffer old place.at (tag_of Kind.buffer place.type) (before + size table U) keys opened is → is.blocks ≡ named old place.at →
       is.parts ≡ entries_at table (start old place.at) before U (count_at old place.at) → HoldsEach old table opened.parts inside owned → xs ≡ opened.blocks ++ owned → DefaultsRest old new table p before U (count_at old place.at) →
-      (IsBlock new p (tag_of Kind.buffer place.type) 0 → OpensBlock new table p Kind.buffer place.type (form_at table place.type) (entries_of new table p before U) []) → Uncouples allocator old new table p xs
+      (IsBlock new p (tag_of Kind.buffer place.type) 0 → OpensBlock new table p Kind.buffer place.type (form_at table place.type) (entries_of new table p before U) []) → Uncouples allocator old new table p xs (named_each inside)
   entries_by before U keys opened is inside owned o blocks_is parts_is hs xs_is d shows =
       let room : IsBlock old p (tag_of Kind.buffer place.type) (count_at old place.at * (before + size table U)) = rw e at o.named_room in
       let begins : start old place.at ≡ p = ap (λ o. unwrap_or o 0) e in
@@ -229,17 +243,19 @@ module _ (allocator : ℕ) (old new : List ℕ) (table : Table) (valid : IsTable
       buffer_goes allocator old new table valid heap p place.type before U (count_at old place.at) owned room (subst (λ bs. AreLive old bs) all fits) d inside xs (λ h. ap (times h) (sym all))
       (subst (λ ps. HoldsEach old table ps inside owned) parts hs) shows
 
-  pub vector_goes : (U : ℕ) → form_at table place.type ≡ Some (Form.vec U) → Holds old table place v xs → DefaultsRest old new table p 0 U (count_at old place.at) → Uncouples allocator old new table p xs
+  pub vector_goes : (U : ℕ) → form_at table place.type ≡ Some (Form.vec U) → Holds old table place v xs → DefaultsRest old new table p 0 U (count_at old place.at) → Uncouples allocator old new table p xs (named_in v)
   vector_goes U f (holds form opened inside owned g o hs v_is is) d =
       let same = same_form form (Form.vec U) (sym g ∙ f) in
       let o' : Opens old table place (Form.vec U) opened = subst (λ h. Opens old table place h opened) same o in
       let z : 0 + size table U ≡ size table U = omega arith in
       let is_opened : Opened = record { label = Label.seq; blocks = named old place.at; parts = items table (start old place.at) U (count_at old place.at) } in
       let o'' : OpensBuffer old place.at (tag_of Kind.buffer place.type) (0 + size table U) [] opened is_opened = rw z o' in
-      entries_by 0 U [] opened is_opened inside owned o'' refl (sym (items_entries table (start old place.at) U (count_at old place.at))) hs is d (λ b. rw f (b, refl, refl))
+      subst (Uncouples allocator old new table p xs) (inside_names old table place p e v opened inside _ v_is (ap (λ (r : Opened). r.label) o'.opened_is) (λ T q e. cc))
+      (entries_by 0 U [] opened is_opened inside owned o'' refl (sym (items_entries table (start old place.at) U (count_at old place.at))) hs is d (λ b. rw f (b, refl, refl)))
 
-  pub flat_map_goes : (U : ℕ) → form_at table place.type ≡ Some (Form.flat_map U) → Holds old table place v xs → DefaultsRest old new table p 8 U (count_at old place.at) → Uncouples allocator old new table p xs
+  pub flat_map_goes : (U : ℕ) → form_at table place.type ≡ Some (Form.flat_map U) → Holds old table place v xs → DefaultsRest old new table p 8 U (count_at old place.at) → Uncouples allocator old new table p xs (named_in v)
   flat_map_goes U f (holds form opened inside owned g o hs v_is is) d =
       let same = same_form form (Form.flat_map U) (sym g ∙ f) in
       let o' : Opens old table place (Form.flat_map U) opened = subst (λ h. Opens old table place h opened) same o in
-      entries_by 8 U _ opened _ inside owned o' refl refl hs is d (λ b. rw f (b, refl, refl))
+      subst (Uncouples allocator old new table p xs) (inside_names old table place p e v opened inside _ v_is (ap (λ (r : Opened). r.label) o'.opened_is) (λ T q e. cc))
+      (entries_by 8 U _ opened _ inside owned o' refl refl hs is d (λ b. rw f (b, refl, refl)))

@@ -1,5 +1,5 @@
 -- Destruction, step by step: what waits, and what is kept beside it.
-use Rattle.std.proofs.Common.{◌≡◌, ◌≢◌, ℕ, ◌+◌, ◌-◌, ◌*◌, ◌≤◌, ◌⊎◌, inl, inr, ⊎_elim, true, false, eqb, ◌<◌, List, [], ◌∷◌, ◌++◌, length, Option, Some, None, refl, sym, ap, ◌∙◌, subst, arith}
+use Rattle.std.proofs.Common.{◌≡◌, ◌≢◌, ℕ, ◌+◌, ◌-◌, ◌*◌, ◌≤◌, ◌⊎◌, inl, inr, ⊎_elim, true, false, eqb, ◌<◌, List, [], ◌∷◌, ◌++◌, length, Option, Some, None, refl, sym, ap, ◌∙◌, subst, arith, map, suc}
 use Rattle.std.specs.List.{AllByRecursion}
 use Rattle.std.proofs.lemmas.Bool.Decides.{nat_tests}
 use Rattle.std.proofs.lemmas.Bool.{cases_eq}
@@ -10,10 +10,10 @@ use Rattle.seg_spec.specs.Types.{Table, IsTable, size}
 use Rattle.seg_spec.specs.Heap.{Span, units_at, IsHeap, live, heap_start, without, Gives, link_at}
 use Rattle.seg_spec.specs.Block.{KeepsBlock, IsInside, block_of, payload_size}
 use Rattle.seg_spec.specs.Reads.{Place}
-use Rattle.seg_spec.specs.Sound.{times, SameBlocks, positions}
+use Rattle.seg_spec.specs.Sound.{times, SameBlocks, positions, HoldsRoots}
 use Rattle.seg_spec.specs.Demand.{after_gives}
 use Rattle.seg_spec.specs.Owing.{KeepsWhole, KeepsLinked, AreParts, Waits, none_waits, waits}
-use Rattle.seg_spec.specs.Destroying.{AreLive, GoesWith, Pends, KeepsOthers, Adds, Pops, Frees}
+use Rattle.seg_spec.specs.Destroying.{AreLive, GoesWith, Pends, KeepsOthers, Awaits, Adds, Pops, PendsBeside, Destroys}
 use Rattle.seg_spec.proofs.SliceLaws.{IsSame-part}
 use Rattle.seg_spec.proofs.Composing.{kept_twice}
 use Rattle.seg_spec.proofs.Frame.{SamePlace, target-same, each_weaker}
@@ -26,7 +26,9 @@ use Rattle.seg_spec.proofs.Writing.{set_number-changes}
 use Rattle.seg_spec.proofs.Owed.{Waits-kept, Owes-kept, parts_kept}
 use Rattle.seg_spec.proofs.Pushing.{owes_begins, waits_begins, pushed}
 use Rattle.seg_spec.proofs.Giving.{given_kept}
-use Rattle.seg_spec.proofs.GiveOrder.{in_any_order}
+use Rattle.seg_spec.specs.Frozen.{Frozen, root_of_frozen}
+use Rattle.seg_spec.specs.Shared.{names_in, times_named, IsReleasing, left, kept_with, with_count}
+use Rattle.seg_spec.proofs.RootFrame.{HoldsRoots-kept}
 
 -- ---- what is kept
 
@@ -88,15 +90,39 @@ module _ (allocator : ℕ) (old new : List ℕ) (at m h : ℕ) (heap : IsHeap al
 
 -- ---- what waits goes on waiting
 
-module _ (allocator : ℕ) (a b : List ℕ) (table : Table) (valid : IsTable table) (xs ys : List ℕ) (owned : AreLive a (xs ++ ys)) (heap : IsHeap allocator b) (k : KeepsOthers a b xs) where
-  pub pends_then : (first : Option ℕ) → Pends allocator a table first ys → Pends allocator b table first ys
-  pends_then first p = record { heap = heap; owed = p.owed; waiting = Waits-kept a b table valid (each_there (KeepsLinked a b) p.owed one) p.waiting; owed_are = p.owed_are }
-    where
-      one : (h : ℕ) → 1 ≤ times h p.owed → KeepsLinked a b h
-      one h some = let n = no_common allocator a p.heap xs ys owned h (omega (arith, p.owed_are h)) in k.others h n.0 n.1
+-- where each of these blocks is kept with its link
+pub pends_kept : (allocator : ℕ) (a b : List ℕ) (table : Table) → IsTable table → (first : Option ℕ) (blocks names : List ℕ) → IsHeap allocator b → ((h : ℕ) → 1 ≤ times h blocks → KeepsLinked a b h)
+    → Pends allocator a table first blocks names → Pends allocator b table first blocks names
+pends_kept allocator a b table valid first blocks names heap linked w = record {
+  heap = heap;
+  owed = w.owed;
+  named = w.named;
+  waiting = Waits-kept a b table valid (each_there (KeepsLinked a b) w.owed (λ h some. linked h (omega (arith, w.owed_are h)))) w.waiting;
+  owed_are = w.owed_are;
+  named_are = w.named_are;
+}
 
-  pub goes_then : (p : ℕ) → IsHeap allocator a → GoesWith a table p ys → GoesWith b table p ys
-  goes_then p heap_a g = record { owed = g.owed; owes_it = Owes-kept a b table valid (each_there (KeepsWhole a b) g.owed one) g.owes_it; owed_are = g.owed_are }
+pub beside_kept : (allocator : ℕ) (a b : List ℕ) (table : Table) → IsTable table → (first : Option ℕ) (blocks names : List ℕ) (frozen : List Frozen) → IsHeap allocator b → ((h : ℕ) → 1 ≤ times h blocks → KeepsLinked a b h)
+    → PendsBeside allocator a table first blocks names frozen → PendsBeside allocator b table first blocks names frozen
+beside_kept allocator a b table valid first blocks names frozen heap linked w = record {
+  owed = w.owed;
+  shares = w.shares;
+  pends = pends_kept allocator a b table valid first w.owed names heap (λ h some. linked h (omega (arith, w.blocks_are h, times-append h w.owed w.shares))) w.pends;
+  holds = HoldsRoots-kept a b table valid w.holds (each_there (KeepsBlock a b) w.shares (λ h some. (linked h (omega (arith, w.blocks_are h, times-append h w.owed w.shares))).whole.kept));
+  blocks_are = w.blocks_are;
+}
+
+pub awaits_kept : (allocator : ℕ) (a b : List ℕ) (table : Table) → IsTable table → (first : Option ℕ) (blocks names : List ℕ) (kept : List Place) (final : List Frozen) → IsHeap allocator b
+    → ((h : ℕ) → 1 ≤ times h blocks → KeepsLinked a b h) → Awaits allocator a table first blocks names kept final → Awaits allocator b table first blocks names kept final
+awaits_kept allocator a b table valid first blocks names kept final heap linked w =
+    record { named = w.named; frozen = w.frozen; beside = beside_kept allocator a b table valid first blocks w.named w.frozen heap linked w.beside; releasing = w.releasing }
+
+module _ (allocator : ℕ) (a b : List ℕ) (table : Table) (valid : IsTable table) (xs ys : List ℕ) (owned : AreLive a (xs ++ ys)) (heap : IsHeap allocator b) (k : KeepsOthers a b xs) where
+  pub awaits_then : (first : Option ℕ) (names : List ℕ) (kept : List Place) (final : List Frozen) → Awaits allocator a table first ys names kept final → Awaits allocator b table first ys names kept final
+  awaits_then first names kept final w = awaits_kept allocator a b table valid first ys names kept final heap (λ h some. let n = no_common allocator a w.beside.pends.heap xs ys owned h some in k.others h n.0 n.1) w
+
+  pub goes_then : (p : ℕ) (ms : List ℕ) → IsHeap allocator a → GoesWith a table p ys ms → GoesWith b table p ys ms
+  goes_then p ms heap_a g = record { owed = g.owed; named = g.named; owes_it = Owes-kept a b table valid (each_there (KeepsWhole a b) g.owed one) g.owes_it; owed_are = g.owed_are; named_are = g.named_are }
     where
       one : (h : ℕ) → 1 ≤ times h g.owed → KeepsWhole a b h
       one h some = let n = no_common allocator a heap_a xs ys owned h (omega (arith, g.owed_are h)) in (k.others h n.0 n.1).whole
@@ -127,76 +153,159 @@ module _ (allocator : ℕ) (old new : List ℕ) (table : Table) (valid : IsTable
   pub places_inside : (places : List Place) → AllByRecursion (Inside old) places → AllByRecursion (Inside new) places
   places_inside places a = each_weaker (Inside old) (Inside new) (λ q i. inside_then old new home q.at (size table q.type) home_large i home_kept) places a
 
-  pub parts_then : (places : List Place) (xs : List ℕ) → AllByRecursion (Inside old) places → AreLive old (zs ++ xs) → AreParts old table places xs → AreParts new table places xs
-  parts_then places xs a owned parts = parts_kept old new table valid (each_weaker (Inside old) (SamePlace old new table) (λ q i. inside_same old new home q.at (size table q.type) i home_kept) places a)
+  pub parts_then : (places : List Place) (xs ns : List ℕ) → AllByRecursion (Inside old) places → AreLive old (zs ++ xs) → AreParts old table places xs ns → AreParts new table places xs ns
+  parts_then places xs ns a owned parts = parts_kept old new table valid (each_weaker (Inside old) (SamePlace old new table) (λ q i. inside_same old new home q.at (size table q.type) i home_kept) places a)
       (each_there (KeepsBlock old new) xs (λ h some. let n = no_common allocator old heap zs xs owned h some in (keeps.others h n.0 n.1).whole.kept)) parts
 
 -- ---- blocks join those that wait
 
-pub same_adds : (allocator : ℕ) (a : List ℕ) (table : Table) (first : Option ℕ) (xs ys : List ℕ) → xs ≡ [] → Pends allocator a table first ys → Adds allocator a a table first xs ys
-same_adds allocator a table first xs ys none p = record {
-  keeps = others_none a xs;
-  pends = subst (λ zs. Pends allocator a table first (zs ++ ys)) (sym none) p;
+pub releasing_same : (kept : List Place) (final : List Frozen) (ns ms : List ℕ) (now : List Frozen) → SameBlocks ns ms → IsReleasing kept final ns now → IsReleasing kept final ms now
+releasing_same kept final ns ms now same r =
+    record { pending = r.pending; pending_are = λ h. r.pending_are h ∙ same h; next = r.next; counted = r.counted; falling = r.falling; leaves = r.leaves }
+
+pub beside_same : (allocator : ℕ) (a : List ℕ) (table : Table) (first : Option ℕ) (xs ys names : List ℕ) (frozen : List Frozen) → SameBlocks xs ys → PendsBeside allocator a table first xs names frozen
+    → PendsBeside allocator a table first ys names frozen
+beside_same allocator a table first xs ys names frozen same w = record { owed = w.owed; shares = w.shares; pends = w.pends; holds = w.holds; blocks_are = λ h. sym (same h) ∙ w.blocks_are h }
+
+pub awaits_names : (allocator : ℕ) (a : List ℕ) (table : Table) (first : Option ℕ) (blocks ns ms : List ℕ) (kept : List Place) (final : List Frozen) → SameBlocks ns ms → Awaits allocator a table first blocks ns kept final
+    → Awaits allocator a table first blocks ms kept final
+awaits_names allocator a table first blocks ns ms kept final same w = record {
+  named = w.named;
+  frozen = w.frozen;
+  beside = w.beside;
+  releasing = releasing_same kept final (ns ++ w.named) (ms ++ w.named) w.frozen (λ h. omega (arith, same h, times-append h ns w.named, times-append h ms w.named)) w.releasing;
 }
 
-pub pends_same : (allocator : ℕ) (a : List ℕ) (table : Table) (first : Option ℕ) (xs ys : List ℕ) → SameBlocks xs ys → Pends allocator a table first xs → Pends allocator a table first ys
-pends_same allocator a table first xs ys same p = record { heap = p.heap; owed = p.owed; waiting = p.waiting; owed_are = λ h. p.owed_are h ∙ same h }
+pub awaits_blocks : (allocator : ℕ) (a : List ℕ) (table : Table) (first : Option ℕ) (xs ys names : List ℕ) (kept : List Place) (final : List Frozen) → SameBlocks xs ys → Awaits allocator a table first xs names kept final
+    → Awaits allocator a table first ys names kept final
+awaits_blocks allocator a table first xs ys names kept final same w = record { named = w.named; frozen = w.frozen; beside = beside_same allocator a table first xs ys w.named w.frozen same w.beside; releasing = w.releasing }
 
-pub adds_twice : (allocator : ℕ) (a b c : List ℕ) (table : Table) (f g : Option ℕ) (xs ys zs all : List ℕ) → Adds allocator a b table f xs zs → Adds allocator b c table g ys (xs ++ zs) → SameBlocks all (ys ++ xs) →
-    Adds allocator a c table g all zs
-adds_twice allocator a b c table f g xs ys zs all k l same = record {
-  keeps = others_twice a b c xs ys all (λ h none. let s = same h in let n = times-append h ys xs in (omega arith, omega arith)) k.keeps l.keeps;
-  pends = pends_same allocator c table g (ys ++ (xs ++ zs)) (all ++ zs) (λ h. omega (arith, same h, times-append h ys xs, times-append h ys (xs ++ zs), times-append h xs zs, times-append h all zs)) l.pends;
+pub same_adds : (allocator : ℕ) (a : List ℕ) (table : Table) (first : Option ℕ) (xs ys ns more : List ℕ) (kept : List Place) (final : List Frozen) → xs ≡ [] → ns ≡ [] → Awaits allocator a table first ys (ns ++ more) kept final
+    → Adds allocator a a table first xs ys more kept final
+same_adds allocator a table first xs ys ns more kept final none no_names w = record {
+  keeps = others_none a (xs ++ ys);
+  awaits = subst (λ zs. Awaits allocator a table first (zs ++ ys) more kept final) (sym none) (subst (λ vs. Awaits allocator a table first ys (vs ++ more) kept final) no_names w);
 }
 
-pub adds_same : (allocator : ℕ) (a b : List ℕ) (table : Table) (f : Option ℕ) (xs ys zs : List ℕ) → SameBlocks xs ys → Adds allocator a b table f xs zs → Adds allocator a b table f ys zs
-adds_same allocator a b table f xs ys zs same k = record {
-  keeps = others_more a b xs ys (λ h none. same h ∙ none) k.keeps;
-  pends = pends_same allocator b table f (xs ++ zs) (ys ++ zs) (λ h. omega (arith, same h, times-append h xs zs, times-append h ys zs)) k.pends;
+pub adds_twice : (allocator : ℕ) (a b c : List ℕ) (table : Table) (f g : Option ℕ) (xs ys zs all first_more more : List ℕ) (kept : List Place) (final : List Frozen) → Adds allocator a b table f xs zs first_more kept final
+    → Adds allocator b c table g ys (xs ++ zs) more kept final → SameBlocks all (ys ++ xs) → Adds allocator a c table g all zs more kept final
+adds_twice allocator a b c table f g xs ys zs all first_more more kept final k l same = record {
+  keeps = others_twice a b c (xs ++ zs) (ys ++ (xs ++ zs)) (all ++ zs) (λ h none. let s = twice h in (omega (arith, times-append h ys (xs ++ zs)), omega arith)) k.keeps l.keeps;
+  awaits = awaits_blocks allocator c table g (ys ++ (xs ++ zs)) (all ++ zs) more kept final twice l.awaits;
 }
+  where
+    twice : SameBlocks (ys ++ (xs ++ zs)) (all ++ zs)
+    twice h = omega (arith, same h, times-append h ys xs, times-append h ys (xs ++ zs), times-append h xs zs, times-append h all zs)
+
+pub adds_same : (allocator : ℕ) (a b : List ℕ) (table : Table) (f : Option ℕ) (xs ys zs more : List ℕ) (kept : List Place) (final : List Frozen) → SameBlocks xs ys → Adds allocator a b table f xs zs more kept final
+    → Adds allocator a b table f ys zs more kept final
+adds_same allocator a b table f xs ys zs more kept final same k = record {
+  keeps = others_more a b (xs ++ zs) (ys ++ zs) (λ h none. all h ∙ none) k.keeps;
+  awaits = awaits_blocks allocator b table f (xs ++ zs) (ys ++ zs) more kept final all k.awaits;
+}
+  where
+    all : SameBlocks (xs ++ zs) (ys ++ zs)
+    all h = omega (arith, same h, times-append h xs zs, times-append h ys zs)
 
 -- one more waits
-pub adds_pushed : (allocator : ℕ) (old : List ℕ) (table : Table) → IsTable table → (p : ℕ) (first : Option ℕ) (xs ys : List ℕ) → GoesWith old table p xs → Pends allocator old table first ys → AreLive old (xs ++ ys) →
-    Adds allocator old (set_pointer old (block_of p + 12) first) table (Some p) xs ys
-adds_pushed allocator old table valid p first xs ys o w owned =
-    let r = pushed allocator old table valid w.heap p first o.owed w.owed o.owes_it w.waiting
-    (λ h. omega (arith, owned h, times-append h xs ys, times-append h o.owed w.owed, o.owed_are h, w.owed_are h)) in
+pub adds_pushed : (allocator : ℕ) (old : List ℕ) (table : Table) → IsTable table → (p : ℕ) (first : Option ℕ) (xs ys ns more : List ℕ) (kept : List Place) (final : List Frozen) → GoesWith old table p xs ns
+    → Awaits allocator old table first ys (ns ++ more) kept final → AreLive old (xs ++ ys) → Adds allocator old (set_pointer old (block_of p + 12) first) table (Some p) xs ys more kept final
+adds_pushed allocator old table valid p first xs ys ns more kept final o waiting owned =
+    let w = waiting.beside in
+    let r = pushed allocator old table valid w.pends.heap p first o.owed w.pends.owed o.named w.pends.named o.owes_it w.pends.waiting
+    (λ h. omega (arith, owned h, times-append h xs ys, times-append h o.owed w.pends.owed, o.owed_are h, w.pends.owed_are h, w.blocks_are h, times-append h w.owed w.shares)) in
     let changes = set_number-changes 4 old (block_of p + 12) (distance (block_of p + 12) first) in
-    let b = owes_begins old table p o.owed o.owes_it in
+    let b = owes_begins old table p o.owed o.named o.owes_it in
     let mine : 1 ≤ times (block_of p) xs =
     let n : times (block_of p) o.owed ≡ times (block_of p) (block_of p ∷ b.rest) = ap (times (block_of p)) b.blocks_are in
     omega (arith, times-same (block_of p) b.rest, o.owed_are (block_of p)) in
     let here : 1 ≤ times (block_of p) (positions (live old)) = omega (arith, owned (block_of p), times-append (block_of p) xs ys) in
-    let lies = there (LiesIn old heap_start (length old)) (block_of p) (positions (live old)) (live-lie old allocator w.heap) here in
+    let lies = there (LiesIn old heap_start (length old)) (block_of p) (positions (live old)) (live-lie old allocator w.pends.heap) here in
     record {
       keeps = record {
         length_kept = changes.length_kept;
         front_kept = λ q n low. changes.others q n (inl (omega (arith, lies.low)));
         live_kept = r.live_kept;
-        others = λ k some none. r.others k some (λ e. let m : 1 ≤ times k xs = subst (λ x. 1 ≤ times x xs) (sym e) mine in absurd (omega arith));
+        others = λ k some none. r.others k some (λ e. let m : 1 ≤ times k xs = subst (λ x. 1 ≤ times x xs) (sym e) mine in absurd (omega (arith, times-append k xs ys)));
       };
-      pends = record { heap = r.heap; owed = o.owed ++ w.owed; waiting = r.waiting; owed_are = λ h. omega (arith, times-append h xs ys, times-append h o.owed w.owed, o.owed_are h, w.owed_are h) };
+      awaits = record {
+        named = ns ++ waiting.named;
+        frozen = waiting.frozen;
+        beside = record {
+          owed = xs ++ w.owed;
+          shares = w.shares;
+          pends = record {
+            heap = r.heap;
+            owed = o.owed ++ w.pends.owed;
+            named = o.named ++ w.pends.named;
+            waiting = r.waiting;
+            owed_are = λ h. omega (arith, times-append h xs w.owed, times-append h o.owed w.pends.owed, o.owed_are h, w.pends.owed_are h);
+            named_are = λ h. omega (arith, times-append h ns waiting.named, times-append h o.named w.pends.named, o.named_are h, w.pends.named_are h);
+          };
+          holds = HoldsRoots-kept old (set_pointer old (block_of p + 12) first) table valid w.holds (each_there (KeepsBlock old (set_pointer old (block_of p + 12) first)) w.shares (λ h some.
+              let shared : 1 ≤ times h ys = omega (arith, w.blocks_are h, times-append h w.owed w.shares) in
+              let n = no_common allocator old w.pends.heap xs ys owned h shared in
+              (r.others h n.0 (λ e. let m : 1 ≤ times h xs = subst (λ x. 1 ≤ times x xs) (sym e) mine in absurd (omega (arith, n.1)))).whole.kept));
+          blocks_are = λ h. omega (arith, w.blocks_are h, times-append h xs ys, times-append h w.owed w.shares, times-append h (xs ++ w.owed) w.shares, times-append h xs w.owed);
+        };
+        releasing = releasing_same kept final ((ns ++ more) ++ waiting.named) (more ++ (ns ++ waiting.named)) waiting.frozen
+            (λ h. omega (arith, times-append h (ns ++ more) waiting.named, times-append h ns more, times-append h more (ns ++ waiting.named), times-append h ns waiting.named)) waiting.releasing;
+      };
     }
 
 -- ---- the first one that waits
 
-pub pops : (allocator : ℕ) (bytes : List ℕ) (table : Table) (p : ℕ) (blocks : List ℕ) → Pends allocator bytes table (Some p) blocks → Pops allocator bytes table p (link_at bytes (block_of p)) blocks
-pops allocator bytes table p blocks w = go w.owed w.waiting w.owed_are
+pub pops : (allocator : ℕ) (bytes : List ℕ) (table : Table) (p : ℕ) (blocks names : List ℕ) (kept : List Place) (final : List Frozen) → Awaits allocator bytes table (Some p) blocks names kept final
+    → Pops allocator bytes table p (link_at bytes (block_of p)) blocks names kept final
+pops allocator bytes table p blocks names kept final all = go w.pends.owed w.pends.named w.pends.waiting w.pends.owed_are w.pends.named_are
   where
-    go : (owed : List ℕ) → Waits bytes table (Some p) owed → SameBlocks owed blocks → Pops allocator bytes table p (link_at bytes (block_of p)) blocks
-    go owed (waits {xs = xs} {ys = ys} next o link more) same = record {
+    w : PendsBeside allocator bytes table (Some p) blocks all.named all.frozen
+    w = all.beside
+
+    go : (owed named : List ℕ) → Waits bytes table (Some p) owed named → SameBlocks owed w.owed → SameBlocks named all.named → Pops allocator bytes table p (link_at bytes (block_of p)) blocks names kept final
+    go owed named (waits {xs = xs} {ys = ys} {ns = ns} {ms = ms} next o link more) same same_names = record {
       its = xs;
-      others = ys;
-      goes = record { owed = xs; owes_it = o; owed_are = λ h. refl };
-      pends = record { heap = w.heap; owed = ys; waiting = subst (λ n. Waits bytes table n ys) (sym link) more; owed_are = λ h. refl };
-      blocks_are = λ h. sym (same h);
+      others = ys ++ w.shares;
+      its_names = ns;
+      goes = record { owed = xs; named = ns; owes_it = o; owed_are = λ h. refl; named_are = λ h. refl };
+      awaits = record {
+        named = ms;
+        frozen = all.frozen;
+        beside = record {
+          owed = ys;
+          shares = w.shares;
+          pends = record { heap = w.pends.heap; owed = ys; named = ms; waiting = subst (λ n. Waits bytes table n ys ms) (sym link) more; owed_are = λ h. refl; named_are = λ h. refl };
+          holds = w.holds;
+          blocks_are = λ h. refl;
+        };
+        releasing = releasing_same kept final (names ++ all.named) ((ns ++ names) ++ ms) all.frozen
+            (λ h. omega (arith, same_names h, times-append h names all.named, times-append h (ns ++ names) ms, times-append h ns names, times-append h ns ms)) all.releasing;
+      };
+      blocks_are = λ h. omega (arith, same h, w.blocks_are h, times-append h xs ys, times-append h w.owed w.shares, times-append h xs (ys ++ w.shares), times-append h ys w.shares);
     }
 
-pub none_pends : (allocator : ℕ) (bytes : List ℕ) (table : Table) (blocks : List ℕ) → Pends allocator bytes table None blocks → SameBlocks blocks []
-none_pends allocator bytes table blocks w = go w.owed w.waiting w.owed_are
+-- where none waits, nothing is to be released any more
+pub none_pends : (allocator : ℕ) (bytes : List ℕ) (table : Table) (blocks names : List ℕ) (frozen : List Frozen) (w : PendsBeside allocator bytes table None blocks names frozen) → SameBlocks blocks w.shares × SameBlocks names []
+none_pends allocator bytes table blocks names frozen w = go w.pends.owed w.pends.named w.pends.waiting w.pends.owed_are w.pends.named_are
   where
-    go : (owed : List ℕ) → Waits bytes table None owed → SameBlocks owed blocks → SameBlocks blocks []
-    go owed none_waits same = λ h. sym (same h)
+    go : (owed named : List ℕ) → Waits bytes table None owed named → SameBlocks owed w.owed → SameBlocks named names → SameBlocks blocks w.shares × SameBlocks names []
+    go owed named none_waits same same_names = ((λ h. omega (arith, same h, w.blocks_are h, times-append h w.owed w.shares)), (λ h. sym (same_names h)))
+
+no_cell_gone : (fs : List Frozen) → AllByRecursion (λ (f : Frozen). 1 ≤ f.count) fs → left [] fs ≡ fs
+no_cell_gone [] a = refl
+no_cell_gone (f ∷ fs) a =
+    let there_is = a.0 in
+    let whole : f.count - times_named f.at [] ≡ suc (f.count - 1) = omega arith in
+    let again : suc (f.count - 1) ≡ f.count = omega arith in
+    ap (λ n. kept_with f n (left (names_in f.value) fs) (left [] fs)) whole ∙ ap (λ n. with_count f n ∷ left [] fs) again ∙ ap (λ rs. f ∷ rs) (no_cell_gone fs a.1)
+
+-- where no name is to be released any more, what is left is there
+pub released : (kept : List Place) (final : List Frozen) (names : List ℕ) (now : List Frozen) → IsReleasing kept final names now → SameBlocks names [] → now ≡ final
+released kept final names now r none = go r.pending r.pending_are r.leaves
+  where
+    go : (pending : List Place) → SameBlocks (map (λ q. q.at) pending) names → left pending now ≡ final → now ≡ final
+    go [] are leaves = sym (no_cell_gone now r.counted.some) ∙ leaves
+    go (q ∷ pending) are leaves = absurd (let a = are q.at in let n = none q.at in let s = times-same q.at (map (λ p. p.at) pending) in omega arith)
 
 -- ---- blocks that are given back
 
@@ -204,8 +313,8 @@ pub gives_more : (bs : List Span) (xs : List ℕ) (at : ℕ) → after_gives bs 
 gives_more bs [] at = refl
 gives_more bs (x ∷ xs) at = gives_more (without x bs) xs at
 
--- how far destruction has come: these were given back, and those go with what waits still
-pub record HasFreed (allocator : ℕ) (old new : List ℕ) (table : Table) (first : Option ℕ) (blocks : List ℕ) (turns : ℕ) : Type 0 where
+-- how far destruction has come: these were given back, and those go with what waits still or are shared
+pub record HasFreed (allocator : ℕ) (old new : List ℕ) (table : Table) (first : Option ℕ) (blocks : List ℕ) (kept_cells : List Place) (final : List Frozen) (turns : ℕ) : Type 0 where
   pub given : List ℕ
   pub left : List ℕ
   pub blocks_are : SameBlocks blocks (given ++ left)
@@ -215,11 +324,12 @@ pub record HasFreed (allocator : ℕ) (old new : List ℕ) (table : Table) (firs
   pub live_is : live new ≡ after_gives (live old) given
   pub live_are : (h : ℕ) → times h (positions (live new)) + times h given ≡ times h (positions (live old))
   pub fewer : length (live new) + turns ≡ length (live old)
-  pub pends : Pends allocator new table first left
+  pub awaits : Awaits allocator new table first left [] kept_cells final
   pub kept : (h : ℕ) → 1 ≤ times h (positions (live old)) → times h blocks ≡ 0 → KeepsLinked old new h
 
-pub none_freed : (allocator : ℕ) (old : List ℕ) (table : Table) (first : Option ℕ) (blocks : List ℕ) → Pends allocator old table first blocks → HasFreed allocator old old table first blocks 0
-none_freed allocator old table first blocks w = record {
+pub none_freed : (allocator : ℕ) (old : List ℕ) (table : Table) (first : Option ℕ) (blocks : List ℕ) (kept_cells : List Place) (final : List Frozen) → Awaits allocator old table first blocks [] kept_cells final
+    → HasFreed allocator old old table first blocks kept_cells final 0
+none_freed allocator old table first blocks kept_cells final w = record {
   given = [];
   left = blocks;
   blocks_are = λ h. refl;
@@ -229,7 +339,7 @@ none_freed allocator old table first blocks w = record {
   live_is = refl;
   live_are = λ h. omega arith;
   fewer = omega arith;
-  pends = w;
+  awaits = w;
   kept = λ h some none. linked_same old h;
 }
 
@@ -249,16 +359,18 @@ times_few h [] = omega arith
 times_few h (b ∷ bs) = let rest = times_few h bs in ⊎_elim (λ e. let s : times h (b.at ∷ positions bs) ≡ 1 + times h (positions bs) = subst
     (λ x. times h (x ∷ positions bs) ≡ 1 + times h (positions bs)) (sym e) (times-same h (positions bs)) in omega arith) (λ ne. omega (arith, times-other h b.at (positions bs) ne)) (cases_eq b.at h)
 
-module _ (allocator : ℕ) (old now : List ℕ) (table : Table) (valid : IsTable table) (first : Option ℕ) (blocks : List ℕ) (turns : ℕ) (owned : AreLive old blocks) (f : HasFreed allocator old now table first blocks turns) where
+module _ (allocator : ℕ) (old now : List ℕ) (table : Table) (valid : IsTable table) (first : Option ℕ) (blocks : List ℕ) (kept_cells : List Place) (final : List Frozen) (turns : ℕ) (owned : AreLive old blocks)
+    (f : HasFreed allocator old now table first blocks kept_cells final turns) where
   pub left_live : AreLive now f.left
   left_live h = omega (arith, owned h, f.live_are h, f.blocks_are h, times-append h f.given f.left)
 
   -- one turn: the first block is taken out, what it names joins the others, and it is given back
-  module _ (p : ℕ) (next : Option ℕ) (pop : Pops allocator now table p next f.left) where
+  module _ (p : ℕ) (next : Option ℕ) (pop : Pops allocator now table p next f.left [] kept_cells final) where
     pub pop_live : AreLive now (pop.its ++ pop.others)
     pop_live h = omega (arith, left_live h, pop.blocks_are h)
 
-    module _ (opened new : List ℕ) (after : Option ℕ) (rest : List ℕ) (its_are : SameBlocks pop.its (block_of p ∷ rest)) (adds : Adds allocator now opened table after rest pop.others) (g : Gives allocator opened new (block_of p)) where
+    module _ (opened new : List ℕ) (after : Option ℕ) (rest : List ℕ) (its_are : SameBlocks pop.its (block_of p ∷ rest))
+        (adds : Adds allocator now opened table after rest pop.others [] kept_cells final) (g : Gives allocator opened new (block_of p)) where
       here : 1 ≤ times (block_of p) (positions (live now))
       here = omega (arith, pop_live (block_of p), times-append (block_of p) pop.its pop.others, its_are (block_of p), times-same (block_of p) rest)
 
@@ -272,36 +384,27 @@ module _ (allocator : ℕ) (old now : List ℕ) (table : Table) (valid : IsTable
           let is : times h (positions (live new)) ≡ times h (positions (without (block_of p) (live opened))) = ap (λ bs. times h (positions bs)) g.given in
           omega arith
 
-      linked_then : (h : ℕ) → 1 ≤ times h (positions (live now)) → times h pop.its ≡ 0 → KeepsLinked now new h
-      linked_then h some none =
+      linked_then : (h : ℕ) → 1 ≤ times h (positions (live now)) → times h pop.its ≡ 0 → times h pop.others ≡ 0 → KeepsLinked now new h
+      linked_then h some none no_other =
           let n = its_are h in
-          let is : times h rest ≡ 0 = omega arith in
+          let is : times h (rest ++ pop.others) ≡ 0 = omega (arith, times-append h rest pop.others) in
           let other : h ≢ block_of p = λ e. let one = times-same (block_of p) rest in let s : times (block_of p) (block_of p ∷ rest) ≡ 0 = subst (λ x. times x (block_of p ∷ rest) ≡ 0) e (sym n ∙ none) in absurd (omega arith) in
           linked_twice now opened new h (adds.keeps.others h some is)
-          (given_kept allocator opened new (block_of p) adds.pends.heap g h (subst (λ bs. 1 ≤ times h (positions bs)) (sym adds.keeps.live_kept) some) other)
+          (given_kept allocator opened new (block_of p) adds.awaits.beside.pends.heap g h (subst (λ bs. 1 ≤ times h (positions bs)) (sym adds.keeps.live_kept) some) other)
 
-      waiting_then : Pends allocator new table after (rest ++ pop.others)
-      waiting_then = record {
-        heap = g.heap;
-        owed = adds.pends.owed;
-        waiting = Waits-kept opened new table valid (each_there (KeepsLinked opened new) adds.pends.owed one) adds.pends.waiting;
-        owed_are = adds.pends.owed_are;
-      }
-        where
-          one : (h : ℕ) → 1 ≤ times h adds.pends.owed → KeepsLinked opened new h
-          one h some =
-              let e = adds.pends.owed_are h in
-              let a = times-append h rest pop.others in
-              let b = times-append h pop.its pop.others in
-              let i = its_are h in
-              let l = pop_live h in
-              let once = live-once now allocator f.pends.heap h in
-              let alive : 1 ≤ times h (positions (live now)) = omega arith in
-              let other : h ≢ block_of p = λ e. let one = times-same (block_of p) rest in
-              let s : times h (block_of p ∷ rest) ≡ 1 + times h rest = subst (λ x. times x (block_of p ∷ rest) ≡ 1 + times x rest) (sym e) one in absurd (omega arith) in
-              given_kept allocator opened new (block_of p) adds.pends.heap g h (subst (λ bs. 1 ≤ times h (positions bs)) (sym adds.keeps.live_kept) alive) other
+      waiting_then : Awaits allocator new table after (rest ++ pop.others) [] kept_cells final
+      waiting_then = awaits_kept allocator opened new table valid after (rest ++ pop.others) [] kept_cells final g.heap (λ h some.
+          let a = times-append h rest pop.others in
+          let b = times-append h pop.its pop.others in
+          let i = its_are h in
+          let l = pop_live h in
+          let once = live-once now allocator f.awaits.beside.pends.heap h in
+          let alive : 1 ≤ times h (positions (live now)) = omega arith in
+          let other : h ≢ block_of p = λ e. let one = times-same (block_of p) rest in
+          let s : times h (block_of p ∷ rest) ≡ 1 + times h rest = subst (λ x. times x (block_of p ∷ rest) ≡ 1 + times x rest) (sym e) one in absurd (omega arith) in
+          given_kept allocator opened new (block_of p) adds.awaits.beside.pends.heap g h (subst (λ bs. 1 ≤ times h (positions bs)) (sym adds.keeps.live_kept) alive) other) adds.awaits
 
-      pub freed_more : HasFreed allocator old new table after blocks (turns + 1)
+      pub freed_more : HasFreed allocator old new table after blocks kept_cells final (turns + 1)
       freed_more = record {
         given = f.given ++ block_of p ∷ [];
         left = rest ++ pop.others;
@@ -322,49 +425,63 @@ module _ (allocator : ℕ) (old now : List ℕ) (table : Table) (valid : IsTable
         live_is = g.given ∙ ap (without (block_of p)) (adds.keeps.live_kept ∙ f.live_is) ∙ sym (gives_more (live old) f.given (block_of p));
         live_are = λ h. omega (arith, gone h, f.live_are h, times-append h f.given (block_of p ∷ []));
         fewer = omega (arith, f.fewer, ap length adds.keeps.live_kept, ap length g.given, one_less (block_of p) (live opened) here_then);
-        pends = waiting_then;
+        awaits = waiting_then;
         kept = λ h some none.
             let b = f.blocks_are h in
             let q = pop.blocks_are h in
             let m = times-append h f.given f.left in
             let n = times-append h pop.its pop.others in
             let l = f.live_are h in
-            linked_twice old now new h (f.kept h some none) (linked_then h (omega arith) (omega arith));
+            linked_twice old now new h (f.kept h some none) (linked_then h (omega arith) (omega arith) (omega arith));
       }
         where
           large : heap_start ≤ length opened
-          large = let l = there (LiesIn opened heap_start (length opened)) (block_of p) (positions (live opened)) (live-lie opened allocator adds.pends.heap) here_then in omega (arith, l.low, l.high)
+          large = let l = there (LiesIn opened heap_start (length opened)) (block_of p) (positions (live opened)) (live-lie opened allocator adds.awaits.beside.pends.heap) here_then in omega (arith, l.low, l.high)
 
           front : KeepsFront opened new × KeepsBack opened new
           front = front_kept opened new g.kept large
 
-  -- where none waits any more, all were given back
-  pub all_freed : first ≡ None → Frees allocator old now blocks
-  all_freed none =
-      let empty = none_pends allocator now table f.left (subst (λ o. Pends allocator now table o f.left) none f.pends) in
-      let same : SameBlocks f.given blocks = λ h. omega (arith, f.blocks_are h, empty h, times-append h f.given f.left) in
-      record {
-        length_kept = f.length_kept;
-        front_kept = f.front_kept;
-        back_kept = f.back_kept;
-        heap = f.pends.heap;
-        live_is = f.live_is ∙ in_any_order (live old) f.given blocks same;
-        live_are = λ h. omega (arith, f.live_are h, same h);
-        kept = f.kept;
-      }
+  -- where none waits any more, all were given back but what holds the objects that are left
+  pub all_freed : first ≡ None → Destroys allocator old now table blocks final
+  all_freed none = go (subst (λ o. Awaits allocator now table o f.left [] kept_cells final) none f.awaits)
+    where
+      go : Awaits allocator now table None f.left [] kept_cells final → Destroys allocator old now table blocks final
+      go all =
+          let w = all.beside in
+          let empty = none_pends allocator now table f.left all.named all.frozen w in
+          let same : SameBlocks blocks (f.given ++ w.shares) = λ h. omega (arith, f.blocks_are h, empty.0 h, times-append h f.given f.left, times-append h f.given w.shares) in
+          let now_is = released kept_cells final all.named all.frozen all.releasing empty.1 in
+          record {
+            gives = f.given;
+            shares = w.shares;
+            blocks_are = same;
+            frees = record {
+              length_kept = f.length_kept;
+              front_kept = f.front_kept;
+              back_kept = f.back_kept;
+              heap = w.pends.heap;
+              live_is = f.live_is;
+              live_are = f.live_are;
+              kept = λ h some none. f.kept h some (same h ∙ none);
+            };
+            holds = subst (λ fs. HoldsRoots now table (map root_of_frozen fs) w.shares) now_is w.holds;
+          }
 
   -- more turns than there is room for blocks are enough
-  pub enough_turns : IsHeap allocator old → length old < 16 * turns + 16 → Frees allocator old now blocks
+  pub enough_turns : IsHeap allocator old → length old < 16 * turns + 16 → Destroys allocator old now table blocks final
   enough_turns heap many = go first refl
     where
-      go : (o : Option ℕ) → first ≡ o → Frees allocator old now blocks
+      go : (o : Option ℕ) → first ≡ o → Destroys allocator old now table blocks final
       go None e = all_freed e
       go (Some p) e =
-          let w = waits_begins now table p first f.pends.owed e f.pends.waiting in
+          let w = f.awaits.beside in
+          let begins = waits_begins now table p first w.pends.owed w.pends.named e w.pends.waiting in
           let l = left_live (block_of p) in
-          let o = f.pends.owed_are (block_of p) in
+          let o = w.pends.owed_are (block_of p) in
+          let b = w.blocks_are (block_of p) in
+          let a = times-append (block_of p) w.owed w.shares in
           let few = few_live allocator old heap in
           let one = times_few (block_of p) (live now) in
-          let some = w.1 in
+          let some = begins.1 in
           let all = f.fewer in
           absurd (omega arith)

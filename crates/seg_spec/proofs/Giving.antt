@@ -69,5 +69,5 @@ module _ (allocator : ℕ) (old new : List ℕ) (at : ℕ) (heap : IsHeap alloca
       subst (λ h. KeepsLinked old new h) b_at r
 
   -- what waits goes on waiting, where the block isn't among it
-  pub waits_then : (table : Table) → IsTable table → {first : Option ℕ} (ys : List ℕ) → ((h : ℕ) → 1 ≤ times h ys → (1 ≤ times h (positions (live old))) × (h ≢ at)) → Waits old table first ys → Waits new table first ys
-  waits_then table valid ys apart w = Waits-kept old new table valid (each_there (KeepsLinked old new) ys (λ h some. let a = apart h some in given_kept h a.0 a.1)) w
+  pub waits_then : (table : Table) → IsTable table → {first : Option ℕ} (ys ms : List ℕ) → ((h : ℕ) → 1 ≤ times h ys → (1 ≤ times h (positions (live old))) × (h ≢ at)) → Waits old table first ys ms → Waits new table first ys ms
+  waits_then table valid ys ms apart w = Waits-kept old new table valid (each_there (KeepsLinked old new) ys (λ h some. let a = apart h some in given_kept h a.0 a.1)) w

@@ -48,8 +48,14 @@ pub mod Giving
 pub mod NewBlock
 pub mod TreeOwed
 pub mod ChainOwed
+pub mod SharedLaws
+pub mod Releasing
 pub mod Destruction
+pub mod Lowering
+pub mod Releases
 pub mod PartsOwed
+pub mod Unshared
+pub mod NoFrozen
 pub mod CellOwed
 pub mod RingOwed
 pub mod Standing

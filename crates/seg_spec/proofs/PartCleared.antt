@@ -85,6 +85,7 @@ module _ (allocator : ℕ) (old : List ℕ) (table : Table) (place : Place) (v :
       heap = s.heap;
       allocator_is = s.allocator_is;
       is_table = s.is_table;
+      of_version = s.of_version;
       ownable = s.ownable;
       holds_it = c.holds_it;
       aligned = aligned;
@@ -165,6 +166,7 @@ module _ (allocator : ℕ) (old : List ℕ) (table : Table) (place : Place) (v :
         heap = subst (λ n. IsHeap n mid) s.allocator_is change.heap;
         allocator_is = allocator_mid ∙ s.allocator_is;
         is_table = s.is_table;
+        of_version = s.of_version;
         ownable = change.ownable;
         holds_it = holds_mid;
         aligned = s.aligned;

@@ -32,34 +32,35 @@ module _ (bytes : List ℕ) (table : Table) where
   shown_low p Kind.buffer T (Some (Form.flat_map U)) values links o = o.0.after_header
   shown_low p Kind.node T (Some (Form.list U)) values links o = o.0.after_header
   shown_low p Kind.node T (Some (Form.map U)) values links o = o.0.after_header
+  shown_low p Kind.frozen T form values links o = o.0.after_header
   shown_low p _ T _ values links o = absurd o
 
-  pub owes_begins : (p : ℕ) (blocks : List ℕ) → Owes bytes table p blocks → Begins p blocks
-  owes_begins p blocks (owes kind T values links xs ys o parts more is) = record { rest = xs ++ ys; blocks_are = is; after_header = shown_low p kind T (form_at table T) values links o }
+  pub owes_begins : (p : ℕ) (blocks names : List ℕ) → Owes bytes table p blocks names → Begins p blocks
+  owes_begins p blocks names (owes kind T values links xs ys ns ms o parts more is names_are) = record { rest = xs ++ ys; blocks_are = is; after_header = shown_low p kind T (form_at table T) values links o }
 
   -- a first one that waits stands after the header of a block that goes with it
-  pub waits_begins : (q : ℕ) (first : Option ℕ) (blocks : List ℕ) → first ≡ Some q → Waits bytes table first blocks → (16 ≤ q) × (1 ≤ times (block_of q) blocks)
-  waits_begins q first blocks e none_waits = absurd (cc)
-  waits_begins q first blocks e (waits {p = p} {xs = xs} {ys = ys} next o link more) =
+  pub waits_begins : (q : ℕ) (first : Option ℕ) (blocks names : List ℕ) → first ≡ Some q → Waits bytes table first blocks names → (16 ≤ q) × (1 ≤ times (block_of q) blocks)
+  waits_begins q first blocks names e none_waits = absurd (cc)
+  waits_begins q first blocks names e (waits {p = p} {xs = xs} {ys = ys} {ns = ns} next o link more) =
       let same : p ≡ q = cc in
-      let b = owes_begins p xs o in
+      let b = owes_begins p xs ns o in
       let n1 = times-append (block_of p) xs ys in
       let n2 : times (block_of p) xs ≡ times (block_of p) (block_of p ∷ b.rest) = ap (times (block_of p)) b.blocks_are in
       let n3 = times-same (block_of p) b.rest in
       (subst (λ r. 16 ≤ r) same b.after_header, subst (λ r. 1 ≤ times (block_of r) (xs ++ ys)) same (omega arith))
 
 -- what pushing leaves
-pub record Pushed (allocator : ℕ) (old new : List ℕ) (table : Table) (p : ℕ) (blocks : List ℕ) : Type 0 where
+pub record Pushed (allocator : ℕ) (old new : List ℕ) (table : Table) (p : ℕ) (blocks names : List ℕ) : Type 0 where
   pub heap : IsHeap allocator new
   pub live_kept : live new ≡ live old
   pub others : (k : ℕ) → 1 ≤ times k (positions (live old)) → k ≢ block_of p → KeepsLinked old new k
   pub own : KeepsWhole old new (block_of p)
-  pub waiting : Waits new table (Some p) blocks
+  pub waiting : Waits new table (Some p) blocks names
 
-module _ (allocator : ℕ) (old : List ℕ) (table : Table) (valid : IsTable table) (heap : IsHeap allocator old) (p : ℕ) (first : Option ℕ) (xs ys : List ℕ) (o : Owes old table p xs)
-    (w : Waits old table first ys) (owned : (h : ℕ) → times h (xs ++ ys) ≤ times h (positions (live old))) where
+module _ (allocator : ℕ) (old : List ℕ) (table : Table) (valid : IsTable table) (heap : IsHeap allocator old) (p : ℕ) (first : Option ℕ) (xs ys ns ms : List ℕ) (o : Owes old table p xs ns)
+    (w : Waits old table first ys ms) (owned : (h : ℕ) → times h (xs ++ ys) ≤ times h (positions (live old))) where
   b : Begins p xs
-  b = owes_begins old table p xs o
+  b = owes_begins old table p xs ns o
 
   is_live : (h : ℕ) → 1 ≤ times h (xs ++ ys) → 1 ≤ times h (positions (live old))
   is_live h some = omega (arith, owned h)
@@ -88,7 +89,7 @@ module _ (allocator : ℕ) (old : List ℕ) (table : Table) (valid : IsTable tab
     where
       fine : (t : ℕ) → first ≡ Some t → (t < 2 ^ 32) × (t ≢ block_of p + 12 + 1)
       fine t e =
-          let f = waits_begins old table t first ys e w in
+          let f = waits_begins old table t first ys ms e w in
           let l = lies (block_of p) own_live in
           let k = lies (block_of t) (is_live (block_of t) (omega (arith, f.1, times-append (block_of t) xs ys))) in
           (omega (arith, f.0, k.high, k.size, heap.small), λ same. omega (arith, f.0, l.aligned, k.aligned))
@@ -113,7 +114,7 @@ module _ (allocator : ℕ) (old : List ℕ) (table : Table) (valid : IsTable tab
   others_kept : (k : ℕ) → 1 ≤ times k (positions (live old)) → k ≢ block_of p → KeepsLinked old new k
   others_kept k some ne = labelled_other old new (block_of p) changes allocator heap own_live k some ne
 
-  pub pushed : Pushed allocator old (set_pointer old (block_of p + 12) first) table p (xs ++ ys)
+  pub pushed : Pushed allocator old (set_pointer old (block_of p + 12) first) table p (xs ++ ys) (ns ++ ms)
   unfolding new
   pushed = record {
     heap = labelled_heap old new (block_of p) changes allocator heap own_live;

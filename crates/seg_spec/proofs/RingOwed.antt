@@ -5,7 +5,7 @@ use Rattle.std.proofs.lemmas.Bool.{cases_eq, cases_lt}
 use Rattle.seg_spec.specs.Bytes.{IsSame, ChangesOnly}
 use Rattle.seg_spec.specs.Pointer.{target, distance, set_pointer}
 use Rattle.seg_spec.specs.Types.{Form, Table, form_at, IsTable, size}
-use Rattle.seg_spec.specs.Value.{Value, Values}
+use Rattle.seg_spec.specs.Value.{Value, Values, Label, node}
 use Rattle.seg_spec.specs.Heap.{IsHeap, live, heap_start}
 use Rattle.seg_spec.specs.Block.{Kind, tag_of, IsBlock, KeepsBlock, IsInside, block_of}
 use Rattle.seg_spec.specs.Shapes.{IsLinked, IsRing}
@@ -21,6 +21,8 @@ use Rattle.seg_spec.proofs.Writing.{set_number-changes}
 use Rattle.seg_spec.proofs.ChainOwed.{IsChain, chain_owes}
 use Rattle.seg_spec.proofs.Destruction.{others_more, no_common, heap_written, payload_written}
 use Rattle.seg_spec.proofs.CellOwed.{block_there, same_form}
+use Rattle.seg_spec.specs.Shared.{named_in, named_each}
+use Rattle.seg_spec.proofs.PartsOwed.{named_inside}
 
 -- the last of nodes
 abbrev pub last_of : ℕ → List ℕ → ℕ
@@ -120,7 +122,7 @@ module _ (allocator : ℕ) (old : List ℕ) (table : Table) (valid : IsTable tab
       let l = last_some in
       other_kept h n.0 (λ e. let z : times (block_of last) (map block_of (x ∷ ys)) ≡ 0 = subst (λ k. times k (map block_of (x ∷ ys)) ≡ 0) e n.1 in absurd (omega arith)))
 
-  pub ring_goes : (xs : List ℕ) → xs ≡ map block_of (x ∷ ys) ++ owned → IsLinked old x x ys → Uncouples allocator old (set_pointer old (last_of x ys) None) table x xs
+  pub ring_goes : (xs : List ℕ) → xs ≡ map block_of (x ∷ ys) ++ owned → IsLinked old x x ys → Uncouples allocator old (set_pointer old (last_of x ys) None) table x xs (named_each vs)
   unfolding new last
   ring_goes xs is linked =
       let l = node_lies last last_some in
@@ -142,6 +144,8 @@ module _ (allocator : ℕ) (old : List ℕ) (table : Table) (valid : IsTable tab
             absurd (omega arith))) others;
         goes = record {
           owed = r.blocks;
+          named = r.names;
+          named_are = r.names_are;
           owes_it = r.owes_it;
           owed_are = λ h. let c = r.counts h in let a = times-append h (map block_of (x ∷ ys)) owned in let n : times h xs ≡ times h (map block_of (x ∷ ys) ++ owned) = ap (times h) is in omega arith;
         };
@@ -152,12 +156,12 @@ module _ (allocator : ℕ) (old : List ℕ) (table : Table) (valid : IsTable tab
   pub record ListGoes : Type 0 where
     pub last : ℕ
     pub names : target old (p + 4) ≡ Some last
-    pub uncouples : Uncouples allocator old (set_pointer old last None) table p xs
+    pub uncouples : Uncouples allocator old (set_pointer old last None) table p xs (named_in v)
 
   list_by : (U : ℕ) (f : form_at table place.type ≡ Some (Form.list U)) (nodes : List ℕ) (inside : Values) (owned : List ℕ) → IsRing old (Some p) nodes → AreNodes old (tag_of Kind.node place.type) (8 + size table U) nodes →
-      HoldsEach old table (places_of U (map (λ p. p + 8) nodes)) inside owned → xs ≡ map block_of nodes ++ owned → ListGoes
-  list_by U f [] inside owned ring are hs is = absurd ring
-  list_by U f (x ∷ ys) inside owned ring are hs is =
+      HoldsEach old table (places_of U (map (λ p. p + 8) nodes)) inside owned → xs ≡ map block_of nodes ++ owned → named_each inside ≡ named_in v → ListGoes
+  list_by U f [] inside owned ring are hs is names = absurd ring
+  list_by U f (x ∷ ys) inside owned ring are hs is names =
       let same : x ≡ p = ring.0 in
       let linked : IsLinked old x x ys = subst (λ q. IsLinked old q x ys) (sym same) ring.1 in
       let r = ring_goes allocator old table valid heap place.type U x ys f inside owned are (subst (λ bs. AreLive old bs) is fits) hs xs is linked in
@@ -165,18 +169,20 @@ module _ (allocator : ℕ) (old : List ℕ) (table : Table) (valid : IsTable tab
         last = last_of x ys;
         names = subst (λ q. target old (q + 4) ≡ Some (last_of x ys)) same (last_named old x x ys linked);
         uncouples = subst
-            (λ q. Uncouples allocator old (set_pointer old (last_of x ys) None) table q xs) same r;
+            (λ q. Uncouples allocator old (set_pointer old (last_of x ys) None) table q xs (named_in v)) same
+            (subst (Uncouples allocator old (set_pointer old (last_of x ys) None) table x xs) names r);
       }
 
   pub list_goes : (U : ℕ) → form_at table place.type ≡ Some (Form.list U) → Holds old table place v xs → ListGoes
   list_goes U f (holds form opened inside owned g o hs v_is is) =
       let same = same_form form (Form.list U) (sym g ∙ f) in
       let o' : Opens old table place (Form.list U) opened = subst (λ h. Opens old table place h opened) same o in
-      list_from U f opened inside owned o' hs is
+      list_from U f opened inside owned o' hs is v_is
     where
       list_from : (U : ℕ) (f : form_at table place.type ≡ Some (Form.list U)) (opened : Opened) (inside : Values) (owned : List ℕ) → OpensRing old table place.at (tag_of Kind.node place.type) U opened →
-          HoldsEach old table opened.parts inside owned → xs ≡ opened.blocks ++ owned → ListGoes
-      list_from U f opened inside owned o hs is =
+          HoldsEach old table opened.parts inside owned → xs ≡ opened.blocks ++ owned → v ≡ node opened.label inside → ListGoes
+      list_from U f opened inside owned o hs is v_is =
           let parts : opened.parts ≡ places_of U (map (λ p. p + 8) o.nodes) = ap (λ (r : Opened). r.parts) o.opened_is in
           let blocks : opened.blocks ≡ map block_of o.nodes = ap (λ (r : Opened). r.blocks) o.opened_is in
           list_by U f o.nodes inside owned (subst (λ t. IsRing old t o.nodes) e o.ring) o.are_nodes (subst (λ ps. HoldsEach old table ps inside owned) parts hs) (is ∙ ap (λ bs. bs ++ owned) blocks)
+          (sym (ap named_in v_is ∙ ap (λ (r : Opened). named_in (node r.label inside)) o.opened_is ∙ named_inside Label.seq inside (λ T q e. cc)))

@@ -1,7 +1,7 @@
 -- Objects that several values share, as images of version 2 have them.
 --     Frozen            such an object
 --     root_of_frozen    it as a root: no value holds it
-use Rattle.std.specs.Prelude.{ℕ, ◌+◌, List, [], ◌∷◌}
+use Rattle.std.specs.Prelude.{ℕ, ◌+◌, [], ◌∷◌}
 use Rattle.seg_spec.specs.Value.{Value, nil, cons}
 use Rattle.seg_spec.specs.Index.{Root}
 

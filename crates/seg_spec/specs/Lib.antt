@@ -21,10 +21,11 @@ pub mod Items
 pub mod Cells
 pub mod Owning
 pub mod Calls
+pub mod Shared
+pub mod Releasing
 pub mod Owing
 pub mod Destroying
 pub mod Spending
 pub mod Shrinking
 pub mod Fixtures
 pub mod Growing
-pub mod Shared

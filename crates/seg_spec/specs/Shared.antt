@@ -1,11 +1,14 @@
 -- Objects that several values share, as images of version 2 have them. Such an object is frozen: its value doesn't
 -- change. It counts the cells that name it, and has a number that is above those of the objects that it names.
 --     names_in v, names_of frozen          what the shared cells in a value name, and those in the objects
+--     named_in v                           the same of a value, by positions
 --     IsBelow n frozen place               the place is that of one of the objects, with a number below n
 --     IsCounted next frozen cells          each object counts the cells that name it, these and those in the
 --                                          objects, and names those of lower numbers alone; next is above all
 --     unfolded n frozen v                  the value as a tree: each shared cell owns a copy of what it names
 --     raised p frozen                      the objects, where one more cell names that at a position
+--     IsReleasing kept final names now     names at these positions are still to be released, beside cells that
+--                                          are kept; in the end this is left
 --     left gone frozen, freed gone frozen  what is left where cells with these names are gone, and what goes
 --                                          with them: what no cell names any more
 use Rattle.std.specs.Prelude.{◌≡◌, ◌≢◌, ℕ, zero, suc, ◌-◌, ◌<◌, ◌≤◌, ◌==◌, ◌⊎◌, ⊤, if◌then◌else◌, List, [], ◌∷◌, ◌++◌, map, Option, Some, None}
@@ -13,7 +16,7 @@ use Rattle.std.specs.List.{AllByRecursion}
 use Rattle.seg_spec.specs.Value.{Label, Value, node, Values, nil, cons, Empty, Full}
 use Rattle.seg_spec.specs.Reads.{Place}
 use Rattle.seg_spec.specs.Frozen.{Frozen}
-use Rattle.seg_spec.specs.Sound.{times}
+use Rattle.seg_spec.specs.Sound.{times, SameBlocks}
 
 -- ---- what shared cells name
 
@@ -25,6 +28,16 @@ unfoldable mutual
   pub names_each : Values → List Place
   names_each nil = []
   names_each (cons v vs) = names_in v ++ names_each vs
+
+unfoldable mutual
+  -- where that stands
+  pub named_in : Value → List ℕ
+  named_in (node (Label.shared T p) vs) = p ∷ named_each vs
+  named_in (node label vs) = named_each vs
+
+  pub named_each : Values → List ℕ
+  named_each nil = []
+  named_each (cons v vs) = named_in v ++ named_each vs
 
 -- the names in all objects together
 abbrev pub names_of : List Frozen → List Place
@@ -125,3 +138,14 @@ abbrev pub freed : List Place → List Frozen → List Frozen
 freed gone [] = []
 freed gone (f ∷ fs) = freed_with f (f.count - times_named f.at gone)
     (freed (gone ++ names_in f.value) fs) (freed gone fs)
+
+-- names of objects at these positions are still to be released, beside cells that are kept: in the
+-- end this is left
+pub record IsReleasing (kept : List Place) (final : List Frozen) (names : List ℕ)
+    (now : List Frozen) : Type 0 where
+  pub pending : List Place
+  pub pending_are : SameBlocks (map (λ q. q.at) pending) names
+  pub next : ℕ
+  pub counted : IsCounted next now (pending ++ kept)
+  pub falling : IsFalling now
+  pub leaves : left pending now ≡ final

@@ -16,22 +16,27 @@ use Rattle.seg_spec.specs.Roots.{ChangesPlace}
 use Rattle.seg_spec.specs.Owning.{Stands}
 use Rattle.seg_spec.specs.Demand.{after_gives}
 use Rattle.seg_spec.specs.Owing.{IsPart, KeepsLinked}
-use Rattle.seg_spec.specs.Destroying.{AreLive, Pends, KeepsOthers, Adds, Frees}
+use Rattle.seg_spec.specs.Shared.{named_in}
+use Rattle.seg_spec.specs.Frozen.{Frozen}
+use Rattle.seg_spec.specs.Destroying.{AreLive, KeepsOthers, Awaits, Adds, Frees, Destroys}
 use Rattle.seg_spec.proofs.MoreTypes.{below_length}
 use Rattle.seg_spec.proofs.Frame.{word-same, target-same, each_map, each_of_map, Holds-kept}
 use Rattle.seg_spec.proofs.Composing.{around_twice, around_kept}
 use Rattle.seg_spec.proofs.LiveLaws.{times-append, times-same, there, each_there, LiesIn, live-lie, live-once}
 use Rattle.seg_spec.proofs.WriteInside.{KeptBut, live_kept_but}
-use Rattle.seg_spec.proofs.Destruction.{inside_same, inside_then, heap_written, payload_written, pends_then, pends_same, same_adds, none_freed, all_freed}
+use Rattle.seg_spec.proofs.Destruction.{inside_same, inside_then, heap_written, payload_written, awaits_then, awaits_blocks, none_freed, all_freed}
+use Rattle.seg_spec.proofs.Unshared.{names_none, awaits_alone, frees_alone}
 use Rattle.seg_layout.specs.Forms.{has_cells}
 use Rattle.seg_value.proofs.Nulls.{no_cells_own}
-use Rattle.seg_value.proofs.Turns.{none_pending}
+use Rattle.seg_value.specs.Waiting.{AddsIn}
+use Rattle.seg_value.proofs.Joining.{nothing_added}
 
 -- a place that holds something has a type of the table
 pub typed : (bytes : List ℕ) (table : Table) (place : Place) (v : Value) (blocks : List ℕ) → Holds bytes table place v blocks → place.type < length table
 typed bytes table place v blocks (holds form opened inside owned f o hs v_is is) = below_length table place.type form f
 
-module _ (allocator : ℕ) (old mid after new : List ℕ) (table : Table) (place : Place) (v : Value) (blocks : List ℕ) (s : Stands allocator old table place v blocks) (first : Option ℕ) (a : Adds allocator old mid table first blocks []) where
+module _ (allocator : ℕ) (old mid after new : List ℕ) (table : Table) (place : Place) (v : Value) (blocks : List ℕ) (s : Stands allocator old table place v blocks) (first : Option ℕ)
+    (a : Adds allocator old mid table first blocks [] [] [] []) where
   home_live : 1 ≤ times s.home (positions (live old))
   home_live = let o = s.owned s.home in let t = times-same s.home blocks in omega arith
 
@@ -47,8 +52,11 @@ module _ (allocator : ℕ) (old mid after new : List ℕ) (table : Table) (place
   lies : (h : ℕ) → 1 ≤ times h (positions (live old)) → LiesIn old heap_start (length old) h
   lies h some = there (LiesIn old heap_start (length old)) h (positions (live old)) (live-lie old allocator s.heap) some
 
+  all_none : (h : ℕ) → times h blocks ≡ 0 → times h (blocks ++ []) ≡ 0
+  all_none h none = let n = times-append h blocks [] in omega arith
+
   inside_mid : IsInside mid s.home place.at (size table place.type)
-  inside_mid = inside_then old mid s.home place.at (size table place.type) (lies s.home home_live).size s.inside (a.keeps.others s.home home_live home_apart)
+  inside_mid = inside_then old mid s.home place.at (size table place.type) (lies s.home home_live).size s.inside (a.keeps.others s.home home_live (all_none s.home home_apart))
 
   pub within_mid : IsWithin mid place.at (size table place.type)
   within_mid =
@@ -60,26 +68,27 @@ module _ (allocator : ℕ) (old mid after new : List ℕ) (table : Table) (place
 
   module _ (changes : ChangesOnly mid after place.at (size table place.type)) (filled : Holds after table place (default_of table place.type) []) where
     written : KeepsOthers mid after (s.home ∷ [])
-    written = payload_written allocator mid after place.at (size table place.type) s.home a.pends.heap inside_mid home_mid changes
+    written = payload_written allocator mid after place.at (size table place.type) s.home a.awaits.beside.pends.heap inside_mid home_mid changes
 
-    but : (h : ℕ) → 1 ≤ times h (positions (live mid)) → KeptBut mid after place.at (size table place.type) changes allocator a.pends.heap s.home inside_mid home_mid h
-    but h some = there (KeptBut mid after place.at (size table place.type) changes allocator a.pends.heap s.home inside_mid home_mid) h (positions (live mid))
-        (live_kept_but mid after place.at (size table place.type) changes allocator a.pends.heap s.home inside_mid home_mid) some
+    but : (h : ℕ) → 1 ≤ times h (positions (live mid)) → KeptBut mid after place.at (size table place.type) changes allocator a.awaits.beside.pends.heap s.home inside_mid home_mid h
+    but h some = there (KeptBut mid after place.at (size table place.type) changes allocator a.awaits.beside.pends.heap s.home inside_mid home_mid) h (positions (live mid))
+        (live_kept_but mid after place.at (size table place.type) changes allocator a.awaits.beside.pends.heap s.home inside_mid home_mid) some
 
     live_after : (h : ℕ) → times h (positions (live after)) ≡ times h (positions (live old))
     live_after h = ap (λ bs. times h (positions bs)) (written.live_kept ∙ a.keeps.live_kept)
 
-    pub pends_after : Pends allocator after table first blocks
-    pends_after =
-        let fits : AreLive mid (s.home ∷ (blocks ++ [])) = λ h. let o = s.owned h in let l = live_mid h in let n = times-append h blocks [] in omega arith in
-        let heap = heap_written allocator mid after place.at (size table place.type) s.home a.pends.heap inside_mid home_mid changes in
-        pends_same allocator after table first (blocks ++ []) blocks (λ h. let n = times-append h blocks [] in omega arith)
-        (pends_then allocator mid after table s.is_table (s.home ∷ []) (blocks ++ []) fits heap written first a.pends)
+    pub awaits_after : Awaits allocator after table first blocks [] [] []
+    awaits_after =
+        let fits : AreLive mid ((s.home ∷ []) ++ (blocks ++ [])) = λ h. let o = s.owned h in let l = live_mid h in let n = times-append h blocks [] in let m = times-append h (s.home ∷ []) (blocks ++ []) in
+        let k = times-append h (s.home ∷ []) blocks in omega arith in
+        let heap = heap_written allocator mid after place.at (size table place.type) s.home a.awaits.beside.pends.heap inside_mid home_mid changes in
+        awaits_blocks allocator after table first (blocks ++ []) blocks [] [] [] (λ h. let n = times-append h blocks [] in omega arith)
+        (awaits_then allocator mid after table s.is_table (s.home ∷ []) (blocks ++ []) fits heap written first [] [] [] a.awaits)
 
     pub live_there : AreLive after blocks
     live_there h = let o = s.owned h in let l = live_after h in omega arith
 
-    module _ (f : Frees allocator after new blocks) where
+    module _ (f : Frees allocator after new blocks []) where
       -- every block that isn't given back
       module _ (h : ℕ) (some : 1 ≤ times h (positions (live old))) (none : times h blocks ≡ 0) where
         some_mid : 1 ≤ times h (positions (live mid))
@@ -89,10 +98,10 @@ module _ (allocator : ℕ) (old mid after new : List ℕ) (table : Table) (place
         some_after = let l = live_after h in omega arith
 
         one : KeepsLinked old mid h
-        one = a.keeps.others h some none
+        one = a.keeps.others h some (all_none h none)
 
         three : KeepsLinked after new h
-        three = f.kept h some_after none
+        three = f.kept h some_after (all_none h none)
 
         tag_kept : tag_at new h ≡ tag_at old h
         tag_kept = three.whole.kept.has_tag ∙ word-same mid after (h + 8) ((but h some_mid).outside (h + 8) 4 (omega arith) (omega arith)) ∙ one.whole.kept.has_tag
@@ -134,7 +143,7 @@ module _ (allocator : ℕ) (old mid after new : List ℕ) (table : Table) (place
           ownable_there h (omega arith) (omega arith)))
 
       home_new : KeepsLinked after new s.home
-      home_new = f.kept s.home (let l = live_after s.home in let h = home_live in omega arith) home_apart
+      home_new = f.kept s.home (let l = live_after s.home in let h = home_live in omega arith) (all_none s.home home_apart)
 
       inside_after : IsInside after s.home place.at (size table place.type)
       inside_after = let k = but s.home home_mid in let i = inside_mid in record { low = i.low; high = omega (arith, i.high, k.units_kept) }
@@ -154,26 +163,28 @@ module _ (allocator : ℕ) (old mid after new : List ℕ) (table : Table) (place
 
 pub cleared : (allocator : ℕ) (old mid after new : List ℕ) (table here there_too : Table) → here ≡ table → there_too ≡ table →
     (place : Place) (v : Value) (blocks : List ℕ) (s : Stands allocator old table place v blocks) (none first : Option ℕ) → none ≡ None →
-    ((home : ℕ) (xs : List ℕ) → IsInside old home place.at (size table place.type) → IsPart old table place xs → (allocator : ℕ) (ys : List ℕ) → IsTable table → Pends allocator old table none ys →
-    AreLive old (home ∷ (xs ++ ys)) → Adds allocator old mid table first xs ys) →
+    ((home : ℕ) (xs ns : List ℕ) → IsInside old home place.at (size table place.type) → IsPart old table place xs ns → AddsIn old mid table none first (home ∷ []) xs ns) →
     (IsWithin mid place.at (size here place.type) → ChangesOnly mid after place.at (size here place.type)) →
     (IsWithin mid place.at (size here place.type) → place.type < length here → Holds after here place (default_of here place.type) []) →
-    ((blocks : List ℕ) → IsTable there_too → Pends allocator after there_too first blocks → AreLive after blocks → Frees allocator after new blocks) →
+    ((blocks : List ℕ) (kept : List Place) (final : List Frozen) → IsTable there_too → Awaits allocator after there_too first blocks [] kept final → AreLive after blocks → Destroys allocator after new there_too blocks final) →
     ChangesPlace old new table place (default_of table place.type) [] (after_gives (live old) blocks) blocks []
-cleared allocator old mid after new table here there_too same same_too place v blocks s none first is_none added changes filled freed =
-    let fits : AreLive old (s.home ∷ (blocks ++ [])) = λ h. let o = s.owned h in let n = times-append h blocks [] in omega arith in
-    let a = added s.home blocks s.inside (inl (v, s.holds_it)) allocator [] s.is_table (none_pending allocator old table none is_none s.heap) fits in
+cleared allocator old mid after new table here there_too same same_too place v blocks s none first is_none added changes filled destroyed =
+    let fits : AreLive old (s.home ∷ (blocks ++ [])) = λ h. let o = s.owned h in let n = times-append h blocks [] in
+    let m = times-append h (s.home ∷ []) (blocks ++ []) in let k = times-append h (s.home ∷ []) blocks in omega arith in
+    let no_names : [] ≡ named_in v ++ [] = sym (ap (λ ns. ns ++ []) (names_none old table s.of_version s.holds_it)) in
+    let alone = subst (λ ns. Awaits allocator old table none [] ns [] []) no_names (awaits_alone allocator old table none is_none s.heap) in
+    let a = added s.home blocks (named_in v) s.inside (inl (v, s.holds_it, refl)) allocator [] [] [] [] s.is_table alone fits in
     let within = within_mid allocator old mid after new table place v blocks s first a in
     let changes' : IsWithin mid place.at (size table place.type) → ChangesOnly mid after place.at (size table place.type) = subst (λ t. IsWithin mid place.at (size t place.type) →
     ChangesOnly mid after place.at (size t place.type)) same changes in
     let filled' : IsWithin mid place.at (size table place.type) → place.type < length table → Holds after table place (default_of table place.type) [] =
     subst (λ t. IsWithin mid place.at (size t place.type) → place.type < length t → Holds after t place (default_of t place.type) []) same filled in
-    let freed' : (blocks : List ℕ) → IsTable table → Pends allocator after table first blocks → AreLive after blocks → Frees allocator after new blocks =
-    subst (λ t. (blocks : List ℕ) → IsTable t → Pends allocator after t first blocks → AreLive after blocks → Frees allocator after new blocks) same_too freed in
+    let destroyed' : (blocks : List ℕ) (kept : List Place) (final : List Frozen) → IsTable table → Awaits allocator after table first blocks [] kept final → AreLive after blocks → Destroys allocator after new table blocks final =
+    subst (λ t. (blocks : List ℕ) (kept : List Place) (final : List Frozen) → IsTable t → Awaits allocator after t first blocks [] kept final → AreLive after blocks → Destroys allocator after new t blocks final) same_too destroyed in
     let c = changes' within in
     let h = filled' within (typed old table place v blocks s.holds_it) in
-    place_cleared allocator old mid after new table place v blocks s first a c h
-    (freed' blocks s.is_table (pends_after allocator old mid after new table place v blocks s first a c h) (live_there allocator old mid after new table place v blocks s first a c h))
+    let d = destroyed' blocks [] [] s.is_table (awaits_after allocator old mid after new table place v blocks s first a c h) (live_there allocator old mid after new table place v blocks s first a c h) in
+    place_cleared allocator old mid after new table place v blocks s first a c h (frees_alone allocator after new table blocks d)
 
 -- a number that is cleared where it stands
 pub number_cleared : (allocator : ℕ) (old new : List ℕ) (table : Table) (place : Place) (v : Value) (blocks : List ℕ) → Stands allocator old table place v blocks → has_cells (form_at table place.type) ≡ false →
@@ -182,5 +193,5 @@ pub number_cleared : (allocator : ℕ) (old new : List ℕ) (table : Table) (pla
     ChangesPlace old new table place (default_of table place.type) [] (after_gives (live old) blocks) blocks []
 number_cleared allocator old new table place v blocks s number changes filled =
     cleared allocator old old new new table table table refl refl place v blocks s None None refl
-    (λ home xs inside part a ys valid w fits. same_adds a old table None xs ys (no_cells_own old table place xs number part) w) changes filled
-    (λ zs valid w owned. all_freed allocator new new table valid None zs 0 owned (none_freed allocator new table None zs w) refl)
+    (λ home xs ns inside part. nothing_added old table None (home ∷ []) xs ns (no_cells_own old table place xs ns number part)) changes filled
+    (λ zs kept final valid w owned. all_freed allocator new new table valid None zs kept final 0 owned (none_freed allocator new table None zs kept final w) refl)

@@ -9,10 +9,11 @@ use Rattle.seg_spec.specs.Block.{tag_of, IsBlock, IsInside, block_of, payload_si
 use Rattle.seg_spec.specs.Reads.{Place, holds}
 use Rattle.seg_spec.specs.Sound.{times, SameBlocks, positions}
 use Rattle.seg_spec.specs.Owing.{IsPart, AreParts, no_parts, more_parts, entries_at, OpensBlock, Owes, owes, OwesLinks, no_links}
-use Rattle.seg_spec.specs.Destroying.{AreLive, GoesWith, Pends, Adds}
+use Rattle.seg_spec.specs.Frozen.{Frozen}
+use Rattle.seg_spec.specs.Destroying.{AreLive, GoesWith, Awaits, Adds}
 use Rattle.seg_spec.proofs.MoreTypes.{below_length}
 use Rattle.seg_spec.proofs.LiveLaws.{times-append, times-same, live-once, LiesIn, live-lie, there}
-use Rattle.seg_spec.proofs.Destruction.{inside_then, parts_then, adds_twice}
+use Rattle.seg_spec.proofs.Destruction.{inside_then, parts_then, awaits_names, adds_twice}
 use Rattle.seg_spec.proofs.PartsOwed.{entries_inside}
 use Rattle.seg_block.specs.Blocks.{IsSized}
 use Rattle.seg_block.specs.Tags.{kind_of, word_of}
@@ -20,7 +21,9 @@ use Rattle.seg_block.specs.declared.tag.Tag.{Tag}
 use Rattle.seg_block.specs.declared.tag.Kind.{Kind}
 use Rattle.seg_block.specs.declared.tag.Kind.TheVariants as kind
 use Rattle.seg_value.specs.Contents.{IsEntryOf, OfBlock}
-use Rattle.seg_value.specs.Waiting.{links_of}
+use Rattle.seg_value.specs.Waiting.{AddsIn, links_of}
+use Rattle.seg_value.proofs.Nulls.{Nothing}
+use Rattle.seg_value.proofs.Links.{no_further}
 use Rattle.seg_value.specs.declared.content.Content.{Content}
 use Rattle.seg_value.specs.declared.content.Shape.TheVariants as shape
 use Rattle.seg_value.specs.declared.entry.Held.TheVariants as held
@@ -34,6 +37,7 @@ same_object kind.Buffer t T e = absurd (omega arith)
 same_object kind.Node t T e = absurd (omega arith)
 same_object kind.IndexBuffer t T e = absurd (omega arith)
 same_object kind.IndexNode t T e = absurd (omega arith)
+same_object kind.Frozen t T e = absurd (omega arith)
 
 same_buffer : (k : Kind) (t T : ℕ) → tag_of (kind_of k) t ≡ tag_of block.Kind.buffer T → (k ≡ kind.Buffer) × (t ≡ T)
 same_buffer kind.Buffer t T e = (refl, omega arith)
@@ -42,6 +46,7 @@ same_buffer kind.Object t T e = absurd (omega arith)
 same_buffer kind.Node t T e = absurd (omega arith)
 same_buffer kind.IndexBuffer t T e = absurd (omega arith)
 same_buffer kind.IndexNode t T e = absurd (omega arith)
+same_buffer kind.Frozen t T e = absurd (omega arith)
 
 same_node : (k : Kind) (t T : ℕ) → tag_of (kind_of k) t ≡ tag_of block.Kind.node T → (k ≡ kind.Node) × (t ≡ T)
 same_node kind.Node t T e = (refl, omega arith)
@@ -50,29 +55,39 @@ same_node kind.Object t T e = absurd (omega arith)
 same_node kind.Buffer t T e = absurd (omega arith)
 same_node kind.IndexBuffer t T e = absurd (omega arith)
 same_node kind.IndexNode t T e = absurd (omega arith)
+same_node kind.Frozen t T e = absurd (omega arith)
+
+same_frozen : (k : Kind) (t T : ℕ) → tag_of (kind_of k) t ≡ tag_of block.Kind.frozen T → (k ≡ kind.Frozen) × (t ≡ T)
+same_frozen kind.Frozen t T e = (refl, omega arith)
+same_frozen kind.Named t T e = absurd (omega arith)
+same_frozen kind.Object t T e = absurd (omega arith)
+same_frozen kind.Buffer t T e = absurd (omega arith)
+same_frozen kind.Node t T e = absurd (omega arith)
+same_frozen kind.IndexBuffer t T e = absurd (omega arith)
+same_frozen kind.IndexNode t T e = absurd (omega arith)
 
 -- ---- what a block shows, by its content
 
 module _ (bytes : List ℕ) (table : Table) (valid : IsTable table) (p : ℕ) where
-  pub record HasEntries (content : Content) (us : List ℕ) : Type 0 where
+  pub record HasEntries (content : Content) (us vs : List ℕ) : Type 0 where
     pub before : ℕ
     pub U : ℕ
     pub n : ℕ
     pub entry_is : IsEntryOf table before U content.entry
-    pub parts : AreParts bytes table (entries_at table p before U n) us
+    pub parts : AreParts bytes table (entries_at table p before U n) us vs
     pub fits : n * (before + size table U) ≤ payload_size bytes (block_of p)
     pub count : ((content.shape ≡ shape.Buffer) × (n ≡ payload_size bytes (block_of p) / (before + size table U))) ⊎ ((content.shape ≡ shape.Buffer → ⊥) × (n ≡ 1))
 
-  pub record Shows (content : Content) (us bs : List ℕ) : Type 0 where
+  pub record Shows (content : Content) (us bs vs ws : List ℕ) : Type 0 where
     pub low : 16 ≤ p
-    pub links : OwesLinks bytes table (links_of content.shape p) bs
-    pub entries : ((content.entry.held ≡ held.Bytes) × (us ≡ [])) ⊎ HasEntries content us
+    pub links : OwesLinks bytes table (links_of content.shape p) bs ws
+    pub entries : ((content.entry.held ≡ held.Bytes) × Nothing us vs) ⊎ HasEntries content us vs
 
-  module _ (content : Content) (k : Kind) (t : ℕ) (values : List Place) (links us bs : List ℕ) (parts : AreParts bytes table values us) (more : OwesLinks bytes table links bs) where
+  module _ (content : Content) (k : Kind) (t : ℕ) (values : List Place) (links us bs vs ws : List ℕ) (parts : AreParts bytes table values us vs) (more : OwesLinks bytes table links bs ws) where
     one_times : (n : ℕ) → 1 * n ≡ n
     one_times n = omega arith
 
-    object_shows : (T : ℕ) → OpensBlock bytes table p block.Kind.object T (form_at table T) values links → tag_at bytes (block_of p) ≡ tag_of (kind_of k) t → OfBlock table k t (Some content) → Shows content us bs
+    object_shows : (T : ℕ) → OpensBlock bytes table p block.Kind.object T (form_at table T) values links → tag_at bytes (block_of p) ≡ tag_of (kind_of k) t → OfBlock table k t (Some content) → Shows content us bs vs ws
     object_shows T o tag of =
         let is = same_object k t T (sym tag ∙ o.0.has_tag) in
         let of' = subst (λ u. OfBlock table kind.Object u (Some content)) is.1 (subst (λ j. OfBlock table j t (Some content)) is.0 of) in
@@ -80,20 +95,39 @@ module _ (bytes : List ℕ) (table : Table) (valid : IsTable table) (p : ℕ) wh
         let zero_off : p + 0 ≡ p = omega arith in
         record {
           low = o.0.after_header;
-          links = rw of'.shape_is (subst (λ ls. OwesLinks bytes table ls bs) o.2 more);
+          links = rw of'.shape_is (subst (λ ls. OwesLinks bytes table ls bs ws) o.2 more);
           entries = inr (record {
             before = 0;
             U = T;
             n = 1;
             entry_is = of'.entry_is;
-            parts = rw zero_off (subst (λ ps. AreParts bytes table ps us) o.1 parts);
+            parts = rw zero_off (subst (λ ps. AreParts bytes table ps us vs) o.1 parts);
+            fits = omega arith;
+            count = inr ((λ e. let f = of'.shape_is in cc), refl);
+          });
+        }
+
+    frozen_shows : (T : ℕ) → OpensBlock bytes table p block.Kind.frozen T (form_at table T) values links → tag_at bytes (block_of p) ≡ tag_of (kind_of k) t → OfBlock table k t (Some content) → Shows content us bs vs ws
+    frozen_shows T o tag of =
+        let is = same_frozen k t T (sym tag ∙ o.0.has_tag) in
+        let of' = subst (λ u. OfBlock table kind.Frozen u (Some content)) is.1 (subst (λ j. OfBlock table j t (Some content)) is.0 of) in
+        let room = o.0.room in
+        record {
+          low = o.0.after_header;
+          links = rw of'.shape_is (subst (λ ls. OwesLinks bytes table ls bs ws) o.2 more);
+          entries = inr (record {
+            before = 8;
+            U = T;
+            n = 1;
+            entry_is = of'.entry_is;
+            parts = subst (λ ps. AreParts bytes table ps us vs) o.1 parts;
             fits = omega arith;
             count = inr ((λ e. let f = of'.shape_is in cc), refl);
           });
         }
 
     buffer_shows : (T : ℕ) (form : Option Form) → form_at table T ≡ form → OpensBlock bytes table p block.Kind.buffer T form values links → tag_at bytes (block_of p) ≡ tag_of (kind_of k) t →
-        OfBlock table k t (Some content) → Shows content us bs
+        OfBlock table k t (Some content) → Shows content us bs vs ws
     buffer_shows T None f o tag of = absurd o
     buffer_shows T (Some Form.i64) f o tag of = absurd o
     buffer_shows T (Some (Form.list U)) f o tag of = absurd o
@@ -106,24 +140,24 @@ module _ (bytes : List ℕ) (table : Table) (valid : IsTable table) (p : ℕ) wh
         let of' = rw f at (subst (λ u. OfBlock table kind.Buffer u (Some content)) is.1 (subst (λ j. OfBlock table j t (Some content)) is.0 of)) in
         record {
           low = o.0.after_header;
-          links = rw of'.shape_is (subst (λ ls. OwesLinks bytes table ls bs) o.2 more);
-          entries = inl (of'.held_is, no_values us (subst (λ ps. AreParts bytes table ps us) o.1 parts));
+          links = rw of'.shape_is (subst (λ ls. OwesLinks bytes table ls bs ws) o.2 more);
+          entries = inl (of'.held_is, no_values us vs (subst (λ ps. AreParts bytes table ps us vs) o.1 parts));
         }
       where
-        no_values : (xs : List ℕ) → AreParts bytes table [] xs → xs ≡ []
-        no_values xs no_parts = refl
+        no_values : (xs ns : List ℕ) → AreParts bytes table [] xs ns → Nothing xs ns
+        no_values xs ns no_parts = record { no_blocks = refl; no_names = refl }
     buffer_shows T (Some (Form.vec U)) f o tag of =
         let is = same_buffer k t T (sym tag ∙ o.0.has_tag) in
         let of' = rw f at (subst (λ u. OfBlock table kind.Buffer u (Some content)) is.1 (subst (λ j. OfBlock table j t (Some content)) is.0 of)) in
         record {
           low = o.0.after_header;
-          links = rw of'.shape_is (subst (λ ls. OwesLinks bytes table ls bs) o.2 more);
+          links = rw of'.shape_is (subst (λ ls. OwesLinks bytes table ls bs ws) o.2 more);
           entries = inr (record {
             before = 0;
             U = U;
             n = payload_size bytes (block_of p) / (0 + size table U);
             entry_is = of'.entry_is;
-            parts = subst (λ ps. AreParts bytes table ps us) o.1 parts;
+            parts = subst (λ ps. AreParts bytes table ps us vs) o.1 parts;
             fits = div-mul-le_self (payload_size bytes (block_of p)) (0 + size table U);
             count = inl (of'.shape_is, refl);
           });
@@ -133,20 +167,20 @@ module _ (bytes : List ℕ) (table : Table) (valid : IsTable table) (p : ℕ) wh
         let of' = rw f at (subst (λ u. OfBlock table kind.Buffer u (Some content)) is.1 (subst (λ j. OfBlock table j t (Some content)) is.0 of)) in
         record {
           low = o.0.after_header;
-          links = rw of'.shape_is (subst (λ ls. OwesLinks bytes table ls bs) o.2 more);
+          links = rw of'.shape_is (subst (λ ls. OwesLinks bytes table ls bs ws) o.2 more);
           entries = inr (record {
             before = 8;
             U = U;
             n = payload_size bytes (block_of p) / (8 + size table U);
             entry_is = of'.entry_is;
-            parts = subst (λ ps. AreParts bytes table ps us) o.1 parts;
+            parts = subst (λ ps. AreParts bytes table ps us vs) o.1 parts;
             fits = div-mul-le_self (payload_size bytes (block_of p)) (8 + size table U);
             count = inl (of'.shape_is, refl);
           });
         }
 
     node_shows : (T : ℕ) (form : Option Form) → form_at table T ≡ form → OpensBlock bytes table p block.Kind.node T form values links → tag_at bytes (block_of p) ≡ tag_of (kind_of k) t → OfBlock table k t (Some content) →
-        Shows content us bs
+        Shows content us bs vs ws
     node_shows T None f o tag of = absurd o
     node_shows T (Some Form.i64) f o tag of = absurd o
     node_shows T (Some Form.str) f o tag of = absurd o
@@ -161,13 +195,13 @@ module _ (bytes : List ℕ) (table : Table) (valid : IsTable table) (p : ℕ) wh
         let room = o.0.room in
         record {
           low = o.0.after_header;
-          links = rw of'.shape_is (subst (λ ls. OwesLinks bytes table ls bs) o.2 more);
+          links = rw of'.shape_is (subst (λ ls. OwesLinks bytes table ls bs ws) o.2 more);
           entries = inr (record {
             before = 8;
             U = U;
             n = 1;
             entry_is = of'.entry_is;
-            parts = subst (λ ps. AreParts bytes table ps us) o.1 parts;
+            parts = subst (λ ps. AreParts bytes table ps us vs) o.1 parts;
             fits = omega arith;
             count = inr ((λ e. let g = of'.shape_is in cc), refl);
           });
@@ -178,43 +212,49 @@ module _ (bytes : List ℕ) (table : Table) (valid : IsTable table) (p : ℕ) wh
         let room = o.0.room in
         record {
           low = o.0.after_header;
-          links = rw of'.shape_is (subst (λ ls. OwesLinks bytes table ls bs) o.2 more);
+          links = rw of'.shape_is (subst (λ ls. OwesLinks bytes table ls bs ws) o.2 more);
           entries = inr (record {
             before = 24;
             U = U;
             n = 1;
             entry_is = of'.entry_is;
-            parts = subst (λ ps. AreParts bytes table ps us) o.1 parts;
+            parts = subst (λ ps. AreParts bytes table ps us vs) o.1 parts;
             fits = omega arith;
             count = inr ((λ e. let g = of'.shape_is in cc), refl);
           });
         }
 
-    shows_by : (kind_is : block.Kind) (T : ℕ) → OpensBlock bytes table p kind_is T (form_at table T) values links → tag_at bytes (block_of p) ≡ tag_of (kind_of k) t → OfBlock table k t (Some content) → Shows content us bs
+    shows_by : (kind_is : block.Kind) (T : ℕ) → OpensBlock bytes table p kind_is T (form_at table T) values links → tag_at bytes (block_of p) ≡ tag_of (kind_of k) t → OfBlock table k t (Some content) → Shows content us bs vs ws
     shows_by block.Kind.object T o tag of = object_shows T o tag of
     shows_by block.Kind.buffer T o tag of = buffer_shows T (form_at table T) refl o tag of
     shows_by block.Kind.node T o tag of = node_shows T (form_at table T) refl o tag of
     shows_by block.Kind.named T o tag of = absurd o
     shows_by block.Kind.index_buffer T o tag of = absurd o
     shows_by block.Kind.index_node T o tag of = absurd o
-    shows_by block.Kind.frozen T o tag of = absurd o
+    shows_by block.Kind.frozen T o tag of = frozen_shows T o tag of
 
   -- what goes with a block, by its content
-  pub record Parted (content : Content) (xs : List ℕ) : Type 0 where
+  pub record Parted (content : Content) (xs ns : List ℕ) : Type 0 where
     pub us : List ℕ
     pub bs : List ℕ
+    pub vs : List ℕ
+    pub ws : List ℕ
     pub xs_are : SameBlocks xs (block_of p ∷ (us ++ bs))
-    pub shows : Shows content us bs
+    pub ns_are : SameBlocks ns (vs ++ ws)
+    pub shows : Shows content us bs vs ws
 
-  pub parted : (content : Content) (k : Kind) (t : ℕ) (xs : List ℕ) → tag_at bytes (block_of p) ≡ tag_of (kind_of k) t → OfBlock table k t (Some content) → GoesWith bytes table p xs → Parted content xs
-  parted content k t xs tag of goes = go goes.owed goes.owes_it goes.owed_are
+  pub parted : (content : Content) (k : Kind) (t : ℕ) (xs ns : List ℕ) → tag_at bytes (block_of p) ≡ tag_of (kind_of k) t → OfBlock table k t (Some content) → GoesWith bytes table p xs ns → Parted content xs ns
+  parted content k t xs ns tag of goes = go goes.owed goes.named goes.owes_it goes.owed_are goes.named_are
     where
-      go : (owed : List ℕ) → Owes bytes table p owed → SameBlocks owed xs → Parted content xs
-      go owed (owes kind_is T values links us bs o parts more is) same = record {
+      go : (owed named : List ℕ) → Owes bytes table p owed named → SameBlocks owed xs → SameBlocks named ns → Parted content xs ns
+      go owed named (owes kind_is T values links us bs vs ws o parts more is named_is) same same_names = record {
         us = us;
         bs = bs;
+        vs = vs;
+        ws = ws;
         xs_are = λ h. sym (same h) ∙ ap (times h) is;
-        shows = shows_by content k t values links us bs parts more kind_is T o tag of;
+        ns_are = λ h. sym (same_names h) ∙ ap (times h) named_is;
+        shows = shows_by content k t values links us bs vs ws parts more kind_is T o tag of;
       }
 
   -- a block that has no content doesn't wait
@@ -256,32 +296,37 @@ module _ (bytes : List ℕ) (table : Table) (valid : IsTable table) (p : ℕ) wh
   no_content_by k t values links block.Kind.named T form f o tag of = o
   no_content_by k t values links block.Kind.index_buffer T form f o tag of = o
   no_content_by k t values links block.Kind.index_node T form f o tag of = o
-  no_content_by k t values links block.Kind.frozen T form f o tag of = o
+  no_content_by k t values links block.Kind.frozen T form f o tag of =
+      let is = same_frozen k t T (sym tag ∙ o.0.has_tag) in
+      subst (λ u. OfBlock table kind.Frozen u None) is.1 (subst (λ j. OfBlock table j t None) is.0 of)
 
-  pub some_content : (k : Kind) (t : ℕ) (xs : List ℕ) → tag_at bytes (block_of p) ≡ tag_of (kind_of k) t → OfBlock table k t None → GoesWith bytes table p xs → ⊥
-  some_content k t xs tag of goes = go goes.owed goes.owes_it
+  pub some_content : (k : Kind) (t : ℕ) (xs ns : List ℕ) → tag_at bytes (block_of p) ≡ tag_of (kind_of k) t → OfBlock table k t None → GoesWith bytes table p xs ns → ⊥
+  some_content k t xs ns tag of goes = go goes.owed goes.named goes.owes_it
     where
-      go : (owed : List ℕ) → Owes bytes table p owed → ⊥
-      go owed (owes kind_is T values links us bs o parts more is) = no_content_by k t values links kind_is T (form_at table T) refl o tag of
+      go : (owed named : List ℕ) → Owes bytes table p owed named → ⊥
+      go owed named (owes kind_is T values links us bs vs ws o parts more is named_is) = no_content_by k t values links kind_is T (form_at table T) refl o tag of
+
+  -- a value whose type the table lacks
+  lacking : (at T : ℕ) (zs ms : List ℕ) → IsPart bytes table (record { at = at; type = T }) zs ms → 256 ≤ T → Nothing zs ms
+  lacking at T zs ms (inr n) large = record { no_blocks = n.1; no_names = n.2 }
+  lacking at T zs ms (inl (v, holds form opened inside owned g q hs v_is is, names)) large = let l = below_length table T form g in let few = valid.few in absurd (omega arith)
+
+  lone : (at T : ℕ) (zs ms : List ℕ) → AreParts bytes table (record { at = at; type = T } ∷ []) zs ms → 256 ≤ T → Nothing zs ms
+  lone at T zs ms (more_parts {blocks = mine} {names = names} first no_parts) large =
+      let n = lacking at T mine names first large in
+      record { no_blocks = ap (λ bs. bs ++ []) n.no_blocks; no_names = ap (λ bs. bs ++ []) n.no_names }
 
   -- a tag that no word of the program spells is that of an object whose type the table lacks, and which owns nothing
-  unread_by : (values : List Place) (links us bs : List ℕ) (kind_is : block.Kind) (T : ℕ) (form : Option Form) → form_at table T ≡ form → OpensBlock bytes table p kind_is T form values links → AreParts bytes table values us →
-      OwesLinks bytes table links bs → ((t : Tag) → t.type_id < 256 → tag_at bytes (block_of p) ≡ word_of t → ⊥) → (us ≡ []) × (bs ≡ [])
-  unread_by values links us bs block.Kind.object T form f o parts more none =
+  unread_by : (values : List Place) (links us bs vs ws : List ℕ) (kind_is : block.Kind) (T : ℕ) (form : Option Form) → form_at table T ≡ form → OpensBlock bytes table p kind_is T form values links →
+      AreParts bytes table values us vs → OwesLinks bytes table links bs ws → ((t : Tag) → t.type_id < 256 → tag_at bytes (block_of p) ≡ word_of t → ⊥) → Nothing us vs × Nothing bs ws
+  unread_by values links us bs vs ws block.Kind.object T form f o parts more none =
       ⊎_elim (λ l. absurd (none (record { kind = kind.Object; type_id = T }) l o.0.has_tag))
-      (λ large. (lone us (subst (λ ps. AreParts bytes table ps us) o.1 parts) large, no_more bs (subst (λ ls. OwesLinks bytes table ls bs) o.2 more))) (cases_lt T 256)
-    where
-      no_more : (zs : List ℕ) → OwesLinks bytes table [] zs → zs ≡ []
-      no_more zs no_links = refl
-
-      nothing : (zs : List ℕ) → IsPart bytes table (record { at = p; type = T }) zs → 256 ≤ T → zs ≡ []
-      nothing zs (inr n) large = n.1
-      nothing zs (inl (v, holds form opened inside owned g q hs v_is is)) large = let l = below_length table T form g in let few = valid.few in absurd (omega arith)
-
-      lone : (zs : List ℕ) → AreParts bytes table (record { at = p; type = T } ∷ []) zs → 256 ≤ T → zs ≡ []
-      lone zs (more_parts {blocks = mine} first no_parts) large = ap (λ bs. bs ++ []) (nothing mine first large)
-  unread_by values links us bs block.Kind.buffer T None f o parts more none = absurd o
-  unread_by values links us bs block.Kind.buffer T (Some form) f o parts more none = absurd (none (record { kind = kind.Buffer; type_id = T }) (small T form f) (tag_is form o))
+      (λ large. (lone p T us vs (subst (λ ps. AreParts bytes table ps us vs) o.1 parts) large, no_further bytes table bs ws (subst (λ ls. OwesLinks bytes table ls bs ws) o.2 more))) (cases_lt T 256)
+  unread_by values links us bs vs ws block.Kind.frozen T form f o parts more none =
+      ⊎_elim (λ l. absurd (none (record { kind = kind.Frozen; type_id = T }) l o.0.has_tag))
+      (λ large. (lone (p + 8) T us vs (subst (λ ps. AreParts bytes table ps us vs) o.1 parts) large, no_further bytes table bs ws (subst (λ ls. OwesLinks bytes table ls bs ws) o.2 more))) (cases_lt T 256)
+  unread_by values links us bs vs ws block.Kind.buffer T None f o parts more none = absurd o
+  unread_by values links us bs vs ws block.Kind.buffer T (Some form) f o parts more none = absurd (none (record { kind = kind.Buffer; type_id = T }) (small T form f) (tag_is form o))
     where
       small : (T : ℕ) (form : Form) → form_at table T ≡ Some form → T < 256
       small T form f = let l = below_length table T form f in let few = valid.few in omega arith
@@ -296,8 +341,8 @@ module _ (bytes : List ℕ) (table : Table) (valid : IsTable table) (p : ℕ) wh
       tag_is (Form.own U) o = absurd o
       tag_is (Form.shared U) o = absurd o
       tag_is (Form.struct Us) o = absurd o
-  unread_by values links us bs block.Kind.node T None f o parts more none = absurd o
-  unread_by values links us bs block.Kind.node T (Some form) f o parts more none = absurd (none (record { kind = kind.Node; type_id = T }) (small T form f) (tag_is form o))
+  unread_by values links us bs vs ws block.Kind.node T None f o parts more none = absurd o
+  unread_by values links us bs vs ws block.Kind.node T (Some form) f o parts more none = absurd (none (record { kind = kind.Node; type_id = T }) (small T form f) (tag_is form o))
     where
       small : (T : ℕ) (form : Form) → form_at table T ≡ Some form → T < 256
       small T form f = let l = below_length table T form f in let few = valid.few in omega arith
@@ -312,24 +357,25 @@ module _ (bytes : List ℕ) (table : Table) (valid : IsTable table) (p : ℕ) wh
       tag_is (Form.own U) o = absurd o
       tag_is (Form.shared U) o = absurd o
       tag_is (Form.struct Us) o = absurd o
-  unread_by values links us bs block.Kind.named T form f o parts more none = absurd o
-  unread_by values links us bs block.Kind.index_buffer T form f o parts more none = absurd o
-  unread_by values links us bs block.Kind.index_node T form f o parts more none = absurd o
-  unread_by values links us bs block.Kind.frozen T form f o parts more none = absurd o
+  unread_by values links us bs vs ws block.Kind.named T form f o parts more none = absurd o
+  unread_by values links us bs vs ws block.Kind.index_buffer T form f o parts more none = absurd o
+  unread_by values links us bs vs ws block.Kind.index_node T form f o parts more none = absurd o
 
-  pub unread : (xs : List ℕ) → ((t : Tag) → t.type_id < 256 → tag_at bytes (block_of p) ≡ word_of t → ⊥) → GoesWith bytes table p xs → SameBlocks xs (block_of p ∷ [])
-  unread xs none goes = go goes.owed goes.owes_it goes.owed_are
+  pub unread : (xs ns : List ℕ) → ((t : Tag) → t.type_id < 256 → tag_at bytes (block_of p) ≡ word_of t → ⊥) → GoesWith bytes table p xs ns → SameBlocks xs (block_of p ∷ []) × SameBlocks ns []
+  unread xs ns none goes = go goes.owed goes.named goes.owes_it goes.owed_are goes.named_are
     where
-      go : (owed : List ℕ) → Owes bytes table p owed → SameBlocks owed xs → SameBlocks xs (block_of p ∷ [])
-      go owed (owes kind_is T values links us bs o parts more is) same =
-          let e = unread_by values links us bs kind_is T (form_at table T) refl o parts more none in
-          let both : us ++ bs ≡ [] = ap (λ zs. zs ++ bs) e.0 ∙ e.1 in
-          λ h. sym (same h) ∙ ap (times h) (is ∙ ap (λ zs. block_of p ∷ zs) both)
+      go : (owed named : List ℕ) → Owes bytes table p owed named → SameBlocks owed xs → SameBlocks named ns → SameBlocks xs (block_of p ∷ []) × SameBlocks ns []
+      go owed named (owes kind_is T values links us bs vs ws o parts more is named_is) same same_names =
+          let e = unread_by values links us bs vs ws kind_is T (form_at table T) refl o parts more none in
+          let both : us ++ bs ≡ [] = ap (λ zs. zs ++ bs) e.0.no_blocks ∙ e.1.no_blocks in
+          let no_names : vs ++ ws ≡ [] = ap (λ zs. zs ++ ws) e.0.no_names ∙ e.1.no_names in
+          ((λ h. sym (same h) ∙ ap (times h) (is ∙ ap (λ zs. block_of p ∷ zs) both)), (λ h. sym (same_names h) ∙ ap (times h) (named_is ∙ no_names)))
 
 -- ---- its links, and then its entries
 
-module _ (allocator : ℕ) (old mid new : List ℕ) (table here : Table) (same : here ≡ table) (valid : IsTable table) (p n : ℕ) (content : Content) (f g k : Option ℕ) (us bs xs ys : List ℕ) (xs_are : SameBlocks xs (block_of p ∷ (us ++ bs)))
-    (s : Shows old table valid p content us bs) (w : Pends allocator old table f ys) (fits : AreLive old (xs ++ ys)) where
+module _ (allocator : ℕ) (old mid new : List ℕ) (table here : Table) (same : here ≡ table) (valid : IsTable table) (p n : ℕ) (content : Content) (f g k : Option ℕ) (us bs vs ws xs ns ys names : List ℕ) (kept_cells : List Place)
+    (final : List Frozen) (xs_are : SameBlocks xs (block_of p ∷ (us ++ bs))) (ns_are : SameBlocks ns (vs ++ ws)) (s : Shows old table valid p content us bs vs ws) (w : Awaits allocator old table f ys (ns ++ names) kept_cells final)
+    (fits : AreLive old (xs ++ ys)) where
   home : ℕ
   home = block_of p
 
@@ -340,7 +386,7 @@ module _ (allocator : ℕ) (old mid new : List ℕ) (table here : Table) (same :
   home_live = let c = counts (block_of p) in let o = times-same (block_of p) [] in omega arith
 
   lies : LiesIn old heap_start (length old) (block_of p)
-  lies = there (LiesIn old heap_start (length old)) (block_of p) (positions (live old)) (live-lie old allocator w.heap) home_live
+  lies = there (LiesIn old heap_start (length old)) (block_of p) (positions (live old)) (live-lie old allocator w.beside.pends.heap) home_live
 
   pub links_fit : AreLive old (block_of p ∷ (bs ++ ys))
   links_fit h = let c = counts h in let a = times-append h bs ys in omega arith
@@ -348,13 +394,17 @@ module _ (allocator : ℕ) (old mid new : List ℕ) (table here : Table) (same :
   pub inside_links : IsInside old (block_of p) p 8
   inside_links = let l = lies.size in let low = s.low in record { low = omega arith; high = omega arith }
 
-  module _ (first : Adds allocator old mid table g bs ys) (buffer : (b : Span) → content.shape ≡ shape.Buffer → p ≡ b.at + 16 → IsSized mid b → n ≡ (16 * b.units - 16) / content.entry.size) (one : (content.shape ≡ shape.Buffer → ⊥) → n ≡ 1)
+  -- what its links name is to be released first
+  pub links_waiting : Awaits allocator old table f ys (ws ++ (vs ++ names)) kept_cells final
+  links_waiting = awaits_names allocator old table f ys (ns ++ names) (ws ++ (vs ++ names)) kept_cells final
+      (λ h. omega (arith, ns_are h, times-append h ns names, times-append h vs ws, times-append h ws (vs ++ names), times-append h vs names)) w
+
+  module _ (first : Adds allocator old mid table g bs ys (vs ++ names) kept_cells final) (buffer : (b : Span) → content.shape ≡ shape.Buffer → p ≡ b.at + 16 → IsSized mid b → n ≡ (16 * b.units - 16) / content.entry.size) (one : (content.shape ≡ shape.Buffer → ⊥) → n ≡ 1)
       (text : content.entry.held ≡ held.Bytes → (new ≡ mid) × (k ≡ g))
-      (entries : (home before U : ℕ) (zs : List ℕ) → IsEntryOf here before U content.entry → IsInside mid home p (n * (before + size here U)) → AreParts mid here (entries_at here p before U n) zs →
-      (allocator : ℕ) (ys : List ℕ) → IsTable here →
-      Pends allocator mid here g ys → AreLive mid (home ∷ (zs ++ ys)) → Adds allocator mid new here k zs ys) where
-    apart : times (block_of p) bs ≡ 0
-    apart = let c = counts (block_of p) in let o = times-same (block_of p) [] in let once = live-once old allocator w.heap (block_of p) in omega arith
+      (entries : (home before U : ℕ) (zs ms : List ℕ) → IsEntryOf here before U content.entry → IsInside mid home p (n * (before + size here U)) → AreParts mid here (entries_at here p before U n) zs ms →
+      AddsIn mid new here g k (home ∷ []) zs ms) where
+    apart : times (block_of p) (bs ++ ys) ≡ 0
+    apart = let c = counts (block_of p) in let o = times-same (block_of p) [] in let once = live-once old allocator w.beside.pends.heap (block_of p) in let a = times-append (block_of p) bs ys in omega arith
 
     kept : Rattle.seg_spec.specs.Owing.KeepsLinked old mid (block_of p)
     kept = first.keeps.others (block_of p) home_live apart
@@ -363,32 +413,33 @@ module _ (allocator : ℕ) (old mid new : List ℕ) (table here : Table) (same :
     live_same h = ap (λ bs. times h (positions bs)) first.keeps.live_kept
 
     lies_mid : LiesIn mid heap_start (length mid) (block_of p)
-    lies_mid = let l = live_same (block_of p) in let h = home_live in there (LiesIn mid heap_start (length mid)) (block_of p) (positions (live mid)) (live-lie mid allocator first.pends.heap) (omega arith)
+    lies_mid = let l = live_same (block_of p) in let h = home_live in there (LiesIn mid heap_start (length mid)) (block_of p) (positions (live mid)) (live-lie mid allocator first.awaits.beside.pends.heap) (omega arith)
 
-    entries_added : HasEntries old table valid p content us → Adds allocator old new table k (us ++ bs) ys
+    entries_added : HasEntries old table valid p content us vs → Adds allocator old new table k (us ++ bs) ys names kept_cells final
     entries_added e =
-        let entries' : (home before U : ℕ) (zs : List ℕ) → IsEntryOf table before U content.entry → IsInside mid home p (n * (before + size table U)) → AreParts mid table (entries_at table p before U n) zs →
-        (allocator : ℕ) (ys : List ℕ) → IsTable table →
-        Pends allocator mid table g ys → AreLive mid (home ∷ (zs ++ ys)) → Adds allocator mid new table k zs ys =
-        subst (λ t. (home before U : ℕ) (zs : List ℕ) → IsEntryOf t before U content.entry → IsInside mid home p (n * (before + size t U)) → AreParts mid t (entries_at t p before U n) zs → (allocator : ℕ) (ys : List ℕ) → IsTable t →
-        Pends allocator mid t g ys → AreLive mid (home ∷ (zs ++ ys)) → Adds allocator mid new t k zs ys) same entries in
+        let entries' : (home before U : ℕ) (zs ms : List ℕ) → IsEntryOf table before U content.entry → IsInside mid home p (n * (before + size table U)) → AreParts mid table (entries_at table p before U n) zs ms →
+        AddsIn mid new table g k (home ∷ []) zs ms =
+        subst (λ t. (home before U : ℕ) (zs ms : List ℕ) → IsEntryOf t before U content.entry → IsInside mid home p (n * (before + size t U)) → AreParts mid t (entries_at t p before U n) zs ms →
+        AddsIn mid new t g k (home ∷ []) zs ms) same entries in
         let n_is : n ≡ e.n = ⊎_elim
         (λ b. buffer (record { at = block_of p; units = units_at mid (block_of p) }) b.0 (let low = s.low in omega arith) (let l = lies_mid in record { aligned = l.aligned; large = l.size; inside = l.high; size_is = refl })
         ∙ ap (λ m. payload_size mid (block_of p) / m) e.entry_is.size_is ∙ ap (λ m. m / (e.before + size table e.U)) kept.whole.size_kept ∙ sym b.1)
         (λ o. one o.0 ∙ sym o.1) e.count in
         let inside_old : IsInside old (block_of p) p (e.n * (e.before + size table e.U)) = let low = s.low in let room = e.fits in let l = lies.size in record { low = omega arith; high = omega arith } in
         let inside_mid = inside_then old mid (block_of p) p (e.n * (e.before + size table e.U)) lies.size inside_old kept in
-        let disjoint : AreLive old (bs ++ us) = λ h. let c = counts h in let a = times-append h bs us in omega arith in
-        let parts_mid = parts_then allocator old mid table valid w.heap (block_of p) bs first.keeps home_live apart (entries_at table p e.before e.U e.n) us (entries_inside old table
+        let disjoint : AreLive old ((bs ++ ys) ++ us) = λ h. let c = counts h in let a = times-append h (bs ++ ys) us in let b = times-append h bs ys in omega arith in
+        let parts_mid = parts_then allocator old mid table valid w.beside.pends.heap (block_of p) (bs ++ ys) first.keeps home_live apart (entries_at table p e.before e.U e.n) us vs (entries_inside old table
         (block_of p) p e.before e.U e.n inside_old) disjoint e.parts in
         let fits_mid : AreLive mid (block_of p ∷ (us ++ (bs ++ ys))) = λ h. let c = counts h in let l = live_same h in let a = times-append h us (bs ++ ys) in let b = times-append h bs ys in omega arith in
-        let second = entries' (block_of p) e.before e.U us e.entry_is (rw n_is inside_mid) (rw n_is parts_mid) allocator (bs ++ ys) valid first.pends fits_mid in
-        adds_twice allocator old mid new table g k bs us ys (us ++ bs) first second (λ h. refl)
+        let second = entries' (block_of p) e.before e.U us vs e.entry_is (rw n_is inside_mid) (rw n_is parts_mid) allocator (bs ++ ys) names kept_cells final valid first.awaits fits_mid in
+        adds_twice allocator old mid new table g k bs us ys (us ++ bs) (vs ++ names) names kept_cells final first second (λ h. refl)
 
-    pub all_added : Adds allocator old new table k (us ++ bs) ys
+    pub all_added : Adds allocator old new table k (us ++ bs) ys names kept_cells final
     all_added = ⊎_elim text_added entries_added s.entries
       where
-        text_added : (content.entry.held ≡ held.Bytes) × (us ≡ []) → Adds allocator old new table k (us ++ bs) ys
+        text_added : (content.entry.held ≡ held.Bytes) × Nothing us vs → Adds allocator old new table k (us ++ bs) ys names kept_cells final
         text_added t =
             let e = text t.0 in
-            subst (λ zs. Adds allocator old new table k (zs ++ bs) ys) (sym t.1) (subst (λ b. Adds allocator old b table k bs ys) (sym e.0) (subst (λ o. Adds allocator old mid table o bs ys) (sym e.1) first))
+            let first' : Adds allocator old mid table g bs ys names kept_cells final = subst (λ ms. Adds allocator old mid table g bs ys (ms ++ names) kept_cells final) t.1.no_names first in
+            subst (λ zs. Adds allocator old new table k (zs ++ bs) ys names kept_cells final) (sym t.1.no_blocks)
+            (subst (λ b. Adds allocator old b table k bs ys names kept_cells final) (sym e.0) (subst (λ o. Adds allocator old mid table o bs ys names kept_cells final) (sym e.1) first'))

@@ -3,7 +3,7 @@ use Rattle.std.proofs.Common.{◌≡◌, ◌≢◌, ℕ, zero, suc, ◌+◌, ◌
 use Rattle.std.specs.List.{AllByRecursion}
 use Rattle.seg_spec.specs.Bytes.{word, set_word, ChangesOnly}
 use Rattle.seg_spec.specs.Pointer.{target, distance, set_pointer}
-use Rattle.seg_spec.specs.Types.{Form, Table, form_at, IsTable, size}
+use Rattle.seg_spec.specs.Types.{Form, Table, form_at, IsTable, AreOfVersion, size}
 use Rattle.seg_spec.specs.Value.{Label, Value, Values, nil, cons, Empty, Full, node}
 use Rattle.seg_spec.specs.Heap.{units_at, IsHeap, live, heap_start}
 use Rattle.seg_spec.specs.Block.{Kind, tag_of, IsBlock, KeepsBlock, IsInside, IsOwnable, block_of, payload_size}
@@ -113,7 +113,10 @@ module _ (allocator : ℕ) (old : List ℕ) (table : Table) (own : Place) (U : �
         kept = λ g some zero_times. around_kept old old own.at (size table own.type) g (omega (arith, (lies g some).size)) (record { live = refl; has_tag = refl; room = omega arith; payload = refl });
       }
 
-  module _ (mid after : List ℕ) (u : Value) (result : Option ℕ) (t : TakesOwn old mid table own U u blocks result) (fr : Frees allocator mid after blocks) where
+  module _ (mid after : List ℕ) (u : Value) (result : Option ℕ) (t : TakesOwn old mid table own U u blocks result) (fr : Frees allocator mid after blocks []) where
+    none_but : (h : ℕ) → times h blocks ≡ 0 → times h (blocks ++ []) ≡ 0
+    none_but h none = let n = times-append h blocks [] in omega arith
+
     live_mid : (h : ℕ) → times h (positions (live mid)) ≡ times h (positions (live old))
     live_mid h = ap (λ bs. times h (positions bs)) t.changes.live_is
 
@@ -129,7 +132,7 @@ module _ (allocator : ℕ) (old : List ℕ) (table : Table) (own : Place) (U : �
     ownable_there : (h : ℕ) → 1 ≤ times h (positions (live mid)) → times h blocks ≡ 0 → IsOwnable after table h
     ownable_there h some none =
         let o = there (IsOwnable mid table) h (positions (live mid)) (each_map (IsOwnable mid table) (λ b. b.at) (live mid) t.changes.ownable) some in
-        let k = fr.kept h some none in
+        let k = fr.kept h some (none_but h none) in
         record { kind = o.kind; type = o.type; allowed = o.allowed; tag_is = k.whole.kept.has_tag ∙ o.tag_is; link_is = k.link_kept ∙ o.link_is }
 
     pub emptied_now : IsEmptied after
@@ -142,25 +145,25 @@ module _ (allocator : ℕ) (old : List ℕ) (table : Table) (own : Place) (U : �
           let l = fr.live_are h in
           let once = live-once mid (word old 16) t.changes.heap h in
           ownable_there h (omega arith) (omega arith)));
-      holds_it = Holds-kept mid after table s.is_table t.changes.holds_it (inside_same mid after s.home own.at (size table own.type) inside_mid (fr.kept s.home (some_mid s.home home_live) home_apart)) tt;
+      holds_it = Holds-kept mid after table s.is_table t.changes.holds_it (inside_same mid after s.home own.at (size table own.type) inside_mid (fr.kept s.home (some_mid s.home home_live) (none_but s.home home_apart))) tt;
       live_is = fr.live_is ∙ ap (λ bs. after_gives bs blocks) t.changes.live_is;
       live_are = λ h. let l = fr.live_are h in let m = live_mid h in omega arith;
       kept = λ h some none. around_twice old mid after own.at (size table own.type) h (t.changes.kept h some none)
-          (around_kept mid after own.at (size table own.type) h (let two = solid_mid h (some_mid h some) in omega arith) (fr.kept h (some_mid h some) none).whole.kept);
+          (around_kept mid after own.at (size table own.type) h (let two = solid_mid h (some_mid h some) in omega arith) (fr.kept h (some_mid h some) (none_but h none)).whole.kept);
     }
 
   -- the object that it held was taken out, and destroyed
   pub taken_emptied : (mid after : List ℕ) (here : Table) → here ≡ table → (u : Value) (result : Option ℕ) (held : ℕ) → result ≡ Some held → TakesOwn old mid table own U u blocks result →
-      ((U : ℕ) (v : Value) (inside : List ℕ) → IsTable here → IsHeap allocator mid → IsLoose mid here (record { at = held; type = U }) v inside → Frees allocator mid after (block_of held ∷ inside)) → IsEmptied after
+      ((U : ℕ) (v : Value) (inside : List ℕ) → IsTable here → AreOfVersion 1 here → IsHeap allocator mid → IsLoose mid here (record { at = held; type = U }) v inside → Frees allocator mid after (block_of held ∷ inside) []) → IsEmptied after
   taken_emptied mid after here same u result held result_is t frees =
-      let frees' : (U : ℕ) (v : Value) (inside : List ℕ) → IsTable table → IsHeap allocator mid → IsLoose mid table (record { at = held; type = U }) v inside → Frees allocator mid after (block_of held ∷ inside) =
-      subst (λ k. (U : ℕ) (v : Value) (inside : List ℕ) → IsTable k → IsHeap allocator mid → IsLoose mid k (record { at = held; type = U }) v inside → Frees allocator mid after (block_of held ∷ inside)) same frees in
+      let frees' : (U : ℕ) (v : Value) (inside : List ℕ) → IsTable table → AreOfVersion 1 table → IsHeap allocator mid → IsLoose mid table (record { at = held; type = U }) v inside → Frees allocator mid after (block_of held ∷ inside) [] =
+      subst (λ k. (U : ℕ) (v : Value) (inside : List ℕ) → IsTable k → AreOfVersion 1 k → IsHeap allocator mid → IsLoose mid k (record { at = held; type = U }) v inside → Frees allocator mid after (block_of held ∷ inside) []) same frees in
       let both : Some t.object ≡ Some held = sym t.result_is ∙ result_is in
       let is : t.object ≡ held = cc in
       let loose : IsLoose mid table (record { at = held; type = U }) u t.inside = subst (λ p. IsLoose mid table (record { at = p; type = U }) u t.inside) is t.loose in
-      let fr = frees' U u t.inside s.is_table (subst (λ n. IsHeap n mid) s.allocator_is t.changes.heap) loose in
+      let fr = frees' U u t.inside s.is_table s.of_version (subst (λ n. IsHeap n mid) s.allocator_is t.changes.heap) loose in
       let all : block_of held ∷ t.inside ≡ blocks = ap (λ p. block_of p ∷ t.inside) (sym is) ∙ sym t.blocks_are in
-      emptied_now mid after u result t (subst (λ bs. Frees allocator mid after bs) all fr)
+      emptied_now mid after u result t (subst (λ bs. Frees allocator mid after bs []) all fr)
 
   -- ---- and then names the object
 
@@ -192,6 +195,7 @@ module _ (allocator : ℕ) (old : List ℕ) (table : Table) (own : Place) (U : �
       heap = subst (λ n. IsHeap n after) s.allocator_is e.heap;
       allocator_is = word-same old after 16 (IsSame-part old after 0 24 16 4 (omega arith) (omega arith) e.front_kept) ∙ s.allocator_is;
       is_table = s.is_table;
+      of_version = s.of_version;
       ownable = e.ownable;
       holds_it = e.holds_it;
       aligned = s.aligned;

@@ -7,6 +7,7 @@ use Rattle.seg_spec.specs.Heap.{IsHeap, live}
 use Rattle.seg_spec.specs.Block.{block_of, payload_size}
 use Rattle.seg_spec.specs.Reads.{Place, count_at, Holds}
 use Rattle.seg_spec.specs.Sound.{times, positions}
+use Rattle.seg_spec.specs.Shared.{named_in}
 use Rattle.seg_spec.specs.Destroying.{AreLive, GoesWith, DefaultsRest, Uncouples}
 use Rattle.seg_spec.proofs.Destruction.{others_none}
 use Rattle.seg_spec.proofs.CellOwed.{own_goes, tree_goes, text_goes, vector_goes, flat_map_goes}
@@ -19,11 +20,11 @@ use Rattle.seg_value.proofs.Nulls.{vector_named, flat_map_named}
 
 module _ (allocator : ℕ) (old : List ℕ) (table : Table) (valid : IsTable table) (heap : IsHeap allocator old) (place : Place) (p : ℕ) (e : target old place.at ≡ Some p) (v : Value) (xs : List ℕ) (fits : AreLive old xs)
     (h : Holds old table place v xs) (content : Content) where
-  unchanged : GoesWith old table p xs → Uncouples allocator old old table p xs
+  unchanged : GoesWith old table p xs (named_in v) → Uncouples allocator old old table p xs (named_in v)
   unchanged goes = record { heap = heap; keeps = others_none old xs; goes = goes }
 
   -- one block, or the first node of a tree
-  single_by : (o : Option Form) → form_at table place.type ≡ o → ContentOf table place.type o (Some content) → (content.shape ≡ shape.Tree) ⊎ (content.shape ≡ shape.Object) → Uncouples allocator old old table p xs
+  single_by : (o : Option Form) → form_at table place.type ≡ o → ContentOf table place.type o (Some content) → (content.shape ≡ shape.Tree) ⊎ (content.shape ≡ shape.Object) → Uncouples allocator old old table p xs (named_in v)
   single_by None f k s = absurd k
   single_by (Some Form.i64) f k s = absurd k
   single_by (Some (Form.struct Us)) f k s = absurd k
@@ -39,12 +40,12 @@ module _ (allocator : ℕ) (old : List ℕ) (table : Table) (valid : IsTable tab
   single_by (Some (Form.own U)) f k s = unchanged (own_goes old table place p e U v xs f h)
   single_by (Some (Form.shared U)) f k s = absurd k
 
-  pub single : ContentOf table place.type (form_at table place.type) (Some content) → (content.shape ≡ shape.Tree) ⊎ (content.shape ≡ shape.Object) → Uncouples allocator old old table p xs
+  pub single : ContentOf table place.type (form_at table place.type) (Some content) → (content.shape ≡ shape.Tree) ⊎ (content.shape ≡ shape.Object) → Uncouples allocator old old table p xs (named_in v)
   single k s = single_by (form_at table place.type) refl k s
 
   -- a ring, which is opened
   ring_by : (new : List ℕ) (o : Option Form) → form_at table place.type ≡ o → ContentOf table place.type o (Some content) → content.shape ≡ shape.Ring →
-      ((last : ℕ) → target old (p + 4) ≡ Some last → new ≡ set_pointer old last None) → Uncouples allocator old new table p xs
+      ((last : ℕ) → target old (p + 4) ≡ Some last → new ≡ set_pointer old last None) → Uncouples allocator old new table p xs (named_in v)
   ring_by new None f k s opened = absurd k
   ring_by new (Some Form.i64) f k s opened = absurd k
   ring_by new (Some (Form.struct Us)) f k s opened = absurd k
@@ -56,17 +57,17 @@ module _ (allocator : ℕ) (old : List ℕ) (table : Table) (valid : IsTable tab
   ring_by new (Some (Form.shared U)) f k s opened = absurd k
   ring_by new (Some (Form.list U)) f k s opened =
       let r = list_goes allocator old table valid heap place p e v xs fits U f h in
-      subst (λ b. Uncouples allocator old b table p xs) (sym (opened r.last r.names)) r.uncouples
+      subst (λ b. Uncouples allocator old b table p xs (named_in v)) (sym (opened r.last r.names)) r.uncouples
 
   pub ring : (new : List ℕ) → ContentOf table place.type (form_at table place.type) (Some content) → content.shape ≡ shape.Ring → ((last : ℕ) → target old (p + 4) ≡ Some last → new ≡ set_pointer old last None) →
-      Uncouples allocator old new table p xs
+      Uncouples allocator old new table p xs (named_in v)
   ring new k s opened = ring_by new (form_at table place.type) refl k s opened
 
   -- a buffer, the rest of which holds defaults
   buffer_by : (new : List ℕ) (used : ℕ) (o : Option Form) → form_at table place.type ≡ o → ContentOf table place.type o (Some content) → content.shape ≡ shape.Buffer → used ≡ count_at old place.at →
       (content.entry.held ≡ held.Bytes → new ≡ old) →
       ((before U : ℕ) → IsEntryOf table before U content.entry → 16 ≤ p → 1 ≤ times (block_of p) (positions (live old)) → used * (before + size table U) ≤ payload_size old (block_of p) → DefaultsRest old new table p before U used) →
-      Uncouples allocator old new table p xs
+      Uncouples allocator old new table p xs (named_in v)
   buffer_by new used None f k s count text rest = absurd k
   buffer_by new used (Some Form.i64) f k s count text rest = absurd k
   buffer_by new used (Some (Form.struct Us)) f k s count text rest = absurd k
@@ -74,7 +75,7 @@ module _ (allocator : ℕ) (old : List ℕ) (table : Table) (valid : IsTable tab
   buffer_by new used (Some (Form.map U)) f k s count text rest = let t = k.shape_is in absurd (cc)
   buffer_by new used (Some (Form.own U)) f k s count text rest = let t = k.shape_is in absurd (cc)
   buffer_by new used (Some (Form.shared U)) f k s count text rest = absurd k
-  buffer_by new used (Some Form.str) f k s count text rest = subst (λ b. Uncouples allocator old b table p xs) (sym (text k.held_is)) (unchanged (text_goes old table place p e v xs f h))
+  buffer_by new used (Some Form.str) f k s count text rest = subst (λ b. Uncouples allocator old b table p xs (named_in v)) (sym (text k.held_is)) (unchanged (text_goes old table place p e v xs f h))
   buffer_by new used (Some (Form.vec U)) f k s count text rest =
       let b = vector_named old table place p U v xs f e h in
       let room = b.block.room in
@@ -93,5 +94,5 @@ module _ (allocator : ℕ) (old : List ℕ) (table : Table) (valid : IsTable tab
 
   pub buffer : (new : List ℕ) (used : ℕ) → ContentOf table place.type (form_at table place.type) (Some content) → content.shape ≡ shape.Buffer → used ≡ count_at old place.at → (content.entry.held ≡ held.Bytes → new ≡ old) →
       ((before U : ℕ) → IsEntryOf table before U content.entry → 16 ≤ p → 1 ≤ times (block_of p) (positions (live old)) → used * (before + size table U) ≤ payload_size old (block_of p) → DefaultsRest old new table p before U used) →
-      Uncouples allocator old new table p xs
+      Uncouples allocator old new table p xs (named_in v)
   buffer new used k s count text rest = buffer_by new used (form_at table place.type) refl k s count text rest

@@ -15,6 +15,7 @@ use Rattle.seg_spec.specs.Reads.{Holds}
 use Rattle.seg_spec.specs.Sound.{times, positions}
 use Rattle.seg_spec.specs.Demand.{after_asks, block_for}
 use Rattle.seg_spec.specs.Types.{Form, Table, IsTable, form_at, size}
+use Rattle.seg_spec.specs.Frozen.{frozen_words}
 use Rattle.seg_spec.specs.Block as block
 use Rattle.seg_spec.specs.Block.{tag_of}
 use Rattle.seg_block.specs.Tags.{word_of}
@@ -79,6 +80,8 @@ ContentOf _ _ _ _ = ⊥
 abbrev pub OfBlock : Table → Kind → ℕ → Option Content → Type 0
 OfBlock table kind.Object T content =
     IsSomeAnd content (IsContent table shape.Object (tag_of block.Kind.object T) 0 T)
+OfBlock table kind.Frozen T content =
+    IsSomeAnd content (IsContent table shape.Object (tag_of block.Kind.frozen T) frozen_words T)
 OfBlock table kind.Buffer T content = ContentOf table T (form_at table T) content
 OfBlock table kind.Node T content = ContentOf table T (form_at table T) content
 OfBlock table kind.Named T content = content ≡ None

@@ -2,6 +2,7 @@ ghost use Rattle.std.specs.Prelude.{◌≡◌, get_or, None};
 ghost use Rattle.seg_spec.specs.Types.{IsTable, form_at};
 ghost use Rattle.seg_spec.specs.Block as block;
 ghost use Rattle.seg_spec.specs.Block.{tag_of};
+ghost use Rattle.seg_spec.specs.Frozen.{frozen_words};
 ghost use Rattle.seg_block.specs.Tags.{word_of};
 
 use crate::cells::{Cells, IDS};
@@ -11,6 +12,9 @@ use seg_layout::{MAX_TYPES, Type, TypeId, TypeTable};
 
 /// The bytes of a map's node before its key.
 const TREE_WORDS: u32 = 16;
+
+/// The bytes of a frozen object before its value: how many cells name it, and its number.
+pub const FROZEN_WORDS: u32 = 8;
 
 /// How the blocks hang together that a cell names.
 #[derive(Debug, Clone, Copy, PartialEq, Eq)]
@@ -66,6 +70,21 @@ impl Content {
         Content::new(Shape::Object, t, entry)
     }
 
+    /// An object that values share: its count and its number, then one value.
+    pub fn frozen(types: &TypeTable, t: TypeId) -> Content
+        ensures { IsContent types.now Shape.Object (tag_of block.Kind.frozen t) frozen_words t
+            result }
+    {
+        Content {
+            shape: Shape::Object,
+            tag: Tag {
+                kind: Kind::Frozen,
+                type_id: t,
+            },
+            entry: Entry::with_value(types, t, FROZEN_WORDS),
+        }
+    }
+
     /// The buffer of the flat index: entries of 8 bytes that begin with a pointer to a named object.
     pub fn index_buffer() -> Content
         ensures { IsIndexBuffer result }
@@ -86,6 +105,7 @@ impl Content {
     {
         match tag.kind {
             Kind::Object => Some(Content::object(types, tag.type_id)),
+            Kind::Frozen => Some(Content::frozen(types, tag.type_id)),
             Kind::Buffer | Kind::Node => Content::of(types, tag.type_id),
             Kind::Named | Kind::IndexBuffer | Kind::IndexNode => None,
         }

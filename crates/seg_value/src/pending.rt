@@ -1,13 +1,17 @@
-ghost use Rattle.std.specs.Prelude.{◌≡◌, ◌≢◌, ℕ, ◌+◌, ◌*◌, ◌/◌, ◌-◌, ◌≤◌, List, [], ◌∷◌, ◌++◌, length, Option, Some, None, IfSome, false};
+ghost use Rattle.std.specs.Prelude.{◌≡◌, ◌≢◌, ℕ, ◌+◌, ◌*◌, ◌/◌, ◌-◌, ◌≤◌, List, [], ◌∷◌, ◌++◌, length, Option, Some, None, IfSome, true, false};
 ghost use Rattle.seg_spec.specs.Pointer.{target, set_pointer};
 ghost use Rattle.seg_spec.specs.Types.{form_at, IsTable, fields_of, size};
 ghost use Rattle.seg_spec.specs.Value.{Value};
 ghost use Rattle.seg_spec.specs.Heap.{IsHeap, Span, live};
 ghost use Rattle.seg_spec.specs.Block.{IsInside, block_of, payload_size};
+ghost use Rattle.seg_spec.specs.Reads as reads;
 ghost use Rattle.seg_spec.specs.Reads.{Holds};
 ghost use Rattle.seg_spec.specs.Sound.{times, positions};
 ghost use Rattle.seg_spec.specs.Owing.{IsPart, AreParts, OwesLinks, entries_at};
-ghost use Rattle.seg_spec.specs.Destroying.{AreLive, GoesWith, Pends, Pops, Adds, Uncouples, DefaultsRest, Frees};
+ghost use Rattle.seg_spec.specs.Destroying.{AreLive, GoesWith, Awaits, Pops, Uncouples, DefaultsRest, Destroys};
+ghost use Rattle.seg_spec.specs.Shared.{named_in};
+ghost use Rattle.seg_spec.specs.Frozen.{Frozen};
+ghost use Rattle.seg_spec.specs.Bytes.{set_word};
 ghost use Rattle.seg_spec.specs.Window.{with_bytes, KeepsHost};
 ghost use Rattle.seg_block.specs.Blocks.{IsSized};
 ghost use Rattle.seg_layout.specs.Forms.{has_cells};
@@ -44,8 +48,9 @@ impl Pending {
     pub(crate) fn push<F: Fit, A: Allocator>(&mut self, heap: &mut Heap<F, A>, payload: u32)
         ensures window { KeepsHost heap.old.window heap.new.window }
         ensures types { heap.new.types ≡ heap.old.types }
-        ensures added { (xs : List ℕ) → GoesWith heap.old.window.bytes heap.old.types payload xs →
-            AddsWaiting heap.old heap.new self.old.first self.new.first [] xs }
+        ensures added { (xs ns : List ℕ) →
+            GoesWith heap.old.window.bytes heap.old.types payload xs ns →
+            AddsWaiting heap.old heap.new self.old.first self.new.first [] xs ns }
     {
         heap.set_link(payload, self.first);
         self.first = Some(payload);
@@ -55,10 +60,12 @@ impl Pending {
     fn pop<F: Fit, A: Allocator>(&mut self, heap: &Heap<F, A>) -> Option<u32>
         ensures none { result ≡ None → self.old.first ≡ None }
         ensures first { (p : ℕ) → result ≡ Some p → self.old.first ≡ Some p }
-        ensures popped { (allocator : ℕ) (blocks : List ℕ) →
-            Pends allocator heap.now.window.bytes heap.now.types self.old.first blocks →
+        ensures popped { (allocator : ℕ) (blocks names : List ℕ) (kept : List reads.Place)
+            (final : List Frozen) →
+            Awaits allocator heap.now.window.bytes heap.now.types self.old.first
+            blocks names kept final →
             IfSome result (λ p. Pops allocator heap.now.window.bytes heap.now.types
-            p self.new.first blocks) }
+            p self.new.first blocks names kept final) }
     {
         let payload = self.first?;
         self.first = link(heap.window(), block_of(payload));
@@ -69,10 +76,10 @@ impl Pending {
     pub(crate) fn add_value<F: Fit, A: Allocator>(&mut self, heap: &mut Heap<F, A>, place: Place)
         ensures window { KeepsHost heap.old.window heap.new.window }
         ensures types { heap.new.types ≡ heap.old.types }
-        ensures added { (home : ℕ) (xs : List ℕ) →
+        ensures added { (home : ℕ) (xs ns : List ℕ) →
             IsInside heap.old.window.bytes home place.at (size heap.old.types place.type_id) →
-            IsPart heap.old.window.bytes heap.old.types (place_of place) xs →
-            AddsWaiting heap.old heap.new self.old.first self.new.first (home ∷ []) xs }
+            IsPart heap.old.window.bytes heap.old.types (place_of place) xs ns →
+            AddsWaiting heap.old heap.new self.old.first self.new.first (home ∷ []) xs ns }
     {
         if !heap.types().has_pointers(place.type_id) {
             return;
@@ -89,30 +96,47 @@ impl Pending {
         }
     }
 
-    /// Adds the block that a cell names: of a list or a map one node, which names further ones.
+    /// Adds the block that a cell names: of a list or a map one node, which names further ones. An object that the cell
+    /// shares is released.
     fn add_cell<F: Fit, A: Allocator>(&mut self, heap: &mut Heap<F, A>, cell: Place)
         ensures window { KeepsHost heap.old.window heap.new.window }
         ensures types { heap.new.types ≡ heap.old.types }
-        ensures added { (xs : List ℕ) → length (fields_of heap.old.types cell.type_id) ≡ 0 →
-            IsPart heap.old.window.bytes heap.old.types (place_of cell) xs →
-            AddsWaiting heap.old heap.new self.old.first self.new.first [] xs }
+        ensures added { (xs ns : List ℕ) → length (fields_of heap.old.types cell.type_id) ≡ 0 →
+            has_cells (form_at heap.old.types cell.type_id) ≡ true →
+            IsPart heap.old.window.bytes heap.old.types (place_of cell) xs ns →
+            AddsWaiting heap.old heap.new self.old.first self.new.first [] xs ns }
     {
-        let Some(content) = heap.content(cell.type_id) else {
+        let Some(payload) = heap.window().target(cell.at as usize) else {
             return;
         };
-        let Some(payload) = heap.window().target(cell.at as usize) else {
+        let Some(content) = heap.content(cell.type_id) else {
+            self.release(heap, payload);
             return;
         };
         heap.uncouple(&content, cell.at, payload);
         self.push(heap, payload);
     }
 
+    /// Takes one of the cells away that name a frozen object: it counts one fewer, and is added where none is left.
+    fn release<F: Fit, A: Allocator>(&mut self, heap: &mut Heap<F, A>, payload: u32)
+        ensures window { KeepsHost heap.old.window heap.new.window }
+        ensures types { heap.new.types ≡ heap.old.types }
+        ensures released { AddsWaiting heap.old heap.new self.old.first self.new.first [] [] (payload ∷ []) }
+    {
+        let count = heap.window().get32(payload as usize).saturating_sub(1);
+        heap.set_cell_count(payload, count);
+        if count == 0 {
+            self.push(heap, payload);
+        }
+    }
+
     /// Adds the blocks that a block of the list names.
     fn open<F: Fit, A: Allocator>(&mut self, heap: &mut Heap<F, A>, payload: u32)
         ensures window { KeepsHost heap.old.window heap.new.window }
         ensures types { heap.new.types ≡ heap.old.types }
-        ensures opened { (xs : List ℕ) → GoesWith heap.old.window.bytes heap.old.types payload xs →
-            OpensPending heap.old heap.new self.old.first self.new.first payload xs }
+        ensures opened { (xs ns : List ℕ) →
+            GoesWith heap.old.window.bytes heap.old.types payload xs ns →
+            OpensPending heap.old heap.new self.old.first self.new.first payload xs ns }
     {
         let Some(tag) = Tag::read(tag_word(heap.window(), block_of(payload))) else {
             return;
@@ -129,10 +153,10 @@ impl Pending {
     fn add_links<F: Fit, A: Allocator>(&mut self, heap: &mut Heap<F, A>, shape: Shape, payload: u32)
         ensures window { KeepsHost heap.old.window heap.new.window }
         ensures types { heap.new.types ≡ heap.old.types }
-        ensures added { (home : ℕ) (xs : List ℕ) →
+        ensures added { (home : ℕ) (xs ns : List ℕ) →
             IsInside heap.old.window.bytes home payload 8 →
-            OwesLinks heap.old.window.bytes heap.old.types (links_of shape payload) xs →
-            AddsWaiting heap.old heap.new self.old.first self.new.first (home ∷ []) xs }
+            OwesLinks heap.old.window.bytes heap.old.types (links_of shape payload) xs ns →
+            AddsWaiting heap.old heap.new self.old.first self.new.first (home ∷ []) xs ns }
     {
         match shape {
             Shape::Ring => self.add_node(heap, payload),
@@ -148,9 +172,9 @@ impl Pending {
     fn add_node<F: Fit, A: Allocator>(&mut self, heap: &mut Heap<F, A>, pointer: u32)
         ensures window { KeepsHost heap.old.window heap.new.window }
         ensures types { heap.new.types ≡ heap.old.types }
-        ensures added { (xs : List ℕ) →
-            OwesLinks heap.old.window.bytes heap.old.types (pointer ∷ []) xs →
-            AddsWaiting heap.old heap.new self.old.first self.new.first [] xs }
+        ensures added { (xs ns : List ℕ) →
+            OwesLinks heap.old.window.bytes heap.old.types (pointer ∷ []) xs ns →
+            AddsWaiting heap.old heap.new self.old.first self.new.first [] xs ns }
     {
         if let Some(node) = heap.window().target(pointer as usize) {
             self.push(heap, node);
@@ -169,12 +193,12 @@ impl Pending {
         ensures types { heap.new.types ≡ heap.old.types }
         ensures bytes { entry.held ≡ Held.Bytes →
             (heap.new.window ≡ heap.old.window) × (self.new.first ≡ self.old.first) }
-        ensures added { (home before U : ℕ) (xs : List ℕ) →
+        ensures added { (home before U : ℕ) (xs ns : List ℕ) →
             IsEntryOf heap.old.types before U entry →
             IsInside heap.old.window.bytes home start (n * (before + size heap.old.types U)) →
             AreParts heap.old.window.bytes heap.old.types
-            (entries_at heap.old.types start before U n) xs →
-            AddsWaiting heap.old heap.new self.old.first self.new.first (home ∷ []) xs }
+            (entries_at heap.old.types start before U n) xs ns →
+            AddsWaiting heap.old heap.new self.old.first self.new.first (home ∷ []) xs ns }
     {
         if !heap.owns_more(entry) {
             return;
@@ -186,14 +210,18 @@ impl Pending {
         }
     }
 
-    /// Frees the blocks, and all that they lead to.
+    /// Frees the blocks, and all that they lead to: of the frozen objects that are named there those that no other cell
+    /// names.
     pub(crate) fn destroy<F: Fit, A: Allocator>(mut self, heap: &mut Heap<F, A>)
         ensures window { KeepsHost heap.old.window heap.new.window }
         ensures types { heap.new.types ≡ heap.old.types }
-        ensures freed { (blocks : List ℕ) → IsTable heap.old.types →
-            Pends F.allocator heap.old.window.bytes heap.old.types self.first blocks →
+        ensures destroyed { (blocks : List ℕ) (kept : List reads.Place) (final : List Frozen) →
+            IsTable heap.old.types →
+            Awaits F.allocator heap.old.window.bytes heap.old.types self.first
+            blocks [] kept final →
             AreLive heap.old.window.bytes blocks →
-            Frees F.allocator heap.old.window.bytes heap.new.window.bytes blocks }
+            Destroys F.allocator heap.old.window.bytes heap.new.window.bytes heap.old.types
+            blocks final }
     {
         // there are fewer blocks than units
         for _turn in 0..heap.window().len() / UNIT {
@@ -214,6 +242,15 @@ impl<F: Fit, A: Allocator> Heap<F, A> {
         ensures types { self.new.types ≡ self.old.types }
     {
         self.window.point(block_of(payload) as usize + LINK, to);
+    }
+
+    /// Writes how many cells name a frozen object.
+    fn set_cell_count(&mut self, payload: u32, count: u32)
+        ensures window { self.new.window ≡ with_bytes self.old.window
+            (set_word self.old.window.bytes payload count) }
+        ensures types { self.new.types ≡ self.old.types }
+    {
+        self.window.put32(payload as usize, count);
     }
 
     /// How many entries stand in a block: as many as a buffer has room for, and one in any other block.
@@ -253,7 +290,7 @@ impl<F: Fit, A: Allocator> Heap<F, A> {
             Holds self.old.window.bytes self.old.types (object_at cell T) v xs →
             AreLive self.old.window.bytes xs →
             Uncouples allocator self.old.window.bytes self.new.window.bytes self.old.types
-            payload xs }
+            payload xs (named_in v) }
     {
         match content.shape {
             Shape::Buffer => {

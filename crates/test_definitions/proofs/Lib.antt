@@ -1,7 +1,6 @@
 pub mod OnePicture
 pub mod Evaluating
 pub mod SoundImages
-pub mod NoFrozen
 pub mod UnsoundImages
 pub mod Parts
 pub mod EveryImage
@@ -9,7 +8,5 @@ pub mod NoRoots
 pub mod Denials
 pub mod CutBuffers
 pub mod WorkedCalls
-pub mod SharedLaws
 pub mod Unfolding
 pub mod Sharing
-pub mod Releasing

@@ -16,7 +16,7 @@ use Rattle.seg_spec.proofs.TileLaws.{tiles-unique}
 use Rattle.seg_spec.proofs.LiveLaws.{each_there}
 use Rattle.test_definitions.proofs.Evaluating.{live_evaluated, gaps_evaluated, heap_evaluated, uniques_evaluated, numbers-valid, numbers-old}
 use Rattle.test_definitions.proofs.SoundImages.{counter_tiles, empty_tiles, counter_sound}
-use Rattle.test_definitions.proofs.NoFrozen.{no_seventh}
+use Rattle.seg_spec.proofs.NoFrozen.{no_seventh}
 use Rattle.test_definitions.proofs.UnsoundImages.{linked_live, odd_kind_live, two_free, two_owners-unsound, no_owner-unsound}
 
 pub image_length : (bytes : List ℕ) → HasHeader bytes → IsImageLength (length bytes)

@@ -10,8 +10,7 @@ use Rattle.seg_spec.specs.Frozen.{Frozen}
 use Rattle.seg_spec.specs.Shared.{names_in, names_of, times_named, IsBelow, AreDistinct, IsCounted, with_count, raised}
 use Rattle.seg_spec.proofs.LiveLaws.{times-same, times-other}
 use Rattle.seg_spec.proofs.Frame.{each_weaker, each_left, each_right}
-use Rattle.test_definitions.proofs.SharedLaws.{named-append, elsewhere}
-use Rattle.test_definitions.proofs.Unfolding.{wider}
+use Rattle.seg_spec.proofs.SharedLaws.{named-append, elsewhere, wider}
 
 -- ---- one cell more names an object
 

@@ -7,7 +7,7 @@ use Rattle.seg_spec.specs.Reads.{Place}
 use Rattle.seg_spec.specs.Frozen.{Frozen}
 use Rattle.seg_spec.specs.Shared.{names_in, names_each, IsBelow, AreDistinct, with_count, kept_with, left, replaced, replaced_each, value_at_position, owner_by, meaning, unfolded, times_named}
 use Rattle.seg_spec.proofs.Frame.{each_left, each_right, each_weaker}
-use Rattle.test_definitions.proofs.SharedLaws.{below_elsewhere, left_each}
+use Rattle.seg_spec.proofs.SharedLaws.{below_elsewhere, left_each, wider}
 
 -- ---- values that mean the same
 
@@ -58,12 +58,6 @@ found_in n all (f ∷ fs) q d a (inr h) =
 
 pub found : (n : ℕ) (fs : List Frozen) (q : Place) → AreDistinct fs → AllByRecursion (λ (f : Frozen). AllByRecursion (IsBelow f.number fs) (names_in f.value)) fs → IsBelow n fs q → Found n fs q
 found n fs q d a h = let f = found_in n fs fs q d a h in record { object = f.0; less = f.1; value_is = f.2; names = f.3 }
-
--- a name below n is one below m
-pub wider : (n m : ℕ) (fs : List Frozen) (q : Place) → n ≤ m → IsBelow n fs q → IsBelow m fs q
-wider n m [] q l h = h
-wider n m (f ∷ fs) q l (inl h) = inl (h.0, h.1, (let less = h.2 in omega arith))
-wider n m (f ∷ fs) q l (inr h) = inr (wider n m fs q l h)
 
 -- ---- numbers fall, so a tree is the same however far one may go down
 

@@ -18,7 +18,7 @@ use Rattle.seg_spec.proofs.RootLaws.{HoldsRoots-split}
 use Rattle.seg_spec.proofs.Frame.{each_left}
 use Rattle.seg_spec.proofs.LiveLaws.{live-once, times-append, times-same}
 use Rattle.test_definitions.proofs.Evaluating.{live_evaluated, apart_evaluated, free_evaluated, numbers-valid, texts-valid}
-use Rattle.test_definitions.proofs.NoFrozen.{no_seventh, no_frozen}
+use Rattle.seg_spec.proofs.NoFrozen.{no_seventh, no_frozen}
 use Rattle.test_definitions.proofs.SoundImages.{counter_tiles, empty_tiles, empty_tree_tiles}
 
 -- ---- the header

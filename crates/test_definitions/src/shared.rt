@@ -7,7 +7,7 @@ ghost use Rattle.seg_spec.specs.Reads.{Place};
 ghost use Rattle.seg_spec.specs.Sound.{times};
 ghost use Rattle.seg_spec.specs.Frozen.{Frozen};
 ghost use Rattle.seg_spec.specs.Shared.{names_in, names_of, times_named, IsBelow, IsCounted, IsFalling, meaning, unfolded, raised, left, freed};
-ghost use Rattle.test_definitions.specs.Releasing.{Releases};
+ghost use Rattle.seg_spec.specs.Releasing.{Releases};
 
 /// An object that becomes frozen, with the next number, is named by the one cell that takes it.
 pub fn freezing()

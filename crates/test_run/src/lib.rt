@@ -1,5 +1,5 @@
-//! Tests of clients' runs, over both allocators and both indexes: worked examples, failing outputs, moves, every size of a
-//! small segment, and random clients.
+//! Tests of all that runs clients: the machine, over both allocators and both indexes, the front door, and the commands, on
+//! files in memory, with the traces and the words for refusals that they write.
 #![tactic(auto)]
 
 #[cfg(test)]

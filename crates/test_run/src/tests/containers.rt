@@ -1,6 +1,5 @@
 use crate::tests::runs::{BEST_FLAT, KINDS, SEQ_FLAT, empty, goes_on, leaves, run_anew, run_on};
 use std::alloc::{AllocError, Global};
-use std::process::Abort;
 use std::test::Fail;
 
 /// Makes a vector of five texts.

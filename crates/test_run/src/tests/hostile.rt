@@ -1,6 +1,4 @@
-use crate::tests::runs::{PLAIN, Setting, run_files};
-use client_code::parse;
-use client_verify::verify;
+use crate::tests::runs::{PLAIN, Setting, run_files, verified};
 use seg_layout::TypeTable;
 use std::process::Abort;
 use std::test::Fail;
@@ -13,16 +11,13 @@ fn ends_within_its_bound(
     types: &TypeTable,
     file: &[u8],
 ) -> Result<bool, Fail> {
-    let Ok(client) = parse(file) else {
-        return Ok(false);
-    };
-    let Ok(verified) = verify(client, types) else {
+    let Ok(client) = verified(file, types) else {
         return Ok(false);
     };
     let setting = Setting { room: 784, ..PLAIN };
     let ran = run_files(rt.alloc(), image, &[file], setting)?;
     let report = ran.reports.first().copied().unwrap_or_default();
-    assert!(rt; report.steps <= verified.bound());
+    assert!(rt; report.steps <= client.bound());
     Ok(true)
 }
 

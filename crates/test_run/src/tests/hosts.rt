@@ -1,124 +1,227 @@
-use client_code::parse;
-use client_verify::verify;
-use client_vm::{Ended, Move, Through, moves_fit, run};
-use seg_manager::Segment;
-use seg_open::open;
-use seg_ptr::Window;
-use seg_raw::Region;
-use seg_seqfit::SeqFit;
-use std::alloc::Global;
+use crate::tests::door::{Host, types_in};
+use lezgauri::{AllocatorKind, Code, Fault, Fields, IndexKind, Place, Type, TypeId, type_table};
 use std::process::Abort;
 use std::test::Fail;
-use support_data::{INCREMENT_FILE, Limited, counter, counter_with};
 
-/// The bytes of the host, all of them 0xa5 but for the segment.
-const ROOM: u32 = 8192;
+/// A number, a string, a vector, a list, two maps and an own of numbers, and a struct of a number and a string.
+fn types() -> Result<[Type; 8], Fail> {
+    let fields = Fields::new(&[0, 1]).ok_or("no fields")?;
+    Ok([
+        Type::I64,
+        Type::Str,
+        Type::Vec(0),
+        Type::List(0),
+        Type::FlatMap(0),
+        Type::Map(0),
+        Type::Own(0),
+        Type::Struct(fields),
+    ])
+}
 
-/// The counter's segment at a base of a host.
-fn placed(alloc: Global, base: u32) -> Result<Segment<SeqFit, Global>, Fail> {
-    let image = counter(alloc)?;
-    let mut region = Region::new(alloc, ROOM)?;
-    region.fill(0, ROOM as usize, 0xa5);
-    let mut window = match Window::place(region, base, 784) {
-        Ok(window) => window,
-        Err(_) => return Err(Fail::from("misplaced")),
-    };
-    window.copy_in(0, image.as_slice());
-    match open::<SeqFit, Global, Global>(alloc, window) {
-        Ok(segment) => Ok(segment),
-        Err((fault, _)) => Err(Fail::from(fault)),
+/// An empty image with these types.
+fn empty(rt: &impl AllocGlobal, allocator: AllocatorKind, index: IndexKind) -> Result<Host, Fail> {
+    let mut image = Host::create(rt.alloc(), 4096, allocator, index)?;
+    image.add_types(types()?.as_slice())?;
+    Ok(image)
+}
+
+/// A call on a place is refused for this.
+fn refused(rt: &impl Abort, found: Result<Place, Code>, code: Code) {
+    assert_eq!(rt; found, Err(code));
+}
+
+/// A call gives this place.
+fn gives(rt: &impl Abort, found: Result<Place, Code>, place: Place) {
+    assert_eq!(rt; found, Ok(place));
+}
+
+/// A place has this number, or has none for this reason.
+fn holds(rt: &impl Abort, image: &Host, place: Place, number: Result<i64, Code>) {
+    assert_eq!(rt; image.load(place), number);
+}
+
+/// A container or a text has so many items or bytes.
+fn has_length(rt: &impl Abort, image: &Host, place: Place, len: u32) {
+    assert_eq!(rt; image.len(place), Ok(len));
+}
+
+/// An array `b` of three numbers, and what other objects are refused for.
+fn makes_names(rt: &impl Abort, image: &mut Host) -> Result<(), Fail> {
+    let b = image.construct(b"b", 0, 3)?;
+    refused(rt, image.construct(b"b", 0, 1), Code::AlreadyExists);
+    refused(rt, image.construct(b"", 0, 1), Code::OutOfRange);
+    refused(rt, image.construct(b"c", 8, 1), Code::OtherType);
+    refused(rt, image.construct(b"c", 0, 60000), Code::BadAlloc);
+    gives(rt, image.find_or_construct(b"b", 0), b);
+    gives(rt, image.find_item(b"b", 0, 0), b);
+    Ok(())
+}
+
+/// The items of `b`.
+fn finds_items(rt: &impl Abort, image: &Host) -> Result<(), Fail> {
+    let first = image.find(b"b", 0)?;
+    let last = image.find_item(b"b", 0, 2)?;
+    assert_eq!(rt; last.at, first.at.saturating_add(16));
+    refused(rt, image.find_item(b"b", 0, 3), Code::OutOfRange);
+    refused(rt, image.find(b"b", 1), Code::OtherType);
+    assert_eq!(rt; image.count(b"b", 0), Ok(3));
+    Ok(())
+}
+
+/// The names `a` and `b`, in order.
+fn lists_names(rt: &impl Abort, image: &mut Host) -> Result<(), Fail> {
+    image.find_or_construct(b"a", 1)?;
+    assert_eq!(rt; image.num_named(), 2);
+    let first = image.first_name().ok_or("no name")?;
+    assert_eq!(rt; first.name, b"a".as_slice());
+    let next = image.next_name(b"a").ok_or("no name")?;
+    assert!(rt; next.name == b"b".as_slice() && next.type_id == 0 && next.count == 3);
+    assert!(rt; image.next_name(b"b").is_none());
+    Ok(())
+}
+
+/// The unique number.
+fn has_uniques(rt: &impl Abort, image: &mut Host) -> Result<(), Fail> {
+    let unique = image.construct_unique(0)?;
+    gives(rt, image.find_or_construct_unique(0), unique);
+    gives(rt, image.find_unique(0), unique);
+    refused(rt, image.find_unique(8), Code::OtherType);
+    assert_eq!(rt; image.num_unique(), 1);
+    assert!(rt; image.destroy_unique(0) && !image.destroy_unique(0));
+    Ok(())
+}
+
+/// The fields of a struct.
+fn has_fields(rt: &impl Abort, image: &mut Host) -> Result<(), Fail> {
+    let pair = image.construct(b"pair", 7, 1)?;
+    let number = image.field(pair, 0)?;
+    refused(rt, image.field(pair, 2), Code::OutOfRange);
+    refused(rt, image.field(number, 0), Code::OtherType);
+    image.store(number, -5)?;
+    holds(rt, image, number, Ok(-5));
+    image.clear(pair);
+    holds(rt, image, number, Ok(0));
+    Ok(())
+}
+
+/// The text of a field.
+fn has_texts(rt: &impl Abort, image: &mut Host) -> Result<(), Fail> {
+    let pair = image.find(b"pair", 7)?;
+    let text = image.field(pair, 1)?;
+    holds(rt, image, text, Err(Code::OtherType));
+    image.assign(text, b"good ")?;
+    image.append(text, b"day")?;
+    assert_eq!(rt; image.text(text)?, b"good day".as_slice());
+    assert_eq!(rt; image.text(pair).err(), Some(Code::OtherType));
+    has_length(rt, image, text, 8);
+    Ok(())
+}
+
+/// What an own holds, and what takes its place.
+fn has_content(rt: &impl Abort, image: &mut Host) -> Result<(), Fail> {
+    let own = image.construct(b"own", 6, 1)?;
+    refused(rt, image.content(own), Code::Null);
+    let inside = image.put_content(own)?;
+    image.store(inside, 9)?;
+    let other = image.put_content(own)?;
+    gives(rt, image.content(own), other);
+    holds(rt, image, other, Ok(0));
+    Ok(())
+}
+
+/// The numbers 1 and 2 in a vector or a list, after a 3 went.
+fn has_items(rt: &impl Abort, image: &mut Host, name: &[u8], t: TypeId) -> Result<(), Fail> {
+    let items = image.construct(name, t, 1)?;
+    assert_eq!(rt; image.pop_back(items), Err(Code::Null));
+    for number in 1..4 {
+        let item = image.push_back(items)?;
+        image.store(item, number)?;
     }
-}
-
-/// Whether all bytes are those that the host had.
-fn is_untouched(bytes: &[u8]) -> bool {
-    bytes.iter().all(|byte| *byte == 0xa5)
-}
-
-/// Runs the increment client on a segment with moves.
-fn increment(
-    rt: &(impl Abort + AllocGlobal),
-    segment: &mut Segment<SeqFit, Global>,
-    moves: &[Move],
-) -> Result<(), Fail> {
-    let verified = verify(parse(&INCREMENT_FILE)?, segment.types())?;
-    let mut out = Through::new(Limited::new(rt.alloc(), 1, usize::MAX));
-    let report = run(segment, &verified, b"", moves, &mut out);
-    assert_eq!(rt; report.steps, 6);
-    assert!(rt; report.ended == Ended::Done);
-    assert_eq!(rt; out.into_inner().bytes.as_slice(), b"42\n".as_slice());
+    image.pop_back(items)?;
+    has_length(rt, image, items, 2);
+    holds(rt, image, image.item(items, 1)?, Ok(2));
+    refused(rt, image.item(items, 2), Code::OutOfRange);
     Ok(())
 }
 
-/// Runs the increment client on the counter at a base with moves. Returns the host's bytes.
-fn increments(
-    rt: &(impl Abort + AllocGlobal),
-    base: u32,
-    moves: &[Move],
-) -> Result<Region<Global>, Fail> {
-    let mut segment = placed(rt.alloc(), base)?;
-    assert_eq!(rt; moves_fit(&segment, moves), None);
-    increment(rt, &mut segment, moves)?;
-    let saved = counter_with(rt.alloc(), &[(720, 42)])?;
-    assert_eq!(rt; segment.window().slice(0, 784), saved.as_slice());
-    Ok(segment.into_region())
+/// A new number at the front of the list, and the 1 after it.
+fn has_a_front(rt: &impl Abort, image: &mut Host) -> Result<(), Fail> {
+    let list = image.find(b"l", 3)?;
+    image.push_front(list)?;
+    holds(rt, image, image.item(list, 0)?, Ok(0));
+    image.pop_front(list)?;
+    holds(rt, image, image.item(list, 0)?, Ok(1));
+    Ok(())
 }
 
-/// Whether the bytes of a region in a range are those that the host had.
-fn keeps(region: &Region<Global>, from: u32, to: u32) -> bool {
-    from <= to
-        && to <= region.len()
-        && is_untouched(region.slice(from as usize, (to - from) as usize))
-}
-
-/// Where a segment doesn't lie, its host's bytes stay.
-#[test]
-fn host_bytes_stay(rt: HostRuntime) -> Result<(), Fail> {
-    for base in [0u32, 16, 4096, 7408] {
-        let region = increments(&rt, base, &[])?;
-        assert!(rt; keeps(&region, 0, base) && keeps(&region, base.saturating_add(784), ROOM));
+/// The keys -10 and 30 of a map, each its own value.
+fn has_keys(rt: &impl Abort, image: &mut Host, name: &[u8], t: TypeId) -> Result<(), Fail> {
+    let map = image.construct(name, t, 1)?;
+    assert_eq!(rt; image.first_key(map), Err(Code::Null));
+    for key in [30, -10] {
+        let value = image.put(map, key)?;
+        image.store(value, key)?;
     }
+    assert_eq!(rt; image.first_key(map), Ok(-10));
+    assert_eq!(rt; image.next_key(map, -10), Ok(30));
+    assert_eq!(rt; image.next_key(map, 30), Err(Code::Null));
+    loses_a_key(rt, image, map)
+}
+
+/// The key 30 goes.
+fn loses_a_key(rt: &impl Abort, image: &mut Host, map: Place) -> Result<(), Fail> {
+    holds(rt, image, image.get(map, 30)?, Ok(30));
+    assert!(rt; image.remove(map, 30) && !image.remove(map, 30));
+    refused(rt, image.get(map, 30), Code::Absent);
     Ok(())
 }
 
-fn before(step: u64, base: u32) -> Move {
-    Move { step, base }
-}
-
-/// Moved before each step between two places, it leaves all bytes outside these.
 #[test]
-fn host_bytes_stay_where_it_moves(rt: HostRuntime) -> Result<(), Fail> {
-    let moves = [
-        before(1, 4096),
-        before(2, 0),
-        before(3, 4096),
-        before(4, 0),
-        before(5, 4096),
-        before(6, 0),
-    ];
-    let region = increments(&rt, 0, &moves)?;
-    assert!(rt; keeps(&region, 784, 4096) && keeps(&region, 4880, ROOM));
+fn hosts_work_on_named_objects(rt: HostRuntime) -> Result<(), Fail> {
+    let mut image = empty(&rt, AllocatorKind::Seq, IndexKind::Flat)?;
+    makes_names(&rt, &mut image)?;
+    finds_items(&rt, &image)?;
+    lists_names(&rt, &mut image)?;
+    assert!(rt; image.destroy(b"b", 0) && !image.destroy(b"b", 0));
+    refused(&rt, image.find(b"b", 0), Code::Absent);
     Ok(())
 }
 
-/// Where it was before its only move, it leaves the image as it was then.
 #[test]
-fn an_image_stays_where_it_was(rt: HostRuntime) -> Result<(), Fail> {
-    let region = increments(&rt, 0, &[before(5, 4096)])?;
-    assert_eq!(rt; region.len(), ROOM);
-    assert_eq!(rt; region.slice(0, 784), counter(rt.alloc())?.as_slice());
+fn hosts_work_on_values(rt: HostRuntime) -> Result<(), Fail> {
+    let mut image = empty(&rt, AllocatorKind::Best, IndexKind::Tree)?;
+    assert_eq!(rt; image.types().len(), 8);
+    has_uniques(&rt, &mut image)?;
+    has_fields(&rt, &mut image)?;
+    has_texts(&rt, &mut image)?;
+    has_content(&rt, &mut image)?;
+    assert!(rt; types_in(rt.alloc(), image.bytes()).is_ok());
     Ok(())
 }
 
-/// The first move that doesn't fit: its step isn't above the one before, or its base isn't one.
 #[test]
-fn moves_that_do_not_fit(rt: HostRuntime) -> Result<(), Fail> {
-    let segment = placed(rt.alloc(), 0)?;
-    let fits = before(2, 16);
-    assert_eq!(rt; moves_fit(&segment, &[fits, before(3, 7408)]), None);
-    for second in [before(2, 0), before(3, 8), before(3, 7424)] {
-        assert_eq!(rt; moves_fit(&segment, &[fits, second]), Some(1));
-    }
-    assert_eq!(rt; moves_fit(&segment, &[before(0, 0)]), Some(0));
+fn hosts_work_on_containers(rt: HostRuntime) -> Result<(), Fail> {
+    let mut image = empty(&rt, AllocatorKind::Best, IndexKind::Flat)?;
+    has_items(&rt, &mut image, b"v", 2)?;
+    has_items(&rt, &mut image, b"l", 3)?;
+    has_a_front(&rt, &mut image)?;
+    has_keys(&rt, &mut image, b"f", 4)?;
+    has_keys(&rt, &mut image, b"m", 5)?;
+    assert!(rt; types_in(rt.alloc(), image.bytes()).is_ok());
     Ok(())
+}
+
+/// A part that no entry has, and a 33rd type. A vector may be of the vectors of its own type.
+#[test]
+fn tables_of_types(rt: HostRuntime) {
+    assert_eq!(rt;
+        type_table(&[Type::I64, Type::Vec(2)]).err(),
+        Some(Fault::BadType(1))
+    );
+    assert!(rt; type_table(&[Type::I64, Type::Vec(1)]).is_ok());
+    assert!(rt; type_table(&[Type::I64; 32]).is_ok());
+    assert_eq!(rt;
+        type_table(&[Type::I64; 33]).err(),
+        Some(Fault::BadType(32))
+    );
 }

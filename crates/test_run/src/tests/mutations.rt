@@ -1,12 +1,11 @@
 use crate::tests::runs::{KINDS, Kind, run_anew};
 use crate::tests::sizes::MAKE_EACH_KIND;
+use crate::tests::windows::{opened, window};
 use arrayvec::ArrayVec;
 use seg_bestfit::BestFit;
 use seg_block::Fit;
 use seg_manager::Segment;
-use seg_open::open;
-use seg_ptr::{Window, header};
-use seg_raw::{Fault, Region};
+use seg_ptr::header;
 use seg_seqfit::SeqFit;
 use std::alloc::Global;
 use std::process::Abort;
@@ -15,18 +14,6 @@ use support_data::front;
 
 /// How a byte is changed: one bit, all bits, every second bit.
 const CHANGES: [u8; 11] = [1, 2, 4, 8, 16, 32, 64, 128, 0xff, 0x55, 0xaa];
-
-/// A window on an image.
-fn window(alloc: Global, image: &[u8]) -> Result<Window<Global>, Fail> {
-    let len = u32::try_from(image.len()).map_err(|_| Fault::BadHeader)?;
-    match Window::place(Region::new(alloc, len.min(1 << 16))?, 0, len) {
-        Ok(mut window) => {
-            window.copy_in(0, image);
-            Ok(window)
-        }
-        Err(_) => Err(Fail::from("misplaced")),
-    }
-}
 
 /// Destroys each named object of a segment.
 fn destroy_named<F: Fit>(rt: &impl Abort, segment: &mut Segment<F, Global>) -> Result<(), Fail> {
@@ -47,7 +34,7 @@ fn destroy_named<F: Fit>(rt: &impl Abort, segment: &mut Segment<F, Global>) -> R
 
 /// Opens an image, if it is accepted, and destroys all that is in it. The heap is one gap then.
 fn use_up<F: Fit>(rt: &(impl Abort + AllocGlobal), image: &[u8]) -> Result<bool, Fail> {
-    let Ok(mut segment) = open::<F, Global, Global>(rt.alloc(), window(rt.alloc(), image)?) else {
+    let Ok(mut segment) = opened::<F>(rt.alloc(), window(rt.alloc(), image)?) else {
         return Ok(false);
     };
     destroy_named(rt, &mut segment)?;

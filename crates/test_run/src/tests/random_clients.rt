@@ -1,9 +1,10 @@
 use crate::tests::abstract_run::AbstractRun;
 use crate::tests::generator::Generator;
 use crate::tests::model::Objects;
-use crate::tests::runs::{KINDS, Kind, PLAIN, Setting, empty, run_files, statistics_of};
-use client_code::{Client, assemble, parse};
-use client_verify::verify;
+use crate::tests::runs::{
+    KINDS, Kind, PLAIN, Setting, client, empty, run_files, statistics_of, verified,
+};
+use client_code::{Client, parse};
 use seg_layout::TypeTable;
 use std::alloc::Global;
 use std::process::Abort;
@@ -43,8 +44,8 @@ fn follow(
     image: &[u8],
     file: &[u8],
 ) -> Result<Option<Vec<u8>>, Fail> {
-    let client = parse(file)?;
-    let Ok(verified) = verify(client, &TypeTable::new()) else {
+    let parsed = parse(file)?;
+    let Ok(accepted) = verified(file, &TypeTable::new()) else {
         return Ok(None);
     };
     let setting = Setting {
@@ -53,11 +54,11 @@ fn follow(
         ..PLAIN
     };
     let ran = run_files(rt.alloc(), image, &[file], setting)?;
-    let retraced = retrace(rt.alloc(), objects, client, ran.out.as_slice())?;
+    let retraced = retrace(rt.alloc(), objects, parsed, ran.out.as_slice())?;
     let report = ran.reports.first().copied().unwrap_or_default();
     assert_eq!(rt; report.steps, retraced.steps);
     assert_eq!(rt; report.read, retraced.read);
-    assert!(rt; report.steps <= verified.bound());
+    assert!(rt; report.steps <= accepted.bound());
     Ok(Some(ran.image))
 }
 
@@ -69,7 +70,7 @@ fn follow_clients(rt: &(impl Abort + AllocGlobal), kind: Kind, size: u32) -> Res
     let mut accepted = 0u32;
     for seed in 0..25 {
         let text = Generator::new(alloc, u64::from(size).wrapping_add(seed)).client(40)?;
-        let file = assemble(alloc, text.as_bytes())?;
+        let file = client(alloc, text.as_str())?;
         if let Some(saved) = follow(rt, &mut objects, image.as_slice(), file.as_slice())? {
             image = saved;
             accepted = accepted.wrapping_add(1);

@@ -1,11 +1,13 @@
-use client_code::assemble;
-use client_vm::{Ended, Move, Report, Schedule, Through, run_bytes};
+use crate::tests::windows::window;
+use client_code::{assemble, parse};
+use client_verify::{Verified, verify};
+use client_vm::{Ended, Move, Refused, Report, Schedule, Through, run_bytes};
 use seg_bestfit::BestFit;
 use seg_block::Fit;
 use seg_check::check;
+use seg_layout::TypeTable;
 use seg_manager::{IndexKind, Segment};
 use seg_open::save;
-use seg_ptr::Window;
 use seg_raw::{Fault, Region};
 use seg_seqfit::SeqFit;
 use std::alloc::Global;
@@ -52,11 +54,35 @@ pub(crate) fn empty(alloc: Global, size: u32, kind: Kind) -> Result<Vec<u8>, Fai
 }
 
 fn empty_on<F: Fit>(alloc: Global, size: u32, index: IndexKind) -> Result<Vec<u8>, Fail> {
+    Ok(save(alloc, &created::<F>(alloc, size, index)?)?)
+}
+
+/// An empty segment.
+pub(crate) fn created<F: Fit>(
+    alloc: Global,
+    size: u32,
+    index: IndexKind,
+) -> Result<Segment<F, Global>, Fault> {
     let region = Region::new(alloc, size.min(1 << 21))?;
     match Segment::<F, Global>::create(region, 0, size, index) {
-        Ok(segment) => Ok(save(alloc, &segment)?),
-        Err((fault, _)) => Err(Fail::from(fault)),
+        Ok(segment) => Ok(segment),
+        Err((fault, _region)) => Err(fault),
     }
+}
+
+/// The file of the client that a text spells.
+pub(crate) fn client(alloc: Global, text: &str) -> Result<Vec<u8>, Fail> {
+    Ok(assemble(alloc, text.as_bytes())?)
+}
+
+/// The client in a file, if it is accepted on a segment with these types.
+pub(crate) fn verified<'c>(file: &'c [u8], types: &TypeTable) -> Result<Verified<'c>, Fault> {
+    verify(parse(file)?, types)
+}
+
+/// An output that takes all.
+pub(crate) fn unlimited(alloc: Global) -> Limited {
+    Limited::new(alloc, usize::MAX, usize::MAX)
 }
 
 /// What a run of clients came to.
@@ -98,7 +124,7 @@ pub(crate) fn run_in(
 ) -> Result<Ran, Fail> {
     let mut files = Vec::new(alloc);
     for text in texts {
-        files.push(assemble(alloc, text.as_bytes())?)?;
+        files.push(client(alloc, text)?)?;
     }
     let clients: Vec<&[u8]> = files.iter().map(|file| file.as_slice()).collect(alloc)?;
     run_files(alloc, image, clients.as_slice(), setting)
@@ -111,24 +137,35 @@ pub(crate) fn run_files(
     clients: &[&[u8]],
     setting: Setting,
 ) -> Result<Ran, Fail> {
+    match outcome_of(alloc, image, clients, setting) {
+        Ok(ran) => {
+            let _ = statistics_of(alloc, ran.image.as_slice())?;
+            Ok(ran)
+        }
+        Err(refused) => Err(Fail::from(refused.fault)),
+    }
+}
+
+/// What a run of clients comes to, or why nothing runs.
+pub(crate) fn outcome_of(
+    alloc: Global,
+    image: &[u8],
+    clients: &[&[u8]],
+    setting: Setting,
+) -> Result<Ran, Refused> {
     let schedule = Schedule {
         room: setting.room,
         base: setting.base,
         moves: setting.moves,
     };
     let mut out = Through::new(Limited::new(alloc, setting.at_a_time, setting.limit));
-    match run_bytes(alloc, image, clients, setting.input, &schedule, &mut out) {
-        Ok(outcome) => {
-            let _ = statistics_of(alloc, outcome.image.as_slice())?;
-            Ok(Ran {
-                out: out.into_inner().bytes,
-                image: outcome.image,
-                reports: outcome.reports,
-                ended: outcome.ended,
-            })
-        }
-        Err(refused) => Err(Fail::from(refused.fault)),
-    }
+    let outcome = run_bytes(alloc, image, clients, setting.input, &schedule, &mut out)?;
+    Ok(Ran {
+        out: out.into_inner().bytes,
+        image: outcome.image,
+        reports: outcome.reports,
+        ended: outcome.ended,
+    })
 }
 
 /// Runs the clients that the texts spell on an image.
@@ -152,13 +189,10 @@ pub(crate) struct Statistics {
 
 /// What an image holds, which must be one that is accepted.
 pub(crate) fn statistics_of(alloc: Global, image: &[u8]) -> Result<Statistics, Fail> {
-    let len = u32::try_from(image.len()).map_err(|_| Fault::BadHeader)?;
-    let region = Region::new(alloc, len.min(1 << 21))?;
-    let mut window = Window::place(region, 0, len).map_err(|_| Fault::BadHeader)?;
-    window.copy_in(0, image);
-    let types = check(alloc, &window)?;
+    let placed = window(alloc, image)?;
+    let types = check(alloc, &placed)?;
     // the numbers don't depend on the allocator
-    let segment = Segment::<SeqFit, Global>::new(window, types);
+    let segment = Segment::<SeqFit, Global>::new(placed, types);
     Ok(Statistics {
         free: segment.free_memory(),
         largest: segment.largest_gap(),

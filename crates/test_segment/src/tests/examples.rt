@@ -1,7 +1,11 @@
-use crate::tests::support::{I64, NUMBER, map, pair, segment, used_region};
+//! Calls on whole segments, worked out by hand, with the checker looking at the bytes.
+
+use crate::tests::support::{
+    I64, INDEXES, NUMBER, construct_number, first_fault, map_of, pair, segment, segment_in,
+    used_region, window,
+};
 use seg_bestfit::BestFit;
 use seg_block::Fit;
-use seg_check::check;
 use seg_manager::{Found, IndexKind, Named, Segment};
 use seg_open::{open, save};
 use seg_ptr::Window;
@@ -12,15 +16,13 @@ use std::process::Abort;
 use std::test::Fail;
 use support_data::counter;
 
-const BOTH: [IndexKind; 2] = [IndexKind::Flat, IndexKind::Tree];
-
 /// The checker accepts the segment, and these bytes of it are free.
 fn is_sound<F: Fit>(
     rt: &(impl Abort + AllocGlobal),
     segment: &Segment<F, Global>,
     free: u32,
 ) -> Result<(), Fail> {
-    check(rt.alloc(), segment.window())?;
+    assert_eq!(rt; first_fault(rt.alloc(), segment.window()), None);
     assert_eq!(rt; segment.free_memory(), free);
     Ok(())
 }
@@ -34,7 +36,7 @@ fn asks_for_x<F: Fit>(
     free: u32,
 ) -> Result<(), Fail> {
     let mut segment = segment::<F>(rt.alloc(), size, index, &[I64])?;
-    let made = segment.construct(b"x", NUMBER, 1);
+    let made = construct_number(&mut segment, b"x");
     assert_eq!(rt; made.err(), refused);
     assert_eq!(rt; segment.num_named(), u32::from(refused.is_none()));
     is_sound(rt, &segment, free)
@@ -92,8 +94,8 @@ fn names_come_in_order<F: Fit>(
 ) -> Result<(), Fail> {
     let mut segment = segment::<F>(rt.alloc(), 1024, index, &[I64])?;
     assert_eq!(rt; segment.first_name(), None);
-    segment.construct(b"y", NUMBER, 1)?;
-    segment.construct(b"x", NUMBER, 1)?;
+    construct_number(&mut segment, b"y")?;
+    construct_number(&mut segment, b"x")?;
     is_sound(rt, &segment, free)?;
     has_x_and_y(rt, &segment);
     assert!(rt; segment.destroy(b"x", NUMBER));
@@ -122,7 +124,7 @@ fn refuses_counts(rt: &impl Abort, segment: &mut Segment<SeqFit, Global>) {
 /// A name that no object may have is refused, and never found.
 fn refuses_names(rt: &impl Abort, segment: &mut Segment<SeqFit, Global>) {
     for name in [b"".as_slice(), b"a b", b"\x7f", &[b'a'; 64]] {
-        let made = segment.construct(name, NUMBER, 1);
+        let made = construct_number(segment, name);
         assert_eq!(rt; made, Err(Code::OutOfRange));
         let made = segment.find_or_construct(name, NUMBER);
         assert_eq!(rt; made, Err(Code::OutOfRange));
@@ -147,7 +149,7 @@ fn refuses_types(rt: &impl Abort, segment: &mut Segment<SeqFit, Global>) {
 }
 
 fn refuses_in_order(rt: &(impl Abort + AllocGlobal), index: IndexKind) -> Result<(), Fail> {
-    let mut segment = segment::<SeqFit>(rt.alloc(), 1024, index, &[I64, map(NUMBER)])?;
+    let mut segment = segment::<SeqFit>(rt.alloc(), 1024, index, &[I64, map_of(NUMBER)])?;
     segment.construct(b"x", NUMBER, 2)?;
     refuses_counts(rt, &mut segment);
     refuses_names(rt, &mut segment);
@@ -155,14 +157,14 @@ fn refuses_in_order(rt: &(impl Abort + AllocGlobal), index: IndexKind) -> Result
     refuses_types(rt, &mut segment);
     assert_eq!(rt; segment.find(b"x", NUMBER)?.count, 2);
     assert_eq!(rt; segment.num_named(), 1);
-    segment.construct(&[b'a'; 63], NUMBER, 1)?;
-    check(rt.alloc(), segment.window())?;
+    construct_number(&mut segment, &[b'a'; 63])?;
+    assert_eq!(rt; first_fault(rt.alloc(), segment.window()), None);
     Ok(())
 }
 
 #[test]
 fn refusals_in_order(rt: HostRuntime) -> Result<(), Fail> {
-    for index in BOTH {
+    for index in INDEXES {
         refuses_in_order(&rt, index)?;
     }
     Ok(())
@@ -203,7 +205,7 @@ fn makes_an_empty_one(rt: &(impl Abort + AllocGlobal), index: IndexKind) -> Resu
 
 #[test]
 fn new_segments_are_empty(rt: HostRuntime) -> Result<(), Fail> {
-    for index in BOTH {
+    for index in INDEXES {
         makes_an_empty_one(&rt, index)?;
     }
     Ok(())
@@ -242,7 +244,7 @@ fn zeroes_gaps(rt: &(impl Abort + AllocGlobal), index: IndexKind) -> Result<(), 
     segment.zero_free_memory();
     assert!(rt; is_filled(segment.window().slice(720, 304), 0));
     is_sound(rt, &segment, 320)?;
-    segment.construct(b"x", NUMBER, 1)?;
+    construct_number(&mut segment, b"x")?;
     segment.heap_mut().window_mut().put64(720, u64::MAX);
     segment.zero_free_memory();
     assert_eq!(rt; segment.window().get64(720), u64::MAX);
@@ -251,7 +253,7 @@ fn zeroes_gaps(rt: &(impl Abort + AllocGlobal), index: IndexKind) -> Result<(), 
 
 #[test]
 fn free_memory_is_zeroed(rt: HostRuntime) -> Result<(), Fail> {
-    for index in BOTH {
+    for index in INDEXES {
         zeroes_gaps(&rt, index)?;
     }
     Ok(())
@@ -269,15 +271,9 @@ fn free_tree_stays(rt: HostRuntime) -> Result<(), Fail> {
 
 /// A segment in a larger region, with the number x, that can't shrink.
 fn full_segment<F: Fit>(alloc: Global, room: u32) -> Result<Segment<F, Global>, Fail> {
-    let region = used_region(alloc, room)?;
-    match Segment::<F, Global>::create(region, 0, 784, IndexKind::Flat) {
-        Ok(mut segment) => {
-            segment.add_types(&crate::tests::support::table(alloc, &[I64])?)?;
-            segment.construct(b"x", NUMBER, 1)?;
-            Ok(segment)
-        }
-        Err((fault, _)) => Err(Fail::from(fault)),
-    }
+    let mut segment = segment_in::<F>(alloc, room, 784, IndexKind::Flat, &[I64])?;
+    construct_number(&mut segment, b"x")?;
+    Ok(segment)
 }
 
 /// What growing says in a region of `room` bytes, how many bytes are free then, and the size to which the segment shrinks.
@@ -340,7 +336,7 @@ fn shrinks<F: Fit>(rt: &(impl Abort + AllocGlobal)) -> Result<(), Fail> {
     is_sound(rt, &empty, 32)?;
     assert_eq!(rt; empty.grow(288), Ok(1024));
     is_sound(rt, &empty, 320)?;
-    empty.construct(b"x", NUMBER, 1)?;
+    construct_number(&mut empty, b"x")?;
     assert_eq!(rt; empty.shrink_to_fit(), 784);
     is_sound(rt, &empty, 0)
 }
@@ -353,13 +349,9 @@ fn segments_shrink(rt: HostRuntime) -> Result<(), Fail> {
 
 /// The counter's image in a window.
 fn counter_window(alloc: Global) -> Result<Window<Global>, Fail> {
-    match Window::place(used_region(alloc, 784)?, 0, 784) {
-        Ok(mut window) => {
-            window.copy_in(0, counter(alloc)?.as_slice());
-            Ok(window)
-        }
-        Err(_) => Err(Fail::from("misplaced")),
-    }
+    let mut w = window(alloc, 784, 784)?;
+    w.copy_in(0, counter(alloc)?.as_slice());
+    Ok(w)
 }
 
 /// The counter's image opened: x at 720, one value; saved, it is the same bytes.

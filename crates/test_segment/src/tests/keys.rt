@@ -1,4 +1,4 @@
-use crate::tests::support::{I64, NUMBER, map, segment};
+use crate::tests::support::{I64, NUMBER, map_of, place_of, segment};
 use seg_bestfit::BestFit;
 use seg_manager::{IndexKind, Segment};
 use seg_map::{put, remove};
@@ -11,7 +11,7 @@ use std::test::Fail;
 /// A tree whose root is key 4, above 2 and 6, with 1, 3, 5 and 7 below these.
 fn seven_keys(s: &mut Segment<BestFit, Global>, type_id: u8) -> Result<Place, Fail> {
     let at = s.construct(b"m", type_id, 1)?;
-    let map = Place { at, type_id };
+    let map = place_of(type_id, at);
     for key in [4, 2, 6, 1, 3, 5, 7] {
         put(s.heap_mut(), map, key)?;
     }
@@ -28,7 +28,7 @@ fn goes_over(rt: &impl Abort, s: &mut Segment<BestFit, Global>, map: Place, keys
 
 #[test]
 fn keys_follow_one_another(rt: HostRuntime) -> Result<(), Fail> {
-    let types = [I64, map(NUMBER)];
+    let types = [I64, map_of(NUMBER)];
     let mut s = segment::<BestFit>(rt.alloc(), 2048, IndexKind::Flat, &types)?;
     let map = seven_keys(&mut s, 1)?;
     goes_over(&rt, &mut s, map, &[1, 2, 3, 4, 5, 6, 7]);
@@ -42,7 +42,7 @@ fn keys_follow_one_another(rt: HostRuntime) -> Result<(), Fail> {
 /// The way to key 3 went by the root, key 4, which is gone then, and by 2, below which another key stands.
 #[test]
 fn changes_between_keys_are_seen(rt: HostRuntime) -> Result<(), Fail> {
-    let types = [I64, map(NUMBER)];
+    let types = [I64, map_of(NUMBER)];
     let mut s = segment::<BestFit>(rt.alloc(), 2048, IndexKind::Flat, &types)?;
     let map = seven_keys(&mut s, 1)?;
     assert_eq!(rt; s.next_key(map, 2), Ok(3));

@@ -1,33 +1,56 @@
 use seg_block::Fit;
+use seg_check::check;
 use seg_layout::{TypeId, TypeTable};
 use seg_manager::{IndexKind, Segment};
-use seg_raw::Region;
+use seg_ptr::Window;
+use seg_raw::{Code, Fault, Region};
+use seg_value::Place;
 use std::alloc::{AllocError, Global};
 use std::test::Fail;
 
 /// Numbers, the type that the tests use most.
 pub(crate) const NUMBER: TypeId = 0;
 
+/// The kinds of an index.
+pub(crate) const INDEXES: [IndexKind; 2] = [IndexKind::Flat, IndexKind::Tree];
+
 /// A kind, the number of parts, and the parts; zeros follow.
-pub(crate) type Spelled = [u8; 4];
+pub(crate) type Spelled = [u8; 10];
 
-pub(crate) const I64: Spelled = [1, 0, 0, 0];
+pub(crate) const I64: Spelled = [1, 0, 0, 0, 0, 0, 0, 0, 0, 0];
 
-/// A map to values of a type.
-pub(crate) fn map(item: TypeId) -> Spelled {
-    [6, 1, item, 0]
+pub(crate) const STR: Spelled = [2, 0, 0, 0, 0, 0, 0, 0, 0, 0];
+
+pub(crate) fn vec_of(item: TypeId) -> Spelled {
+    [3, 1, item, 0, 0, 0, 0, 0, 0, 0]
+}
+
+pub(crate) fn list_of(item: TypeId) -> Spelled {
+    [4, 1, item, 0, 0, 0, 0, 0, 0, 0]
+}
+
+pub(crate) fn flat_map_of(item: TypeId) -> Spelled {
+    [5, 1, item, 0, 0, 0, 0, 0, 0, 0]
+}
+
+pub(crate) fn map_of(item: TypeId) -> Spelled {
+    [6, 1, item, 0, 0, 0, 0, 0, 0, 0]
+}
+
+pub(crate) fn own_of(item: TypeId) -> Spelled {
+    [7, 1, item, 0, 0, 0, 0, 0, 0, 0]
 }
 
 /// A struct of two fields.
 pub(crate) fn pair(first: TypeId, second: TypeId) -> Spelled {
-    [8, 2, first, second]
+    [8, 2, first, second, 0, 0, 0, 0, 0, 0]
 }
 
 fn spelled(alloc: Global, types: &[Spelled]) -> Result<Vec<u8>, AllocError> {
     let mut bytes = Vec::new(alloc);
     for entry in types {
         bytes.extend_from_slice(entry)?;
-        bytes.extend_from_slice(&[0; 12])?;
+        bytes.extend_from_slice(&[0; 6])?;
     }
     Ok(bytes)
 }
@@ -37,9 +60,29 @@ pub(crate) fn table(alloc: Global, types: &[Spelled]) -> Result<TypeTable, Fail>
     Ok(TypeTable::read(&spelled(alloc, types)?)?)
 }
 
+/// The place of a value of a type.
+pub(crate) fn place_of(type_id: TypeId, at: u32) -> Place {
+    Place { at, type_id }
+}
+
+/// A segment of `len` bytes in a region of `room` zeros.
+pub(crate) fn window(alloc: Global, room: u32, len: u32) -> Result<Window<Global>, Fail> {
+    match Window::place(Region::new(alloc, room.min(1 << 20))?, 0, len) {
+        Ok(w) => Ok(w),
+        Err((fault, _)) => Err(Fail::from(fault)),
+    }
+}
+
+/// A segment of `len` bytes in a region of `room`, whose heap is one gap.
+pub(crate) fn one_gap<F: Fit>(alloc: Global, room: u32, len: u32) -> Result<Window<Global>, Fail> {
+    let mut w = window(alloc, room, len)?;
+    F::init(&mut w);
+    Ok(w)
+}
+
 /// A region of so many bytes, all of them 0xa5.
 pub(crate) fn used_region(alloc: Global, len: u32) -> Result<Region<Global>, Fail> {
-    let len = len.min(1 << 21);
+    let len = len.min(1 << 20);
     let mut region = Region::new(alloc, len)?;
     region.fill(0, len as usize, 0xa5);
     Ok(region)
@@ -52,7 +95,18 @@ pub(crate) fn segment<F: Fit>(
     index: IndexKind,
     types: &[Spelled],
 ) -> Result<Segment<F, Global>, Fail> {
-    let region = used_region(alloc, size)?;
+    segment_in::<F>(alloc, size, size, index, types)
+}
+
+/// An empty segment of these types, in a region of `room` bytes.
+pub(crate) fn segment_in<F: Fit>(
+    alloc: Global,
+    room: u32,
+    size: u32,
+    index: IndexKind,
+    types: &[Spelled],
+) -> Result<Segment<F, Global>, Fail> {
+    let region = used_region(alloc, room)?;
     match Segment::<F, Global>::create(region, 0, size, index) {
         Ok(mut segment) => {
             segment.add_types(&table(alloc, types)?)?;
@@ -60,4 +114,17 @@ pub(crate) fn segment<F: Fit>(
         }
         Err((fault, _)) => Err(Fail::from(fault)),
     }
+}
+
+/// Makes a number with a name.
+pub(crate) fn construct_number<F: Fit>(
+    segment: &mut Segment<F, Global>,
+    name: &[u8],
+) -> Result<u32, Code> {
+    segment.construct(name, NUMBER, 1)
+}
+
+/// The first fault that the checker finds, if there is one.
+pub(crate) fn first_fault(alloc: Global, w: &Window<Global>) -> Option<Fault> {
+    check(alloc, w).err()
 }

@@ -1,4 +1,4 @@
-use Rattle.test_definitions.proofs.SharedLaws.{counted_again}
+use Rattle.seg_spec.proofs.SharedLaws.{counted_again}
 use Rattle.test_definitions.proofs.Unfolding.{deep_enough, reads_the_same}
 use Rattle.test_definitions.proofs.shared.reading.Goals as goal
 

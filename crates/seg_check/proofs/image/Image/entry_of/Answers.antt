@@ -2,19 +2,20 @@ use Rattle.std.proofs.Common.{◌≡◌, ◌⊎◌, inl, inr, sym, ap, ◌∙◌
 use Rattle.seg_spec.specs.Block.{tag_of}
 use Rattle.seg_block.specs.Tags.{kind_of}
 use Rattle.seg_block.specs.declared.tag.Kind.{Kind}
-use Rattle.seg_block.specs.declared.tag.Kind.TheVariants.{Named, Object, Buffer, Node, IndexBuffer, IndexNode}
+use Rattle.seg_block.specs.declared.tag.Kind.TheVariants.{Named, Object, Buffer, Node, IndexBuffer, IndexNode, Frozen}
 use Rattle.seg_value.specs.declared.content.Content.{Content}
 use Rattle.seg_check.specs.Turns.{HasEntries, HoldsEntries}
 use Rattle.seg_check.proofs.TagLaws.{stands_named, stands_in, none_in, has_tag}
 use Rattle.seg_check.proofs.image.Image.entry_of.Goals as goal
 use Rattle.seg_check.proofs.image.Image.entry_of.Goals.{in-Named, in-Object+in_ok-content-in-Object}
 
-other : (k : Kind) → (k ≡ Object) ⊎ ((k ≡ Buffer) ⊎ ((k ≡ Node) ⊎ ((k ≡ IndexBuffer) ⊎ (k ≡ IndexNode)))) → k ≡ Named → ⊥
+other : (k : Kind) → (k ≡ Object) ⊎ ((k ≡ Buffer) ⊎ ((k ≡ Node) ⊎ ((k ≡ IndexBuffer) ⊎ ((k ≡ IndexNode) ⊎ (k ≡ Frozen))))) → k ≡ Named → ⊥
 other k (inl e) n = cc
 other k (inr (inl e)) n = cc
 other k (inr (inr (inl e))) n = cc
 other k (inr (inr (inr (inl e)))) n = cc
-other k (inr (inr (inr (inr e)))) n = cc
+other k (inr (inr (inr (inr (inl e))))) n = cc
+other k (inr (inr (inr (inr (inr e))))) n = cc
 
 pub returns-in_err-tag : goal.returns-in_err-tag
 returns-in_err-tag g c = λ valid own.

@@ -27,7 +27,7 @@ loop-index-preserved c =
     let tags = c.loop-index.are_right in
     let index = c.loop-index.index in
     let size = c.loop-index.invariant.size in
-    let few : index < 224 = c.loop-index-test.true in
+    let few : index < 256 = c.loop-index-test.true in
     elim c.match-read.branch [
       | in-Some w ↦ record {
         size = ap length w.are_right-is ∙ length-set tags (word_at index) w.is_live_tag.result ∙ size;
@@ -49,5 +49,5 @@ pub returns : goal.returns
 returns c = λ valid.
     let table = c.args.types.now in
     let tags = c.loop-index.are_right in
-    let n : c.loop-index.index ≡ 224 = omega arith in
+    let n : c.loop-index.index ≡ 256 = omega arith in
     all_known table valid tags (subst (AreLiveTagsTo table tags) n (c.loop-index.invariant.known valid))

@@ -10,7 +10,7 @@ pub returns-clause-cleared : goal.returns-clause-cleared
 returns-clause-cleared g c = λ v blocks s.
     cleared g.F.Fit.allocator c.args.self.now.window.bytes c.add_value.new.heap.window.bytes c.init_default-2.new.self.window.bytes c.destroy.new.heap.window.bytes c.args.self.now.types c.add_value.new.heap.types
     c.init_default-2.new.self.types c.add_value.ensures.types (c.init_default-2.ensures.types ∙ c.add_value.ensures.types) (place_of c.args.place) v blocks s c.new-pending.result.first c.add_value.new.self.first c.new-pending.ensures
-    c.add_value.ensures.added c.init_default-2.ensures.changes c.init_default-2.ensures.default c.destroy.ensures.freed
+    c.add_value.ensures.added c.init_default-2.ensures.changes c.init_default-2.ensures.default c.destroy.ensures.destroyed
 
 pub returns-then-eq-clause-cleared : goal.returns-then-eq-clause-cleared
 returns-then-eq-clause-cleared g c = λ v blocks s.

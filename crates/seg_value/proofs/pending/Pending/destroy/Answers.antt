@@ -8,29 +8,29 @@ pub loop-turn-init : goal.loop-turn-init
 loop-turn-init g c = record {
   window = refl;
   types = refl;
-  freed = λ blocks valid w fits. none_freed g.F.Fit.allocator c.args.heap.now.window.bytes c.args.heap.now.types c.args.self.first blocks w;
+  freed = λ blocks kept final valid w fits. none_freed g.F.Fit.allocator c.args.heap.now.window.bytes c.args.heap.now.types c.args.self.first blocks kept final w;
 }
 
 pub loop-turn-preserved : goal.loop-turn-preserved
 loop-turn-preserved g c = record {
   window = c.free_block.ensures.window ∙ ap (λ p. with_bytes p c.free_block.new.self.window.bytes) c.open.ensures.window ∙ ap (λ p. with_bytes p c.free_block.new.self.window.bytes) c.loop-turn.invariant.window;
   types = c.free_block.ensures.types ∙ c.open.ensures.types ∙ c.loop-turn.invariant.types;
-  freed = λ blocks valid w fits.
+  freed = λ blocks kept final valid w fits.
       turned g.F.Fit.allocator c.args.heap.now.window.bytes c.loop-turn.heap.window.bytes c.open.new.heap.window.bytes c.free_block.new.self.window.bytes c.args.heap.now.types c.loop-turn.heap.types
-      c.loop-turn.invariant.types valid c.loop-turn.self.first c.pop.new.self.first c.open.new.self.first c.in-Some.payload blocks c.loop-turn._turn fits (c.loop-turn.invariant.freed blocks valid w fits)
-      (λ left p. c.in-Some.ensures.popped g.F.Fit.allocator left p)
-      (λ xs goes ys valid_here p live_there. let o = c.open.ensures.opened xs goes g.F.Fit.allocator ys valid_here p live_there in (o.rest, o.xs_are, o.adds))
+      c.loop-turn.invariant.types valid c.loop-turn.self.first c.pop.new.self.first c.open.new.self.first c.in-Some.payload blocks kept final c.loop-turn._turn fits
+      (c.loop-turn.invariant.freed blocks kept final valid w fits) (λ left names p. c.in-Some.ensures.popped g.F.Fit.allocator left names kept final p)
+      (λ xs ns goes ys names valid_here p live_there. c.open.ensures.opened xs ns goes g.F.Fit.allocator ys names kept final valid_here p live_there)
       c.free_block.ensures.gives;
 }
 
-pub returns-in_default-clause-freed : goal.returns-in_default-clause-freed
-returns-in_default-clause-freed g c = λ blocks valid w fits.
-    all_freed g.F.Fit.allocator c.args.heap.now.window.bytes c.loop-turn.heap.window.bytes c.args.heap.now.types valid c.loop-turn.self.first blocks c.loop-turn._turn fits
-    (c.loop-turn.invariant.freed blocks valid w fits) (c.pop.ensures.none c.in_default.is)
+pub returns-in_default-clause-destroyed : goal.returns-in_default-clause-destroyed
+returns-in_default-clause-destroyed g c = λ blocks kept final valid w fits.
+    all_freed g.F.Fit.allocator c.args.heap.now.window.bytes c.loop-turn.heap.window.bytes c.args.heap.now.types valid c.loop-turn.self.first blocks kept final c.loop-turn._turn fits
+    (c.loop-turn.invariant.freed blocks kept final valid w fits) (c.pop.ensures.none c.in_default.is)
 
-pub returns-after-loop-turn-clause-freed : goal.returns-after-loop-turn-clause-freed
-returns-after-loop-turn-clause-freed g c = λ blocks valid w fits.
+pub returns-after-loop-turn-clause-destroyed : goal.returns-after-loop-turn-clause-destroyed
+returns-after-loop-turn-clause-destroyed g c = λ blocks kept final valid w fits.
     let long : c.len-turn-end.result ≡ length c.args.heap.now.window.bytes = c.len-turn-end.ensures.len ∙ ap (λ (r : Placement). length r.bytes) c.window.ensures in
     let past = c.loop-turn-test.false in
-    enough_turns g.F.Fit.allocator c.args.heap.now.window.bytes c.loop-turn.heap.window.bytes c.args.heap.now.types valid c.loop-turn.self.first blocks c.loop-turn._turn fits
-    (c.loop-turn.invariant.freed blocks valid w fits) w.heap (omega arith)
+    enough_turns g.F.Fit.allocator c.args.heap.now.window.bytes c.loop-turn.heap.window.bytes c.args.heap.now.types valid c.loop-turn.self.first blocks kept final c.loop-turn._turn fits
+    (c.loop-turn.invariant.freed blocks kept final valid w fits) w.beside.pends.heap (omega arith)

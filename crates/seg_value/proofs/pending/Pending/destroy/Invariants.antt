@@ -1,7 +1,9 @@
-use Rattle.std.proofs.Common.{◌≡◌, ℕ, List}
+use Rattle.std.proofs.Common.{◌≡◌, ℕ, List, []}
 use Rattle.seg_spec.specs.Window.{with_bytes}
 use Rattle.seg_spec.specs.Types.{IsTable}
-use Rattle.seg_spec.specs.Destroying.{AreLive, Pends}
+use Rattle.seg_spec.specs.Reads.{Place}
+use Rattle.seg_spec.specs.Frozen.{Frozen}
+use Rattle.seg_spec.specs.Destroying.{AreLive, Awaits}
 use Rattle.seg_spec.proofs.Destruction.{HasFreed}
 use Rattle.seg_value.proofs.pending.Pending.destroy.Given as goal
 
@@ -9,6 +11,7 @@ abbrev pub invariant-loop-turn : goal.invariant-loop-turn
 invariant-loop-turn g l = record {
   window : l.heap.window ≡ with_bytes l.initial.heap.window l.heap.window.bytes;
   types : l.heap.types ≡ l.initial.heap.types;
-  freed : (blocks : List ℕ) → IsTable l.initial.heap.types → Pends g.F.Fit.allocator l.initial.heap.window.bytes l.initial.heap.types l.initial.self.first blocks → AreLive l.initial.heap.window.bytes blocks →
-      HasFreed g.F.Fit.allocator l.initial.heap.window.bytes l.heap.window.bytes l.initial.heap.types l.self.first blocks l._turn;
+  freed : (blocks : List ℕ) (kept : List Place) (final : List Frozen) → IsTable l.initial.heap.types →
+      Awaits g.F.Fit.allocator l.initial.heap.window.bytes l.initial.heap.types l.initial.self.first blocks [] kept final → AreLive l.initial.heap.window.bytes blocks →
+      HasFreed g.F.Fit.allocator l.initial.heap.window.bytes l.heap.window.bytes l.initial.heap.types l.self.first blocks kept final l._turn;
 }

@@ -1,0 +1,330 @@
+-- A cell that names a frozen object goes: the object's count is lowered in the bytes, and at 0 it waits to be destroyed.
+use Rattle.std.proofs.Common.{◌≡◌, ◌≢◌, ℕ, suc, ◌+◌, ◌-◌, ◌*◌, ◌^◌, ◌<◌, ◌≤◌, inl, inr, List, [], ◌∷◌, ◌++◌, length, map, Option, refl, sym, ap, ◌∙◌, subst, arith}
+use Rattle.std.specs.List.{AllByRecursion}
+use Rattle.std.proofs.lemmas.List.{map-append, append-nil}
+use Rattle.seg_spec.specs.Bytes.{word, set_word, ChangesOnly, slice}
+use Rattle.seg_spec.specs.Types.{Table, IsTable, size}
+use Rattle.seg_spec.specs.Value.{Value}
+use Rattle.seg_spec.specs.Heap.{IsHeap, live, heap_start}
+use Rattle.seg_spec.specs.Block.{Kind, tag_of, IsBlock, KeepsBlock, IsInside, block_of}
+use Rattle.seg_spec.specs.Reads.{Place, Holds, HoldsEach, holds_none, holds_more}
+use Rattle.seg_spec.specs.Frozen.{Frozen, root_of_frozen}
+use Rattle.seg_spec.specs.Sound.{payload_of, HoldsRoot, HoldsRoots, holds_more_roots, times, SameBlocks, positions}
+use Rattle.seg_spec.specs.Shared.{named_in, names_in, IsReleasing, with_count, kept_with}
+use Rattle.seg_spec.specs.Releasing.{lowered, names_with, let_go}
+use Rattle.seg_spec.specs.Owing.{KeepsLinked, no_parts, more_parts, owes, no_links}
+use Rattle.seg_spec.specs.Destroying.{AreLive, GoesWith, KeepsOthers, PendsBeside, Awaits, Adds}
+use Rattle.seg_spec.proofs.Frame.{word-same, Holds-kept}
+use Rattle.seg_spec.proofs.LiveLaws.{times-append, times-same, times-other, there, each_there, LiesIn, live-lie, live-once}
+use Rattle.seg_spec.proofs.BytesLaws.{number-set_same}
+use Rattle.seg_spec.proofs.Writing.{set_number-changes}
+use Rattle.seg_spec.proofs.RootFrame.{HoldsRoots-kept}
+use Rattle.seg_spec.proofs.RootLaws.{HoldsRoots-split, HoldsRoots-only, HoldsRoots-append}
+use Rattle.seg_spec.proofs.CellOwed.{block_there}
+use Rattle.seg_spec.proofs.Destruction.{heap_written, payload_written, no_common, others_twice, others_more, pends_kept, beside_kept, awaits_blocks, releasing_same}
+use Rattle.seg_spec.proofs.Lowering.{positions_of, named_positions, Named, Turned, turned}
+
+no_bytes : (bytes : List ℕ) (at : ℕ) → slice bytes at 0 ≡ []
+unfolding slice
+no_bytes bytes at = refl
+
+-- an object in bytes
+pub record IsFrozenThere (bytes : List ℕ) (table : Table) (f : Frozen) (blocks : List ℕ) : Type 0 where
+  pub block : IsBlock bytes f.at (tag_of Kind.frozen f.type) (8 + size table f.type)
+  pub count_is : word bytes f.at ≡ f.count
+  pub number_is : word bytes (f.at + 4) ≡ f.number
+  pub inside : List ℕ
+  pub value : Holds bytes table (record { at = f.at + 8; type = f.type }) f.value inside
+  pub blocks_are : blocks ≡ block_of f.at ∷ inside
+
+module _ (bytes : List ℕ) (table : Table) (f : Frozen) (blocks : List ℕ) where
+  begins : payload_of (root_of_frozen f) ≡ f.at
+  begins = omega arith
+
+  one_value : {place : Place} {v : Value} {xs : List ℕ} → HoldsEach bytes table (place ∷ []) (Rattle.seg_spec.specs.Value.cons v Rattle.seg_spec.specs.Value.nil) xs → Holds bytes table place v xs
+  one_value (holds_more {blocks = mine} h holds_none) = rw (append-nil mine) h
+
+  pub frozen_there : HoldsRoot bytes table (root_of_frozen f) blocks → IsFrozenThere bytes table f blocks
+  frozen_there h =
+      let block : IsBlock bytes f.at (tag_of Kind.frozen f.type) (8 + (1 * size table f.type + 0)) = subst (λ p. IsBlock bytes p (tag_of Kind.frozen f.type) (8 + (1 * size table f.type + 0))) begins h.block in
+      record {
+        block = record { after_header = block.after_header; live = block.live; has_tag = block.has_tag; room = omega (arith, block.room) };
+        count_is = subst (λ p. word bytes p ≡ f.count) begins h.words_are.0;
+        number_is = subst (λ p. word bytes (p + 4) ≡ f.number) begins h.words_are.1.0;
+        inside = h.inside;
+        value = one_value h.values;
+        blocks_are = h.blocks_are ∙ ap (λ p. block_of p ∷ h.inside) begins;
+      }
+
+  pub there_frozen : IsFrozenThere bytes table f blocks → HoldsRoot bytes table (root_of_frozen f) blocks
+  there_frozen o =
+      let sized : 8 + size table f.type ≡ 8 + (1 * size table f.type + 0) = omega arith in
+      record {
+        before = omega arith;
+        block = subst (λ p. IsBlock bytes p (tag_of Kind.frozen f.type) (8 + (1 * size table f.type + 0))) (sym begins) (subst (λ n. IsBlock bytes f.at (tag_of Kind.frozen f.type) n) sized o.block);
+        words_are = (subst (λ p. word bytes p ≡ f.count) (sym begins) o.count_is, (subst (λ p. word bytes (p + 4) ≡ f.number) (sym begins) o.number_is, tt));
+        name_is = no_bytes bytes _;
+        inside = o.inside;
+        values = subst (λ xs. HoldsEach bytes table _ _ xs) (append-nil o.inside) (holds_more o.value holds_none);
+        blocks_are = o.blocks_are ∙ ap (λ p. block_of p ∷ o.inside) (sym begins);
+      }
+
+-- ---- its count is lowered
+
+module _ (allocator : ℕ) (old new : List ℕ) (table : Table) (valid : IsTable table) (f : Frozen) (n : ℕ) (mine others : List ℕ) (heap : IsHeap allocator old) (o : IsFrozenThere old table f mine)
+    (owned : AreLive old (mine ++ others)) (changes : ChangesOnly old new f.at 4) (count_is : word new f.at ≡ n) where
+  own : ℕ
+  own = block_of f.at
+
+  mine_is : (h : ℕ) → times h mine ≡ times h (block_of f.at ∷ o.inside)
+  mine_is h = ap (times h) o.blocks_are
+
+  here : 1 ≤ times (block_of f.at) (positions (live old))
+  here = omega (arith, owned (block_of f.at), mine_is (block_of f.at), times-same (block_of f.at) o.inside, times-append (block_of f.at) mine others)
+
+  inside : IsInside old (block_of f.at) f.at 4
+  inside = let room = o.block.room in let low = o.block.after_header in record { low = omega arith; high = omega arith }
+
+  pub lowered_keeps : KeepsOthers old new (block_of f.at ∷ [])
+  lowered_keeps = payload_written allocator old new f.at 4 (block_of f.at) heap inside here changes
+
+  pub lowered_heap : IsHeap allocator new
+  lowered_heap = heap_written allocator old new f.at 4 (block_of f.at) heap inside here changes
+
+  -- what isn't the object's own block stays
+  pub beside_it : (h : ℕ) → 1 ≤ times h (positions (live old)) → h ≢ block_of f.at → KeepsLinked old new h
+  beside_it h some other = lowered_keeps.others h some (times-other h (block_of f.at) [] (λ e. other (sym e)))
+
+  inside_kept : AllByRecursion (KeepsBlock old new) o.inside
+  inside_kept = each_there (KeepsBlock old new) o.inside (λ h some.
+      let once = live-once old allocator heap h in
+      let own_times = times-same (block_of f.at) o.inside in
+      let n1 = mine_is h in
+      let n2 = owned h in
+      let n3 = times-append h mine others in
+      let n4 : times h (block_of f.at ∷ o.inside) ≡ times h (block_of f.at ∷ []) + times h o.inside = times-append h (block_of f.at ∷ []) o.inside in
+      (beside_it h (omega arith) (λ e. let same : times h (block_of f.at ∷ []) ≡ 1 = subst (λ x. times x (block_of f.at ∷ []) ≡ 1) (sym e) (times-same (block_of f.at) []) in absurd (omega arith))).whole.kept)
+
+  value_then : Holds new table (record { at = f.at + 8; type = f.type }) f.value o.inside
+  value_then = Holds-kept old new table valid o.value (changes.others (f.at + 8) (size table f.type) (inr (omega arith))) inside_kept
+
+  block_then : IsBlock new f.at (tag_of Kind.frozen f.type) (8 + size table f.type)
+  block_then = block_there allocator old new f.at 4 (block_of f.at) heap inside here changes f.at (tag_of Kind.frozen f.type) (8 + size table f.type) here o.block
+
+  pub lowered_there : IsFrozenThere new table (with_count f n) mine
+  lowered_there = record {
+    block = block_then;
+    count_is = count_is;
+    number_is = word-same old new (f.at + 4) (changes.others (f.at + 4) 4 (inr (omega arith))) ∙ o.number_is;
+    inside = o.inside;
+    value = value_then;
+    blocks_are = o.blocks_are;
+  }
+
+  -- it shows by itself what goes with it
+  pub lowered_goes : GoesWith new table f.at mine (named_in f.value)
+  lowered_goes = record {
+    owed = block_of f.at ∷ ((o.inside ++ []) ++ []);
+    named = (named_in f.value ++ []) ++ [];
+    owes_it = owes Kind.frozen f.type (record { at = f.at + 8; type = f.type } ∷ []) [] (o.inside ++ []) [] (named_in f.value ++ []) [] (block_then, refl, refl) (more_parts (inl (f.value, value_then, refl)) no_parts) no_links
+        refl refl;
+    owed_are = λ h. omega (arith, mine_is h, times-append h (block_of f.at ∷ []) o.inside, times-append h (block_of f.at ∷ []) ((o.inside ++ []) ++ []), times-append h (o.inside ++ []) [], times-append h o.inside []);
+    named_are = λ h. omega (arith, times-append h (named_in f.value ++ []) [], times-append h (named_in f.value) []);
+  }
+
+-- ---- a cell that names an object goes
+
+module _ (allocator : ℕ) (old : List ℕ) (table : Table) (valid : IsTable table) (p : ℕ) (first : Option ℕ) (ys more : List ℕ) (kept : List Place) (final : List Frozen)
+    (waiting : Awaits allocator old table first ys (p ∷ more) kept final) (owned : AreLive old ys) where
+  abbrev ms : List ℕ
+  ms = waiting.named
+
+  abbrev frozen : List Frozen
+  frozen = waiting.frozen
+
+  w : PendsBeside allocator old table first ys ms frozen
+  w = waiting.beside
+
+  turn : Turned kept final p (more ++ ms) frozen
+  turn = turned kept final p (more ++ ms) frozen waiting.releasing
+
+  k : Named p frozen
+  k = turn.it
+
+  -- the object's own blocks, and those of the others
+  record Apart : Type 0 where
+    left : List ℕ
+    mine : List ℕ
+    right : List ℕ
+    lefts : HoldsRoots old table (map root_of_frozen k.before) left
+    it : HoldsRoot old table (root_of_frozen k.object) mine
+    rights : HoldsRoots old table (map root_of_frozen k.after) right
+    shares_are : w.shares ≡ left ++ (mine ++ right)
+
+  apart : Apart
+  apart =
+      let all : HoldsRoots old table (map root_of_frozen k.before ++ (root_of_frozen k.object ∷ map root_of_frozen k.after)) w.shares =
+      subst (λ rs. HoldsRoots old table rs w.shares) (ap (map root_of_frozen) k.are ∙ map-append root_of_frozen k.before (k.object ∷ k.after)) w.holds in
+      let s = HoldsRoots-split old table (map root_of_frozen k.before) (root_of_frozen k.object ∷ map root_of_frozen k.after) w.shares all in
+      let t = HoldsRoots-split old table (root_of_frozen k.object ∷ []) (map root_of_frozen k.after) s.right s.rights in
+      record {
+        left = s.left;
+        mine = t.left;
+        right = t.right;
+        lefts = s.lefts;
+        it = HoldsRoots-only old table (root_of_frozen k.object) t.left t.lefts;
+        rights = t.rights;
+        shares_are = s.blocks_are ∙ ap (λ bs. s.left ++ bs) t.blocks_are;
+      }
+
+  a : Apart
+  a = apart
+
+  there_is : IsFrozenThere old table k.object a.mine
+  there_is = frozen_there old table k.object a.mine a.it
+
+  abbrev others : List ℕ
+  others = w.owed ++ (a.left ++ a.right)
+
+  all_are : (h : ℕ) → times h ys ≡ times h a.mine + times h (w.owed ++ (a.left ++ a.right))
+  all_are h = omega (
+    arith,
+    w.blocks_are h,
+    times-append h w.owed w.shares,
+    (let e : times h w.shares ≡ times h (a.left ++ (a.mine ++ a.right)) = ap (times h) a.shares_are in e),
+    times-append h a.left (a.mine ++ a.right),
+    times-append h a.mine a.right,
+    times-append h w.owed (a.left ++ a.right),
+    times-append h a.left a.right,
+  )
+
+  fits : AreLive old (a.mine ++ (w.owed ++ (a.left ++ a.right)))
+  fits h = omega (arith, owned h, all_are h, times-append h a.mine (w.owed ++ (a.left ++ a.right)))
+
+  -- its count has room
+  count_fits : p + 4 ≤ length old
+  count_fits =
+      let here : 1 ≤ times (block_of k.object.at) (positions (live old)) =
+      let e : times (block_of k.object.at) a.mine ≡ times (block_of k.object.at) (block_of k.object.at ∷ there_is.inside) = ap (times (block_of k.object.at)) there_is.blocks_are in
+      omega (arith, fits (block_of k.object.at), times-append (block_of k.object.at) a.mine others, times-same (block_of k.object.at) there_is.inside) in
+      let lies = there (LiesIn old heap_start (length old)) (block_of k.object.at) (positions (live old)) (live-lie old allocator w.pends.heap) here in
+      omega (arith, lies.high, there_is.block.room, there_is.block.after_header, k.at_is)
+
+  module _ (v : ℕ) (small : v < 2 ^ 32) where
+    pub written_changes : ChangesOnly old (set_word old p v) p 4
+    written_changes = set_number-changes 4 old p v
+
+    pub written_is : word (set_word old p v) p ≡ v
+    written_is = number-set_same 4 old p v count_fits (omega arith)
+
+  -- as its count is lowered
+  module _ (new : List ℕ) (changes : ChangesOnly old new p 4) (lowered_is : word new p ≡ word old p - 1) where
+    was : word old p ≡ k.object.count
+    was = subst (λ x. word old x ≡ k.object.count) k.at_is there_is.count_is
+
+    count_is : word new p ≡ k.object.count - 1
+    count_is = lowered_is ∙ ap (λ n. n - 1) was
+
+    changes_there : ChangesOnly old new k.object.at 4
+    changes_there = subst (λ x. ChangesOnly old new x 4) (sym k.at_is) changes
+
+    count_there : word new k.object.at ≡ k.object.count - 1
+    count_there = subst (λ x. word new x ≡ k.object.count - 1) (sym k.at_is) count_is
+
+    own_there : 1 ≤ times (block_of k.object.at) a.mine
+    own_there = let e : times (block_of k.object.at) a.mine ≡ times (block_of k.object.at) (block_of k.object.at ∷ there_is.inside) = ap (times (block_of k.object.at)) there_is.blocks_are in
+        omega (arith, times-same (block_of k.object.at) there_is.inside)
+
+    heap_then : IsHeap allocator new
+    heap_then = lowered_heap allocator old new table valid k.object (k.object.count - 1) a.mine others w.pends.heap there_is fits changes_there count_there
+
+    keeps_then : KeepsOthers old new (block_of k.object.at ∷ [])
+    keeps_then = lowered_keeps allocator old new table valid k.object (k.object.count - 1) a.mine others w.pends.heap there_is fits changes_there count_there
+
+    others_linked : (h : ℕ) → 1 ≤ times h others → KeepsLinked old new h
+    others_linked h some =
+        let n = no_common allocator old w.pends.heap a.mine others fits h some in
+        beside_it allocator old new table valid k.object (k.object.count - 1) a.mine others w.pends.heap there_is fits changes_there count_there h n.0
+        (λ e. let m : 1 ≤ times h a.mine = subst (λ x. 1 ≤ times x a.mine) (sym e) own_there in absurd (omega (arith, n.1)))
+
+    others_before : PendsBeside allocator old table first others ms (k.before ++ k.after)
+    others_before = record {
+      owed = w.owed;
+      shares = a.left ++ a.right;
+      pends = w.pends;
+      holds = subst (λ rs. HoldsRoots old table rs (a.left ++ a.right)) (sym (map-append root_of_frozen k.before k.after)) (HoldsRoots-append old table a.lefts a.rights);
+      blocks_are = λ h. refl;
+    }
+
+    others_then : PendsBeside allocator new table first others ms (k.before ++ k.after)
+    others_then = beside_kept allocator old new table valid first others ms (k.before ++ k.after) heap_then others_linked others_before
+
+    live_then : (h : ℕ) → times h (positions (live new)) ≡ times h (positions (live old))
+    live_then h = ap (λ bs. times h (positions bs)) keeps_then.live_kept
+
+    none_own : (h : ℕ) → times h ys ≡ 0 → times h (block_of k.object.at ∷ []) ≡ 0
+    none_own h none = times-other h (block_of k.object.at) [] (λ e. let m : 1 ≤ times h a.mine = subst (λ x. 1 ≤ times x a.mine) e own_there in absurd (omega (arith, all_are h)))
+
+    -- other cells name it still
+    pub stays : (n : ℕ) → word new p ≡ suc n → Adds allocator old new table first [] ys more kept final
+    stays n there_some =
+        let some : k.object.count - 1 ≡ suc n = sym count_is ∙ there_some in
+        let frozen_then = k.before ++ with_count k.object (suc n) ∷ k.after in
+        let there_then : IsFrozenThere new table (with_count k.object (suc n)) a.mine =
+        subst (λ c. IsFrozenThere new table (with_count k.object c) a.mine) some
+        (lowered_there allocator old new table valid k.object (k.object.count - 1) a.mine others w.pends.heap there_is fits changes_there count_there) in
+        let it_then = there_frozen new table (with_count k.object (suc n)) a.mine there_then in
+        let linked = λ (h : ℕ) (l : 1 ≤ times h (a.left ++ a.right)). (others_linked h (omega (arith, l, times-append h w.owed (a.left ++ a.right)))).whole.kept in
+        let lefts_then = HoldsRoots-kept old new table valid a.lefts (each_there (KeepsBlock old new) a.left (λ h l. linked h (omega (arith, l, times-append h a.left a.right)))) in
+        let rights_then = HoldsRoots-kept old new table valid a.rights (each_there (KeepsBlock old new) a.right (λ h l. linked h (omega (arith, l, times-append h a.left a.right)))) in
+        let names_are : let_go p frozen ≡ [] = k.let_go_is ∙ ap (names_with k.object) some in
+        let frozen_is : lowered p frozen ≡ k.before ++ with_count k.object (suc n) ∷ k.after = k.lowered_is ∙ ap (λ c. k.before ++ kept_with k.object c k.after k.after) some in
+        record {
+          keeps = others_more old new (block_of k.object.at ∷ []) ys none_own keeps_then;
+          awaits = record {
+            named = ms;
+            frozen = frozen_then;
+            beside = record {
+              owed = w.owed;
+              shares = a.left ++ (a.mine ++ a.right);
+              pends = pends_kept allocator old new table valid first w.owed ms heap_then (λ h l. others_linked h (omega (arith, l, times-append h w.owed (a.left ++ a.right)))) w.pends;
+              holds = subst (λ rs. HoldsRoots new table rs (a.left ++ (a.mine ++ a.right))) (sym (map-append root_of_frozen k.before (with_count k.object (suc n) ∷ k.after)))
+                  (HoldsRoots-append new table lefts_then (holds_more_roots it_then rights_then));
+              blocks_are = λ h. omega (
+                arith,
+                all_are h,
+                times-append h w.owed (a.left ++ (a.mine ++ a.right)),
+                times-append h a.left (a.mine ++ a.right),
+                times-append h a.mine a.right,
+                times-append h w.owed (a.left ++ a.right),
+                times-append h a.left a.right,
+              );
+            };
+            releasing = subst (λ fs. IsReleasing kept final (more ++ ms) fs) frozen_is (subst (λ qs. IsReleasing kept final (positions_of qs ++ (more ++ ms)) (lowered p frozen)) names_are turn.releasing);
+          };
+        }
+
+    -- no cell names it any more: it waits
+    pub goes : (last : List ℕ) (next : Option ℕ) → word new p ≡ 0 → ((xs ys ns names : List ℕ) → GoesWith new table p xs ns → Awaits allocator new table first ys (ns ++ names) kept final → AreLive new (xs ++ ys)
+        → Adds allocator new last table next xs ys names kept final) → Adds allocator old last table next [] ys more kept final
+    goes last next there_none push =
+        let none : k.object.count - 1 ≡ 0 = sym count_is ∙ there_none in
+        let f = k.object in
+        let ns = named_in f.value in
+        let goes_with = lowered_goes allocator old new table valid f (f.count - 1) a.mine others w.pends.heap there_is fits changes_there count_there in
+        let fits_then : AreLive new (a.mine ++ others) = λ h. omega (arith, fits h, live_then h) in
+        let names_are : let_go p frozen ≡ names_in f.value = k.let_go_is ∙ ap (names_with f) none in
+        let frozen_is : lowered p frozen ≡ k.before ++ k.after = k.lowered_is ∙ ap (λ c. k.before ++ kept_with f c k.after k.after) none in
+        let released : IsReleasing kept final (positions_of (names_in f.value) ++ (more ++ ms)) (k.before ++ k.after) =
+        subst (λ fs. IsReleasing kept final (positions_of (names_in f.value) ++ (more ++ ms)) fs) frozen_is (subst (λ qs. IsReleasing kept final (positions_of qs ++ (more ++ ms)) (lowered p frozen)) names_are turn.releasing) in
+        let releasing : IsReleasing kept final ((ns ++ more) ++ ms) (k.before ++ k.after) =
+        releasing_same kept final (positions_of (names_in f.value) ++ (more ++ ms)) ((ns ++ more) ++ ms) (k.before ++ k.after) (λ h.
+        let e : times h (positions_of (names_in f.value)) ≡ times h ns = ap (times h) (named_positions f.value) in
+        omega (arith, times-append h (positions_of (names_in f.value)) (more ++ ms), times-append h more ms, times-append h (ns ++ more) ms, times-append h ns more)) released in
+        let those : Awaits allocator new table first others (ns ++ more) kept final = record { named = ms; frozen = k.before ++ k.after; beside = others_then; releasing = releasing } in
+        let pushed = push a.mine others ns more (subst (λ x. GoesWith new table x a.mine ns) k.at_is goes_with) those fits_then in
+        let all : SameBlocks (a.mine ++ others) ys = λ h. omega (arith, all_are h, times-append h a.mine (w.owed ++ (a.left ++ a.right))) in
+        record {
+          keeps = others_twice old new last (block_of f.at ∷ []) (a.mine ++ others) ys (λ h zero_times. (none_own h zero_times, all h ∙ zero_times)) keeps_then pushed.keeps;
+          awaits = awaits_blocks allocator last table next (a.mine ++ others) ys more kept final all pushed.awaits;
+        }

@@ -1,9 +1,0 @@
-mod blocks;
-mod bytes;
-mod image;
-mod lists;
-mod made;
-mod maps;
-mod names;
-mod order;
-mod values;

@@ -1,5 +1,0 @@
-//! Tests of the front door.
-#![tactic(auto)]
-
-#[cfg(test)]
-mod tests;

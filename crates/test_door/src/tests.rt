@@ -1,6 +1,0 @@
-mod clients;
-mod host;
-mod images;
-mod memory;
-mod objects;
-mod uses;

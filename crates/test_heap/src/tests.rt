@@ -1,7 +1,0 @@
-mod allocators;
-mod containers;
-mod growth;
-mod names;
-mod refused;
-mod support;
-mod tiles;

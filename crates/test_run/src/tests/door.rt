@@ -1,0 +1,261 @@
+//! The front door as the tests see it: the calls of an image without their clauses, so that a test that makes many of them has
+//! a short proof.
+
+use crate::tests::runs::unlimited;
+use lezgauri::{
+    AllocatorKind, Code, Fault, Image, IndexKind, Named, Place, Report, Through, Type, TypeId,
+    TypeTable, Verified, check, run, type_table, verify,
+};
+use std::alloc::Global;
+use std::test::Fail;
+
+/// An image in memory of the host.
+#[derive(Drop)]
+pub(crate) struct Host {
+    image: Image<Global>,
+}
+
+/// Making, opening and saving.
+impl Host {
+    pub(crate) fn create(
+        alloc: Global,
+        size: u32,
+        allocator: AllocatorKind,
+        index: IndexKind,
+    ) -> Result<Host, Fault> {
+        let image = Image::create(alloc, size, allocator, index)?;
+        Ok(Host { image })
+    }
+
+    /// The image of these bytes, or the fault, with the bytes that came back.
+    pub(crate) fn open(alloc: Global, bytes: Vec<u8>) -> Result<Host, (Fault, Vec<u8>)> {
+        match Image::open(alloc, bytes) {
+            Ok(image) => Ok(Host { image }),
+            Err(unopened) => Err((unopened.fault, unopened.bytes)),
+        }
+    }
+
+    /// The image of these bytes, which must be sound.
+    pub(crate) fn opened(alloc: Global, bytes: Vec<u8>) -> Result<Host, Fail> {
+        match Host::open(alloc, bytes) {
+            Ok(host) => Ok(host),
+            Err((fault, _bytes)) => Err(Fail::from(fault)),
+        }
+    }
+
+    pub(crate) fn add_types(&mut self, types: &[Type]) -> Result<(), Fault> {
+        self.image.add_types(&type_table(types)?)
+    }
+
+    pub(crate) fn types(&self) -> &TypeTable {
+        self.image.types()
+    }
+
+    pub(crate) fn save(&self, alloc: Global) -> Result<Vec<u8>, Fault> {
+        self.image.save(alloc)
+    }
+
+    pub(crate) fn bytes(&self) -> &[u8] {
+        self.image.bytes()
+    }
+
+    pub(crate) fn into_bytes(self) -> Vec<u8> {
+        self.image.into_bytes()
+    }
+
+    pub(crate) fn verify<'c>(&self, client: &'c [u8]) -> Result<Verified<'c>, Fault> {
+        verify(&self.image, client)
+    }
+
+    /// Runs a client without input. What it told, and what it wrote.
+    pub(crate) fn run(
+        &mut self,
+        alloc: Global,
+        client: &Verified,
+    ) -> Result<(Report, Vec<u8>), Fault> {
+        let mut out = Through::new(unlimited(alloc));
+        let report = run(&mut self.image, client, b"", &mut out)?;
+        Ok((report, out.into_inner().bytes))
+    }
+}
+
+/// Sizes.
+impl Host {
+    pub(crate) fn size(&self) -> u32 {
+        self.image.size()
+    }
+
+    pub(crate) fn free_memory(&self) -> u32 {
+        self.image.free_memory()
+    }
+
+    pub(crate) fn largest_gap(&self) -> u32 {
+        self.image.largest_gap()
+    }
+
+    pub(crate) fn all_memory_deallocated(&self) -> bool {
+        self.image.all_memory_deallocated()
+    }
+
+    pub(crate) fn zero_free_memory(&mut self) {
+        self.image.zero_free_memory();
+    }
+
+    pub(crate) fn grow(&mut self, extra: u32) -> Result<u32, Fault> {
+        self.image.grow(extra)
+    }
+
+    pub(crate) fn shrink(&mut self) -> u32 {
+        self.image.shrink()
+    }
+}
+
+/// Objects.
+impl Host {
+    pub(crate) fn construct(&mut self, name: &[u8], t: TypeId, n: u32) -> Result<Place, Code> {
+        self.image.construct(name, t, n)
+    }
+
+    pub(crate) fn find_or_construct(&mut self, name: &[u8], t: TypeId) -> Result<Place, Code> {
+        self.image.find_or_construct(name, t)
+    }
+
+    pub(crate) fn find(&self, name: &[u8], t: TypeId) -> Result<Place, Code> {
+        self.image.find(name, t)
+    }
+
+    pub(crate) fn find_item(&self, name: &[u8], t: TypeId, index: u32) -> Result<Place, Code> {
+        self.image.find_item(name, t, index)
+    }
+
+    pub(crate) fn destroy(&mut self, name: &[u8], t: TypeId) -> bool {
+        self.image.destroy(name, t)
+    }
+
+    pub(crate) fn count(&self, name: &[u8], t: TypeId) -> Result<u16, Code> {
+        self.image.count(name, t)
+    }
+
+    pub(crate) fn num_named(&self) -> u32 {
+        self.image.num_named()
+    }
+
+    pub(crate) fn first_name(&self) -> Option<Named<'_>> {
+        self.image.first_name()
+    }
+
+    pub(crate) fn next_name(&self, after: &[u8]) -> Option<Named<'_>> {
+        self.image.next_name(after)
+    }
+
+    pub(crate) fn construct_unique(&mut self, t: TypeId) -> Result<Place, Code> {
+        self.image.construct_unique(t)
+    }
+
+    pub(crate) fn find_or_construct_unique(&mut self, t: TypeId) -> Result<Place, Code> {
+        self.image.find_or_construct_unique(t)
+    }
+
+    pub(crate) fn find_unique(&self, t: TypeId) -> Result<Place, Code> {
+        self.image.find_unique(t)
+    }
+
+    pub(crate) fn destroy_unique(&mut self, t: TypeId) -> bool {
+        self.image.destroy_unique(t)
+    }
+
+    pub(crate) fn num_unique(&self) -> usize {
+        self.image.num_unique()
+    }
+}
+
+/// Values.
+impl Host {
+    pub(crate) fn load(&self, place: Place) -> Result<i64, Code> {
+        self.image.load(place)
+    }
+
+    pub(crate) fn store(&mut self, place: Place, number: i64) -> Result<(), Code> {
+        self.image.store(place, number)
+    }
+
+    pub(crate) fn field(&self, place: Place, index: u32) -> Result<Place, Code> {
+        self.image.field(place, index)
+    }
+
+    pub(crate) fn clear(&mut self, place: Place) {
+        self.image.clear(place);
+    }
+
+    pub(crate) fn content(&self, own: Place) -> Result<Place, Code> {
+        self.image.content(own)
+    }
+
+    pub(crate) fn put_content(&mut self, own: Place) -> Result<Place, Code> {
+        self.image.put_content(own)
+    }
+
+    pub(crate) fn text(&self, place: Place) -> Result<&[u8], Code> {
+        self.image.text(place)
+    }
+
+    pub(crate) fn assign(&mut self, place: Place, bytes: &[u8]) -> Result<(), Code> {
+        self.image.assign(place, bytes)
+    }
+
+    pub(crate) fn append(&mut self, place: Place, bytes: &[u8]) -> Result<(), Code> {
+        self.image.append(place, bytes)
+    }
+}
+
+/// Containers.
+impl Host {
+    pub(crate) fn len(&self, place: Place) -> Result<u32, Code> {
+        self.image.len(place)
+    }
+
+    pub(crate) fn item(&self, place: Place, index: u32) -> Result<Place, Code> {
+        self.image.item(place, index)
+    }
+
+    pub(crate) fn push_back(&mut self, place: Place) -> Result<Place, Code> {
+        self.image.push_back(place)
+    }
+
+    pub(crate) fn push_front(&mut self, place: Place) -> Result<Place, Code> {
+        self.image.push_front(place)
+    }
+
+    pub(crate) fn pop_back(&mut self, place: Place) -> Result<(), Code> {
+        self.image.pop_back(place)
+    }
+
+    pub(crate) fn pop_front(&mut self, place: Place) -> Result<(), Code> {
+        self.image.pop_front(place)
+    }
+
+    pub(crate) fn get(&self, map: Place, key: i64) -> Result<Place, Code> {
+        self.image.get(map, key)
+    }
+
+    pub(crate) fn put(&mut self, map: Place, key: i64) -> Result<Place, Code> {
+        self.image.put(map, key)
+    }
+
+    pub(crate) fn remove(&mut self, map: Place, key: i64) -> bool {
+        self.image.remove(map, key)
+    }
+
+    pub(crate) fn first_key(&self, map: Place) -> Result<i64, Code> {
+        self.image.first_key(map)
+    }
+
+    pub(crate) fn next_key(&self, map: Place, after: i64) -> Result<i64, Code> {
+        self.image.next_key(map, after)
+    }
+}
+
+/// How many types a sound image has, or its fault.
+pub(crate) fn types_in(alloc: Global, bytes: &[u8]) -> Result<usize, Fault> {
+    Ok(check(alloc, bytes)?.len())
+}

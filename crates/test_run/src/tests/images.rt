@@ -1,0 +1,77 @@
+use crate::tests::door::{Host, types_in};
+use lezgauri::{AllocatorKind, Fault, IndexKind, MAX_LEN, Type};
+use std::process::Abort;
+use std::test::Fail;
+use support_data::{counter, counter_with, front};
+
+/// An image with a number that is 7, of 1024 bytes: the heap begins at 704 and has 320, all free before the object comes.
+fn made(rt: &(impl Abort + AllocGlobal), allocator: AllocatorKind) -> Result<Host, Fail> {
+    let mut image = Host::create(rt.alloc(), 1024, allocator, IndexKind::Flat)?;
+    assert_eq!(rt; image.free_memory(), 320);
+    assert!(rt; image.all_memory_deallocated());
+    image.add_types(&[Type::I64])?;
+    let seven = image.construct(b"seven", 0, 1)?;
+    image.store(seven, 7)?;
+    Ok(image)
+}
+
+/// An image keeps its objects where it grows, and is cut to what they take.
+fn changes_size(rt: &(impl Abort + AllocGlobal), allocator: AllocatorKind) -> Result<(), Fail> {
+    let mut image = made(rt, allocator)?;
+    let free = image.free_memory();
+    assert_eq!(rt; image.grow(24), Err(Fault::BadSize));
+    assert_eq!(rt; image.grow(MAX_LEN), Err(Fault::BadSize));
+    assert_eq!(rt; image.size(), 1024);
+    assert_eq!(rt; image.grow(4096), Ok(5120));
+    assert_eq!(rt; image.free_memory(), free.saturating_add(4096));
+    image.zero_free_memory();
+    assert_eq!(rt; image.shrink(), 1024u32.saturating_sub(free));
+    opens_again(rt, image)
+}
+
+/// An image without a gap, as it is opened anew: its number is 7, and it grows.
+fn opens_again(rt: &(impl Abort + AllocGlobal), image: Host) -> Result<(), Fail> {
+    assert_eq!(rt; image.largest_gap(), 0);
+    assert_eq!(rt; types_in(rt.alloc(), image.bytes()), Ok(1));
+    let mut again = Host::opened(rt.alloc(), image.into_bytes())?;
+    let seven = again.find(b"seven", 0)?;
+    assert_eq!(rt; again.load(seven), Ok(7));
+    assert!(rt; again.grow(16).is_ok());
+    Ok(())
+}
+
+#[test]
+fn an_image_changes_its_size(rt: HostRuntime) -> Result<(), Fail> {
+    changes_size(&rt, AllocatorKind::Seq)?;
+    changes_size(&rt, AllocatorKind::Best)
+}
+
+/// Bytes that are no image are refused, and come back.
+fn is_no_image(rt: &(impl Abort + AllocGlobal), faulty: &[u8]) -> Result<(), Fail> {
+    assert_eq!(rt; types_in(rt.alloc(), faulty), Err(Fault::BadHeader));
+    match Host::open(rt.alloc(), Vec::from_slice(rt.alloc(), faulty)?) {
+        Ok(_image) => Err(Fail::from("opened")),
+        Err((fault, bytes)) => {
+            assert_eq!(rt; fault, Fault::BadHeader);
+            assert_eq!(rt; bytes.as_slice(), faulty);
+            Ok(())
+        }
+    }
+}
+
+/// A version that isn't known, a cut image, and none.
+#[test]
+fn faulty_images_are_refused(rt: HostRuntime) -> Result<(), Fail> {
+    let image = counter(rt.alloc())?;
+    is_no_image(&rt, counter_with(rt.alloc(), &[(8, 2)])?.as_slice())?;
+    is_no_image(&rt, front(image.as_slice(), 768))?;
+    is_no_image(&rt, b"")
+}
+
+#[test]
+fn no_segment_has_other_sizes(rt: HostRuntime) {
+    for size in [0, 720, 1000, MAX_LEN.saturating_add(16)] {
+        let image = Host::create(rt.alloc(), size, AllocatorKind::Seq, IndexKind::Tree);
+        assert_eq!(rt; image.err(), Some(Fault::BadSize));
+    }
+}

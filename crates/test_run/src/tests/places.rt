@@ -1,0 +1,211 @@
+//! Where a segment lies in its host's memory, and how it moves.
+
+use crate::tests::containers::{FIVE_TEXTS, PRINT_TEXTS};
+use crate::tests::runs::{
+    KINDS, PLAIN, Ran, SEQ_FLAT, Setting, empty, leaves, outcome_of, run_files, run_in, verified,
+};
+use crate::tests::windows::{opened, placed};
+use client_vm::{Ended, Move, Through, moves_fit, run};
+use seg_manager::Segment;
+use seg_raw::{Fault, Region};
+use seg_seqfit::SeqFit;
+use std::alloc::Global;
+use std::process::Abort;
+use std::test::Fail;
+use support_data::{INCREMENT_FILE, Limited, chain, counter, counter_with};
+
+/// The bytes of the host, all of them 0xa5 but for the segment.
+const ROOM: u32 = 8192;
+
+/// The counter's segment at a base of a host.
+fn counter_at(alloc: Global, base: u32) -> Result<Segment<SeqFit, Global>, Fail> {
+    let image = counter(alloc)?;
+    let mut region = Region::new(alloc, ROOM)?;
+    region.fill(0, ROOM as usize, 0xa5);
+    Ok(opened::<SeqFit>(alloc, placed(region, base, image.as_slice())?)?)
+}
+
+/// Whether all bytes are those that the host had.
+fn is_untouched(bytes: &[u8]) -> bool {
+    bytes.iter().all(|byte| *byte == 0xa5)
+}
+
+/// Runs the increment client on a segment with moves.
+fn increment(
+    rt: &(impl Abort + AllocGlobal),
+    segment: &mut Segment<SeqFit, Global>,
+    moves: &[Move],
+) -> Result<(), Fail> {
+    let client = verified(&INCREMENT_FILE, segment.types())?;
+    let mut out = Through::new(Limited::new(rt.alloc(), 1, usize::MAX));
+    let report = run(segment, &client, b"", moves, &mut out);
+    assert_eq!(rt; report.steps, 6);
+    assert!(rt; report.ended == Ended::Done);
+    assert_eq!(rt; out.into_inner().bytes.as_slice(), b"42\n".as_slice());
+    Ok(())
+}
+
+/// Runs the increment client on the counter at a base with moves. Returns the host's bytes.
+fn increments(
+    rt: &(impl Abort + AllocGlobal),
+    base: u32,
+    moves: &[Move],
+) -> Result<Region<Global>, Fail> {
+    let mut segment = counter_at(rt.alloc(), base)?;
+    assert_eq!(rt; moves_fit(&segment, moves), None);
+    increment(rt, &mut segment, moves)?;
+    let saved = counter_with(rt.alloc(), &[(720, 42)])?;
+    assert_eq!(rt; segment.window().slice(0, 784), saved.as_slice());
+    Ok(segment.into_region())
+}
+
+/// Whether the bytes of a region in a range are those that the host had.
+fn keeps(region: &Region<Global>, from: u32, to: u32) -> bool {
+    from <= to
+        && to <= region.len()
+        && is_untouched(region.slice(from as usize, (to - from) as usize))
+}
+
+/// Where a segment doesn't lie, its host's bytes stay.
+#[test]
+fn host_bytes_stay(rt: HostRuntime) -> Result<(), Fail> {
+    for base in [0u32, 16, 4096, 7408] {
+        let region = increments(&rt, base, &[])?;
+        assert!(rt; keeps(&region, 0, base) && keeps(&region, base.saturating_add(784), ROOM));
+    }
+    Ok(())
+}
+
+fn before(step: u64, base: u32) -> Move {
+    Move { step, base }
+}
+
+/// Moves right before each of so many steps, to two bases in turn.
+fn moves_between(alloc: Global, steps: u64, odd: u32, even: u32) -> Result<Vec<Move>, Fail> {
+    let mut moves = Vec::new(alloc);
+    for step in 1..=steps {
+        let base = if step % 2 == 0 { even } else { odd };
+        moves.push(Move { step, base })?;
+    }
+    Ok(moves)
+}
+
+/// Moved before each step between two places, it leaves all bytes outside these.
+#[test]
+fn host_bytes_stay_where_it_moves(rt: HostRuntime) -> Result<(), Fail> {
+    let moves = moves_between(rt.alloc(), 6, 4096, 0)?;
+    let region = increments(&rt, 0, moves.as_slice())?;
+    assert!(rt; keeps(&region, 784, 4096) && keeps(&region, 4880, ROOM));
+    Ok(())
+}
+
+/// Where it was before its only move, it leaves the image as it was then.
+#[test]
+fn an_image_stays_where_it_was(rt: HostRuntime) -> Result<(), Fail> {
+    let region = increments(&rt, 0, &[before(5, 4096)])?;
+    assert_eq!(rt; region.len(), ROOM);
+    assert_eq!(rt; region.slice(0, 784), counter(rt.alloc())?.as_slice());
+    Ok(())
+}
+
+/// The first move that doesn't fit: its step isn't above the one before, or its base isn't one.
+#[test]
+fn moves_that_do_not_fit(rt: HostRuntime) -> Result<(), Fail> {
+    let segment = counter_at(rt.alloc(), 0)?;
+    let fits = before(2, 16);
+    assert_eq!(rt; moves_fit(&segment, &[fits, before(3, 7408)]), None);
+    for second in [before(2, 0), before(3, 8), before(3, 7424)] {
+        assert_eq!(rt; moves_fit(&segment, &[fits, second]), Some(1));
+    }
+    assert_eq!(rt; moves_fit(&segment, &[before(0, 0)]), Some(0));
+    Ok(())
+}
+
+/// A run with these moves is refused for the one with this index.
+fn refuses_move(rt: &(impl Abort + AllocGlobal), moves: &[Move], bad: u32) -> Result<(), Fail> {
+    let image = counter(rt.alloc())?;
+    let setting = Setting {
+        room: 800,
+        moves,
+        ..PLAIN
+    };
+    match outcome_of(rt.alloc(), image.as_slice(), &[], setting) {
+        Ok(_ran) => Err(Fail::from("ran")),
+        Err(refused) => {
+            assert!(rt; refused.fault == Fault::BadMove(bad));
+            assert!(rt; refused.client.is_none());
+            Ok(())
+        }
+    }
+}
+
+#[test]
+fn refuses_moves(rt: HostRuntime) -> Result<(), Fail> {
+    refuses_move(&rt, &[before(2, 0), before(2, 0)], 1)?;
+    refuses_move(&rt, &[before(0, 0), before(2, 0)], 0)?;
+    refuses_move(&rt, &[before(1, 16), before(3, 32)], 1)?;
+    refuses_move(&rt, &[before(1, 8), before(2, 0)], 0)
+}
+
+/// A move before each step of each client, to 4096 and to 0 in turn.
+#[test]
+fn runs_alike_where_it_moves(rt: HostRuntime) -> Result<(), Fail> {
+    let image = counter(rt.alloc())?;
+    let moves = moves_between(rt.alloc(), 6, 4096, 0)?;
+    let setting = Setting {
+        room: ROOM,
+        moves: moves.as_slice(),
+        ..PLAIN
+    };
+    let clients = [INCREMENT_FILE.as_slice(), INCREMENT_FILE.as_slice()];
+    let ran = run_files(rt.alloc(), image.as_slice(), clients.as_slice(), setting)?;
+    assert_eq!(rt; ran.out.as_slice(), b"42\n43\n".as_slice());
+    let saved = counter_with(rt.alloc(), &[(720, 43)])?;
+    assert_eq!(rt; ran.image.as_slice(), saved.as_slice());
+    Ok(())
+}
+
+/// A run with a setting, which prints, saves and reports what one without it does.
+fn runs_alike(
+    rt: &(impl Abort + AllocGlobal),
+    image: &[u8],
+    texts: &[&str],
+    setting: Setting,
+) -> Result<Ran, Fail> {
+    let still = run_in(rt.alloc(), image, texts, PLAIN)?;
+    let ran = run_in(rt.alloc(), image, texts, setting)?;
+    assert_eq!(rt; ran.out.as_slice(), still.out.as_slice());
+    assert_eq!(rt; ran.image.as_slice(), still.image.as_slice());
+    assert!(rt; ran.reports == still.reports);
+    Ok(ran)
+}
+
+/// Another base, and moves right before each step, change nothing of what is printed and saved.
+#[test]
+fn runs_alike_wherever_it_lies(rt: HostRuntime) -> Result<(), Fail> {
+    let moves = moves_between(rt.alloc(), 200, 272, 0)?;
+    let moves = moves.as_slice();
+    for kind in KINDS {
+        let image = empty(rt.alloc(), 1024, kind)?;
+        let texts = [FIVE_TEXTS, PRINT_TEXTS];
+        for base in [16, 65_536] {
+            let _ = runs_alike(&rt, image.as_slice(), &texts, Setting { base, ..PLAIN })?;
+        }
+        let _ = runs_alike(&rt, image.as_slice(), &texts, Setting { moves, ..PLAIN })?;
+    }
+    Ok(())
+}
+
+/// The chain is made and destroyed while it moves before each step.
+#[test]
+fn a_chain_that_moves(rt: HostRuntime) -> Result<(), Fail> {
+    let text = chain(rt.alloc(), 2_000)?;
+    let moves = moves_between(rt.alloc(), 16_004, 65_536, 48)?;
+    let image = empty(rt.alloc(), 1 << 17, SEQ_FLAT)?;
+    let setting = Setting {
+        moves: moves.as_slice(),
+        ..PLAIN
+    };
+    let ran = runs_alike(&rt, image.as_slice(), &[text.as_str()], setting)?;
+    leaves(&rt, &ran, "", 131_072 - 704, 0)
+}

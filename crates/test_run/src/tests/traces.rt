@@ -1,0 +1,198 @@
+//! Traces, whose lines are worked out by hand from what instructions do.
+
+use crate::tests::runs::{client, created, verified};
+use client_trace::{Untraced, trace};
+use client_vm::Through;
+use seg_manager::IndexKind;
+use seg_seqfit::SeqFit;
+use std::alloc::Global;
+use std::process::Abort;
+use std::test::Fail;
+use support_data::Limited;
+
+/// A vector gets a struct, whose field gets the numbers 2 and 1 in a loop; it has no item 1. Then an object comes and goes.
+const STORES: &str = r"type i64
+type vec t2
+type struct t0 t0
+name vector
+text no item\0a
+FINDOR r0 - t1 k0
+  PUSH r1 r0
+    FIELD r2 r1 1
+    CONST r3 2
+    CONST r4 1
+    WHILE r3 5
+      STORE r2 r3
+      SUB r3 r3 r4
+    END
+    LOAD r5 r2
+    OUTI r5
+    AT r6 r0 r4
+    ELSE
+      OUTC k1
+    END
+  ELSE
+  END
+ELSE
+END
+NEW r7 t2
+  REF r8 r7
+  FIELD r9 r8 0
+  DROP r7
+ELSE
+END
+";
+
+/// Its steps: the loop begins, makes two turns of three steps, and ends by an `END` that is no step.
+const STORES_TRACE: &str = r#"     1    0  FINDOR r0 - t1 k0  ; r0 -> vector
+     2    1  PUSH r1 r0         ; r0 -> vector, r1 -> vector[0]
+     3    2  FIELD r2 r1 1      ; r0 -> vector, r1 -> vector[0], r2 -> vector[0].field 1
+     4    3  CONST r3 2         ; r0 -> vector, r1 -> vector[0], r2 -> vector[0].field 1, r3 = 2
+     5    4  CONST r4 1         ; r0 -> vector, r1 -> vector[0], r2 -> vector[0].field 1, r3 = 2, r4 = 1
+     6    5  WHILE r3 5         ; r0 -> vector, r1 -> vector[0], r2 -> vector[0].field 1, r3 = 2, r4 = 1
+     7    8  END                ; r0 -> vector, r1 -> vector[0], r2 -> vector[0].field 1, r3 = 2, r4 = 1
+     8    6  STORE r2 r3        ; r0 -> vector, r1 -> vector[0], r2 -> vector[0].field 1, r3 = 2, r4 = 1
+     9    7  SUB r3 r3 r4       ; r0 -> vector, r1 -> vector[0], r2 -> vector[0].field 1, r3 = 1, r4 = 1
+    10    8  END                ; r0 -> vector, r1 -> vector[0], r2 -> vector[0].field 1, r3 = 1, r4 = 1
+    11    6  STORE r2 r3        ; r0 -> vector, r1 -> vector[0], r2 -> vector[0].field 1, r3 = 1, r4 = 1
+    12    7  SUB r3 r3 r4       ; r0 -> vector, r1 -> vector[0], r2 -> vector[0].field 1, r3 = 0, r4 = 1
+     -    8  END                ; r0 -> vector, r1 -> vector[0], r2 -> vector[0].field 1, r3 = 0, r4 = 1
+    13    9  LOAD r5 r2         ; r0 -> vector, r1 -> vector[0], r2 -> vector[0].field 1, r3 = 0, r4 = 1, r5 = 1
+    14   10  OUTI r5            ; r0 -> vector, r1 -> vector[0], r2 -> vector[0].field 1, r3 = 0, r4 = 1, r5 = 1
+out "1\n"
+    15   11  AT r6 r0 r4        ; r0 -> vector, r1 -> vector[0], r2 -> vector[0].field 1, r3 = 0, r4 = 1, r5 = 1, r6 = 5
+    16   13  OUTC k1
+out "no item\n"
+    17   19  NEW r7 t2          ; r7 owns t2
+    18   20  REF r8 r7          ; r7 owns t2, r8 -> r7.content
+    19   21  FIELD r9 r8 0      ; r7 owns t2, r8 -> r7.content, r9 -> r7.content.field 0
+    20   22  DROP r7
+"#;
+
+/// A unique map gets an own, which gets an object; a family's list gets items at both ends, and is found.
+const REFERS: &str = "type i64
+type map t2
+type own t0
+type list t0
+family row
+CONST r0 0
+CONST r1 -3
+UMAKE r2 t1
+  PUTK r3 r2 r1
+    NEW r4 t0
+      PUT r3 r4
+      CONTENT r4 r3
+      ELSE
+      END
+    ELSE
+    END
+  ELSE
+  END
+ELSE
+END
+MAKE r5 r1 - t3 k0
+  PUSH r6 r5
+    PUSHF r6 r5
+    ELSE
+    END
+  ELSE
+  END
+  FIND r6 r1 r0 t3 k0
+    MOV r7 r6
+  ELSE
+  END
+ELSE
+END
+";
+
+/// What is known in one part of an opener alone isn't known after it.
+const REFERS_TRACE: &str = r"     1    0  CONST r0 0           ; r0 = 0
+     2    1  CONST r1 -3          ; r0 = 0, r1 = -3
+     3    2  UMAKE r2 t1          ; r0 = 0, r1 = -3, r2 -> unique t1
+     4    3  PUTK r3 r2 r1        ; r0 = 0, r1 = -3, r2 -> unique t1, r3 -> unique t1.key -3
+     5    4  NEW r4 t0            ; r0 = 0, r1 = -3, r2 -> unique t1, r3 -> unique t1.key -3, r4 owns t0
+     6    5  PUT r3 r4            ; r0 = 0, r1 = -3, r3 -> unique t1.key -3
+     7    6  CONTENT r4 r3        ; r0 = 0, r1 = -3
+     8   15  MAKE r5 r1 - t3 k0   ; r0 = 0, r1 = -3, r5 -> row#-3
+     9   16  PUSH r6 r5           ; r0 = 0, r1 = -3, r5 -> row#-3, r6 -> row#-3[0]
+    10   17  PUSHF r6 r5          ; r0 = 0, r1 = -3, r5 -> row#-3
+    11   22  FIND r6 r1 r0 t3 k0  ; r0 = 0, r1 = -3, r5 -> row#-3, r6 -> row#-3.value 0
+    12   23  MOV r7 r6            ; r0 = 0, r1 = -3
+";
+
+/// A chain gets five objects, each of which owns the next, and a text of 61 bytes is printed.
+const CHAIN: &str = "type i64
+type own t2
+type struct t0 t1
+name chain
+text 0123456789012345678901234567890123456789012345678901234567890
+FINDOR r0 - t1 k0
+  CONST r1 1
+  WHILE r1 5
+    NEW r2 t2
+      PUT r0 r2
+      CONTENT r3 r0
+        FIELD r0 r3 1
+      ELSE
+      END
+    ELSE
+    END
+  END
+  OUTC k1
+ELSE
+END
+";
+
+/// Three steps stand in front of five turns of five; the path to the last own has ten parts.
+const CHAIN_END: &str = r#"
+     -   11  END                ; r0 -> chain.(2 parts).content.field 1.content.field 1.content.field 1.content.field 1, r1 = 1
+    29   12  OUTC k1
+out "012345678901234567890123456789012345678901234567890123456789".. of 61
+"#;
+
+/// The trace of the client that a text spells on an empty segment, of which the output takes so many bytes, and how it ended.
+fn traced(
+    alloc: Global,
+    text: &str,
+    limit: usize,
+) -> Result<(Vec<u8>, Result<(), Untraced>), Fail> {
+    let file = client(alloc, text)?;
+    let mut segment = created::<SeqFit>(alloc, 2048, IndexKind::Flat)?;
+    let accepted = verified(file.as_slice(), segment.types())?;
+    let mut out = Through::new(Limited::new(alloc, usize::MAX, limit));
+    let ended = trace(alloc, &mut segment, &accepted, &[], &mut out);
+    Ok((out.into_inner().bytes, ended))
+}
+
+fn traces(rt: &(impl Abort + AllocGlobal), text: &str, lines: &str) -> Result<(), Fail> {
+    let (out, ended) = traced(rt.alloc(), text, usize::MAX)?;
+    assert_eq!(rt; out.as_slice(), lines.as_bytes());
+    assert!(rt; ended == Ok(()));
+    Ok(())
+}
+
+#[test]
+fn traces_steps_and_output(rt: HostRuntime) -> Result<(), Fail> {
+    traces(&rt, STORES, STORES_TRACE)
+}
+
+#[test]
+fn traces_references(rt: HostRuntime) -> Result<(), Fail> {
+    traces(&rt, REFERS, REFERS_TRACE)
+}
+
+#[test]
+fn cuts_long_paths_and_output(rt: HostRuntime) -> Result<(), Fail> {
+    let (out, _) = traced(rt.alloc(), CHAIN, usize::MAX)?;
+    assert!(rt; out.as_slice().ends_with(CHAIN_END.as_bytes()));
+    Ok(())
+}
+
+/// The output takes a front of the trace, and ends it.
+#[test]
+fn ends_at_an_output_that_fails(rt: HostRuntime) -> Result<(), Fail> {
+    let (out, ended) = traced(rt.alloc(), STORES, 100)?;
+    assert_eq!(rt; out.as_slice(), &STORES_TRACE.as_bytes()[..100]);
+    assert!(rt; ended == Err(Untraced::OutputFailed));
+    Ok(())
+}

@@ -1,0 +1,352 @@
+use crate::tests::files::{Stored, counter_file, refuses, run, says};
+use crate::tests::runs::client;
+use std::alloc::Global;
+use std::test::Fail;
+use support_data::counter;
+
+/// Makes an object with a value of each type, three numbers, and a unique object.
+const EVERY_TYPE: &str = "type i64
+    type str
+    type vec t0
+    type list t1
+    type flat_map t0
+    type map t1
+    type own t0
+    type struct t0 t1 t2 t3 t4 t5 t6 t6
+    name every
+    name few
+text a \"b\"\\0a
+    CONST r1 7
+    CONST r2 -7
+    CONST r3 3
+    MAKE r0 - - t7 k0
+      FIELD r4 r0 0
+      STORE r4 r2
+      FIELD r4 r0 1
+      SETS r5 r4 k2
+      ELSE
+      END
+      FIELD r4 r0 2
+      PUSH r5 r4
+        STORE r5 r1
+      ELSE
+      END
+      PUSH r5 r4
+      ELSE
+      END
+    ELSE
+    END
+    FIND r0 - - t7 k0
+      FIELD r4 r0 3
+      PUSH r5 r4
+      ELSE
+      END
+    ELSE
+    END
+    FIND r0 - - t7 k0
+      FIELD r4 r0 4
+      PUTK r5 r4 r1
+        STORE r5 r2
+      ELSE
+      END
+    ELSE
+    END
+    FIND r0 - - t7 k0
+      FIELD r4 r0 5
+      PUTK r5 r4 r2
+      ELSE
+      END
+    ELSE
+    END
+    FIND r0 - - t7 k0
+      FIELD r4 r0 6
+      NEW r5 t0
+        PUT r4 r5
+      ELSE
+      END
+    ELSE
+    END
+    MAKE r0 - r3 t0 k1
+      STORE r0 r1
+    ELSE
+    END
+    UMAKE r0 t2
+    ELSE
+    END";
+
+const EVERY: &str = "every: struct
+  field 0: -7
+  field 1: \"a \\\"b\\\"\\n\"
+  field 2: vector of 2
+    [0]: 7
+    [1]: 0
+  field 3: list of 1
+    [0]: \"\"
+  field 4: flat map of 1
+    7: -7
+  field 5: map of 1
+    -7: \"\"
+  field 6: an object
+    content: 0
+  field 7: nothing
+";
+
+const FEW: &str = "few[0]: 7
+few[1]: 0
+few[2]: 0
+";
+
+/// An image on which a client ran.
+fn after(alloc: Global, allocator: &str, index: &str, text: &str) -> Result<Stored, Fail> {
+    let mut files = Stored::new(alloc);
+    files.add("client", client(alloc, text)?.as_slice())?;
+    let words = ["segtool", "new", "saved", "8192", allocator, index];
+    let _ = run(alloc, &words, &mut files);
+    let words = ["segtool", "run", "saved", "saved", "client"];
+    let _ = run(alloc, &words, &mut files);
+    Ok(files)
+}
+
+/// All objects, one with a name, and a name that no object has.
+#[test]
+fn shows_values_of_each_type(rt: HostRuntime) -> Result<(), Fail> {
+    for (allocator, index) in [("seq", "flat"), ("best", "tree")] {
+        let mut files = after(rt.alloc(), allocator, index, EVERY_TYPE)?;
+        let all = format!(in rt.alloc(); "{EVERY}{FEW}unique t2: vector of 0\n")?;
+        says(&rt, &mut files, &["segtool", "show", "saved"], all.as_str());
+        says(&rt, &mut files, &["segtool", "show", "saved", "few"], FEW);
+        refuses(
+            &rt,
+            &mut files,
+            &["segtool", "show", "saved", "none"],
+            1,
+            "absent none\n",
+        );
+    }
+    Ok(())
+}
+
+/// Pushes 22 numbers, the first of which is 1, and adds 62 bytes to a text.
+const LONG: &str = "type i64
+    type str
+    type vec t0
+    name text
+    name items
+text x
+    CONST r1 1
+    CONST r3 62
+    CONST r4 22
+    MAKE r0 - - t1 k0
+      WHILE r3 62
+        ADDS r2 r0 k2
+        ELSE
+        END
+        SUB r3 r3 r1
+      END
+    ELSE
+    END
+    MAKE r0 - - t2 k1
+      WHILE r4 22
+        PUSH r2 r0
+          STORE r2 r1
+        ELSE
+        END
+        CONST r1 0
+        LEN r2 r0
+        CONST r3 22
+        SUB r4 r3 r2
+      END
+    ELSE
+    END";
+
+/// What is long is cut, and `--all` leaves nothing out.
+#[test]
+fn cuts_what_is_long(rt: HostRuntime) -> Result<(), Fail> {
+    let mut files = after(rt.alloc(), "best", "flat", LONG)?;
+    let mut items = String::new(rt.alloc());
+    for index in 1..20u32 {
+        write!(items, "  [{index}]: 0\n")?;
+    }
+    let bytes = "x".repeat(rt.alloc(), 60)?;
+    let cut = format!(in rt.alloc();
+        "items: vector of 22\n  [0]: 1\n{items}  and 2 more\ntext: \"{bytes}\".. of 62\n"
+    )?;
+    says(&rt, &mut files, &["segtool", "show", "saved"], cut.as_str());
+    let whole = format!(in rt.alloc();
+        "items: vector of 22\n  [0]: 1\n{items}  [20]: 0\n  [21]: 0\ntext: \"{bytes}xx\"\n"
+    )?;
+    says(
+        &rt,
+        &mut files,
+        &["segtool", "show", "saved", "--all"],
+        whole.as_str(),
+    );
+    Ok(())
+}
+
+/// Twelve objects, each of which owns the one before, under a name.
+const CHAIN: &str = "type i64
+    type own t2
+    type struct t0 t1
+    name chain
+    CONST r0 12
+    CONST r1 1
+    FINDOR r2 - t1 k0
+      WHILE r0 12
+        NEW r3 t2
+          REF r4 r3
+          FIELD r5 r4 1
+          TAKE r6 r2
+            PUT r5 r6
+          ELSE
+          END
+          PUT r2 r3
+        ELSE
+        END
+        SUB r0 r0 r1
+      END
+    ELSE
+    END";
+
+/// A line at a level: indented up to level 20, with its number after that.
+fn line(lines: &mut String, level: usize, text: &str) -> Result<(), Fail> {
+    for _ in 0..level.min(20) {
+        lines.push_str("  ")?;
+    }
+    if level > 20 {
+        write!(lines, "({level}) ")?;
+    }
+    lines.push_str(text)?;
+    Ok(lines.push('\n')?)
+}
+
+/// The lines of the first so many objects of the chain.
+fn chain_lines(alloc: Global, objects: usize) -> Result<String, Fail> {
+    let mut lines = String::new(alloc);
+    line(&mut lines, 0, "chain: an object")?;
+    for object in 0..objects {
+        let level = object.saturating_mul(2);
+        line(&mut lines, level.saturating_add(1), "content: struct")?;
+        line(&mut lines, level.saturating_add(2), "field 0: 0")?;
+        let owns = if object == 11 {
+            "field 1: nothing"
+        } else {
+            "field 1: an object"
+        };
+        line(&mut lines, level.saturating_add(2), owns)?;
+    }
+    Ok(lines)
+}
+
+/// Values inside others are shown down to level 10, and all with `--all`.
+#[test]
+fn cuts_what_is_deep(rt: HostRuntime) -> Result<(), Fail> {
+    let mut files = after(rt.alloc(), "seq", "tree", CHAIN)?;
+    let mut cut = chain_lines(rt.alloc(), 5)?;
+    line(&mut cut, 11, "and 1 more")?;
+    says(&rt, &mut files, &["segtool", "show", "saved"], cut.as_str());
+    let whole = chain_lines(rt.alloc(), 12)?;
+    says(
+        &rt,
+        &mut files,
+        &["segtool", "show", "saved", "--all"],
+        whole.as_str(),
+    );
+    Ok(())
+}
+
+/// A client that makes 100 values, each of 30 structs in one another around a number.
+fn nested(alloc: Global) -> Result<String, Fail> {
+    let mut text = String::new(alloc);
+    text.push_str("type i64\n")?;
+    for inner in 0..30u32 {
+        write!(text, "type struct t{inner}\n")?;
+    }
+    text.push_str("name n\nCONST r1 100\nMAKE r0 - r1 t30 k0\nELSE\nEND\n")?;
+    Ok(text)
+}
+
+/// Structs in structs take no bytes of their own, and all are shown.
+#[test]
+fn shows_structs_in_structs(rt: HostRuntime) -> Result<(), Fail> {
+    let mut value = String::new(rt.alloc());
+    for level in 1..30 {
+        line(&mut value, level, "field 0: struct")?;
+    }
+    line(&mut value, 30, "field 0: 0")?;
+    let mut whole = String::new(rt.alloc());
+    for index in 0..100u32 {
+        write!(whole, "n[{index}]: struct\n{value}")?;
+    }
+    let mut files = after(rt.alloc(), "seq", "flat", nested(rt.alloc())?.as_str())?;
+    says(
+        &rt,
+        &mut files,
+        &["segtool", "show", "saved", "n", "--all"],
+        whole.as_str(),
+    );
+    Ok(())
+}
+
+/// A faulty image is not shown, and its fault is told.
+#[test]
+fn shows_no_faulty_image(rt: HostRuntime) -> Result<(), Fail> {
+    let mut image = counter(rt.alloc())?;
+    if let Some(byte) = image.get_mut(8) {
+        *byte = 2;
+    }
+    for words in [
+        ["segtool", "show", "image"].as_slice(),
+        &["segtool", "show", "image", "x", "--all"],
+        &["segtool", "map", "image"],
+        &["segtool", "map", "image", "--svg", "saved"],
+    ] {
+        let mut files = Stored::new(rt.alloc());
+        files.add("image", image.as_slice())?;
+        refuses(&rt, &mut files, words, 1, "fault 10\n");
+        assert!(rt; !files.has("saved"));
+    }
+    Ok(())
+}
+
+/// The blocks of the counter: the number with its name, and the entries of the flat index. Then those of an empty segment.
+#[test]
+fn maps_blocks(rt: HostRuntime) -> Result<(), Fail> {
+    let mut files = counter_file(rt.alloc(), "saved")?;
+    let blocks = "704 2 ##################### object of x
+736 3 ################################ index
+";
+    says(&rt, &mut files, &["segtool", "map", "saved"], blocks);
+    let words = ["segtool", "new", "saved", "1024", "seq", "flat"];
+    let _ = run(rt.alloc(), &words, &mut files);
+    says(
+        &rt,
+        &mut files,
+        &["segtool", "map", "saved"],
+        "704 20 ................................ gap\n",
+    );
+    Ok(())
+}
+
+/// The picture of the counter: a row of two cells for the number and three for the index.
+const PICTURE: &str =
+    "<svg xmlns=\"http://www.w3.org/2000/svg\" viewBox=\"0 0 1024 52\" font-family=\"sans-serif\" font-size=\"14\">
+<rect x=\"0\" y=\"8\" width=\"16\" height=\"16\" fill=\"#0072b2\"/><text x=\"20\" y=\"21\">object</text>
+<rect x=\"90\" y=\"8\" width=\"16\" height=\"16\" fill=\"#56b4e9\"/><text x=\"110\" y=\"21\">buffer</text>
+<rect x=\"180\" y=\"8\" width=\"16\" height=\"16\" fill=\"#009e73\"/><text x=\"200\" y=\"21\">node</text>
+<rect x=\"270\" y=\"8\" width=\"16\" height=\"16\" fill=\"#e69f00\"/><text x=\"290\" y=\"21\">index</text>
+<rect x=\"360\" y=\"8\" width=\"16\" height=\"16\" fill=\"#e8e8e8\"/><text x=\"380\" y=\"21\">gap</text>
+<text x=\"450\" y=\"21\">a cell: 16 bytes</text>
+<rect x=\"0\" y=\"40\" width=\"15\" height=\"11\" fill=\"#0072b2\"/>
+<rect x=\"16\" y=\"40\" width=\"23\" height=\"11\" fill=\"#e69f00\"/>
+</svg>
+";
+
+#[test]
+fn draws_a_picture(rt: HostRuntime) -> Result<(), Fail> {
+    let mut files = counter_file(rt.alloc(), "image")?;
+    let words = ["segtool", "map", "image", "--svg", "saved"];
+    says(&rt, &mut files, &words, "");
+    assert_eq!(rt; files.get("saved"), PICTURE.as_bytes());
+    Ok(())
+}

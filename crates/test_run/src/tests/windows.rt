@@ -1,0 +1,41 @@
+//! Images in windows, and the segments that are opened there.
+
+use seg_block::Fit;
+use seg_manager::Segment;
+use seg_open::open;
+use seg_ptr::Window;
+use seg_raw::{Fault, Region};
+use std::alloc::Global;
+
+/// An image at a base of a region.
+pub(crate) fn placed(
+    region: Region<Global>,
+    base: u32,
+    image: &[u8],
+) -> Result<Window<Global>, Fault> {
+    let len = u32::try_from(image.len()).map_err(|_| Fault::BadHeader)?;
+    match Window::place(region, base, len) {
+        Ok(mut window) => {
+            window.copy_in(0, image);
+            Ok(window)
+        }
+        Err((fault, _region)) => Err(fault),
+    }
+}
+
+/// An image of at most 2 MiB in a region of its own.
+pub(crate) fn window(alloc: Global, image: &[u8]) -> Result<Window<Global>, Fault> {
+    let len = u32::try_from(image.len()).map_err(|_| Fault::BadHeader)?;
+    placed(Region::new(alloc, len.min(1 << 21))?, 0, image)
+}
+
+/// The segment in a window, if it is sound and on this allocator.
+pub(crate) fn opened<F: Fit>(
+    alloc: Global,
+    window: Window<Global>,
+) -> Result<Segment<F, Global>, Fault> {
+    match open::<F, Global, Global>(alloc, window) {
+        Ok(segment) => Ok(segment),
+        Err((fault, _window)) => Err(fault),
+    }
+}

@@ -1,0 +1,191 @@
+//! The checker on two small images: each of their bytes changed to each other value, and each cut.
+
+use crate::tests::image::{BUFFER, Image, NAMED};
+use crate::tests::support::{I64, STR};
+use seg_raw::Fault;
+use std::alloc::Global;
+use std::process::Abort;
+use std::test::Fail;
+
+/// The number 41, named x: its object is at 704, the buffer of the index at 736.
+fn counter(alloc: Global) -> Result<Image, Fail> {
+    let mut image = Image::new(alloc, &[I64])?;
+    let object = image.add(NAMED, 0, 2);
+    image.write(&[(object, 41), (728, u32::from(b'x'))]);
+    image.add_entry(3, object, 0x0001_0001);
+    Ok(image)
+}
+
+/// The text hi, named s: its object is at 704, the buffer of the index at 736, its own buffer at 784.
+fn greeting(alloc: Global) -> Result<Image, Fail> {
+    let mut image = Image::new(alloc, &[STR])?;
+    let object = image.add(NAMED, 0, 2);
+    image.write(&[(728, u32::from(b's'))]);
+    image.add_entry(3, object, 0x0001_0001);
+    let text = image.add(BUFFER, 0, 2);
+    image.w.copy_in(text as usize, b"hi");
+    image.cell(object, Some(text), 2);
+    Ok(image)
+}
+
+/// How many changes of one byte had each answer.
+#[derive(Debug, Clone, Copy, PartialEq, Eq, Default)]
+struct Answers {
+    accepted: u32,
+    header: u32,
+    types: u32,
+    block: u32,
+    free: u32,
+    index: u32,
+    pointer: u32,
+    other: u32,
+}
+
+impl Answers {
+    fn count(&mut self, fault: Option<Fault>) {
+        let answer = match fault {
+            None => &mut self.accepted,
+            Some(Fault::BadHeader) => &mut self.header,
+            Some(Fault::BadType(_)) => &mut self.types,
+            Some(Fault::BadBlock(_)) => &mut self.block,
+            Some(Fault::BadFree(_)) => &mut self.free,
+            Some(Fault::BadIndex(_)) => &mut self.index,
+            Some(Fault::BadPointer(_)) => &mut self.pointer,
+            Some(_) => &mut self.other,
+        };
+        *answer = answer.saturating_add(1);
+    }
+}
+
+/// Changes each byte to each other value, and tests that those changes are accepted of which a rule says so.
+fn change_each<F: Fn(usize, u8) -> bool>(
+    rt: &(impl Abort + AllocGlobal),
+    image: &mut Image,
+    is_harmless: F,
+) -> Answers
+    requires { F.IsAlwaysCallable is_harmless }
+{
+    let mut answers = Answers::default();
+    for at in 0..image.w.len() as usize {
+        let old = image.w.get8(at);
+        for byte in 0..=255u8 {
+            if byte != old {
+                image.w.put8(at, byte);
+                let fault = image.fault(rt.alloc());
+                assert_eq!(rt; fault.is_none(), is_harmless(at, byte), "{byte} at {at}");
+                answers.count(fault);
+            }
+        }
+        image.w.put8(at, old);
+    }
+    answers
+}
+
+/// Whether an image with one name of one letter means the same kind of thing with this byte: another allocator, for there
+/// is no free block; a further type without parts; another letter that can be printed; what the object and the index
+/// don't use.
+fn is_harmless_beside_one_name(at: usize, byte: u8) -> bool {
+    match at {
+        16 => byte == 1,
+        80 => byte == 1 || byte == 2,
+        728 => (0x21..=0x7e).contains(&byte),
+        729..736 | 760..784 => true,
+        _ => false,
+    }
+}
+
+/// The number, and what goes for each name.
+fn is_harmless_in_the_counter(at: usize, byte: u8) -> bool {
+    (720..728).contains(&at) || is_harmless_beside_one_name(at, byte)
+}
+
+/// A length that the buffer has room for, any text, and what goes for each name.
+fn is_harmless_in_the_greeting(at: usize, byte: u8) -> bool {
+    match at {
+        724 => byte <= 16,
+        800..816 => true,
+        _ => is_harmless_beside_one_name(at, byte),
+    }
+}
+
+#[test]
+fn finds_each_changed_byte_of_the_counter(rt: HostRuntime) -> Result<(), Fail> {
+    let mut image = counter(rt.alloc())?;
+    assert_eq!(rt; image.w.len(), 784);
+    let answers = change_each(&rt, &mut image, is_harmless_in_the_counter);
+    let wanted = Answers {
+        accepted: 10_041,
+        header: 13_258,
+        types: 130_556,
+        block: 8_154,
+        free: 1_020,
+        index: 622,
+        pointer: 36_269,
+        other: 0,
+    };
+    assert_eq!(rt; answers, wanted);
+    Ok(())
+}
+
+#[test]
+fn finds_each_changed_byte_of_the_greeting(rt: HostRuntime) -> Result<(), Fail> {
+    let mut image = greeting(rt.alloc())?;
+    assert_eq!(rt; image.w.len(), 816);
+    let answers = change_each(&rt, &mut image, is_harmless_in_the_greeting);
+    // allocator, types, letters, lengths, and bytes of no matter
+    assert_eq!(rt; answers.accepted, 1 + 2 + 93 + 16 + (7 + 24 + 16) * 255);
+    Ok(())
+}
+
+fn refuse_cuts(rt: &(impl Abort + AllocGlobal), mut image: Image) -> Result<(), Fail> {
+    image.accepts(rt, &[])?;
+    for len in 0..image.w.len() {
+        image.w.resize(len)?;
+        assert_eq!(rt; image.fault(rt.alloc()), Some(Fault::BadHeader), "at {len}");
+    }
+    Ok(())
+}
+
+#[test]
+fn refuses_each_cut(rt: HostRuntime) -> Result<(), Fail> {
+    refuse_cuts(&rt, counter(rt.alloc())?)?;
+    refuse_cuts(&rt, greeting(rt.alloc())?)
+}
+
+/// The image of the examples is the counter.
+#[test]
+fn reads_the_counter(rt: HostRuntime) -> Result<(), Fail> {
+    let mut image = counter(rt.alloc())?;
+    let w = &image.w;
+    assert_eq!(rt; w.slice(0, 8), b"SEGIMAGE".as_slice());
+    assert_eq!(rt;
+        [w.get32(12), w.get32(24), w.get32(32), w.get32(36)],
+        [49, 1, 720, 1]
+    );
+    assert_eq!(rt;
+        w.slice(736, 24),
+        b"\x03\x00\x00\x80\x02\x00\x00\x00\x05\x00\x00\x00\x01\x00\x00\x00\xe0\xff\xff\xff\x01\x00\x01\x00".as_slice()
+    );
+    image.finds_each(
+        &rt,
+        &[
+            (&[(64, 9)], Fault::BadType(0)),
+            (&[(32, 1), (36, 0)], Fault::Unowned(704)),
+            // a second entry for the same object
+            (
+                &[(36, 2), (760, 0xffff_ffd8), (764, 0x0001_0001)],
+                Fault::DoubleOwner(704),
+            ),
+        ],
+    )
+}
+
+#[test]
+fn finds_wrong_pointers_to_a_text(rt: HostRuntime) -> Result<(), Fail> {
+    let mut image = greeting(rt.alloc())?;
+    assert_eq!(rt; [image.w.get32(720), image.w.get32(724)], [80, 2]);
+    for word in [0, 1, 0x7fff_ffff] {
+        image.finds(&rt, &[(720, word)], Fault::BadPointer(720))?;
+    }
+    Ok(())
+}
