@@ -1,6 +1,6 @@
 //! Sizes of blocks that follow from the rules of growth, worked out by hand.
 
-use crate::tests::rooted::{ROOT, Rooted, rooted};
+use crate::tests::rooted::{ROOT, Rooted, with_root};
 use crate::tests::support::{I64, STR, flat_map_of, list_of, own_of, pair, place_of, vec_of};
 use crate::tests::tiles::{is_one_gap, live_are, tiles};
 use seg_map::put;
@@ -13,7 +13,7 @@ use std::test::Fail;
 
 #[test]
 fn a_string_grows_and_shrinks_in_place(rt: HostRuntime) -> Result<(), Fail> {
-    let mut s = rooted::<SeqFit>(rt.alloc(), 1024, &[STR], 0)?;
+    let mut s = with_root::<SeqFit>(rt.alloc(), 1024, &[STR], 0)?;
     assign(&mut s.heap, place_of(0, ROOT), b"hello")?;
     live_are(&rt, s.heap.window(), &[(704, 2)])?;
     append(&mut s.heap, place_of(0, ROOT), b", dear neighbours!!")?;
@@ -36,7 +36,7 @@ fn a_string_grows_and_shrinks_in_place(rt: HostRuntime) -> Result<(), Fail> {
 /// A vector of numbers has room for 4, then for 8 where it stands.
 #[test]
 fn a_vector_doubles_in_place(rt: HostRuntime) -> Result<(), Fail> {
-    let mut s = rooted::<SeqFit>(rt.alloc(), 1024, &[I64, vec_of(0)], 1)?;
+    let mut s = with_root::<SeqFit>(rt.alloc(), 1024, &[I64, vec_of(0)], 1)?;
     for units in [3, 3, 3, 3, 5] {
         let _ = push_back(&mut s.heap, place_of(1, ROOT))?;
         live_are(&rt, s.heap.window(), &[(704, units)])?;
@@ -47,7 +47,7 @@ fn a_vector_doubles_in_place(rt: HostRuntime) -> Result<(), Fail> {
 /// A fifth push that finds no room for 8 takes its limit elsewhere. A seventh finds no room, and changes nothing.
 #[test]
 fn a_fifth_push_takes_its_limit(rt: HostRuntime) -> Result<(), Fail> {
-    let mut s = rooted::<SeqFit>(rt.alloc(), 704 + 9 * 16, &[I64, vec_of(0)], 1)?;
+    let mut s = with_root::<SeqFit>(rt.alloc(), 704 + 9 * 16, &[I64, vec_of(0)], 1)?;
     for _ in 0..4 {
         let _ = push_back(&mut s.heap, place_of(1, ROOT))?;
     }
@@ -65,7 +65,7 @@ fn a_fifth_push_takes_its_limit(rt: HostRuntime) -> Result<(), Fail> {
 
 #[test]
 fn list_nodes_of_numbers_have_2_units(rt: HostRuntime) -> Result<(), Fail> {
-    let mut s = rooted::<SeqFit>(rt.alloc(), 1024, &[I64, list_of(0)], 1)?;
+    let mut s = with_root::<SeqFit>(rt.alloc(), 1024, &[I64, list_of(0)], 1)?;
     for _ in 0..3 {
         let _ = push_back(&mut s.heap, place_of(1, ROOT))?;
     }
@@ -76,7 +76,7 @@ fn list_nodes_of_numbers_have_2_units(rt: HostRuntime) -> Result<(), Fail> {
 
 #[test]
 fn a_flat_map_of_numbers_has_5_then_9_units(rt: HostRuntime) -> Result<(), Fail> {
-    let mut s = rooted::<SeqFit>(rt.alloc(), 1024, &[I64, flat_map_of(0)], 1)?;
+    let mut s = with_root::<SeqFit>(rt.alloc(), 1024, &[I64, flat_map_of(0)], 1)?;
     for (key, units) in [(1, 5), (2, 5), (3, 5), (4, 5), (5, 9)] {
         let _ = put(&mut s.heap, place_of(1, ROOT), key)?;
         live_are(&rt, s.heap.window(), &[(704, units)])?;
@@ -99,7 +99,7 @@ fn push_owned(s: &mut Rooted<SeqFit>, number: i64) -> Result<(), Fail> {
 /// 20,000 objects, each of which owns the next, go at once.
 #[test]
 fn a_deep_value_is_destroyed(rt: HostRuntime) -> Result<(), Fail> {
-    let mut s = rooted::<SeqFit>(rt.alloc(), 1 << 20, &[I64, own_of(2), pair(0, 1)], 1)?;
+    let mut s = with_root::<SeqFit>(rt.alloc(), 1 << 20, &[I64, own_of(2), pair(0, 1)], 1)?;
     for number in 0..20_000 {
         push_owned(&mut s, number)?;
     }
@@ -111,7 +111,7 @@ fn a_deep_value_is_destroyed(rt: HostRuntime) -> Result<(), Fail> {
 /// Values that move over part of their own place still name their blocks.
 #[test]
 fn shifted_values_read_the_same(rt: HostRuntime) -> Result<(), Fail> {
-    let mut s = rooted::<SeqFit>(rt.alloc(), 1024, &[STR, pair(0, 0)], 1)?;
+    let mut s = with_root::<SeqFit>(rt.alloc(), 1024, &[STR, pair(0, 0)], 1)?;
     assign(&mut s.heap, place_of(0, ROOT), b"ab")?;
     for (from, to) in [(ROOT, ROOT + 8), (ROOT + 8, ROOT)] {
         s.heap.shift(1, from, to, 1);
@@ -125,7 +125,7 @@ fn shifted_values_read_the_same(rt: HostRuntime) -> Result<(), Fail> {
 /// Bytes after the used items may be a pointer to a block that something else owns, which stays.
 #[test]
 fn unused_items_own_nothing(rt: HostRuntime) -> Result<(), Fail> {
-    let mut s = rooted::<SeqFit>(rt.alloc(), 1024, &[STR, vec_of(0)], 1)?;
+    let mut s = with_root::<SeqFit>(rt.alloc(), 1024, &[STR, vec_of(0)], 1)?;
     let item = push_back(&mut s.heap, place_of(1, ROOT))?;
     assign(&mut s.heap, place_of(0, item), b"hello")?;
     let other = Content::object(s.heap.types(), 0);

@@ -1,6 +1,7 @@
 //! Blocks and bytes that follow from the rules of growth and from the format of an index, worked out by hand.
 
-use crate::tests::rooted::{Rooted, rooted};
+use crate::tests::image::{INDEX_BUFFER, INDEX_NODE, NAMED};
+use crate::tests::rooted::{Rooted, with_root};
 use crate::tests::support::{I64, INDEXES};
 use crate::tests::tiles::{live_are, tags_are, tiles};
 use seg_block::{Fit, Kind, Tag, UNIT, block_of, need};
@@ -13,15 +14,9 @@ use seg_seqfit::SeqFit;
 use std::process::Abort;
 use std::test::Fail;
 
-const OBJECT: u32 = 1;
-
-const BUFFER: u32 = 5;
-
-const NODE: u32 = 6;
-
 /// A heap of numbers without names, which is one gap.
 fn nameless(rt: &impl AllocGlobal, len: u32, kind: IndexKind) -> Result<Rooted<SeqFit>, Fail> {
-    let mut s = rooted::<SeqFit>(rt.alloc(), len, &[I64], 0)?;
+    let mut s = with_root::<SeqFit>(rt.alloc(), len, &[I64], 0)?;
     let w = s.heap.window_mut();
     w.put32(header::INDEX_KIND, kind.word());
     w.point(header::INDEX, None);
@@ -76,7 +71,7 @@ fn the_first_name_takes_a_buffer_of_4(rt: HostRuntime) -> Result<(), Fail> {
     let mut s = nameless(&rt, 1024, IndexKind::Flat)?;
     add_named(&mut s, b"x")?;
     live_are(&rt, s.heap.window(), &[(704, 2), (736, 3)])?;
-    tags_are(&rt, s.heap.window(), &[OBJECT, BUFFER])?;
+    tags_are(&rt, s.heap.window(), &[NAMED, INDEX_BUFFER])?;
     assert_eq!(rt;
         s.heap.window().slice(32, 8),
         [0xd0, 2, 0, 0, 1, 0, 0, 0].as_slice()
@@ -87,7 +82,7 @@ fn the_first_name_takes_a_buffer_of_4(rt: HostRuntime) -> Result<(), Fail> {
     );
     assert!(rt; remove(&mut s, b"x").is_some());
     live_are(&rt, s.heap.window(), &[(704, 2)])?;
-    tags_are(&rt, s.heap.window(), &[OBJECT])?;
+    tags_are(&rt, s.heap.window(), &[NAMED])?;
     assert_eq!(rt; s.heap.window().target(header::INDEX), None);
     assert_eq!(rt; name_count(s.heap.window()), 0);
     Ok(())
@@ -99,7 +94,7 @@ fn a_buffer_takes_its_limit(rt: HostRuntime) -> Result<(), Fail> {
     let mut s = nameless(&rt, 768, IndexKind::Flat)?;
     add_named(&mut s, b"x")?;
     live_are(&rt, s.heap.window(), &[(704, 2), (736, 2)])?;
-    tags_are(&rt, s.heap.window(), &[OBJECT, BUFFER])
+    tags_are(&rt, s.heap.window(), &[NAMED, INDEX_BUFFER])
 }
 
 /// An object takes the last 3 units, and the index finds none.
@@ -109,7 +104,7 @@ fn an_index_finds_no_room(rt: HostRuntime) -> Result<(), Fail> {
         let mut s = nameless(&rt, 752, kind)?;
         assert_eq!(rt; add_named(&mut s, b"x"), Err(Code::BadAlloc));
         live_are(&rt, s.heap.window(), &[(704, 3)])?;
-        tags_are(&rt, s.heap.window(), &[OBJECT])?;
+        tags_are(&rt, s.heap.window(), &[NAMED])?;
         assert_eq!(rt; s.heap.window().target(header::INDEX), None);
         assert_eq!(rt; name_count(s.heap.window()), 0);
     }
@@ -163,7 +158,7 @@ fn the_doubled_buffer_stands_elsewhere(rt: HostRuntime) -> Result<(), Fail> {
     tags_are(
         &rt,
         s.heap.window(),
-        &[OBJECT, OBJECT, OBJECT, OBJECT, OBJECT, BUFFER],
+        &[NAMED, NAMED, NAMED, NAMED, NAMED, INDEX_BUFFER],
     )
 }
 
@@ -178,7 +173,11 @@ fn a_tree_node_takes_3_units(rt: HostRuntime) -> Result<(), Fail> {
         s.heap.window(),
         &[(704, 2), (736, 3), (784, 2), (816, 3)],
     )?;
-    tags_are(&rt, s.heap.window(), &[OBJECT, NODE, OBJECT, NODE])?;
+    tags_are(
+        &rt,
+        s.heap.window(),
+        &[NAMED, INDEX_NODE, NAMED, INDEX_NODE],
+    )?;
     // the root's left child, no right one, black; the object, one number, one byte of a name
     assert_eq!(rt; s.heap.window().target(header::INDEX), Some(752));
     assert_eq!(rt;
@@ -190,7 +189,7 @@ fn a_tree_node_takes_3_units(rt: HostRuntime) -> Result<(), Fail> {
     );
     assert!(rt; remove(&mut s, b"y").is_some());
     live_are(&rt, s.heap.window(), &[(704, 2), (784, 2), (816, 3)])?;
-    tags_are(&rt, s.heap.window(), &[OBJECT, OBJECT, NODE])
+    tags_are(&rt, s.heap.window(), &[NAMED, NAMED, INDEX_NODE])
 }
 
 /// The word of a type's unique object, and no other.

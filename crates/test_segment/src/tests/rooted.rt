@@ -16,7 +16,7 @@ pub(crate) struct Rooted<F: Fit> {
 }
 
 /// A heap of these types in a segment of `len` bytes, which is one gap, with the default of the type `root`.
-pub(crate) fn rooted<F: Fit>(
+pub(crate) fn with_root<F: Fit>(
     alloc: Global,
     len: u32,
     types: &[Spelled],
