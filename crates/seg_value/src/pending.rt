@@ -121,7 +121,8 @@ impl Pending {
     fn release<F: Fit, A: Allocator>(&mut self, heap: &mut Heap<F, A>, payload: u32)
         ensures window { KeepsHost heap.old.window heap.new.window }
         ensures types { heap.new.types ≡ heap.old.types }
-        ensures released { AddsWaiting heap.old heap.new self.old.first self.new.first [] [] (payload ∷ []) }
+        ensures released { AddsWaiting heap.old heap.new self.old.first self.new.first
+            [] [] (payload ∷ []) }
     {
         let count = heap.window().get32(payload as usize).saturating_sub(1);
         heap.set_cell_count(payload, count);
