@@ -29,6 +29,7 @@ use Rattle.seg_spec.proofs.Giving.{given_kept}
 use Rattle.seg_spec.specs.Frozen.{Frozen, root_of_frozen}
 use Rattle.seg_spec.specs.Shared.{names_in, times_named, IsReleasing, left, kept_with, with_count}
 use Rattle.seg_spec.proofs.RootFrame.{HoldsRoots-kept}
+use Rattle.seg_spec.proofs.Standing.{ownable_linked}
 
 -- ---- what is kept
 
@@ -109,6 +110,7 @@ beside_kept allocator a b table valid first blocks names frozen heap linked w = 
   shares = w.shares;
   pends = pends_kept allocator a b table valid first w.owed names heap (λ h some. linked h (omega (arith, w.blocks_are h, times-append h w.owed w.shares))) w.pends;
   holds = HoldsRoots-kept a b table valid w.holds (each_there (KeepsBlock a b) w.shares (λ h some. (linked h (omega (arith, w.blocks_are h, times-append h w.owed w.shares))).whole.kept));
+  ownable = λ h some. ownable_linked a b table h (linked h (omega (arith, w.blocks_are h, times-append h w.owed w.shares))) (w.ownable h some);
   blocks_are = w.blocks_are;
 }
 
@@ -165,7 +167,7 @@ releasing_same kept final ns ms now same r =
 
 pub beside_same : (allocator : ℕ) (a : List ℕ) (table : Table) (first : Option ℕ) (xs ys names : List ℕ) (frozen : List Frozen) → SameBlocks xs ys → PendsBeside allocator a table first xs names frozen
     → PendsBeside allocator a table first ys names frozen
-beside_same allocator a table first xs ys names frozen same w = record { owed = w.owed; shares = w.shares; pends = w.pends; holds = w.holds; blocks_are = λ h. sym (same h) ∙ w.blocks_are h }
+beside_same allocator a table first xs ys names frozen same w = record { owed = w.owed; shares = w.shares; pends = w.pends; holds = w.holds; ownable = w.ownable; blocks_are = λ h. sym (same h) ∙ w.blocks_are h }
 
 pub awaits_names : (allocator : ℕ) (a : List ℕ) (table : Table) (first : Option ℕ) (blocks ns ms : List ℕ) (kept : List Place) (final : List Frozen) → SameBlocks ns ms → Awaits allocator a table first blocks ns kept final
     → Awaits allocator a table first blocks ms kept final
@@ -221,6 +223,10 @@ adds_pushed allocator old table valid p first xs ys ns more kept final o waiting
     omega (arith, times-same (block_of p) b.rest, o.owed_are (block_of p)) in
     let here : 1 ≤ times (block_of p) (positions (live old)) = omega (arith, owned (block_of p), times-append (block_of p) xs ys) in
     let lies = there (LiesIn old heap_start (length old)) (block_of p) (positions (live old)) (live-lie old allocator w.pends.heap) here in
+    let shared : (h : ℕ) → 1 ≤ times h w.shares → KeepsLinked old (set_pointer old (block_of p + 12) first) h = λ h some.
+    let there_is : 1 ≤ times h ys = omega (arith, w.blocks_are h, times-append h w.owed w.shares) in
+    let n = no_common allocator old w.pends.heap xs ys owned h there_is in
+    r.others h n.0 (λ e. let m : 1 ≤ times h xs = subst (λ x. 1 ≤ times x xs) (sym e) mine in absurd (omega (arith, n.1))) in
     record {
       keeps = record {
         length_kept = changes.length_kept;
@@ -242,10 +248,8 @@ adds_pushed allocator old table valid p first xs ys ns more kept final o waiting
             owed_are = λ h. omega (arith, times-append h xs w.owed, times-append h o.owed w.pends.owed, o.owed_are h, w.pends.owed_are h);
             named_are = λ h. omega (arith, times-append h ns waiting.named, times-append h o.named w.pends.named, o.named_are h, w.pends.named_are h);
           };
-          holds = HoldsRoots-kept old (set_pointer old (block_of p + 12) first) table valid w.holds (each_there (KeepsBlock old (set_pointer old (block_of p + 12) first)) w.shares (λ h some.
-              let shared : 1 ≤ times h ys = omega (arith, w.blocks_are h, times-append h w.owed w.shares) in
-              let n = no_common allocator old w.pends.heap xs ys owned h shared in
-              (r.others h n.0 (λ e. let m : 1 ≤ times h xs = subst (λ x. 1 ≤ times x xs) (sym e) mine in absurd (omega (arith, n.1)))).whole.kept));
+          holds = HoldsRoots-kept old (set_pointer old (block_of p + 12) first) table valid w.holds (each_there (KeepsBlock old (set_pointer old (block_of p + 12) first)) w.shares (λ h some. (shared h some).whole.kept));
+          ownable = λ h some. ownable_linked old (set_pointer old (block_of p + 12) first) table h (shared h some) (w.ownable h some);
           blocks_are = λ h. omega (arith, w.blocks_are h, times-append h xs ys, times-append h w.owed w.shares, times-append h (xs ++ w.owed) w.shares, times-append h xs w.owed);
         };
         releasing = releasing_same kept final ((ns ++ more) ++ waiting.named) (more ++ (ns ++ waiting.named)) waiting.frozen
@@ -276,6 +280,7 @@ pops allocator bytes table p blocks names kept final all = go w.pends.owed w.pen
           shares = w.shares;
           pends = record { heap = w.pends.heap; owed = ys; named = ms; waiting = subst (λ n. Waits bytes table n ys ms) (sym link) more; owed_are = λ h. refl; named_are = λ h. refl };
           holds = w.holds;
+          ownable = w.ownable;
           blocks_are = λ h. refl;
         };
         releasing = releasing_same kept final (names ++ all.named) ((ns ++ names) ++ ms) all.frozen
@@ -465,6 +470,7 @@ module _ (allocator : ℕ) (old now : List ℕ) (table : Table) (valid : IsTable
               kept = λ h some none. f.kept h some (same h ∙ none);
             };
             holds = subst (λ fs. HoldsRoots now table (map root_of_frozen fs) w.shares) now_is w.holds;
+            ownable = w.ownable;
           }
 
   -- more turns than there is room for blocks are enough

@@ -55,6 +55,7 @@ pub mod Lowering
 pub mod Releases
 pub mod PartsOwed
 pub mod Unshared
+pub mod SharedAlone
 pub mod NoFrozen
 pub mod CellOwed
 pub mod RingOwed

@@ -1,12 +1,12 @@
 -- A cell that names a frozen object goes: the object's count is lowered in the bytes, and at 0 it waits to be destroyed.
-use Rattle.std.proofs.Common.{◌≡◌, ◌≢◌, ℕ, suc, ◌+◌, ◌-◌, ◌*◌, ◌^◌, ◌<◌, ◌≤◌, inl, inr, List, [], ◌∷◌, ◌++◌, length, map, Option, refl, sym, ap, ◌∙◌, subst, arith}
+use Rattle.std.proofs.Common.{◌≡◌, ◌≢◌, ℕ, suc, ◌+◌, ◌-◌, ◌*◌, ◌^◌, ◌<◌, ◌≤◌, inl, inr, ⊎_elim, List, [], ◌∷◌, ◌++◌, length, map, Option, refl, sym, ap, ◌∙◌, subst, arith}
 use Rattle.std.specs.List.{AllByRecursion}
 use Rattle.std.proofs.lemmas.List.{map-append, append-nil}
 use Rattle.seg_spec.specs.Bytes.{word, set_word, ChangesOnly, slice}
 use Rattle.seg_spec.specs.Types.{Table, IsTable, size}
 use Rattle.seg_spec.specs.Value.{Value}
 use Rattle.seg_spec.specs.Heap.{IsHeap, live, heap_start}
-use Rattle.seg_spec.specs.Block.{Kind, tag_of, IsBlock, KeepsBlock, IsInside, block_of}
+use Rattle.seg_spec.specs.Block.{Kind, tag_of, IsBlock, IsOwnable, KeepsBlock, IsInside, block_of}
 use Rattle.seg_spec.specs.Reads.{Place, Holds, HoldsEach, holds_none, holds_more}
 use Rattle.seg_spec.specs.Frozen.{Frozen, root_of_frozen}
 use Rattle.seg_spec.specs.Sound.{payload_of, HoldsRoot, HoldsRoots, holds_more_roots, times, SameBlocks, positions}
@@ -14,13 +14,15 @@ use Rattle.seg_spec.specs.Shared.{named_in, names_in, IsReleasing, with_count, k
 use Rattle.seg_spec.specs.Releasing.{lowered, names_with, let_go}
 use Rattle.seg_spec.specs.Owing.{KeepsLinked, no_parts, more_parts, owes, no_links}
 use Rattle.seg_spec.specs.Destroying.{AreLive, GoesWith, KeepsOthers, PendsBeside, Awaits, Adds}
-use Rattle.seg_spec.proofs.Frame.{word-same, Holds-kept}
+use Rattle.seg_spec.proofs.Frame.{word-same, target-same, Holds-kept}
 use Rattle.seg_spec.proofs.LiveLaws.{times-append, times-same, times-other, there, each_there, LiesIn, live-lie, live-once}
 use Rattle.seg_spec.proofs.BytesLaws.{number-set_same}
 use Rattle.seg_spec.proofs.Writing.{set_number-changes}
 use Rattle.seg_spec.proofs.RootFrame.{HoldsRoots-kept}
 use Rattle.seg_spec.proofs.RootLaws.{HoldsRoots-split, HoldsRoots-only, HoldsRoots-append}
 use Rattle.seg_spec.proofs.CellOwed.{block_there}
+use Rattle.seg_spec.proofs.Standing.{ownable_linked}
+use Rattle.std.proofs.lemmas.Bool.{cases_eq}
 use Rattle.seg_spec.proofs.Destruction.{heap_written, payload_written, no_common, others_twice, others_more, pends_kept, beside_kept, awaits_blocks, releasing_same}
 use Rattle.seg_spec.proofs.Lowering.{positions_of, named_positions, Named, Turned, turned}
 
@@ -247,12 +249,50 @@ module _ (allocator : ℕ) (old : List ℕ) (table : Table) (valid : IsTable tab
         beside_it allocator old new table valid k.object (k.object.count - 1) a.mine others w.pends.heap there_is fits changes_there count_there h n.0
         (λ e. let m : 1 ≤ times h a.mine = subst (λ x. 1 ≤ times x a.mine) (sym e) own_there in absurd (omega (arith, n.1)))
 
+    shares_count : (h : ℕ) → times h w.shares ≡ times h a.left + times h a.mine + times h a.right
+    shares_count h =
+        let e : times h w.shares ≡ times h (a.left ++ (a.mine ++ a.right)) = ap (times h) a.shares_are in
+        omega (arith, times-append h a.left (a.mine ++ a.right), times-append h a.mine a.right)
+
+    -- its own block is changed behind the header alone
+    own_ownable : IsOwnable new table (block_of k.object.at)
+    own_ownable =
+        let own = block_of k.object.at in
+        let o = w.ownable (block_of k.object.at) (omega (arith, shares_count (block_of k.object.at), own_there)) in
+        let low = there_is.block.after_header in
+        record {
+          kind = o.kind;
+          type = o.type;
+          allowed = o.allowed;
+          tag_is = word-same old new (block_of k.object.at + 8) (changes_there.others (block_of k.object.at + 8) 4 (inl (omega (arith, low)))) ∙ o.tag_is;
+          link_is = target-same old new (block_of k.object.at + 12) (changes_there.others (block_of k.object.at + 12) 4 (inl (omega (arith, low)))) ∙ o.link_is;
+        }
+
+    ownable_there : (h : ℕ) → 1 ≤ times h (a.left ++ (a.mine ++ a.right)) → IsOwnable new table h
+    ownable_there h l = ⊎_elim
+        (λ same. subst (IsOwnable new table) (sym same) own_ownable)
+        (λ other.
+        let there_too : 1 ≤ times h (positions (live old)) = omega (
+          arith,
+          l,
+          fits h,
+          times-append h a.mine others,
+          times-append h w.owed (a.left ++ a.right),
+          times-append h a.left a.right,
+          times-append h a.left (a.mine ++ a.right),
+          times-append h a.mine a.right,
+        ) in
+        ownable_linked old new table h (beside_it allocator old new table valid k.object (k.object.count - 1) a.mine others w.pends.heap there_is fits changes_there count_there h there_too other)
+        (w.ownable h (omega (arith, l, shares_count h, times-append h a.left (a.mine ++ a.right), times-append h a.mine a.right))))
+        (cases_eq h (block_of k.object.at))
+
     others_before : PendsBeside allocator old table first others ms (k.before ++ k.after)
     others_before = record {
       owed = w.owed;
       shares = a.left ++ a.right;
       pends = w.pends;
       holds = subst (λ rs. HoldsRoots old table rs (a.left ++ a.right)) (sym (map-append root_of_frozen k.before k.after)) (HoldsRoots-append old table a.lefts a.rights);
+      ownable = λ h l. w.ownable h (omega (arith, l, shares_count h, times-append h a.left a.right));
       blocks_are = λ h. refl;
     }
 
@@ -290,6 +330,7 @@ module _ (allocator : ℕ) (old : List ℕ) (table : Table) (valid : IsTable tab
               pends = pends_kept allocator old new table valid first w.owed ms heap_then (λ h l. others_linked h (omega (arith, l, times-append h w.owed (a.left ++ a.right)))) w.pends;
               holds = subst (λ rs. HoldsRoots new table rs (a.left ++ (a.mine ++ a.right))) (sym (map-append root_of_frozen k.before (with_count k.object (suc n) ∷ k.after)))
                   (HoldsRoots-append new table lefts_then (holds_more_roots it_then rights_then));
+              ownable = ownable_there;
               blocks_are = λ h. omega (
                 arith,
                 all_are h,

@@ -48,6 +48,7 @@ awaits_alone allocator bytes table first none heap = record {
     shares = [];
     pends = record { heap = heap; owed = []; named = []; waiting = subst (λ f. Rattle.seg_spec.specs.Owing.Waits bytes table f [] []) (sym none) none_waits; owed_are = λ h. refl; named_are = λ h. refl };
     holds = holds_no_root;
+    ownable = λ h some. absurd (omega arith);
     blocks_are = λ h. refl;
   };
   releasing = record {

@@ -27,7 +27,7 @@ use Rattle.seg_spec.specs.Types.{Table, size}
 use Rattle.seg_spec.specs.Heap.{IsHeap, live, heap_start}
 use Rattle.seg_spec.specs.Sound.{times, SameBlocks, positions, HoldsRoots}
 use Rattle.seg_spec.specs.Demand.{after_gives}
-use Rattle.seg_spec.specs.Block.{block_of, payload_size}
+use Rattle.seg_spec.specs.Block.{IsOwnable, block_of, payload_size}
 use Rattle.seg_spec.specs.Reads.{spaced, Place}
 use Rattle.seg_spec.specs.Cells.{EachCell}
 use Rattle.seg_spec.specs.Owing.{NamesNothing, Owes, Waits, KeepsLinked}
@@ -67,14 +67,15 @@ pub record KeepsOthers (old new : List ℕ) (blocks : List ℕ) : Type 0 where
   pub others : (h : ℕ) → 1 ≤ times h (positions (live old)) → times h blocks ≡ 0 →
       KeepsLinked old new h
 
--- blocks wait from a first one on, and name these objects, beside frozen objects: all these blocks
--- are theirs
+-- blocks wait from a first one on, and name these objects, beside frozen objects, which don't wait:
+-- all these blocks are theirs
 pub record PendsBeside (allocator : ℕ) (bytes : List ℕ) (table : Table) (first : Option ℕ)
     (blocks names : List ℕ) (frozen : List Frozen) : Type 0 where
   pub owed : List ℕ
   pub shares : List ℕ
   pub pends : Pends allocator bytes table first owed names
   pub holds : HoldsRoots bytes table (map root_of_frozen frozen) shares
+  pub ownable : (h : ℕ) → 1 ≤ times h shares → IsOwnable bytes table h
   pub blocks_are : SameBlocks blocks (owed ++ shares)
 
 -- blocks wait from a first one on beside frozen objects, and all these are theirs: what waits and
@@ -125,6 +126,7 @@ pub record Destroys (allocator : ℕ) (old new : List ℕ) (table : Table) (bloc
   pub blocks_are : SameBlocks blocks (gives ++ shares)
   pub frees : Frees allocator old new gives shares
   pub holds : HoldsRoots new table (map root_of_frozen final) shares
+  pub ownable : (h : ℕ) → 1 ≤ times h shares → IsOwnable new table h
 
 -- the entries of a buffer from one on name nothing, and nothing but them changed
 pub record DefaultsRest (old new : List ℕ) (table : Table) (p before U used : ℕ) : Type 0 where

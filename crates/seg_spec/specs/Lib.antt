@@ -25,6 +25,7 @@ pub mod Shared
 pub mod Releasing
 pub mod Owing
 pub mod Destroying
+pub mod Clearing
 pub mod Spending
 pub mod Shrinking
 pub mod Fixtures

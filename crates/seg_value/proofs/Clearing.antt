@@ -1,5 +1,5 @@
 -- A value that is destroyed where it stands, and becomes the default of its type.
-use Rattle.std.proofs.Common.{◌≡◌, ℕ, ◌+◌, ◌^◌, ◌<◌, ◌≤◌, inl, List, [], ◌∷◌, ◌++◌, length, Option, None, false, refl, sym, ap, ◌∙◌, subst, arith}
+use Rattle.std.proofs.Common.{◌≡◌, ℕ, ◌+◌, ◌^◌, ◌<◌, ◌≤◌, ◌⊎◌, inl, inr, ⊎_elim, zero, suc, List, [], ◌∷◌, ◌++◌, length, Option, None, false, refl, sym, ap, ◌∙◌, subst, arith}
 use Rattle.std.specs.Prelude.{nat_le}
 use Rattle.std.specs.List.{AllByRecursion}
 use Rattle.seg_spec.specs.Header.{free_word, back_start, back_size}
@@ -12,7 +12,7 @@ use Rattle.seg_spec.specs.Reads.{Place, Holds, holds}
 use Rattle.seg_spec.specs.Apart.{KeepsBlockAround}
 use Rattle.seg_spec.specs.Cells.{IsWithin}
 use Rattle.seg_spec.specs.Sound.{times, positions}
-use Rattle.seg_spec.specs.Roots.{ChangesPlace}
+use Rattle.seg_spec.specs.Clearing.{SharedBeside, ClearsPlace}
 use Rattle.seg_spec.specs.Owning.{Stands}
 use Rattle.seg_spec.specs.Demand.{after_gives}
 use Rattle.seg_spec.specs.Owing.{IsPart, KeepsLinked}
@@ -24,8 +24,8 @@ use Rattle.seg_spec.proofs.Frame.{word-same, target-same, each_map, each_of_map,
 use Rattle.seg_spec.proofs.Composing.{around_twice, around_kept}
 use Rattle.seg_spec.proofs.LiveLaws.{times-append, times-same, there, each_there, LiesIn, live-lie, live-once}
 use Rattle.seg_spec.proofs.WriteInside.{KeptBut, live_kept_but}
-use Rattle.seg_spec.proofs.Destruction.{inside_same, inside_then, heap_written, payload_written, awaits_then, awaits_blocks, none_freed, all_freed}
-use Rattle.seg_spec.proofs.Unshared.{names_none, awaits_alone, frees_alone}
+use Rattle.seg_spec.proofs.Destruction.{inside_same, inside_then, heap_written, payload_written, awaits_then, none_freed, all_freed}
+use Rattle.seg_spec.proofs.SharedAlone.{awaits_shared}
 use Rattle.seg_layout.specs.Forms.{has_cells}
 use Rattle.seg_value.proofs.Nulls.{no_cells_own}
 use Rattle.seg_value.specs.Waiting.{AddsIn}
@@ -35,13 +35,16 @@ use Rattle.seg_value.proofs.Joining.{nothing_added}
 pub typed : (bytes : List ℕ) (table : Table) (place : Place) (v : Value) (blocks : List ℕ) → Holds bytes table place v blocks → place.type < length table
 typed bytes table place v blocks (holds form opened inside owned f o hs v_is is) = below_length table place.type form f
 
-module _ (allocator : ℕ) (old mid after new : List ℕ) (table : Table) (place : Place) (v : Value) (blocks : List ℕ) (s : Stands allocator old table place v blocks) (first : Option ℕ)
-    (a : Adds allocator old mid table first blocks [] [] [] []) where
+module _ (allocator : ℕ) (old mid after new : List ℕ) (table : Table) (place : Place) (v : Value) (blocks : List ℕ) (s : Stands allocator old table place v blocks)
+    (shares : List ℕ) (kept : List Place) (now final : List Frozen) (b : SharedBeside old table (s.home ∷ blocks) v shares kept now final) (first : Option ℕ) (a : Adds allocator old mid table first blocks shares [] kept final) where
   home_live : 1 ≤ times s.home (positions (live old))
   home_live = let o = s.owned s.home in let t = times-same s.home blocks in omega arith
 
-  home_apart : times s.home blocks ≡ 0
-  home_apart = let o = s.owned s.home in let t = times-same s.home blocks in let once = live-once old allocator s.heap s.home in omega arith
+  counts : (h : ℕ) → times h (s.home ∷ []) + times h (blocks ++ shares) ≤ times h (positions (live old))
+  counts h = omega (arith, b.owned h, times-append h (s.home ∷ blocks) shares, times-append h (s.home ∷ []) blocks, times-append h blocks shares)
+
+  home_apart : times s.home (blocks ++ shares) ≡ 0
+  home_apart = let c = counts s.home in let t = times-same s.home [] in let once = live-once old allocator s.heap s.home in omega arith
 
   live_mid : (h : ℕ) → times h (positions (live mid)) ≡ times h (positions (live old))
   live_mid h = ap (λ bs. times h (positions bs)) a.keeps.live_kept
@@ -52,11 +55,8 @@ module _ (allocator : ℕ) (old mid after new : List ℕ) (table : Table) (place
   lies : (h : ℕ) → 1 ≤ times h (positions (live old)) → LiesIn old heap_start (length old) h
   lies h some = there (LiesIn old heap_start (length old)) h (positions (live old)) (live-lie old allocator s.heap) some
 
-  all_none : (h : ℕ) → times h blocks ≡ 0 → times h (blocks ++ []) ≡ 0
-  all_none h none = let n = times-append h blocks [] in omega arith
-
   inside_mid : IsInside mid s.home place.at (size table place.type)
-  inside_mid = inside_then old mid s.home place.at (size table place.type) (lies s.home home_live).size s.inside (a.keeps.others s.home home_live (all_none s.home home_apart))
+  inside_mid = inside_then old mid s.home place.at (size table place.type) (lies s.home home_live).size s.inside (a.keeps.others s.home home_live home_apart)
 
   pub within_mid : IsWithin mid place.at (size table place.type)
   within_mid =
@@ -77,20 +77,27 @@ module _ (allocator : ℕ) (old mid after new : List ℕ) (table : Table) (place
     live_after : (h : ℕ) → times h (positions (live after)) ≡ times h (positions (live old))
     live_after h = ap (λ bs. times h (positions bs)) (written.live_kept ∙ a.keeps.live_kept)
 
-    pub awaits_after : Awaits allocator after table first blocks [] [] []
+    pub awaits_after : Awaits allocator after table first (blocks ++ shares) [] kept final
     awaits_after =
-        let fits : AreLive mid ((s.home ∷ []) ++ (blocks ++ [])) = λ h. let o = s.owned h in let l = live_mid h in let n = times-append h blocks [] in let m = times-append h (s.home ∷ []) (blocks ++ []) in
-        let k = times-append h (s.home ∷ []) blocks in omega arith in
+        let fits : AreLive mid ((s.home ∷ []) ++ (blocks ++ shares)) = λ h. omega (arith, counts h, live_mid h, times-append h (s.home ∷ []) (blocks ++ shares)) in
         let heap = heap_written allocator mid after place.at (size table place.type) s.home a.awaits.beside.pends.heap inside_mid home_mid changes in
-        awaits_blocks allocator after table first (blocks ++ []) blocks [] [] [] (λ h. let n = times-append h blocks [] in omega arith)
-        (awaits_then allocator mid after table s.is_table (s.home ∷ []) (blocks ++ []) fits heap written first [] [] [] a.awaits)
+        awaits_then allocator mid after table s.is_table (s.home ∷ []) (blocks ++ shares) fits heap written first [] kept final a.awaits
 
-    pub live_there : AreLive after blocks
-    live_there h = let o = s.owned h in let l = live_after h in omega arith
+    pub live_there : AreLive after (blocks ++ shares)
+    live_there h = omega (arith, counts h, live_after h)
 
-    module _ (f : Frees allocator after new blocks []) where
+    module _ (d : Destroys allocator after new table (blocks ++ shares) final) where
+      f : Frees allocator after new d.gives d.shares
+      f = d.frees
+
+      parts : (h : ℕ) → times h (blocks ++ shares) ≡ times h d.gives + times h d.shares
+      parts h = d.blocks_are h ∙ times-append h d.gives d.shares
+
+      none_left : (h : ℕ) → times h (blocks ++ shares) ≡ 0 → times h (d.gives ++ d.shares) ≡ 0
+      none_left h none = sym (d.blocks_are h) ∙ none
+
       -- every block that isn't given back
-      module _ (h : ℕ) (some : 1 ≤ times h (positions (live old))) (none : times h blocks ≡ 0) where
+      module _ (h : ℕ) (some : 1 ≤ times h (positions (live old))) (none : times h (blocks ++ shares) ≡ 0) where
         some_mid : 1 ≤ times h (positions (live mid))
         some_mid = let l = live_mid h in omega arith
 
@@ -98,10 +105,10 @@ module _ (allocator : ℕ) (old mid after new : List ℕ) (table : Table) (place
         some_after = let l = live_after h in omega arith
 
         one : KeepsLinked old mid h
-        one = a.keeps.others h some (all_none h none)
+        one = a.keeps.others h some none
 
         three : KeepsLinked after new h
-        three = f.kept h some_after (all_none h none)
+        three = f.kept h some_after (none_left h none)
 
         tag_kept : tag_at new h ≡ tag_at old h
         tag_kept = three.whole.kept.has_tag ∙ word-same mid after (h + 8) ((but h some_mid).outside (h + 8) 4 (omega arith) (omega arith)) ∙ one.whole.kept.has_tag
@@ -140,41 +147,51 @@ module _ (allocator : ℕ) (old mid after new : List ℕ) (table : Table) (place
           let l = f.live_are h in
           let k = live_after h in
           let once = live-once old allocator s.heap h in
-          ownable_there h (omega arith) (omega arith)))
+          let p = parts h in
+          ⊎_elim (λ none. ownable_there h (omega arith) (omega arith)) (λ shared. d.ownable h shared) (none_or_some (times h d.shares))))
+        where
+          none_or_some : (n : ℕ) → (n ≡ 0) ⊎ (1 ≤ n)
+          none_or_some zero = inl refl
+          none_or_some (suc n) = inr (omega arith)
 
       home_new : KeepsLinked after new s.home
-      home_new = f.kept s.home (let l = live_after s.home in let h = home_live in omega arith) (all_none s.home home_apart)
+      home_new = f.kept s.home (let l = live_after s.home in let h = home_live in omega arith) (none_left s.home home_apart)
 
       inside_after : IsInside after s.home place.at (size table place.type)
       inside_after = let k = but s.home home_mid in let i = inside_mid in record { low = i.low; high = omega (arith, i.high, k.units_kept) }
 
-      pub place_cleared : ChangesPlace old new table place (default_of table place.type) [] (after_gives (live old) blocks) blocks []
+      pub place_cleared : ClearsPlace old new table place (default_of table place.type) blocks [] shares final
       place_cleared = record {
-        length_kept = f.length_kept ∙ written.length_kept ∙ a.keeps.length_kept;
-        front_kept = f.front_kept ∙ written.front_kept 0 free_word (omega arith) ∙ a.keeps.front_kept 0 free_word (omega arith);
-        back_kept = f.back_kept ∙ written.front_kept back_start back_size (omega arith) ∙ a.keeps.front_kept back_start back_size (omega arith);
-        heap = subst (λ n. IsHeap n new) (sym s.allocator_is) f.heap;
-        ownable = ownable_new;
-        holds_it = Holds-kept after new table s.is_table filled (inside_same after new s.home place.at (size table place.type) inside_after home_new) tt;
-        live_is = f.live_is ∙ ap (λ bs. after_gives bs blocks) (written.live_kept ∙ a.keeps.live_kept);
-        live_are = λ h. let l = f.live_are h in let k = live_after h in omega arith;
-        kept = λ h some none. around h some none;
+        gives = d.gives;
+        left = d.shares;
+        all_are = d.blocks_are;
+        changes = record {
+          length_kept = f.length_kept ∙ written.length_kept ∙ a.keeps.length_kept;
+          front_kept = f.front_kept ∙ written.front_kept 0 free_word (omega arith) ∙ a.keeps.front_kept 0 free_word (omega arith);
+          back_kept = f.back_kept ∙ written.front_kept back_start back_size (omega arith) ∙ a.keeps.front_kept back_start back_size (omega arith);
+          heap = subst (λ n. IsHeap n new) (sym s.allocator_is) f.heap;
+          ownable = ownable_new;
+          holds_it = Holds-kept after new table s.is_table filled (inside_same after new s.home place.at (size table place.type) inside_after home_new) tt;
+          live_is = f.live_is ∙ ap (λ bs. after_gives bs d.gives) (written.live_kept ∙ a.keeps.live_kept);
+          live_are = λ h. omega (arith, f.live_are h, live_after h, parts h);
+          kept = λ h some none. around h some none;
+        };
+        holds = d.holds;
       }
 
-pub cleared : (allocator : ℕ) (old mid after new : List ℕ) (table here there_too : Table) → here ≡ table → there_too ≡ table →
-    (place : Place) (v : Value) (blocks : List ℕ) (s : Stands allocator old table place v blocks) (none first : Option ℕ) → none ≡ None →
+pub cleared : (allocator : ℕ) (old mid after new : List ℕ) (table here there_too : Table) → here ≡ table → there_too ≡ table → (place : Place) (v : Value) (blocks : List ℕ) (s : Stands allocator old table place v blocks) →
+    (shares : List ℕ) (kept : List Place) (now final : List Frozen) → SharedBeside old table (s.home ∷ blocks) v shares kept now final → (none first : Option ℕ) → none ≡ None →
     ((home : ℕ) (xs ns : List ℕ) → IsInside old home place.at (size table place.type) → IsPart old table place xs ns → AddsIn old mid table none first (home ∷ []) xs ns) →
     (IsWithin mid place.at (size here place.type) → ChangesOnly mid after place.at (size here place.type)) →
     (IsWithin mid place.at (size here place.type) → place.type < length here → Holds after here place (default_of here place.type) []) →
     ((blocks : List ℕ) (kept : List Place) (final : List Frozen) → IsTable there_too → Awaits allocator after there_too first blocks [] kept final → AreLive after blocks → Destroys allocator after new there_too blocks final) →
-    ChangesPlace old new table place (default_of table place.type) [] (after_gives (live old) blocks) blocks []
-cleared allocator old mid after new table here there_too same same_too place v blocks s none first is_none added changes filled destroyed =
-    let fits : AreLive old (s.home ∷ (blocks ++ [])) = λ h. let o = s.owned h in let n = times-append h blocks [] in
-    let m = times-append h (s.home ∷ []) (blocks ++ []) in let k = times-append h (s.home ∷ []) blocks in omega arith in
-    let no_names : [] ≡ named_in v ++ [] = sym (ap (λ ns. ns ++ []) (names_none old table s.of_version s.holds_it)) in
-    let alone = subst (λ ns. Awaits allocator old table none [] ns [] []) no_names (awaits_alone allocator old table none is_none s.heap) in
-    let a = added s.home blocks (named_in v) s.inside (inl (v, s.holds_it, refl)) allocator [] [] [] [] s.is_table alone fits in
-    let within = within_mid allocator old mid after new table place v blocks s first a in
+    ClearsPlace old new table place (default_of table place.type) blocks [] shares final
+cleared allocator old mid after new table here there_too same same_too place v blocks s shares kept now final b none first is_none added changes filled destroyed =
+    let waiting = awaits_shared allocator old table none (s.home ∷ blocks) v shares kept now final is_none s.heap b in
+    let fits : AreLive old ((s.home ∷ []) ++ (blocks ++ shares)) = λ h. let o = b.owned h in
+    let n = times-append h (s.home ∷ blocks) shares in let m = times-append h (s.home ∷ []) blocks in let k = times-append h (s.home ∷ []) (blocks ++ shares) in let l = times-append h blocks shares in omega arith in
+    let a = added s.home blocks (named_in v) s.inside (inl (v, s.holds_it, refl)) allocator shares [] kept final s.is_table waiting fits in
+    let within = within_mid allocator old mid after new table place v blocks s shares kept now final b first a in
     let changes' : IsWithin mid place.at (size table place.type) → ChangesOnly mid after place.at (size table place.type) = subst (λ t. IsWithin mid place.at (size t place.type) →
     ChangesOnly mid after place.at (size t place.type)) same changes in
     let filled' : IsWithin mid place.at (size table place.type) → place.type < length table → Holds after table place (default_of table place.type) [] =
@@ -183,15 +200,17 @@ cleared allocator old mid after new table here there_too same same_too place v b
     subst (λ t. (blocks : List ℕ) (kept : List Place) (final : List Frozen) → IsTable t → Awaits allocator after t first blocks [] kept final → AreLive after blocks → Destroys allocator after new t blocks final) same_too destroyed in
     let c = changes' within in
     let h = filled' within (typed old table place v blocks s.holds_it) in
-    let d = destroyed' blocks [] [] s.is_table (awaits_after allocator old mid after new table place v blocks s first a c h) (live_there allocator old mid after new table place v blocks s first a c h) in
-    place_cleared allocator old mid after new table place v blocks s first a c h (frees_alone allocator after new table blocks d)
+    let d = destroyed' (blocks ++ shares) kept final s.is_table (awaits_after allocator old mid after new table place v blocks s shares kept now final b first a c h)
+    (live_there allocator old mid after new table place v blocks s shares kept now final b first a c h) in
+    place_cleared allocator old mid after new table place v blocks s shares kept now final b first a c h d
 
 -- a number that is cleared where it stands
-pub number_cleared : (allocator : ℕ) (old new : List ℕ) (table : Table) (place : Place) (v : Value) (blocks : List ℕ) → Stands allocator old table place v blocks → has_cells (form_at table place.type) ≡ false →
+pub number_cleared : (allocator : ℕ) (old new : List ℕ) (table : Table) (place : Place) (v : Value) (blocks : List ℕ) (s : Stands allocator old table place v blocks) → (shares : List ℕ) (kept : List Place) (now final : List Frozen) →
+    SharedBeside old table (s.home ∷ blocks) v shares kept now final → has_cells (form_at table place.type) ≡ false →
     (IsWithin old place.at (size table place.type) → ChangesOnly old new place.at (size table place.type)) →
     (IsWithin old place.at (size table place.type) → place.type < length table → Holds new table place (default_of table place.type) []) →
-    ChangesPlace old new table place (default_of table place.type) [] (after_gives (live old) blocks) blocks []
-number_cleared allocator old new table place v blocks s number changes filled =
-    cleared allocator old old new new table table table refl refl place v blocks s None None refl
+    ClearsPlace old new table place (default_of table place.type) blocks [] shares final
+number_cleared allocator old new table place v blocks s shares kept now final b number changes filled =
+    cleared allocator old old new new table table table refl refl place v blocks s shares kept now final b None None refl
     (λ home xs ns inside part. nothing_added old table None (home ∷ []) xs ns (no_cells_own old table place xs ns number part)) changes filled
     (λ zs kept final valid w owned. all_freed allocator new new table valid None zs kept final 0 owned (none_freed allocator new table None zs kept final w) refl)

@@ -54,7 +54,8 @@ module _ (allocator : ℕ) (old now : List ℕ) (table : Table) (valid : IsTable
       let head = field_next table at 0 i Us from U e' in
       let head' : drop i (fields table at Us) ≡ record { at = at + from; type = U } ∷ drop (i + 1) (fields table at Us) = subst
       (λ a. drop i (fields table a Us) ≡ record { at = at + from; type = U } ∷ drop (i + 1) (fields table a Us)) zero_off head in
-      let j' : Joined allocator old now table first home (record { at = at + from; type = U } ∷ drop (i + 1) (fields table at Us)) xs ys names kept final = subst (λ ps. Joined allocator old now table first home ps xs ys names kept final) head' j in
+      let j' : Joined allocator old now table first home (record { at = at + from; type = U } ∷ drop (i + 1) (fields table at Us)) xs ys names kept final =
+      subst (λ ps. Joined allocator old now table first home ps xs ys names kept final) head' j in
       let inside = j'.inside.0 in
       let own = owned home in
       let live_same : times home (positions (live now)) ≡ times home (positions (live old)) = ap (λ bs. times home (positions bs)) j'.adds.keeps.live_kept in
@@ -62,7 +63,8 @@ module _ (allocator : ℕ) (old now : List ℕ) (table : Table) (valid : IsTable
       let lies = there (LiesIn now heap_start (length now)) home (positions (live now)) (live-lie now allocator j'.adds.awaits.beside.pends.heap) here_live in
       let position : place_at ≡ at + from = let low = inside.low in let high = inside.high in let end = lies.high in let small = j'.adds.awaits.beside.pends.heap.small in let big = size_large table valid U in omega arith in
       let at_type : ℕ → ℕ → Type 0 = λ a W. (home : ℕ) (its ns : List ℕ) → IsInside now home a (size table W) → IsPart now table (record { at = a; type = W }) its ns → AddsIn now new table first next (home ∷ []) its ns in
-      let step_1 : at_type place_at V = subst (λ t. (home : ℕ) (its ns : List ℕ) → IsInside now home place_at (size t V) → IsPart now t (record { at = place_at; type = V }) its ns → AddsIn now new t first next (home ∷ []) its ns) same step in
+      let step_1 : at_type place_at V =
+      subst (λ t. (home : ℕ) (its ns : List ℕ) → IsInside now home place_at (size t V) → IsPart now t (record { at = place_at; type = V }) its ns → AddsIn now new t first next (home ∷ []) its ns) same step in
       let step_2 : at_type place_at U = subst (λ W. at_type place_at W) type_is step_1 in
       let step_3 : at_type (at + from) U = subst (λ a. at_type a U) position step_2 in
       joined_more allocator old table valid home xs ys names kept final owned now new first next (record { at = at + from; type = U }) (drop (i + 1) (fields table at Us)) j'
@@ -108,7 +110,8 @@ module _ (allocator : ℕ) (old now : List ℕ) (table : Table) (valid : IsTable
       let position : place_at ≡ start + i * (before + size table U) + before = let low = inside.low in let high = inside.high in let end = lies.high in let small = j'.adds.awaits.beside.pends.heap.small in
       let big = size_large table valid U in omega arith in
       let at_type : ℕ → ℕ → Type 0 = λ a W. (home : ℕ) (its ns : List ℕ) → IsInside now home a (size table W) → IsPart now table (record { at = a; type = W }) its ns → AddsIn now new table first next (home ∷ []) its ns in
-      let step_1 : at_type place_at V = subst (λ t. (home : ℕ) (its ns : List ℕ) → IsInside now home place_at (size t V) → IsPart now t (record { at = place_at; type = V }) its ns → AddsIn now new t first next (home ∷ []) its ns) same step in
+      let step_1 : at_type place_at V =
+      subst (λ t. (home : ℕ) (its ns : List ℕ) → IsInside now home place_at (size t V) → IsPart now t (record { at = place_at; type = V }) its ns → AddsIn now new t first next (home ∷ []) its ns) same step in
       let step_2 : at_type place_at U = subst (λ W. at_type place_at W) type_is step_1 in
       let step_3 : at_type (start + i * (before + size table U) + before) U = subst (λ a. at_type a U) position step_2 in
       joined_more allocator old table valid home xs ys names kept final owned now new first next (record { at = start + i * (before + size table U) + before; type = U }) (entries_at table (start + (i + 1) * (before + size table U)) before U

@@ -77,7 +77,8 @@ two_links old mid new table mid_table f g k p q home xs ns same_table q_is insid
     (λ h. omega (arith, s.ns_are h, times-append h ns names, times-append h s.my_names s.rest_names, times-append h s.my_names (s.rest_names ++ names), times-append h s.rest_names names)) w in
     let first = one s.mine s.my_names s.one allocator zs (s.rest_names ++ names) kept_cells final valid waiting fits_one in
     let live_same = λ (h : ℕ). let e : times h (positions (live mid)) ≡ times h (positions (live old)) = ap (λ bs. times h (positions bs)) first.keeps.live_kept in e in
-    let apart : times home (s.mine ++ zs) ≡ 0 = let c = counts home in let once = live-once old allocator heap home in let t = times-same home (xs ++ zs) in let n = times-append home xs zs in let o = times-append home s.mine zs in omega arith in
+    let apart : times home (s.mine ++ zs) ≡ 0 =
+    let c = counts home in let once = live-once old allocator heap home in let t = times-same home (xs ++ zs) in let n = times-append home xs zs in let o = times-append home s.mine zs in omega arith in
     let kept = first.keeps.others home here apart in
     let word_same : IsSame old mid (p + 4) 4 = IsSame-part old mid p 8 (p + 4) 4 (omega arith) (omega arith) (inside_same old mid home p 8 inside kept) in
     let disjoint : AreLive old ((s.mine ++ zs) ++ s.rest) = λ h.

@@ -177,7 +177,8 @@ module _ (bytes : List ℕ) (table : Table) where
         name = names ∙ ap named_in v_is ∙ ap (λ l. named_in (node l inside)) label ∙ named_shared U p inside ∙ ap (λ ms. p ∷ ms) inside_none.1;
       }
 
-  pub shared_there : (place : Place) (content : Option Content) (p : ℕ) (xs ns : List ℕ) → IsTable table → length (fields_of table place.type) ≡ 0 → has_cells (form_at table place.type) ≡ true → target bytes place.at ≡ Some p → content ≡ None →
+  pub shared_there : (place : Place) (content : Option Content) (p : ℕ) (xs ns : List ℕ) → IsTable table → length (fields_of table place.type) ≡ 0 → has_cells (form_at table place.type) ≡ true → target bytes place.at ≡ Some p →
+      content ≡ None →
       ContentOf table place.type (form_at table place.type) content → IsPart bytes table place xs ns → SharesIt p xs ns
   shared_there place content p xs ns valid few some e none h part =
       shared_by place (form_at table place.type) p xs ns valid few some e refl (subst (λ k. ContentOf table place.type (form_at table place.type) k) none h) part

@@ -30,7 +30,7 @@ use Rattle.seg_value.specs.declared.entry.Held.TheVariants as held
 
 -- ---- one word spells one tag
 
-same_object : (k : Kind) (t T : ℕ) → tag_of (kind_of k) t ≡ tag_of block.Kind.object T → (k ≡ kind.Object) × (t ≡ T)
+pub same_object : (k : Kind) (t T : ℕ) → tag_of (kind_of k) t ≡ tag_of block.Kind.object T → (k ≡ kind.Object) × (t ≡ T)
 same_object kind.Object t T e = (refl, omega arith)
 same_object kind.Named t T e = absurd (omega arith)
 same_object kind.Buffer t T e = absurd (omega arith)
@@ -399,7 +399,8 @@ module _ (allocator : ℕ) (old mid new : List ℕ) (table here : Table) (same :
   links_waiting = awaits_names allocator old table f ys (ns ++ names) (ws ++ (vs ++ names)) kept_cells final
       (λ h. omega (arith, ns_are h, times-append h ns names, times-append h vs ws, times-append h ws (vs ++ names), times-append h vs names)) w
 
-  module _ (first : Adds allocator old mid table g bs ys (vs ++ names) kept_cells final) (buffer : (b : Span) → content.shape ≡ shape.Buffer → p ≡ b.at + 16 → IsSized mid b → n ≡ (16 * b.units - 16) / content.entry.size) (one : (content.shape ≡ shape.Buffer → ⊥) → n ≡ 1)
+  module _ (first : Adds allocator old mid table g bs ys (vs ++ names) kept_cells final)
+      (buffer : (b : Span) → content.shape ≡ shape.Buffer → p ≡ b.at + 16 → IsSized mid b → n ≡ (16 * b.units - 16) / content.entry.size) (one : (content.shape ≡ shape.Buffer → ⊥) → n ≡ 1)
       (text : content.entry.held ≡ held.Bytes → (new ≡ mid) × (k ≡ g))
       (entries : (home before U : ℕ) (zs ms : List ℕ) → IsEntryOf here before U content.entry → IsInside mid home p (n * (before + size here U)) → AreParts mid here (entries_at here p before U n) zs ms →
       AddsIn mid new here g k (home ∷ []) zs ms) where

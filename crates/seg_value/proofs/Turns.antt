@@ -1,23 +1,26 @@
 -- One turn of destruction, and what it needs of an object that nothing holds.
-use Rattle.std.proofs.Common.{◌≡◌, ℕ, ◌+◌, ◌≤◌, inl, List, [], ◌∷◌, ◌++◌, length, Option, None, refl, sym, ap, ◌∙◌, subst, arith}
+use Rattle.std.proofs.Common.{◌≡◌, ◌≢◌, ℕ, ◌+◌, ◌≤◌, inl, List, [], ◌∷◌, ◌++◌, length, map, Option, None, refl, sym, ap, ◌∙◌, subst, arith}
 use Rattle.seg_spec.specs.Header.{free_word, back_start, back_size, KeepsFront, KeepsBack}
-use Rattle.seg_spec.specs.Types.{Table, IsTable, AreOfVersion}
+use Rattle.seg_spec.specs.Types.{Table, IsTable}
 use Rattle.seg_spec.specs.Value.{Value}
 use Rattle.seg_spec.specs.Heap.{IsHeap, live, heap_start, without, IsLive, Gives}
-use Rattle.seg_spec.specs.Block.{Kind, block_of}
+use Rattle.seg_spec.specs.Block.{Kind, KeepsBlock, block_of}
 use Rattle.seg_spec.specs.Calls.{IsLoose}
 use Rattle.seg_spec.specs.Demand.{after_gives}
-use Rattle.seg_spec.specs.Sound.{times, SameBlocks, positions}
+use Rattle.seg_spec.specs.Sound.{times, SameBlocks, positions, HoldsRoots}
 use Rattle.seg_spec.specs.Reads.{Place}
-use Rattle.seg_spec.specs.Frozen.{Frozen}
+use Rattle.seg_spec.specs.Frozen.{Frozen, root_of_frozen}
 use Rattle.seg_spec.specs.Shared.{named_in}
-use Rattle.seg_spec.specs.Owing.{no_parts, more_parts, owes, no_links}
-use Rattle.seg_spec.specs.Destroying.{AreLive, GoesWith, Awaits, Pops, Adds, Frees, Destroys}
-use Rattle.seg_spec.proofs.LiveLaws.{times-append, times-same, times-without, there, LiesIn, live-lie}
+use Rattle.seg_spec.specs.Owing.{KeepsLinked, no_parts, more_parts, owes, no_links}
+use Rattle.seg_spec.specs.Destroying.{AreLive, GoesWith, Awaits, Pops, Adds, Destroys}
+use Rattle.seg_spec.proofs.LiveLaws.{times-append, times-same, times-without, there, each_there, LiesIn, live-lie, live-once}
 use Rattle.seg_spec.proofs.KeptLaws.{front_kept}
 use Rattle.seg_spec.proofs.Giving.{found, given_kept}
-use Rattle.seg_spec.proofs.Destruction.{HasFreed, pop_live, freed_more, linked_twice, awaits_blocks}
-use Rattle.seg_spec.proofs.Unshared.{names_none, awaits_alone, frees_alone}
+use Rattle.seg_spec.proofs.Destruction.{HasFreed, pop_live, freed_more, linked_twice, released}
+use Rattle.seg_spec.specs.Clearing.{SharedBeside}
+use Rattle.seg_spec.proofs.RootFrame.{HoldsRoots-kept}
+use Rattle.seg_spec.proofs.Standing.{ownable_linked}
+use Rattle.seg_spec.proofs.SharedAlone.{awaits_shared}
 use Rattle.seg_value.specs.Waiting.{AddsIn, IsOpened}
 
 -- a block in a list of live ones
@@ -61,27 +64,6 @@ loose_goes bytes table object U v inside l = record {
   named_are = λ h. let a = times-append h (named_in v) [] in let b = times-append h (named_in v ++ []) [] in omega arith;
 }
 
--- an object that is a number goes alone
-pub number_frees : (allocator : ℕ) (old new : List ℕ) (p : ℕ) (inside : List ℕ) → inside ≡ [] → IsHeap allocator old → AreLive old (p ∷ inside) → Gives allocator old new p → Frees allocator old new (p ∷ inside) []
-number_frees allocator old new p inside none heap owned g = rw none (record {
-  length_kept = g.kept.length_kept;
-  front_kept = front.0;
-  back_kept = front.1;
-  heap = g.heap;
-  live_is = g.given;
-  live_are = λ h. let w = times-without h p (live old) some in let is : times h (positions (live new)) ≡ times h (positions (without p (live old))) = ap (λ bs. times h (positions bs)) g.given in omega arith;
-  kept = λ h there_is gone. given_kept allocator old new p heap g h there_is (λ e. let one = times-same p [] in let s : times p (p ∷ []) ≡ 0 = subst (λ x. times x (p ∷ []) ≡ 0) e gone in absurd (omega arith));
-})
-  where
-    some : 1 ≤ times p (positions (live old))
-    some = let o = owned p in let one = times-same p inside in omega arith
-
-    large : heap_start ≤ length old
-    large = let l = there (LiesIn old heap_start (length old)) p (positions (live old)) (live-lie old allocator heap) some in omega (arith, l.low, l.high)
-
-    front : KeepsFront old new × KeepsBack old new
-    front = front_kept old new g.kept large
-
 -- what joined those that wait is destroyed
 pub added_destroys : (allocator : ℕ) (old mid new : List ℕ) (table : Table) (first : Option ℕ) (xs ys names blocks : List ℕ) (kept : List Place) (final : List Frozen) → Adds allocator old mid table first xs ys names kept final →
     SameBlocks (xs ++ ys) blocks → Destroys allocator mid new table blocks final → Destroys allocator old new table blocks final
@@ -101,22 +83,70 @@ added_destroys allocator old mid new table first xs ys names blocks kept final a
         kept = λ h some none. linked_twice old mid new h (a.keeps.others h some (same h ∙ d.blocks_are h ∙ none)) (f.kept h (subst (λ bs. 1 ≤ times h (positions bs)) (sym a.keeps.live_kept) some) none);
       };
       holds = d.holds;
+      ownable = d.ownable;
     }
 
-pub destroyed : (allocator : ℕ) (old mid new : List ℕ) (table here : Table) → here ≡ table → IsTable table → AreOfVersion 1 table → (none first : Option ℕ) → none ≡ None → (object U : ℕ) (v : Value) (inside : List ℕ) → IsHeap allocator old →
-    IsLoose old table (record { at = object; type = U }) v inside → ((xs ns : List ℕ) → GoesWith old table object xs ns → AddsIn old mid table none first [] xs ns) →
+pub destroyed : (allocator : ℕ) (old mid new : List ℕ) (table here : Table) → here ≡ table → IsTable table → (none first : Option ℕ) → none ≡ None → (object U : ℕ) (v : Value) (inside : List ℕ) → IsHeap allocator old →
+    IsLoose old table (record { at = object; type = U }) v inside → (shares : List ℕ) (kept : List Place) (now final : List Frozen) → SharedBeside old table (block_of object ∷ inside) v shares kept now final →
+    ((xs ns : List ℕ) → GoesWith old table object xs ns → AddsIn old mid table none first [] xs ns) →
     ((blocks : List ℕ) (kept : List Place) (final : List Frozen) → IsTable here → Awaits allocator mid here first blocks [] kept final → AreLive mid blocks → Destroys allocator mid new here blocks final) →
-    Frees allocator old new (block_of object ∷ inside) []
-destroyed allocator old mid new table here same valid version none first is_none object U v inside heap loose push destroy =
+    Destroys allocator old new table ((block_of object ∷ inside) ++ shares) final
+destroyed allocator old mid new table here same valid none first is_none object U v inside heap loose shares kept now final b push destroy =
     let xs = block_of object ∷ inside in
-    let fits : AreLive old ((block_of object ∷ inside) ++ []) = λ h. let o = loose.owned h in let n = times-append h (block_of object ∷ inside) [] in omega arith in
-    let no_names : [] ≡ named_in v ++ [] = sym (ap (λ ns. ns ++ []) (names_none old table version loose.holds_it)) in
-    let alone = subst (λ ns. Awaits allocator old table none [] ns [] []) no_names (awaits_alone allocator old table none is_none heap) in
-    let a = push (block_of object ∷ inside) (named_in v) (loose_goes old table object U v inside loose) allocator [] [] [] [] valid alone fits in
+    let waiting = awaits_shared allocator old table none (block_of object ∷ inside) v shares kept now final is_none heap b in
+    let a = push (block_of object ∷ inside) (named_in v) (loose_goes old table object U v inside loose) allocator shares [] kept final valid waiting b.owned in
     let destroy' : (blocks : List ℕ) (kept : List Place) (final : List Frozen) → IsTable table → Awaits allocator mid table first blocks [] kept final → AreLive mid blocks → Destroys allocator mid new table blocks final =
     subst (λ t. (blocks : List ℕ) (kept : List Place) (final : List Frozen) → IsTable t → Awaits allocator mid t first blocks [] kept final → AreLive mid blocks → Destroys allocator mid new t blocks final) same destroy in
-    let all : SameBlocks ((block_of object ∷ inside) ++ []) (block_of object ∷ inside) = λ h. let n = times-append h (block_of object ∷ inside) [] in omega arith in
-    let waiting = awaits_blocks allocator mid table first ((block_of object ∷ inside) ++ []) (block_of object ∷ inside) [] [] [] all a.awaits in
-    let live_there : AreLive mid (block_of object ∷ inside) = λ h. let o = loose.owned h in let l : times h (positions (live mid)) ≡ times h (positions (live old)) = ap (λ bs. times h (positions bs)) a.keeps.live_kept in omega arith in
-    let d = destroy' (block_of object ∷ inside) [] [] valid waiting live_there in
-    frees_alone allocator old new table (block_of object ∷ inside) (added_destroys allocator old mid new table first (block_of object ∷ inside) [] [] (block_of object ∷ inside) [] [] a all d)
+    let live_there : AreLive mid ((block_of object ∷ inside) ++ shares) = λ h. let o = b.owned h in
+    let l : times h (positions (live mid)) ≡ times h (positions (live old)) = ap (λ bs. times h (positions bs)) a.keeps.live_kept in omega arith in
+    let d = destroy' ((block_of object ∷ inside) ++ shares) kept final valid a.awaits live_there in
+    added_destroys allocator old mid new table first (block_of object ∷ inside) shares [] ((block_of object ∷ inside) ++ shares) kept final a (λ h. refl) d
+
+-- an object that is a number goes alone, and all frozen objects stay
+pub number_destroys : (allocator : ℕ) (old new : List ℕ) (table : Table) → IsTable table → (p : ℕ) (v : Value) (inside : List ℕ) → inside ≡ [] → named_in v ≡ [] → IsHeap allocator old → (shares : List ℕ) (kept : List Place)
+    (now final : List Frozen) → SharedBeside old table (p ∷ inside) v shares kept now final → Gives allocator old new p → Destroys allocator old new table ((p ∷ inside) ++ shares) final
+number_destroys allocator old new table valid p v inside none no_names heap shares kept now final b g = record {
+  gives = p ∷ inside;
+  shares = shares;
+  blocks_are = λ h. refl;
+  frees = record {
+    length_kept = g.kept.length_kept;
+    front_kept = front.0;
+    back_kept = front.1;
+    heap = g.heap;
+    live_is = g.given ∙ ap (after_gives (live old)) alone;
+    live_are = λ h. let w = times-without h p (live old) some in let is : times h (positions (live new)) ≡ times h (positions (without p (live old))) = ap (λ bs. times h (positions bs)) g.given in
+        let one : times h (p ∷ inside) ≡ times h (p ∷ []) = ap (times h) (sym alone) in omega arith;
+    kept = λ h there_is gone. stays h there_is (λ e.
+        let z : times p ((p ∷ inside) ++ shares) ≡ 0 = subst (λ x. times x ((p ∷ inside) ++ shares) ≡ 0) e gone in absurd (omega (arith, times-append p (p ∷ inside) shares, times-same p inside)));
+  };
+  holds = subst (λ fs. HoldsRoots new table (map root_of_frozen fs) shares) now_is (HoldsRoots-kept old new table valid b.holds (each_there (KeepsBlock old new) shares (λ h l. (beside h l).whole.kept)));
+  ownable = λ h l. ownable_linked old new table h (beside h l) (b.ownable h l);
+}
+  where
+    alone : p ∷ [] ≡ p ∷ inside
+    alone = ap (λ zs. p ∷ zs) (sym none)
+
+    some : 1 ≤ times p (positions (live old))
+    some = let o = b.owned p in let one = times-same p inside in let n = times-append p (p ∷ inside) shares in omega arith
+
+    large : heap_start ≤ length old
+    large = let l = there (LiesIn old heap_start (length old)) p (positions (live old)) (live-lie old allocator heap) some in omega (arith, l.low, l.high)
+
+    front : KeepsFront old new × KeepsBack old new
+    front = front_kept old new g.kept large
+
+    stays : (h : ℕ) → 1 ≤ times h (positions (live old)) → h ≢ p → KeepsLinked old new h
+    stays h there_is other = given_kept allocator old new p heap g h there_is other
+
+    beside : (h : ℕ) → 1 ≤ times h shares → KeepsLinked old new h
+    beside h l =
+        let n = times-append h (p ∷ inside) shares in
+        let o = b.owned h in
+        stays h (omega arith) (λ e.
+        let once = live-once old allocator heap p in
+        let mine : 1 ≤ times p shares = subst (λ x. 1 ≤ times x shares) e l in
+        absurd (omega (arith, b.owned p, times-append p (p ∷ inside) shares, times-same p inside)))
+
+    now_is : now ≡ final
+    now_is = released kept final (named_in v) now b.releasing (λ h. ap (times h) no_names)

@@ -5,6 +5,7 @@ use Rattle.seg_spec.specs.Heap.{live}
 use Rattle.seg_spec.specs.Owning.{Stands}
 use Rattle.seg_spec.specs.Roots.{ChangesPlace}
 use Rattle.seg_spec.specs.Value.{Value, default_of}
+use Rattle.seg_spec.proofs.SharedAlone.{cleared_alone}
 use Rattle.seg_value.specs.Entries.{NamesFlatMap}
 use Rattle.seg_value.specs.Places.{place_of}
 use Rattle.seg_value.specs.Stored.{Stored}
@@ -26,7 +27,7 @@ returns-clause-removes g c = λ T U keys vs blocks f s names. elim c.match-value
       let types_are : c.match-value.heap.types ≡ table = ap (λ (h : Stored). h.types) w.heap-is ∙ w.clear.ensures.types in
       let clears : (v : Value) (bs : List ℕ) → Stands g.F.Fit.allocator old table (place_of w.in-Some.value) v bs → ChangesPlace old c.match-value.heap.window.bytes table (place_of w.in-Some.value)
       (default_of table w.in-Some.value.type_id) [] (after_gives (live old) bs) bs [] =
-      λ v bs st. subst (λ m. ChangesPlace old m table (place_of w.in-Some.value) (default_of table w.in-Some.value.type_id) [] (after_gives (live old) bs) bs []) (sym bytes_are) (w.clear.ensures.cleared v bs st) in
+      λ v bs st. subst (λ m. ChangesPlace old m table (place_of w.in-Some.value) (default_of table w.in-Some.value.type_id) [] (after_gives (live old) bs) bs []) (sym bytes_are) ((cleared_alone w.clear.ensures.cleared) v bs st) in
       let names' = subst (λ t. NamesFlatMap t T U c.args.content.now) (sym types_are) names in
       (remove_found g.F.Fit.allocator old table c.args.cell T U keys vs blocks f s c.args.key _ (to_z-of_z w64 c.args.key c.ranges.key) c.match-value.heap.window.bytes c.close_entry.new.self.window.bytes
       c.match-value.heap.types types_are c.args.content.now.entry c.in-Ok.index c.start.result w.in-Some.value names.1.entry_is (c.in-Ok.ensures T U keys vs blocks f s names.1.entry_is) c.start.ensures
@@ -46,7 +47,7 @@ returns-clause-keeps g c = λ T U keys vs blocks f s names. elim c.match-value.b
       let types_are : c.match-value.heap.types ≡ table = ap (λ (h : Stored). h.types) w.heap-is ∙ w.clear.ensures.types in
       let clears : (v : Value) (bs : List ℕ) → Stands g.F.Fit.allocator old table (place_of w.in-Some.value) v bs → ChangesPlace old c.match-value.heap.window.bytes table (place_of w.in-Some.value)
       (default_of table w.in-Some.value.type_id) [] (after_gives (live old) bs) bs [] =
-      λ v bs st. subst (λ m. ChangesPlace old m table (place_of w.in-Some.value) (default_of table w.in-Some.value.type_id) [] (after_gives (live old) bs) bs []) (sym bytes_are) (w.clear.ensures.cleared v bs st) in
+      λ v bs st. subst (λ m. ChangesPlace old m table (place_of w.in-Some.value) (default_of table w.in-Some.value.type_id) [] (after_gives (live old) bs) bs []) (sym bytes_are) ((cleared_alone w.clear.ensures.cleared) v bs st) in
       let names' = subst (λ t. NamesFlatMap t T U c.args.content.now) (sym types_are) names in
       (remove_found g.F.Fit.allocator old table c.args.cell T U keys vs blocks f s c.args.key _ (to_z-of_z w64 c.args.key c.ranges.key) c.match-value.heap.window.bytes c.close_entry.new.self.window.bytes
       c.match-value.heap.types types_are c.args.content.now.entry c.in-Ok.index c.start.result w.in-Some.value names.1.entry_is (c.in-Ok.ensures T U keys vs blocks f s names.1.entry_is) c.start.ensures

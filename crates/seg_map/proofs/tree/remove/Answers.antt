@@ -5,6 +5,7 @@ use Rattle.seg_spec.specs.Heap.{IsHeap, IsLive, Gives}
 use Rattle.seg_spec.specs.Block.{block_of}
 use Rattle.seg_spec.specs.Items.{key_place}
 use Rattle.seg_spec.specs.Window.{Placement, with_bytes}
+use Rattle.seg_spec.proofs.SharedAlone.{cleared_alone}
 use Rattle.seg_rbtree.specs.Paths.{node_at}
 use Rattle.seg_value.specs.Stored.{Stored}
 use Rattle.seg_value.specs.Places.{object_at}
@@ -63,7 +64,7 @@ returns-clause-removes g c = λ T U keys vs blocks f s n.
           c.window.result.now.bytes c.window_mut.result.now.bytes c.set_count.new.self.types c.saturating_sub-nodes.result c.count.result c.args.content.now.entry.size c.args.content.now.entry.before c.tree_of.result.root
           w.in-Some-value.value.at w.in-Some-value.value.type_id path same (bytes_are c.window_mut.result.now c.args.heap.now.window c.window_mut.ensures.value) c.tree_of.ensures c.path_to_key-path.ensures.root
           (c.path_to_key-path.ensures.leads tt) node_is c.remove.ensures.removed set c.saturating_sub-nodes.ensures c.count.ensures c.set_count.ensures.types
-          (ap (λ (p : Place). p.at) value_is) n.entry_is.before_is (ap (λ (p : Place). p.type_id) value_is) w.clear.ensures.cleared gives in
+          (ap (λ (p : Place). p.at) value_is) n.entry_is.before_is (ap (λ (p : Place). p.type_id) value_is) (cleared_alone w.clear.ensures.cleared) gives in
           subst (λ k. RemovesKey a old c.free_block.new.self.window.bytes table place keys vs blocks (key_place keys k) true) (to_z-of_z w64 c.args.key c.ranges.key)
           (removes_one a old table place U keys vs blocks f s key node here c.free_block.new.self.window.bytes taken.0)
       | in_default-value w ↦ absurd (w.in_default-value.not-Some value found)
@@ -96,7 +97,7 @@ returns-clause-keeps g c = λ T U keys vs blocks f s n.
           c.window.result.now.bytes c.window_mut.result.now.bytes c.set_count.new.self.types c.saturating_sub-nodes.result c.count.result c.args.content.now.entry.size c.args.content.now.entry.before c.tree_of.result.root
           w.in-Some-value.value.at w.in-Some-value.value.type_id path same (bytes_are c.window_mut.result.now c.args.heap.now.window c.window_mut.ensures.value) c.tree_of.ensures c.path_to_key-path.ensures.root
           (c.path_to_key-path.ensures.leads tt) node_is c.remove.ensures.removed set c.saturating_sub-nodes.ensures c.count.ensures c.set_count.ensures.types
-          (ap (λ (p : Place). p.at) value_is) n.entry_is.before_is (ap (λ (p : Place). p.type_id) value_is) w.clear.ensures.cleared gives in
+          (ap (λ (p : Place). p.at) value_is) n.entry_is.before_is (ap (λ (p : Place). p.type_id) value_is) (cleared_alone w.clear.ensures.cleared) gives in
           subst (λ k. KeepsOtherKeys old c.free_block.new.self.window.bytes table place k) (to_z-of_z w64 c.args.key c.ranges.key) taken.1
       | in_default-value w ↦ absurd (w.in_default-value.not-Some value found)
     ]

@@ -6,6 +6,7 @@ use Rattle.seg_spec.specs.Block.{block_of}
 use Rattle.seg_spec.specs.Owning.{Stands}
 use Rattle.seg_spec.specs.Roots.{ChangesPlace}
 use Rattle.seg_spec.specs.Demand.{after_gives}
+use Rattle.seg_spec.proofs.SharedAlone.{cleared_alone}
 use Rattle.seg_value.specs.Stored.{Stored}
 use Rattle.seg_manager.proofs.ClearedItems.{root_first, root_next, root_last}
 use Rattle.seg_manager.proofs.segment.Segment.destroy_named.Goals as goal
@@ -27,7 +28,7 @@ loop-index-preserved g c = record {
       let type = c.value_of-value.result.type_id in
       let next = c.clear.new.self.window.bytes in
       let clears = subst (λ (s : Stored). (v : Value) (bs : List ℕ) → Stands a s.window.bytes s.types (record { at = p; type = type }) v bs
-      → ChangesPlace s.window.bytes next s.types (record { at = p; type = type }) (default_of s.types type) [] (after_gives (live s.window.bytes) bs) bs []) c.heap_mut.ensures.value c.clear.ensures.cleared in
+      → ChangesPlace s.window.bytes next s.types (record { at = p; type = type }) (default_of s.types type) [] (after_gives (live s.window.bytes) bs) bs []) c.heap_mut.ensures.value (cleared_alone c.clear.ensures.cleared) in
       root_next a c.args.self.now.window.bytes c.args.self.now.types root blocks u c.loop-index.self.window.bytes next c.args.found found_is c.loop-index.index (c.loop-index.invariant.cleared root blocks u found_is type_is)
       c.loop-index.self.types c.args.t c.size-size.result p type type_is c.loop-index-test.true c.loop-index.invariant.types c.value_of-value.ensures.type_id
       (c.size-size.ensures.value ∙ ap (λ t. size t c.args.t) c.types.ensures) c.value_of-value.ensures.at clears;

@@ -7,6 +7,7 @@ use Rattle.seg_spec.specs.Window.{with_bytes}
 use Rattle.seg_value.specs.Places.{place_of}
 use Rattle.seg_value.specs.Stored.{Stored}
 use Rattle.seg_value.proofs.Setting.{IsEmptied, own_cases, emptied_already, taken_emptied, own_set}
+use Rattle.seg_spec.proofs.SharedAlone.{destroyed_alone}
 use Rattle.seg_spec.proofs.Placements.{bytes_of}
 use Rattle.seg_value.proofs.heap.Heap.set_own.Goals as goal
 use Rattle.seg_value.proofs.heap.Heap.set_own.Goals.{in-Some, in_default}
@@ -33,7 +34,7 @@ returns-clause-set g c = λ U v w blocks inside f s loose fits.
     elim c.match-take_own.branch [
       | in-Some b ↦ subst (λ a. IsEmptied code old table own U f v blocks s a) (sym (bytes_in c.match-take_own.self b.destroy.new.self b.self-is))
           (taken_emptied code old table own U f v blocks s c.take_own.new.self.window.bytes b.destroy.new.self.window.bytes c.take_own.new.self.types c.take_own.ensures.types e.0 c.take_own.result b.in-Some.old b.in-Some.is t
-          b.destroy.ensures.frees)
+          (destroyed_alone b.destroy.ensures.destroyed))
       | in_default b ↦ let x = t.result_is in let y = b.in_default.is in absurd (cc)
     ] in
     let emptied = ⊎_elim when_empty when_full (own_cases old table own U v blocks f s.holds_it) in
