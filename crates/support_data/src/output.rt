@@ -17,6 +17,11 @@ impl Limited {
             limit,
         }
     }
+
+    /// An output that takes all.
+    pub fn unlimited(alloc: Global) -> Limited {
+        Limited::new(alloc, usize::MAX, usize::MAX)
+    }
 }
 
 impl Write for Limited {

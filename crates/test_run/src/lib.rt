@@ -1,5 +1,4 @@
-//! Tests of all that runs clients: the machine, over both allocators and both indexes, the front door, and the commands, on
-//! files in memory, with the traces and the words for refusals that they write.
+//! Tests of all that runs clients: the machine, over both allocators and both indexes, with its traces, and the front door.
 #![tactic(auto)]
 
 #[cfg(test)]

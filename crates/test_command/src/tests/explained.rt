@@ -1,5 +1,4 @@
 use crate::tests::files::{Stored, counter_file, counter_files, refuses, run, says};
-use crate::tests::runs::client;
 use std::test::Fail;
 use support_data::{counter, counter_with};
 
@@ -64,7 +63,7 @@ no object of the image has the name `y`; `segtool list` prints those that it has
 fn a_refused_client_is_told_in_words(rt: HostRuntime) -> Result<(), Fail> {
     let alloc = rt.alloc();
     let mut files = counter_files(alloc)?;
-    files.add("other", client(alloc, REFUSED)?.as_slice())?;
+    files.add_client("other", REFUSED)?;
     let words = ["segtool", "verify", "image", "other", "--explain"];
     let one = format!(in alloc; "fault 22 1 1\n{WORDS}")?;
     refuses(&rt, &mut files, &words, 1, one.as_str());

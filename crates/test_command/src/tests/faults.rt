@@ -1,5 +1,4 @@
 use crate::tests::files::{Stored, counter_files, refuses, run};
-use crate::tests::runs::client;
 use std::alloc::Global;
 use std::process::Abort;
 use std::test::Fail;
@@ -9,7 +8,7 @@ use support_data::{INCREMENT_FILE, counter, counter_with, front};
 fn files(alloc: Global) -> Result<Stored, Fail> {
     let mut files = counter_files(alloc)?;
     files.add("cut", front(&INCREMENT_FILE, 102))?;
-    files.add("text", client(alloc, "type str\nname x\n")?.as_slice())?;
+    files.add_client("text", "type str\nname x\n")?;
     Ok(files)
 }
 

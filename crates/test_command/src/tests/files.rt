@@ -1,6 +1,6 @@
 //! The programs on files in memory, and what they print.
 
-use crate::tests::runs::{client, unlimited};
+use client_code::assemble;
 use client_vm::Through;
 use seg_command::command;
 use seg_files::{FileFault, Files};
@@ -34,6 +34,12 @@ impl Stored {
         let alloc = *self.files.allocator();
         self.files.push((name, Vec::from_slice(alloc, bytes)?))?;
         Ok(())
+    }
+
+    /// The file of the client that a text spells.
+    pub(crate) fn add_client(&mut self, name: &'static str, text: &str) -> Result<(), Fail> {
+        let client = assemble(*self.files.allocator(), text.as_bytes())?;
+        Ok(self.add(name, client.as_slice())?)
     }
 
     /// The bytes that were written last to a file, none where there is no such file.
@@ -87,13 +93,13 @@ pub(crate) fn is(rt: &impl Abort, printed: &Printed, status: u8, out: &str, err:
 
 /// Runs the program on these words.
 pub(crate) fn run(alloc: Global, words: &[&str], files: &mut Stored) -> Printed {
-    run_into(alloc, words, files, unlimited(alloc))
+    run_into(alloc, words, files, Limited::unlimited(alloc))
 }
 
 /// Runs the program on these words with this output.
 pub(crate) fn run_into(alloc: Global, words: &[&str], files: &mut Stored, out: Limited) -> Printed {
     let mut out = Through::new(out);
-    let mut err = Through::new(unlimited(alloc));
+    let mut err = Through::new(Limited::unlimited(alloc));
     let status = command(alloc, words, files, &mut out, &mut err);
     Printed {
         status,
@@ -128,6 +134,6 @@ pub(crate) fn counter_file(alloc: Global, name: &'static str) -> Result<Stored, 
 /// The counter's image, as `image`, and the increment client, as `client`.
 pub(crate) fn counter_files(alloc: Global) -> Result<Stored, Fail> {
     let mut files = counter_file(alloc, "image")?;
-    files.add("client", client(alloc, INCREMENT)?.as_slice())?;
+    files.add_client("client", INCREMENT)?;
     Ok(files)
 }

@@ -1,5 +1,4 @@
 use crate::tests::files::{Stored, counter_file, is, refuses, run, says};
-use crate::tests::runs::client;
 use std::process::Abort;
 use std::test::Fail;
 use support_data::{INCREMENT, INCREMENT_FILE};
@@ -58,7 +57,7 @@ fn verify_says(
     err: &str,
 ) -> Result<(), Fail> {
     let mut files = counter_file(rt.alloc(), "image")?;
-    files.add("client", client(rt.alloc(), text)?.as_slice())?;
+    files.add_client("client", text)?;
     let words = ["segtool", "verify", "image", "client"];
     let printed = run(rt.alloc(), words.as_slice(), &mut files);
     is(rt, &printed, status, out, err);

@@ -1,16 +1,15 @@
 //! The program `segrun`, on files in memory.
 
 use crate::tests::files::{Printed, Stored, counter_files, is};
-use crate::tests::runs::unlimited;
 use client_vm::Through;
 use seg_program::run_command;
 use std::alloc::Global;
 use std::test::Fail;
-use support_data::counter_with;
+use support_data::{Limited, counter_with};
 
 fn run(alloc: Global, words: &[&str], files: &mut Stored) -> Printed {
-    let mut out = Through::new(unlimited(alloc));
-    let mut err = Through::new(unlimited(alloc));
+    let mut out = Through::new(Limited::unlimited(alloc));
+    let mut err = Through::new(Limited::unlimited(alloc));
     let status = run_command(alloc, words, files, &mut out, &mut err);
     Printed {
         status,

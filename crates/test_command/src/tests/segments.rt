@@ -1,5 +1,4 @@
 use crate::tests::files::{Stored, counter_file, is, refuses, run, run_into, says};
-use crate::tests::runs::client;
 use std::test::Fail;
 use support_data::{Limited, counter};
 
@@ -71,7 +70,7 @@ const OBJECTS: &str = "type i64
 fn lists_objects(rt: HostRuntime) -> Result<(), Fail> {
     for index in ["flat", "tree"] {
         let mut files = Stored::new(rt.alloc());
-        files.add("client", client(rt.alloc(), OBJECTS)?.as_slice())?;
+        files.add_client("client", OBJECTS)?;
         says(
             &rt,
             &mut files,

@@ -1,5 +1,4 @@
 use crate::tests::files::{Stored, counter_file, refuses, run, says};
-use crate::tests::runs::client;
 use std::alloc::Global;
 use std::test::Fail;
 use support_data::counter;
@@ -99,7 +98,7 @@ few[2]: 0
 /// An image on which a client ran.
 fn after(alloc: Global, allocator: &str, index: &str, text: &str) -> Result<Stored, Fail> {
     let mut files = Stored::new(alloc);
-    files.add("client", client(alloc, text)?.as_slice())?;
+    files.add_client("client", text)?;
     let words = ["segtool", "new", "saved", "8192", allocator, index];
     let _ = run(alloc, &words, &mut files);
     let words = ["segtool", "run", "saved", "saved", "client"];

@@ -1,13 +1,13 @@
 //! The front door as the tests see it: the calls of an image without their clauses, so that a test that makes many of them has
 //! a short proof.
 
-use crate::tests::runs::unlimited;
 use lezgauri::{
     AllocatorKind, Code, Fault, Image, IndexKind, Named, Place, Report, Through, Type, TypeId,
     TypeTable, Verified, check, run, type_table, verify,
 };
 use std::alloc::Global;
 use std::test::Fail;
+use support_data::Limited;
 
 /// An image in memory of the host.
 #[derive(Drop)]
@@ -73,7 +73,7 @@ impl Host {
         alloc: Global,
         client: &Verified,
     ) -> Result<(Report, Vec<u8>), Fault> {
-        let mut out = Through::new(unlimited(alloc));
+        let mut out = Through::new(Limited::unlimited(alloc));
         let report = run(&mut self.image, client, b"", &mut out)?;
         Ok((report, out.into_inner().bytes))
     }

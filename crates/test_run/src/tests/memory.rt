@@ -1,6 +1,5 @@
 //! Calls of which host memory is refused: each answers so, and nothing was written then.
 
-use crate::tests::runs::unlimited;
 use crate::tests::windows::{opened, window};
 use client_code::{assemble, parse, print};
 use client_vm::{Refused, Schedule, Through, run_bytes};
@@ -14,7 +13,7 @@ use seg_seqfit::SeqFit;
 use std::alloc::Global;
 use std::process::Abort;
 use std::test::Fail;
-use support_data::{INCREMENT, INCREMENT_FILE, counter};
+use support_data::{INCREMENT, INCREMENT_FILE, Limited, counter};
 
 /// What a run within this many bytes of host memory gives: nothing but a refusal for memory before anything is
 /// written, or all.
@@ -27,7 +26,7 @@ fn runs_within(rt: &(impl Abort + AllocGlobal), size: usize) -> Result<bool, Fai
         base: 0,
         moves: &[],
     };
-    let mut out = Through::new(unlimited(rt.alloc()));
+    let mut out = Through::new(Limited::unlimited(rt.alloc()));
     let outcome = run_bytes(
         &heap,
         image.as_slice(),

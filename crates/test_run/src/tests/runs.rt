@@ -80,11 +80,6 @@ pub(crate) fn verified<'c>(file: &'c [u8], types: &TypeTable) -> Result<Verified
     verify(parse(file)?, types)
 }
 
-/// An output that takes all.
-pub(crate) fn unlimited(alloc: Global) -> Limited {
-    Limited::new(alloc, usize::MAX, usize::MAX)
-}
-
 /// What a run of clients came to.
 #[derive(Drop)]
 pub(crate) struct Ran {

@@ -1,13 +1,11 @@
 //! Clients that share what they keep, and hosts that embed the library.
 
-use crate::tests::runs::{
-    KINDS, Kind, PLAIN, Setting, client, empty, run_anew, run_in, run_on, unlimited,
-};
+use crate::tests::runs::{KINDS, Kind, PLAIN, Setting, client, empty, run_anew, run_in, run_on};
 use lezgauri::{Code, Fault, Through};
 use lezgauri_uses::{Cache, Settings, count, new_counter, read_settings, write_settings};
 use std::process::Abort;
 use std::test::Fail;
-use support_data::{CACHE, CONFIGURE, COUNT, SETTINGS};
+use support_data::{CACHE, CONFIGURE, COUNT, Limited, SETTINGS};
 
 fn share_a_counter(rt: &(impl Abort + AllocGlobal), kind: Kind) -> Result<(), Fail> {
     let first = run_anew(rt.alloc(), 1024, kind, &[COUNT, COUNT])?;
@@ -82,7 +80,7 @@ fn counted(
     times: u32,
 ) -> Result<(Vec<u8>, Vec<u8>), Fail> {
     let file = client(rt.alloc(), text)?;
-    let mut out = Through::new(unlimited(rt.alloc()));
+    let mut out = Through::new(Limited::unlimited(rt.alloc()));
     let image = count(rt.alloc(), image, file.as_slice(), times, &mut out)?;
     Ok((out.into_inner().bytes, image))
 }
@@ -99,7 +97,7 @@ fn a_counter_counts(rt: HostRuntime) -> Result<(), Fail> {
 
 #[test]
 fn no_image_is_counted(rt: HostRuntime) {
-    let mut out = Through::new(unlimited(rt.alloc()));
+    let mut out = Through::new(Limited::unlimited(rt.alloc()));
     let none = count(rt.alloc(), Vec::new(rt.alloc()), b"", 1, &mut out);
     assert_eq!(rt; none.err(), Some(Fault::BadHeader));
 }

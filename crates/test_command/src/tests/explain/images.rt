@@ -1,6 +1,5 @@
 use crate::tests::explain::sources::{clients_alone, image_alone};
-use crate::tests::windows::window;
-use seg_check::check;
+use lezgauri::check;
 use seg_explain::explain;
 use seg_raw::Fault;
 use std::alloc::Global;
@@ -10,8 +9,7 @@ use support_data::counter_with;
 /// What is wrong with the counter's image where some words are others.
 fn explained(alloc: Global, changes: &[(usize, u32)]) -> Result<Vec<u8>, Fail> {
     let image = counter_with(alloc, changes)?;
-    let placed = window(alloc, image.as_slice())?;
-    match check(alloc, &placed) {
+    match check(alloc, image.as_slice()) {
         Ok(_types) => Ok(Vec::new(alloc)),
         Err(fault) => {
             let sources = image_alone(image.as_slice());

@@ -1,5 +1,6 @@
 use crate::tests::explain::sources::{clients_alone, run_of};
-use crate::tests::runs::{client, verified};
+use client_code::{assemble, parse};
+use client_verify::verify;
 use seg_explain::explain;
 use seg_layout::TypeTable;
 use seg_raw::Fault;
@@ -9,8 +10,8 @@ use support_data::counter;
 
 /// Why a client that a text spells is refused on a segment without types.
 fn explained(alloc: Global, text: &str) -> Result<Vec<u8>, Fail> {
-    let file = client(alloc, text)?;
-    match verified(file.as_slice(), &TypeTable::new()) {
+    let file = assemble(alloc, text.as_bytes())?;
+    match verify(parse(file.as_slice())?, &TypeTable::new()) {
         Ok(_client) => Ok(Vec::new(alloc)),
         Err(fault) => {
             let clients = [file.as_slice()];
@@ -137,7 +138,7 @@ fn explains_types_that_differ(rt: HostRuntime) -> Result<(), Fail> {
     let image = counter(alloc)?;
     let mut files = Vec::new(alloc);
     for text in ["type i64\ntype vec t0\n", "type i64\ntype str\n"] {
-        files.push(client(alloc, text)?)?;
+        files.push(assemble(alloc, text.as_bytes())?)?;
     }
     let clients: Vec<&[u8]> = files.iter().map(|file| file.as_slice()).collect(alloc)?;
     let sources = run_of(image.as_slice(), clients.as_slice());

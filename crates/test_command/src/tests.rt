@@ -1,0 +1,10 @@
+mod explain;
+mod explained;
+mod failures;
+mod faults;
+mod files;
+mod language;
+mod rows;
+mod runner;
+mod segments;
+mod views;

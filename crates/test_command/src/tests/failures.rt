@@ -1,0 +1,71 @@
+//! Commands on outputs and files that fail, and on an output that takes little at a time.
+
+use crate::tests::files::{counter_files, is, run, run_into};
+use std::process::Abort;
+use std::test::Fail;
+use support_data::{Limited, counter_with, front};
+
+const RUN: [&str; 5] = ["segtool", "run", "image", "saved", "client"];
+
+/// An output that takes so many bytes: what came before was taken, and the image is saved, with what the client did up to
+/// there.
+fn stops_after(rt: &(impl Abort + AllocGlobal), limit: usize) -> Result<(), Fail> {
+    let mut files = counter_files(rt.alloc())?;
+    let out = Limited::new(rt.alloc(), usize::MAX, limit);
+    let printed = run_into(rt.alloc(), RUN.as_slice(), &mut files, out);
+    assert_eq!(rt; printed.status, 3);
+    assert_eq!(rt; printed.err.as_slice(), b"file -\n".as_slice());
+    assert_eq!(rt; printed.out.as_slice(), front(b"42\n", limit));
+    let saved = counter_with(rt.alloc(), &[(720, 42)])?;
+    assert_eq!(rt; files.get("saved"), saved.as_slice());
+    Ok(())
+}
+
+/// The output fails at each byte in turn.
+#[test]
+fn stops_at_a_failed_output(rt: HostRuntime) -> Result<(), Fail> {
+    for limit in 0..3 {
+        stops_after(&rt, limit)?;
+    }
+    Ok(())
+}
+
+#[test]
+fn writes_a_byte_at_a_time(rt: HostRuntime) -> Result<(), Fail> {
+    let alloc = rt.alloc();
+    let mut files = counter_files(alloc)?;
+    let out = Limited::new(alloc, 1, usize::MAX);
+    let printed = run_into(alloc, RUN.as_slice(), &mut files, out);
+    is(&rt, &printed, 0, "42\n", "");
+    Ok(())
+}
+
+/// A read that fails: the file is named, and nothing is written after it.
+fn tells_of_a_failed_read(
+    rt: &(impl Abort + AllocGlobal),
+    read: usize,
+    line: &str,
+) -> Result<(), Fail> {
+    let mut files = counter_files(rt.alloc())?;
+    files.failing_read = read;
+    let printed = run(rt.alloc(), RUN.as_slice(), &mut files);
+    is(rt, &printed, 3, "", line);
+    assert!(rt; !files.has("saved"));
+    Ok(())
+}
+
+/// Each read fails in turn.
+#[test]
+fn tells_of_failed_reads(rt: HostRuntime) -> Result<(), Fail> {
+    tells_of_a_failed_read(&rt, 1, "file image\n")?;
+    tells_of_a_failed_read(&rt, 2, "file client\n")
+}
+
+#[test]
+fn tells_of_a_failed_write(rt: HostRuntime) -> Result<(), Fail> {
+    let mut files = counter_files(rt.alloc())?;
+    files.failing_write = 1;
+    let printed = run(rt.alloc(), RUN.as_slice(), &mut files);
+    is(&rt, &printed, 3, "42\n", "file saved\n");
+    Ok(())
+}
