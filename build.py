@@ -1,8 +1,8 @@
 #!/usr/bin/env python3
-"""Proves and builds the program, crates/segtool/out/segtool, and all below it.
+"""Proves and builds a program, crates/NAME/out/NAME, and all below it: segrun, which runs clients, or segtool, which has all commands.
 
-That is the gate, `rt ci`, of a copy of these crates alone, without the edits that the prover must refuse. What is proved there `rt`
-keeps on this machine: neither a second build nor the whole gate proves it again as long as it hasn't changed."""
+That is the gate, `rt ci`, of a copy of these crates alone, without the edits that the prover must refuse, so each is proved once."""
+import argparse
 import shutil
 import subprocess
 import sys
@@ -10,7 +10,7 @@ import tempfile
 from pathlib import Path
 
 ROOT = Path(__file__).resolve().parent
-PROGRAM = "segtool"
+PROGRAMS = ("segrun", "segtool")
 
 
 def lines():
@@ -34,10 +34,10 @@ def needed(of_crates, name):
     return sorted(found)
 
 
-def lay(copy):
-    """Lays the program's crates out as a repository of their own."""
+def lay(program, copy):
+    """Lays a program's crates out as a repository of their own."""
     of_crates = lines()
-    crates = needed(of_crates, PROGRAM)
+    crates = needed(of_crates, program)
     for it in crates:
         shutil.copytree(ROOT / "crates" / it, copy / "crates" / it, ignore=shutil.ignore_patterns("out", "must-fail"))
     (copy / "crates.txt").write_text("".join(f"{of_crates[it]}\n" for it in crates), encoding="utf-8")
@@ -45,10 +45,13 @@ def lay(copy):
 
 
 def main():
-    made = Path("crates") / PROGRAM / "out" / PROGRAM
+    parser = argparse.ArgumentParser(description=__doc__.partition("\n")[0])
+    parser.add_argument("program", nargs="?", choices=PROGRAMS, default=PROGRAMS[0], help="[default: %(default)s]")
+    program = parser.parse_args().program
+    made = Path("crates") / program / "out" / program
     with tempfile.TemporaryDirectory() as room:
         copy = Path(room)
-        lay(copy)
+        lay(program, copy)
         if subprocess.run(["rt", "ci"], cwd=copy).returncode:
             return 1
         (ROOT / made).parent.mkdir(exist_ok=True)
