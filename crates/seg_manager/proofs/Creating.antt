@@ -6,7 +6,7 @@ use Rattle.std.proofs.lemmas.List.{length-replicate, take-replicate, drop-replic
 use Rattle.seg_spec.specs.Bytes.{slice, put, number, number_of, word, set_word, IsSame, ChangesOnly}
 use Rattle.seg_spec.specs.Header.{version_word, units_word, allocator_word, index_kind_word, free_word, index_cell, back_start, reserved, reserved_size, types_start, types_size, uniques_start, uniques_size, heap_start, min_length}
 use Rattle.seg_spec.specs.Pointer.{target, set_pointer, distance}
-use Rattle.seg_spec.specs.Types.{Form, form_at, version_of, IsTable, size}
+use Rattle.seg_spec.specs.Types.{IsTable, size}
 use Rattle.seg_spec.specs.Heap.{Begins}
 use Rattle.seg_spec.specs.Shapes.{leaf}
 use Rattle.seg_spec.specs.Reads.{count_at}

@@ -1,5 +1,5 @@
 -- What is found and left where a value is destroyed beside frozen objects; and the same where there are none.
-use Rattle.std.proofs.Common.{◌≡◌, ℕ, ◌≤◌, List, [], ◌∷◌, ◌++◌, map, Option, None, refl, sym, ap, ◌∙◌, subst, arith}
+use Rattle.std.proofs.Common.{◌≡◌, ℕ, List, [], ◌∷◌, ◌++◌, map, Option, None, refl, sym, ap, ◌∙◌, subst, arith}
 use Rattle.seg_spec.specs.Types.{Table, IsTable, AreOfVersion}
 use Rattle.seg_spec.specs.Value.{Value, default_of}
 use Rattle.seg_spec.specs.Heap.{IsHeap, live}
