@@ -8,13 +8,17 @@ use Rattle.std.specs.Prelude.{◌≡◌, ℕ, ◌+◌, ◌≤◌, List, [], ◌�
 use Rattle.std.specs.List.{AllByRecursion}
 use Rattle.seg_spec.specs.Bytes.{word}
 use Rattle.seg_spec.specs.Header.{allocator_word, index_kind_word, KeepsFront, KeepsBack}
-use Rattle.seg_spec.specs.Types.{Table, IsTable, AreOfVersion}
+use Rattle.seg_spec.specs.Types.{Table, IsTable}
 use Rattle.seg_spec.specs.Heap.{IsHeap, live}
 use Rattle.seg_spec.specs.Block.{IsOwnable, KeepsBlock}
 use Rattle.seg_spec.specs.Index.{Root, root_named}
 use Rattle.seg_spec.specs.Sound.{Picture, HoldsRoot, times, positions}
 use Rattle.seg_spec.specs.Roots.{Listed, with_roots}
+use Rattle.seg_spec.specs.Counting.{without_cells}
 use Rattle.seg_spec.specs.Demand.{after_gives}
+use Rattle.seg_spec.specs.Destroying.{HoldFrozen, KeepFrozen}
+use Rattle.seg_spec.specs.Frozen.{blocks_by}
+use Rattle.seg_spec.specs.Shared.{names_each, left, freed}
 use Rattle.seg_spec.specs.Spending.{EntryBlocks, killed}
 use Rattle.seg_value.specs.Stored.{Stored}
 use Rattle.seg_manager.specs.Segments.{Becomes}
@@ -26,7 +30,6 @@ pub record IsUnlisted (allocator : ℕ) (bytes : List ℕ) (table : Table) (root
   pub heap : IsHeap allocator bytes
   pub allocator_is : word bytes allocator_word ≡ allocator
   pub is_table : IsTable table
-  pub of_version : AreOfVersion 1 table
   pub ownable : AllByRecursion (λ b. IsOwnable bytes table b.at) (live bytes)
   pub holds_it : HoldsRoot bytes table root blocks
   pub no_words : root.words ≡ []
@@ -46,8 +49,9 @@ pub record GivesBack (allocator : ℕ) (old new : List ℕ) (table : Table) (giv
   pub kept : (h : ℕ) → 1 ≤ times h (positions (live old)) → times h gives ≡ 0 →
       KeepsBlock old new h
 
--- the object of the name and type goes, with its blocks and those that went with its entry; the
--- others are where they were, and each live block that isn't the index's is kept
+-- the object of the name and type goes, with its blocks, those that went with its entry, and the frozen
+-- objects that it named last, with theirs; the others are where they were, and each live block that
+-- isn't the index's is kept, but for the counts of the objects that are left
 pub record LosesNamed (allocator : ℕ) (old new : Stored) (picture : Picture)
     (index_blocks name : List ℕ) (T : ℕ) : Type 0 where
   pub before : List Root
@@ -60,6 +64,12 @@ pub record LosesNamed (allocator : ℕ) (old new : Stored) (picture : Picture)
   pub holds_it : HoldsRoot old.window.bytes old.types root objects
   pub entry : EntryBlocks (word old.window.bytes index_kind_word) old.window.bytes index_blocks
       root entries
-  pub becomes : Becomes allocator old new
-      (with_roots picture Listed.by_name (before ++ after)) (objects ++ index_blocks)
-  pub live_is : live new.window.bytes ≡ after_gives (live old.window.bytes) (objects ++ entries)
+  pub theirs : ℕ → List ℕ
+  pub holds_shared : HoldFrozen old.window.bytes old.types theirs picture.frozen
+  pub becomes : Becomes allocator old new (without_cells (names_each root.values)
+      (with_roots picture Listed.by_name (before ++ after)))
+      ((objects ++ index_blocks) ++ blocks_by theirs picture.frozen)
+  pub shared_kept : KeepFrozen old.window.bytes new.window.bytes theirs
+      (left (names_each root.values) picture.frozen)
+  pub live_is : live new.window.bytes ≡ after_gives (live old.window.bytes)
+      ((objects ++ entries) ++ blocks_by theirs (freed (names_each root.values) picture.frozen))

@@ -22,7 +22,11 @@ use Rattle.seg_spec.specs.Block.{KeepsBlock}
 use Rattle.seg_spec.specs.Index.{Root, root_of_type, plain_root}
 use Rattle.seg_spec.specs.Sound.{Picture, IsHeld, HoldsRoot, times, positions}
 use Rattle.seg_spec.specs.Roots.{Listed, with_roots}
+use Rattle.seg_spec.specs.Counting.{without_cells}
 use Rattle.seg_spec.specs.Demand.{Ask, block_for, after_gives}
+use Rattle.seg_spec.specs.Destroying.{HoldFrozen, KeepFrozen}
+use Rattle.seg_spec.specs.Frozen.{blocks_by}
+use Rattle.seg_spec.specs.Shared.{names_each, left, freed}
 use Rattle.seg_spec.specs.Spending.{spent}
 use Rattle.seg_spec.specs.Calls.{Refuses}
 use Rattle.seg_index.specs.declared.kind.IndexKind.{IndexKind}
@@ -92,13 +96,20 @@ pub record MakesLoose (allocator : ℕ) (old new : Stored) (picture : Picture)
       Becomes allocator old new
       (with_roots picture Listed.loose (before ++ new_root old.types [] T 1 at ∷ after)) []
 
--- the root goes, with its blocks, and the picture is another one
-pub record LosesRoot (allocator : ℕ) (old new : Stored) (root : Root)
-    (other : Picture) : Type 0 where
+-- the root goes, with its blocks, and the frozen objects that it named last, with theirs; the picture is
+-- the other one, with what is left of those objects
+pub record LosesRoot (allocator : ℕ) (old new : Stored) (root : Root) (other : Picture) :
+    Type 0 where
   pub blocks : List ℕ
   pub holds_it : HoldsRoot old.window.bytes old.types root blocks
-  pub becomes : Becomes allocator old new other blocks
-  pub live_is : live new.window.bytes ≡ after_gives (live old.window.bytes) blocks
+  pub theirs : ℕ → List ℕ
+  pub holds_shared : HoldFrozen old.window.bytes old.types theirs other.frozen
+  pub becomes : Becomes allocator old new (without_cells (names_each root.values) other)
+      (blocks ++ blocks_by theirs other.frozen)
+  pub shared_kept : KeepFrozen old.window.bytes new.window.bytes theirs
+      (left (names_each root.values) other.frozen)
+  pub live_is : live new.window.bytes ≡ after_gives (live old.window.bytes)
+      (blocks ++ blocks_by theirs (freed (names_each root.values) other.frozen))
 
 -- the one that stood between these leaves them
 abbrev pub LosesLoose : ℕ → Stored → Stored → Picture → List Root → Root → List Root → Type 0

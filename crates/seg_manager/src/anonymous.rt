@@ -34,9 +34,9 @@ impl<F: Fit, A: Allocator> Segment<F, A> {
     pub fn destroy_anonymous(&mut self, object: u32)
         ensures window { KeepsHost self.old.window self.new.window }
         ensures types { self.new.types ≡ self.old.types }
-        ensures loses { (picture : Picture) (before : List Root) (root : Root) (after : List Root) →
-            IsSegment F.allocator self.old picture → picture.loose ≡ before ++ root ∷ after →
-            root.at ≡ object →
+        ensures loses { (next : ℕ) (picture : Picture) (before : List Root) (root : Root)
+            (after : List Root) → IsSegment F.allocator self.old picture →
+            AreCounted next picture → picture.loose ≡ before ++ root ∷ after → root.at ≡ object →
             LosesLoose F.allocator self.old self.new picture before root after }
     {
         self.heap_mut().destroy(object);

@@ -243,7 +243,8 @@ impl<F: Fit, A: Allocator> Segment<F, A> {
         ensures types { self.new.types ≡ self.old.types }
         ensures tells { (picture : Picture) → IsSegment F.allocator self.old picture →
             result ≡ is_ok (found_as t (root_named picture.names name.now)) }
-        ensures loses { (picture : Picture) → (s : IsSegment F.allocator self.old picture) →
+        ensures loses { (next : ℕ) (picture : Picture) →
+            (s : IsSegment F.allocator self.old picture) → AreCounted next picture →
             IsTrue result → LosesNamed F.allocator self.old self.new picture s.held.index_blocks
             name.now t }
         ensures unchanged { result ≡ false → self.new ≡ self.old }
@@ -266,8 +267,9 @@ impl<F: Fit, A: Allocator> Segment<F, A> {
         ensures frees { (root : Root) (blocks : List ℕ) →
             IsUnlisted F.allocator self.old.window.bytes self.old.types root blocks →
             found ≡ found_of root → root.type ≡ t →
-            GivesBack F.allocator self.old.window.bytes self.new.window.bytes self.old.types
-            blocks }
+            BesideShared self.old.window.bytes self.old.types blocks (named_each root.values)
+            (λ theirs now. Destroys F.allocator self.old.window.bytes self.new.window.bytes
+            self.old.types (blocks ++ blocks_by theirs now) theirs) }
     {
         let size = self.types().size(t);
         for index in 0..found.count {

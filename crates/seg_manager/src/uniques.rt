@@ -59,8 +59,9 @@ impl<F: Fit, A: Allocator> Segment<F, A> {
     pub fn destroy_unique(&mut self, t: TypeId) -> bool
         ensures window { KeepsHost self.old.window self.new.window }
         ensures types { self.new.types ≡ self.old.types }
-        ensures loses { (picture : Picture) → IsSegment F.allocator self.old picture →
-            t < MAX_TYPES → IsTrue result → LosesUnique F.allocator self.old self.new picture t }
+        ensures loses { (next : ℕ) (picture : Picture) → IsSegment F.allocator self.old picture →
+            AreCounted next picture → t < MAX_TYPES → IsTrue result →
+            LosesUnique F.allocator self.old self.new picture t }
         ensures none { (picture : Picture) → IsSegment F.allocator self.old picture →
             t < MAX_TYPES → result ≡ false → unique_at picture t ≡ None }
         ensures unchanged { result ≡ false → self.new ≡ self.old }

@@ -326,7 +326,6 @@ module _ (allocator : ℕ) (old : List ℕ) (table : Table) (place : Place) (U :
       heap = made.heap;
       allocator_is = allocator_mid;
       is_table = s.is_table;
-      of_version = s.of_version;
       ownable = ownable_mid;
       holds_it = holds_less;
       aligned = s.aligned;
@@ -347,7 +346,6 @@ module _ (allocator : ℕ) (old : List ℕ) (table : Table) (place : Place) (U :
       heap = made.heap;
       allocator_is = allocator_mid;
       is_table = s.is_table;
-      of_version = s.of_version;
       ownable = ownable_mid;
       holds_it = value_mid;
       aligned = let back = its_node.after_header in let even = (lies (block_of node) node_live).aligned in omega arith;

@@ -13,12 +13,14 @@
 --                                 paths through keys below another lead where they led
 use Rattle.std.specs.Prelude.{◌≡◌, ◌<ℤ◌, ℕ, Bool, true, false, ℤ, int_lt, List, [], ◌∷◌, filter, slice_get, Option, Some, None, MatchOption, Result, MatchResult}
 use Rattle.seg_spec.specs.Types.{Form, Table, form_at}
-use Rattle.seg_spec.specs.Value.{Values, Map, Selector, default_of}
+use Rattle.seg_spec.specs.Value.{Value, Values, Map, Selector, nth, default_of}
 use Rattle.seg_spec.specs.Items.{key_place, with_entry, without_entry}
 use Rattle.seg_spec.specs.Reads.{Place, Leads}
 use Rattle.seg_spec.specs.Calls.{Refuses}
 use Rattle.seg_spec.specs.Demand.{Ask}
-use Rattle.seg_spec.specs.Spending.{PartBlocks}
+use Rattle.seg_spec.specs.Clearing.{BesideShared, LosesPart}
+use Rattle.seg_spec.specs.Frozen.{Frozen}
+use Rattle.seg_spec.specs.Shared.{named_in}
 use Rattle.seg_spec.specs.Growing.{Succeeds}
 use Rattle.seg_spec.specs.Owning.{Stands}
 use Rattle.seg_value.specs.Places.{object_at}
@@ -68,21 +70,22 @@ PutsKey allocator old new table map U keys vs key blocks asks (Some i) result = 
     (λ p. (new ≡ old) × Leads old table map (Selector.key key ∷ []) (value_of U p))
     (λ code. ⊥)
 
--- a map lost the key at a place among its keys, with its value
-pub record TakesKey (allocator : ℕ) (old new : List ℕ) (table : Table) (map : Place)
-    (keys : List ℤ) (vs : Values) (blocks : List ℕ) (i : ℕ) : Type 0 where
-  pub gives : List ℕ
-  pub part : PartBlocks old table map i gives
-  pub others : List ℕ
-  pub succeeds : Succeeds allocator old new table map (without_entry (keys, vs) i) [] gives
-      blocks others
+-- a map lost the key at a place among its keys, with its value and the frozen objects that it named
+-- last; what is said of paths holds
+pub record TakesKey (old new : List ℕ) (table : Table) (map : Place) (keys : List ℤ) (vs : Values)
+    (blocks : List ℕ) (keeps : Type 0) (i : ℕ) (theirs : ℕ → List ℕ) (now final : List Frozen) :
+    Type 0 where
+  pub loses : LosesPart old new table map (without_entry (keys, vs) i) i blocks theirs now final
+  pub kept : keeps
 
--- what removing a key leaves, by its place among the map's keys: nothing changes where it has none
-abbrev pub RemovesKey : ℕ → List ℕ → List ℕ → Table → Place → List ℤ → Values → List ℕ → Option ℕ
-    → Bool → Type 0
-RemovesKey allocator old new table map keys vs blocks None gone = (gone ≡ false) × (new ≡ old)
-RemovesKey allocator old new table map keys vs blocks (Some i) gone =
-    (gone ≡ true) × TakesKey allocator old new table map keys vs blocks i
+-- what removing a key leaves, by its place among the keys of a map that lies in the block `home`:
+-- nothing changes where it has none
+abbrev pub RemovesKey : List ℕ → List ℕ → Table → Place → List ℤ → Values → ℕ → List ℕ → Type 0 →
+    Option ℕ → Bool → Type 0
+RemovesKey old new table map keys vs home blocks keeps None gone = (gone ≡ false) × (new ≡ old)
+RemovesKey old new table map keys vs home blocks keeps (Some i) gone =
+    (gone ≡ true) × ((v : Value) → nth vs i ≡ Some v →
+    BesideShared old table (home ∷ blocks) (named_in v) (TakesKey old new table map keys vs blocks keeps i))
 
 -- each path through a key below another leads where it led
 abbrev pub KeepsLowerKeys : List ℕ → List ℕ → Table → Place → ℤ → Type 0

@@ -104,14 +104,14 @@ pub(crate) fn remove<F: Fit, A: Allocator>(
 ) -> bool
     ensures window { KeepsHost heap.old.window heap.new.window }
     ensures types { heap.new.types ≡ heap.old.types }
-    ensures removes { WhereMap Form.flat_map F.allocator heap.old.window.bytes heap.old.types cell
-        (λ T U keys vs blocks. NamesFlatMap heap.old.types T U content.now →
-        RemovesKey F.allocator heap.old.window.bytes heap.new.window.bytes heap.old.types
-        (object_at cell T) keys vs blocks (key_place keys key) result) }
-    ensures keeps { WhereMap Form.flat_map F.allocator heap.old.window.bytes heap.old.types cell
-        (λ T U keys vs blocks. NamesFlatMap heap.old.types T U content.now →
-        KeepsLowerKeys heap.old.window.bytes heap.new.window.bytes heap.old.types
-        (object_at cell T) key) }
+    ensures removes { (T U : ℕ) (keys : List ℤ) (vs : Values) (blocks : List ℕ) →
+        form_at heap.old.types T ≡ Some (Form.flat_map U) →
+        NamesFlatMap heap.old.types T U content.now →
+        (s : Stands F.allocator heap.old.window.bytes heap.old.types (object_at cell T)
+        (Map keys vs) blocks) →
+        RemovesKey heap.old.window.bytes heap.new.window.bytes heap.old.types (object_at cell T)
+        keys vs s.home blocks (KeepsLowerKeys heap.old.window.bytes heap.new.window.bytes
+        heap.old.types (object_at cell T) key) (key_place keys key) result }
 {
     let Ok(index) = search(heap, content.entry, cell, key) else {
         return false;

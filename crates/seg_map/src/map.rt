@@ -90,12 +90,13 @@ pub fn remove<F: Fit, A: Allocator>(heap: &mut Heap<F, A>, map: Place, key: i64)
     ensures types { heap.new.types ≡ heap.old.types }
     ensures other { has_keys (form_at heap.old.types map.type_id) ≡ false →
         (result ≡ false) × (heap.new.window ≡ heap.old.window) }
-    ensures removes { WhereMaps F.allocator heap.old.window.bytes heap.old.types (place_of map)
-        (λ U keys vs blocks. RemovesKey F.allocator heap.old.window.bytes heap.new.window.bytes
-        heap.old.types (place_of map) keys vs blocks (key_place keys key) result) }
-    ensures keeps { WhereMaps F.allocator heap.old.window.bytes heap.old.types (place_of map)
-        (λ U keys vs blocks. KeepsKeysBut (form_at heap.old.types map.type_id)
-        heap.old.window.bytes heap.new.window.bytes heap.old.types (place_of map) key) }
+    ensures removes { (U : ℕ) (keys : List ℤ) (vs : Values) (blocks : List ℕ) →
+        IsMapOf (form_at heap.old.types map.type_id) U →
+        (s : Stands F.allocator heap.old.window.bytes heap.old.types (place_of map) (Map keys vs)
+        blocks) →
+        RemovesKey heap.old.window.bytes heap.new.window.bytes heap.old.types (place_of map) keys vs
+        s.home blocks (KeepsKeysBut (form_at heap.old.types map.type_id) heap.old.window.bytes
+        heap.new.window.bytes heap.old.types (place_of map) key) (key_place keys key) result }
 {
     let Ok(kind) = Kind::of(heap, map) else {
         return false;

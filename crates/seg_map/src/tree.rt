@@ -140,14 +140,13 @@ pub(crate) fn remove<F: Fit, A: Allocator>(
 ) -> bool
     ensures window { KeepsHost heap.old.window heap.new.window }
     ensures types { heap.new.types ≡ heap.old.types }
-    ensures removes { WhereMap Form.map F.allocator heap.old.window.bytes heap.old.types cell
-        (λ T U keys vs blocks. NamesTree heap.old.types T U content.now
-        → RemovesKey F.allocator heap.old.window.bytes heap.new.window.bytes heap.old.types
-        (object_at cell T) keys vs blocks (key_place keys key) result) }
-    ensures keeps { WhereMap Form.map F.allocator heap.old.window.bytes heap.old.types cell
-        (λ T U keys vs blocks. NamesTree heap.old.types T U content.now
-        → KeepsOtherKeys heap.old.window.bytes heap.new.window.bytes heap.old.types
-        (object_at cell T) key) }
+    ensures removes { (T U : ℕ) (keys : List ℤ) (vs : Values) (blocks : List ℕ) →
+        form_at heap.old.types T ≡ Some (Form.map U) → NamesTree heap.old.types T U content.now →
+        (s : Stands F.allocator heap.old.window.bytes heap.old.types (object_at cell T)
+        (Map keys vs) blocks) →
+        RemovesKey heap.old.window.bytes heap.new.window.bytes heap.old.types (object_at cell T)
+        keys vs s.home blocks (KeepsOtherKeys heap.old.window.bytes heap.new.window.bytes
+        heap.old.types (object_at cell T) key) (key_place keys key) result }
 {
     let mut path = tree_of(cell).path_to_key(heap.window(), &ByKey, key);
     let Some(node) = path.node(heap.window()) else {

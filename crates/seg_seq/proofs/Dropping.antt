@@ -207,7 +207,6 @@ module _ (allocator : ℕ) (old : List ℕ) (table : Table) (list : Place) (U no
       heap = one_heap;
       allocator_is = word-same old one 16 (low_same allocator old one (list.at ∷ all) s.heap r.changes homes 16 4 (omega arith)) ∙ s.allocator_is;
       is_table = s.is_table;
-      of_version = s.of_version;
       ownable = one_ownable;
       holds_it = Holds-kept old one table s.is_table p.holds_it (value_same node node_some) (each_there (KeepsBlock old one) p.its (λ h some. owned_kept h (let c = owned_count h in omega arith)));
       aligned = let q = there (λ q. (q % 8 ≡ 0) × (q + 8 ≤ length old)) node all dropped_spread.fit.1 node_some in let e = q.0 in omega arith;

@@ -95,7 +95,6 @@ module _ (allocator : ℕ) (old : List ℕ) (table : Table) (place : Place) (U :
       heap = s.heap;
       allocator_is = s.allocator_is;
       is_table = s.is_table;
-      of_version = s.of_version;
       ownable = s.ownable;
       holds_it = last.holds_it;
       aligned = aligned_item p n (size table U) (omega (arith, g.low, g.lies.aligned)) (size_aligned table s.is_table U);

@@ -6,15 +6,19 @@
 --     without_index j i                the index that item i has without item j
 --     AddsItem ..                      a list with one item more: a default, in a node of its own
 --     RemovesItem ..                   a list without one of its items
+--     LosesItem old new table list vs j items home blocks
+--                                      so it is beside whichever frozen objects
 use Rattle.std.specs.Prelude.{◌≡◌, ◌≢◌, ℕ, ◌+◌, ◌-◌, ◌==◌, nat_lt, if◌then◌else◌, List, [], ◌∷◌, Option, Some, None}
 use Rattle.std.specs.Option.{IfSome}
 use Rattle.seg_spec.specs.Types.{Form, Table, form_at, size}
-use Rattle.seg_spec.specs.Value.{Values, Seq, Selector}
+use Rattle.seg_spec.specs.Value.{Value, Values, Seq, nth, Selector}
 use Rattle.seg_spec.specs.Block.{Kind, tag_of}
 use Rattle.seg_spec.specs.Reads.{Place, Leads}
 use Rattle.seg_spec.specs.Demand.{block_for}
 use Rattle.seg_spec.specs.Growing.{Succeeds}
-use Rattle.seg_spec.specs.Spending.{PartBlocks}
+use Rattle.seg_spec.specs.Clearing.{BesideShared, LosesPart}
+use Rattle.seg_spec.specs.Frozen.{Frozen}
+use Rattle.seg_spec.specs.Shared.{named_in}
 use Rattle.seg_spec.specs.Owning.{Stands}
 use Rattle.seg_value.specs.Stored.{Stored}
 use Rattle.seg_value.specs.Contents.{IsContent}
@@ -56,12 +60,14 @@ pub record AddsItem (allocator : ℕ) (old new : List ℕ) (table : Table) (list
   pub stands : Leads new table list (Selector.item i ∷ []) (record { at = at; type = U })
   pub moves : MovesItems old new table list to
 
--- the list has these items now: item j is gone, its node and what it owned were given back, and the others stand where
--- they stood
-pub record RemovesItem (allocator : ℕ) (old new : List ℕ) (table : Table) (list : Place)
-    (items : Values) (blocks : List ℕ) (j : ℕ) : Type 0 where
-  pub gives : List ℕ
-  pub gives_are : PartBlocks old table list j gives
-  pub others : List ℕ
-  pub succeeds : Succeeds allocator old new table list (Seq items) [] gives blocks others
+-- the list has these items now: item j is gone, its node and what it owned were given back, with the
+-- frozen objects that it named last, and the others stand where they stood
+pub record RemovesItem (old new : List ℕ) (table : Table) (list : Place) (items : Values)
+    (blocks : List ℕ) (j : ℕ) (theirs : ℕ → List ℕ) (now final : List Frozen) : Type 0 where
+  pub loses : LosesPart old new table list (Seq items) j blocks theirs now final
   pub moves : MovesItems old new table list (without_index j)
+
+-- so it is beside whichever frozen objects, where the list lies in the block `home`
+abbrev pub LosesItem : List ℕ → List ℕ → Table → Place → Values → ℕ → Values → ℕ → List ℕ → Type 0
+LosesItem old new table list vs j items home blocks = (v : Value) → nth vs j ≡ Some v →
+    BesideShared old table (home ∷ blocks) (named_in v) (RemovesItem old new table list items blocks j)

@@ -18,21 +18,23 @@
 --         a string keeps its first bytes, and has n more from a position on, whatever they are
 --     PushesBack allocator old new place U vs blocks p    a default item joined the others, and
 --                                                         stands at a position
---     PopsBack allocator old new place vs blocks          the last item went, with its blocks
+--     PopsBack old new place vs home blocks               the last item went, with what it owned
 --     IsPast index n code                         of n there is none at the index
 --     ShowsByte heap place xs index p             the byte of a text at an index stands there
 --     ShowsItem heap place U index p              the item of a vector or a list at an index does
 use Rattle.std.specs.Prelude.{◌≡◌, ℕ, ◌+◌, ◌-◌, ◌*◌, ◌<◌, ◌≤◌, List, [], ◌∷◌, length, take, slice_index, Option, Some, None, Result, Err, MatchResult}
 use Rattle.seg_spec.specs.Bytes.{byte}
 use Rattle.seg_spec.specs.Types.{Form, form_at, size}
-use Rattle.seg_spec.specs.Value.{Value, Values, nil, cons, Text, Seq, count, append, default_of, Selector}
+use Rattle.seg_spec.specs.Value.{Value, Values, nil, cons, Text, Seq, count, nth, append, default_of, Selector}
 use Rattle.seg_spec.specs.Reads.{Place, count_at, start, Leads}
 use Rattle.seg_spec.specs.Calls.{Refuses}
 use Rattle.seg_spec.specs.Demand.{Ask}
 use Rattle.seg_spec.specs.Growing.{Succeeds}
 use Rattle.seg_spec.specs.Items.{without_last}
 use Rattle.seg_spec.specs.Owning.{Stands}
-use Rattle.seg_spec.specs.Spending.{buffer_asks, units_named, PartBlocks}
+use Rattle.seg_spec.specs.Clearing.{BesideShared, LosesPart}
+use Rattle.seg_spec.specs.Shared.{named_in}
+use Rattle.seg_spec.specs.Spending.{buffer_asks, units_named}
 use Rattle.seg_raw.specs.declared.code.Code.{Code}
 use Rattle.seg_raw.specs.declared.code.Code.TheVariants.{BadAlloc, Null, OutOfRange}
 use Rattle.seg_value.specs.Stored.{Stored}
@@ -130,13 +132,15 @@ pub record PushesBack (allocator : ℕ) (old new : Stored) (place : Place) (U : 
   pub leads : Leads new.window.bytes old.types place (Selector.item (count vs) ∷ [])
       (record { at = p; type = U })
 
--- the last item went, with the blocks that it owned
-pub record PopsBack (allocator : ℕ) (old new : Stored) (place : Place) (vs : Values)
+-- the last item went, with what it owned, and with the frozen objects that it named last; the place
+-- lies in the block `home`
+pub record PopsBack (old new : Stored) (place : Place) (vs : Values) (home : ℕ)
     (blocks : List ℕ) : Type 0 where
   pub some : 1 ≤ count vs
-  pub gives : List ℕ
-  pub its : PartBlocks old.window.bytes old.types place (count vs - 1) gives
-  pub holds_it : ComesToHold allocator old new place (Seq (without_last vs)) [] gives blocks
+  pub loses : (v : Value) → nth vs (count vs - 1) ≡ Some v →
+      BesideShared old.window.bytes old.types (home ∷ blocks) (named_in v)
+      (LosesPart old.window.bytes new.window.bytes old.types place (Seq (without_last vs))
+      (count vs - 1) blocks)
 
 -- ---- what they find
 

@@ -11,7 +11,7 @@ ghost use Rattle.seg_spec.specs.Window.{KeepsHost};
 ghost use Rattle.seg_value.specs.Places.{place_of, object_at};
 ghost use Rattle.seg_seq.specs.Rings.{around};
 ghost use Rattle.seg_seq.specs.declared.ring.Way.TheVariants as way;
-ghost use Rattle.seg_seq.specs.Lists.{IsList, HasList, IsNoList, AddsItem, RemovesItem};
+ghost use Rattle.seg_seq.specs.Lists.{IsList, HasList, IsNoList, AddsItem, LosesItem};
 
 use crate::kind::Kind;
 use crate::ring::{Way, insert, neighbour, remove};
@@ -116,10 +116,10 @@ pub fn pop_front<F: Fit, A: Allocator>(heap: &mut Heap<F, A>, list: Place) -> Re
         HasList allocator heap.old (place_of list) U nil blocks →
         (result ≡ Err Code.Null) × (heap.new.window ≡ heap.old.window) }
     ensures popped { (U : ℕ) (v : Value) (vs : Values) (blocks : List ℕ) →
-        HasList F.allocator heap.old (place_of list) U (cons v vs) blocks →
+        (it : HasList F.allocator heap.old (place_of list) U (cons v vs) blocks) →
         IsOk result ×
-        RemovesItem F.allocator heap.old.window.bytes heap.new.window.bytes heap.old.types
-        (place_of list) vs blocks 0 }
+        LosesItem heap.old.window.bytes heap.new.window.bytes heap.old.types
+        (place_of list) (cons v vs) 0 vs it.stands.home blocks }
 {
     let (Kind::List, content) = Kind::of(heap, list)? else {
         return Err(Code::OtherType);
@@ -140,11 +140,12 @@ pub(crate) fn remove_node<F: Fit, A: Allocator>(
     ensures types { heap.new.types ≡ heap.old.types }
     ensures removed { (T U j : ℕ) (vs : Values) (blocks : List ℕ) →
         IsList heap.old.types T U content.now →
-        Stands F.allocator heap.old.window.bytes heap.old.types (object_at cell T) (Seq vs) blocks →
+        (s : Stands F.allocator heap.old.window.bytes heap.old.types (object_at cell T) (Seq vs)
+        blocks) →
         Leads heap.old.window.bytes heap.old.types (object_at cell T) (Selector.item j ∷ [])
         (object_at (node + 8) U) →
-        RemovesItem F.allocator heap.old.window.bytes heap.new.window.bytes heap.old.types
-        (object_at cell T) (remove_nth vs j) blocks j }
+        LosesItem heap.old.window.bytes heap.new.window.bytes heap.old.types
+        (object_at cell T) vs j (remove_nth vs j) s.home blocks }
 {
     remove(heap, cell, node);
     if let Some(item) = content.entry.value(node, 0) {

@@ -8,7 +8,7 @@ ghost use Rattle.seg_spec.specs.Window.{KeepsHost};
 ghost use Rattle.seg_value.specs.Buffers.{NamesBuffer};
 ghost use Rattle.seg_value.specs.Places.{place_of, object_at};
 ghost use Rattle.seg_seq.specs.Kinds.{is_sequence};
-ghost use Rattle.seg_seq.specs.Lists.{HasList, AddsItem, RemovesItem};
+ghost use Rattle.seg_seq.specs.Lists.{HasList, AddsItem, LosesItem};
 ghost use Rattle.seg_seq.specs.Sequences.{HasText, HasItems, item_type, Declines, HasNone, ComesToHold, LacksRoom, push_asks, PushesBack, PopsBack, IsPast, ShowsByte, ShowsItem};
 
 use crate::kind::Kind;
@@ -116,16 +116,16 @@ pub fn pop_back<F: Fit, A: Allocator>(heap: &mut Heap<F, A>, sequence: Place) ->
         (Text (take (length xs - 1) xs)) [] [] blocks)
         (HasNone heap.old heap.new (length xs)) }
     ensures vector { (U : ℕ) (vs : Values) (blocks : List ℕ) →
-        HasItems F.allocator heap.old (place_of sequence) U vs blocks →
+        (it : HasItems F.allocator heap.old (place_of sequence) U vs blocks) →
         MatchResult result
-        (λ done. PopsBack F.allocator heap.old heap.new (place_of sequence) vs blocks)
+        (λ done. PopsBack heap.old heap.new (place_of sequence) vs it.stands.home blocks)
         (HasNone heap.old heap.new (count vs)) }
     ensures list { (U : ℕ) (vs : Values) (blocks : List ℕ) →
-        HasList F.allocator heap.old (place_of sequence) U vs blocks →
+        (it : HasList F.allocator heap.old (place_of sequence) U vs blocks) →
         MatchResult result
         (λ done. (1 ≤ count vs) ×
-        RemovesItem F.allocator heap.old.window.bytes heap.new.window.bytes heap.old.types
-        (place_of sequence) (without_last vs) blocks (count vs - 1))
+        LosesItem heap.old.window.bytes heap.new.window.bytes heap.old.types
+        (place_of sequence) vs (count vs - 1) (without_last vs) it.stands.home blocks)
         (HasNone heap.old heap.new (count vs)) }
     ensures other { is_sequence (form_at heap.old.types sequence.type_id) ≡ false →
         Declines Code.OtherType heap.old heap.new result }
@@ -157,8 +157,8 @@ fn pop_entry<F: Fit, A: Allocator>(heap: &mut Heap<F, A>, content: &Content, cel
         blocks }
     ensures vector { (T U : ℕ) (vs : Values) (blocks : List ℕ) →
         NamesBuffer heap.old.types T content.now →
-        HasItems F.allocator heap.old (object_at cell T) U vs blocks → count vs ≡ last + 1 →
-        PopsBack F.allocator heap.old heap.new (object_at cell T) vs blocks }
+        (it : HasItems F.allocator heap.old (object_at cell T) U vs blocks) → count vs ≡ last + 1 →
+        PopsBack heap.old heap.new (object_at cell T) vs it.stands.home blocks }
 {
     if let Some(item) = content.entry.value(heap.start(cell), last) {
         heap.clear(item);

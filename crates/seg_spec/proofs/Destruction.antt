@@ -8,12 +8,13 @@ use Rattle.seg_spec.specs.Header.{free_word, back_start, back_size, KeepsFront, 
 use Rattle.seg_spec.specs.Pointer.{distance, set_pointer}
 use Rattle.seg_spec.specs.Types.{Table, IsTable, size}
 use Rattle.seg_spec.specs.Heap.{Span, units_at, IsHeap, live, heap_start, without, Gives, link_at}
-use Rattle.seg_spec.specs.Block.{KeepsBlock, IsInside, block_of, payload_size}
+use Rattle.seg_spec.specs.Block.{KeepsBlock, IsInside, IsOwnable, block_of, payload_size}
 use Rattle.seg_spec.specs.Reads.{Place}
-use Rattle.seg_spec.specs.Sound.{times, SameBlocks, positions, HoldsRoots}
+use Rattle.seg_spec.specs.Apart.{KeepsBlockAround}
+use Rattle.seg_spec.specs.Sound.{times, SameBlocks, positions}
 use Rattle.seg_spec.specs.Demand.{after_gives}
 use Rattle.seg_spec.specs.Owing.{KeepsWhole, KeepsLinked, AreParts, Waits, none_waits, waits}
-use Rattle.seg_spec.specs.Destroying.{AreLive, GoesWith, Pends, KeepsOthers, Awaits, Adds, Pops, PendsBeside, Destroys}
+use Rattle.seg_spec.specs.Destroying.{AreLive, GoesWith, Pends, KeepsOthers, Awaits, Adds, Pops, PendsBeside, HoldFrozen, KeepFrozen, Destroys}
 use Rattle.seg_spec.proofs.SliceLaws.{IsSame-part}
 use Rattle.seg_spec.proofs.Composing.{kept_twice}
 use Rattle.seg_spec.proofs.Frame.{SamePlace, target-same, each_weaker}
@@ -26,9 +27,9 @@ use Rattle.seg_spec.proofs.Writing.{set_number-changes}
 use Rattle.seg_spec.proofs.Owed.{Waits-kept, Owes-kept, parts_kept}
 use Rattle.seg_spec.proofs.Pushing.{owes_begins, waits_begins, pushed}
 use Rattle.seg_spec.proofs.Giving.{given_kept}
-use Rattle.seg_spec.specs.Frozen.{Frozen, root_of_frozen}
+use Rattle.seg_spec.specs.Frozen.{Frozen, blocks_by}
 use Rattle.seg_spec.specs.Shared.{names_in, times_named, IsReleasing, left, kept_with, with_count}
-use Rattle.seg_spec.proofs.RootFrame.{HoldsRoots-kept}
+use Rattle.seg_spec.proofs.FrozenBlocks.{hold_kept, frozen_twice, frozen_kept, released_each}
 use Rattle.seg_spec.proofs.Standing.{ownable_linked}
 
 -- ---- what is kept
@@ -103,25 +104,24 @@ pends_kept allocator a b table valid first blocks names heap linked w = record {
   named_are = w.named_are;
 }
 
-pub beside_kept : (allocator : ℕ) (a b : List ℕ) (table : Table) → IsTable table → (first : Option ℕ) (blocks names : List ℕ) (frozen : List Frozen) → IsHeap allocator b → ((h : ℕ) → 1 ≤ times h blocks → KeepsLinked a b h)
-    → PendsBeside allocator a table first blocks names frozen → PendsBeside allocator b table first blocks names frozen
-beside_kept allocator a b table valid first blocks names frozen heap linked w = record {
+pub beside_kept : (allocator : ℕ) (a b : List ℕ) (table : Table) → IsTable table → (first : Option ℕ) (blocks names : List ℕ) (theirs : ℕ → List ℕ) (frozen : List Frozen) → IsHeap allocator b
+    → ((h : ℕ) → 1 ≤ times h blocks → KeepsLinked a b h) → PendsBeside allocator a table first blocks names theirs frozen → PendsBeside allocator b table first blocks names theirs frozen
+beside_kept allocator a b table valid first blocks names theirs frozen heap linked w = record {
   owed = w.owed;
-  shares = w.shares;
-  pends = pends_kept allocator a b table valid first w.owed names heap (λ h some. linked h (omega (arith, w.blocks_are h, times-append h w.owed w.shares))) w.pends;
-  holds = HoldsRoots-kept a b table valid w.holds (each_there (KeepsBlock a b) w.shares (λ h some. (linked h (omega (arith, w.blocks_are h, times-append h w.owed w.shares))).whole.kept));
-  ownable = λ h some. ownable_linked a b table h (linked h (omega (arith, w.blocks_are h, times-append h w.owed w.shares))) (w.ownable h some);
+  pends = pends_kept allocator a b table valid first w.owed names heap (λ h some. linked h (omega (arith, w.blocks_are h, times-append h w.owed (blocks_by theirs frozen)))) w.pends;
+  holds = hold_kept a b table valid theirs frozen (λ h some. (linked h (omega (arith, w.blocks_are h, times-append h w.owed (blocks_by theirs frozen)))).whole.kept) w.holds;
+  ownable = λ h some. ownable_linked a b table h (linked h (omega (arith, w.blocks_are h, times-append h w.owed (blocks_by theirs frozen)))) (w.ownable h some);
   blocks_are = w.blocks_are;
 }
 
-pub awaits_kept : (allocator : ℕ) (a b : List ℕ) (table : Table) → IsTable table → (first : Option ℕ) (blocks names : List ℕ) (kept : List Place) (final : List Frozen) → IsHeap allocator b
-    → ((h : ℕ) → 1 ≤ times h blocks → KeepsLinked a b h) → Awaits allocator a table first blocks names kept final → Awaits allocator b table first blocks names kept final
-awaits_kept allocator a b table valid first blocks names kept final heap linked w =
-    record { named = w.named; frozen = w.frozen; beside = beside_kept allocator a b table valid first blocks w.named w.frozen heap linked w.beside; releasing = w.releasing }
+pub awaits_kept : (allocator : ℕ) (a b : List ℕ) (table : Table) → IsTable table → (first : Option ℕ) (blocks names : List ℕ) (kept : List Place) (theirs : ℕ → List ℕ) (final : List Frozen) → IsHeap allocator b
+    → ((h : ℕ) → 1 ≤ times h blocks → KeepsLinked a b h) → Awaits allocator a table first blocks names kept theirs final → Awaits allocator b table first blocks names kept theirs final
+awaits_kept allocator a b table valid first blocks names kept theirs final heap linked w =
+    record { named = w.named; frozen = w.frozen; beside = beside_kept allocator a b table valid first blocks w.named theirs w.frozen heap linked w.beside; releasing = w.releasing }
 
 module _ (allocator : ℕ) (a b : List ℕ) (table : Table) (valid : IsTable table) (xs ys : List ℕ) (owned : AreLive a (xs ++ ys)) (heap : IsHeap allocator b) (k : KeepsOthers a b xs) where
-  pub awaits_then : (first : Option ℕ) (names : List ℕ) (kept : List Place) (final : List Frozen) → Awaits allocator a table first ys names kept final → Awaits allocator b table first ys names kept final
-  awaits_then first names kept final w = awaits_kept allocator a b table valid first ys names kept final heap (λ h some. let n = no_common allocator a w.beside.pends.heap xs ys owned h some in k.others h n.0 n.1) w
+  pub awaits_then : (first : Option ℕ) (names : List ℕ) (kept : List Place) (theirs : ℕ → List ℕ) (final : List Frozen) → Awaits allocator a table first ys names kept theirs final → Awaits allocator b table first ys names kept theirs final
+  awaits_then first names kept theirs final w = awaits_kept allocator a b table valid first ys names kept theirs final heap (λ h some. let n = no_common allocator a w.beside.pends.heap xs ys owned h some in k.others h n.0 n.1) w
 
   pub goes_then : (p : ℕ) (ms : List ℕ) → IsHeap allocator a → GoesWith a table p ys ms → GoesWith b table p ys ms
   goes_then p ms heap_a g = record { owed = g.owed; named = g.named; owes_it = Owes-kept a b table valid (each_there (KeepsWhole a b) g.owed one) g.owes_it; owed_are = g.owed_are; named_are = g.named_are }
@@ -161,61 +161,71 @@ module _ (allocator : ℕ) (old new : List ℕ) (table : Table) (valid : IsTable
 
 -- ---- blocks join those that wait
 
-pub releasing_same : (kept : List Place) (final : List Frozen) (ns ms : List ℕ) (now : List Frozen) → SameBlocks ns ms → IsReleasing kept final ns now → IsReleasing kept final ms now
+pub releasing_same : (kept : List Place) (theirs : ℕ → List ℕ) (final : List Frozen) (ns ms : List ℕ) (now : List Frozen) → SameBlocks ns ms → IsReleasing kept final ns now → IsReleasing kept final ms now
 releasing_same kept final ns ms now same r =
     record { pending = r.pending; pending_are = λ h. r.pending_are h ∙ same h; next = r.next; counted = r.counted; falling = r.falling; leaves = r.leaves }
 
-pub beside_same : (allocator : ℕ) (a : List ℕ) (table : Table) (first : Option ℕ) (xs ys names : List ℕ) (frozen : List Frozen) → SameBlocks xs ys → PendsBeside allocator a table first xs names frozen
-    → PendsBeside allocator a table first ys names frozen
-beside_same allocator a table first xs ys names frozen same w = record { owed = w.owed; shares = w.shares; pends = w.pends; holds = w.holds; ownable = w.ownable; blocks_are = λ h. sym (same h) ∙ w.blocks_are h }
+pub beside_same : (allocator : ℕ) (a : List ℕ) (table : Table) (first : Option ℕ) (xs ys names : List ℕ) (theirs : ℕ → List ℕ) (frozen : List Frozen) → SameBlocks xs ys
+    → PendsBeside allocator a table first xs names theirs frozen → PendsBeside allocator a table first ys names theirs frozen
+beside_same allocator a table first xs ys names theirs frozen same w = record { owed = w.owed; pends = w.pends; holds = w.holds; ownable = w.ownable; blocks_are = λ h. sym (same h) ∙ w.blocks_are h }
 
-pub awaits_names : (allocator : ℕ) (a : List ℕ) (table : Table) (first : Option ℕ) (blocks ns ms : List ℕ) (kept : List Place) (final : List Frozen) → SameBlocks ns ms → Awaits allocator a table first blocks ns kept final
-    → Awaits allocator a table first blocks ms kept final
-awaits_names allocator a table first blocks ns ms kept final same w = record {
+pub awaits_names : (allocator : ℕ) (a : List ℕ) (table : Table) (first : Option ℕ) (blocks ns ms : List ℕ) (kept : List Place) (theirs : ℕ → List ℕ) (final : List Frozen) → SameBlocks ns ms → Awaits allocator a table first blocks ns kept theirs final
+    → Awaits allocator a table first blocks ms kept theirs final
+awaits_names allocator a table first blocks ns ms kept theirs final same w = record {
   named = w.named;
   frozen = w.frozen;
   beside = w.beside;
   releasing = releasing_same kept final (ns ++ w.named) (ms ++ w.named) w.frozen (λ h. omega (arith, same h, times-append h ns w.named, times-append h ms w.named)) w.releasing;
 }
 
-pub awaits_blocks : (allocator : ℕ) (a : List ℕ) (table : Table) (first : Option ℕ) (xs ys names : List ℕ) (kept : List Place) (final : List Frozen) → SameBlocks xs ys → Awaits allocator a table first xs names kept final
-    → Awaits allocator a table first ys names kept final
-awaits_blocks allocator a table first xs ys names kept final same w = record { named = w.named; frozen = w.frozen; beside = beside_same allocator a table first xs ys w.named w.frozen same w.beside; releasing = w.releasing }
+pub awaits_blocks : (allocator : ℕ) (a : List ℕ) (table : Table) (first : Option ℕ) (xs ys names : List ℕ) (kept : List Place) (theirs : ℕ → List ℕ) (final : List Frozen) → SameBlocks xs ys → Awaits allocator a table first xs names kept theirs final
+    → Awaits allocator a table first ys names kept theirs final
+awaits_blocks allocator a table first xs ys names kept theirs final same w = record { named = w.named; frozen = w.frozen; beside = beside_same allocator a table first xs ys w.named theirs w.frozen same w.beside; releasing = w.releasing }
 
-pub same_adds : (allocator : ℕ) (a : List ℕ) (table : Table) (first : Option ℕ) (xs ys ns more : List ℕ) (kept : List Place) (final : List Frozen) → xs ≡ [] → ns ≡ [] → Awaits allocator a table first ys (ns ++ more) kept final
-    → Adds allocator a a table first xs ys more kept final
-same_adds allocator a table first xs ys ns more kept final none no_names w = record {
+-- where the blocks of all objects are kept, and live, those of the objects that are left are too
+pub final_kept : (allocator : ℕ) (old new : List ℕ) (table : Table) (first : Option ℕ) (blocks names : List ℕ) (kept : List Place) (theirs : ℕ → List ℕ) (final : List Frozen)
+    → (w : Awaits allocator old table first blocks names kept theirs final) → AreLive old blocks → ((h : ℕ) → 1 ≤ times h (blocks_by theirs w.frozen) → KeepsBlock old new h) → KeepFrozen old new theirs final
+final_kept allocator old new table first blocks names kept theirs final w owned whole =
+    released_each (λ at. AllByRecursion (KeepsBlockAround old new at 4) (theirs at)) kept final (names ++ w.named) w.frozen w.releasing
+    (frozen_kept allocator old new w.beside.pends.heap theirs w.frozen (λ h some. omega (arith, owned h, w.beside.blocks_are h, times-append h w.beside.owed (blocks_by theirs w.frozen))) whole)
+
+pub same_adds : (allocator : ℕ) (a : List ℕ) (table : Table) (first : Option ℕ) (xs ys ns more : List ℕ) (kept : List Place) (theirs : ℕ → List ℕ) (final : List Frozen) → xs ≡ [] → ns ≡ [] → Awaits allocator a table first ys (ns ++ more) kept theirs final
+    → AreLive a ys → Adds allocator a a table first xs ys more kept theirs final
+same_adds allocator a table first xs ys ns more kept theirs final none no_names w owned = record {
   keeps = others_none a (xs ++ ys);
-  awaits = subst (λ zs. Awaits allocator a table first (zs ++ ys) more kept final) (sym none) (subst (λ vs. Awaits allocator a table first ys (vs ++ more) kept final) no_names w);
+  shared_kept = final_kept allocator a a table first ys (ns ++ more) kept theirs final w owned (λ h some. (linked_same a h).whole.kept);
+  awaits = subst (λ zs. Awaits allocator a table first (zs ++ ys) more kept theirs final) (sym none) (subst (λ vs. Awaits allocator a table first ys (vs ++ more) kept theirs final) no_names w);
 }
 
-pub adds_twice : (allocator : ℕ) (a b c : List ℕ) (table : Table) (f g : Option ℕ) (xs ys zs all first_more more : List ℕ) (kept : List Place) (final : List Frozen) → Adds allocator a b table f xs zs first_more kept final
-    → Adds allocator b c table g ys (xs ++ zs) more kept final → SameBlocks all (ys ++ xs) → Adds allocator a c table g all zs more kept final
-adds_twice allocator a b c table f g xs ys zs all first_more more kept final k l same = record {
+pub adds_twice : (allocator : ℕ) (a b c : List ℕ) (table : Table) (f g : Option ℕ) (xs ys zs all first_more more : List ℕ) (kept : List Place) (theirs : ℕ → List ℕ) (final : List Frozen) → Adds allocator a b table f xs zs first_more kept theirs final
+    → Adds allocator b c table g ys (xs ++ zs) more kept theirs final → SameBlocks all (ys ++ xs) → Adds allocator a c table g all zs more kept theirs final
+adds_twice allocator a b c table f g xs ys zs all first_more more kept theirs final k l same = record {
   keeps = others_twice a b c (xs ++ zs) (ys ++ (xs ++ zs)) (all ++ zs) (λ h none. let s = twice h in (omega (arith, times-append h ys (xs ++ zs)), omega arith)) k.keeps l.keeps;
-  awaits = awaits_blocks allocator c table g (ys ++ (xs ++ zs)) (all ++ zs) more kept final twice l.awaits;
+  shared_kept = frozen_twice a b c theirs final k.shared_kept l.shared_kept;
+  awaits = awaits_blocks allocator c table g (ys ++ (xs ++ zs)) (all ++ zs) more kept theirs final twice l.awaits;
 }
   where
     twice : SameBlocks (ys ++ (xs ++ zs)) (all ++ zs)
     twice h = omega (arith, same h, times-append h ys xs, times-append h ys (xs ++ zs), times-append h xs zs, times-append h all zs)
 
-pub adds_same : (allocator : ℕ) (a b : List ℕ) (table : Table) (f : Option ℕ) (xs ys zs more : List ℕ) (kept : List Place) (final : List Frozen) → SameBlocks xs ys → Adds allocator a b table f xs zs more kept final
-    → Adds allocator a b table f ys zs more kept final
-adds_same allocator a b table f xs ys zs more kept final same k = record {
+pub adds_same : (allocator : ℕ) (a b : List ℕ) (table : Table) (f : Option ℕ) (xs ys zs more : List ℕ) (kept : List Place) (theirs : ℕ → List ℕ) (final : List Frozen) → SameBlocks xs ys → Adds allocator a b table f xs zs more kept theirs final
+    → Adds allocator a b table f ys zs more kept theirs final
+adds_same allocator a b table f xs ys zs more kept theirs final same k = record {
   keeps = others_more a b (xs ++ zs) (ys ++ zs) (λ h none. all h ∙ none) k.keeps;
-  awaits = awaits_blocks allocator b table f (xs ++ zs) (ys ++ zs) more kept final all k.awaits;
+  shared_kept = k.shared_kept;
+  awaits = awaits_blocks allocator b table f (xs ++ zs) (ys ++ zs) more kept theirs final all k.awaits;
 }
   where
     all : SameBlocks (xs ++ zs) (ys ++ zs)
     all h = omega (arith, same h, times-append h xs zs, times-append h ys zs)
 
 -- one more waits
-pub adds_pushed : (allocator : ℕ) (old : List ℕ) (table : Table) → IsTable table → (p : ℕ) (first : Option ℕ) (xs ys ns more : List ℕ) (kept : List Place) (final : List Frozen) → GoesWith old table p xs ns
-    → Awaits allocator old table first ys (ns ++ more) kept final → AreLive old (xs ++ ys) → Adds allocator old (set_pointer old (block_of p + 12) first) table (Some p) xs ys more kept final
-adds_pushed allocator old table valid p first xs ys ns more kept final o waiting owned =
+pub adds_pushed : (allocator : ℕ) (old : List ℕ) (table : Table) → IsTable table → (p : ℕ) (first : Option ℕ) (xs ys ns more : List ℕ) (kept : List Place) (theirs : ℕ → List ℕ) (final : List Frozen) → GoesWith old table p xs ns
+    → Awaits allocator old table first ys (ns ++ more) kept theirs final → AreLive old (xs ++ ys) → Adds allocator old (set_pointer old (block_of p + 12) first) table (Some p) xs ys more kept theirs final
+adds_pushed allocator old table valid p first xs ys ns more kept theirs final o waiting owned =
     let w = waiting.beside in
     let r = pushed allocator old table valid w.pends.heap p first o.owed w.pends.owed o.named w.pends.named o.owes_it w.pends.waiting
-    (λ h. omega (arith, owned h, times-append h xs ys, times-append h o.owed w.pends.owed, o.owed_are h, w.pends.owed_are h, w.blocks_are h, times-append h w.owed w.shares)) in
+    (λ h. omega (arith, owned h, times-append h xs ys, times-append h o.owed w.pends.owed, o.owed_are h, w.pends.owed_are h, w.blocks_are h, times-append h w.owed (blocks_by theirs waiting.frozen))) in
     let changes = set_number-changes 4 old (block_of p + 12) (distance (block_of p + 12) first) in
     let b = owes_begins old table p o.owed o.named o.owes_it in
     let mine : 1 ≤ times (block_of p) xs =
@@ -223,8 +233,8 @@ adds_pushed allocator old table valid p first xs ys ns more kept final o waiting
     omega (arith, times-same (block_of p) b.rest, o.owed_are (block_of p)) in
     let here : 1 ≤ times (block_of p) (positions (live old)) = omega (arith, owned (block_of p), times-append (block_of p) xs ys) in
     let lies = there (LiesIn old heap_start (length old)) (block_of p) (positions (live old)) (live-lie old allocator w.pends.heap) here in
-    let shared : (h : ℕ) → 1 ≤ times h w.shares → KeepsLinked old (set_pointer old (block_of p + 12) first) h = λ h some.
-    let there_is : 1 ≤ times h ys = omega (arith, w.blocks_are h, times-append h w.owed w.shares) in
+    let shared : (h : ℕ) → 1 ≤ times h (blocks_by theirs waiting.frozen) → KeepsLinked old (set_pointer old (block_of p + 12) first) h = λ h some.
+    let there_is : 1 ≤ times h ys = omega (arith, w.blocks_are h, times-append h w.owed (blocks_by theirs waiting.frozen)) in
     let n = no_common allocator old w.pends.heap xs ys owned h there_is in
     r.others h n.0 (λ e. let m : 1 ≤ times h xs = subst (λ x. 1 ≤ times x xs) (sym e) mine in absurd (omega (arith, n.1))) in
     record {
@@ -234,12 +244,13 @@ adds_pushed allocator old table valid p first xs ys ns more kept final o waiting
         live_kept = r.live_kept;
         others = λ k some none. r.others k some (λ e. let m : 1 ≤ times k xs = subst (λ x. 1 ≤ times x xs) (sym e) mine in absurd (omega (arith, times-append k xs ys)));
       };
+      shared_kept = final_kept allocator old (set_pointer old (block_of p + 12) first) table first ys (ns ++ more) kept theirs final waiting
+          (λ h. omega (arith, owned h, times-append h xs ys)) (λ h some. (shared h some).whole.kept);
       awaits = record {
         named = ns ++ waiting.named;
         frozen = waiting.frozen;
         beside = record {
           owed = xs ++ w.owed;
-          shares = w.shares;
           pends = record {
             heap = r.heap;
             owed = o.owed ++ w.pends.owed;
@@ -248,9 +259,9 @@ adds_pushed allocator old table valid p first xs ys ns more kept final o waiting
             owed_are = λ h. omega (arith, times-append h xs w.owed, times-append h o.owed w.pends.owed, o.owed_are h, w.pends.owed_are h);
             named_are = λ h. omega (arith, times-append h ns waiting.named, times-append h o.named w.pends.named, o.named_are h, w.pends.named_are h);
           };
-          holds = HoldsRoots-kept old (set_pointer old (block_of p + 12) first) table valid w.holds (each_there (KeepsBlock old (set_pointer old (block_of p + 12) first)) w.shares (λ h some. (shared h some).whole.kept));
+          holds = hold_kept old (set_pointer old (block_of p + 12) first) table valid theirs waiting.frozen (λ h some. (shared h some).whole.kept) w.holds;
           ownable = λ h some. ownable_linked old (set_pointer old (block_of p + 12) first) table h (shared h some) (w.ownable h some);
-          blocks_are = λ h. omega (arith, w.blocks_are h, times-append h xs ys, times-append h w.owed w.shares, times-append h (xs ++ w.owed) w.shares, times-append h xs w.owed);
+          blocks_are = λ h. omega (arith, w.blocks_are h, times-append h xs ys, times-append h w.owed (blocks_by theirs waiting.frozen), times-append h (xs ++ w.owed) (blocks_by theirs waiting.frozen), times-append h xs w.owed);
         };
         releasing = releasing_same kept final ((ns ++ more) ++ waiting.named) (more ++ (ns ++ waiting.named)) waiting.frozen
             (λ h. omega (arith, times-append h (ns ++ more) waiting.named, times-append h ns more, times-append h more (ns ++ waiting.named), times-append h ns waiting.named)) waiting.releasing;
@@ -259,25 +270,24 @@ adds_pushed allocator old table valid p first xs ys ns more kept final o waiting
 
 -- ---- the first one that waits
 
-pub pops : (allocator : ℕ) (bytes : List ℕ) (table : Table) (p : ℕ) (blocks names : List ℕ) (kept : List Place) (final : List Frozen) → Awaits allocator bytes table (Some p) blocks names kept final
-    → Pops allocator bytes table p (link_at bytes (block_of p)) blocks names kept final
-pops allocator bytes table p blocks names kept final all = go w.pends.owed w.pends.named w.pends.waiting w.pends.owed_are w.pends.named_are
+pub pops : (allocator : ℕ) (bytes : List ℕ) (table : Table) (p : ℕ) (blocks names : List ℕ) (kept : List Place) (theirs : ℕ → List ℕ) (final : List Frozen) → Awaits allocator bytes table (Some p) blocks names kept theirs final
+    → Pops allocator bytes table p (link_at bytes (block_of p)) blocks names kept theirs final
+pops allocator bytes table p blocks names kept theirs final all = go w.pends.owed w.pends.named w.pends.waiting w.pends.owed_are w.pends.named_are
   where
-    w : PendsBeside allocator bytes table (Some p) blocks all.named all.frozen
+    w : PendsBeside allocator bytes table (Some p) blocks all.named theirs all.frozen
     w = all.beside
 
-    go : (owed named : List ℕ) → Waits bytes table (Some p) owed named → SameBlocks owed w.owed → SameBlocks named all.named → Pops allocator bytes table p (link_at bytes (block_of p)) blocks names kept final
+    go : (owed named : List ℕ) → Waits bytes table (Some p) owed named → SameBlocks owed w.owed → SameBlocks named all.named → Pops allocator bytes table p (link_at bytes (block_of p)) blocks names kept theirs final
     go owed named (waits {xs = xs} {ys = ys} {ns = ns} {ms = ms} next o link more) same same_names = record {
-      its = xs;
-      others = ys ++ w.shares;
-      its_names = ns;
+      popped = xs;
+      others = ys ++ blocks_by theirs all.frozen;
+      popped_names = ns;
       goes = record { owed = xs; named = ns; owes_it = o; owed_are = λ h. refl; named_are = λ h. refl };
       awaits = record {
         named = ms;
         frozen = all.frozen;
         beside = record {
           owed = ys;
-          shares = w.shares;
           pends = record { heap = w.pends.heap; owed = ys; named = ms; waiting = subst (λ n. Waits bytes table n ys ms) (sym link) more; owed_are = λ h. refl; named_are = λ h. refl };
           holds = w.holds;
           ownable = w.ownable;
@@ -286,15 +296,16 @@ pops allocator bytes table p blocks names kept final all = go w.pends.owed w.pen
         releasing = releasing_same kept final (names ++ all.named) ((ns ++ names) ++ ms) all.frozen
             (λ h. omega (arith, same_names h, times-append h names all.named, times-append h (ns ++ names) ms, times-append h ns names, times-append h ns ms)) all.releasing;
       };
-      blocks_are = λ h. omega (arith, same h, w.blocks_are h, times-append h xs ys, times-append h w.owed w.shares, times-append h xs (ys ++ w.shares), times-append h ys w.shares);
+      blocks_are = λ h. omega (arith, same h, w.blocks_are h, times-append h xs ys, times-append h w.owed (blocks_by theirs all.frozen), times-append h xs (ys ++ blocks_by theirs all.frozen), times-append h ys (blocks_by theirs all.frozen));
     }
 
 -- where none waits, nothing is to be released any more
-pub none_pends : (allocator : ℕ) (bytes : List ℕ) (table : Table) (blocks names : List ℕ) (frozen : List Frozen) (w : PendsBeside allocator bytes table None blocks names frozen) → SameBlocks blocks w.shares × SameBlocks names []
-none_pends allocator bytes table blocks names frozen w = go w.pends.owed w.pends.named w.pends.waiting w.pends.owed_are w.pends.named_are
+pub none_pends : (allocator : ℕ) (bytes : List ℕ) (table : Table) (blocks names : List ℕ) (theirs : ℕ → List ℕ) (frozen : List Frozen) (w : PendsBeside allocator bytes table None blocks names theirs frozen)
+    → SameBlocks blocks (blocks_by theirs frozen) × SameBlocks names []
+none_pends allocator bytes table blocks names theirs frozen w = go w.pends.owed w.pends.named w.pends.waiting w.pends.owed_are w.pends.named_are
   where
-    go : (owed named : List ℕ) → Waits bytes table None owed named → SameBlocks owed w.owed → SameBlocks named names → SameBlocks blocks w.shares × SameBlocks names []
-    go owed named none_waits same same_names = ((λ h. omega (arith, same h, w.blocks_are h, times-append h w.owed w.shares)), (λ h. sym (same_names h)))
+    go : (owed named : List ℕ) → Waits bytes table None owed named → SameBlocks owed w.owed → SameBlocks named names → SameBlocks blocks (blocks_by theirs frozen) × SameBlocks names []
+    go owed named none_waits same same_names = ((λ h. omega (arith, same h, w.blocks_are h, times-append h w.owed (blocks_by theirs frozen))), (λ h. sym (same_names h)))
 
 no_cell_gone : (fs : List Frozen) → AllByRecursion (λ (f : Frozen). 1 ≤ f.count) fs → left [] fs ≡ fs
 no_cell_gone [] a = refl
@@ -305,7 +316,7 @@ no_cell_gone (f ∷ fs) a =
     ap (λ n. kept_with f n (left (names_in f.value) fs) (left [] fs)) whole ∙ ap (λ n. with_count f n ∷ left [] fs) again ∙ ap (λ rs. f ∷ rs) (no_cell_gone fs a.1)
 
 -- where no name is to be released any more, what is left is there
-pub released : (kept : List Place) (final : List Frozen) (names : List ℕ) (now : List Frozen) → IsReleasing kept final names now → SameBlocks names [] → now ≡ final
+pub released : (kept : List Place) (theirs : ℕ → List ℕ) (final : List Frozen) (names : List ℕ) (now : List Frozen) → IsReleasing kept final names now → SameBlocks names [] → now ≡ final
 released kept final names now r none = go r.pending r.pending_are r.leaves
   where
     go : (pending : List Place) → SameBlocks (map (λ q. q.at) pending) names → left pending now ≡ final → now ≡ final
@@ -319,7 +330,7 @@ gives_more bs [] at = refl
 gives_more bs (x ∷ xs) at = gives_more (without x bs) xs at
 
 -- how far destruction has come: these were given back, and those go with what waits still or are shared
-pub record HasFreed (allocator : ℕ) (old new : List ℕ) (table : Table) (first : Option ℕ) (blocks : List ℕ) (kept_cells : List Place) (final : List Frozen) (turns : ℕ) : Type 0 where
+pub record HasFreed (allocator : ℕ) (old new : List ℕ) (table : Table) (first : Option ℕ) (blocks : List ℕ) (kept_cells : List Place) (theirs : ℕ → List ℕ) (final : List Frozen) (turns : ℕ) : Type 0 where
   pub given : List ℕ
   pub left : List ℕ
   pub blocks_are : SameBlocks blocks (given ++ left)
@@ -329,12 +340,13 @@ pub record HasFreed (allocator : ℕ) (old new : List ℕ) (table : Table) (firs
   pub live_is : live new ≡ after_gives (live old) given
   pub live_are : (h : ℕ) → times h (positions (live new)) + times h given ≡ times h (positions (live old))
   pub fewer : length (live new) + turns ≡ length (live old)
-  pub awaits : Awaits allocator new table first left [] kept_cells final
+  pub awaits : Awaits allocator new table first left [] kept_cells theirs final
+  pub shared_kept : KeepFrozen old new theirs final
   pub kept : (h : ℕ) → 1 ≤ times h (positions (live old)) → times h blocks ≡ 0 → KeepsLinked old new h
 
-pub none_freed : (allocator : ℕ) (old : List ℕ) (table : Table) (first : Option ℕ) (blocks : List ℕ) (kept_cells : List Place) (final : List Frozen) → Awaits allocator old table first blocks [] kept_cells final
-    → HasFreed allocator old old table first blocks kept_cells final 0
-none_freed allocator old table first blocks kept_cells final w = record {
+pub none_freed : (allocator : ℕ) (old : List ℕ) (table : Table) (first : Option ℕ) (blocks : List ℕ) (kept_cells : List Place) (theirs : ℕ → List ℕ) (final : List Frozen) → Awaits allocator old table first blocks [] kept_cells theirs final
+    → AreLive old blocks → HasFreed allocator old old table first blocks kept_cells theirs final 0
+none_freed allocator old table first blocks kept_cells theirs final w owned = record {
   given = [];
   left = blocks;
   blocks_are = λ h. refl;
@@ -345,6 +357,7 @@ none_freed allocator old table first blocks kept_cells final w = record {
   live_are = λ h. omega arith;
   fewer = omega arith;
   awaits = w;
+  shared_kept = final_kept allocator old old table first blocks [] kept_cells theirs final w owned (λ h some. (linked_same old h).whole.kept);
   kept = λ h some none. linked_same old h;
 }
 
@@ -364,20 +377,20 @@ times_few h [] = omega arith
 times_few h (b ∷ bs) = let rest = times_few h bs in ⊎_elim (λ e. let s : times h (b.at ∷ positions bs) ≡ 1 + times h (positions bs) = subst
     (λ x. times h (x ∷ positions bs) ≡ 1 + times h (positions bs)) (sym e) (times-same h (positions bs)) in omega arith) (λ ne. omega (arith, times-other h b.at (positions bs) ne)) (cases_eq b.at h)
 
-module _ (allocator : ℕ) (old now : List ℕ) (table : Table) (valid : IsTable table) (first : Option ℕ) (blocks : List ℕ) (kept_cells : List Place) (final : List Frozen) (turns : ℕ) (owned : AreLive old blocks)
-    (f : HasFreed allocator old now table first blocks kept_cells final turns) where
+module _ (allocator : ℕ) (old now : List ℕ) (table : Table) (valid : IsTable table) (first : Option ℕ) (blocks : List ℕ) (kept_cells : List Place) (theirs : ℕ → List ℕ) (final : List Frozen) (turns : ℕ) (owned : AreLive old blocks)
+    (f : HasFreed allocator old now table first blocks kept_cells theirs final turns) where
   pub left_live : AreLive now f.left
   left_live h = omega (arith, owned h, f.live_are h, f.blocks_are h, times-append h f.given f.left)
 
   -- one turn: the first block is taken out, what it names joins the others, and it is given back
-  module _ (p : ℕ) (next : Option ℕ) (pop : Pops allocator now table p next f.left [] kept_cells final) where
-    pub pop_live : AreLive now (pop.its ++ pop.others)
+  module _ (p : ℕ) (next : Option ℕ) (pop : Pops allocator now table p next f.left [] kept_cells theirs final) where
+    pub pop_live : AreLive now (pop.popped ++ pop.others)
     pop_live h = omega (arith, left_live h, pop.blocks_are h)
 
-    module _ (opened new : List ℕ) (after : Option ℕ) (rest : List ℕ) (its_are : SameBlocks pop.its (block_of p ∷ rest))
-        (adds : Adds allocator now opened table after rest pop.others [] kept_cells final) (g : Gives allocator opened new (block_of p)) where
+    module _ (opened new : List ℕ) (after : Option ℕ) (rest : List ℕ) (its_are : SameBlocks pop.popped (block_of p ∷ rest))
+        (adds : Adds allocator now opened table after rest pop.others [] kept_cells theirs final) (g : Gives allocator opened new (block_of p)) where
       here : 1 ≤ times (block_of p) (positions (live now))
-      here = omega (arith, pop_live (block_of p), times-append (block_of p) pop.its pop.others, its_are (block_of p), times-same (block_of p) rest)
+      here = omega (arith, pop_live (block_of p), times-append (block_of p) pop.popped pop.others, its_are (block_of p), times-same (block_of p) rest)
 
       here_then : 1 ≤ times (block_of p) (positions (live opened))
       here_then = subst (λ bs. 1 ≤ times (block_of p) (positions bs)) (sym adds.keeps.live_kept) here
@@ -389,7 +402,7 @@ module _ (allocator : ℕ) (old now : List ℕ) (table : Table) (valid : IsTable
           let is : times h (positions (live new)) ≡ times h (positions (without (block_of p) (live opened))) = ap (λ bs. times h (positions bs)) g.given in
           omega arith
 
-      linked_then : (h : ℕ) → 1 ≤ times h (positions (live now)) → times h pop.its ≡ 0 → times h pop.others ≡ 0 → KeepsLinked now new h
+      linked_then : (h : ℕ) → 1 ≤ times h (positions (live now)) → times h pop.popped ≡ 0 → times h pop.others ≡ 0 → KeepsLinked now new h
       linked_then h some none no_other =
           let n = its_are h in
           let is : times h (rest ++ pop.others) ≡ 0 = omega (arith, times-append h rest pop.others) in
@@ -397,19 +410,38 @@ module _ (allocator : ℕ) (old now : List ℕ) (table : Table) (valid : IsTable
           linked_twice now opened new h (adds.keeps.others h some is)
           (given_kept allocator opened new (block_of p) adds.awaits.beside.pends.heap g h (subst (λ bs. 1 ≤ times h (positions bs)) (sym adds.keeps.live_kept) some) other)
 
-      waiting_then : Awaits allocator new table after (rest ++ pop.others) [] kept_cells final
-      waiting_then = awaits_kept allocator opened new table valid after (rest ++ pop.others) [] kept_cells final g.heap (λ h some.
+      opened_live : AreLive opened (rest ++ pop.others)
+      opened_live h = omega (
+        arith,
+        pop_live h,
+        its_are h,
+        times-append h rest pop.others,
+        times-append h pop.popped pop.others,
+        times-append h (block_of p ∷ []) rest,
+        (let same : times h (positions (live opened)) ≡ times h (positions (live now)) = ap (λ bs. times h (positions bs)) adds.keeps.live_kept in same),
+      )
+
+      stays : (h : ℕ) → 1 ≤ times h (rest ++ pop.others) → KeepsLinked opened new h
+      stays h some =
           let a = times-append h rest pop.others in
-          let b = times-append h pop.its pop.others in
+          let b = times-append h pop.popped pop.others in
           let i = its_are h in
           let l = pop_live h in
           let once = live-once now allocator f.awaits.beside.pends.heap h in
-          let alive : 1 ≤ times h (positions (live now)) = omega arith in
+          let alive : 1 ≤ times h (positions (live now)) = omega (arith, times-append h (block_of p ∷ []) rest) in
           let other : h ≢ block_of p = λ e. let one = times-same (block_of p) rest in
           let s : times h (block_of p ∷ rest) ≡ 1 + times h rest = subst (λ x. times x (block_of p ∷ rest) ≡ 1 + times x rest) (sym e) one in absurd (omega arith) in
-          given_kept allocator opened new (block_of p) adds.awaits.beside.pends.heap g h (subst (λ bs. 1 ≤ times h (positions bs)) (sym adds.keeps.live_kept) alive) other) adds.awaits
+          given_kept allocator opened new (block_of p) adds.awaits.beside.pends.heap g h (subst (λ bs. 1 ≤ times h (positions bs)) (sym adds.keeps.live_kept) alive) other
 
-      pub freed_more : HasFreed allocator old new table after blocks kept_cells final (turns + 1)
+      waiting_then : Awaits allocator new table after (rest ++ pop.others) [] kept_cells theirs final
+      waiting_then = awaits_kept allocator opened new table valid after (rest ++ pop.others) [] kept_cells theirs final g.heap stays adds.awaits
+
+      shared_then : KeepFrozen old new theirs final
+      shared_then = frozen_twice old now new theirs final f.shared_kept (frozen_twice now opened new theirs final adds.shared_kept
+          (final_kept allocator opened new table after (rest ++ pop.others) [] kept_cells theirs final adds.awaits opened_live (λ h some.
+          (stays h (omega (arith, adds.awaits.beside.blocks_are h, times-append h adds.awaits.beside.owed (blocks_by theirs adds.awaits.frozen)))).whole.kept)))
+
+      pub freed_more : HasFreed allocator old new table after blocks kept_cells theirs final (turns + 1)
       freed_more = record {
         given = f.given ++ block_of p ∷ [];
         left = rest ++ pop.others;
@@ -419,7 +451,7 @@ module _ (allocator : ℕ) (old now : List ℕ) (table : Table) (valid : IsTable
           pop.blocks_are h,
           its_are h,
           times-append h f.given f.left,
-          times-append h pop.its pop.others,
+          times-append h pop.popped pop.others,
           times-append h (f.given ++ block_of p ∷ []) (rest ++ pop.others),
           times-append h f.given (block_of p ∷ []),
           times-append h rest pop.others,
@@ -431,11 +463,12 @@ module _ (allocator : ℕ) (old now : List ℕ) (table : Table) (valid : IsTable
         live_are = λ h. omega (arith, gone h, f.live_are h, times-append h f.given (block_of p ∷ []));
         fewer = omega (arith, f.fewer, ap length adds.keeps.live_kept, ap length g.given, one_less (block_of p) (live opened) here_then);
         awaits = waiting_then;
+        shared_kept = shared_then;
         kept = λ h some none.
             let b = f.blocks_are h in
             let q = pop.blocks_are h in
             let m = times-append h f.given f.left in
-            let n = times-append h pop.its pop.others in
+            let n = times-append h pop.popped pop.others in
             let l = f.live_are h in
             linked_twice old now new h (f.kept h some none) (linked_then h (omega arith) (omega arith) (omega arith));
       }
@@ -447,18 +480,18 @@ module _ (allocator : ℕ) (old now : List ℕ) (table : Table) (valid : IsTable
           front = front_kept opened new g.kept large
 
   -- where none waits any more, all were given back but what holds the objects that are left
-  pub all_freed : first ≡ None → Destroys allocator old now table blocks final
-  all_freed none = go (subst (λ o. Awaits allocator now table o f.left [] kept_cells final) none f.awaits)
+  pub all_freed : first ≡ None → Destroys allocator old now table blocks theirs final
+  all_freed none = go (subst (λ o. Awaits allocator now table o f.left [] kept_cells theirs final) none f.awaits)
     where
-      go : Awaits allocator now table None f.left [] kept_cells final → Destroys allocator old now table blocks final
+      go : Awaits allocator now table None f.left [] kept_cells theirs final → Destroys allocator old now table blocks theirs final
       go all =
           let w = all.beside in
-          let empty = none_pends allocator now table f.left all.named all.frozen w in
-          let same : SameBlocks blocks (f.given ++ w.shares) = λ h. omega (arith, f.blocks_are h, empty.0 h, times-append h f.given f.left, times-append h f.given w.shares) in
+          let empty = none_pends allocator now table f.left all.named theirs all.frozen w in
           let now_is = released kept_cells final all.named all.frozen all.releasing empty.1 in
+          let same : SameBlocks blocks (f.given ++ blocks_by theirs final) = subst (λ fs. SameBlocks blocks (f.given ++ blocks_by theirs fs)) now_is
+          (λ h. omega (arith, f.blocks_are h, empty.0 h, times-append h f.given f.left, times-append h f.given (blocks_by theirs all.frozen))) in
           record {
             gives = f.given;
-            shares = w.shares;
             blocks_are = same;
             frees = record {
               length_kept = f.length_kept;
@@ -469,15 +502,16 @@ module _ (allocator : ℕ) (old now : List ℕ) (table : Table) (valid : IsTable
               live_are = f.live_are;
               kept = λ h some none. f.kept h some (same h ∙ none);
             };
-            holds = subst (λ fs. HoldsRoots now table (map root_of_frozen fs) w.shares) now_is w.holds;
-            ownable = w.ownable;
+            shared_kept = f.shared_kept;
+            holds = subst (HoldFrozen now table theirs) now_is w.holds;
+            ownable = subst (λ fs. (h : ℕ) → 1 ≤ times h (blocks_by theirs fs) → IsOwnable now table h) now_is w.ownable;
           }
 
   -- more turns than there is room for blocks are enough
-  pub enough_turns : IsHeap allocator old → length old < 16 * turns + 16 → Destroys allocator old now table blocks final
+  pub enough_turns : IsHeap allocator old → length old < 16 * turns + 16 → Destroys allocator old now table blocks theirs final
   enough_turns heap many = go first refl
     where
-      go : (o : Option ℕ) → first ≡ o → Destroys allocator old now table blocks final
+      go : (o : Option ℕ) → first ≡ o → Destroys allocator old now table blocks theirs final
       go None e = all_freed e
       go (Some p) e =
           let w = f.awaits.beside in
@@ -485,7 +519,7 @@ module _ (allocator : ℕ) (old now : List ℕ) (table : Table) (valid : IsTable
           let l = left_live (block_of p) in
           let o = w.pends.owed_are (block_of p) in
           let b = w.blocks_are (block_of p) in
-          let a = times-append (block_of p) w.owed w.shares in
+          let a = times-append (block_of p) w.owed (blocks_by theirs f.awaits.frozen) in
           let few = few_live allocator old heap in
           let one = times_few (block_of p) (live now) in
           let some = begins.1 in

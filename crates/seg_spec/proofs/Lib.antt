@@ -50,6 +50,7 @@ pub mod TreeOwed
 pub mod ChainOwed
 pub mod SharedLaws
 pub mod Releasing
+pub mod FrozenBlocks
 pub mod Destruction
 pub mod Lowering
 pub mod Releases

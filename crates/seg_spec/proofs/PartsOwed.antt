@@ -13,7 +13,7 @@ use Rattle.seg_spec.specs.Destroying.{AreLive, Awaits, Adds}
 use Rattle.seg_spec.proofs.TypesLaws.{size-form}
 use Rattle.seg_spec.proofs.Frame.{each_weaker}
 use Rattle.seg_spec.proofs.Geometry.{InFields, fields_in}
-use Rattle.seg_spec.proofs.LiveLaws.{times-append, times-same, live-once}
+use Rattle.seg_spec.proofs.LiveLaws.{times-append, times-same, times-more, live-once}
 use Rattle.seg_spec.proofs.Moving.{EachField, struct_fields}
 use Rattle.seg_spec.proofs.Destruction.{places_inside, parts_then, same_adds, adds_twice, adds_same, awaits_names}
 use Rattle.seg_spec.specs.Shared.{named_in, named_each}
@@ -145,47 +145,48 @@ entries_inside bytes table home start before U (suc n) i =
 -- ---- parts that are added one after the other
 
 -- how far that has come: xs are what the parts own, of which some joined ys that went with what waited before or were shared
-pub record Joined (allocator : ℕ) (old new : List ℕ) (table : Table) (first : Option ℕ) (home : ℕ) (places : List Place) (xs ys more : List ℕ) (kept : List Place) (final : List Frozen) : Type 0 where
+pub record Joined (allocator : ℕ) (old new : List ℕ) (table : Table) (first : Option ℕ) (home : ℕ) (places : List Place) (xs ys more : List ℕ) (kept : List Place) (theirs : ℕ → List ℕ) (final : List Frozen) : Type 0 where
   pub done : List ℕ
   pub rest : List ℕ
   pub rest_names : List ℕ
   pub all_are : SameBlocks xs (rest ++ done)
-  pub adds : Adds allocator old new table first done ys (rest_names ++ more) kept final
+  pub adds : Adds allocator old new table first done ys (rest_names ++ more) kept theirs final
   pub inside : AllByRecursion (λ q. IsInside new home q.at (size table q.type)) places
   pub parts : AreParts new table places rest rest_names
 
-module _ (allocator : ℕ) (old : List ℕ) (table : Table) (valid : IsTable table) (home : ℕ) (xs ys more : List ℕ) (kept : List Place) (final : List Frozen) (owned : AreLive old (home ∷ (xs ++ ys))) where
-  pub none_joined : (first : Option ℕ) (places : List Place) (ns : List ℕ) → Awaits allocator old table first ys (ns ++ more) kept final
-      → AllByRecursion (λ q. IsInside old home q.at (size table q.type)) places → AreParts old table places xs ns → Joined allocator old old table first home places xs ys more kept final
+module _ (allocator : ℕ) (old : List ℕ) (table : Table) (valid : IsTable table) (home : ℕ) (xs ys more : List ℕ) (kept : List Place) (theirs : ℕ → List ℕ) (final : List Frozen) (owned : AreLive old (home ∷ (xs ++ ys))) where
+  pub none_joined : (first : Option ℕ) (places : List Place) (ns : List ℕ) → Awaits allocator old table first ys (ns ++ more) kept theirs final
+      → AllByRecursion (λ q. IsInside old home q.at (size table q.type)) places → AreParts old table places xs ns → Joined allocator old old table first home places xs ys more kept theirs final
   none_joined first places ns w i parts = record {
     done = [];
     rest = xs;
     rest_names = ns;
     all_are = λ h. let n = times-append h xs [] in omega arith;
-    adds = same_adds allocator old table first [] ys [] (ns ++ more) kept final refl refl w;
+    adds = same_adds allocator old table first [] ys [] (ns ++ more) kept theirs final refl refl w
+        (λ h. omega (arith, owned h, times-more h home (xs ++ ys), times-append h xs ys));
     inside = i;
     parts = parts;
   }
 
-  pub all_joined : (new : List ℕ) (first : Option ℕ) (places : List Place) → places ≡ [] → Joined allocator old new table first home places xs ys more kept final → Adds allocator old new table first xs ys more kept final
+  pub all_joined : (new : List ℕ) (first : Option ℕ) (places : List Place) → places ≡ [] → Joined allocator old new table first home places xs ys more kept theirs final → Adds allocator old new table first xs ys more kept theirs final
   all_joined new first places none j =
       let empty = no_rest new j.rest j.rest_names (subst (λ ps. AreParts new table ps j.rest j.rest_names) none j.parts) in
       let all = subst (λ bs. SameBlocks xs (bs ++ j.done)) empty.0 j.all_are in
-      adds_same allocator old new table first j.done xs ys more kept final (λ h. sym (all h)) (subst (λ ns. Adds allocator old new table first j.done ys (ns ++ more) kept final) empty.1 j.adds)
+      adds_same allocator old new table first j.done xs ys more kept theirs final (λ h. sym (all h)) (subst (λ ns. Adds allocator old new table first j.done ys (ns ++ more) kept theirs final) empty.1 j.adds)
     where
       no_rest : (b : List ℕ) (bs vs : List ℕ) → AreParts b table [] bs vs → (bs ≡ []) × (vs ≡ [])
       no_rest b bs vs no_parts = (refl, refl)
 
   module _ (now new : List ℕ) (first next : Option ℕ) (place : Place) (later : List Place) where
     -- one more part
-    pub joined_more : Joined allocator old now table first home (place ∷ later) xs ys more kept final →
-        ((its others ns names : List ℕ) → IsPart now table place its ns → IsInside now home place.at (size table place.type) → Awaits allocator now table first others (ns ++ names) kept final
-        → AreLive now (home ∷ (its ++ others)) → Adds allocator now new table next its others names kept final) →
-        Joined allocator old new table next home later xs ys more kept final
+    pub joined_more : Joined allocator old now table first home (place ∷ later) xs ys more kept theirs final →
+        ((its others ns names : List ℕ) → IsPart now table place its ns → IsInside now home place.at (size table place.type) → Awaits allocator now table first others (ns ++ names) kept theirs final
+        → AreLive now (home ∷ (its ++ others)) → Adds allocator now new table next its others names kept theirs final) →
+        Joined allocator old new table next home later xs ys more kept theirs final
     joined_more j f = go j.rest j.rest_names j.parts j.all_are j.adds.awaits
       where
-        go : (rest rest_names : List ℕ) → AreParts now table (place ∷ later) rest rest_names → SameBlocks xs (rest ++ j.done) → Awaits allocator now table first (j.done ++ ys) (rest_names ++ more) kept final
-            → Joined allocator old new table next home later xs ys more kept final
+        go : (rest rest_names : List ℕ) → AreParts now table (place ∷ later) rest rest_names → SameBlocks xs (rest ++ j.done) → Awaits allocator now table first (j.done ++ ys) (rest_names ++ more) kept theirs final
+            → Joined allocator old new table next home later xs ys more kept theirs final
         go rest rest_names (more_parts {blocks = its} {rest = left} {names = vs} {others = left_names} first_part parts) same waiting =
             let same_live = j.adds.keeps.live_kept in
             let live_same = λ (h : ℕ). ap (λ bs. times h (positions bs)) same_live in
@@ -197,7 +198,7 @@ module _ (allocator : ℕ) (old : List ℕ) (table : Table) (valid : IsTable tab
             let names : SameBlocks ((vs ++ left_names) ++ more) (vs ++ (left_names ++ more)) = λ h.
             omega (arith, times-append h (vs ++ left_names) more, times-append h vs left_names, times-append h vs (left_names ++ more), times-append h left_names more) in
             let step = f its (j.done ++ ys) vs (left_names ++ more) first_part j.inside.0
-            (awaits_names allocator now table first (j.done ++ ys) ((vs ++ left_names) ++ more) (vs ++ (left_names ++ more)) kept final names waiting) fits in
+            (awaits_names allocator now table first (j.done ++ ys) ((vs ++ left_names) ++ more) (vs ++ (left_names ++ more)) kept theirs final names waiting) fits in
             let fits_left : AreLive now ((its ++ (j.done ++ ys)) ++ left) = λ h.
             let o = owned h in let l = live_same h in let c = counts h in let a = times-append h xs ys in let b = times-append h (its ++ (j.done ++ ys)) left in let d = times-append h its (j.done ++ ys) in
             let e = times-append h j.done ys in
@@ -215,7 +216,7 @@ module _ (allocator : ℕ) (old : List ℕ) (table : Table) (valid : IsTable tab
               rest = left;
               rest_names = left_names;
               all_are = λ h. let c = counts h in let a = times-append h left (its ++ j.done) in let b = times-append h its j.done in omega arith;
-              adds = adds_twice allocator old now new table first next j.done its ys (its ++ j.done) (j.rest_names ++ more) (left_names ++ more) kept final j.adds step (λ h. refl);
+              adds = adds_twice allocator old now new table first next j.done its ys (its ++ j.done) (j.rest_names ++ more) (left_names ++ more) kept theirs final j.adds step (λ h. refl);
               inside = places_inside allocator now new table valid j.adds.awaits.beside.pends.heap home (its ++ (j.done ++ ys)) step.keeps home_live apart later j.inside.1;
               parts = parts_then allocator now new table valid j.adds.awaits.beside.pends.heap home (its ++ (j.done ++ ys)) step.keeps home_live apart later left left_names j.inside.1 fits_left parts;
             }

@@ -1,25 +1,29 @@
 -- A cell that names a frozen object goes: the object's count is lowered in the bytes, and at 0 it waits to be destroyed.
 use Rattle.std.proofs.Common.{◌≡◌, ◌≢◌, ℕ, suc, ◌+◌, ◌-◌, ◌*◌, ◌^◌, ◌<◌, ◌≤◌, inl, inr, ⊎_elim, List, [], ◌∷◌, ◌++◌, length, map, Option, refl, sym, ap, ◌∙◌, subst, arith}
+use Rattle.std.specs.Prelude.{nat_le}
 use Rattle.std.specs.List.{AllByRecursion}
-use Rattle.std.proofs.lemmas.List.{map-append, append-nil}
+use Rattle.std.proofs.lemmas.List.{append-nil}
 use Rattle.seg_spec.specs.Bytes.{word, set_word, ChangesOnly, slice}
 use Rattle.seg_spec.specs.Types.{Table, IsTable, size}
 use Rattle.seg_spec.specs.Value.{Value}
 use Rattle.seg_spec.specs.Heap.{IsHeap, live, heap_start}
 use Rattle.seg_spec.specs.Block.{Kind, tag_of, IsBlock, IsOwnable, KeepsBlock, IsInside, block_of}
 use Rattle.seg_spec.specs.Reads.{Place, Holds, HoldsEach, holds_none, holds_more}
-use Rattle.seg_spec.specs.Frozen.{Frozen, root_of_frozen}
-use Rattle.seg_spec.specs.Sound.{payload_of, HoldsRoot, HoldsRoots, holds_more_roots, times, SameBlocks, positions}
+use Rattle.seg_spec.specs.Apart.{KeepsBlockAround}
+use Rattle.seg_spec.specs.Frozen.{Frozen, root_of_frozen, blocks_by}
+use Rattle.seg_spec.specs.Sound.{payload_of, HoldsRoot, times, SameBlocks, positions}
 use Rattle.seg_spec.specs.Shared.{named_in, names_in, IsReleasing, with_count, kept_with}
 use Rattle.seg_spec.specs.Releasing.{lowered, names_with, let_go}
 use Rattle.seg_spec.specs.Owing.{KeepsLinked, no_parts, more_parts, owes, no_links}
-use Rattle.seg_spec.specs.Destroying.{AreLive, GoesWith, KeepsOthers, PendsBeside, Awaits, Adds}
-use Rattle.seg_spec.proofs.Frame.{word-same, target-same, Holds-kept}
+use Rattle.seg_spec.specs.Destroying.{AreLive, GoesWith, KeepsOthers, PendsBeside, HoldFrozen, KeepFrozen, Awaits, Adds}
+use Rattle.seg_spec.proofs.Frame.{word-same, target-same, Holds-kept, each_left, each_right}
 use Rattle.seg_spec.proofs.LiveLaws.{times-append, times-same, times-other, there, each_there, LiesIn, live-lie, live-once}
 use Rattle.seg_spec.proofs.BytesLaws.{number-set_same}
 use Rattle.seg_spec.proofs.Writing.{set_number-changes}
-use Rattle.seg_spec.proofs.RootFrame.{HoldsRoots-kept}
-use Rattle.seg_spec.proofs.RootLaws.{HoldsRoots-split, HoldsRoots-only, HoldsRoots-append}
+use Rattle.seg_spec.proofs.WriteInside.{KeptBut, live_kept_but}
+use Rattle.seg_spec.proofs.LooseRoots.{each_joined}
+use Rattle.seg_spec.proofs.FrozenBlocks.{times_by, hold_kept, frozen_twice, frozen_kept, released_each}
+use Rattle.seg_spec.proofs.Composing.{around_kept}
 use Rattle.seg_spec.proofs.CellOwed.{block_there}
 use Rattle.seg_spec.proofs.Standing.{ownable_linked}
 use Rattle.std.proofs.lemmas.Bool.{cases_eq}
@@ -93,6 +97,22 @@ module _ (allocator : ℕ) (old new : List ℕ) (table : Table) (valid : IsTable
   pub lowered_heap : IsHeap allocator new
   lowered_heap = heap_written allocator old new f.at 4 (block_of f.at) heap inside here changes
 
+  -- so the own block is kept, but for the count
+  pub lowered_around : KeepsBlockAround old new f.at 4 (block_of f.at)
+  lowered_around =
+      let own_block = block_of f.at in
+      let k = there (KeptBut old new f.at 4 changes allocator heap own_block inside here) own_block (positions (live old)) (live_kept_but old new f.at 4 changes allocator heap own_block inside here) here in
+      let first_word = word-same old new own_block (k.outside own_block 4 (omega arith) (omega arith)) in
+      record {
+        solid = omega (arith, k.solid);
+        header = record {
+          live = ap (λ w. nat_le (2 ^ 31) w) first_word;
+          has_tag = word-same old new (own_block + 8) (k.outside (own_block + 8) 4 (omega arith) (omega arith));
+          room = rw k.units_kept (omega arith);
+        };
+        payload = λ g m low high apart. changes.others g m apart;
+      }
+
   -- what isn't the object's own block stays
   pub beside_it : (h : ℕ) → 1 ≤ times h (positions (live old)) → h ≢ block_of f.at → KeepsLinked old new h
   beside_it h some other = lowered_keeps.others h some (times-other h (block_of f.at) [] (λ e. other (sym e)))
@@ -136,15 +156,15 @@ module _ (allocator : ℕ) (old new : List ℕ) (table : Table) (valid : IsTable
 
 -- ---- a cell that names an object goes
 
-module _ (allocator : ℕ) (old : List ℕ) (table : Table) (valid : IsTable table) (p : ℕ) (first : Option ℕ) (ys more : List ℕ) (kept : List Place) (final : List Frozen)
-    (waiting : Awaits allocator old table first ys (p ∷ more) kept final) (owned : AreLive old ys) where
+module _ (allocator : ℕ) (old : List ℕ) (table : Table) (valid : IsTable table) (p : ℕ) (first : Option ℕ) (ys more : List ℕ) (kept : List Place) (theirs : ℕ → List ℕ) (final : List Frozen)
+    (waiting : Awaits allocator old table first ys (p ∷ more) kept theirs final) (owned : AreLive old ys) where
   abbrev ms : List ℕ
   ms = waiting.named
 
   abbrev frozen : List Frozen
   frozen = waiting.frozen
 
-  w : PendsBeside allocator old table first ys ms frozen
+  w : PendsBeside allocator old table first ys ms theirs frozen
   w = waiting.beside
 
   turn : Turned kept final p (more ++ ms) frozen
@@ -154,61 +174,51 @@ module _ (allocator : ℕ) (old : List ℕ) (table : Table) (valid : IsTable tab
   k = turn.it
 
   -- the object's own blocks, and those of the others
-  record Apart : Type 0 where
-    left : List ℕ
-    mine : List ℕ
-    right : List ℕ
-    lefts : HoldsRoots old table (map root_of_frozen k.before) left
-    it : HoldsRoot old table (root_of_frozen k.object) mine
-    rights : HoldsRoots old table (map root_of_frozen k.after) right
-    shares_are : w.shares ≡ left ++ (mine ++ right)
+  abbrev mine : List ℕ
+  mine = theirs k.object.at
 
-  apart : Apart
-  apart =
-      let all : HoldsRoots old table (map root_of_frozen k.before ++ (root_of_frozen k.object ∷ map root_of_frozen k.after)) w.shares =
-      subst (λ rs. HoldsRoots old table rs w.shares) (ap (map root_of_frozen) k.are ∙ map-append root_of_frozen k.before (k.object ∷ k.after)) w.holds in
-      let s = HoldsRoots-split old table (map root_of_frozen k.before) (root_of_frozen k.object ∷ map root_of_frozen k.after) w.shares all in
-      let t = HoldsRoots-split old table (root_of_frozen k.object ∷ []) (map root_of_frozen k.after) s.right s.rights in
-      record {
-        left = s.left;
-        mine = t.left;
-        right = t.right;
-        lefts = s.lefts;
-        it = HoldsRoots-only old table (root_of_frozen k.object) t.left t.lefts;
-        rights = t.rights;
-        shares_are = s.blocks_are ∙ ap (λ bs. s.left ++ bs) t.blocks_are;
-      }
+  abbrev lefts : List ℕ
+  lefts = blocks_by theirs k.before
 
-  a : Apart
-  a = apart
+  abbrev rights : List ℕ
+  rights = blocks_by theirs k.after
 
-  there_is : IsFrozenThere old table k.object a.mine
-  there_is = frozen_there old table k.object a.mine a.it
+  abbrev Holds_it : Frozen → Type 0
+  Holds_it f = HoldsRoot old table (root_of_frozen f) (theirs f.at)
+
+  all_hold : AllByRecursion Holds_it (k.before ++ k.object ∷ k.after)
+  all_hold = subst (HoldFrozen old table theirs) k.are w.holds
+
+  hold_left : HoldFrozen old table theirs k.before
+  hold_left = each_left Holds_it k.before (k.object ∷ k.after) all_hold
+
+  hold_on : AllByRecursion Holds_it (k.object ∷ k.after)
+  hold_on = each_right Holds_it k.before (k.object ∷ k.after) all_hold
+
+  shares_count : (h : ℕ) → times h (blocks_by theirs frozen) ≡ times h lefts + times h mine + times h rights
+  shares_count h =
+      let e : times h (blocks_by theirs frozen) ≡ times h (blocks_by theirs (k.before ++ k.object ∷ k.after)) = ap (λ fs. times h (blocks_by theirs fs)) k.are in
+      omega (arith, times_by theirs k.before (k.object ∷ k.after) h, times-append h mine rights)
+
+  there_is : IsFrozenThere old table k.object mine
+  there_is = frozen_there old table k.object mine hold_on.0
 
   abbrev others : List ℕ
-  others = w.owed ++ (a.left ++ a.right)
+  others = w.owed ++ (lefts ++ rights)
 
-  all_are : (h : ℕ) → times h ys ≡ times h a.mine + times h (w.owed ++ (a.left ++ a.right))
-  all_are h = omega (
-    arith,
-    w.blocks_are h,
-    times-append h w.owed w.shares,
-    (let e : times h w.shares ≡ times h (a.left ++ (a.mine ++ a.right)) = ap (times h) a.shares_are in e),
-    times-append h a.left (a.mine ++ a.right),
-    times-append h a.mine a.right,
-    times-append h w.owed (a.left ++ a.right),
-    times-append h a.left a.right,
-  )
+  all_are : (h : ℕ) → times h ys ≡ times h mine + times h (w.owed ++ (lefts ++ rights))
+  all_are h =
+      omega (arith, w.blocks_are h, times-append h w.owed (blocks_by theirs frozen), shares_count h, times-append h w.owed (lefts ++ rights), times-append h lefts rights)
 
-  fits : AreLive old (a.mine ++ (w.owed ++ (a.left ++ a.right)))
-  fits h = omega (arith, owned h, all_are h, times-append h a.mine (w.owed ++ (a.left ++ a.right)))
+  fits : AreLive old (mine ++ (w.owed ++ (lefts ++ rights)))
+  fits h = omega (arith, owned h, all_are h, times-append h mine (w.owed ++ (lefts ++ rights)))
 
   -- its count has room
   count_fits : p + 4 ≤ length old
   count_fits =
       let here : 1 ≤ times (block_of k.object.at) (positions (live old)) =
-      let e : times (block_of k.object.at) a.mine ≡ times (block_of k.object.at) (block_of k.object.at ∷ there_is.inside) = ap (times (block_of k.object.at)) there_is.blocks_are in
-      omega (arith, fits (block_of k.object.at), times-append (block_of k.object.at) a.mine others, times-same (block_of k.object.at) there_is.inside) in
+      let e : times (block_of k.object.at) mine ≡ times (block_of k.object.at) (block_of k.object.at ∷ there_is.inside) = ap (times (block_of k.object.at)) there_is.blocks_are in
+      omega (arith, fits (block_of k.object.at), times-append (block_of k.object.at) mine others, times-same (block_of k.object.at) there_is.inside) in
       let lies = there (LiesIn old heap_start (length old)) (block_of k.object.at) (positions (live old)) (live-lie old allocator w.pends.heap) here in
       omega (arith, lies.high, there_is.block.room, there_is.block.after_header, k.at_is)
 
@@ -233,26 +243,21 @@ module _ (allocator : ℕ) (old : List ℕ) (table : Table) (valid : IsTable tab
     count_there : word new k.object.at ≡ k.object.count - 1
     count_there = subst (λ x. word new x ≡ k.object.count - 1) (sym k.at_is) count_is
 
-    own_there : 1 ≤ times (block_of k.object.at) a.mine
-    own_there = let e : times (block_of k.object.at) a.mine ≡ times (block_of k.object.at) (block_of k.object.at ∷ there_is.inside) = ap (times (block_of k.object.at)) there_is.blocks_are in
+    own_there : 1 ≤ times (block_of k.object.at) mine
+    own_there = let e : times (block_of k.object.at) mine ≡ times (block_of k.object.at) (block_of k.object.at ∷ there_is.inside) = ap (times (block_of k.object.at)) there_is.blocks_are in
         omega (arith, times-same (block_of k.object.at) there_is.inside)
 
     heap_then : IsHeap allocator new
-    heap_then = lowered_heap allocator old new table valid k.object (k.object.count - 1) a.mine others w.pends.heap there_is fits changes_there count_there
+    heap_then = lowered_heap allocator old new table valid k.object (k.object.count - 1) mine others w.pends.heap there_is fits changes_there count_there
 
     keeps_then : KeepsOthers old new (block_of k.object.at ∷ [])
-    keeps_then = lowered_keeps allocator old new table valid k.object (k.object.count - 1) a.mine others w.pends.heap there_is fits changes_there count_there
+    keeps_then = lowered_keeps allocator old new table valid k.object (k.object.count - 1) mine others w.pends.heap there_is fits changes_there count_there
 
     others_linked : (h : ℕ) → 1 ≤ times h others → KeepsLinked old new h
     others_linked h some =
-        let n = no_common allocator old w.pends.heap a.mine others fits h some in
-        beside_it allocator old new table valid k.object (k.object.count - 1) a.mine others w.pends.heap there_is fits changes_there count_there h n.0
-        (λ e. let m : 1 ≤ times h a.mine = subst (λ x. 1 ≤ times x a.mine) (sym e) own_there in absurd (omega (arith, n.1)))
-
-    shares_count : (h : ℕ) → times h w.shares ≡ times h a.left + times h a.mine + times h a.right
-    shares_count h =
-        let e : times h w.shares ≡ times h (a.left ++ (a.mine ++ a.right)) = ap (times h) a.shares_are in
-        omega (arith, times-append h a.left (a.mine ++ a.right), times-append h a.mine a.right)
+        let n = no_common allocator old w.pends.heap mine others fits h some in
+        beside_it allocator old new table valid k.object (k.object.count - 1) mine others w.pends.heap there_is fits changes_there count_there h n.0
+        (λ e. let m : 1 ≤ times h mine = subst (λ x. 1 ≤ times x mine) (sym e) own_there in absurd (omega (arith, n.1)))
 
     -- its own block is changed behind the header alone
     own_ownable : IsOwnable new table (block_of k.object.at)
@@ -268,77 +273,95 @@ module _ (allocator : ℕ) (old : List ℕ) (table : Table) (valid : IsTable tab
           link_is = target-same old new (block_of k.object.at + 12) (changes_there.others (block_of k.object.at + 12) 4 (inl (omega (arith, low)))) ∙ o.link_is;
         }
 
-    ownable_there : (h : ℕ) → 1 ≤ times h (a.left ++ (a.mine ++ a.right)) → IsOwnable new table h
+    -- those of the objects before and after, and of one at its place between them
+    among : (f : Frozen) → f.at ≡ k.object.at → (h : ℕ) → times h (blocks_by theirs (k.before ++ f ∷ k.after)) ≡ times h lefts + times h mine + times h rights
+    among f same h =
+        let e : times h (theirs f.at) ≡ times h mine = ap (λ q. times h (theirs q)) same in
+        omega (arith, times_by theirs k.before (f ∷ k.after) h, times-append h (theirs f.at) rights)
+
+    ownable_there : (h : ℕ) → 1 ≤ times h lefts + times h mine + times h rights → IsOwnable new table h
     ownable_there h l = ⊎_elim
         (λ same. subst (IsOwnable new table) (sym same) own_ownable)
         (λ other.
-        let there_too : 1 ≤ times h (positions (live old)) = omega (
-          arith,
-          l,
-          fits h,
-          times-append h a.mine others,
-          times-append h w.owed (a.left ++ a.right),
-          times-append h a.left a.right,
-          times-append h a.left (a.mine ++ a.right),
-          times-append h a.mine a.right,
-        ) in
-        ownable_linked old new table h (beside_it allocator old new table valid k.object (k.object.count - 1) a.mine others w.pends.heap there_is fits changes_there count_there h there_too other)
-        (w.ownable h (omega (arith, l, shares_count h, times-append h a.left (a.mine ++ a.right), times-append h a.mine a.right))))
+        let there_too : 1 ≤ times h (positions (live old)) = omega (arith, l, fits h, times-append h mine others, times-append h w.owed (lefts ++ rights), times-append h lefts rights) in
+        ownable_linked old new table h (beside_it allocator old new table valid k.object (k.object.count - 1) mine others w.pends.heap there_is fits changes_there count_there h there_too other)
+        (w.ownable h (omega (arith, l, shares_count h))))
         (cases_eq h (block_of k.object.at))
 
-    others_before : PendsBeside allocator old table first others ms (k.before ++ k.after)
+    without_it : (h : ℕ) → times h (blocks_by theirs (k.before ++ k.after)) ≡ times h lefts + times h rights
+    without_it h = times_by theirs k.before k.after h
+
+    others_before : PendsBeside allocator old table first others ms theirs (k.before ++ k.after)
     others_before = record {
       owed = w.owed;
-      shares = a.left ++ a.right;
       pends = w.pends;
-      holds = subst (λ rs. HoldsRoots old table rs (a.left ++ a.right)) (sym (map-append root_of_frozen k.before k.after)) (HoldsRoots-append old table a.lefts a.rights);
-      ownable = λ h l. w.ownable h (omega (arith, l, shares_count h, times-append h a.left a.right));
-      blocks_are = λ h. refl;
+      holds = each_joined Holds_it k.before k.after hold_left hold_on.1;
+      ownable = λ h l. w.ownable h (omega (arith, l, shares_count h, without_it h));
+      blocks_are = λ h. omega (arith, without_it h, times-append h w.owed (lefts ++ rights), times-append h lefts rights, times-append h w.owed (blocks_by theirs (k.before ++ k.after)));
     }
 
-    others_then : PendsBeside allocator new table first others ms (k.before ++ k.after)
-    others_then = beside_kept allocator old new table valid first others ms (k.before ++ k.after) heap_then others_linked others_before
+    others_then : PendsBeside allocator new table first others ms theirs (k.before ++ k.after)
+    others_then = beside_kept allocator old new table valid first others ms theirs (k.before ++ k.after) heap_then others_linked others_before
 
     live_then : (h : ℕ) → times h (positions (live new)) ≡ times h (positions (live old))
     live_then h = ap (λ bs. times h (positions bs)) keeps_then.live_kept
 
     none_own : (h : ℕ) → times h ys ≡ 0 → times h (block_of k.object.at ∷ []) ≡ 0
-    none_own h none = times-other h (block_of k.object.at) [] (λ e. let m : 1 ≤ times h a.mine = subst (λ x. 1 ≤ times x a.mine) e own_there in absurd (omega (arith, all_are h)))
+    none_own h none = times-other h (block_of k.object.at) [] (λ e. let m : 1 ≤ times h mine = subst (λ x. 1 ≤ times x mine) e own_there in absurd (omega (arith, all_are h)))
+
+    -- the objects are kept, but for its count
+    lowered_kept : KeepFrozen old new theirs final
+    lowered_kept =
+        let whole : (h : ℕ) → 1 ≤ times h lefts + times h rights → KeepsBlock old new h = λ h l. (others_linked h (omega (arith, l, times-append h w.owed (lefts ++ rights), times-append h lefts rights))).whole.kept in
+        let alive : (h : ℕ) → 1 ≤ times h lefts + times h mine + times h rights → 1 ≤ times h (positions (live old)) = λ h l.
+        omega (arith, l, fits h, times-append h mine others, times-append h w.owed (lefts ++ rights), times-append h lefts rights) in
+        let before_it = frozen_kept allocator old new w.pends.heap theirs k.before (λ h l. alive h (omega (arith, l))) (λ h l. whole h (omega (arith, l))) in
+        let after_it = frozen_kept allocator old new w.pends.heap theirs k.after (λ h l. alive h (omega (arith, l))) (λ h l. whole h (omega (arith, l))) in
+        let it : AllByRecursion (KeepsBlockAround old new k.object.at 4) mine = each_there (KeepsBlockAround old new k.object.at 4) mine (λ h l.
+        ⊎_elim
+        (λ same. subst (KeepsBlockAround old new k.object.at 4) (sym same)
+        (lowered_around allocator old new table valid k.object (k.object.count - 1) mine others w.pends.heap there_is fits changes_there count_there))
+        (λ other.
+        let solid = (there (LiesIn old heap_start (length old)) h (positions (live old)) (live-lie old allocator w.pends.heap) (alive h (omega (arith, l)))).size in
+        around_kept old new k.object.at 4 h (omega (arith, solid))
+        (beside_it allocator old new table valid k.object (k.object.count - 1) mine others w.pends.heap there_is fits changes_there count_there h (alive h (omega (arith, l))) other).whole.kept)
+        (cases_eq h (block_of k.object.at))) in
+        released_each (λ at. AllByRecursion (KeepsBlockAround old new at 4) (theirs at)) kept final (p ∷ more ++ ms) frozen waiting.releasing
+        (subst (KeepFrozen old new theirs) (sym k.are) (each_joined (λ f. AllByRecursion (KeepsBlockAround old new f.at 4) (theirs f.at)) k.before (k.object ∷ k.after) before_it (it, after_it)))
 
     -- other cells name it still
-    pub stays : (n : ℕ) → word new p ≡ suc n → Adds allocator old new table first [] ys more kept final
+    pub stays : (n : ℕ) → word new p ≡ suc n → Adds allocator old new table first [] ys more kept theirs final
     stays n there_some =
         let some : k.object.count - 1 ≡ suc n = sym count_is ∙ there_some in
         let frozen_then = k.before ++ with_count k.object (suc n) ∷ k.after in
-        let there_then : IsFrozenThere new table (with_count k.object (suc n)) a.mine =
-        subst (λ c. IsFrozenThere new table (with_count k.object c) a.mine) some
-        (lowered_there allocator old new table valid k.object (k.object.count - 1) a.mine others w.pends.heap there_is fits changes_there count_there) in
-        let it_then = there_frozen new table (with_count k.object (suc n)) a.mine there_then in
-        let linked = λ (h : ℕ) (l : 1 ≤ times h (a.left ++ a.right)). (others_linked h (omega (arith, l, times-append h w.owed (a.left ++ a.right)))).whole.kept in
-        let lefts_then = HoldsRoots-kept old new table valid a.lefts (each_there (KeepsBlock old new) a.left (λ h l. linked h (omega (arith, l, times-append h a.left a.right)))) in
-        let rights_then = HoldsRoots-kept old new table valid a.rights (each_there (KeepsBlock old new) a.right (λ h l. linked h (omega (arith, l, times-append h a.left a.right)))) in
+        let there_then : IsFrozenThere new table (with_count k.object (suc n)) mine =
+        subst (λ c. IsFrozenThere new table (with_count k.object c) mine) some
+        (lowered_there allocator old new table valid k.object (k.object.count - 1) mine others w.pends.heap there_is fits changes_there count_there) in
+        let it_then = there_frozen new table (with_count k.object (suc n)) mine there_then in
+        let linked : (h : ℕ) → 1 ≤ times h lefts + times h rights → KeepsBlock old new h = λ h l. (others_linked h (omega (arith, l, times-append h w.owed (lefts ++ rights), times-append h lefts rights))).whole.kept in
+        let left_then = hold_kept old new table valid theirs k.before (λ h l. linked h (omega (arith, l))) hold_left in
+        let right_then = hold_kept old new table valid theirs k.after (λ h l. linked h (omega (arith, l))) hold_on.1 in
+        let all = among (with_count k.object (suc n)) refl in
         let names_are : let_go p frozen ≡ [] = k.let_go_is ∙ ap (names_with k.object) some in
         let frozen_is : lowered p frozen ≡ k.before ++ with_count k.object (suc n) ∷ k.after = k.lowered_is ∙ ap (λ c. k.before ++ kept_with k.object c k.after k.after) some in
         record {
           keeps = others_more old new (block_of k.object.at ∷ []) ys none_own keeps_then;
+          shared_kept = lowered_kept;
           awaits = record {
             named = ms;
             frozen = frozen_then;
             beside = record {
               owed = w.owed;
-              shares = a.left ++ (a.mine ++ a.right);
-              pends = pends_kept allocator old new table valid first w.owed ms heap_then (λ h l. others_linked h (omega (arith, l, times-append h w.owed (a.left ++ a.right)))) w.pends;
-              holds = subst (λ rs. HoldsRoots new table rs (a.left ++ (a.mine ++ a.right))) (sym (map-append root_of_frozen k.before (with_count k.object (suc n) ∷ k.after)))
-                  (HoldsRoots-append new table lefts_then (holds_more_roots it_then rights_then));
-              ownable = ownable_there;
+              pends = pends_kept allocator old new table valid first w.owed ms heap_then (λ h l. others_linked h (omega (arith, l, times-append h w.owed (lefts ++ rights)))) w.pends;
+              holds = each_joined (λ f. HoldsRoot new table (root_of_frozen f) (theirs f.at)) k.before (with_count k.object (suc n) ∷ k.after) left_then (it_then, right_then);
+              ownable = λ h l. ownable_there h (omega (arith, l, all h));
               blocks_are = λ h. omega (
                 arith,
                 all_are h,
-                times-append h w.owed (a.left ++ (a.mine ++ a.right)),
-                times-append h a.left (a.mine ++ a.right),
-                times-append h a.mine a.right,
-                times-append h w.owed (a.left ++ a.right),
-                times-append h a.left a.right,
+                all h,
+                times-append h w.owed (lefts ++ rights),
+                times-append h lefts rights,
+                times-append h w.owed (blocks_by theirs (k.before ++ with_count k.object (suc n) ∷ k.after)),
               );
             };
             releasing = subst (λ fs. IsReleasing kept final (more ++ ms) fs) frozen_is (subst (λ qs. IsReleasing kept final (positions_of qs ++ (more ++ ms)) (lowered p frozen)) names_are turn.releasing);
@@ -346,14 +369,14 @@ module _ (allocator : ℕ) (old : List ℕ) (table : Table) (valid : IsTable tab
         }
 
     -- no cell names it any more: it waits
-    pub goes : (last : List ℕ) (next : Option ℕ) → word new p ≡ 0 → ((xs ys ns names : List ℕ) → GoesWith new table p xs ns → Awaits allocator new table first ys (ns ++ names) kept final → AreLive new (xs ++ ys)
-        → Adds allocator new last table next xs ys names kept final) → Adds allocator old last table next [] ys more kept final
+    pub goes : (last : List ℕ) (next : Option ℕ) → word new p ≡ 0 → ((xs ys ns names : List ℕ) → GoesWith new table p xs ns → Awaits allocator new table first ys (ns ++ names) kept theirs final → AreLive new (xs ++ ys)
+        → Adds allocator new last table next xs ys names kept theirs final) → Adds allocator old last table next [] ys more kept theirs final
     goes last next there_none push =
         let none : k.object.count - 1 ≡ 0 = sym count_is ∙ there_none in
         let f = k.object in
         let ns = named_in f.value in
-        let goes_with = lowered_goes allocator old new table valid f (f.count - 1) a.mine others w.pends.heap there_is fits changes_there count_there in
-        let fits_then : AreLive new (a.mine ++ others) = λ h. omega (arith, fits h, live_then h) in
+        let goes_with = lowered_goes allocator old new table valid f (f.count - 1) mine others w.pends.heap there_is fits changes_there count_there in
+        let fits_then : AreLive new (mine ++ others) = λ h. omega (arith, fits h, live_then h) in
         let names_are : let_go p frozen ≡ names_in f.value = k.let_go_is ∙ ap (names_with f) none in
         let frozen_is : lowered p frozen ≡ k.before ++ k.after = k.lowered_is ∙ ap (λ c. k.before ++ kept_with f c k.after k.after) none in
         let released : IsReleasing kept final (positions_of (names_in f.value) ++ (more ++ ms)) (k.before ++ k.after) =
@@ -362,10 +385,11 @@ module _ (allocator : ℕ) (old : List ℕ) (table : Table) (valid : IsTable tab
         releasing_same kept final (positions_of (names_in f.value) ++ (more ++ ms)) ((ns ++ more) ++ ms) (k.before ++ k.after) (λ h.
         let e : times h (positions_of (names_in f.value)) ≡ times h ns = ap (times h) (named_positions f.value) in
         omega (arith, times-append h (positions_of (names_in f.value)) (more ++ ms), times-append h more ms, times-append h (ns ++ more) ms, times-append h ns more)) released in
-        let those : Awaits allocator new table first others (ns ++ more) kept final = record { named = ms; frozen = k.before ++ k.after; beside = others_then; releasing = releasing } in
-        let pushed = push a.mine others ns more (subst (λ x. GoesWith new table x a.mine ns) k.at_is goes_with) those fits_then in
-        let all : SameBlocks (a.mine ++ others) ys = λ h. omega (arith, all_are h, times-append h a.mine (w.owed ++ (a.left ++ a.right))) in
+        let those : Awaits allocator new table first others (ns ++ more) kept theirs final = record { named = ms; frozen = k.before ++ k.after; beside = others_then; releasing = releasing } in
+        let pushed = push mine others ns more (subst (λ x. GoesWith new table x mine ns) k.at_is goes_with) those fits_then in
+        let all : SameBlocks (mine ++ others) ys = λ h. omega (arith, all_are h, times-append h mine (w.owed ++ (lefts ++ rights))) in
         record {
-          keeps = others_twice old new last (block_of f.at ∷ []) (a.mine ++ others) ys (λ h zero_times. (none_own h zero_times, all h ∙ zero_times)) keeps_then pushed.keeps;
-          awaits = awaits_blocks allocator last table next (a.mine ++ others) ys more kept final all pushed.awaits;
+          keeps = others_twice old new last (block_of f.at ∷ []) (mine ++ others) ys (λ h zero_times. (none_own h zero_times, all h ∙ zero_times)) keeps_then pushed.keeps;
+          shared_kept = frozen_twice old new last theirs final lowered_kept pushed.shared_kept;
+          awaits = awaits_blocks allocator last table next (mine ++ others) ys more kept theirs final all pushed.awaits;
         }

@@ -1,20 +1,21 @@
 -- What is found and left where a value is destroyed beside frozen objects; and the same where there are none.
-use Rattle.std.proofs.Common.{◌≡◌, ℕ, List, [], ◌∷◌, ◌++◌, map, Option, None, refl, sym, ap, ◌∙◌, subst, arith}
+use Rattle.std.proofs.Common.{◌≡◌, ℕ, ◌≤◌, List, [], ◌∷◌, ◌++◌, Option, None, refl, sym, ap, ◌∙◌, subst, arith}
 use Rattle.seg_spec.specs.Types.{Table, IsTable, AreOfVersion}
 use Rattle.seg_spec.specs.Value.{Value, default_of}
 use Rattle.seg_spec.specs.Heap.{IsHeap, live}
 use Rattle.seg_spec.specs.Reads.{Place, Holds}
 use Rattle.seg_spec.specs.Demand.{after_gives}
 use Rattle.seg_spec.specs.Roots.{ChangesPlace}
-use Rattle.seg_spec.specs.Frozen.{Frozen, root_of_frozen}
-use Rattle.seg_spec.specs.Sound.{times, SameBlocks, HoldsRoots, holds_no_root}
+use Rattle.seg_spec.specs.Growing.{Succeeds}
+use Rattle.seg_spec.specs.Frozen.{Frozen, blocks_by}
+use Rattle.seg_spec.specs.Sound.{times, SameBlocks}
 use Rattle.seg_spec.specs.Shared.{named_in, IsReleasing}
 use Rattle.seg_spec.specs.Owing.{Waits, none_waits}
 use Rattle.seg_spec.specs.Destroying.{AreLive, Awaits, Frees, Destroys}
 use Rattle.seg_spec.specs.Owning.{Stands}
 use Rattle.seg_spec.specs.Calls.{IsLoose}
 use Rattle.seg_spec.specs.Block.{block_of}
-use Rattle.seg_spec.specs.Clearing.{SharedBeside, ClearsPlace}
+use Rattle.seg_spec.specs.Clearing.{SharedBeside, BesideShared, ClearsPlace, LosesPart}
 use Rattle.seg_spec.proofs.LiveLaws.{times-append}
 use Rattle.seg_spec.proofs.GiveOrder.{in_any_order}
 use Rattle.seg_spec.proofs.Destruction.{releasing_same}
@@ -22,27 +23,30 @@ use Rattle.seg_spec.proofs.Unshared.{names_none, frees_alone}
 use Rattle.std.proofs.lemmas.List.{append-nil}
 
 -- nothing waits yet: what the value names is still to be released
-pub awaits_shared : (allocator : ℕ) (bytes : List ℕ) (table : Table) (first : Option ℕ) (besides : List ℕ) (v : Value) (shares : List ℕ) (kept : List Place) (now final : List Frozen) → first ≡ None → IsHeap allocator bytes
-    → SharedBeside bytes table besides v shares kept now final → Awaits allocator bytes table first shares (named_in v ++ []) kept final
-awaits_shared allocator bytes table first besides v shares kept now final none heap s = record {
+pub awaits_shared : (allocator : ℕ) (bytes : List ℕ) (table : Table) (first : Option ℕ) (besides names : List ℕ) (theirs : ℕ → List ℕ) (kept : List Place) (now final : List Frozen) → first ≡ None → IsHeap allocator bytes
+    → SharedBeside bytes table besides names theirs kept now final → Awaits allocator bytes table first (blocks_by theirs now) (names ++ []) kept theirs final
+awaits_shared allocator bytes table first besides names theirs kept now final none heap s = record {
   named = [];
   frozen = now;
   beside = record {
     owed = [];
-    shares = shares;
     pends = record { heap = heap; owed = []; named = []; waiting = subst (λ f. Waits bytes table f [] []) (sym none) none_waits; owed_are = λ h. refl; named_are = λ h. refl };
     holds = s.holds;
     ownable = s.ownable;
     blocks_are = λ h. refl;
   };
-  releasing = releasing_same kept final (named_in v) ((named_in v ++ []) ++ []) now (λ h. omega (arith, times-append h (named_in v ++ []) [], times-append h (named_in v) [])) s.releasing;
+  releasing = releasing_same kept final names ((names ++ []) ++ []) now (λ h. omega (arith, times-append h (names ++ []) [], times-append h names [])) s.releasing;
 }
 
+-- no block is an object's
+none_owned : ℕ → List ℕ
+none_owned p = []
+
 -- a value of types of version 1 names nothing, whichever objects there are
-pub shared_none : (bytes : List ℕ) (table : Table) (besides : List ℕ) {place : Place} {v : Value} {blocks : List ℕ} → AreOfVersion 1 table
-    → Holds bytes table place v blocks → AreLive bytes besides → SharedBeside bytes table besides v [] [] [] []
-shared_none bytes table besides version holds_it owned = record {
-  holds = holds_no_root;
+pub shared_none : (bytes : List ℕ) (table : Table) (besides : List ℕ) {place : Place} {v : Value} {blocks : List ℕ} (theirs : ℕ → List ℕ) → AreOfVersion 1 table
+    → Holds bytes table place v blocks → AreLive bytes besides → SharedBeside bytes table besides (named_in v) theirs [] [] []
+shared_none bytes table besides theirs version holds_it owned = record {
+  holds = tt;
   ownable = λ h some. absurd (omega arith);
   owned = λ h. omega (arith, owned h, times-append h besides []);
   releasing = subst (λ ns. IsReleasing [] [] ns []) (sym (names_none bytes table version holds_it)) (record {
@@ -56,39 +60,64 @@ shared_none bytes table besides version holds_it owned = record {
 }
 
 -- beside no frozen object the blocks that went are those of the value
-pub clears_alone : (old new : List ℕ) (table : Table) (place : Place) (w : Value) (olds news gone : List ℕ) → SameBlocks olds (gone ++ news) → ClearsPlace old new table place w olds news [] []
-    → ChangesPlace old new table place w news (after_gives (live old) gone) olds news
-clears_alone old new table place w olds news gone same c = go c.left c.holds c.all_are c.changes
-  where
-    go : (left : List ℕ) → HoldsRoots new table (map root_of_frozen []) left → SameBlocks (olds ++ []) (c.gives ++ (news ++ left))
-        → ChangesPlace old new table place w news (after_gives (live old) c.gives) (olds ++ []) (news ++ left) → ChangesPlace old new table place w news (after_gives (live old) gone) olds news
-    go _ holds_no_root are k =
-        let gives_are : SameBlocks c.gives gone = λ h. omega (arith, are h, same h, times-append h olds [], times-append h c.gives (news ++ []), times-append h news [], times-append h gone news) in
-        record {
-          length_kept = k.length_kept;
-          front_kept = k.front_kept;
-          back_kept = k.back_kept;
-          heap = k.heap;
-          ownable = k.ownable;
-          holds_it = k.holds_it;
-          live_is = k.live_is ∙ in_any_order (live old) c.gives gone gives_are;
-          live_are = λ h. omega (arith, k.live_are h, times-append h olds [], times-append h news []);
-          kept = λ h some none. k.kept h some (omega (arith, none, times-append h olds []));
-        }
+pub clears_alone : (old new : List ℕ) (table : Table) (place : Place) (w : Value) (olds news gone : List ℕ) (theirs : ℕ → List ℕ) → SameBlocks olds (gone ++ news)
+    → ClearsPlace old new table place w olds news theirs [] [] → ChangesPlace old new table place w news (after_gives (live old) gone) olds news
+clears_alone old new table place w olds news gone theirs same c =
+    let k = c.changes in
+    let gives_are : SameBlocks c.gives gone = λ h.
+    omega (arith, c.all_are h, same h, times-append h olds [], times-append h c.gives (news ++ []), times-append h news [], times-append h gone news) in
+    record {
+      length_kept = k.length_kept;
+      front_kept = k.front_kept;
+      back_kept = k.back_kept;
+      heap = k.heap;
+      ownable = k.ownable;
+      holds_it = k.holds_it;
+      live_is = k.live_is ∙ in_any_order (live old) c.gives gone gives_are;
+      live_are = λ h. omega (arith, k.live_are h, times-append h olds [], times-append h news []);
+      kept = λ h some none. k.kept h some (omega (arith, none, times-append h olds []));
+    }
+
+-- what holds beside whichever frozen objects, where the types of version 1 have none
+pub alone : (bytes : List ℕ) (table : Table) (besides : List ℕ) {place : Place} {v : Value} {blocks : List ℕ} (claim : (ℕ → List ℕ) → List Frozen → List Frozen → Type 0) → AreOfVersion 1 table
+    → Holds bytes table place v blocks → AreLive bytes besides → BesideShared bytes table besides (named_in v) claim → claim none_owned [] []
+alone bytes table besides claim version holds_it owned beside = beside none_owned [] [] [] (shared_none bytes table besides none_owned version holds_it owned)
+
+-- fewer blocks beside the same frozen objects
+pub shared_fewer : (bytes : List ℕ) (table : Table) (more fewer names : List ℕ) (theirs : ℕ → List ℕ) (kept : List Place) (now final : List Frozen) → ((h : ℕ) → times h fewer ≤ times h more)
+    → SharedBeside bytes table more names theirs kept now final → SharedBeside bytes table fewer names theirs kept now final
+shared_fewer bytes table more fewer names theirs kept now final less s = record {
+  holds = s.holds;
+  ownable = s.ownable;
+  owned = λ h. omega (arith, less h, s.owned h, times-append h more (blocks_by theirs now), times-append h fewer (blocks_by theirs now));
+  releasing = s.releasing;
+}
+
+-- a part that went beside no frozen object
+pub loses_alone : {old new : List ℕ} {table : Table} {place : Place} {w : Value} {j : ℕ} {blocks : List ℕ} {theirs : ℕ → List ℕ} (allocator : ℕ) (l : LosesPart old new table place w j blocks theirs [] [])
+    → Succeeds allocator old new table place w [] l.lost blocks l.others
+loses_alone {old = old} {new = new} {table = table} {place = place} {w = w} {blocks = blocks} {theirs = theirs} allocator l = record {
+  left = after_gives (live old) l.lost;
+  left_is = refl;
+  changes = clears_alone old new table place w blocks l.others l.lost theirs l.blocks_are l.clears;
+}
 
 -- what a call promises that clears a place, for types of version 1
-pub cleared_alone : {allocator : ℕ} {old new : List ℕ} {table : Table} {place : Place} → ((v : Value) (blocks shares : List ℕ) (kept : List Place) (now final : List Frozen) → (s : Stands allocator old table place v blocks)
-    → SharedBeside old table (s.home ∷ blocks) v shares kept now final → ClearsPlace old new table place (default_of table place.type) blocks [] shares final)
+pub cleared_alone : {allocator : ℕ} {old new : List ℕ} {table : Table} {place : Place} → AreOfVersion 1 table
+    → ((v : Value) (blocks : List ℕ) (s : Stands allocator old table place v blocks) → BesideShared old table (s.home ∷ blocks) (named_in v) (ClearsPlace old new table place (default_of table place.type) blocks []))
     → (v : Value) (blocks : List ℕ) → Stands allocator old table place v blocks → ChangesPlace old new table place (default_of table place.type) [] (after_gives (live old) blocks) blocks []
-cleared_alone {old = old} {new = new} {table = table} {place = place} clears v blocks s =
-    clears_alone old new table place (default_of table place.type) blocks [] blocks (λ h. sym (ap (times h) (append-nil blocks)))
-    (clears v blocks [] [] [] [] s (shared_none old table (s.home ∷ blocks) s.of_version s.holds_it s.owned))
+cleared_alone {old = old} {new = new} {table = table} {place = place} version clears v blocks s =
+    clears_alone old new table place (default_of table place.type) blocks [] blocks none_owned (λ h. sym (ap (times h) (append-nil blocks)))
+    (alone old table (s.home ∷ blocks) (ClearsPlace old new table place (default_of table place.type) blocks []) version s.holds_it s.owned (clears v blocks s))
 
 -- and one that destroys an object that nothing holds
-pub destroyed_alone : {allocator : ℕ} {old new : List ℕ} {table : Table} {object : ℕ} → ((U : ℕ) (v : Value) (inside shares : List ℕ) (kept : List Place) (now final : List Frozen) → IsTable table → IsHeap allocator old
-    → IsLoose old table (record { at = object; type = U }) v inside → SharedBeside old table (block_of object ∷ inside) v shares kept now final → Destroys allocator old new table ((block_of object ∷ inside) ++ shares) final)
-    → (U : ℕ) (v : Value) (inside : List ℕ) → IsTable table → AreOfVersion 1 table → IsHeap allocator old → IsLoose old table (record { at = object; type = U }) v inside → Frees allocator old new (block_of object ∷ inside) []
+pub destroyed_alone : {allocator : ℕ} {old new : List ℕ} {table : Table} {object : ℕ} → ((U : ℕ) (v : Value) (inside : List ℕ) → IsTable table → IsHeap allocator old
+    → IsLoose old table (record { at = object; type = U }) v inside
+    → BesideShared old table (block_of object ∷ inside) (named_in v) (λ theirs now. Destroys allocator old new table ((block_of object ∷ inside) ++ blocks_by theirs now) theirs))
+    → (U : ℕ) (v : Value) (inside : List ℕ) → IsTable table → AreOfVersion 1 table → IsHeap allocator old → IsLoose old table (record { at = object; type = U }) v inside
+    → Frees allocator old new (block_of object ∷ inside) []
 destroyed_alone {allocator = allocator} {old = old} {new = new} {table = table} {object = object} destroys U v inside valid version heap loose =
-    let alone = shared_none old table (block_of object ∷ inside) version loose.holds_it loose.owned in
+    let claim = λ (theirs : ℕ → List ℕ) (now : List Frozen). Destroys allocator old new table ((block_of object ∷ inside) ++ blocks_by theirs now) theirs in
+    let destroyed = alone old table (block_of object ∷ inside) claim version loose.holds_it loose.owned (destroys U v inside valid heap loose) in
     subst (λ bs. Frees allocator old new bs []) (append-nil (block_of object ∷ inside))
-    (frees_alone allocator old new table ((block_of object ∷ inside) ++ []) (destroys U v inside [] [] [] [] valid heap loose alone))
+    (frees_alone allocator old new table ((block_of object ∷ inside) ++ []) none_owned destroyed)

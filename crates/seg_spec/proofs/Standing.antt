@@ -88,7 +88,6 @@ module _ (allocator : ℕ) (old : List ℕ) (table : Table) (place : Place) (v :
           heap = heap;
           allocator_is = word-same old new allocator_word (IsSame-part old new 0 free_word allocator_word 4 (omega arith) (omega arith) front) ∙ s.allocator_is;
           is_table = s.is_table;
-          of_version = s.of_version;
           ownable = ownable;
           holds_it = Holds-kept old new table s.is_table s.holds_it (same_place new home_kept) mine;
           aligned = s.aligned;
@@ -266,7 +265,6 @@ module _ (allocator : ℕ) (old : List ℕ) (table : Table) (place : Place) (v :
           heap = heap_then allocator old table place v blocks s new changes;
           allocator_is = word-same old new allocator_word (IsSame-part old new 0 free_word allocator_word 4 (omega arith) (omega arith) written_frames.front_kept) ∙ s.allocator_is;
           is_table = s.is_table;
-          of_version = s.of_version;
           ownable = ownable_then allocator old table place v blocks s new changes;
           holds_it = holds_it;
           aligned = s.aligned;
@@ -365,7 +363,6 @@ stands_after allocator old new table place v w blocks others spans s c =
       heap = subst (λ a. IsHeap a new) s.allocator_is c.heap;
       allocator_is = word-same old new allocator_word (IsSame-part old new 0 free_word allocator_word 4 (omega arith) (omega arith) c.front_kept) ∙ s.allocator_is;
       is_table = s.is_table;
-      of_version = s.of_version;
       ownable = c.ownable;
       holds_it = c.holds_it;
       aligned = s.aligned;

@@ -1,14 +1,12 @@
 -- Types of version 1 have no shared cells: no value names an object, so all that waits is given back.
-use Rattle.std.proofs.Common.{◌≡◌, ◌≢◌, ℕ, List, [], ◌++◌, map, Option, Some, None, refl, sym, ap, ◌∙◌, subst, arith}
+use Rattle.std.proofs.Common.{◌≡◌, ◌≢◌, ℕ, List, [], ◌++◌, map, refl, sym, ap, ◌∙◌, subst, arith}
 use Rattle.seg_spec.specs.Types.{Form, Table, form_at, AreOfVersion}
 use Rattle.seg_spec.specs.Value.{Label, Value, Values}
-use Rattle.seg_spec.specs.Heap.{IsHeap, live}
+use Rattle.seg_spec.specs.Heap.{live}
 use Rattle.seg_spec.specs.Reads.{Place, Opened, Opens, Holds, holds, HoldsEach, holds_none, holds_more}
-use Rattle.seg_spec.specs.Frozen.{root_of_frozen}
-use Rattle.seg_spec.specs.Sound.{SameBlocks, HoldsRoots, holds_no_root}
+use Rattle.seg_spec.specs.Sound.{SameBlocks}
 use Rattle.seg_spec.specs.Shared.{named_in, named_each}
-use Rattle.seg_spec.specs.Owing.{none_waits}
-use Rattle.seg_spec.specs.Destroying.{Awaits, Frees, Destroys}
+use Rattle.seg_spec.specs.Destroying.{Frees, Destroys}
 use Rattle.seg_spec.proofs.LiveLaws.{times-append}
 use Rattle.seg_spec.proofs.GiveOrder.{in_any_order}
 use Rattle.seg_spec.proofs.PartsOwed.{named_inside}
@@ -38,42 +36,17 @@ module _ (bytes : List ℕ) (table : Table) (first_version : AreOfVersion 1 tabl
     each_none holds_none = refl
     each_none (holds_more {vs = vs} h hs) = ap (λ ns. ns ++ named_each vs) (names_none h) ∙ each_none hs
 
--- where nothing waits and no object is there, nothing is to be released
-pub awaits_alone : (allocator : ℕ) (bytes : List ℕ) (table : Table) (first : Option ℕ) → first ≡ None → IsHeap allocator bytes → Awaits allocator bytes table first [] [] [] []
-awaits_alone allocator bytes table first none heap = record {
-  named = [];
-  frozen = [];
-  beside = record {
-    owed = [];
-    shares = [];
-    pends = record { heap = heap; owed = []; named = []; waiting = subst (λ f. Rattle.seg_spec.specs.Owing.Waits bytes table f [] []) (sym none) none_waits; owed_are = λ h. refl; named_are = λ h. refl };
-    holds = holds_no_root;
-    ownable = λ h some. absurd (omega arith);
-    blocks_are = λ h. refl;
-  };
-  releasing = record {
-    pending = [];
-    pending_are = λ h. refl;
-    next = 0;
-    counted = record { distinct = tt; numbered = tt; named = tt; falling = tt; some = tt; counts = tt };
-    falling = tt;
-    leaves = refl;
-  };
-}
-
 -- where no object is left, all blocks were given back
-pub frees_alone : (allocator : ℕ) (old new : List ℕ) (table : Table) (blocks : List ℕ) → Destroys allocator old new table blocks [] → Frees allocator old new blocks []
-frees_alone allocator old new table blocks d = go d.shares d.holds d.blocks_are d.frees
-  where
-    go : (shares : List ℕ) → HoldsRoots new table (map root_of_frozen []) shares → SameBlocks blocks (d.gives ++ shares) → Frees allocator old new d.gives shares → Frees allocator old new blocks []
-    go _ holds_no_root are f =
-        let same : SameBlocks d.gives blocks = λ h. omega (arith, are h, times-append h d.gives []) in
-        record {
-          length_kept = f.length_kept;
-          front_kept = f.front_kept;
-          back_kept = f.back_kept;
-          heap = f.heap;
-          live_is = f.live_is ∙ in_any_order (live old) d.gives blocks same;
-          live_are = λ h. omega (arith, f.live_are h, same h);
-          kept = λ h some none. f.kept h some (omega (arith, none, same h, times-append h d.gives [], times-append h blocks []));
-        }
+pub frees_alone : (allocator : ℕ) (old new : List ℕ) (table : Table) (blocks : List ℕ) (theirs : ℕ → List ℕ) → Destroys allocator old new table blocks theirs [] → Frees allocator old new blocks []
+frees_alone allocator old new table blocks theirs d =
+    let f = d.frees in
+    let same : SameBlocks d.gives blocks = λ h. omega (arith, d.blocks_are h, times-append h d.gives []) in
+    record {
+      length_kept = f.length_kept;
+      front_kept = f.front_kept;
+      back_kept = f.back_kept;
+      heap = f.heap;
+      live_is = f.live_is ∙ in_any_order (live old) d.gives blocks same;
+      live_are = λ h. omega (arith, f.live_are h, same h);
+      kept = λ h some none. f.kept h some (omega (arith, none, same h, times-append h d.gives [], times-append h blocks []));
+    }

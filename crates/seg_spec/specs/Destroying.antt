@@ -5,34 +5,37 @@
 --     Pends allocator bytes table first owed names
 --                                                blocks wait from a first one on, and these go with them
 --     KeepsOthers old new blocks                 nothing changed but in these live blocks
---     PendsBeside allocator bytes table first blocks names frozen
---                                                the same beside frozen objects
---     Awaits allocator bytes table first blocks names kept final
+--     HoldFrozen bytes table theirs frozen          each of these objects holds its value, and owns its blocks
+--     KeepFrozen old new theirs frozen           their blocks are kept, but for the objects' counts
+--     PendsBeside allocator bytes table first blocks names theirs frozen
+--                                                blocks wait beside frozen objects
+--     Awaits allocator bytes table first blocks names kept theirs final
 --                                                the same, where in the end this is left of the objects
---     Adds allocator old new table first xs ys names kept final
+--     Adds allocator old new table first xs ys names kept theirs final
 --                                                blocks joined those that wait, and objects were released
---     Pops allocator bytes table p next blocks names kept final
+--     Pops allocator bytes table p next blocks names kept theirs final
 --                                                the first one that waits was taken out
 --     DefaultsRest old new table p before U used     the entries of a buffer after the used ones name nothing
 --     Uncouples allocator old new table p blocks names
 --                                                a block shows by itself what goes with it
 --     Frees allocator old new gives but          these were given back, and each other live block is kept, but
 --                                                for some
---     Destroys allocator old new table blocks final
+--     Destroys allocator old new table blocks theirs final
 --                                                some were given back, and others hold what is left
 use Rattle.std.specs.Prelude.{◌≡◌, ℕ, ◌+◌, ◌-◌, ◌*◌, ◌/◌, ◌≤◌, List, ◌++◌, length, map, Option}
 use Rattle.std.specs.List.{AllByRecursion}
 use Rattle.seg_spec.specs.Bytes.{IsSame, ChangesOnly}
 use Rattle.seg_spec.specs.Types.{Table, size}
 use Rattle.seg_spec.specs.Heap.{IsHeap, live, heap_start}
-use Rattle.seg_spec.specs.Sound.{times, SameBlocks, positions, HoldsRoots}
+use Rattle.seg_spec.specs.Sound.{times, SameBlocks, positions, HoldsRoot}
 use Rattle.seg_spec.specs.Demand.{after_gives}
 use Rattle.seg_spec.specs.Block.{IsOwnable, block_of, payload_size}
 use Rattle.seg_spec.specs.Reads.{spaced, Place}
+use Rattle.seg_spec.specs.Apart.{KeepsBlockAround}
 use Rattle.seg_spec.specs.Cells.{EachCell}
 use Rattle.seg_spec.specs.Owing.{NamesNothing, Owes, Waits, KeepsLinked}
 use Rattle.seg_spec.specs.Header.{KeepsFront, KeepsBack}
-use Rattle.seg_spec.specs.Frozen.{Frozen, root_of_frozen}
+use Rattle.seg_spec.specs.Frozen.{Frozen, root_of_frozen, blocks_by}
 use Rattle.seg_spec.specs.Shared.{IsReleasing}
 
 -- these blocks are live, each once
@@ -67,43 +70,56 @@ pub record KeepsOthers (old new : List ℕ) (blocks : List ℕ) : Type 0 where
   pub others : (h : ℕ) → 1 ≤ times h (positions (live old)) → times h blocks ≡ 0 →
       KeepsLinked old new h
 
+-- each of these objects holds its value, and owns the blocks that are told of its position
+abbrev pub HoldFrozen : List ℕ → Table → (ℕ → List ℕ) → List Frozen → Type 0
+HoldFrozen bytes table theirs frozen =
+    AllByRecursion (λ f. HoldsRoot bytes table (root_of_frozen f) (theirs f.at)) frozen
+
+-- the blocks of each of these objects are kept, but for the object's count
+abbrev pub KeepFrozen : List ℕ → List ℕ → (ℕ → List ℕ) → List Frozen → Type 0
+KeepFrozen old new theirs frozen =
+    AllByRecursion (λ f. AllByRecursion (KeepsBlockAround old new f.at 4) (theirs f.at)) frozen
+
 -- blocks wait from a first one on, and name these objects, beside frozen objects, which don't wait:
 -- all these blocks are theirs
 pub record PendsBeside (allocator : ℕ) (bytes : List ℕ) (table : Table) (first : Option ℕ)
-    (blocks names : List ℕ) (frozen : List Frozen) : Type 0 where
+    (blocks names : List ℕ) (theirs : ℕ → List ℕ) (frozen : List Frozen) : Type 0 where
   pub owed : List ℕ
-  pub shares : List ℕ
   pub pends : Pends allocator bytes table first owed names
-  pub holds : HoldsRoots bytes table (map root_of_frozen frozen) shares
-  pub ownable : (h : ℕ) → 1 ≤ times h shares → IsOwnable bytes table h
-  pub blocks_are : SameBlocks blocks (owed ++ shares)
+  pub holds : HoldFrozen bytes table theirs frozen
+  pub ownable : (h : ℕ) → 1 ≤ times h (blocks_by theirs frozen) → IsOwnable bytes table h
+  pub blocks_are : SameBlocks blocks (owed ++ blocks_by theirs frozen)
 
 -- blocks wait from a first one on beside frozen objects, and all these are theirs: what waits and
 -- these names are still to be released, and in the end this is left of the objects
 pub record Awaits (allocator : ℕ) (bytes : List ℕ) (table : Table) (first : Option ℕ)
-    (blocks names : List ℕ) (kept : List Place) (final : List Frozen) : Type 0 where
+    (blocks names : List ℕ) (kept : List Place) (theirs : ℕ → List ℕ) (final : List Frozen) :
+    Type 0 where
   pub named : List ℕ
   pub frozen : List Frozen
-  pub beside : PendsBeside allocator bytes table first blocks named frozen
+  pub beside : PendsBeside allocator bytes table first blocks named theirs frozen
   pub releasing : IsReleasing kept final (names ++ named) frozen
 
 -- blocks joined those that wait: xs go with them or are shared, beside ys that went with those
 -- before or were shared; these names are still to be released beside what waits
 pub record Adds (allocator : ℕ) (old new : List ℕ) (table : Table) (first : Option ℕ)
-    (xs ys names : List ℕ) (kept : List Place) (final : List Frozen) : Type 0 where
+    (xs ys names : List ℕ) (kept : List Place) (theirs : ℕ → List ℕ) (final : List Frozen) :
+    Type 0 where
   pub keeps : KeepsOthers old new (xs ++ ys)
-  pub awaits : Awaits allocator new table first (xs ++ ys) names kept final
+  pub shared_kept : KeepFrozen old new theirs final
+  pub awaits : Awaits allocator new table first (xs ++ ys) names kept theirs final
 
 -- the block with payload p no longer waits, with what goes with it; the others wait from another
 -- first one on
 pub record Pops (allocator : ℕ) (bytes : List ℕ) (table : Table) (p : ℕ) (next : Option ℕ)
-    (blocks names : List ℕ) (kept : List Place) (final : List Frozen) : Type 0 where
-  pub its : List ℕ
+    (blocks names : List ℕ) (kept : List Place) (theirs : ℕ → List ℕ) (final : List Frozen) :
+    Type 0 where
+  pub popped : List ℕ
   pub others : List ℕ
-  pub its_names : List ℕ
-  pub goes : GoesWith bytes table p its its_names
-  pub awaits : Awaits allocator bytes table next others (its_names ++ names) kept final
-  pub blocks_are : SameBlocks blocks (its ++ others)
+  pub popped_names : List ℕ
+  pub goes : GoesWith bytes table p popped popped_names
+  pub awaits : Awaits allocator bytes table next others (popped_names ++ names) kept theirs final
+  pub blocks_are : SameBlocks blocks (popped ++ others)
 
 -- these blocks were given back: the heap is in order, and each other live block is kept with its
 -- link, but for some
@@ -120,13 +136,13 @@ pub record Frees (allocator : ℕ) (old new : List ℕ) (gives but : List ℕ) :
 
 -- of these blocks some were given back, and the others hold the frozen objects that are left
 pub record Destroys (allocator : ℕ) (old new : List ℕ) (table : Table) (blocks : List ℕ)
-    (final : List Frozen) : Type 0 where
+    (theirs : ℕ → List ℕ) (final : List Frozen) : Type 0 where
   pub gives : List ℕ
-  pub shares : List ℕ
-  pub blocks_are : SameBlocks blocks (gives ++ shares)
-  pub frees : Frees allocator old new gives shares
-  pub holds : HoldsRoots new table (map root_of_frozen final) shares
-  pub ownable : (h : ℕ) → 1 ≤ times h shares → IsOwnable new table h
+  pub blocks_are : SameBlocks blocks (gives ++ blocks_by theirs final)
+  pub frees : Frees allocator old new gives (blocks_by theirs final)
+  pub shared_kept : KeepFrozen old new theirs final
+  pub holds : HoldFrozen new table theirs final
+  pub ownable : (h : ℕ) → 1 ≤ times h (blocks_by theirs final) → IsOwnable new table h
 
 -- the entries of a buffer from one on name nothing, and nothing but them changed
 pub record DefaultsRest (old new : List ℕ) (table : Table) (p before U used : ℕ) : Type 0 where

@@ -1,7 +1,8 @@
 -- Objects that several values share, as images of version 2 have them.
 --     Frozen            such an object
 --     root_of_frozen    it as a root: no value holds it
-use Rattle.std.specs.Prelude.{ℕ, ◌+◌, [], ◌∷◌}
+--     blocks_by theirs     the blocks of several, each by its position
+use Rattle.std.specs.Prelude.{ℕ, ◌+◌, List, [], ◌∷◌, ◌++◌}
 use Rattle.seg_spec.specs.Value.{Value, nil, cons}
 use Rattle.seg_spec.specs.Index.{Root}
 
@@ -26,3 +27,8 @@ root_of_frozen f = record {
   type = f.type;
   values = cons f.value nil;
 }
+
+-- the blocks of several objects, each by the object's position
+abbrev pub blocks_by : (ℕ → List ℕ) → List Frozen → List ℕ
+blocks_by theirs [] = []
+blocks_by theirs (f ∷ fs) = theirs f.at ++ blocks_by theirs fs

@@ -26,6 +26,7 @@ pub mod Releasing
 pub mod Owing
 pub mod Destroying
 pub mod Clearing
+pub mod Counting
 pub mod Spending
 pub mod Shrinking
 pub mod Fixtures

@@ -6,7 +6,7 @@
 use Rattle.std.specs.Prelude.{◌≡◌, ◌≢◌, ℕ, ◌%◌, ◌≤◌, List, ◌∷◌}
 use Rattle.std.specs.List.{AllByRecursion}
 use Rattle.seg_spec.specs.Bytes.{word}
-use Rattle.seg_spec.specs.Types.{Table, IsTable, AreOfVersion, size}
+use Rattle.seg_spec.specs.Types.{Table, IsTable, size}
 use Rattle.seg_spec.specs.Value.{Value}
 use Rattle.seg_spec.specs.Heap.{IsHeap, live}
 use Rattle.seg_spec.specs.Block.{IsInside, IsOwnable}
@@ -28,7 +28,6 @@ pub record Stands (allocator : ℕ) (bytes : List ℕ) (table : Table) (place : 
   pub heap : IsHeap allocator bytes
   pub allocator_is : word bytes allocator_word ≡ allocator
   pub is_table : IsTable table
-  pub of_version : AreOfVersion 1 table
   pub ownable : AllByRecursion (λ b. IsOwnable bytes table b.at) (live bytes)
   pub holds_it : Holds bytes table place v blocks
   pub aligned : place.at % 8 ≡ 0

@@ -17,14 +17,15 @@ use Rattle.seg_spec.specs.Owning.{Stands}
 use Rattle.seg_spec.specs.Demand.{after_gives}
 use Rattle.seg_spec.specs.Owing.{IsPart, KeepsLinked}
 use Rattle.seg_spec.specs.Shared.{named_in}
-use Rattle.seg_spec.specs.Frozen.{Frozen}
-use Rattle.seg_spec.specs.Destroying.{AreLive, KeepsOthers, Awaits, Adds, Frees, Destroys}
+use Rattle.seg_spec.specs.Frozen.{Frozen, blocks_by}
+use Rattle.seg_spec.specs.Destroying.{AreLive, KeepsOthers, KeepFrozen, Awaits, Adds, Frees, Destroys}
 use Rattle.seg_spec.proofs.MoreTypes.{below_length}
 use Rattle.seg_spec.proofs.Frame.{word-same, target-same, each_map, each_of_map, Holds-kept}
 use Rattle.seg_spec.proofs.Composing.{around_twice, around_kept}
-use Rattle.seg_spec.proofs.LiveLaws.{times-append, times-same, there, each_there, LiesIn, live-lie, live-once}
+use Rattle.seg_spec.proofs.LiveLaws.{times-append, times-same, times-other, there, each_there, LiesIn, live-lie, live-once}
 use Rattle.seg_spec.proofs.WriteInside.{KeptBut, live_kept_but}
-use Rattle.seg_spec.proofs.Destruction.{inside_same, inside_then, heap_written, payload_written, awaits_then, none_freed, all_freed}
+use Rattle.seg_spec.proofs.Destruction.{inside_same, inside_then, heap_written, payload_written, awaits_then, final_kept, none_freed, all_freed}
+use Rattle.seg_spec.proofs.FrozenBlocks.{frozen_twice}
 use Rattle.seg_spec.proofs.SharedAlone.{awaits_shared}
 use Rattle.seg_layout.specs.Forms.{has_cells}
 use Rattle.seg_value.proofs.Nulls.{no_cells_own}
@@ -36,7 +37,11 @@ pub typed : (bytes : List ℕ) (table : Table) (place : Place) (v : Value) (bloc
 typed bytes table place v blocks (holds form opened inside owned f o hs v_is is) = below_length table place.type form f
 
 module _ (allocator : ℕ) (old mid after new : List ℕ) (table : Table) (place : Place) (v : Value) (blocks : List ℕ) (s : Stands allocator old table place v blocks)
-    (shares : List ℕ) (kept : List Place) (now final : List Frozen) (b : SharedBeside old table (s.home ∷ blocks) v shares kept now final) (first : Option ℕ) (a : Adds allocator old mid table first blocks shares [] kept final) where
+    (theirs : ℕ → List ℕ) (kept : List Place) (now final : List Frozen) (b : SharedBeside old table (s.home ∷ blocks) (named_in v) theirs kept now final) (first : Option ℕ)
+    (a : Adds allocator old mid table first blocks (blocks_by theirs now) [] kept theirs final) where
+  abbrev shares : List ℕ
+  shares = blocks_by theirs now
+
   home_live : 1 ≤ times s.home (positions (live old))
   home_live = let o = s.owned s.home in let t = times-same s.home blocks in omega arith
 
@@ -77,23 +82,26 @@ module _ (allocator : ℕ) (old mid after new : List ℕ) (table : Table) (place
     live_after : (h : ℕ) → times h (positions (live after)) ≡ times h (positions (live old))
     live_after h = ap (λ bs. times h (positions bs)) (written.live_kept ∙ a.keeps.live_kept)
 
-    pub awaits_after : Awaits allocator after table first (blocks ++ shares) [] kept final
+    pub awaits_after : Awaits allocator after table first (blocks ++ shares) [] kept theirs final
     awaits_after =
         let fits : AreLive mid ((s.home ∷ []) ++ (blocks ++ shares)) = λ h. omega (arith, counts h, live_mid h, times-append h (s.home ∷ []) (blocks ++ shares)) in
         let heap = heap_written allocator mid after place.at (size table place.type) s.home a.awaits.beside.pends.heap inside_mid home_mid changes in
-        awaits_then allocator mid after table s.is_table (s.home ∷ []) (blocks ++ shares) fits heap written first [] kept final a.awaits
+        awaits_then allocator mid after table s.is_table (s.home ∷ []) (blocks ++ shares) fits heap written first [] kept theirs final a.awaits
 
     pub live_there : AreLive after (blocks ++ shares)
     live_there h = omega (arith, counts h, live_after h)
 
-    module _ (d : Destroys allocator after new table (blocks ++ shares) final) where
-      f : Frees allocator after new d.gives d.shares
+    module _ (d : Destroys allocator after new table (blocks ++ shares) theirs final) where
+      abbrev those : List ℕ
+      those = blocks_by theirs final
+
+      f : Frees allocator after new d.gives those
       f = d.frees
 
-      parts : (h : ℕ) → times h (blocks ++ shares) ≡ times h d.gives + times h d.shares
-      parts h = d.blocks_are h ∙ times-append h d.gives d.shares
+      parts : (h : ℕ) → times h (blocks ++ shares) ≡ times h d.gives + times h those
+      parts h = d.blocks_are h ∙ times-append h d.gives those
 
-      none_left : (h : ℕ) → times h (blocks ++ shares) ≡ 0 → times h (d.gives ++ d.shares) ≡ 0
+      none_left : (h : ℕ) → times h (blocks ++ shares) ≡ 0 → times h (d.gives ++ those) ≡ 0
       none_left h none = sym (d.blocks_are h) ∙ none
 
       -- every block that isn't given back
@@ -148,7 +156,7 @@ module _ (allocator : ℕ) (old mid after new : List ℕ) (table : Table) (place
           let k = live_after h in
           let once = live-once old allocator s.heap h in
           let p = parts h in
-          ⊎_elim (λ none. ownable_there h (omega arith) (omega arith)) (λ shared. d.ownable h shared) (none_or_some (times h d.shares))))
+          ⊎_elim (λ none. ownable_there h (omega arith) (omega arith)) (λ shared. d.ownable h shared) (none_or_some (times h those))))
         where
           none_or_some : (n : ℕ) → (n ≡ 0) ⊎ (1 ≤ n)
           none_or_some zero = inl refl
@@ -160,10 +168,19 @@ module _ (allocator : ℕ) (old mid after new : List ℕ) (table : Table) (place
       inside_after : IsInside after s.home place.at (size table place.type)
       inside_after = let k = but s.home home_mid in let i = inside_mid in record { low = i.low; high = omega (arith, i.high, k.units_kept) }
 
-      pub place_cleared : ClearsPlace old new table place (default_of table place.type) blocks [] shares final
+      -- the frozen objects lie in other blocks than the place
+      mid_after : KeepFrozen mid after theirs final
+      mid_after = final_kept allocator mid after table first (blocks ++ shares) [] kept theirs final a.awaits (λ h. omega (arith, counts h, live_mid h)) (λ h some.
+          let there_is : 1 ≤ times h (blocks ++ shares) = omega (arith, a.awaits.beside.blocks_are h, times-append h a.awaits.beside.owed (blocks_by theirs a.awaits.frozen)) in
+          (written.others h (omega (arith, counts h, live_mid h)) (times-other h s.home [] (λ e.
+          let mine : 1 ≤ times s.home (blocks ++ shares) = subst (λ x. 1 ≤ times x (blocks ++ shares)) (sym e) there_is in absurd (omega (arith, home_apart))))).whole.kept)
+
+      shared_then : KeepFrozen old new theirs final
+      shared_then = frozen_twice old mid new theirs final a.shared_kept (frozen_twice mid after new theirs final mid_after d.shared_kept)
+
+      pub place_cleared : ClearsPlace old new table place (default_of table place.type) blocks [] theirs now final
       place_cleared = record {
         gives = d.gives;
-        left = d.shares;
         all_are = d.blocks_are;
         changes = record {
           length_kept = f.length_kept ∙ written.length_kept ∙ a.keeps.length_kept;
@@ -176,41 +193,43 @@ module _ (allocator : ℕ) (old mid after new : List ℕ) (table : Table) (place
           live_are = λ h. omega (arith, f.live_are h, live_after h, parts h);
           kept = λ h some none. around h some none;
         };
+        shared_kept = shared_then;
         holds = d.holds;
       }
 
 pub cleared : (allocator : ℕ) (old mid after new : List ℕ) (table here there_too : Table) → here ≡ table → there_too ≡ table → (place : Place) (v : Value) (blocks : List ℕ) (s : Stands allocator old table place v blocks) →
-    (shares : List ℕ) (kept : List Place) (now final : List Frozen) → SharedBeside old table (s.home ∷ blocks) v shares kept now final → (none first : Option ℕ) → none ≡ None →
+    (theirs : ℕ → List ℕ) (kept : List Place) (now final : List Frozen) → SharedBeside old table (s.home ∷ blocks) (named_in v) theirs kept now final → (none first : Option ℕ) → none ≡ None →
     ((home : ℕ) (xs ns : List ℕ) → IsInside old home place.at (size table place.type) → IsPart old table place xs ns → AddsIn old mid table none first (home ∷ []) xs ns) →
     (IsWithin mid place.at (size here place.type) → ChangesOnly mid after place.at (size here place.type)) →
     (IsWithin mid place.at (size here place.type) → place.type < length here → Holds after here place (default_of here place.type) []) →
-    ((blocks : List ℕ) (kept : List Place) (final : List Frozen) → IsTable there_too → Awaits allocator after there_too first blocks [] kept final → AreLive after blocks → Destroys allocator after new there_too blocks final) →
-    ClearsPlace old new table place (default_of table place.type) blocks [] shares final
-cleared allocator old mid after new table here there_too same same_too place v blocks s shares kept now final b none first is_none added changes filled destroyed =
-    let waiting = awaits_shared allocator old table none (s.home ∷ blocks) v shares kept now final is_none s.heap b in
+    ((blocks : List ℕ) (kept : List Place) (theirs : ℕ → List ℕ) (final : List Frozen) → IsTable there_too → Awaits allocator after there_too first blocks [] kept theirs final → AreLive after blocks → Destroys allocator after new there_too blocks theirs final) →
+    ClearsPlace old new table place (default_of table place.type) blocks [] theirs now final
+cleared allocator old mid after new table here there_too same same_too place v blocks s theirs kept now final b none first is_none added changes filled destroyed =
+    let shares = blocks_by theirs now in
+    let waiting = awaits_shared allocator old table none (s.home ∷ blocks) (named_in v) theirs kept now final is_none s.heap b in
     let fits : AreLive old ((s.home ∷ []) ++ (blocks ++ shares)) = λ h. let o = b.owned h in
     let n = times-append h (s.home ∷ blocks) shares in let m = times-append h (s.home ∷ []) blocks in let k = times-append h (s.home ∷ []) (blocks ++ shares) in let l = times-append h blocks shares in omega arith in
-    let a = added s.home blocks (named_in v) s.inside (inl (v, s.holds_it, refl)) allocator shares [] kept final s.is_table waiting fits in
-    let within = within_mid allocator old mid after new table place v blocks s shares kept now final b first a in
+    let a = added s.home blocks (named_in v) s.inside (inl (v, s.holds_it, refl)) allocator shares [] kept theirs final s.is_table waiting fits in
+    let within = within_mid allocator old mid after new table place v blocks s theirs kept now final b first a in
     let changes' : IsWithin mid place.at (size table place.type) → ChangesOnly mid after place.at (size table place.type) = subst (λ t. IsWithin mid place.at (size t place.type) →
     ChangesOnly mid after place.at (size t place.type)) same changes in
     let filled' : IsWithin mid place.at (size table place.type) → place.type < length table → Holds after table place (default_of table place.type) [] =
     subst (λ t. IsWithin mid place.at (size t place.type) → place.type < length t → Holds after t place (default_of t place.type) []) same filled in
-    let destroyed' : (blocks : List ℕ) (kept : List Place) (final : List Frozen) → IsTable table → Awaits allocator after table first blocks [] kept final → AreLive after blocks → Destroys allocator after new table blocks final =
-    subst (λ t. (blocks : List ℕ) (kept : List Place) (final : List Frozen) → IsTable t → Awaits allocator after t first blocks [] kept final → AreLive after blocks → Destroys allocator after new t blocks final) same_too destroyed in
+    let destroyed' : (blocks : List ℕ) (kept : List Place) (theirs : ℕ → List ℕ) (final : List Frozen) → IsTable table → Awaits allocator after table first blocks [] kept theirs final → AreLive after blocks → Destroys allocator after new table blocks theirs final =
+    subst (λ t. (blocks : List ℕ) (kept : List Place) (theirs : ℕ → List ℕ) (final : List Frozen) → IsTable t → Awaits allocator after t first blocks [] kept theirs final → AreLive after blocks → Destroys allocator after new t blocks theirs final) same_too destroyed in
     let c = changes' within in
     let h = filled' within (typed old table place v blocks s.holds_it) in
-    let d = destroyed' (blocks ++ shares) kept final s.is_table (awaits_after allocator old mid after new table place v blocks s shares kept now final b first a c h)
-    (live_there allocator old mid after new table place v blocks s shares kept now final b first a c h) in
-    place_cleared allocator old mid after new table place v blocks s shares kept now final b first a c h d
+    let d = destroyed' (blocks ++ shares) kept theirs final s.is_table (awaits_after allocator old mid after new table place v blocks s theirs kept now final b first a c h)
+    (live_there allocator old mid after new table place v blocks s theirs kept now final b first a c h) in
+    place_cleared allocator old mid after new table place v blocks s theirs kept now final b first a c h d
 
 -- a number that is cleared where it stands
-pub number_cleared : (allocator : ℕ) (old new : List ℕ) (table : Table) (place : Place) (v : Value) (blocks : List ℕ) (s : Stands allocator old table place v blocks) → (shares : List ℕ) (kept : List Place) (now final : List Frozen) →
-    SharedBeside old table (s.home ∷ blocks) v shares kept now final → has_cells (form_at table place.type) ≡ false →
+pub number_cleared : (allocator : ℕ) (old new : List ℕ) (table : Table) (place : Place) (v : Value) (blocks : List ℕ) (s : Stands allocator old table place v blocks) → (theirs : ℕ → List ℕ) (kept : List Place) (now final : List Frozen) →
+    SharedBeside old table (s.home ∷ blocks) (named_in v) theirs kept now final → has_cells (form_at table place.type) ≡ false →
     (IsWithin old place.at (size table place.type) → ChangesOnly old new place.at (size table place.type)) →
     (IsWithin old place.at (size table place.type) → place.type < length table → Holds new table place (default_of table place.type) []) →
-    ClearsPlace old new table place (default_of table place.type) blocks [] shares final
-number_cleared allocator old new table place v blocks s shares kept now final b number changes filled =
-    cleared allocator old old new new table table table refl refl place v blocks s shares kept now final b None None refl
+    ClearsPlace old new table place (default_of table place.type) blocks [] theirs now final
+number_cleared allocator old new table place v blocks s theirs kept now final b number changes filled =
+    cleared allocator old old new new table table table refl refl place v blocks s theirs kept now final b None None refl
     (λ home xs ns inside part. nothing_added old table None (home ∷ []) xs ns (no_cells_own old table place xs ns number part)) changes filled
-    (λ zs kept final valid w owned. all_freed allocator new new table valid None zs kept final 0 owned (none_freed allocator new table None zs kept final w) refl)
+    (λ zs kept theirs final valid w owned. all_freed allocator new new table valid None zs kept theirs final 0 owned (none_freed allocator new table None zs kept theirs final w owned) refl)

@@ -62,7 +62,7 @@ module _ (bytes : List ℕ) (table : Table) where
 pub two_links : (old mid new : List ℕ) (table mid_table : Table) (f g k : Option ℕ) (p q home : ℕ) (xs ns : List ℕ) → mid_table ≡ table → q ≡ (p + 4) % 2 ^ 32 → IsInside old home p 8 →
     OwesLinks old table (p ∷ (p + 4) ∷ []) xs ns → ((ys ms : List ℕ) → OwesLinks old table (p ∷ []) ys ms → AddsIn old mid table f g [] ys ms) →
     ((ys ms : List ℕ) → OwesLinks mid mid_table (q ∷ []) ys ms → AddsIn mid new mid_table g k [] ys ms) → AddsIn old new table f k (home ∷ []) xs ns
-two_links old mid new table mid_table f g k p q home xs ns same_table q_is inside owes one two allocator zs names kept_cells final valid w fits =
+two_links old mid new table mid_table f g k p q home xs ns same_table q_is inside owes one two allocator zs names kept_cells theirs final valid w fits =
     let s = split old table p ((p + 4) ∷ []) xs ns owes in
     let two' : (ys ms : List ℕ) → OwesLinks mid table (q ∷ []) ys ms → AddsIn mid new table g k [] ys ms = subst (λ t. (ys ms : List ℕ) → OwesLinks mid t (q ∷ []) ys ms → AddsIn mid new t g k [] ys ms) same_table two in
     let heap = w.beside.pends.heap in
@@ -73,9 +73,9 @@ two_links old mid new table mid_table f g k p q home xs ns same_table q_is insid
     let second : q ≡ p + 4 = let low = inside.low in let high = inside.high in let end = lies.high in omega arith in
     let counts = λ (h : ℕ). let c : times h xs ≡ times h s.mine + times h s.rest = s.xs_are h ∙ times-append h s.mine s.rest in c in
     let fits_one : AreLive old (s.mine ++ zs) = λ h. let a = fits h in let m = times-more h home (xs ++ zs) in let c = counts h in let n = times-append h xs zs in let o = times-append h s.mine zs in omega arith in
-    let waiting = awaits_names allocator old table f zs (ns ++ names) (s.my_names ++ (s.rest_names ++ names)) kept_cells final
+    let waiting = awaits_names allocator old table f zs (ns ++ names) (s.my_names ++ (s.rest_names ++ names)) kept_cells theirs final
     (λ h. omega (arith, s.ns_are h, times-append h ns names, times-append h s.my_names s.rest_names, times-append h s.my_names (s.rest_names ++ names), times-append h s.rest_names names)) w in
-    let first = one s.mine s.my_names s.one allocator zs (s.rest_names ++ names) kept_cells final valid waiting fits_one in
+    let first = one s.mine s.my_names s.one allocator zs (s.rest_names ++ names) kept_cells theirs final valid waiting fits_one in
     let live_same = λ (h : ℕ). let e : times h (positions (live mid)) ≡ times h (positions (live old)) = ap (λ bs. times h (positions bs)) first.keeps.live_kept in e in
     let apart : times home (s.mine ++ zs) ≡ 0 =
     let c = counts home in let once = live-once old allocator heap home in let t = times-same home (xs ++ zs) in let n = times-append home xs zs in let o = times-append home s.mine zs in omega arith in
@@ -87,5 +87,5 @@ two_links old mid new table mid_table f g k p q home xs ns same_table q_is insid
     (each_there (KeepsWhole old mid) s.rest (λ h some. let n = no_common allocator old heap (s.mine ++ zs) s.rest disjoint h some in (first.keeps.others h n.0 n.1).whole)) s.more in
     let fits_two : AreLive mid (s.rest ++ (s.mine ++ zs)) = λ h.
     let a = fits h in let m = times-more h home (xs ++ zs) in let c = counts h in let n = times-append h xs zs in let o = times-append h s.mine zs in let r = times-append h s.rest (s.mine ++ zs) in let l = live_same h in omega arith in
-    let then_two = two' s.rest s.rest_names (subst (λ r. OwesLinks mid table (r ∷ []) s.rest s.rest_names) (sym second) more) allocator (s.mine ++ zs) names kept_cells final valid first.awaits fits_two in
-    adds_twice allocator old mid new table g k s.mine s.rest zs xs (s.rest_names ++ names) names kept_cells final first then_two (λ h. let c = counts h in let n = times-append h s.rest s.mine in omega arith)
+    let then_two = two' s.rest s.rest_names (subst (λ r. OwesLinks mid table (r ∷ []) s.rest s.rest_names) (sym second) more) allocator (s.mine ++ zs) names kept_cells theirs final valid first.awaits fits_two in
+    adds_twice allocator old mid new table g k s.mine s.rest zs xs (s.rest_names ++ names) names kept_cells theirs final first then_two (λ h. let c = counts h in let n = times-append h s.rest s.mine in omega arith)

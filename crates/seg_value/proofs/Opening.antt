@@ -374,7 +374,7 @@ module _ (bytes : List ℕ) (table : Table) (valid : IsTable table) (p : ℕ) wh
 -- ---- its links, and then its entries
 
 module _ (allocator : ℕ) (old mid new : List ℕ) (table here : Table) (same : here ≡ table) (valid : IsTable table) (p n : ℕ) (content : Content) (f g k : Option ℕ) (us bs vs ws xs ns ys names : List ℕ) (kept_cells : List Place)
-    (final : List Frozen) (xs_are : SameBlocks xs (block_of p ∷ (us ++ bs))) (ns_are : SameBlocks ns (vs ++ ws)) (s : Shows old table valid p content us bs vs ws) (w : Awaits allocator old table f ys (ns ++ names) kept_cells final)
+    (theirs : ℕ → List ℕ) (final : List Frozen) (xs_are : SameBlocks xs (block_of p ∷ (us ++ bs))) (ns_are : SameBlocks ns (vs ++ ws)) (s : Shows old table valid p content us bs vs ws) (w : Awaits allocator old table f ys (ns ++ names) kept_cells theirs final)
     (fits : AreLive old (xs ++ ys)) where
   home : ℕ
   home = block_of p
@@ -395,11 +395,11 @@ module _ (allocator : ℕ) (old mid new : List ℕ) (table here : Table) (same :
   inside_links = let l = lies.size in let low = s.low in record { low = omega arith; high = omega arith }
 
   -- what its links name is to be released first
-  pub links_waiting : Awaits allocator old table f ys (ws ++ (vs ++ names)) kept_cells final
-  links_waiting = awaits_names allocator old table f ys (ns ++ names) (ws ++ (vs ++ names)) kept_cells final
+  pub links_waiting : Awaits allocator old table f ys (ws ++ (vs ++ names)) kept_cells theirs final
+  links_waiting = awaits_names allocator old table f ys (ns ++ names) (ws ++ (vs ++ names)) kept_cells theirs final
       (λ h. omega (arith, ns_are h, times-append h ns names, times-append h vs ws, times-append h ws (vs ++ names), times-append h vs names)) w
 
-  module _ (first : Adds allocator old mid table g bs ys (vs ++ names) kept_cells final)
+  module _ (first : Adds allocator old mid table g bs ys (vs ++ names) kept_cells theirs final)
       (buffer : (b : Span) → content.shape ≡ shape.Buffer → p ≡ b.at + 16 → IsSized mid b → n ≡ (16 * b.units - 16) / content.entry.size) (one : (content.shape ≡ shape.Buffer → ⊥) → n ≡ 1)
       (text : content.entry.held ≡ held.Bytes → (new ≡ mid) × (k ≡ g))
       (entries : (home before U : ℕ) (zs ms : List ℕ) → IsEntryOf here before U content.entry → IsInside mid home p (n * (before + size here U)) → AreParts mid here (entries_at here p before U n) zs ms →
@@ -416,7 +416,7 @@ module _ (allocator : ℕ) (old mid new : List ℕ) (table here : Table) (same :
     lies_mid : LiesIn mid heap_start (length mid) (block_of p)
     lies_mid = let l = live_same (block_of p) in let h = home_live in there (LiesIn mid heap_start (length mid)) (block_of p) (positions (live mid)) (live-lie mid allocator first.awaits.beside.pends.heap) (omega arith)
 
-    entries_added : HasEntries old table valid p content us vs → Adds allocator old new table k (us ++ bs) ys names kept_cells final
+    entries_added : HasEntries old table valid p content us vs → Adds allocator old new table k (us ++ bs) ys names kept_cells theirs final
     entries_added e =
         let entries' : (home before U : ℕ) (zs ms : List ℕ) → IsEntryOf table before U content.entry → IsInside mid home p (n * (before + size table U)) → AreParts mid table (entries_at table p before U n) zs ms →
         AddsIn mid new table g k (home ∷ []) zs ms =
@@ -432,15 +432,15 @@ module _ (allocator : ℕ) (old mid new : List ℕ) (table here : Table) (same :
         let parts_mid = parts_then allocator old mid table valid w.beside.pends.heap (block_of p) (bs ++ ys) first.keeps home_live apart (entries_at table p e.before e.U e.n) us vs (entries_inside old table
         (block_of p) p e.before e.U e.n inside_old) disjoint e.parts in
         let fits_mid : AreLive mid (block_of p ∷ (us ++ (bs ++ ys))) = λ h. let c = counts h in let l = live_same h in let a = times-append h us (bs ++ ys) in let b = times-append h bs ys in omega arith in
-        let second = entries' (block_of p) e.before e.U us vs e.entry_is (rw n_is inside_mid) (rw n_is parts_mid) allocator (bs ++ ys) names kept_cells final valid first.awaits fits_mid in
-        adds_twice allocator old mid new table g k bs us ys (us ++ bs) (vs ++ names) names kept_cells final first second (λ h. refl)
+        let second = entries' (block_of p) e.before e.U us vs e.entry_is (rw n_is inside_mid) (rw n_is parts_mid) allocator (bs ++ ys) names kept_cells theirs final valid first.awaits fits_mid in
+        adds_twice allocator old mid new table g k bs us ys (us ++ bs) (vs ++ names) names kept_cells theirs final first second (λ h. refl)
 
-    pub all_added : Adds allocator old new table k (us ++ bs) ys names kept_cells final
+    pub all_added : Adds allocator old new table k (us ++ bs) ys names kept_cells theirs final
     all_added = ⊎_elim text_added entries_added s.entries
       where
-        text_added : (content.entry.held ≡ held.Bytes) × Nothing us vs → Adds allocator old new table k (us ++ bs) ys names kept_cells final
+        text_added : (content.entry.held ≡ held.Bytes) × Nothing us vs → Adds allocator old new table k (us ++ bs) ys names kept_cells theirs final
         text_added t =
             let e = text t.0 in
-            let first' : Adds allocator old mid table g bs ys names kept_cells final = subst (λ ms. Adds allocator old mid table g bs ys (ms ++ names) kept_cells final) t.1.no_names first in
-            subst (λ zs. Adds allocator old new table k (zs ++ bs) ys names kept_cells final) (sym t.1.no_blocks)
-            (subst (λ b. Adds allocator old b table k bs ys names kept_cells final) (sym e.0) (subst (λ o. Adds allocator old mid table o bs ys names kept_cells final) (sym e.1) first'))
+            let first' : Adds allocator old mid table g bs ys names kept_cells theirs final = subst (λ ms. Adds allocator old mid table g bs ys (ms ++ names) kept_cells theirs final) t.1.no_names first in
+            subst (λ zs. Adds allocator old new table k (zs ++ bs) ys names kept_cells theirs final) (sym t.1.no_blocks)
+            (subst (λ b. Adds allocator old b table k bs ys names kept_cells theirs final) (sym e.0) (subst (λ o. Adds allocator old mid table o bs ys names kept_cells theirs final) (sym e.1) first'))

@@ -61,11 +61,11 @@ impl Pending {
         ensures none { result ≡ None → self.old.first ≡ None }
         ensures first { (p : ℕ) → result ≡ Some p → self.old.first ≡ Some p }
         ensures popped { (allocator : ℕ) (blocks names : List ℕ) (kept : List reads.Place)
-            (final : List Frozen) →
+            (theirs : ℕ → List ℕ) (final : List Frozen) →
             Awaits allocator heap.now.window.bytes heap.now.types self.old.first
-            blocks names kept final →
+            blocks names kept theirs final →
             IfSome result (λ p. Pops allocator heap.now.window.bytes heap.now.types
-            p self.new.first blocks names kept final) }
+            p self.new.first blocks names kept theirs final) }
     {
         let payload = self.first?;
         self.first = link(heap.window(), block_of(payload));
@@ -216,13 +216,13 @@ impl Pending {
     pub(crate) fn destroy<F: Fit, A: Allocator>(mut self, heap: &mut Heap<F, A>)
         ensures window { KeepsHost heap.old.window heap.new.window }
         ensures types { heap.new.types ≡ heap.old.types }
-        ensures destroyed { (blocks : List ℕ) (kept : List reads.Place) (final : List Frozen) →
+        ensures destroyed { (blocks : List ℕ) (kept : List reads.Place) (theirs : ℕ → List ℕ) (final : List Frozen) →
             IsTable heap.old.types →
             Awaits F.allocator heap.old.window.bytes heap.old.types self.first
-            blocks [] kept final →
+            blocks [] kept theirs final →
             AreLive heap.old.window.bytes blocks →
             Destroys F.allocator heap.old.window.bytes heap.new.window.bytes heap.old.types
-            blocks final }
+            blocks theirs final }
     {
         // there are fewer blocks than units
         for _turn in 0..heap.window().len() / UNIT {

@@ -21,9 +21,9 @@ pub loop-index-init : goal.loop-index-init
 loop-index-init g t c = record {
   window = refl;
   types = refl;
-  added = λ home xs ns Us inside part f allocator ys names kept final valid w fits.
+  added = λ home xs ns Us inside part f allocator ys names kept theirs final valid w fits.
       let heap = c.args.heap.now in
-      none_joined allocator heap.window.bytes heap.types valid home xs ys names kept final fits c.args.self.now.first (fields heap.types c.args.place.at Us) ns w
+      none_joined allocator heap.window.bytes heap.types valid home xs ys names kept theirs final fits c.args.self.now.first (fields heap.types c.args.place.at Us) ns w
       (fields_inside heap.window.bytes heap.types valid home (place_of c.args.place) Us f inside) (struct_parts heap.window.bytes heap.types valid (place_of c.args.place) xs ns Us f part);
 }
 
@@ -33,15 +33,15 @@ loop-index-preserved g t c = elim c.match-field.branch [
     window = ap (λ (s : Stored). s.window) w.heap-is ∙ w.add_value.ensures.window ∙ ap (λ p. with_bytes p w.add_value.new.heap.window.bytes) c.loop-index.invariant.window
         ∙ ap (λ b. with_bytes c.args.heap.now.window b) (sym (bytes_in c.match-field.heap w.add_value.new.heap w.heap-is));
     types = ap (λ (s : Stored). s.types) w.heap-is ∙ w.add_value.ensures.types ∙ c.loop-index.invariant.types;
-    added = λ home xs ns Us inside part f allocator ys names kept final valid p fits.
+    added = λ home xs ns Us inside part f allocator ys names kept theirs final valid p fits.
         let heap = c.args.heap.now in
         let T = c.args.place.type_id in
         let field = w.in-Some.field in
         let same : c.types-in-loop-index.result.now ≡ heap.types = c.types-in-loop-index.ensures ∙ c.loop-index.invariant.types in
         let e : slice_get (fields_of heap.types T) c.loop-index.index ≡ Some (record { from = field.from; type = field.type_id }) =
         subst (λ t. slice_get (fields_of t T) c.loop-index.index ≡ Some (record { from = field.from; type = field.type_id })) same (c.field.ensures.field ∙ ap (map_option cell_of) w.in-Some.is) in
-        let j = c.loop-index.invariant.added home xs ns Us inside part f allocator ys names kept final valid p fits in
-        let r = next_field_joined allocator heap.window.bytes c.loop-index.heap.window.bytes heap.types valid home c.args.place.at c.loop-index.index T xs ys names kept final Us f fits c.loop-index.self.first j
+        let j = c.loop-index.invariant.added home xs ns Us inside part f allocator ys names kept theirs final valid p fits in
+        let r = next_field_joined allocator heap.window.bytes c.loop-index.heap.window.bytes heap.types valid home c.args.place.at c.loop-index.index T xs ys names kept theirs final Us f fits c.loop-index.self.first j
         w.add_value.new.heap.window.bytes c.loop-index.heap.types w.add_value.new.self.first field.from field.type_id w.part.result.at w.part.result.type_id e c.loop-index.invariant.types w.part.ensures.at w.part.ensures.type_id
         w.add_value.ensures.added in
         rw (bytes_in c.match-field.heap w.add_value.new.heap w.heap-is, w.self-is) r;
@@ -49,14 +49,14 @@ loop-index-preserved g t c = elim c.match-field.branch [
   | in_default w ↦ record {
     window = ap (λ (s : Stored). s.window) w.heap-is ∙ c.loop-index.invariant.window ∙ ap (λ b. with_bytes c.args.heap.now.window b) (sym (bytes_in c.match-field.heap c.loop-index.heap w.heap-is));
     types = ap (λ (s : Stored). s.types) w.heap-is ∙ c.loop-index.invariant.types;
-    added = λ home xs ns Us inside part f allocator ys names kept final valid p fits.
+    added = λ home xs ns Us inside part f allocator ys names kept theirs final valid p fits.
         let heap = c.args.heap.now in
         let T = c.args.place.type_id in
         let same : c.types-in-loop-index.result.now ≡ heap.types = c.types-in-loop-index.ensures ∙ c.loop-index.invariant.types in
         let e : slice_get (fields_of heap.types T) c.loop-index.index ≡ None =
         subst (λ t. slice_get (fields_of t T) c.loop-index.index ≡ None) same (c.field.ensures.field ∙ ap (map_option cell_of) w.in_default.is) in
-        let j = c.loop-index.invariant.added home xs ns Us inside part f allocator ys names kept final valid p fits in
-        let r = past_fields_joined allocator heap.window.bytes c.loop-index.heap.window.bytes heap.types valid home c.args.place.at c.loop-index.index T xs ys names kept final Us f fits c.loop-index.self.first j e in
+        let j = c.loop-index.invariant.added home xs ns Us inside part f allocator ys names kept theirs final valid p fits in
+        let r = past_fields_joined allocator heap.window.bytes c.loop-index.heap.window.bytes heap.types valid home c.args.place.at c.loop-index.index T xs ys names kept theirs final Us f fits c.loop-index.self.first j e in
         rw (bytes_in c.match-field.heap c.loop-index.heap w.heap-is, w.self-is) r;
   }
 ]
@@ -69,21 +69,21 @@ returns-then-not-has_pointers-clause-added g t c = λ home xs ns inside part.
     nothing_added heap.window.bytes heap.types c.args.self.now.first (home ∷ []) xs ns (no_cells_own heap.window.bytes heap.types (place_of c.args.place) xs ns none part)
 
 pub returns-then-fields-eq0-clause-added : goal.returns-then-fields-eq0-clause-added
-returns-then-fields-eq0-clause-added g t c = λ home xs ns inside part allocator ys names kept final valid w fits.
+returns-then-fields-eq0-clause-added g t c = λ home xs ns inside part allocator ys names kept theirs final valid w fits.
     let heap = c.args.heap.now in
     let few : length (fields_of heap.types c.args.place.type_id) ≡ 0 =
     subst (λ t. length (fields_of t c.args.place.type_id) ≡ 0) c.types-2.ensures (sym c.field_count-fields.ensures.count ∙ c.if-fields-eq0.true) in
     let some : has_cells (form_at heap.types c.args.place.type_id) ≡ true =
     subst (λ t. has_cells (form_at t c.args.place.type_id) ≡ true) c.types.ensures (c.has_pointers.ensures.cells ∙ c.if-not-has_pointers.false) in
-    c.add_cell.ensures.added xs ns few some part allocator ys names kept final valid w (without_home heap.window.bytes home (xs ++ ys) fits)
+    c.add_cell.ensures.added xs ns few some part allocator ys names kept theirs final valid w (without_home heap.window.bytes home (xs ++ ys) fits)
 
 pub returns-clause-added : goal.returns-clause-added
-returns-clause-added g t c = λ home xs ns inside part allocator ys names kept final valid w fits.
+returns-clause-added g t c = λ home xs ns inside part allocator ys names kept theirs final valid w fits.
     let heap = c.args.heap.now in
     let T = c.args.place.type_id in
     let count : c.field_count-fields.result ≡ length (fields_of heap.types T) = subst (λ t. c.field_count-fields.result ≡ length (fields_of t T)) c.types-2.ensures c.field_count-fields.ensures.count in
     let some = c.if-fields-eq0.false in
     let s = struct_of heap.types valid T (omega arith) in
-    let j = c.loop-index.invariant.added home xs ns s.parts inside part s.form_is allocator ys names kept final valid w fits in
+    let j = c.loop-index.invariant.added home xs ns s.parts inside part s.form_is allocator ys names kept theirs final valid w fits in
     let past = c.loop-index-test.false in
-    all_fields_joined allocator heap.window.bytes c.loop-index.heap.window.bytes heap.types valid home c.args.place.at c.loop-index.index T xs ys names kept final s.parts s.form_is fits c.loop-index.self.first j (omega arith)
+    all_fields_joined allocator heap.window.bytes c.loop-index.heap.window.bytes heap.types valid home c.args.place.at c.loop-index.index T xs ys names kept theirs final s.parts s.form_is fits c.loop-index.self.first j (omega arith)

@@ -18,7 +18,7 @@ invariant-loop-index g l = record {
   window : l.heap.window ≡ with_bytes l.initial.heap.window l.heap.window.bytes;
   types : l.heap.types ≡ l.initial.heap.types;
   added : (home : ℕ) (xs ns Us : List ℕ) → IsInside l.initial.heap.window.bytes home l.place.at (size l.initial.heap.types l.place.type_id) → IsPart l.initial.heap.window.bytes l.initial.heap.types (place_of l.place) xs ns →
-      form_at l.initial.heap.types l.place.type_id ≡ Some (Form.struct Us) → (allocator : ℕ) (ys names : List ℕ) (kept : List Place) (final : List Frozen) → IsTable l.initial.heap.types →
-      Awaits allocator l.initial.heap.window.bytes l.initial.heap.types l.initial.self.first ys (ns ++ names) kept final → AreLive l.initial.heap.window.bytes (home ∷ (xs ++ ys)) →
-      Joined allocator l.initial.heap.window.bytes l.heap.window.bytes l.initial.heap.types l.self.first home (drop l.index (fields l.initial.heap.types l.place.at Us)) xs ys names kept final;
+      form_at l.initial.heap.types l.place.type_id ≡ Some (Form.struct Us) → (allocator : ℕ) (ys names : List ℕ) (kept : List Place) (theirs : ℕ → List ℕ) (final : List Frozen) → IsTable l.initial.heap.types →
+      Awaits allocator l.initial.heap.window.bytes l.initial.heap.types l.initial.self.first ys (ns ++ names) kept theirs final → AreLive l.initial.heap.window.bytes (home ∷ (xs ++ ys)) →
+      Joined allocator l.initial.heap.window.bytes l.heap.window.bytes l.initial.heap.types l.self.first home (drop l.index (fields l.initial.heap.types l.place.at Us)) xs ys names kept theirs final;
 }

@@ -6,8 +6,8 @@ use Rattle.seg_value.proofs.Links.{without_home, no_further, two_links}
 use Rattle.seg_value.proofs.pending.Pending.add_links.Goals as goal
 
 pub returns-in-Ring-clause-added : goal.returns-in-Ring-clause-added
-returns-in-Ring-clause-added g c = λ home xs ns inside owes allocator ys names kept final valid w fits.
-    c.add_node.ensures.added xs ns (rw c.in-Ring.is at owes) allocator ys names kept final valid w (without_home c.args.heap.now.window.bytes home (xs ++ ys) fits)
+returns-in-Ring-clause-added g c = λ home xs ns inside owes allocator ys names kept theirs final valid w fits.
+    c.add_node.ensures.added xs ns (rw c.in-Ring.is at owes) allocator ys names kept theirs final valid w (without_home c.args.heap.now.window.bytes home (xs ++ ys) fits)
 
 pub returns-in-Tree-clause-added : goal.returns-in-Tree-clause-added
 returns-in-Tree-clause-added g c = λ home xs ns inside owes.

@@ -11,7 +11,7 @@ abbrev pub invariant-loop-turn : goal.invariant-loop-turn
 invariant-loop-turn g l = record {
   window : l.heap.window ≡ with_bytes l.initial.heap.window l.heap.window.bytes;
   types : l.heap.types ≡ l.initial.heap.types;
-  freed : (blocks : List ℕ) (kept : List Place) (final : List Frozen) → IsTable l.initial.heap.types →
-      Awaits g.F.Fit.allocator l.initial.heap.window.bytes l.initial.heap.types l.initial.self.first blocks [] kept final → AreLive l.initial.heap.window.bytes blocks →
-      HasFreed g.F.Fit.allocator l.initial.heap.window.bytes l.heap.window.bytes l.initial.heap.types l.self.first blocks kept final l._turn;
+  freed : (blocks : List ℕ) (kept : List Place) (theirs : ℕ → List ℕ) (final : List Frozen) → IsTable l.initial.heap.types →
+      Awaits g.F.Fit.allocator l.initial.heap.window.bytes l.initial.heap.types l.initial.self.first blocks [] kept theirs final → AreLive l.initial.heap.window.bytes blocks →
+      HasFreed g.F.Fit.allocator l.initial.heap.window.bytes l.heap.window.bytes l.initial.heap.types l.self.first blocks kept theirs final l._turn;
 }

@@ -10,7 +10,7 @@ use Rattle.seg_spec.proofs.Placements.{bytes_of}
 use Rattle.seg_value.proofs.pending.Pending.open.Goals as goal
 
 pub returns-in_default-clause-opened : goal.returns-in_default-clause-opened
-returns-in_default-clause-opened g c = λ xs ns goes allocator ys names kept final valid w fits.
+returns-in_default-clause-opened g c = λ xs ns goes allocator ys names kept theirs final valid w fits.
     let heap = c.args.heap.now in
     let word_is : c.tag_word.result ≡ tag_at heap.window.bytes (block_of c.args.payload) =
     c.tag_word.ensures ∙ ap (tag_at c.window.result.now.bytes) c.block_of.ensures ∙ ap (λ (r : Placement). tag_at r.bytes (block_of c.args.payload)) c.window.ensures in
@@ -18,12 +18,13 @@ returns-in_default-clause-opened g c = λ xs ns goes allocator ys names kept fin
     record {
       rest = [];
       xs_are = u.0;
-      adds = same_adds allocator heap.window.bytes heap.types c.args.self.now.first [] ys [] names kept final refl refl
-          (awaits_names allocator heap.window.bytes heap.types c.args.self.now.first ys (ns ++ names) names kept final (λ h. omega (arith, u.1 h, times-append h ns names)) w);
+      adds = same_adds allocator heap.window.bytes heap.types c.args.self.now.first [] ys [] names kept theirs final refl refl
+          (awaits_names allocator heap.window.bytes heap.types c.args.self.now.first ys (ns ++ names) names kept theirs final (λ h. omega (arith, u.1 h, times-append h ns names)) w)
+          (λ h. omega (arith, fits h, times-append h xs ys));
     }
 
 pub returns-in_default-of_block-clause-opened : goal.returns-in_default-of_block-clause-opened
-returns-in_default-of_block-clause-opened g c = λ xs ns goes allocator ys names kept final valid w fits.
+returns-in_default-of_block-clause-opened g c = λ xs ns goes allocator ys names kept theirs final valid w fits.
     let heap = c.args.heap.now in
     let word_is : c.tag_word.result ≡ tag_at heap.window.bytes (block_of c.args.payload) =
     c.tag_word.ensures ∙ ap (tag_at c.window.result.now.bytes) c.block_of.ensures ∙ ap (λ (r : Placement). tag_at r.bytes (block_of c.args.payload)) c.window.ensures in
@@ -32,7 +33,7 @@ returns-in_default-of_block-clause-opened g c = λ xs ns goes allocator ys names
     absurd (some_content heap.window.bytes heap.types valid c.args.payload tag.kind tag.type_id xs ns (sym word_is ∙ c.in-Some.ensures.spelled) of goes)
 
 pub returns-clause-opened : goal.returns-clause-opened
-returns-clause-opened g c = λ xs ns goes allocator ys names kept final valid w fits.
+returns-clause-opened g c = λ xs ns goes allocator ys names kept theirs final valid w fits.
     let heap = c.args.heap.now in
     let word_is : c.tag_word.result ≡ tag_at heap.window.bytes (block_of c.args.payload) =
     c.tag_word.ensures ∙ ap (tag_at c.window.result.now.bytes) c.block_of.ensures ∙ ap (λ (r : Placement). tag_at r.bytes (block_of c.args.payload)) c.window.ensures in
@@ -43,16 +44,16 @@ returns-clause-opened g c = λ xs ns goes allocator ys names kept final valid w 
     let old = heap.window.bytes in
     let f = c.args.self.now.first in
     let p = c.args.payload in
-    let waiting = links_waiting allocator old old old heap.types heap.types refl valid p 0 content f f f parts.us parts.bs parts.vs parts.ws xs ns ys names kept final parts.xs_are parts.ns_are parts.shows w fits in
+    let waiting = links_waiting allocator old old old heap.types heap.types refl valid p 0 content f f f parts.us parts.bs parts.vs parts.ws xs ns ys names kept theirs final parts.xs_are parts.ns_are parts.shows w fits in
     let first = c.add_links.ensures.added (block_of p) parts.bs parts.ws
-    (inside_links allocator old old old heap.types heap.types refl valid p 0 content f f f parts.us parts.bs parts.vs parts.ws xs ns ys names kept final parts.xs_are parts.ns_are parts.shows w fits)
-    parts.shows.links allocator ys (parts.vs ++ names) kept final valid waiting
-    (links_fit allocator old old old heap.types heap.types refl valid p 0 content f f f parts.us parts.bs parts.vs parts.ws xs ns ys names kept final parts.xs_are parts.ns_are parts.shows w fits) in
+    (inside_links allocator old old old heap.types heap.types refl valid p 0 content f f f parts.us parts.bs parts.vs parts.ws xs ns ys names kept theirs final parts.xs_are parts.ns_are parts.shows w fits)
+    parts.shows.links allocator ys (parts.vs ++ names) kept theirs final valid waiting
+    (links_fit allocator old old old heap.types heap.types refl valid p 0 content f f f parts.us parts.bs parts.vs parts.ws xs ns ys names kept theirs final parts.xs_are parts.ns_are parts.shows w fits) in
     record {
       rest = parts.us ++ parts.bs;
       xs_are = parts.xs_are;
       adds = all_added allocator old c.add_links.new.heap.window.bytes c.add_entries.new.heap.window.bytes heap.types c.add_links.new.heap.types c.add_links.ensures.types valid p
-          c.entry_count-entries.result content f c.add_links.new.self.first c.add_entries.new.self.first parts.us parts.bs parts.vs parts.ws xs ns ys names kept final parts.xs_are parts.ns_are parts.shows w fits first
+          c.entry_count-entries.result content f c.add_links.new.self.first c.add_entries.new.self.first parts.us parts.bs parts.vs parts.ws xs ns ys names kept theirs final parts.xs_are parts.ns_are parts.shows w fits first
           c.entry_count-entries.ensures.buffer c.entry_count-entries.ensures.one
           (λ h. let e = c.add_entries.ensures.bytes h in (bytes_of c.add_entries.new.heap.window c.add_links.new.heap.window e.0, e.1)) c.add_entries.ensures.added;
     }

@@ -10,26 +10,26 @@ use Rattle.seg_value.proofs.pending.Pending.release.Goals as goal
 
 -- a count that is written, and is some still
 lowered : (old new : List ℕ) (table : Table) (p count : ℕ) (first : Option ℕ) → new ≡ set_word old p count → count ≡ word old p - 1 → count < 2 ^ 32 → 1 ≤ count → AddsIn old new table first first [] [] (p ∷ [])
-lowered old new table p count first written is small some allocator ys names kept final valid w fits =
+lowered old new table p count first written is small some allocator ys names kept theirs final valid w fits =
     let v = set_word old p count in
-    let changes = written_changes allocator old table valid p first ys names kept final w fits count small in
-    let now = written_is allocator old table valid p first ys names kept final w fits count small in
+    let changes = written_changes allocator old table valid p first ys names kept theirs final w fits count small in
+    let now = written_is allocator old table valid p first ys names kept theirs final w fits count small in
     let more : word (set_word old p count) p ≡ suc (count - 1) = now ∙ omega arith in
-    subst (λ b. Adds allocator old b table first [] ys names kept final) (sym written)
-    (stays allocator old table valid p first ys names kept final w fits (set_word old p count) changes (now ∙ is) (count - 1) more)
+    subst (λ b. Adds allocator old b table first [] ys names kept theirs final) (sym written)
+    (stays allocator old table valid p first ys names kept theirs final w fits (set_word old p count) changes (now ∙ is) (count - 1) more)
 
 -- a count that is written, and is 0: the object is put in front of those that wait
 let_go : (old new last : List ℕ) (table here : Table) (p count : ℕ) (first next : Option ℕ) → here ≡ table → new ≡ set_word old p count → count ≡ word old p - 1 → count ≡ 0 →
     ((xs ns : List ℕ) → GoesWith new here p xs ns → AddsIn new last here first next [] xs ns) → AddsIn old last table first next [] [] (p ∷ [])
-let_go old new last table here p count first next same written is none push allocator ys names kept final valid w fits =
+let_go old new last table here p count first next same written is none push allocator ys names kept theirs final valid w fits =
     let small : count < 2 ^ 32 = omega arith in
-    let changes = written_changes allocator old table valid p first ys names kept final w fits count small in
-    let now = written_is allocator old table valid p first ys names kept final w fits count small in
+    let changes = written_changes allocator old table valid p first ys names kept theirs final w fits count small in
+    let now = written_is allocator old table valid p first ys names kept theirs final w fits count small in
     let push' : (xs ns : List ℕ) → GoesWith (set_word old p count) table p xs ns → AddsIn (set_word old p count) last table first next [] xs ns =
     subst (λ b. (xs ns : List ℕ) → GoesWith b table p xs ns → AddsIn b last table first next [] xs ns) written
     (subst (λ t. (xs ns : List ℕ) → GoesWith new t p xs ns → AddsIn new last t first next [] xs ns) same push) in
-    goes allocator old table valid p first ys names kept final w fits (set_word old p count) changes (now ∙ is) last next (now ∙ none)
-    (λ xs zs ns more it waiting fits_there. push' xs ns it allocator zs more kept final valid waiting fits_there)
+    goes allocator old table valid p first ys names kept theirs final w fits (set_word old p count) changes (now ∙ is) last next (now ∙ none)
+    (λ xs zs ns more it waiting fits_there. push' xs ns it allocator zs more kept theirs final valid waiting fits_there)
 
 pub returns-then-count-eq0-clause-released : goal.returns-then-count-eq0-clause-released
 returns-then-count-eq0-clause-released g c =

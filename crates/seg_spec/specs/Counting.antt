@@ -1,0 +1,26 @@
+-- The frozen objects of a picture, counted.
+--     cells_in roots           what the shared cells in the values of these roots name
+--     owners_in picture        the roots that are no frozen objects
+--     AreCounted next picture  each frozen object counts the cells that name it; their numbers are below
+--                              next, and don't rise along the list
+--     without_cells gone picture   the picture with what is left of its frozen objects where cells with
+--                              these names go
+use Rattle.std.specs.Prelude.{ℕ, List, [], ◌∷◌, ◌++◌}
+use Rattle.seg_spec.specs.Reads.{Place}
+use Rattle.seg_spec.specs.Index.{Root}
+use Rattle.seg_spec.specs.Sound.{Picture}
+use Rattle.seg_spec.specs.Shared.{names_each, IsCounted, IsFalling, left}
+
+abbrev pub cells_in : List Root → List Place
+cells_in [] = []
+cells_in (r ∷ rs) = names_each r.values ++ cells_in rs
+
+abbrev pub owners_in : Picture → List Root
+owners_in picture = picture.names ++ (picture.uniques ++ picture.loose)
+
+pub record AreCounted (next : ℕ) (picture : Picture) : Type 0 where
+  pub counted : IsCounted next picture.frozen (cells_in (owners_in picture))
+  pub falling : IsFalling picture.frozen
+
+abbrev pub without_cells : List Place → Picture → Picture
+without_cells gone picture = record picture { frozen = left gone picture.frozen }
