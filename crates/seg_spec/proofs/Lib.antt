@@ -71,6 +71,7 @@ pub mod FewBlocks
 pub mod MappedBlocks
 pub mod Resized
 pub mod PartCleared
+pub mod SharedSteps
 pub mod NoSpace
 pub mod Placements
 pub mod AddTypes

@@ -102,6 +102,10 @@ module _ (allocator : ℕ) (old : List ℕ) (table : Table) (place : Place) (v :
           (cases_eq block h);
     }
 
+    pub inner_home : inner_stands.home ≡ block
+    unfolding inner_stands
+    inner_home = refl
+
     -- what calls find there that destroy the value
     pub inner_beside : (theirs : ℕ → List ℕ) (kept : List Place) (now final : List Frozen) → SharedBeside old table (s.home ∷ blocks) (named_in c.value) theirs kept now final
         → SharedBeside old table (block ∷ c.its) (named_in c.value) theirs kept now final
