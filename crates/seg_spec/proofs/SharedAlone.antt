@@ -39,7 +39,7 @@ awaits_shared allocator bytes table first besides names theirs kept now final no
 }
 
 -- no block is an object's
-none_owned : ℕ → List ℕ
+pub none_owned : ℕ → List ℕ
 none_owned p = []
 
 -- a value of types of version 1 names nothing, whichever objects there are
