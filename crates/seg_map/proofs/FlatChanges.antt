@@ -401,10 +401,12 @@ module _ (allocator : ℕ) (old : List ℕ) (table : Table) (cell T U : ℕ) (ke
       place_is clears in
       let closes' = subst (λ t. (us : Values) (bs : List ℕ) → Stands allocator mid t (object_at cell T) (Map keys us) bs → i < count_at mid cell → PlaceBlocks mid t (flat_value mid t cell U i) []
       → ClosesEntry mid new t (object_at cell T) U keys us bs i) same closes in
-      subst (λ o. RemovesKey old new table (object_at cell T) keys vs s.home blocks (KeepsLowerKeys old new table (object_at cell T) key) o true) (sym there)
-      (refl, λ v at theirs kept now final beside.
-          let change = clears' c'.value c'.its stands theirs kept now final (inner_beside allocator old table (object_at cell T) U keys vs blocks f s key i there v at theirs kept now final beside) in
-          takes allocator old table (object_at cell T) U keys vs blocks f s key i there theirs now final beside.owned mid new (default_of table U) change closes')
+      subst (λ o. RemovesKey old new table (object_at cell T) keys vs s.home blocks (KeepsLowerKeys old new table (object_at cell T) key) o true) (sym there) (
+        refl,
+        λ v at theirs kept now final beside.
+            let change = clears' c'.value c'.its stands theirs kept now final (inner_beside allocator old table (object_at cell T) U keys vs blocks f s key i there v at theirs kept now final beside) in
+            takes allocator old table (object_at cell T) U keys vs blocks f s key i there theirs now final beside.owned mid new (default_of table U) change closes',
+      )
     where
       known : (x y : code.Place) → Some x ≡ Some y → x ≡ y
       known x y e = cc

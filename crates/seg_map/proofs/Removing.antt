@@ -18,7 +18,7 @@ use Rattle.seg_spec.specs.Frozen.{Frozen, blocks_by}
 use Rattle.seg_spec.specs.Shared.{named_in}
 use Rattle.seg_spec.specs.Destroying.{KeepFrozen}
 use Rattle.seg_spec.specs.Clearing.{SharedBeside, ClearsPlace}
-use Rattle.seg_spec.proofs.FrozenBlocks.{hold_kept, frozen_twice, frozen_kept}
+use Rattle.seg_spec.proofs.FrozenBlocks.{hold_kept, frozen_twice, frozen_kept, left_fewer}
 use Rattle.seg_spec.proofs.SharedSteps.{shared_still}
 use Rattle.seg_spec.specs.Owning.{Stands}
 use Rattle.seg_spec.specs.Demand.{after_gives}
@@ -33,7 +33,7 @@ use Rattle.seg_spec.proofs.Standing.{same_place, stands_still, still_home, left_
 use Rattle.seg_spec.proofs.Leading.{Leads-kept}
 use Rattle.seg_spec.proofs.Paths.{nth-append}
 use Rattle.seg_spec.proofs.Frame.{each_map, each_weaker, each_both, each_left, each_right, word-same, signed_long-same, SamePlace, Holds-kept, HoldsEach-kept}
-use Rattle.seg_spec.proofs.LiveLaws.{times-append, times-same, times-other, times-more, times-without, there, each_there, LiesIn, live-lie, live-apart, live-once, OneOrApart}
+use Rattle.seg_spec.proofs.LiveLaws.{times-append, times-same, times-more, times-without, there, each_there, LiesIn, live-lie, live-apart, live-once, OneOrApart}
 use Rattle.seg_rbtree.specs.Changes.{StandApart, without_node, Leaves}
 use Rattle.seg_rbtree.proofs.TakingOut.{each_without}
 use Rattle.seg_map.specs.Maps.{TakesKey, value_of}
@@ -548,6 +548,7 @@ module _ (allocator : ℕ) (old : List ℕ) (table : Table) (place : Place) (U :
 
         left_away : (h : ℕ) → 1 ≤ times h left → (1 ≤ times h shared) × (1 ≤ times h (positions (live cleared))) × (h ≢ block_of node)
         left_away h some =
+            let fewer = subst (λ fs. times h (blocks_by theirs fs) ≤ times h shared) beside.releasing.leaves (left_fewer theirs beside.releasing.pending now h) in
             let o = all_fit h in
             let b = shares h in
             let x = stays h in
