@@ -5,6 +5,7 @@ use Rattle.std.proofs.lemmas.Bool.{cases_eq}
 use Rattle.std.proofs.lemmas.Bool.Decides.{nat_tests}
 use Rattle.std.proofs.lemmas.List.{append_assoc, append-nil, length-append}
 use Rattle.seg_spec.specs.Types.{Table}
+use Rattle.seg_spec.specs.Value.{Value, Values, nil, cons}
 use Rattle.seg_spec.specs.Heap.{live}
 use Rattle.seg_spec.specs.Block.{IsOwnable}
 use Rattle.seg_spec.specs.Reads.{Place}
@@ -12,7 +13,7 @@ use Rattle.seg_spec.specs.Index.{Root}
 use Rattle.seg_spec.specs.Frozen.{Frozen, root_of_frozen, blocks_by}
 use Rattle.seg_spec.specs.Sound.{Picture, roots_of, frozen_roots, HoldsRoot, HoldsRoots, holds_no_root, holds_more_roots, IsHeld, times, SameBlocks, positions}
 use Rattle.seg_spec.specs.Roots.{StretchesComeApart}
-use Rattle.seg_spec.specs.Shared.{names_in, names_each, names_of, named_each, times_named, IsBelow, AreDistinct, IsCounted, IsFalling, IsReleasing, kept_with, left, freed_with, freed}
+use Rattle.seg_spec.specs.Shared.{names_in, names_each, names_of, named_in, named_each, times_named, IsBelow, AreDistinct, IsCounted, IsFalling, IsReleasing, kept_with, left, freed_with, freed}
 use Rattle.seg_spec.specs.Releasing.{lowered, let_go}
 use Rattle.seg_spec.specs.Destroying.{HoldFrozen}
 use Rattle.seg_spec.specs.Clearing.{SharedBeside}
@@ -223,6 +224,19 @@ module _ (bytes : List ℕ) (table : Table) where
         blocks_are = ap (λ bs. bs ++ ys) own ∙ ap (λ bs. with_first f.at xs r.theirs f.at ++ bs) (r.blocks_are ∙ blocks_others f.at xs r.theirs fs d.0);
       }
 
+-- ---- what several values name
+
+pub named_more : (v : Value) (vs : Values) → named_each (cons v vs) ≡ named_in v ++ named_each vs
+unfolding named_each
+named_more v vs = refl
+
+pub named_nothing : named_each nil ≡ []
+unfolding named_each
+named_nothing = refl
+
+pub named_one : (v : Value) → named_each (cons v nil) ≡ named_in v
+named_one v = named_more v nil ∙ ap (λ ns. named_in v ++ ns) named_nothing ∙ append-nil (named_in v)
+
 -- ---- a root that goes
 
 pub cells_append : (xs ys : List Root) → cells_in (xs ++ ys) ≡ cells_in xs ++ cells_in ys
@@ -247,6 +261,18 @@ counted_without next picture other before root after split others same c =
       counted = subst (λ cs. IsCounted next (left gone other.frozen) cs) (sym (ap cells_in others)) (subst (λ fs. IsCounted next (left gone fs) (cells_in (before ++ after))) (sym same) again);
       falling = subst (λ fs. IsFalling (left gone fs)) (sym same) (falling_left gone picture.frozen c.falling);
     }
+
+-- and where the root stands elsewhere
+pub counted_elsewhere : (next : ℕ) (picture other : Picture) (before after others_before others_after : List Root) (root : Root) → owners_in picture ≡ before ++ root ∷ after → owners_in other ≡ others_before ++ root ∷ others_after
+    → before ++ after ≡ others_before ++ others_after → other.frozen ≡ picture.frozen → AreCounted next picture → AreCounted next other
+counted_elsewhere next picture other before after others_before others_after root split others same frozen c =
+    let mine = names_each root.values in
+    let apart = counted_apart next picture before root after split c in
+    let moved : IsCounted next picture.frozen (mine ++ (cells_in others_before ++ cells_in others_after)) =
+    subst (λ cs. IsCounted next picture.frozen (mine ++ cs)) (ap cells_in same ∙ cells_append others_before others_after) apart in
+    let all : IsCounted next picture.frozen (cells_in (owners_in other)) =
+    subst (IsCounted next picture.frozen) (sym (ap cells_in others ∙ cells_append others_before (root ∷ others_after))) (counted_first next picture.frozen mine (cells_in others_before) (cells_in others_after) moved) in
+    record { counted = subst (λ fs. IsCounted next fs (cells_in (owners_in other))) (sym frozen) all; falling = subst IsFalling (sym frozen) c.falling }
 
 -- the root among all, with the frozen objects behind
 pub owners_first : (picture : Picture) (before : List Root) (root : Root) (after : List Root) → owners_in picture ≡ before ++ root ∷ after

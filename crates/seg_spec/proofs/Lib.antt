@@ -83,3 +83,4 @@ pub mod RootPaths
 pub mod PathsAfter
 pub mod MoveLaw
 pub mod CountedPictures
+pub mod OwnerGone
