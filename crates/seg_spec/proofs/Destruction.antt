@@ -161,7 +161,7 @@ module _ (allocator : ℕ) (old new : List ℕ) (table : Table) (valid : IsTable
 
 -- ---- blocks join those that wait
 
-pub releasing_same : (kept : List Place) (theirs : ℕ → List ℕ) (final : List Frozen) (ns ms : List ℕ) (now : List Frozen) → SameBlocks ns ms → IsReleasing kept final ns now → IsReleasing kept final ms now
+pub releasing_same : (kept : List Place) (final : List Frozen) (ns ms : List ℕ) (now : List Frozen) → SameBlocks ns ms → IsReleasing kept final ns now → IsReleasing kept final ms now
 releasing_same kept final ns ms now same r =
     record { pending = r.pending; pending_are = λ h. r.pending_are h ∙ same h; next = r.next; counted = r.counted; falling = r.falling; leaves = r.leaves }
 
@@ -316,7 +316,7 @@ no_cell_gone (f ∷ fs) a =
     ap (λ n. kept_with f n (left (names_in f.value) fs) (left [] fs)) whole ∙ ap (λ n. with_count f n ∷ left [] fs) again ∙ ap (λ rs. f ∷ rs) (no_cell_gone fs a.1)
 
 -- where no name is to be released any more, what is left is there
-pub released : (kept : List Place) (theirs : ℕ → List ℕ) (final : List Frozen) (names : List ℕ) (now : List Frozen) → IsReleasing kept final names now → SameBlocks names [] → now ≡ final
+pub released : (kept : List Place) (final : List Frozen) (names : List ℕ) (now : List Frozen) → IsReleasing kept final names now → SameBlocks names [] → now ≡ final
 released kept final names now r none = go r.pending r.pending_are r.leaves
   where
     go : (pending : List Place) → SameBlocks (map (λ q. q.at) pending) names → left pending now ≡ final → now ≡ final

@@ -1,8 +1,8 @@
 -- Frozen objects with the blocks that they own.
-use Rattle.std.proofs.Common.{◌≡◌, ℕ, zero, suc, ◌+◌, ◌-◌, ◌≤◌, List, [], ◌∷◌, ◌++◌, length, refl, subst, arith}
+use Rattle.std.proofs.Common.{◌≡◌, ℕ, zero, suc, ◌+◌, ◌-◌, ◌≤◌, List, [], ◌∷◌, ◌++◌, length, subst, arith}
 use Rattle.std.specs.List.{AllByRecursion}
 use Rattle.seg_spec.specs.Types.{Table, IsTable}
-use Rattle.seg_spec.specs.Heap.{IsHeap, live, units_at, heap_start}
+use Rattle.seg_spec.specs.Heap.{IsHeap, live, heap_start}
 use Rattle.seg_spec.specs.Block.{KeepsBlock}
 use Rattle.seg_spec.specs.Reads.{Place}
 use Rattle.seg_spec.specs.Apart.{KeepsBlockAround}
@@ -16,7 +16,7 @@ use Rattle.seg_spec.proofs.RootFrame.{HoldsRoot-kept}
 
 -- how often a block is one of these objects
 pub times_by : (theirs : ℕ → List ℕ) (fs gs : List Frozen) (h : ℕ) → times h (blocks_by theirs (fs ++ gs)) ≡ times h (blocks_by theirs fs) + times h (blocks_by theirs gs)
-times_by theirs [] gs h = refl
+times_by theirs [] gs h = omega arith
 times_by theirs (f ∷ fs) gs h =
     let rest = times_by theirs fs gs h in
     omega (arith, times-append h (theirs f.at) (blocks_by theirs (fs ++ gs)), times-append h (theirs f.at) (blocks_by theirs fs))
@@ -58,11 +58,12 @@ module _ (allocator : ℕ) (old new : List ℕ) (heap : IsHeap allocator old) (t
 -- what holds of the position of each object holds of those that are left
 pub left_each : (Q : ℕ → Type 0) (gone : List Place) (fs : List Frozen) → AllByRecursion (λ f. Q f.at) fs → AllByRecursion (λ f. Q f.at) (left gone fs)
 left_each Q gone [] a = tt
-left_each Q gone (f ∷ fs) a = go (f.count - times_named f.at gone)
+left_each Q gone (f ∷ fs) a = go (f.count - times_named f.at gone) (left_each Q (gone ++ names_in f.value) fs a.1) (left_each Q gone fs a.1)
   where
-    go : (n : ℕ) → AllByRecursion (λ g. Q g.at) (kept_with f n (left (gone ++ names_in f.value) fs) (left gone fs))
-    go zero = left_each Q (gone ++ names_in f.value) fs a.1
-    go (suc n) = (a.0, left_each Q gone fs a.1)
+    go : (n : ℕ) → AllByRecursion (λ g. Q g.at) (left (gone ++ names_in f.value) fs) → AllByRecursion (λ g. Q g.at) (left gone fs)
+        → AllByRecursion (λ g. Q g.at) (kept_with f n (left (gone ++ names_in f.value) fs) (left gone fs))
+    go zero without with_it = without
+    go (suc n) without with_it = (a.0, with_it)
 
 pub released_each : (Q : ℕ → Type 0) (kept : List Place) (final : List Frozen) (names : List ℕ) (now : List Frozen) → IsReleasing kept final names now → AllByRecursion (λ f. Q f.at) now
     → AllByRecursion (λ f. Q f.at) final
@@ -70,8 +71,9 @@ released_each Q kept final names now r a = subst (AllByRecursion (λ f. Q f.at))
 
 pub left_fewer : (theirs : ℕ → List ℕ) (gone : List Place) (fs : List Frozen) (h : ℕ) → times h (blocks_by theirs (left gone fs)) ≤ times h (blocks_by theirs fs)
 left_fewer theirs gone [] h = omega arith
-left_fewer theirs gone (f ∷ fs) h = go (f.count - times_named f.at gone)
+left_fewer theirs gone (f ∷ fs) h = go (f.count - times_named f.at gone) (left_fewer theirs (gone ++ names_in f.value) fs h) (left_fewer theirs gone fs h)
   where
-    go : (n : ℕ) → times h (blocks_by theirs (kept_with f n (left (gone ++ names_in f.value) fs) (left gone fs))) ≤ times h (theirs f.at ++ blocks_by theirs fs)
-    go zero = omega (arith, left_fewer theirs (gone ++ names_in f.value) fs h, times-append h (theirs f.at) (blocks_by theirs fs))
-    go (suc n) = omega (arith, left_fewer theirs gone fs h, times-append h (theirs f.at) (blocks_by theirs fs), times-append h (theirs f.at) (blocks_by theirs (left gone fs)))
+    go : (n : ℕ) → times h (blocks_by theirs (left (gone ++ names_in f.value) fs)) ≤ times h (blocks_by theirs fs) → times h (blocks_by theirs (left gone fs)) ≤ times h (blocks_by theirs fs)
+        → times h (blocks_by theirs (kept_with f n (left (gone ++ names_in f.value) fs) (left gone fs))) ≤ times h (theirs f.at ++ blocks_by theirs fs)
+    go zero without with_it = omega (arith, without, times-append h (theirs f.at) (blocks_by theirs fs))
+    go (suc n) without with_it = omega (arith, with_it, times-append h (theirs f.at) (blocks_by theirs fs), times-append h (theirs f.at) (blocks_by theirs (left gone fs)))

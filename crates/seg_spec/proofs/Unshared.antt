@@ -1,5 +1,5 @@
 -- Types of version 1 have no shared cells: no value names an object, so all that waits is given back.
-use Rattle.std.proofs.Common.{◌≡◌, ◌≢◌, ℕ, List, [], ◌++◌, map, refl, sym, ap, ◌∙◌, subst, arith}
+use Rattle.std.proofs.Common.{◌≡◌, ◌≢◌, ℕ, List, [], ◌++◌, Some, refl, ap, ◌∙◌, arith}
 use Rattle.seg_spec.specs.Types.{Form, Table, form_at, AreOfVersion}
 use Rattle.seg_spec.specs.Value.{Label, Value, Values}
 use Rattle.seg_spec.specs.Heap.{live}

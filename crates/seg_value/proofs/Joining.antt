@@ -39,7 +39,7 @@ uncoupled_adds old mid new table mid_table first next p xs ns same uncouples pus
 
 -- what owns nothing and names nothing adds nothing
 pub nothing_added : (old : List ℕ) (table : Table) (first : Option ℕ) (beside xs ns : List ℕ) → Nothing xs ns → AddsIn old old table first first beside xs ns
-nothing_added old table first beside xs ns n allocator ys names kept theirs final valid w fits = 
+nothing_added old table first beside xs ns n allocator ys names kept theirs final valid w fits =
     same_adds allocator old table first xs ys ns names kept theirs final n.no_blocks n.no_names w (λ h. omega (arith, fits h, times-append h beside (xs ++ ys), times-append h xs ys))
 
 -- ---- the fields of a struct
