@@ -54,7 +54,7 @@ begun allocator old mid table place v w blocks others spans s c =
     }
 
 module _ (allocator : ℕ) (old mid : List ℕ) (table : Table) (place : Place) (blocks others : List ℕ) (spans : List Span) (l : Leaves allocator old mid table place blocks others spans) where
-  pub ended : (w : Value) → Holds mid table place w others → ChangesPlace old mid table place w others spans blocks others
+  pub ended : {bs : List ℕ} (w : Value) → Holds mid table place w bs → ChangesPlace old mid table place w bs spans blocks others
   ended w h = record {
     length_kept = l.frames.length_kept;
     front_kept = l.frames.front_kept;
