@@ -19,7 +19,8 @@ use Rattle.seg_spec.proofs.WriteInside.{tiles_kept, low_kept, KeptBut, live_kept
 use Rattle.seg_spec.proofs.Composing.{around_kept}
 use Rattle.seg_spec.proofs.Standing.{Frames, frames_twice, stands_after}
 
--- the heap is in order with these live blocks, of which the place owns others than before, and all around is kept
+-- the heap is in order with these live blocks, of which the place, with the frozen objects that go with it, owns others than before, and
+-- all around is kept
 pub record Leaves (allocator : ℕ) (old mid : List ℕ) (table : Table) (place : Place) (blocks others : List ℕ) (spans : List Span) : Type 0 where
   pub allocator_is : word old 16 ≡ allocator
   pub heap : IsHeap allocator mid
