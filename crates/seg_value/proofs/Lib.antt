@@ -12,6 +12,7 @@ pub mod Opening
 pub mod Turns
 pub mod Clearing
 pub mod Setting
+pub mod SetAlone
 pub mod Cutting
 pub mod Pointers
 pub mod Runs
