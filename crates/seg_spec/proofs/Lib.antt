@@ -82,3 +82,5 @@ pub mod PartLaw
 pub mod RootPaths
 pub mod PathsAfter
 pub mod MoveLaw
+pub mod Sharing
+pub mod Raising
