@@ -84,3 +84,5 @@ pub mod PathsAfter
 pub mod MoveLaw
 pub mod CountedPictures
 pub mod OwnerGone
+pub mod Sharing
+pub mod Raising
