@@ -2,7 +2,7 @@
 use Rattle.std.proofs.Common.{◌≡◌, ℕ, suc, ◌+◌, ◌<◌, ℤ, pos, length, List, [], ◌∷◌, Bool, true, false, Option, Some, None, refl, sym, ◌∙◌, ap, subst}
 use Rattle.std.specs.Prelude.{⊤, take, drop, insert, remove, slice_set}
 use Rattle.std.specs.Option.{option_map_or}
-use Rattle.seg_spec.specs.Types.{Form, Table, form_at, size}
+use Rattle.seg_spec.specs.Types.{AreOfVersion, Form, Table, form_at, size}
 use Rattle.seg_spec.specs.Value.{Values, count, Map, default_of, Selector, selected}
 use Rattle.seg_spec.specs.Items.{keys_below, key_place, insert_nth, remove_nth, with_entry, without_entry}
 use Rattle.seg_spec.specs.Index.{Root}
@@ -127,7 +127,7 @@ module _ (allocator : ℕ) (constants : List Constant) (role : Role) (a b c : �
         (grants_asks constants i h.pictured allocator h.allocator_is [] refl new w.table place later t.gives r.its.found.blocks t.others
         (place, r.form, led_to one h i r, blocks_by (Some j) e t.gives (subst (λ (x : Table). PartBlocks w.image x place j t.gives) h.table_is t.part)) t.succeeds))
 
-  pub delete_key_acts : (new : List ℕ) (gone : Bool) → EachMap (λ form U keys vs blocks. Deletes new gone keys vs blocks (key_place keys key))
+  pub delete_key_acts : (new : List ℕ) (gone : Bool) → (AreOfVersion 1 w.table → EachMap (λ form U keys vs blocks. length keys ≡ count vs → Deletes new gone keys vs blocks (key_place keys key)))
       → ActsAs allocator constants role (of Operation.DeleteKey) w (with_number (with_image w new) a (truth gone))
   unfolding rule
   delete_key_acts new gone maps = λ types others first ks good bad s right valid e h.
@@ -139,7 +139,7 @@ module _ (allocator : ℕ) (constants : List Constant) (role : Role) (a b c : �
       let o = gives_both a RegisterType.Int (others_ended r.class b ks) good bad q.2 in
       let t = map_has_value r.form r.what r.is in
       let v = entries_value s.types r.form r.its.value t.0 t.1 r.fits in
-      let d = maps r.form t.0 v.0 v.1 r.its.found.blocks r.form_is t.1 (subst (λ u. Stands allocator w.image w.table place u r.its.found.blocks) v.2 r.its.stands) in
+      let d = maps r.its.of_version r.form t.0 v.0 v.1 r.its.found.blocks r.form_is t.1 (subst (λ u. Stands allocator w.image w.table place u r.its.found.blocks) v.2 r.its.stands) v.4 in
       subst (λ k. Acts others types constants first allocator i success k s w (with_number (with_image w new) a (truth gone))) (sym o.1)
       (deleted one h r t.0 v.0 v.1 v.2 v.3 v.4 v.5 (number_shown others types constants first allocator ks s w h c q.0 q.1) valid.a o.0 new gone (key_place v.0 key) refl d)
 

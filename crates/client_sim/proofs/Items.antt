@@ -2,7 +2,7 @@
 use Rattle.std.proofs.Common.{◌≡◌, inl, inr, ℕ, ◌+◌, ◌-◌, ◌<◌, ◌≤◌, ℤ, pos, length, List, [], ◌∷◌, Bool, true, false, Option, Some, refl, sym, ◌∙◌, ap, subst, arith}
 use Rattle.std.specs.Prelude.{⊤, Ok, take, slice_set, if◌then◌else◌}
 use Rattle.std.specs.Option.{option_map_or}
-use Rattle.seg_spec.specs.Types.{Form, Table, form_at, size}
+use Rattle.seg_spec.specs.Types.{AreOfVersion, Form, Table, form_at, size}
 use Rattle.seg_spec.specs.Value.{Value, Values, nil, cons, count, append, Text, Seq, default_of, Selector, selected}
 use Rattle.seg_spec.specs.Items.{without_last}
 use Rattle.seg_spec.specs.Index.{Root}
@@ -313,7 +313,7 @@ module _ (allocator : ℕ) (constants : List Constant) (role : Role) (a b c : �
   EachList claim = (U : ℕ) (vs : Values) (blocks : List ℕ) → form_at w.table place.type ≡ Some (Form.list U) → Stands allocator w.image w.table place (Seq vs) blocks → claim U vs blocks
 
   pub pop_back_acts : (new : List ℕ) (n : ℕ) → EachText (λ xs blocks. PopsByte allocator w.image new w.table place xs blocks n)
-      → EachItems (λ U vs blocks. PopsItem allocator w.image new w.table place vs (without_last vs) blocks (count_at w.image place.at - 1) n)
+      → (AreOfVersion 1 w.table → EachItems (λ U vs blocks. PopsItem allocator w.image new w.table place vs (without_last vs) blocks (count_at w.image place.at - 1) n))
       → ActsAs allocator constants role (of Operation.PopBack) w (with_number (with_image w new) a (pos n))
   unfolding rule effect
   pop_back_acts new n text items = λ types others first ks good bad s right valid e h.
@@ -339,7 +339,7 @@ module _ (allocator : ℕ) (constants : List Constant) (role : Role) (a b c : �
         | inr is ↦
             let v = items_value s.types r.form r.its.value is.0 is.1 r.fits in
             let stands = subst (λ u. Stands allocator w.image w.table place u r.its.found.blocks) v.1 r.its.stands in
-            let p = items is.0 v.0 r.its.found.blocks (r.form, r.form_is, is.1) stands in
+            let p = items r.its.of_version is.0 v.0 r.its.found.blocks (r.form, r.form_is, is.1) stands in
             let left = without_last v.0 in
             let is_row = row ∙ ap f v.1 ∙ last_popped a r.its.path v.0 s p.some ∙ ap (λ m. give_count a m (put_at s r.its.path (Seq left))) (sym p.n_is) in
             number_acts one h i r (Seq left) (v.3 left (all_without_last s.types is.0 v.0 v.2)) new [] p.gives p.others p.succeeds (pos n) valid.a o.0 is_row
@@ -377,7 +377,7 @@ module _ (allocator : ℕ) (constants : List Constant) (role : Role) (a b c : �
       )
 
   -- the first item went
-  pub pop_front_acts : (new : List ℕ) (n : ℕ) → EachList (λ U vs blocks. (v : Value) × (ws : Values) × (vs ≡ cons v ws) × PopsItem allocator w.image new w.table place vs ws blocks 0 n)
+  pub pop_front_acts : (new : List ℕ) (n : ℕ) → (AreOfVersion 1 w.table → EachList (λ U vs blocks. (v : Value) × (ws : Values) × (vs ≡ cons v ws) × PopsItem allocator w.image new w.table place vs ws blocks 0 n))
       → ActsAs allocator constants role (of Operation.PopFront) w (with_number (with_image w new) a (pos n))
   unfolding rule effect
   pop_front_acts new n items = λ types others first ks good bad s right valid e h.
@@ -388,7 +388,7 @@ module _ (allocator : ℕ) (constants : List Constant) (role : Role) (a b c : �
       let o = opens_then one h r.class b a RegisterType.Int good bad r.rest in
       let is = list_is_item r.form r.what r.is in
       let v = items_value s.types r.form r.its.value r.what is r.fits in
-      let q = items r.what v.0 r.its.found.blocks (r.form_is ∙ ap Some (list_is r.form r.what r.is)) (subst (λ u. Stands allocator w.image w.table place u r.its.found.blocks) v.1 r.its.stands) in
+      let q = items r.its.of_version r.what v.0 r.its.found.blocks (r.form_is ∙ ap Some (list_is r.form r.what r.is)) (subst (λ u. Stands allocator w.image w.table place u r.its.found.blocks) v.1 r.its.stands) in
       let left : Values = q.1 in
       let p = q.3 in
       let n_is : count left ≡ n = (let c = ap count q.2 in let m = p.n_is in omega (arith, c, m)) in

@@ -3,7 +3,7 @@ use Rattle.std.proofs.Common.{◌≡◌, ◌≢◌, ℕ, ℤ, List, [], ◌∷�
 use Rattle.std.specs.Prelude.{not, ◌&&◌, ◌==◌, slice_set}
 use Rattle.std.proofs.lemmas.Bool.{eqb-true, eq-eqb}
 use Rattle.std.proofs.lemmas.List.{length-map}
-use Rattle.seg_spec.specs.Types.{Form, Table, form_at}
+use Rattle.seg_spec.specs.Types.{AreOfVersion, Form, Table, form_at}
 use Rattle.seg_spec.specs.Value.{Value, Full}
 use Rattle.seg_spec.specs.Heap.{live}
 use Rattle.seg_spec.specs.Block.{block_of}
@@ -75,7 +75,7 @@ module _ (allocator : ℕ) (constants : List Constant) (role : Role) (a b c : �
 
   -- what the call makes of an own that stands at register b's place, with the object that stands at that of register c
   abbrev pub PutsOwn : Table → Type 0
-  PutsOwn table =
+  PutsOwn table = AreOfVersion 1 table →
       (U : ℕ) (v x : Value) (blocks inside : List ℕ) → form_at table (place_in w b).type ≡ Some (Form.own U) → (stands : Stands allocator w.image table (place_in w b) v blocks)
       → IsLoose w.image table (record { at = (place_in w c).at; type = U }) x inside → AreLive w.image (stands.home ∷ (blocks ++ block_of (place_in w c).at ∷ inside))
       → ChangesPlace w.image new table (place_in w b) (Full x) (block_of (place_in w c).at ∷ inside) (after_gives (live w.image) blocks) blocks []
@@ -110,7 +110,7 @@ module _ (allocator : ℕ) (constants : List Constant) (role : Role) (a b c : �
       let alive = subst (λ n. AreLive w.image (stands.home ∷ (l.found.blocks ++ block_of n ∷ apart.0))) (sym o.at_is) apart.3 in
       let changes : ChangesPlace w.image new picture_table (place_in w b) (Full o.value) (block_of o.root.at ∷ apart.0) (after_gives (live w.image) l.found.blocks) l.found.blocks [] =
       subst (λ n. ChangesPlace w.image new picture_table (place_in w b) (Full o.value) (block_of n ∷ apart.0) (after_gives (live w.image) l.found.blocks) l.found.blocks []) o.at_is
-      (subst PutsOwn table call r.what l.value o.value l.found.blocks apart.0 form stands loose alive) in
+      (subst PutsOwn table call h.pictured.held.laid_out.of_version r.what l.value o.value l.found.blocks apart.0 form stands loose alive) in
       let moved = put_moves h.pictured l.in_image l.value l.found new (Full o.value) c o.root (block_of o.root.at ∷ apart.0) far o.root_is apart.1 changes in
       let fits : HasShape s.types r.type (Full o.value) =
       value_of_form s.types r.type r.form (Full o.value) r.machine_form ((own_fits s.types r.form r.what r.is).1 o.value (h.as_known.typed.owned c o.value r.what o.register_is)) in

@@ -1,4 +1,4 @@
-ghost use Rattle.std.specs.Prelude.{◌≡◌, true, false, Err, IfOk, IsOkUnless};
+ghost use Rattle.std.specs.Prelude.{◌≡◌, ℕ, ℤ, List, true, false, Err, IfOk, IsOkUnless};
 ghost use Rattle.std.specs.Result.{result_ok};
 ghost use Rattle.seg_spec.specs.Items.{key_place};
 ghost use Rattle.seg_spec.specs.Types.{form_at};
@@ -6,7 +6,8 @@ ghost use Rattle.seg_value.specs.Places.{place_of};
 ghost use Rattle.seg_map.specs.EitherMap.{has_keys, IsMapOf, key_asks, KeepsTreePaths, KeepsKeysBut};
 ghost use Rattle.seg_map.specs.Maps.{FindsValue, PutsKey, RemovesKey, first_of, keys_above};
 ghost use Rattle.seg_image.specs.Images.{segment_of, allocator_of, bytes_in, types_of, ChangesBytes};
-ghost use Rattle.seg_image.specs.Places.{position_of, WhereMap};
+ghost use Rattle.seg_spec.specs.Value.{Values, Map};
+ghost use Rattle.seg_image.specs.Places.{position_of, StandsIn, WhereMap};
 
 use crate::image::{Image, on};
 use crate::places::placed;
@@ -62,13 +63,13 @@ impl<A: Allocator> Image<A> {
         ensures bytes { ChangesBytes self.old self.new }
         ensures other { has_keys (form_at (types_of self.old) map.type_id) ≡ false →
             (result ≡ false) × (bytes_in self.new ≡ bytes_in self.old) }
-        ensures removes { WhereMap self.old map
-            (λ U keys vs blocks. RemovesKey (allocator_of self.old) (bytes_in self.old)
-            (bytes_in self.new) (types_of self.old) (place_of map) keys vs blocks
-            (key_place keys key) result) }
-        ensures keeps { WhereMap self.old map
-            (λ U keys vs blocks. KeepsKeysBut (form_at (types_of self.old) map.type_id)
-            (bytes_in self.old) (bytes_in self.new) (types_of self.old) (place_of map) key) }
+        ensures removes { (U : ℕ) (keys : List ℤ) (vs : Values) (blocks : List ℕ) →
+            IsMapOf (form_at (types_of self.old) map.type_id) U →
+            (s : StandsIn self.old map (Map keys vs) blocks) →
+            RemovesKey (bytes_in self.old) (bytes_in self.new) (types_of self.old) (place_of map)
+            keys vs s.home blocks (KeepsKeysBut (form_at (types_of self.old) map.type_id)
+            (bytes_in self.old) (bytes_in self.new) (types_of self.old) (place_of map) key)
+            (key_place keys key) result }
     {
         on!(self, segment => remove(segment.heap_mut(), map, key))
     }

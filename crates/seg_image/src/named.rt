@@ -1,4 +1,5 @@
 ghost use Rattle.std.specs.Prelude.{◌≡◌, ℕ, ◌<◌, ◌≤◌, false, length, None, Err, IsSomeAnd, IsTrue, IfErr, IfOk, OnOk, MatchOption, MatchResult, slice_get, is_ok};
+ghost use Rattle.seg_spec.specs.Counting.{AreCounted};
 ghost use Rattle.seg_spec.specs.Index.{root_named};
 ghost use Rattle.seg_spec.specs.Sound.{Picture};
 ghost use Rattle.seg_spec.specs.Spending.{object_asks};
@@ -125,8 +126,8 @@ impl<A: Allocator> Image<A> {
         ensures bytes { ChangesBytes self.old self.new }
         ensures tells { (picture : Picture) → IsOpen self.old picture →
             result ≡ is_ok (found_as t (root_named picture.names name.now)) }
-        ensures loses { (picture : Picture) → (s : IsOpen self.old picture) →
-            IsTrue result → LosesNamed (allocator_of self.old) (segment_of self.old)
+        ensures loses { (next : ℕ) (picture : Picture) → (s : IsOpen self.old picture) →
+            AreCounted next picture → IsTrue result → LosesNamed (allocator_of self.old) (segment_of self.old)
             (segment_of self.new) picture s.held.index_blocks name.now t }
         ensures unchanged { result ≡ false → self.new ≡ self.old }
     {

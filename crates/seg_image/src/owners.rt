@@ -3,7 +3,7 @@ ghost use Rattle.seg_spec.specs.Block.{block_of};
 ghost use Rattle.seg_spec.specs.Growing.{Succeeds};
 ghost use Rattle.seg_spec.specs.Owning.{Stands};
 ghost use Rattle.seg_spec.specs.Pointer.{target};
-ghost use Rattle.seg_spec.specs.Types.{Form, form_at};
+ghost use Rattle.seg_spec.specs.Types.{AreOfVersion, Form, form_at};
 ghost use Rattle.seg_spec.specs.Value.{Value, Full, default_of};
 ghost use Rattle.seg_spec.specs.Window.{KeepsHost};
 ghost use Rattle.seg_value.specs.Places.{place_of};
@@ -42,7 +42,8 @@ impl<A: Allocator> Image<A> {
             object_type (form_at (types_of self.old) own.type_id) ≡ Some place.type_id) }
         ensures puts { (U : ℕ) (v : Value) (blocks : List ℕ) →
             form_at (types_of self.old) own.type_id ≡ Some (Form.own U) →
-            StandsIn self.old own v blocks → MatchResult (position_of result)
+            StandsIn self.old own v blocks → AreOfVersion 1 (types_of self.old) →
+            MatchResult (position_of result)
             (λ at. Succeeds (allocator_of self.old) (bytes_in self.old) (bytes_in self.new)
             (types_of self.old) (place_of own) (Full (default_of (types_of self.old) U))
             (one_value (types_of self.old) U) blocks blocks (block_of at ∷ []))
@@ -68,6 +69,7 @@ fn put_new<F: Fit, A: Allocator>(
     ensures puts { (v : Value) (blocks : List ℕ) →
         form_at heap.old.types own.type_id ≡ Some (Form.own object) →
         Stands F.allocator heap.old.window.bytes heap.old.types (place_of own) v blocks →
+        AreOfVersion 1 heap.old.types →
         MatchResult result
         (λ at. Succeeds F.allocator heap.old.window.bytes heap.new.window.bytes heap.old.types
         (place_of own) (Full (default_of heap.old.types object))

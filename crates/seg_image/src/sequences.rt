@@ -8,7 +8,7 @@ ghost use Rattle.seg_spec.specs.Types.{Form, form_at, size};
 ghost use Rattle.seg_spec.specs.Value.{Value, Values, Text, nil, cons, count, append, default_of};
 ghost use Rattle.seg_value.specs.Places.{place_of};
 ghost use Rattle.seg_seq.specs.Kinds.{is_sequence};
-ghost use Rattle.seg_seq.specs.Lists.{HasList, IsNoList, AddsItem, RemovesItem};
+ghost use Rattle.seg_seq.specs.Lists.{HasList, IsNoList, AddsItem, LosesItem};
 ghost use Rattle.seg_seq.specs.Sequences.{HasText, HasItems, item_type, Declines, HasNone, ComesToHold, LacksRoom, Rewrites, push_asks, PushesBack, PopsBack, IsPast, ShowsItem};
 ghost use Rattle.seg_image.specs.Images.{segment_of, allocator_of, bytes_in, types_of, ChangesBytes};
 ghost use Rattle.seg_image.specs.Places.{position_of, is_counted};
@@ -173,17 +173,17 @@ impl<A: Allocator> Image<A> {
             (segment_of self.new) (place_of place) (Text (take (length xs - 1) xs)) [] [] blocks)
             (HasNone (segment_of self.old) (segment_of self.new) (length xs)) }
         ensures vector { (U : ℕ) (vs : Values) (blocks : List ℕ) →
-            HasItems (allocator_of self.old) (segment_of self.old) (place_of place) U vs blocks →
-            MatchResult result
-            (λ done. PopsBack (allocator_of self.old) (segment_of self.old) (segment_of self.new)
-            (place_of place) vs blocks)
+            (it : HasItems (allocator_of self.old) (segment_of self.old) (place_of place) U vs
+            blocks) → MatchResult result
+            (λ done. PopsBack (segment_of self.old) (segment_of self.new) (place_of place) vs
+            it.stands.home blocks)
             (HasNone (segment_of self.old) (segment_of self.new) (count vs)) }
         ensures list { (U : ℕ) (vs : Values) (blocks : List ℕ) →
-            HasList (allocator_of self.old) (segment_of self.old) (place_of place) U vs blocks →
+            (it : HasList (allocator_of self.old) (segment_of self.old) (place_of place) U vs blocks) →
             MatchResult result
-            (λ done. (1 ≤ count vs) × RemovesItem (allocator_of self.old) (bytes_in self.old)
-            (bytes_in self.new) (types_of self.old) (place_of place) (without_last vs) blocks
-            (count vs - 1))
+            (λ done. (1 ≤ count vs) × LosesItem (bytes_in self.old) (bytes_in self.new)
+            (types_of self.old) (place_of place) vs (count vs - 1) (without_last vs)
+            it.stands.home blocks)
             (HasNone (segment_of self.old) (segment_of self.new) (count vs)) }
         ensures other { is_sequence (form_at (types_of self.old) place.type_id) ≡ false →
             Declines Code.OtherType (segment_of self.old) (segment_of self.new) result }
@@ -204,10 +204,10 @@ impl<A: Allocator> Image<A> {
             HasList (allocator_of self.old) (segment_of self.old) (place_of place) U nil blocks →
             Declines Code.Null (segment_of self.old) (segment_of self.new) result }
         ensures popped { (U : ℕ) (v : Value) (vs : Values) (blocks : List ℕ) →
-            HasList (allocator_of self.old) (segment_of self.old) (place_of place) U (cons v vs)
-            blocks →
-            IsOk result × RemovesItem (allocator_of self.old) (bytes_in self.old)
-            (bytes_in self.new) (types_of self.old) (place_of place) vs blocks 0 }
+            (it : HasList (allocator_of self.old) (segment_of self.old) (place_of place) U
+            (cons v vs) blocks) →
+            IsOk result × LosesItem (bytes_in self.old) (bytes_in self.new) (types_of self.old)
+            (place_of place) (cons v vs) 0 vs it.stands.home blocks }
     {
         on!(self, segment => pop_front(segment.heap_mut(), place))
     }

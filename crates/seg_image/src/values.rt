@@ -1,8 +1,7 @@
 ghost use Rattle.std.specs.Prelude.{◌≡◌, ◌≢◌, ℕ, ◌+◌, ◌≤◌, List, [], length, Some, Ok, Err, IsOk, OnOk};
 ghost use Rattle.seg_spec.specs.Bytes.{signed_long, ChangesOnly};
-ghost use Rattle.seg_spec.specs.Demand.{after_gives};
-ghost use Rattle.seg_spec.specs.Heap.{live};
-ghost use Rattle.seg_spec.specs.Roots.{ChangesPlace};
+ghost use Rattle.seg_spec.specs.Clearing.{BesideShared, ClearsPlace};
+ghost use Rattle.seg_spec.specs.Shared.{named_in};
 ghost use Rattle.seg_spec.specs.Types.{Form, form_at};
 ghost use Rattle.seg_spec.specs.Value.{Value, default_of};
 ghost use Rattle.seg_value.specs.Places.{place_of};
@@ -59,13 +58,13 @@ impl<A: Allocator> Image<A> {
         }
     }
 
-    /// Frees all that a value owns, and makes it the default of its type.
+    /// Frees all that a value owns, and the frozen objects that it names last, and makes it the default of its type.
     pub fn clear(&mut self, place: Place)
         ensures bytes { ChangesBytes self.old self.new }
-        ensures cleared { (v : Value) (blocks : List ℕ) → StandsIn self.old place v blocks →
-            ChangesPlace (bytes_in self.old) (bytes_in self.new) (types_of self.old)
-            (place_of place) (default_of (types_of self.old) place.type_id) []
-            (after_gives (live (bytes_in self.old)) blocks) blocks [] }
+        ensures cleared { (v : Value) (blocks : List ℕ) → (s : StandsIn self.old place v blocks) →
+            BesideShared (bytes_in self.old) (types_of self.old) (s.home ∷ blocks) (named_in v)
+            (ClearsPlace (bytes_in self.old) (bytes_in self.new) (types_of self.old)
+            (place_of place) (default_of (types_of self.old) place.type_id) blocks []) }
     {
         on!(self, segment => segment.heap_mut().clear(place))
     }

@@ -83,3 +83,7 @@ pub mod PartLaw
 pub mod RootPaths
 pub mod PathsAfter
 pub mod MoveLaw
+pub mod CountedPictures
+pub mod OwnerGone
+pub mod Sharing
+pub mod Raising

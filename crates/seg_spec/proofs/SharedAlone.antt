@@ -1,7 +1,7 @@
 -- What is found and left where a value is destroyed beside frozen objects; and the same where there are none.
-use Rattle.std.proofs.Common.{◌≡◌, ℕ, ◌≤◌, List, [], ◌∷◌, ◌++◌, Option, None, refl, sym, ap, ◌∙◌, subst, arith}
+use Rattle.std.proofs.Common.{◌≡◌, ℕ, zero, suc, ◌<◌, ◌≤◌, List, [], ◌∷◌, ◌++◌, Option, Some, None, refl, sym, ap, ◌∙◌, subst, arith}
 use Rattle.seg_spec.specs.Types.{Table, IsTable, AreOfVersion}
-use Rattle.seg_spec.specs.Value.{Value, default_of}
+use Rattle.seg_spec.specs.Value.{Label, Value, node, Values, nil, cons, count, nth, default_of}
 use Rattle.seg_spec.specs.Heap.{IsHeap, live}
 use Rattle.seg_spec.specs.Reads.{Place, Holds}
 use Rattle.seg_spec.specs.Demand.{after_gives}
@@ -9,7 +9,7 @@ use Rattle.seg_spec.specs.Roots.{ChangesPlace}
 use Rattle.seg_spec.specs.Growing.{Succeeds}
 use Rattle.seg_spec.specs.Frozen.{Frozen, blocks_by}
 use Rattle.seg_spec.specs.Sound.{times, SameBlocks}
-use Rattle.seg_spec.specs.Shared.{named_in, IsReleasing}
+use Rattle.seg_spec.specs.Shared.{named_in, named_each, IsReleasing}
 use Rattle.seg_spec.specs.Owing.{Waits, none_waits}
 use Rattle.seg_spec.specs.Destroying.{AreLive, Awaits, Frees, Destroys}
 use Rattle.seg_spec.specs.Owning.{Stands}
@@ -42,21 +42,20 @@ awaits_shared allocator bytes table first besides names theirs kept now final no
 pub none_owned : ℕ → List ℕ
 none_owned p = []
 
--- a value of types of version 1 names nothing, whichever objects there are
-pub shared_none : (bytes : List ℕ) (table : Table) (besides : List ℕ) {place : Place} {v : Value} {blocks : List ℕ} (theirs : ℕ → List ℕ) → AreOfVersion 1 table
-    → Holds bytes table place v blocks → AreLive bytes besides → SharedBeside bytes table besides (named_in v) theirs [] [] []
-shared_none bytes table besides theirs version holds_it owned = record {
+-- where nothing is named, no object stands beside these blocks
+alone_with : (bytes : List ℕ) (table : Table) (besides : List ℕ) → AreLive bytes besides → SharedBeside bytes table besides [] none_owned [] [] []
+alone_with bytes table besides owned = record {
   holds = tt;
   ownable = λ h some. absurd (omega arith);
   owned = λ h. omega (arith, owned h, times-append h besides []);
-  releasing = subst (λ ns. IsReleasing [] [] ns []) (sym (names_none bytes table version holds_it)) (record {
+  releasing = record {
     pending = [];
     pending_are = λ h. refl;
     next = 0;
     counted = record { distinct = tt; numbered = tt; named = tt; falling = tt; some = tt; counts = tt };
     falling = tt;
     leaves = refl;
-  });
+  };
 }
 
 -- beside no frozen object the blocks that went are those of the value
@@ -81,7 +80,43 @@ clears_alone old new table place w olds news gone theirs same c =
 -- what holds beside whichever frozen objects, where the types of version 1 have none
 pub alone : (bytes : List ℕ) (table : Table) (besides : List ℕ) {place : Place} {v : Value} {blocks : List ℕ} (claim : (ℕ → List ℕ) → List Frozen → List Frozen → Type 0) → AreOfVersion 1 table
     → Holds bytes table place v blocks → AreLive bytes besides → BesideShared bytes table besides (named_in v) claim → claim none_owned [] []
-alone bytes table besides claim version holds_it owned beside = beside none_owned [] [] [] (shared_none bytes table besides none_owned version holds_it owned)
+alone bytes table besides claim version holds_it owned beside = 
+    beside none_owned [] [] [] (subst (λ ns. SharedBeside bytes table besides ns none_owned [] [] []) (sym (names_none bytes table version holds_it)) (alone_with bytes table besides owned))
+
+-- ---- parts of a value of types of version 1
+
+first_none : (xs ys : List ℕ) → xs ++ ys ≡ [] → xs ≡ []
+first_none [] ys e = refl
+first_none (x ∷ xs) ys e = cc
+
+rest_none : (xs ys : List ℕ) → xs ++ ys ≡ [] → ys ≡ []
+rest_none [] ys e = e
+rest_none (x ∷ xs) ys e = cc
+
+pub nth_below : (vs : Values) (j : ℕ) → j < count vs → (v : Value) × (nth vs j ≡ Some v)
+nth_below nil j below = absurd (omega arith)
+nth_below (cons v vs) zero below = (v, refl)
+nth_below (cons v vs) (suc j) below = nth_below vs j (omega arith)
+
+names_nothing : (vs : Values) (j : ℕ) (v : Value) → named_each vs ≡ [] → nth vs j ≡ Some v → named_in v ≡ []
+unfolding named_in named_each
+names_nothing nil j v none there_is = cc
+names_nothing (cons w vs) zero v none there_is = let same : w ≡ v = cc in subst (λ u. named_in u ≡ []) same (first_none (named_in w) (named_each vs) none)
+names_nothing (cons w vs) (suc j) v none there_is = names_nothing vs j v (rest_none (named_in w) (named_each vs) none) there_is
+
+names_inside : (label : Label) (vs : Values) → named_in (node label vs) ≡ [] → named_each vs ≡ []
+unfolding named_in named_each
+names_inside (Label.shared T p) vs none = cc
+names_inside label vs none = none
+
+-- what holds beside whichever frozen objects where a part goes
+pub part_alone : (bytes : List ℕ) (table : Table) (besides : List ℕ) {place : Place} {label : Label} {vs : Values} {blocks : List ℕ} (j : ℕ) (claim : (ℕ → List ℕ) → List Frozen → List Frozen → Type 0) → AreOfVersion 1 table
+    → Holds bytes table place (node label vs) blocks → AreLive bytes besides → j < count vs → ((v : Value) → nth vs j ≡ Some v → BesideShared bytes table besides (named_in v) claim) → claim none_owned [] []
+part_alone bytes table besides {label = label} {vs = vs} j claim version holds_it owned below beside =
+    let it = nth_below vs j below in
+    let none = names_nothing vs j it.0 (names_inside label vs (names_none bytes table version holds_it)) it.1 in
+    let all = alone_with bytes table besides owned in
+    beside it.0 it.1 none_owned [] [] [] (subst (λ ns. SharedBeside bytes table besides ns none_owned [] [] []) (sym none) all)
 
 -- fewer blocks beside the same frozen objects
 pub shared_fewer : (bytes : List ℕ) (table : Table) (more fewer names : List ℕ) (theirs : ℕ → List ℕ) (kept : List Place) (now final : List Frozen) → ((h : ℕ) → times h fewer ≤ times h more)

@@ -12,6 +12,9 @@ pub mod Opening
 pub mod Turns
 pub mod Clearing
 pub mod Setting
+pub mod SetAlone
+pub mod Pointed
+pub mod SharedCells
 pub mod Cutting
 pub mod Pointers
 pub mod Runs

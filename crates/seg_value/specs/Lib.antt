@@ -8,3 +8,4 @@ pub mod Names
 pub mod Waiting
 pub mod Pointers
 pub mod Nodes
+pub mod Sharing

@@ -15,6 +15,7 @@ mod owner;
 mod pending;
 mod place;
 mod search;
+mod sharing;
 
 pub use cell::{count, load, room, start};
 pub use content::{Content, Shape};

@@ -1,6 +1,7 @@
 use Rattle.std.proofs.Common.{◌∙◌, ap}
 use Rattle.std.specs.Prelude.{slice_index_or}
 use Rattle.seg_value.specs.Stored.{Stored}
+use Rattle.seg_value.proofs.SetAlone.{set_alone}
 use Rattle.client_run.proofs.OwningLaws.{put_does}
 use Rattle.client_run.specs.declared.machine.Machine.{Machine}
 use Rattle.client_run.proofs.machine.Machine.put.Goals as goal
@@ -11,4 +12,5 @@ returns-clause-does g c =
     let gives = c.take-object.ensures.taken in
     put_does g.F.Fit.allocator i c.args.self.now c.take-object.new.self c.args.segment.now c.set_own.new.self (c.set_own.ensures.types ∙ ap (λ (s : Stored). s.types) c.heap_mut.ensures.value)
     c.heap_mut.result.now c.heap_mut.ensures.value c.place.result (c.place.ensures.at ∙ ap (λ (m : Machine). slice_index_or m.positions i.b 0) gives)
-    (c.place.ensures.type_id ∙ ap (λ (m : Machine). slice_index_or m.type_ids i.b 0) gives) c.take-object.result.at c.take-object.ensures.at gives c.set_own.ensures.set
+    (c.place.ensures.type_id ∙ ap (λ (m : Machine). slice_index_or m.type_ids i.b 0) gives) c.take-object.result.at c.take-object.ensures.at gives
+    (λ version. set_alone version c.set_own.ensures.set)
