@@ -16,6 +16,7 @@ pub mod SetAlone
 pub mod Pointed
 pub mod SharedCells
 pub mod Freezing
+pub mod FrozenCells
 pub mod Cutting
 pub mod Pointers
 pub mod Runs

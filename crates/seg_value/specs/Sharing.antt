@@ -114,7 +114,8 @@ pub record Freezes (allocator : ℕ) (old new : List ℕ) (table : Table) (cell 
   pub live_are : (h : ℕ) →
       times h (positions (live new)) + times h (block_of object ∷ gives)
       ≡ times h (positions (live old)) + times h (block_of payload ∷ [])
-  pub kept : (h : ℕ) → 1 ≤ times h (positions (live old)) → h ≢ block_of object →
-      times h (blocks ++ blocks_by theirs now) ≡ 0 →
+  pub kept : (h : ℕ) → 1 ≤ times h (positions (live old)) →
+      times h ((block_of object ∷ inside) ++ (blocks ++ blocks_by theirs now)) ≡ 0 →
       KeepsBlockAround old new cell.at (size table cell.type) h
+  pub inside_kept : AllByRecursion (KeepsBlock old new) inside
   pub shared_kept : KeepFrozen old new theirs (left names now)
