@@ -1,20 +1,17 @@
 -- An object moves to a new block, and is frozen there.
-use Rattle.std.proofs.Common.{◌≡◌, ◌≢◌, ℕ, suc, ◌+◌, ◌-◌, ◌*◌, ◌%◌, ◌^◌, ◌<◌, ◌≤◌, inl, inr, ⊎_elim, List, [], ◌∷◌, ◌++◌, length, Some, None, refl, sym, ap, ◌∙◌, subst, arith, append-nil}
-use Rattle.std.specs.Prelude.{nat_le}
-use Rattle.std.specs.List.{AllByRecursion}
-use Rattle.std.proofs.lemmas.Bool.{cases_eq}
+use Rattle.std.proofs.Common.{◌≡◌, ◌≢◌, ℕ, suc, ◌+◌, ◌-◌, ◌*◌, ◌%◌, ◌^◌, ◌<◌, ◌≤◌, inl, inr, List, [], ◌∷◌, length, None, refl, sym, ap, ◌∙◌, subst, arith, append-nil}
 use Rattle.seg_spec.specs.Bytes.{word, set_word, IsSame, ChangesOnly}
 use Rattle.seg_spec.specs.Header.{free_word, back_start, back_size, index_cell}
 use Rattle.seg_spec.specs.Types.{Table, IsTable, size}
 use Rattle.seg_spec.specs.Value.{Value, Values, nil, cons}
-use Rattle.seg_spec.specs.Heap.{units_at, IsHeap, IsLive, live, link_at, heap_start, Gives}
-use Rattle.seg_spec.specs.Block.{Kind, tag_of, IsBlock, IsInside, KeepsBlock, block_of, payload_size}
+use Rattle.seg_spec.specs.Heap.{IsHeap, IsLive, live, link_at, heap_start, Gives}
+use Rattle.seg_spec.specs.Block.{Kind, tag_of, IsBlock, IsInside, KeepsBlock, block_of}
 use Rattle.seg_spec.specs.Reads.{Place, items, Holds, HoldsEach, holds_none, holds_more}
 use Rattle.seg_spec.specs.Cells.{IsWithin}
 use Rattle.seg_spec.specs.Calls.{IsLoose}
 use Rattle.seg_spec.specs.Sound.{times, positions}
 use Rattle.seg_spec.specs.Demand.{need, after_gives}
-use Rattle.seg_spec.specs.Frozen.{frozen_words, root_of_frozen}
+use Rattle.seg_spec.specs.Frozen.{frozen_words}
 use Rattle.seg_spec.specs.Owning.{StandsBeside}
 use Rattle.seg_spec.specs.Owing.{KeepsLinked}
 use Rattle.seg_spec.proofs.SliceLaws.{IsSame-part}
@@ -26,7 +23,7 @@ use Rattle.seg_spec.proofs.OneRequest.{counts_one}
 use Rattle.seg_spec.proofs.Composing.{kept_twice}
 use Rattle.seg_spec.proofs.KeptLaws.{front_kept}
 use Rattle.seg_spec.proofs.Giving.{given_kept}
-use Rattle.seg_spec.proofs.WriteInside.{low_kept, KeptBut, live_kept_but}
+use Rattle.seg_spec.proofs.WriteInside.{KeptBut, live_kept_but}
 use Rattle.seg_spec.proofs.OwnSteps.{cell_changes}
 use Rattle.seg_spec.proofs.CellOwed.{block_there}
 use Rattle.seg_spec.proofs.Destruction.{heap_written, payload_written}
@@ -316,7 +313,7 @@ all_moved allocator a b c d f table here T object p to number next v inside vali
     let to_then : to ≡ p + 8 = to_is ∙ omega (arith, lies.high, room.high, g.heap.small) in
     let Changes : ℕ → Table → Type 0 = λ x t. IsWithin b object (1 * size t T) → IsWithin b x (1 * size t T) → ChangesOnly b c x (1 * size t T) in
     let Moves : ℕ → Table → Type 0 = λ x t. (n home : ℕ) (vs : Values) (blocks : List ℕ) → IsHeap n b → x % 8 ≡ 0 → IsWithin b object (1 * size t T) → StandsBeside b home x (1 * size t T) blocks → HoldsEach b t (items t object T 1) vs blocks
-        → HoldsEach c t (items t x T 1) vs blocks in
+    → HoldsEach c t (items t x T 1) vs blocks in
     let changes' : Changes (p + 8) table = subst (λ x. Changes x table) to_then (subst (λ t. Changes to t) same changes) in
     let values' : Moves (p + 8) table = subst (λ x. Moves x table) to_then (subst (λ t. Moves to t) same values) in
     let from = from_within allocator a b c d table valid T object p v inside heap loose g in

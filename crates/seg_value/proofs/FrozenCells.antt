@@ -1,5 +1,5 @@
 -- An object became frozen, and a cell comes to name it.
-use Rattle.std.proofs.Common.{◌≡◌, ◌≢◌, ℕ, suc, ◌+◌, ◌-◌, ◌*◌, ◌%◌, ◌^◌, ◌<◌, ◌≤◌, inl, inr, ⊎_elim, true, false, List, [], ◌∷◌, ◌++◌, length, Option, Some, None, eqb, refl, sym, ap, ◌∙◌, subst, arith}
+use Rattle.std.proofs.Common.{◌≡◌, ◌≢◌, ℕ, suc, ◌+◌, ◌-◌, ◌^◌, ◌<◌, ◌≤◌, inl, inr, ⊎_elim, true, false, List, [], ◌∷◌, ◌++◌, length, Some, None, eqb, refl, sym, ap, ◌∙◌, subst, arith}
 use Rattle.std.specs.List.{AllByRecursion}
 use Rattle.std.proofs.lemmas.Bool.{cases_eq}
 use Rattle.std.proofs.lemmas.Bool.Decides.{nat_tests}
@@ -8,16 +8,15 @@ use Rattle.seg_spec.specs.Header.{back_start, back_size, index_cell}
 use Rattle.seg_spec.specs.Pointer.{set_pointer}
 use Rattle.seg_spec.specs.Types.{Form, Table, form_at, size}
 use Rattle.seg_spec.specs.Value.{Label, Value, nil, node}
-use Rattle.seg_spec.specs.Heap.{units_at, IsHeap, live, tag_at, link_at, heap_start}
+use Rattle.seg_spec.specs.Heap.{IsHeap, live, tag_at, link_at, heap_start}
 use Rattle.seg_spec.specs.Block.{Kind, tag_of, IsPayload, IsOwnable, KeepsBlock, block_of, payload_size}
 use Rattle.seg_spec.specs.Apart.{Separate, KeepsBlockAround}
 use Rattle.seg_spec.specs.Reads.{Place}
-use Rattle.seg_spec.specs.Calls.{IsLoose}
 use Rattle.seg_spec.specs.Sound.{HoldsRoot, times, positions}
 use Rattle.seg_spec.specs.Owning.{Stands}
 use Rattle.seg_spec.specs.Demand.{after_gives}
 use Rattle.seg_spec.specs.Frozen.{Frozen, root_of_frozen, blocks_by}
-use Rattle.seg_spec.specs.Shared.{names_in, IsBelow, IsCounted, IsFalling, left, kept_with, times_named}
+use Rattle.seg_spec.specs.Shared.{names_in, IsBelow, left, kept_with, times_named}
 use Rattle.seg_spec.specs.Destroying.{HoldFrozen, KeepFrozen}
 use Rattle.seg_spec.specs.Clearing.{ClearsPlace}
 use Rattle.seg_spec.proofs.SliceLaws.{IsSame-part}
@@ -30,7 +29,7 @@ use Rattle.seg_spec.proofs.Releases.{IsFrozenThere, frozen_there}
 use Rattle.seg_spec.proofs.Sharing.{one_frozen}
 use Rattle.seg_spec.proofs.Raising.{counted_moved}
 use Rattle.seg_spec.proofs.Standing.{each_live_at, live_at, stands_still, still_home}
-use Rattle.seg_value.specs.Sharing.{FrozenBeside, cell_count, next_word, frozen_now, with_blocks, MovesFrozen, Freezes}
+use Rattle.seg_value.specs.Sharing.{FrozenBeside, next_word, frozen_now, with_blocks, MovesFrozen, Freezes}
 use Rattle.seg_value.proofs.SharedCells.{ClearsCell, cell_changed}
 
 -- ---- the blocks of objects, where one more owns some
@@ -183,8 +182,13 @@ module _ (allocator : ℕ) (old mid : List ℕ) (table : Table) (cell : Place) (
   own_mid : 1 ≤ times own (positions (live mid))
   own_mid =
       let free = m.was_free in
-      omega (arith, live_mid (block_of p), times-same (block_of p) [], times-other (block_of p) (block_of object) [] (λ e.
-      let z : times (block_of p) (gone ∷ []) ≡ 1 = subst (λ x. times x (gone ∷ []) ≡ 1) e gone_once in absurd (omega (arith, counts (block_of p)))))
+      omega (
+        arith,
+        live_mid (block_of p),
+        times-same (block_of p) [],
+        times-other (block_of p) (block_of object) [] (λ e.
+            let z : times (block_of p) (gone ∷ []) ≡ 1 = subst (λ x. times x (gone ∷ []) ≡ 1) e gone_once in absurd (omega (arith, counts (block_of p)))),
+      )
 
   lies_mid : (h : ℕ) → 1 ≤ times h (positions (live mid)) → LiesIn mid heap_start (length mid) h
   lies_mid h some = there (LiesIn mid heap_start (length mid)) h (positions (live mid)) (live-lie mid allocator m.heap) some

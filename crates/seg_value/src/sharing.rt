@@ -70,7 +70,7 @@ impl<F: Fit, A: Allocator> Heap<F, A> {
         ensures window { KeepsHost self.old.window self.new.window }
         ensures types { self.new.types ≡ self.old.types }
         ensures used_up { suc (word self.old.window.bytes next_word) ≡ 2 ^ 32 →
-            (result ≡ Err Code.OutOfRange) × (self.new.window ≡ self.old.window) }
+            (result ≡ Err Code.NumbersUsedUp) × (self.new.window ≡ self.old.window) }
         ensures code { suc (word self.old.window.bytes next_word) < 2 ^ 32 →
             IsOkUnless result Code.BadAlloc }
         ensures frozen { (T : ℕ) (v w : Value) (blocks inside : List ℕ)
@@ -91,7 +91,7 @@ impl<F: Fit, A: Allocator> Heap<F, A> {
     {
         let number = self.window.get32(NEXT_NUMBER);
         if number == u32::MAX {
-            return Err(Code::OutOfRange);
+            return Err(Code::NumbersUsedUp);
         }
         let payload = self.move_frozen(self.shared_type(cell.type_id), object, number)?;
         self.clear(cell);

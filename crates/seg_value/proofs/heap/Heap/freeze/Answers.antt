@@ -1,19 +1,18 @@
-use Rattle.std.proofs.Common.{◌≡◌, ◌<◌, ◌+◌, ℕ, suc, length, List, ◌∷◌, [], Some, None, Result, Ok, Err, sym, ap, ◌∙◌, subst}
+use Rattle.std.proofs.Common.{◌≡◌, ◌<◌, ◌+◌, suc, length, ◌∷◌, [], Some, Result, Ok, Err, sym, ap, ◌∙◌, subst}
 use Rattle.std.specs.Prelude.{MatchResult, IsErr}
 use Rattle.std.proofs.lemmas.Bool.{false≢true}
 use Rattle.seg_spec.specs.Bytes.{word, set_word}
 use Rattle.seg_spec.specs.Pointer.{set_pointer}
-use Rattle.seg_spec.specs.Types.{Table, size}
+use Rattle.seg_spec.specs.Types.{size}
 use Rattle.seg_spec.specs.Block.{Kind}
 use Rattle.seg_spec.specs.Calls.{IsLoose, Refuses}
 use Rattle.seg_spec.specs.Demand.{block_for}
 use Rattle.seg_spec.specs.Shared.{names_in}
-use Rattle.seg_spec.specs.Window.{Placement, with_bytes}
+use Rattle.seg_spec.specs.Window.{with_bytes}
 use Rattle.seg_spec.proofs.Placements.{bytes_of}
-use Rattle.seg_raw.specs.declared.code.Code.{Code}
 use Rattle.seg_value.specs.Places.{place_of, object_at}
 use Rattle.seg_value.specs.Stored.{Stored}
-use Rattle.seg_value.specs.Sharing.{next_word, MovesFrozen, Freezes}
+use Rattle.seg_value.specs.Sharing.{next_word, Freezes}
 use Rattle.seg_value.proofs.Clearing.{typed}
 use Rattle.seg_value.proofs.SharedCells.{ClearsCell}
 use Rattle.seg_value.proofs.FrozenCells.{freezes, moved_as}
