@@ -1,7 +1,6 @@
 -- What an image holds after its index came to list a new object, or lists one no more.
 --     laid_out_named      an image whose index lists other names is laid out for these
 --     held_entered        an object beside the image, entered in the index, is one of the image's
---     held_left           where an object's entry and all its blocks went, the image holds the others
 use Rattle.std.proofs.Common.{◌≡◌, ℕ, ◌+◌, ◌≤◌, List, [], ◌∷◌, ◌++◌, length, refl, sym, ap, ◌∙◌, subst, append_assoc, arith}
 use Rattle.std.specs.List.{AllByRecursion}
 use Rattle.seg_spec.specs.Bytes.{word}
@@ -18,7 +17,7 @@ use Rattle.seg_spec.proofs.Frame.{word-same}
 use Rattle.seg_spec.proofs.LiveLaws.{each_there, times-append, live-once}
 use Rattle.seg_spec.proofs.RootFrame.{HoldsRoot-kept, ListsUniques-kept}
 use Rattle.seg_spec.proofs.RootLaws.{roots_come_apart, HoldsRoots-one, IsLaidOut-kept}
-use Rattle.seg_index.specs.Lists.{FindsNamesOf, ChangesNames, EntersName, LeavesName}
+use Rattle.seg_index.specs.Lists.{FindsNamesOf, ChangesNames, EntersName}
 
 -- the picture with other names
 abbrev pub with_names : Picture → List Root → Picture
@@ -111,51 +110,4 @@ module _ (allocator : ℕ) (old mid new : List ℕ) (picture : Picture) (held : 
       let b = times-append h apart.left (its ++ apart.right) in
       let d = times-append h its apart.right in
       let i = times-append h apart.left apart.right in
-      omega arith)
-
--- ---- an object goes
-
-module _ (old mid new : List ℕ) (picture : Picture) (held : IsHeld old picture) (root : Root) (e : LeavesName old mid picture.table picture.names held.index_blocks root)
-    (apart : RootsComeApart old picture held e.before (root ∷ []) (e.after ++ (picture.uniques ++ (picture.loose ++ frozen_roots picture)))) (length_kept : length new ≡ length mid) (front : KeepsFront mid new) (back : KeepsBack mid new)
-    (heap : IsHeap (word mid allocator_word) new) (ownable : AllByRecursion (λ b. IsOwnable new picture.table b.at) (live new))
-    (kept : (h : ℕ) → 1 ≤ times h (positions (live mid)) → times h apart.its ≡ 0 → KeepsBlock mid new h) (counts : (h : ℕ) → times h (positions (live new)) + times h apart.its ≡ times h (positions (live mid))) where
-  were_owned : (h : ℕ) → times h (positions (live old)) ≡ times h held.index_blocks + (times h (apart.left ++ apart.right) + times h apart.its)
-  were_owned h =
-      let a = held.owners h in
-      let b = times-append h held.index_blocks held.root_blocks in
-      let c : times h held.root_blocks ≡ times h (apart.left ++ (apart.its ++ apart.right)) = ap (times h) apart.blocks_are in
-      let d = times-append h apart.left (apart.its ++ apart.right) in
-      let g = times-append h apart.its apart.right in
-      let i = times-append h apart.left apart.right in
-      omega arith
-
-  old_once : (h : ℕ) → times h (positions (live old)) ≤ 1
-  old_once h = live-once old (word old allocator_word) held.laid_out.heap h
-
-  were_mid : (h : ℕ) → times h (positions (live mid)) ≤ 1
-  were_mid h = live-once mid (word old allocator_word) e.changes.heap h
-
-  laid_out_less : IsLaidOut new (with_names picture (e.before ++ e.after)) e.others
-  laid_out_less = IsLaidOut-kept mid new (with_names picture (e.before ++ e.after)) e.others
-      (laid_out_named old mid picture held.index_blocks _ (e.before ++ e.after) e.others held.laid_out e.changes) length_kept front back heap ownable
-      (each_there (KeepsBlock mid new) e.others (λ h some.
-      let l = e.changes.live_are h in
-      let o = were_owned h in
-      let m = were_mid h in
-      kept h (omega arith) (omega arith)))
-
-  left_kept : AllByRecursion (KeepsBlock old new) (apart.left ++ apart.right)
-  left_kept = each_there (KeepsBlock old new) (apart.left ++ apart.right) (λ h some.
-      let o = were_owned h in
-      let n = old_once h in
-      let l = e.changes.live_are h in
-      kept_twice old mid new h (e.changes.kept h (omega arith) (omega arith)) (kept h (omega arith) (omega arith)))
-
-  -- the image holds the other objects
-  pub held_left : IsHeld new (with_names picture (e.before ++ e.after))
-  held_left = apart.becomes new (with_names picture (e.before ++ e.after)) [] e.others [] refl (append_assoc e.before e.after (picture.uniques ++ (picture.loose ++ frozen_roots picture))) laid_out_less left_kept holds_no_root (λ h.
-      let o = were_owned h in
-      let c = counts h in
-      let l = e.changes.live_are h in
-      let a = times-append h e.others (apart.left ++ apart.right) in
       omega arith)

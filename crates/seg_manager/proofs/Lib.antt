@@ -19,3 +19,4 @@ pub mod UniqueCount
 pub mod ObjectAsks
 pub mod ClearedItems
 pub mod NamedLeaves
+pub mod AloneLaws

@@ -1,10 +1,10 @@
 -- An object joins the loose ones of a segment, or leaves them.
-use Rattle.std.proofs.Common.{◌≡◌, ◌≢◌, ℕ, zero, suc, ◌+◌, ◌*◌, ◌<◌, ◌≤◌, ◌⊎◌, inl, inr, List, [], ◌∷◌, ◌++◌, length, Some, None, refl, sym, ap, ◌∙◌, subst, arith, append-nil}
+use Rattle.std.proofs.Common.{◌≡◌, ◌≢◌, ℕ, zero, suc, ◌+◌, ◌*◌, ◌<◌, ◌≤◌, ◌⊎◌, inl, inr, List, [], ◌∷◌, ◌++◌, length, Some, None, refl, sym, ap, ◌∙◌, subst, append_assoc, arith, append-nil}
 use Rattle.std.proofs.lemmas.Bool.{cases_eq}
 use Rattle.std.specs.List.{AllByRecursion}
 use Rattle.seg_spec.specs.Bytes.{word, slice}
 use Rattle.seg_spec.specs.Header.{allocator_word, free_word, KeepsFront}
-use Rattle.seg_spec.specs.Types.{Table, IsTable, size, AreOfVersion}
+use Rattle.seg_spec.specs.Types.{Table, IsTable, size}
 use Rattle.seg_spec.specs.Value.{Value, nil, cons, default_of}
 use Rattle.seg_spec.specs.Heap.{live, IsHeap}
 use Rattle.seg_spec.specs.Block.{Kind, tag_of, IsOwnable, IsBlock, block_of}
@@ -14,16 +14,23 @@ use Rattle.seg_spec.specs.Sound.{Picture, IsPlain, HoldsRoot, HoldsRoots, IsHeld
 use Rattle.seg_spec.specs.Roots.{loose, with_roots}
 use Rattle.seg_spec.specs.Demand.{need}
 use Rattle.seg_spec.specs.Calls.{IsLoose}
-use Rattle.seg_spec.specs.Destroying.{Frees}
+use Rattle.seg_spec.specs.Frozen.{blocks_by}
+use Rattle.seg_spec.specs.Shared.{names_each, named_in, named_each, left}
+use Rattle.seg_spec.specs.Counting.{cells_in, owners_in, AreCounted, without_cells}
+use Rattle.seg_spec.specs.Destroying.{HoldFrozen, Destroys}
+use Rattle.seg_spec.specs.Clearing.{SharedBeside, BesideShared}
 use Rattle.seg_spec.proofs.SliceLaws.{IsSame-part}
-use Rattle.seg_spec.proofs.Frame.{word-same}
+use Rattle.seg_spec.proofs.Frame.{word-same, each_left, each_right}
 use Rattle.seg_spec.proofs.LiveLaws.{times-append, times-same, times-other}
-use Rattle.seg_spec.proofs.Standing.{each_live_at, live_at, ownable_linked}
-use Rattle.seg_spec.proofs.RootLaws.{HoldsRoots-one, HoldsRoots-only}
+use Rattle.seg_spec.proofs.Standing.{each_live_at, live_at}
+use Rattle.seg_spec.proofs.RootLaws.{HoldsRoots-one, HoldsRoots-only, IsLaidOut-loose}
+use Rattle.seg_spec.proofs.CountedPictures.{OwnerBeside, owner_beside, named_one}
+use Rattle.seg_spec.proofs.OwnerGone.{live_given, others_linked, laid_out_without, laid_out_still, held_without}
 use Rattle.seg_value.specs.Contents.{GivesBlock}
 use Rattle.seg_value.specs.Stored.{Stored}
 use Rattle.seg_manager.specs.Segments.{IsSegment, Becomes, new_root, MakesLoose, LosesLoose}
-use Rattle.seg_spec.proofs.LooseRoots.{Trades, its, holds_its, its_live, loose_traded}
+use Rattle.seg_spec.proofs.LooseRoots.{Trades, holds_its, loose_traded, each_joined}
+use Rattle.seg_spec.proofs.LooseRoots as roots
 use Rattle.seg_spec.proofs.OneRequest.{spent_one, counts_one}
 use Rattle.seg_spec.proofs.PlainRoots.{HoldsPlain, plain_of, root_of_plain}
 
@@ -90,14 +97,14 @@ module _ (allocator : ℕ) (old new : Stored) (picture : Picture) (is : IsSegmen
   root = subst (λ t. HoldsRoot b t (new_root old.types [] T 1 at) (block_of at ∷ [])) table_is (one_root b old.types T at (default_of old.types T) [] (rw sized at given.is_block) (rw (Rattle.std.proofs.Common.add-zero at) at given.value))
 
   module _ (before after : List Root) (split : picture.loose ≡ before ++ after) where
-    none_go : HoldsRoots a picture.table [] (its a b picture is.held before [] after split)
+    none_go : HoldsRoots a picture.table [] (roots.its a b picture is.held before [] after split)
     none_go = holds_its a b picture is.held before [] after split
 
     no_blocks : (xs : List ℕ) → HoldsRoots a picture.table [] xs → (h : ℕ) → times h xs ≡ 0
     no_blocks [] h k = refl
     no_blocks (x ∷ xs) h k = elim h [ ]
 
-    trades : Trades a b picture (its a b picture is.held before [] after split) (block_of at ∷ [])
+    trades : Trades a b picture (roots.its a b picture is.held before [] after split) (block_of at ∷ [])
     trades = record {
       length_kept = given.length_kept;
       front_kept = given.front_kept;
@@ -107,7 +114,7 @@ module _ (allocator : ℕ) (old new : Stored) (picture : Picture) (is : IsSegmen
       kept = λ h some none. (given.kept h some).0;
       counts = λ h.
           let c = counts h in
-          let n = no_blocks (its a b picture is.held before [] after split) none_go h in
+          let n = no_blocks (roots.its a b picture is.held before [] after split) none_go h in
           omega arith;
     }
 
@@ -132,19 +139,32 @@ module _ (allocator : ℕ) (old new : Stored) (picture : Picture) (is : IsSegmen
 
 -- ---- it goes
 
-module _ (allocator : ℕ) (old new : Stored) (picture : Picture) (is : IsSegment allocator old picture) (before : List Root) (root : Root) (after : List Root) (split : picture.loose ≡ before ++ root ∷ after)
-    (same : new.types ≡ old.types) where
+module _ (allocator : ℕ) (old new : Stored) (next : ℕ) (picture : Picture) (is : IsSegment allocator old picture) (counted : AreCounted next picture) (before : List Root) (root : Root) (after : List Root)
+    (split : picture.loose ≡ before ++ root ∷ after) (same : new.types ≡ old.types) where
   abbrev a' : List ℕ
   a' = old.window.bytes
 
   abbrev b' : List ℕ
   b' = new.window.bytes
 
+  abbrev cells : List Place
+  cells = names_each root.values
+
+  -- the owners before it
+  abbrev front : List Root
+  front = picture.names ++ (picture.uniques ++ before)
+
+  owners : owners_in picture ≡ front ++ root ∷ after
+  owners = ap (λ ls. picture.names ++ (picture.uniques ++ ls)) split ∙ simp append_assoc
+
+  its : OwnerBeside a' picture is.held front root after
+  its = owner_beside next a' picture is.held front root after owners counted
+
   abbrev blocks : List ℕ
-  blocks = its a' b' picture is.held before (root ∷ []) after split
+  blocks = its.apart.firsts
 
   holds_it : HoldsRoot a' picture.table root blocks
-  holds_it = HoldsRoots-only a' picture.table root blocks (holds_its a' b' picture is.held before (root ∷ []) after split)
+  holds_it = HoldsRoots-only a' picture.table root blocks its.apart.holds_first
 
   middle : (rs : List Root) → AllByRecursion IsPlain (rs ++ root ∷ after) → IsPlain root
   middle [] p = p.0
@@ -181,62 +201,66 @@ module _ (allocator : ℕ) (old new : Stored) (picture : Picture) (is : IsSegmen
       let i = one_value_in root plain.value plain.no_name plain.values_are p in
       record { inside = p.inside; blocks_are = p.blocks_are; block = i.0; holds_value = i.1 }
 
-  loose_value : IsLoose a' old.types (record { at = root.at; type = root.type }) plain.value one.inside
-  loose_value = subst (λ t. IsLoose a' t (record { at = root.at; type = root.type }) plain.value one.inside) (sym is.table_is) (record {
+  loose_value : IsLoose a' picture.table (record { at = root.at; type = root.type }) plain.value one.inside
+  loose_value = record {
     block = one.block;
     holds_it = one.holds_value;
-    owned = λ h. let l = its_live a' b' picture is.held before (root ∷ []) after split h in rw one.blocks_are at l;
-  })
+    owned = λ h. let l : times h blocks ≤ times h (positions (live a')) = omega (arith, its.counts h) in rw one.blocks_are at l;
+  }
 
-  -- where its destruction frees what it owns
-  module _ (frees : (U : ℕ) (v : Value) (inside : List ℕ) → IsTable old.types → AreOfVersion 1 old.types → IsHeap allocator a' → IsLoose a' old.types (record { at = root.at; type = U }) v inside →
-      Frees allocator a' b' (block_of root.at ∷ inside) []) where
-    freed : Frees allocator a' b' blocks []
-    freed = rw one.blocks_are (frees root.type plain.value one.inside (rw is.table_is is.held.laid_out.is_table) (rw is.table_is is.held.laid_out.of_version) (rw is.allocator_is at is.held.laid_out.heap) loose_value)
+  -- what its destruction leaves beside the frozen objects
+  abbrev Leaves : Table → Type 0
+  Leaves table = (U : ℕ) (v : Value) (inside : List ℕ) → IsTable table → IsHeap allocator a' → IsLoose a' table (record { at = root.at; type = U }) v inside
+      → BesideShared a' table (block_of root.at ∷ inside) (named_in v) (λ theirs now. Destroys allocator a' b' table ((block_of root.at ∷ inside) ++ blocks_by theirs now) theirs)
 
-    none_but : (h : ℕ) → times h blocks ≡ 0 → times h (blocks ++ []) ≡ 0
-    none_but h none = omega (arith, none, times-append h blocks [])
+  module _ (leaves : Leaves old.types) where
+    beside : SharedBeside a' picture.table (block_of root.at ∷ one.inside) (named_in plain.value) its.theirs (cells_in (front ++ after)) picture.frozen (left cells picture.frozen)
+    beside =
+        subst (λ ns. SharedBeside a' picture.table (block_of root.at ∷ one.inside) ns its.theirs (cells_in (front ++ after)) picture.frozen (left cells picture.frozen)) (ap named_each plain.values_are ∙ named_one plain.value)
+        (subst (λ bs. SharedBeside a' picture.table bs (named_each root.values) its.theirs (cells_in (front ++ after)) picture.frozen (left cells picture.frozen)) one.blocks_are its.beside)
 
-    still : (h : ℕ) → 1 ≤ times h (positions (live b')) → (1 ≤ times h (positions (live a'))) × (times h blocks ≡ 0)
-    still h some =
-        let c = freed.live_are h in
-        let once = Rattle.seg_spec.proofs.LiveLaws.live-once a' allocator (rw is.allocator_is at is.held.laid_out.heap) h in
-        (omega arith, omega arith)
+    heap : IsHeap allocator a'
+    heap = subst (λ n. IsHeap n a') is.allocator_is is.held.laid_out.heap
 
-    ownable_then : (h : ℕ) → 1 ≤ times h (positions (live b')) → IsOwnable b' picture.table h
-    ownable_then h some =
-        let s = still h some in
-        ownable_linked a' b' picture.table h (freed.kept h s.0 (none_but h s.1)) (live_at (IsOwnable a' picture.table) (live a') h is.held.laid_out.blocks s.0)
+    destroyed : Destroys allocator a' b' picture.table (blocks ++ blocks_by its.theirs picture.frozen) its.theirs (left cells picture.frozen)
+    destroyed =
+        subst (λ bs. Destroys allocator a' b' picture.table (bs ++ blocks_by its.theirs picture.frozen) its.theirs (left cells picture.frozen)) (sym one.blocks_are)
+        (subst Leaves is.table_is leaves root.type plain.value one.inside is.held.laid_out.is_table heap loose_value its.theirs (cells_in (front ++ after)) picture.frozen (left cells picture.frozen) beside)
 
-    trades' : Trades a' b' picture blocks []
-    trades' = record {
-      length_kept = freed.length_kept;
-      front_kept = freed.front_kept;
-      back_kept = freed.back_kept;
-      heap = rw is.allocator_is freed.heap;
-      ownable = each_live_at (IsOwnable b' picture.table) (live b') ownable_then;
-      kept = λ h some none. (freed.kept h some (none_but h none)).whole.kept;
-      counts = λ h. let c = freed.live_are h in omega arith;
-    }
+    destroyed_so : Destroys (word a' allocator_word) a' b' picture.table (blocks ++ blocks_by its.theirs picture.frozen) its.theirs (left cells picture.frozen)
+    destroyed_so = subst (λ n. Destroys n a' b' picture.table (blocks ++ blocks_by its.theirs picture.frozen) its.theirs (left cells picture.frozen)) (sym is.allocator_is) destroyed
+
+    plain_left : AllByRecursion IsPlain (before ++ after)
+    plain_left =
+        let ls = subst (AllByRecursion IsPlain) split (each_right IsPlain picture.uniques picture.loose is.held.laid_out.plain) in
+        each_joined IsPlain before after (each_left IsPlain before (root ∷ after) ls) (each_right IsPlain before (root ∷ after) ls).1
+
+    held_then : IsHeld b' (without_cells cells (with_roots picture loose (before ++ after)))
+    held_then = held_without a' b' picture is.held front root after its destroyed_so (with_roots picture loose (before ++ after)) refl (simp append_assoc) refl
+        (laid_out_without b' (with_roots picture loose (before ++ after)) is.held.index_blocks cells
+        (IsLaidOut-loose b' picture is.held.index_blocks (before ++ after) plain_left (laid_out_still a' b' picture is.held front root after its destroyed_so)))
 
     pub lost : LosesLoose allocator old new picture before root after
     lost = record {
       blocks = blocks;
-      holds_it = rw is.table_is holds_it;
+      holds_it = subst (λ t. HoldsRoot a' t root blocks) (sym is.table_is) holds_it;
+      theirs = its.theirs;
+      holds_shared = subst (λ t. HoldFrozen a' t its.theirs picture.frozen) (sym is.table_is) its.beside.holds;
       becomes = record {
         segment = record {
-          held = loose_traded a' b' picture is.held before (root ∷ []) after split [] [] trades' Rattle.seg_spec.specs.Sound.holds_no_root tt;
+          held = held_then;
           table_is = same ∙ is.table_is;
-          allocator_is = allocator_same a' b' freed.front_kept ∙ is.allocator_is;
+          allocator_is = allocator_same a' b' destroyed.frees.front_kept ∙ is.allocator_is;
         };
-        length_kept = freed.length_kept;
-        front_kept = freed.front_kept;
-        kept = λ h some none. (freed.kept h some (none_but h none)).whole.kept;
+        length_kept = destroyed.frees.length_kept;
+        front_kept = destroyed.frees.front_kept;
+        kept = λ h some none. (others_linked allocator a' b' picture.table blocks its.theirs cells picture.frozen heap is.held.laid_out.blocks destroyed h some none).whole.kept;
       };
-      live_is = freed.live_is;
+      shared_kept = destroyed.shared_kept;
+      live_is = live_given allocator a' b' picture.table blocks its.theirs cells picture.frozen heap is.held.laid_out.blocks destroyed;
     }
 
-    -- what goes was live, each block once
-    pub lost_owned : (h : ℕ) → times h lost.blocks ≤ times h (positions (live a'))
+    -- what was found was live, each block once
+    pub lost_owned : (h : ℕ) → times h lost.blocks + times h (blocks_by lost.theirs picture.frozen) ≤ times h (positions (live a'))
     unfolding lost
-    lost_owned h = its_live a' b' picture is.held before (root ∷ []) after split h
+    lost_owned h = omega (arith, its.counts h)

@@ -1,30 +1,39 @@
 -- A named object goes: its entry leaves the index, then its blocks are given back.
-use Rattle.std.proofs.Common.{◌≡◌, ◌≢◌, ℕ, ◌+◌, ◌≤◌, ◌⊎◌, inl, inr, true, false, List, [], ◌∷◌, ◌++◌, Option, Some, None, Ok, Err, is_ok, eqb, refl, sym, ap, ◌∙◌, subst, append_assoc, arith}
+use Rattle.std.proofs.Common.{◌≡◌, ◌≢◌, ℕ, ◌+◌, ◌≤◌, ◌⊎◌, inl, inr, true, false, List, [], ◌∷◌, ◌++◌, map, Option, Some, None, Ok, Err, is_ok, eqb, refl, sym, ap, ◌∙◌, subst, append_assoc, arith}
 use Rattle.std.proofs.lemmas.Bool.Decides.{nat_tests}
 use Rattle.std.proofs.lemmas.Bool.{cases_eq}
-use Rattle.std.specs.List.{AllByRecursion}
 use Rattle.seg_spec.specs.Bytes.{word}
 use Rattle.seg_spec.specs.Header.{allocator_word}
+use Rattle.seg_spec.specs.Types.{Table}
 use Rattle.seg_spec.specs.Heap.{IsHeap, live}
-use Rattle.seg_spec.specs.Block.{KeepsBlock}
+use Rattle.seg_spec.specs.Block.{KeepsBlock, IsOwnable}
+use Rattle.seg_spec.specs.Reads.{Place}
 use Rattle.seg_spec.specs.Index.{Root, root_named, AreEntries}
-use Rattle.seg_spec.specs.Sound.{Picture, HoldsRoot, IsHeld, times, positions, frozen_roots}
-use Rattle.seg_spec.specs.Roots.{RootsComeApart}
+use Rattle.seg_spec.specs.Frozen.{Frozen, root_of_frozen, blocks_by}
+use Rattle.seg_spec.specs.Sound.{Picture, HoldsRoot, holds_no_root, IsLaidOut, IsHeld, times, positions}
 use Rattle.seg_spec.specs.Demand.{after_gives}
 use Rattle.seg_spec.specs.Spending.{killed}
+use Rattle.seg_spec.specs.Shared.{names_each, named_each, left, freed}
+use Rattle.seg_spec.specs.Counting.{cells_in, owners_in, AreCounted, without_cells}
+use Rattle.seg_spec.specs.Destroying.{HoldFrozen, Destroys}
+use Rattle.seg_spec.specs.Clearing.{SharedBeside}
 use Rattle.seg_spec.proofs.LiveLaws.{each_there, times-append, live-once}
 use Rattle.seg_spec.proofs.RootFrame.{HoldsRoot-kept}
-use Rattle.seg_spec.proofs.RootLaws.{roots_come_apart, HoldsRoots-only}
+use Rattle.seg_spec.proofs.RootLaws.{HoldsRoots-only, IsLaidOut-kept}
+use Rattle.seg_spec.proofs.Standing.{live_at}
 use Rattle.seg_spec.proofs.Composing.{kept_twice}
 use Rattle.seg_spec.proofs.GiveOrder.{in_any_order}
+use Rattle.seg_spec.proofs.FrozenBlocks.{hold_kept, frozen_twice, frozen_kept, left_fewer}
+use Rattle.seg_spec.proofs.CountedPictures.{roots_held, OwnerBeside, owner_beside}
+use Rattle.seg_spec.proofs.OwnerGone.{live_given, live_counts, others_linked, ownable_after, laid_out_without, owners_left}
 use Rattle.seg_raw.specs.declared.code.Code.TheVariants as code
 use Rattle.seg_value.specs.Stored.{Stored}
 use Rattle.seg_index.specs.Lists.{LeavesName}
-use Rattle.seg_index.proofs.HeldChanges.{with_names, held_left}
+use Rattle.seg_index.proofs.HeldChanges.{with_names, laid_out_named}
 use Rattle.seg_manager.specs.declared.names.Found.{Found}
 use Rattle.seg_manager.specs.NamedObjects.{found_of, found_as}
 use Rattle.seg_manager.specs.Segments.{IsSegment}
-use Rattle.seg_manager.specs.LeavingNamed.{IsUnlisted, GivesBack, LosesNamed}
+use Rattle.seg_manager.specs.LeavingNamed.{IsUnlisted, LosesNamed}
 use Rattle.seg_manager.proofs.LooseObjects.{allocator_same}
 use Rattle.seg_manager.proofs.ClearedItems.{gives_append}
 
@@ -68,7 +77,7 @@ nothing_before bytes (entry ∷ entries) [] root after h = h.0.no_words
 nothing_before bytes [] (r ∷ before) root after h = absurd h
 nothing_before bytes (entry ∷ entries) (r ∷ before) root after h = nothing_before bytes entries before root after h.1
 
-module _ (allocator : ℕ) (old mid : Stored) (picture : Picture) (is : IsSegment allocator old picture) (root : Root)
+module _ (allocator : ℕ) (old mid : Stored) (next : ℕ) (picture : Picture) (is : IsSegment allocator old picture) (counted : AreCounted next picture) (root : Root)
     (e : LeavesName old.window.bytes mid.window.bytes picture.table picture.names is.held.index_blocks root) where
   abbrev a : List ℕ
   a = old.window.bytes
@@ -76,59 +85,106 @@ module _ (allocator : ℕ) (old mid : Stored) (picture : Picture) (is : IsSegmen
   abbrev b : List ℕ
   b = mid.window.bytes
 
-  abbrev rest : List Root
-  rest = picture.uniques ++ (picture.loose ++ frozen_roots picture)
+  abbrev table : Table
+  table = picture.table
 
-  apart : RootsComeApart a picture is.held e.before (root ∷ []) (e.after ++ rest)
-  apart = roots_come_apart a picture is.held e.before (root ∷ []) (e.after ++ rest) (ap (λ ns. ns ++ rest) e.names_are ∙ append_assoc e.before (root ∷ e.after) rest)
+  abbrev pub cells : List Place
+  cells = names_each root.values
 
-  -- the object's blocks
-  pub its : List ℕ
-  its = apart.its
+  -- the owners after it
+  abbrev pub behind : List Root
+  behind = e.after ++ (picture.uniques ++ picture.loose)
 
-  holds_old : HoldsRoot a picture.table root its
-  unfolding its
-  holds_old = HoldsRoots-only a picture.table root apart.its apart.holds_them
+  owners : owners_in picture ≡ e.before ++ root ∷ behind
+  owners = ap (λ ns. ns ++ (picture.uniques ++ picture.loose)) e.names_are ∙ append_assoc e.before (root ∷ e.after) (picture.uniques ++ picture.loose)
 
-  were_owned : (h : ℕ) → times h (positions (live a)) ≡ times h is.held.index_blocks + (times h apart.left + times h its + times h apart.right)
-  unfolding its
-  were_owned h =
-      let o = is.held.owners h in
-      let n0 = times-append h is.held.index_blocks is.held.root_blocks in
-      let n1 : times h is.held.root_blocks ≡ times h (apart.left ++ (apart.its ++ apart.right)) = ap (times h) apart.blocks_are in
-      let n2 = times-append h apart.left (apart.its ++ apart.right) in
-      let n3 = times-append h apart.its apart.right in
-      omega arith
+  pub first : OwnerBeside a picture is.held e.before root behind
+  first = owner_beside next a picture is.held e.before root behind owners counted
+
+  -- the object's blocks, and those of the frozen objects
+  abbrev pub its : List ℕ
+  its = first.apart.firsts
+
+  abbrev theirs : List ℕ
+  theirs = blocks_by first.theirs picture.frozen
+
+  holds_old : HoldsRoot a table root its
+  holds_old = HoldsRoots-only a table root its first.apart.holds_first
+
+  heap_old : IsHeap allocator a
+  heap_old = subst (λ n. IsHeap n a) is.allocator_is is.held.laid_out.heap
+
+  heap_mid : IsHeap allocator b
+  heap_mid = subst (λ n. IsHeap n b) is.allocator_is e.changes.heap
 
   old_once : (h : ℕ) → times h (positions (live a)) ≤ 1
-  old_once h = live-once a (word a allocator_word) is.held.laid_out.heap h
+  old_once h = live-once a allocator heap_old h
+
+  mid_once : (h : ℕ) → times h (positions (live b)) ≤ 1
+  mid_once h = live-once b allocator heap_mid h
 
   mid_are : (h : ℕ) → times h (positions (live b)) + times h is.held.index_blocks ≡ times h (positions (live a)) + times h e.others
   mid_are h = e.changes.live_are h
 
-  its_kept : AllByRecursion (KeepsBlock a b) its
-  its_kept = each_there (KeepsBlock a b) its (λ h some. e.changes.kept h (omega (arith, were_owned h)) (omega (arith, were_owned h, old_once h)))
+  -- what isn't the index's is kept
+  kept_mid : (h : ℕ) → 1 ≤ times h first.apart.around + times h its + times h theirs → KeepsBlock a b h
+  kept_mid h some = e.changes.kept h (omega (arith, first.counts h)) (omega (arith, first.counts h, old_once h))
 
   -- the object is beside the index then
-  pub unlisted : IsUnlisted allocator b picture.table root its
+  pub unlisted : IsUnlisted allocator b table root its
   unlisted = record {
-    heap = subst (λ n. IsHeap n b) is.allocator_is e.changes.heap;
+    heap = heap_mid;
     allocator_is = allocator_same a b e.changes.front_kept ∙ is.allocator_is;
     is_table = is.held.laid_out.is_table;
-    of_version = is.held.laid_out.of_version;
     ownable = e.changes.ownable;
-    holds_it = HoldsRoot-kept a b picture.table is.held.laid_out.is_table root its its_kept holds_old;
+    holds_it = HoldsRoot-kept a b table is.held.laid_out.is_table root its (each_there (KeepsBlock a b) its (λ h some. kept_mid h (omega arith))) holds_old;
     no_words = nothing_before a is.held.laid_out.names.index.entries e.before root e.after (subst (AreEntries a is.held.laid_out.names.index.entries) e.names_are is.held.laid_out.names.entries);
-    owned = λ h. omega (arith, were_owned h, mid_are h);
+    owned = λ h. omega (arith, first.counts h, mid_are h);
   }
 
-  module _ (new : Stored) (same : new.types ≡ old.types) (g : GivesBack allocator b new.window.bytes picture.table its) where
+  -- and beside the frozen objects
+  pub beside : SharedBeside b table its (named_each root.values) first.theirs (cells_in (e.before ++ behind)) picture.frozen (left cells picture.frozen)
+  beside = record {
+    holds = hold_kept a b table is.held.laid_out.is_table first.theirs picture.frozen (λ h some. kept_mid h (omega arith)) first.beside.holds;
+    ownable = λ h some. live_at (IsOwnable b table) (live b) h e.changes.ownable (omega (arith, first.counts h, mid_are h));
+    owned = λ h. omega (arith, first.counts h, mid_are h, times-append h its theirs);
+    releasing = first.beside.releasing;
+  }
+
+  module _ (new : Stored) (same : new.types ≡ old.types) (g : Destroys allocator b new.window.bytes table (its ++ blocks_by first.theirs picture.frozen) first.theirs (left cells picture.frozen)) where
     abbrev c : List ℕ
     c = new.window.bytes
 
-    held_then : IsHeld c (with_names picture (e.before ++ e.after))
-    unfolding its
-    held_then = held_left a b c picture is.held root e apart g.length_kept g.front_kept g.back_kept (subst (λ n. IsHeap n c) (sym unlisted.allocator_is) g.heap) g.ownable g.kept g.live_are
+    abbrev rest : List Frozen
+    rest = left cells picture.frozen
+
+    abbrev went : List ℕ
+    went = blocks_by first.theirs (freed cells picture.frozen)
+
+    abbrev others : Picture
+    others = with_names picture (e.before ++ e.after)
+
+    then_are : (h : ℕ) → times h (positions (live c)) + (times h its + times h theirs) ≡ times h (positions (live b)) + times h (blocks_by first.theirs rest)
+    then_are h = live_counts allocator b c table its first.theirs cells picture.frozen heap_mid e.changes.ownable g h
+
+    kept_then : (h : ℕ) → 1 ≤ times h (positions (live b)) → times h its + times h theirs ≡ 0 → KeepsBlock b c h
+    kept_then h some none = (others_linked allocator b c table its first.theirs cells picture.frozen heap_mid e.changes.ownable g h some (omega (arith, none, times-append h its theirs))).whole.kept
+
+    laid_out : IsLaidOut c others e.others
+    laid_out = IsLaidOut-kept b c others e.others (laid_out_named a b picture is.held.index_blocks _ (e.before ++ e.after) e.others is.held.laid_out e.changes) g.frees.length_kept g.frees.front_kept g.frees.back_kept
+        (subst (λ n. IsHeap n c) (sym unlisted_allocator) g.frees.heap) (ownable_after allocator b c table its first.theirs cells picture.frozen heap_mid e.changes.ownable g)
+        (each_there (KeepsBlock b c) e.others (λ h some. kept_then h (omega (arith, first.counts h, mid_are h)) (omega (arith, first.counts h, mid_are h, mid_once h))))
+      where
+        unlisted_allocator : word b allocator_word ≡ allocator
+        unlisted_allocator = allocator_same a b e.changes.front_kept ∙ is.allocator_is
+
+    held_then : IsHeld c (without_cells cells others)
+    held_then = first.apart.becomes c (without_cells cells others) [] (map root_of_frozen rest) e.others [] (blocks_by first.theirs rest) refl
+        (owners_left others e.before behind cells picture.frozen (append_assoc e.before e.after (picture.uniques ++ picture.loose)) refl) (laid_out_without c others e.others cells laid_out)
+        (each_there (KeepsBlock a c) first.apart.around (λ h some.
+        kept_twice a b c h (kept_mid h (omega arith)) (kept_then h (omega (arith, first.counts h, mid_are h)) (omega (arith, first.counts h, old_once h)))))
+        holds_no_root (roots_held c table first.theirs rest g.holds) (λ h.
+        omega (arith, first.counts h, mid_are h, then_are h, times-append h e.others (first.apart.around ++ blocks_by first.theirs rest), times-append h first.apart.around (blocks_by first.theirs rest)))
 
     pub lost : (name : List ℕ) (T : ℕ) → killed (root_named picture.names name) T ≡ Some root → LosesNamed allocator old new picture is.held.index_blocks name T
     lost name T root_is = record {
@@ -141,19 +197,29 @@ module _ (allocator : ℕ) (old mid : Stored) (picture : Picture) (is : IsSegmen
       entries = e.gives;
       holds_it = subst (λ t. HoldsRoot a t root its) (sym is.table_is) holds_old;
       entry = e.entry;
+      theirs = first.theirs;
+      holds_shared = subst (λ t. HoldFrozen a t first.theirs picture.frozen) (sym is.table_is) first.beside.holds;
       becomes = record {
         segment = record {
           held = held_then;
           table_is = same ∙ is.table_is;
-          allocator_is = allocator_same b c g.front_kept ∙ unlisted.allocator_is;
+          allocator_is = allocator_same b c g.frees.front_kept ∙ allocator_same a b e.changes.front_kept ∙ is.allocator_is;
         };
-        length_kept = g.length_kept ∙ e.changes.length_kept;
-        front_kept = g.front_kept ∙ e.changes.front_kept;
+        length_kept = g.frees.length_kept ∙ e.changes.length_kept;
+        front_kept = g.frees.front_kept ∙ e.changes.front_kept;
         kept = λ h some none.
-            let n = times-append h its is.held.index_blocks in
-            let m = mid_are h in
-            kept_twice a b c h (e.changes.kept h some (omega arith)) (g.kept h (omega arith) (omega arith));
+            let n = times-append h (its ++ is.held.index_blocks) theirs in
+            let m = times-append h its is.held.index_blocks in
+            let i = mid_are h in
+            kept_twice a b c h (e.changes.kept h some (omega arith)) (kept_then h (omega arith) (omega arith));
       };
-      live_is = g.live_is ∙ ap (λ bs. after_gives bs its) e.changes.live_is ∙ sym (gives_append (live a) e.gives its)
-          ∙ in_any_order (live a) (e.gives ++ its) (its ++ e.gives) (λ h. let x = times-append h e.gives its in let y = times-append h its e.gives in omega arith);
+      shared_kept = frozen_twice a b c first.theirs rest
+          (frozen_kept allocator a b heap_old first.theirs rest (λ h some. omega (arith, left_fewer first.theirs cells picture.frozen h, first.counts h)) (λ h some. kept_mid h (omega (arith, left_fewer first.theirs cells picture.frozen h)))) g.shared_kept;
+      live_is = live_given allocator b c table its first.theirs cells picture.frozen heap_mid e.changes.ownable g ∙ ap (λ bs. after_gives bs (its ++ went)) e.changes.live_is ∙ sym (gives_append (live a) e.gives (its ++ went))
+          ∙ in_any_order (live a) (e.gives ++ (its ++ went)) ((its ++ e.gives) ++ went) (λ h.
+          let x = times-append h e.gives (its ++ went) in
+          let y = times-append h its went in
+          let z = times-append h (its ++ e.gives) went in
+          let w = times-append h its e.gives in
+          omega arith);
     }

@@ -1,10 +1,10 @@
 -- A unique object of a segment is made or found, or it goes.
-use Rattle.std.proofs.Common.{◌≡◌, ◌≢◌, ℕ, ◌+◌, ◌*◌, ◌<◌, ◌≤◌, ◌^◌, List, [], ◌∷◌, ◌++◌, length, Option, Some, None, option_map, refl, sym, ap, ◌∙◌, subst, arith}
+use Rattle.std.proofs.Common.{◌≡◌, ◌≢◌, ℕ, ◌+◌, ◌*◌, ◌<◌, ◌≤◌, ◌^◌, List, [], ◌∷◌, ◌++◌, length, Option, Some, None, option_map, refl, sym, ap, ◌∙◌, subst, append_assoc, arith}
 use Rattle.std.specs.List.{AllByRecursion}
 use Rattle.seg_spec.specs.Bytes.{word, ChangesOnly}
 use Rattle.seg_spec.specs.Header.{allocator_word, free_word, heap_start}
 use Rattle.seg_spec.specs.Pointer.{target, set_pointer}
-use Rattle.seg_spec.specs.Types.{IsTable, AreOfVersion}
+use Rattle.seg_spec.specs.Types.{IsTable}
 use Rattle.seg_spec.specs.Value.{Value}
 use Rattle.seg_spec.specs.Heap.{live, IsHeap}
 use Rattle.seg_spec.specs.Block.{KeepsBlock, block_of}
@@ -13,7 +13,13 @@ use Rattle.seg_spec.specs.Sound.{Picture, HoldsRoot, IsHeld, times, positions, I
 use Rattle.seg_spec.specs.Roots.{loose, with_roots}
 use Rattle.seg_spec.specs.Calls.{IsLoose}
 use Rattle.seg_spec.specs.Demand.{after_gives}
-use Rattle.seg_spec.specs.Destroying.{Frees}
+use Rattle.seg_spec.specs.Frozen.{blocks_by}
+use Rattle.seg_spec.specs.Shared.{names_each, named_in, left, freed}
+use Rattle.seg_spec.specs.Counting.{owners_in, AreCounted}
+use Rattle.seg_spec.specs.Destroying.{HoldFrozen, Destroys}
+use Rattle.seg_spec.specs.Clearing.{BesideShared}
+use Rattle.seg_spec.proofs.FrozenBlocks.{hold_kept, frozen_twice, frozen_kept, left_fewer}
+use Rattle.seg_spec.proofs.CountedPictures.{counted_elsewhere}
 use Rattle.seg_spec.proofs.Composing.{kept_twice}
 use Rattle.seg_spec.proofs.LiveLaws.{times-same, there, each_there, LiesIn, live-lie}
 use Rattle.seg_spec.proofs.RootLaws.{HoldsRoots-only}
@@ -115,10 +121,11 @@ module _ (allocator : ℕ) (old mid new : Stored) (picture : Picture) (is : IsSe
 back : (old new : List ℕ) (at n : ℕ) → ChangesOnly old new at n → ChangesOnly new old at n
 back old new at n c = record { length_kept = sym c.length_kept; others = λ p m o. sym (c.others p m o) }
 
-module _ (allocator : ℕ) (old mid new : Stored) (picture : Picture) (is : IsSegment allocator old picture) (T at : ℕ) (less : T < 32) (named : target old.window.bytes (unique_word T) ≡ Some at)
+module _ (allocator : ℕ) (old mid new : Stored) (next : ℕ) (picture : Picture) (is : IsSegment allocator old picture) (counted : AreCounted next picture) (T at : ℕ) (less : T < 32) (named : target old.window.bytes (unique_word T) ≡ Some at)
     (bytes_are : mid.window.bytes ≡ set_pointer old.window.bytes (unique_word T) None) (types_are : mid.types ≡ old.types) (types_then : new.types ≡ mid.types)
-    (frees : (U : ℕ) (v : Value) (inside : List ℕ) → IsTable mid.types → AreOfVersion 1 mid.types → IsHeap allocator mid.window.bytes → IsLoose mid.window.bytes mid.types (record { at = at; type = U }) v inside
-    → Frees allocator mid.window.bytes new.window.bytes (block_of at ∷ inside) []) where
+    (leaves : (U : ℕ) (v : Value) (inside : List ℕ) → IsTable mid.types → IsHeap allocator mid.window.bytes → IsLoose mid.window.bytes mid.types (record { at = at; type = U }) v inside
+    → BesideShared mid.window.bytes mid.types (block_of at ∷ inside) (named_in v)
+    (λ theirs now. Destroys allocator mid.window.bytes new.window.bytes mid.types ((block_of at ∷ inside) ++ blocks_by theirs now) theirs)) where
   abbrev a : List ℕ
   a = old.window.bytes
 
@@ -131,18 +138,21 @@ module _ (allocator : ℕ) (old mid new : Stored) (picture : Picture) (is : IsSe
   long' : heap_start ≤ length a
   long' = header_fits (word a allocator_word) a is.held.laid_out.heap
 
+  heap' : IsHeap allocator a
+  heap' = subst (λ n. IsHeap n a) is.allocator_is is.held.laid_out.heap
+
   word_is' : target b (unique_word T) ≡ None
   word_is' = rw bytes_are (word_written a T None less long' (λ t e. absurd (let f : None ≡ Some t = e in cc)))
 
   -- what its destruction leaves
-  abbrev FreesIt : ℕ → Type 0
-  FreesIt p = (U : ℕ) (v : Value) (inside : List ℕ) → IsTable mid.types → AreOfVersion 1 mid.types → IsHeap allocator b → IsLoose b mid.types (record { at = p; type = U }) v inside
-      → Frees allocator b new.window.bytes (block_of p ∷ inside) []
+  abbrev LeavesIt : ℕ → Type 0
+  LeavesIt p = (U : ℕ) (v : Value) (inside : List ℕ) → IsTable mid.types → IsHeap allocator b → IsLoose b mid.types (record { at = p; type = U }) v inside
+      → BesideShared b mid.types (block_of p ∷ inside) (named_in v) (λ theirs now. Destroys allocator b new.window.bytes mid.types ((block_of p ∷ inside) ++ blocks_by theirs now) theirs)
 
   pub lost_unique : LosesUnique allocator old new picture T
   lost_unique =
       let u = unique_of T at picture.uniques (sym (is.held.laid_out.uniques.words T less) ∙ named) in
-      let destroys : FreesIt u.root.at = subst FreesIt (sym u.at_is) frees in
+      let destroys : LeavesIt u.root.at = subst LeavesIt (sym u.at_is) leaves in
       let without = record picture { uniques = u.before ++ u.after; loose = u.root ∷ picture.loose } in
       let held : IsHeld b without = unique_left a b picture is.held T less changes' u.before u.root u.after u.parts u.type_is word_is' in
       let is_then : IsSegment allocator mid without = record {
@@ -150,13 +160,22 @@ module _ (allocator : ℕ) (old mid new : Stored) (picture : Picture) (is : IsSe
         table_is = types_are ∙ is.table_is;
         allocator_is = word_allocator a b picture is.held T less changes' ∙ is.allocator_is;
       } in
-      let l = lost allocator mid new without is_then [] u.root picture.loose refl types_then destroys in
+      let names = picture.names in
+      let owners : owners_in picture ≡ (names ++ u.before) ++ u.root ∷ (u.after ++ picture.loose) = ap (λ us. names ++ (us ++ picture.loose)) u.parts ∙ simp append_assoc in
+      let owners_then : owners_in without ≡ (names ++ (u.before ++ u.after)) ++ u.root ∷ picture.loose = simp append_assoc in
+      let others : (names ++ u.before) ++ (u.after ++ picture.loose) ≡ (names ++ (u.before ++ u.after)) ++ picture.loose = simp append_assoc in
+      let counted_then : AreCounted next without =
+      counted_elsewhere next picture without (names ++ u.before) (u.after ++ picture.loose) (names ++ (u.before ++ u.after)) picture.loose u.root owners owners_then others refl counted in
+      let l = lost allocator mid new next without is_then counted_then [] u.root picture.loose refl types_then destroys in
+      let owned = lost_owned allocator mid new next without is_then counted_then [] u.root picture.loose refl types_then destroys in
       let same_live : live b ≡ live a = word_live a b picture is.held T less changes' in
       let valid : IsTable old.types = rw is.table_is is.held.laid_out.is_table in
-      let owned = lost_owned allocator mid new without is_then [] u.root picture.loose refl types_then destroys in
-      let stay : AllByRecursion (KeepsBlock b a) l.blocks = each_there (KeepsBlock b a) l.blocks
-      (λ h some. above_kept b a without held T less (back a b (unique_word T) 4 changes') h (above allocator mid without is_then h (omega (arith, owned h)))) in
+      let stays : (h : ℕ) → 1 ≤ times h (positions (live b)) → KeepsBlock b a h = λ h some. above_kept b a without held T less (back a b (unique_word T) 4 changes') h (above allocator mid without is_then h some) in
       let keeps : (h : ℕ) → 1 ≤ times h (positions (live a)) → KeepsBlock a b h = word_kept a b picture is.held T less changes' in
+      let gone = names_each u.root.values in
+      let rest = left gone picture.frozen in
+      let lives : (h : ℕ) → 1 ≤ times h (blocks_by l.theirs rest) → 1 ≤ times h (positions (live a)) = λ h some.
+      subst (λ bs. 1 ≤ times h (positions bs)) same_live (omega (arith, some, left_fewer l.theirs gone picture.frozen h, owned h)) in
       record {
         before = u.before;
         root = u.root;
@@ -165,13 +184,16 @@ module _ (allocator : ℕ) (old mid new : Stored) (picture : Picture) (is : IsSe
         root_is = u.root_is;
         loses = record {
           blocks = l.blocks;
-          holds_it = HoldsRoot-kept b a old.types valid u.root l.blocks stay (subst (λ t. HoldsRoot b t u.root l.blocks) types_are l.holds_it);
+          holds_it = HoldsRoot-kept b a old.types valid u.root l.blocks (each_there (KeepsBlock b a) l.blocks (λ h some. stays h (omega (arith, owned h)))) (subst (λ t. HoldsRoot b t u.root l.blocks) types_are l.holds_it);
+          theirs = l.theirs;
+          holds_shared = hold_kept b a old.types valid l.theirs picture.frozen (λ h some. stays h (omega (arith, some, owned h))) (subst (λ t. HoldFrozen b t l.theirs picture.frozen) types_are l.holds_shared);
           becomes = record {
             segment = l.becomes.segment;
             length_kept = l.becomes.length_kept ∙ changes'.length_kept;
             front_kept = l.becomes.front_kept ∙ changes'.others 0 free_word (Rattle.std.proofs.Common.inl (omega arith));
             kept = λ h some none. kept_twice a b new.window.bytes h (keeps h some) (l.becomes.kept h (subst (λ bs. 1 ≤ times h (positions bs)) (sym same_live) some) none);
           };
-          live_is = l.live_is ∙ ap (λ bs. after_gives bs l.blocks) same_live;
+          shared_kept = frozen_twice a b new.window.bytes l.theirs rest (frozen_kept allocator a b heap' l.theirs rest lives (λ h some. keeps h (lives h some))) l.shared_kept;
+          live_is = l.live_is ∙ ap (λ bs. after_gives bs (l.blocks ++ blocks_by l.theirs (freed gone picture.frozen))) same_live;
         };
       }

@@ -1,16 +1,14 @@
 -- A named object that goes.
 --     IsUnlisted allocator bytes table root blocks
 --                                            an object that no index lists owns these live blocks
---     GivesBack allocator old new table gives
---                                            these blocks were given back, all others are kept
 --     LosesNamed ..                          the object of a name and a type goes, with its entry
-use Rattle.std.specs.Prelude.{◌≡◌, ℕ, ◌+◌, ◌≤◌, List, [], ◌∷◌, ◌++◌, length, Some}
+use Rattle.std.specs.Prelude.{◌≡◌, ℕ, ◌≤◌, List, [], ◌∷◌, ◌++◌, Some}
 use Rattle.std.specs.List.{AllByRecursion}
 use Rattle.seg_spec.specs.Bytes.{word}
-use Rattle.seg_spec.specs.Header.{allocator_word, index_kind_word, KeepsFront, KeepsBack}
+use Rattle.seg_spec.specs.Header.{allocator_word, index_kind_word}
 use Rattle.seg_spec.specs.Types.{Table, IsTable}
 use Rattle.seg_spec.specs.Heap.{IsHeap, live}
-use Rattle.seg_spec.specs.Block.{IsOwnable, KeepsBlock}
+use Rattle.seg_spec.specs.Block.{IsOwnable}
 use Rattle.seg_spec.specs.Index.{Root, root_named}
 use Rattle.seg_spec.specs.Sound.{Picture, HoldsRoot, times, positions}
 use Rattle.seg_spec.specs.Roots.{Listed, with_roots}
@@ -34,20 +32,6 @@ pub record IsUnlisted (allocator : ℕ) (bytes : List ℕ) (table : Table) (root
   pub holds_it : HoldsRoot bytes table root blocks
   pub no_words : root.words ≡ []
   pub owned : (h : ℕ) → times h blocks ≤ times h (positions (live bytes))
-
--- these blocks were given back, and each other live block is kept
-pub record GivesBack (allocator : ℕ) (old new : List ℕ) (table : Table) (gives : List ℕ)
-    : Type 0 where
-  pub length_kept : length new ≡ length old
-  pub front_kept : KeepsFront old new
-  pub back_kept : KeepsBack old new
-  pub heap : IsHeap allocator new
-  pub ownable : AllByRecursion (λ b. IsOwnable new table b.at) (live new)
-  pub live_is : live new ≡ after_gives (live old) gives
-  pub live_are : (h : ℕ) →
-      times h (positions (live new)) + times h gives ≡ times h (positions (live old))
-  pub kept : (h : ℕ) → 1 ≤ times h (positions (live old)) → times h gives ≡ 0 →
-      KeepsBlock old new h
 
 -- the object of the name and type goes, with its blocks, those that went with its entry, and the frozen
 -- objects that it named last, with theirs; the others are where they were, and each live block that

@@ -1,8 +1,9 @@
-ghost use Rattle.std.specs.Prelude.{◌≡◌, ◌<◌, List, ◌∷◌, ◌++◌, length, IsOkUnless, MatchResult};
+ghost use Rattle.std.specs.Prelude.{◌≡◌, ℕ, ◌<◌, List, ◌∷◌, ◌++◌, length, IsOkUnless, MatchResult};
 ghost use Rattle.seg_spec.specs.Window.{KeepsHost};
 ghost use Rattle.seg_spec.specs.Index.{Root};
 ghost use Rattle.seg_spec.specs.Sound.{Picture};
 ghost use Rattle.seg_spec.specs.Calls.{Refuses};
+ghost use Rattle.seg_spec.specs.Counting.{AreCounted};
 ghost use Rattle.seg_manager.specs.Segments.{IsSegment, one_value, MakesLoose, LosesLoose};
 
 use crate::segment::Segment;

@@ -1,9 +1,14 @@
-ghost use Rattle.std.specs.Prelude.{◌≡◌, ◌+◌, ◌*◌, ◌%◌, ◌^◌, ◌<◌, ◌≤◌, false, [], length, None, Some, Err, MatchOption, IsSomeAnd, IfOk, IfSome, IfNone, MatchResult, IsOkUnless, slice_get, is_ok, ℕ, List, IsTrue};
+ghost use Rattle.std.specs.Prelude.{◌≡◌, ◌+◌, ◌*◌, ◌%◌, ◌^◌, ◌<◌, ◌≤◌, false, [], ◌++◌, length, None, Some, Err, MatchOption, IsSomeAnd, IfOk, IfSome, IfNone, MatchResult, IsOkUnless, slice_get, is_ok, ℕ, List, IsTrue};
 ghost use Rattle.seg_spec.specs.Bytes.{ChangesOnly};
 ghost use Rattle.seg_spec.specs.Calls.{Refuses};
+ghost use Rattle.seg_spec.specs.Clearing.{BesideShared};
+ghost use Rattle.seg_spec.specs.Counting.{AreCounted};
+ghost use Rattle.seg_spec.specs.Destroying.{Destroys};
+ghost use Rattle.seg_spec.specs.Frozen.{blocks_by};
 ghost use Rattle.seg_spec.specs.Heap.{IsHeap};
 ghost use Rattle.seg_spec.specs.Index.{Root, IsName, root_named};
 ghost use Rattle.seg_spec.specs.Reads.{items, HoldsEach};
+ghost use Rattle.seg_spec.specs.Shared.{named_each};
 ghost use Rattle.seg_spec.specs.Sound.{Picture};
 ghost use Rattle.seg_spec.specs.Spending.{object_asks};
 ghost use Rattle.seg_spec.specs.Types.{IsTable, size};
@@ -12,7 +17,7 @@ ghost use Rattle.seg_spec.specs.Window.{KeepsHost};
 ghost use Rattle.seg_index.specs.Lists.{IsNamed, IsVacant, entry_of, root_after};
 ghost use Rattle.seg_manager.specs.NamedObjects.{found_as, Says, IsMissing, IsCount, RefusesName, FindsOrMakesNamed, RefusesToFind, found_of};
 ghost use Rattle.seg_manager.specs.NewNamed.{HasValuesRoom, GivesNamed, MakesNamed, FindsNoRoom, root_asks};
-ghost use Rattle.seg_manager.specs.LeavingNamed.{IsUnlisted, GivesBack, LosesNamed};
+ghost use Rattle.seg_manager.specs.LeavingNamed.{IsUnlisted, LosesNamed};
 ghost use Rattle.seg_manager.specs.Segments.{IsSegment, new_root};
 
 use crate::segment::Segment;

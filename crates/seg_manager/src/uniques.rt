@@ -1,5 +1,6 @@
-ghost use Rattle.std.specs.Prelude.{◌≡◌, ◌<◌, false, length, IsTrue, MatchResult, Some, None};
+ghost use Rattle.std.specs.Prelude.{◌≡◌, ℕ, ◌<◌, false, length, IsTrue, MatchResult, Some, None};
 ghost use Rattle.seg_spec.specs.Window.{KeepsHost};
+ghost use Rattle.seg_spec.specs.Counting.{AreCounted};
 ghost use Rattle.seg_spec.specs.Sound.{Picture};
 ghost use Rattle.seg_manager.specs.Segments.{IsSegment, unique_at, MakesUnique, FindsOrMakes, RefusesUnique, LosesUnique};
 

@@ -1,21 +1,25 @@
 -- A flat map that gets a key, or loses one, from what the steps of the calls leave.
-use Rattle.std.proofs.Common.{◌≡◌, ◌≢◌, ℕ, zero, suc, ◌+◌, ◌*◌, ◌%◌, ◌^◌, ◌<◌, ◌≤◌, inl, inr, ⊎_elim, ℤ, true, false, List, [], ◌∷◌, ◌++◌, length, map, Some, None, Result, Ok, refl, sym, ap, ◌∙◌, subst, arith}
+use Rattle.std.proofs.Common.{◌≡◌, ◌≢◌, ℕ, zero, suc, ◌+◌, ◌*◌, ◌%◌, ◌^◌, ◌<◌, ◌≤◌, inl, inr, ⊎_elim, ℤ, Bool, true, false, List, [], ◌∷◌, ◌++◌, length, map, Some, None, Result, Ok, refl, sym, ap, ◌∙◌, subst, arith}
 use Rattle.std.specs.Prelude.{insert, remove, int_lt, unwrap_or, slice_get}
 use Rattle.std.proofs.Math.Nat.{zero-mul, mul-le-mul_right}
 use Rattle.std.proofs.lemmas.List.Sums.{count_by-le-length}
 use Rattle.seg_spec.specs.Bytes.{signed, signed_long, ChangesOnly, IsSame}
 use Rattle.seg_spec.specs.Types.{Form, Table, form_at, size}
-use Rattle.seg_spec.specs.Value.{Value, Values, nil, cons, Map, IsAscending, Selector, change_nth, default_of, with_value_at}
+use Rattle.seg_spec.specs.Value.{Value, Values, nil, cons, Map, IsAscending, Selector, nth, change_nth, default_of, with_value_at}
 use Rattle.seg_spec.specs.Heap.{live}
 use Rattle.seg_spec.specs.Block.{IsInside, block_of}
 use Rattle.seg_spec.specs.Reads.{Place, count_at, named, start, spaced, places_of, Holds, Leads}
 use Rattle.seg_spec.specs.Apart.{Separate, ComesApart}
 use Rattle.seg_spec.specs.Cells.{IsWithin}
 use Rattle.seg_spec.specs.Sound.{times}
+use Rattle.seg_spec.specs.Frozen.{Frozen, blocks_by}
+use Rattle.seg_spec.specs.Shared.{named_in}
+use Rattle.seg_spec.specs.Destroying.{AreLive}
+use Rattle.seg_spec.specs.Clearing.{SharedBeside, BesideShared, ClearsPlace}
 use Rattle.seg_spec.specs.Items.{key_place, keys_below, insert_nth, remove_nth, without_entry}
 use Rattle.seg_spec.specs.Roots.{ChangesPlace}
 use Rattle.seg_spec.specs.Owning.{Stands}
-use Rattle.seg_spec.specs.Demand.{Ask, after_gives}
+use Rattle.seg_spec.specs.Demand.{Ask}
 use Rattle.seg_spec.specs.Spending.{PlaceBlocks}
 use Rattle.seg_spec.specs.Growing.{Succeeds}
 use Rattle.seg_spec.proofs.BytesLaws.{number-slice}
@@ -252,32 +256,48 @@ module _ (allocator : ℕ) (old : List ℕ) (table : Table) (place : Place) (U :
               let here : times h (named old place.at) ≡ 1 = subst (λ x. times x (named old place.at) ≡ 1) (sym e) one in omega arith,
         )
 
-    pub sooner_kept : (mid : List ℕ) (w : Value) → ChangesPlace old mid table inner w [] (after_gives (live old) c.its) c.its [] → KeepsPathsInside old mid table sooner
-    sooner_kept mid w change =
+    pub sooner_kept : (theirs : ℕ → List ℕ) (now final : List Frozen) → AreLive old ((s.home ∷ blocks) ++ blocks_by theirs now) → (mid : List ℕ) (w : Value) → ClearsPlace old mid table inner w c.its [] theirs now final
+        → KeepsPathsInside old mid table sooner
+    sooner_kept theirs now final fits mid w change =
         let l = below in
         let less : suc j * (8 + size table U) ≤ i * (8 + size table U) = mul-le-mul_right (8 + size table U) earlier in
         let more : suc j * (8 + size table U) ≡ j * (8 + size table U) + (8 + size table U) = grind arith in
-        part.beside_paths allocator old table place (Map keys vs) blocks s inner (Selector.key key ∷ []) led (block_of b.p) inside mine aligned mid w change sooner own.value own.zs own.holds_it
+        part.beside_paths allocator old table place (Map keys vs) blocks s inner (Selector.key key ∷ []) led (block_of b.p) inside mine aligned theirs now final fits mid w change sooner own.value own.zs own.holds_it
         (value_inside j (omega arith)) (inl (omega arith)) others
 
   pub inner_stands : Stands allocator old table inner c.value c.its
   inner_stands = part.inner_stands allocator old table place (Map keys vs) blocks s inner (Selector.key key ∷ []) led (block_of b.p) inside mine aligned
 
+  -- what calls find there that destroy the value, which stands at the key's place among the values
+  pub inner_beside : (v : Value) → nth vs i ≡ Some v → (theirs : ℕ → List ℕ) (kept : List Place) (now final : List Frozen) → SharedBeside old table (s.home ∷ blocks) (named_in v) theirs kept now final
+      → SharedBeside old table (inner_stands.home ∷ c.its) (named_in c.value) theirs kept now final
+  unfolding inner_stands
+  inner_beside v at theirs kept now final beside =
+      let same : v ≡ c.value = value_same v at in
+      let home = part.inner_home allocator old table place (Map keys vs) blocks s inner (Selector.key key ∷ []) led (block_of b.p) inside mine aligned in
+      subst (λ x. SharedBeside old table (x ∷ c.its) (named_in c.value) theirs kept now final) (sym home)
+      (part.inner_beside allocator old table place (Map keys vs) blocks s inner (Selector.key key ∷ []) led (block_of b.p) inside mine aligned theirs kept now final
+      (subst (λ u. SharedBeside old table (s.home ∷ blocks) (named_in u) theirs kept now final) same beside))
+    where
+      value_same : (v : Value) → nth vs i ≡ Some v → v ≡ c.value
+      value_same v at = let e = rw (there, at) at c.value_is in cc
+
   -- the value is destroyed, and the gap closed
-  module _ (mid new : List ℕ) (w : Value) (change : ChangesPlace old mid table inner w [] (after_gives (live old) c.its) c.its []) where
+  module _ (theirs : ℕ → List ℕ) (now final : List Frozen) (fits : AreLive old ((s.home ∷ blocks) ++ blocks_by theirs now)) (mid new : List ℕ) (w : Value)
+      (change : ClearsPlace old mid table inner w c.its [] theirs now final) where
     abbrev pub changed : Values
     changed = change_nth (Some i) (with_value_at [] w) vs
 
     stands_mid : Stands allocator mid table place (Map keys changed) rest
     stands_mid =
-        let k = part.stands_mid allocator old table place (Map keys vs) blocks s inner (Selector.key key ∷ []) led (block_of b.p) inside mine aligned mid w change in
+        let k = part.stands_mid allocator old table place (Map keys vs) blocks s inner (Selector.key key ∷ []) led (block_of b.p) inside mine aligned theirs now final fits mid w change in
         subst (λ o. Stands allocator mid table place (Map keys (change_nth o (with_value_at [] w) vs)) rest) there k
 
     cell_same : IsSame old mid place.at 8
     cell_same =
         let large = size_large table s.is_table place.type in
         IsSame-part old mid place.at (size table place.type) place.at 8 (omega arith) (omega arith)
-        (part.place_same allocator old table place (Map keys vs) blocks s inner (Selector.key key ∷ []) led (block_of b.p) inside mine aligned mid w change)
+        (part.place_same allocator old table place (Map keys vs) blocks s inner (Selector.key key ∷ []) led (block_of b.p) inside mine aligned theirs now final fits mid w change)
 
     start_kept : start mid place.at ≡ start old place.at
     start_kept = ap (λ t. unwrap_or t 0) (cell-target old mid place.at cell_same)
@@ -290,7 +310,7 @@ module _ (allocator : ℕ) (old : List ℕ) (table : Table) (place : Place) (U :
     last : Closes → ClosesEntry mid new table place U keys changed rest i
     last closes =
         let value : Holds mid table (value_of U (start mid place.at + i * (8 + size table U) + 8)) w [] =
-        subst (λ a. Holds mid table (value_of U (a + i * (8 + size table U) + 8)) w []) (sym start_kept) change.holds_it in
+        subst (λ a. Holds mid table (value_of U (a + i * (8 + size table U) + 8)) w []) (sym start_kept) change.changes.holds_it in
         let count = cell-count old mid place.at cell_same in
         closes changed rest stands_mid (let l = below in omega arith) (w, value)
 
@@ -300,32 +320,36 @@ module _ (allocator : ℕ) (old : List ℕ) (table : Table) (place : Place) (U :
         let ascends = ascending allocator old table place U keys vs blocks f s in
         let l = stands_before keys key i ascends there other g.i g.place_is lower in
         let then = last closes in
-        let first = sooner_kept g.i l mid w change path goal g.goes in
+        let first = sooner_kept g.i l theirs now final fits mid w change path goal g.goes in
         let moved = subst (λ a. Leads mid table (value_of U (a + g.i * (8 + size table U) + 8)) path goal) (sym start_kept) first in
         let second = then.paths g.i l path goal moved in
         let there_now = subst (λ a. Leads new table (value_of U (a + g.i * (8 + size table U) + 8)) path goal) (sym then.start_kept) second in
         goes_through new table place U (remove keys i) (remove_nth changed i) rest f then.changes.holds_it other g.i (still_there keys key i ascends there other g.i g.place_is lower) path goal there_now
 
-    pub closed : Closes → TakesKey allocator old new table place keys vs blocks i
-    closed closes =
+    pub takes : Closes → TakesKey old new table place keys vs blocks (KeepsLowerKeys old new table place key) i theirs now final
+    takes closes =
         let last' : ChangesPlace mid new table place (without_entry (keys, vs) i) rest (live mid) rest rest =
         subst (λ us. ChangesPlace mid new table place (Map (remove keys i) us) rest (live mid) rest rest) (removed_changed (with_value_at [] w) vs i) (last closes).changes in
         record {
-          gives = c.its;
-          part = record {
-            form = Form.flat_map U;
-            form_is = f;
-            opened = held_opened old table place U keys vs blocks f s.holds_it;
-            opens = held_opens old table place U keys vs blocks f s.holds_it;
-            part = inner;
-            part_is = held_part old table place U keys vs blocks f s.holds_it i below;
-            value = c.value;
-            blocks = c.its;
-            holds = c.holds_it;
-            gives_are = refl;
+          loses = record {
+            lost = c.its;
+            part = record {
+              form = Form.flat_map U;
+              form_is = f;
+              opened = held_opened old table place U keys vs blocks f s.holds_it;
+              opens = held_opens old table place U keys vs blocks f s.holds_it;
+              part = inner;
+              part_is = held_part old table place U keys vs blocks f s.holds_it i below;
+              value = c.value;
+              blocks = c.its;
+              holds = c.holds_it;
+              gives_are = refl;
+            };
+            others = rest;
+            blocks_are = λ h. part.counts allocator old table place (Map keys vs) blocks s inner (Selector.key key ∷ []) led h ∙ sym (times-append h c.its rest);
+            clears = part.cleared allocator old table place (Map keys vs) blocks s inner (Selector.key key ∷ []) led (block_of b.p) inside mine aligned theirs now final fits mid w change new (without_entry (keys, vs) i) last';
           };
-          others = rest;
-          succeeds = part.cleared allocator old table place (Map keys vs) blocks s inner (Selector.key key ∷ []) led (block_of b.p) inside mine aligned mid w change new (without_entry (keys, vs) i) last';
+          kept = keeps_lower closes;
         }
 
 -- ---- the calls
@@ -346,16 +370,23 @@ module _ (allocator : ℕ) (old : List ℕ) (table : Table) (cell T U : ℕ) (ke
       subst (λ o. PutsKey {E = E} allocator old new table (object_at cell T) U keys vs key blocks asks o r) (sym missing)
       (subst (λ k. PutsKey {E = E} allocator old new table (object_at cell T) U keys vs k blocks asks None r) back puts)
 
-  pub remove_missing : key_place keys passed ≡ None → RemovesKey allocator old old table (object_at cell T) keys vs blocks (key_place keys key) false
+  abbrev Removes : List ℕ → Bool → Type 0
+  Removes new gone = RemovesKey old new table (object_at cell T) keys vs s.home blocks (KeepsLowerKeys old new table (object_at cell T) key) (key_place keys key) gone
+
+  pub remove_missing : key_place keys passed ≡ None → Removes old false
   remove_missing none =
       let missing : key_place keys key ≡ None = subst (λ k. key_place keys k ≡ None) back none in
-      subst (λ o. RemovesKey allocator old old table (object_at cell T) keys vs blocks o false) (sym missing) (refl, refl)
+      subst (λ o. RemovesKey old old table (object_at cell T) keys vs s.home blocks (KeepsLowerKeys old old table (object_at cell T) key) o false) (sym missing) (refl, refl)
+
+  -- the value is cleared, beside whichever frozen objects
+  abbrev pub ClearsValue : List ℕ → code.Place → Type 0
+  ClearsValue mid value = (v : Value) (bs : List ℕ) (st : Stands allocator old table (place_of value) v bs) →
+      BesideShared old table (st.home ∷ bs) (named_in v) (ClearsPlace old mid table (place_of value) (default_of table value.type_id) bs [])
 
   pub remove_found : (mid new : List ℕ) (here : Table) → here ≡ table → (entry : Entry) (i from : ℕ) (value : code.Place) → IsEntryOf table 8 U entry → key_place keys passed ≡ Some i → from ≡ start old cell
-      → Some value ≡ Some (record { at = (from + i * entry.size + entry.before) % 2 ^ 32; type_id = U })
-      → ((v : Value) (bs : List ℕ) → Stands allocator old table (place_of value) v bs → ChangesPlace old mid table (place_of value) (default_of table value.type_id) [] (after_gives (live old) bs) bs [])
+      → Some value ≡ Some (record { at = (from + i * entry.size + entry.before) % 2 ^ 32; type_id = U }) → ClearsValue mid value
       → ((us : Values) (bs : List ℕ) → Stands allocator mid here (object_at cell T) (Map keys us) bs → i < count_at mid cell → PlaceBlocks mid here (flat_value mid here cell U i) []
-      → ClosesEntry mid new here (object_at cell T) U keys us bs i) → RemovesKey allocator old new table (object_at cell T) keys vs blocks (key_place keys key) true × KeepsLowerKeys old new table (object_at cell T) key
+      → ClosesEntry mid new here (object_at cell T) U keys us bs i) → Removes new true
   remove_found mid new here same entry i from value e h from_is value_is clears closes =
       let there : key_place keys key ≡ Some i = subst (λ k. key_place keys k ≡ Some i) back h in
       let below : i < count_at old cell = subst (λ k. i < k) (length_is allocator old table (object_at cell T) U keys vs blocks f s) (place_below keys key i there) in
@@ -366,13 +397,15 @@ module _ (allocator : ℕ) (old : List ℕ) (table : Table) (cell T U : ℕ) (ke
       ap place_of (known value (record { at = (from + i * entry.size + entry.before) % 2 ^ 32; type_id = U }) value_is) ∙ ap (value_of U) at_is in
       let stands = inner_stands allocator old table (object_at cell T) U keys vs blocks f s key i there in
       let c' = c allocator old table (object_at cell T) U keys vs blocks f s key i there in
-      let change = clears c'.value c'.its (subst (λ p. Stands allocator old table p c'.value c'.its) (sym place_is) stands) in
-      let change' = subst (λ (p : Place). ChangesPlace old mid table p (default_of table p.type) [] (after_gives (live old) c'.its) c'.its []) place_is change in
+      let clears' = subst (λ (p : Place). (v : Value) (bs : List ℕ) (st : Stands allocator old table p v bs) → BesideShared old table (st.home ∷ bs) (named_in v) (ClearsPlace old mid table p (default_of table p.type) bs []))
+      place_is clears in
       let closes' = subst (λ t. (us : Values) (bs : List ℕ) → Stands allocator mid t (object_at cell T) (Map keys us) bs → i < count_at mid cell → PlaceBlocks mid t (flat_value mid t cell U i) []
-      → ClosesEntry mid new t (object_at cell T) U keys us bs i) same closes in (
-        subst (λ o. RemovesKey allocator old new table (object_at cell T) keys vs blocks o true) (sym there)
-            (refl, closed allocator old table (object_at cell T) U keys vs blocks f s key i there mid new (default_of table U) change' closes'),
-        keeps_lower allocator old table (object_at cell T) U keys vs blocks f s key i there mid new (default_of table U) change' closes',
+      → ClosesEntry mid new t (object_at cell T) U keys us bs i) same closes in
+      subst (λ o. RemovesKey old new table (object_at cell T) keys vs s.home blocks (KeepsLowerKeys old new table (object_at cell T) key) o true) (sym there) (
+        refl,
+        λ v at theirs kept now final beside.
+            let change = clears' c'.value c'.its stands theirs kept now final (inner_beside allocator old table (object_at cell T) U keys vs blocks f s key i there v at theirs kept now final beside) in
+            takes allocator old table (object_at cell T) U keys vs blocks f s key i there theirs now final beside.owned mid new (default_of table U) change closes',
       )
     where
       known : (x y : code.Place) → Some x ≡ Some y → x ≡ y

@@ -165,14 +165,12 @@ puts_by allocator old new table place U keys vs blocks o form is key passed same
     subst (λ f. PutsKey allocator old new table place U keys vs key blocks (key_asks old table place.at f) (key_place keys key) r) (sym is)
     (subst (λ k. PutsKey allocator old new table place U keys vs k blocks (key_asks old table place.at (Some form)) (key_place keys k) r) same h)
 
-pub removes_by : (allocator : ℕ) (old new : List ℕ) (table : Table) (place : Place) (keys : List ℤ) (vs : Values) (blocks : List ℕ) (key passed : ℤ) → passed ≡ key → (gone : Bool)
-    → RemovesKey allocator old new table place keys vs blocks (key_place keys passed) gone → RemovesKey allocator old new table place keys vs blocks (key_place keys key) gone
-removes_by allocator old new table place keys vs blocks key passed same gone h = subst (λ k. RemovesKey allocator old new table place keys vs blocks (key_place keys k) gone) same h
+pub removes_by : (old new : List ℕ) (table : Table) (place : Place) (keys : List ℤ) (vs : Values) (home : ℕ) (blocks : List ℕ) (o : Option Form) (form : Form) → o ≡ Some form → (key passed : ℤ) → passed ≡ key → (gone : Bool)
+    → RemovesKey old new table place keys vs home blocks (KeepsKeysBut (Some form) old new table place passed) (key_place keys passed) gone
+    → RemovesKey old new table place keys vs home blocks (KeepsKeysBut o old new table place key) (key_place keys key) gone
+removes_by old new table place keys vs home blocks o form is key passed same gone h =
+    subst (λ f. RemovesKey old new table place keys vs home blocks (KeepsKeysBut f old new table place key) (key_place keys key) gone) (sym is)
+    (subst (λ k. RemovesKey old new table place keys vs home blocks (KeepsKeysBut (Some form) old new table place k) (key_place keys k) gone) same h)
 
 pub tree_paths_by : (old new : List ℕ) (table : Table) (place : Place) (o : Option Form) (form : Form) → o ≡ Some form → KeepsTreePaths (Some form) old new table place → KeepsTreePaths o old new table place
 tree_paths_by old new table place o form is h = subst (λ f. KeepsTreePaths f old new table place) (sym is) h
-
-pub keeps_by : (old new : List ℕ) (table : Table) (place : Place) (o : Option Form) (form : Form) → o ≡ Some form → (key passed : ℤ) → passed ≡ key → KeepsKeysBut (Some form) old new table place passed
-    → KeepsKeysBut o old new table place key
-keeps_by old new table place o form is key passed same h =
-    subst (λ f. KeepsKeysBut f old new table place key) (sym is) (subst (λ k. KeepsKeysBut (Some form) old new table place k) same h)

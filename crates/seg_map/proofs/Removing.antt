@@ -6,7 +6,7 @@ use Rattle.std.specs.List.{AllByRecursion}
 use Rattle.std.specs.Ordering.{int_cmp}
 use Rattle.seg_spec.specs.Bytes.{word, set_word, signed_long, IsSame}
 use Rattle.seg_spec.specs.Types.{Form, Table, form_at, size}
-use Rattle.seg_spec.specs.Value.{Selector, Value, Values, count, append, cons, Map, IsAscending, default_of}
+use Rattle.seg_spec.specs.Value.{Selector, Value, Values, nth, count, append, cons, Map, IsAscending, default_of}
 use Rattle.seg_spec.specs.Heap.{Span, units_at, live, heap_start, IsHeap, IsLive, Gives}
 use Rattle.seg_spec.specs.Block.{Kind, tag_of, IsBlock, IsInside, KeepsBlock, IsOwnable, block_of, payload_size}
 use Rattle.seg_spec.specs.Apart.{Separate, KeepsBlockAround}
@@ -14,8 +14,13 @@ use Rattle.seg_spec.specs.Shapes.{nodes_of}
 use Rattle.seg_spec.specs.Items.{key_place, without_entry, remove_nth}
 use Rattle.seg_spec.specs.Reads.{Place, Opened, count_at, keys_at, AreNodes, Opens, Holds, HoldsEach, holds_more, Leads}
 use Rattle.seg_spec.specs.Sound.{times, positions}
+use Rattle.seg_spec.specs.Frozen.{Frozen, blocks_by}
+use Rattle.seg_spec.specs.Shared.{named_in}
+use Rattle.seg_spec.specs.Destroying.{KeepFrozen}
+use Rattle.seg_spec.specs.Clearing.{SharedBeside, ClearsPlace}
+use Rattle.seg_spec.proofs.FrozenBlocks.{hold_kept, frozen_twice, frozen_kept, left_fewer}
+use Rattle.seg_spec.proofs.SharedSteps.{shared_still}
 use Rattle.seg_spec.specs.Owning.{Stands}
-use Rattle.seg_spec.specs.Roots.{ChangesPlace}
 use Rattle.seg_spec.specs.Demand.{after_gives}
 use Rattle.seg_spec.specs.Spending.{PartBlocks, item_node}
 use Rattle.seg_spec.proofs.SliceLaws.{IsSame-trans}
@@ -24,10 +29,11 @@ use Rattle.seg_spec.proofs.Giving.{found}
 use Rattle.seg_spec.proofs.GiveOrder.{in_any_order}
 use Rattle.seg_spec.proofs.Composing.{kept_twice, around_twice, around_kept}
 use Rattle.seg_spec.proofs.PlaceSteps.{home_live, owned_live, owned_other}
-use Rattle.seg_spec.proofs.Standing.{same_place, stands_still, left_kept, left_stands, left_frames}
+use Rattle.seg_spec.proofs.Standing.{same_place, stands_still, still_home, left_kept, left_stands, left_frames}
 use Rattle.seg_spec.proofs.Leading.{Leads-kept}
+use Rattle.seg_spec.proofs.Paths.{nth-append}
 use Rattle.seg_spec.proofs.Frame.{each_map, each_weaker, each_both, each_left, each_right, word-same, signed_long-same, SamePlace, Holds-kept, HoldsEach-kept}
-use Rattle.seg_spec.proofs.LiveLaws.{times-append, times-same, times-other, times-more, times-without, there, each_there, LiesIn, live-lie, live-apart, live-once, OneOrApart}
+use Rattle.seg_spec.proofs.LiveLaws.{times-append, times-same, times-more, times-without, there, each_there, LiesIn, live-lie, live-apart, live-once, OneOrApart}
 use Rattle.seg_rbtree.specs.Changes.{StandApart, without_node, Leaves}
 use Rattle.seg_rbtree.proofs.TakingOut.{each_without}
 use Rattle.seg_map.specs.Maps.{TakesKey, value_of}
@@ -73,6 +79,10 @@ cut : (bytes : List ℕ) (table : Table) (before after : List Place) (part : Pla
 cut bytes table before after part vs blocks h =
     let p = parts bytes table before (part ∷ after) vs blocks h in
     cut_by bytes table before after part vs p.left p.right blocks p.xs p.ys p.values_are p.count_is p.lefts p.rights p.blocks_are
+
+one_there : (vs left right : Values) (v w : Value) (j : ℕ) → vs ≡ append left (cons v right) → j ≡ count left → nth vs j ≡ Some w → w ≡ v
+one_there vs left right v w j e i at =
+    let there_is : nth vs j ≡ Some v = rw (e, i) (nth-append left right v) in cc
 
 given_last : (bs : List Span) (zs : List ℕ) (h : ℕ) → after_gives bs (zs ++ h ∷ []) ≡ after_gives (after_gives bs zs) (h ∷ [])
 given_last bs [] h = refl
@@ -144,6 +154,9 @@ module _ (allocator : ℕ) (old : List ℕ) (table : Table) (place : Place) (U :
 
   pub k : Cut old table (value_places U a.front) (value_places U a.back) (value_of U (node + 24)) vs m.owned
   k = cut old table (value_places U a.front) (value_places U a.back) (value_of U (node + 24)) vs m.owned (subst (λ ps. HoldsEach old table ps vs m.owned) places_split m.each)
+
+  pub value_is : (v : Value) → nth vs i ≡ Some v → v ≡ k.value
+  value_is v at = one_there vs k.left k.right k.value v i k.values_are (sym (places_long U a.front) ∙ sym k.count_is) at
 
   blocks_joined : (xs ys : List ℕ) → map block_of (xs ++ ys) ≡ map block_of xs ++ map block_of ys
   blocks_joined [] ys = refl
@@ -354,159 +367,251 @@ module _ (allocator : ℕ) (old : List ℕ) (table : Table) (place : Place) (U :
       owned = λ h. let x = live_mid h in let o = s.owned h in let b = shares h in let p = times-more h s.home blocks in omega arith;
     }
 
-    -- ---- the value is cleared, and the node given back
+    value_home : value_stands.home ≡ block_of node
+    unfolding value_stands
+    value_home = refl
 
-    module _ (cleared new : List ℕ) (c : ChangesPlace mid cleared table (value_of U (node + 24)) (default_of table U) [] (after_gives (live mid) k.zs) k.zs []) (gives : IsHeap allocator cleared → IsLive cleared (block_of node)
-        → Gives allocator cleared new (block_of node)) where
-      mid_some : (h : ℕ) → 1 ≤ times h (positions (live old)) → 1 ≤ times h (positions (live mid))
-      mid_some h some = let x = live_mid h in omega arith
+    -- ---- frozen objects beside the map
 
-      lies_mid : (h : ℕ) → 1 ≤ times h (positions (live mid)) → LiesIn mid heap_start (length mid) h
-      lies_mid h some = there (LiesIn mid heap_start (length mid)) h (positions (live mid)) (live-lie mid allocator made.heap) some
+    module _ (theirs : ℕ → List ℕ) (kept : List Place) (now final : List Frozen) (beside : SharedBeside old table (s.home ∷ blocks) (named_in k.value) theirs kept now final) where
+      abbrev shared : List ℕ
+      shared = blocks_by theirs now
 
-      node_mid : 1 ≤ times (block_of node) (positions (live mid))
-      node_mid = mid_some (block_of node) node_live
+      abbrev left : List ℕ
+      left = blocks_by theirs final
 
-      -- a block that isn't the node's, and that its value didn't own, is kept
-      kept_cleared : (h : ℕ) → 1 ≤ times h (positions (live mid)) → h ≢ block_of node → times h k.zs ≡ 0 → KeepsBlock mid cleared h
-      kept_cleared h some ne none =
-          let kept = c.kept h some none in
-          record {
-            live = kept.header.live;
-            has_tag = kept.header.has_tag;
-            room = kept.header.room;
-            payload = kept.payload (h + 16) (payload_size mid h) (omega arith) (omega arith) (go (apart_blocks h some ne));
-          }
-        where
-          apart_blocks : (h : ℕ) → 1 ≤ times h (positions (live mid)) → h ≢ block_of node → OneOrApart mid (block_of node) h
-          apart_blocks h some ne = there (OneOrApart mid (block_of node)) h (positions (live mid)) (there (λ t. AllByRecursion (OneOrApart mid t) (positions (live mid))) (block_of node) (positions (live mid))
-              (live-apart mid allocator made.heap) node_mid) some
+      -- their blocks are live, and none of the map's
+      all_fit : (h : ℕ) → times h (s.home ∷ blocks) + times h shared ≤ times h (positions (live old))
+      all_fit h = omega (arith, beside.owned h, times-append h (s.home ∷ blocks) shared)
 
-          go : OneOrApart mid (block_of node) h → Separate (h + 16) (payload_size mid h) (node + 24) (size table U)
-          go (inl e) = absurd (ne e)
-          go (inr (inl l)) = inr (let high = inside_node.high in omega arith)
-          go (inr (inr l)) = inl (let low = inside_node.low in let two = (lies_mid h some).size in omega arith)
+      shared_away : (h : ℕ) → 1 ≤ times h shared → (1 ≤ times h (positions (live old))) × (h ≢ s.home) × (times h (map block_of ns) ≡ 0)
+      shared_away h some =
+          let fits = all_fit h in
+          let one = live-once old allocator s.heap h in
+          let b : times h blocks ≡ times h (map block_of ns ++ m.owned) = ap (times h) m.blocks_are in
+          let c = times-append h (map block_of ns) m.owned in
+          (omega arith, (λ e. let q = subst (λ y. times h (y ∷ blocks) ≡ 1 + times h blocks) e (times-same h blocks) in omega arith), omega arith)
 
-      map_away : (h : ℕ) → 1 ≤ times h (s.home ∷ others) → (1 ≤ times h (positions (live mid))) × (h ≢ block_of node) × (times h k.zs ≡ 0)
-      map_away h some =
-          let x = live_mid h in
-          let o = s.owned h in
-          let b = shares h in
-          let d = others_are h in
-          let l = live-once old allocator s.heap h in
-          let p = times-more h (block_of node) k.zs in
-          (omega arith, (λ e. let q = subst (λ y. times h (y ∷ k.zs) ≡ 1 + times h k.zs) e (times-same h k.zs) in omega arith), omega arith)
+      shared_whole : (h : ℕ) → 1 ≤ times h shared → KeepsBlock old mid h
+      shared_whole h some = let w = shared_away h some in made.whole h w.0 w.1 w.2
 
-      heap_cleared : IsHeap allocator cleared
-      heap_cleared = subst (λ a. IsHeap a cleared) allocator_mid c.heap
+      pub value_beside : SharedBeside mid table (value_stands.home ∷ k.zs) (named_in k.value) theirs kept now final
+      value_beside =
+          subst (λ b. SharedBeside mid table (b ∷ k.zs) (named_in k.value) theirs kept now final) (sym value_home)
+          (shared_still old mid table s.is_table (s.home ∷ blocks) (block_of node ∷ k.zs) (named_in k.value) theirs kept now final shared_whole ownable_mid
+          (λ h. omega (arith, all_fit h, live_mid h, shares h, times-more h s.home blocks, times-append h (block_of node ∷ k.zs) shared)) beside)
 
-      map_cleared : Stands allocator cleared table place (without_entry (keys, vs) i) others
-      map_cleared =
-          stands_still allocator mid table place (without_entry (keys, vs) i) others map_stands cleared heap_cleared c.front_kept
-          (λ h some. let w = map_away h (subst (λ b. 1 ≤ times h (b ∷ others)) map_home some) in kept_cleared h w.0 w.1 w.2) c.ownable
-          (λ h. subst (λ b. times h (b ∷ others) ≤ times h (positions (live cleared))) (sym map_home)
-          (let w = c.live_are h in let x = live_mid h in let o = s.owned h in let b = shares h in let d = others_are h in let p = times-more h (block_of node) k.zs in omega arith))
+      -- ---- the value is cleared, and the node given back
 
-      map_cleared_home : map_cleared.home ≡ s.home
-      unfolding map_cleared
-      map_cleared_home = Rattle.seg_spec.proofs.Standing.still_home allocator mid table place (without_entry (keys, vs) i) others map_stands cleared heap_cleared c.front_kept
-          (λ h some. let w = map_away h (subst (λ b. 1 ≤ times h (b ∷ others)) map_home some) in kept_cleared h w.0 w.1 w.2) c.ownable
-          (λ h. subst (λ b. times h (b ∷ others) ≤ times h (positions (live cleared))) (sym map_home)
-          (let w = c.live_are h in let x = live_mid h in let o = s.owned h in let b = shares h in let d = others_are h in let p = times-more h (block_of node) k.zs in omega arith)) ∙ map_home
+      module _ (cleared new : List ℕ) (c : ClearsPlace mid cleared table (value_of U (node + 24)) (default_of table U) k.zs [] theirs now final) (gives : IsHeap allocator cleared → IsLive cleared (block_of node)
+          → Gives allocator cleared new (block_of node)) where
+        goes : (h : ℕ) → times h (k.zs ++ shared) ≡ times h k.zs + times h shared
+        goes h = times-append h k.zs shared
 
-      node_cleared : 1 ≤ times (block_of node) (positions (live cleared))
-      node_cleared =
-          let w = c.live_are (block_of node) in
-          let x = live_mid (block_of node) in
-          let o = s.owned (block_of node) in
-          let b = shares (block_of node) in
-          let p = times-more (block_of node) s.home blocks in
-          let q = times-same (block_of node) k.zs in
-          let l = live-once old allocator s.heap (block_of node) in
-          let mine = node_live in
-          omega arith
+        stays : (h : ℕ) → times h k.zs + times h shared ≡ times h c.gives + times h left
+        stays h = sym (goes h) ∙ c.all_are h ∙ times-append h c.gives left
 
-      g : Gives allocator cleared new (block_of node)
-      g = gives heap_cleared (let d = found (block_of node) (live cleared) node_cleared in (d.block.units, subst (λ x. Contains (live cleared) (record { at = x; units = d.block.units })) d.at_is d.among))
+        live_cleared : (h : ℕ) → times h (positions (live cleared)) + times h c.gives ≡ times h (positions (live old))
+        live_cleared h = omega (arith, c.changes.live_are h, live_mid h, goes h, stays h)
 
-      node_off : times (block_of node) (map_cleared.home ∷ others) ≡ 0
-      node_off =
-          let o = s.owned (block_of node) in
-          let b = shares (block_of node) in
-          let d = others_are (block_of node) in
-          let q = times-same (block_of node) k.zs in
-          let l = live-once old allocator s.heap (block_of node) in
-          subst (λ x. times (block_of node) (x ∷ others) ≡ 0) (sym map_cleared_home) (omega arith)
+        mid_some : (h : ℕ) → 1 ≤ times h (positions (live old)) → 1 ≤ times h (positions (live mid))
+        mid_some h some = let x = live_mid h in omega arith
 
-      map_left : Stands allocator new table place (without_entry (keys, vs) i) others
-      map_left = left_stands allocator cleared table place (without_entry (keys, vs) i) others map_cleared new (block_of node) g node_cleared node_off
+        lies_mid : (h : ℕ) → 1 ≤ times h (positions (live mid)) → LiesIn mid heap_start (length mid) h
+        lies_mid h some = there (LiesIn mid heap_start (length mid)) h (positions (live mid)) (live-lie mid allocator made.heap) some
 
-      -- ---- the whole call
+        heap_cleared : IsHeap allocator cleared
+        heap_cleared = subst (λ a. IsHeap a cleared) allocator_mid c.changes.heap
 
-      given : live new ≡ after_gives (live old) (block_of node ∷ k.zs)
-      given =
-          g.given ∙ ap (λ bs. after_gives bs (block_of node ∷ [])) (c.live_is ∙ ap (λ bs. after_gives bs k.zs) made.live_is)
-          ∙ sym (given_last (live old) k.zs (block_of node)) ∙ in_any_order (live old) (k.zs ++ block_of node ∷ []) (block_of node ∷ k.zs) (λ h. let n = times-append h k.zs (block_of node ∷ []) in omega arith)
+        lies_cleared : (h : ℕ) → 1 ≤ times h (positions (live cleared)) → 2 ≤ units_at cleared h
+        lies_cleared h some = (there (LiesIn cleared heap_start (length cleared)) h (positions (live cleared)) (live-lie cleared allocator heap_cleared) some).size
 
-      live_counts : (h : ℕ) → times h (positions (live new)) + times h blocks ≡ times h (positions (live old)) + times h others
-      live_counts h =
-          let w = c.live_are h in
-          let x = live_mid h in
-          let b = shares h in
-          let d = others_are h in
-          let y : times h (block_of node ∷ positions (live new)) ≡ times h (positions (live cleared)) = ap (λ bs. times h (block_of node ∷ positions bs)) g.given ∙ times-without h (block_of node) (live cleared) node_cleared in
-          omega arith
+        node_mid : 1 ≤ times (block_of node) (positions (live mid))
+        node_mid = mid_some (block_of node) node_live
 
-      around_new : (h : ℕ) → 1 ≤ times h (positions (live old)) → times h blocks ≡ 0 → KeepsBlockAround old new place.at (size table place.type) h
-      around_new h some none =
-          let b = shares h in
-          let p = times-more h (block_of node) k.zs in
-          let x = mid_some h some in
-          let ne : h ≢ block_of node = λ e. let q = subst (λ y. times h (y ∷ k.zs) ≡ 1 + times h k.zs) e (times-same h k.zs) in omega arith in
-          let off : times h (map block_of ns) ≡ 0 = let n = times-append h (map block_of ns) m.owned in let d : times h blocks ≡ times h (map block_of ns ++ m.owned) = ap (times h) m.blocks_are in omega arith in
-          let step : KeepsBlock mid cleared h = kept_cleared h x ne (omega arith) in
-          let still : 1 ≤ times h (positions (live cleared)) = let w = c.live_are h in omega arith in
-          let last = (left_frames allocator cleared table place (without_entry (keys, vs) i) others map_cleared new (block_of node) g node_cleared node_off (size table place.type)).kept h still (times-other h (block_of node) []
-          (λ e. ne (sym e))) in
-          let first : KeepsBlockAround old mid place.at (size table place.type) h = rw cell_size (made.around h some off) in
-          let two = (lies_mid h x).size in
-          around_twice old mid new place.at (size table place.type) h first (around_twice mid cleared new place.at (size table place.type) h (around_kept mid cleared place.at (size table place.type) h (omega arith) step) last)
+        -- a block is kept that isn't the node's, nor one of its value or of frozen objects
+        kept_cleared : (h : ℕ) → 1 ≤ times h (positions (live mid)) → h ≢ block_of node → times h k.zs + times h shared ≡ 0 → KeepsBlock mid cleared h
+        kept_cleared h some ne none =
+            let kept = c.changes.kept h some (goes h ∙ none) in
+            record {
+              live = kept.header.live;
+              has_tag = kept.header.has_tag;
+              room = kept.header.room;
+              payload = kept.payload (h + 16) (payload_size mid h) (omega arith) (omega arith) (go (apart_blocks h some ne));
+            }
+          where
+            apart_blocks : (h : ℕ) → 1 ≤ times h (positions (live mid)) → h ≢ block_of node → OneOrApart mid (block_of node) h
+            apart_blocks h some ne = there (OneOrApart mid (block_of node)) h (positions (live mid)) (there (λ t. AllByRecursion (OneOrApart mid t) (positions (live mid))) (block_of node) (positions (live mid))
+                (live-apart mid allocator made.heap) node_mid) some
 
-      pub takes_key : TakesKey allocator old new table place keys vs blocks i
-      takes_key =
-          let last = left_frames allocator cleared table place (without_entry (keys, vs) i) others map_cleared new (block_of node) g node_cleared node_off (size table place.type) in
-          record {
-            gives = block_of node ∷ k.zs;
-            part = part_gives;
-            others = others;
-            succeeds = record {
-              left = live new;
-              left_is = ap Some (sym given);
+            go : OneOrApart mid (block_of node) h → Separate (h + 16) (payload_size mid h) (node + 24) (size table U)
+            go (inl e) = absurd (ne e)
+            go (inr (inl l)) = inr (let high = inside_node.high in omega arith)
+            go (inr (inr l)) = inl (let low = inside_node.low in let two = (lies_mid h some).size in omega arith)
+
+        map_away : (h : ℕ) → 1 ≤ times h (s.home ∷ others) → (1 ≤ times h (positions (live mid))) × (h ≢ block_of node) × (times h k.zs + times h shared ≡ 0)
+        map_away h some =
+            let x = live_mid h in
+            let o = all_fit h in
+            let b = shares h in
+            let d = others_are h in
+            let l = live-once old allocator s.heap h in
+            let p = times-more h (block_of node) k.zs in
+            (omega arith, (λ e. let q = subst (λ y. times h (y ∷ k.zs) ≡ 1 + times h k.zs) e (times-same h k.zs) in omega arith), omega arith)
+
+        map_whole : (h : ℕ) → 1 ≤ times h (map_stands.home ∷ others) → KeepsBlock mid cleared h
+        map_whole h some = let w = map_away h (subst (λ b. 1 ≤ times h (b ∷ others)) map_home some) in kept_cleared h w.0 w.1 w.2
+
+        map_owned : (h : ℕ) → times h (map_stands.home ∷ others) ≤ times h (positions (live cleared))
+        map_owned h = subst (λ b. times h (b ∷ others) ≤ times h (positions (live cleared))) (sym map_home)
+            (omega (arith, live_cleared h, all_fit h, shares h, others_are h, stays h, times-more h (block_of node) k.zs))
+
+        map_cleared : Stands allocator cleared table place (without_entry (keys, vs) i) others
+        map_cleared = stands_still allocator mid table place (without_entry (keys, vs) i) others map_stands cleared heap_cleared c.changes.front_kept map_whole c.changes.ownable map_owned
+
+        map_cleared_home : map_cleared.home ≡ s.home
+        unfolding map_cleared
+        map_cleared_home = still_home allocator mid table place (without_entry (keys, vs) i) others map_stands cleared heap_cleared c.changes.front_kept map_whole c.changes.ownable map_owned ∙ map_home
+
+        node_cleared : 1 ≤ times (block_of node) (positions (live cleared))
+        node_cleared =
+            let w = live_cleared (block_of node) in
+            let o = all_fit (block_of node) in
+            let b = shares (block_of node) in
+            let p = times-more (block_of node) s.home blocks in
+            let q = times-same (block_of node) k.zs in
+            let l = live-once old allocator s.heap (block_of node) in
+            let y = stays (block_of node) in
+            let mine = node_live in
+            omega arith
+
+        g : Gives allocator cleared new (block_of node)
+        g = gives heap_cleared (let d = found (block_of node) (live cleared) node_cleared in (d.block.units, subst (λ x. Contains (live cleared) (record { at = x; units = d.block.units })) d.at_is d.among))
+
+        node_off : times (block_of node) (map_cleared.home ∷ others) ≡ 0
+        node_off =
+            let o = s.owned (block_of node) in
+            let b = shares (block_of node) in
+            let d = others_are (block_of node) in
+            let q = times-same (block_of node) k.zs in
+            let l = live-once old allocator s.heap (block_of node) in
+            subst (λ x. times (block_of node) (x ∷ others) ≡ 0) (sym map_cleared_home) (omega arith)
+
+        map_left : Stands allocator new table place (without_entry (keys, vs) i) others
+        map_left = left_stands allocator cleared table place (without_entry (keys, vs) i) others map_cleared new (block_of node) g node_cleared node_off
+
+        -- a block that is there still when the node goes
+        last_kept : (h : ℕ) → 1 ≤ times h (positions (live cleared)) → h ≢ block_of node → KeepsBlock cleared new h
+        last_kept h some ne = (left_kept allocator cleared table place (without_entry (keys, vs) i) others map_cleared new (block_of node) g node_cleared node_off h some (λ e. ne (sym e))).whole.kept
+
+        -- ---- the whole call
+
+        given : live new ≡ after_gives (live old) (block_of node ∷ c.gives)
+        given =
+            g.given ∙ ap (λ bs. after_gives bs (block_of node ∷ [])) (c.changes.live_is ∙ ap (λ bs. after_gives bs c.gives) made.live_is)
+            ∙ sym (given_last (live old) c.gives (block_of node))
+            ∙ in_any_order (live old) (c.gives ++ block_of node ∷ []) (block_of node ∷ c.gives) (λ h. let n = times-append h c.gives (block_of node ∷ []) in omega arith)
+
+        all_are : (h : ℕ) → times h (blocks ++ shared) ≡ times h ((block_of node ∷ c.gives) ++ (others ++ left))
+        all_are h = omega (arith, times-append h blocks shared, shares h, others_are h, stays h, times-append h (block_of node ∷ c.gives) (others ++ left), times-append h others left)
+
+        live_counts : (h : ℕ) → times h (positions (live new)) + times h (blocks ++ shared) ≡ times h (positions (live old)) + times h (others ++ left)
+        live_counts h =
+            let w = live_cleared h in
+            let b = shares h in
+            let d = others_are h in
+            let n = times-append h blocks shared in
+            let o = times-append h others left in
+            let x = stays h in
+            let y : times h (block_of node ∷ positions (live new)) ≡ times h (positions (live cleared)) = ap (λ bs. times h (block_of node ∷ positions bs)) g.given ∙ times-without h (block_of node) (live cleared) node_cleared in
+            omega arith
+
+        around_new : (h : ℕ) → 1 ≤ times h (positions (live old)) → times h (blocks ++ shared) ≡ 0 → KeepsBlockAround old new place.at (size table place.type) h
+        around_new h some away =
+            let none : times h blocks ≡ 0 = omega (arith, times-append h blocks shared) in
+            let b = shares h in
+            let p = times-more h (block_of node) k.zs in
+            let x = mid_some h some in
+            let ne : h ≢ block_of node = λ e. let q = subst (λ y. times h (y ∷ k.zs) ≡ 1 + times h k.zs) e (times-same h k.zs) in omega arith in
+            let off : times h (map block_of ns) ≡ 0 = let n = times-append h (map block_of ns) m.owned in let d : times h blocks ≡ times h (map block_of ns ++ m.owned) = ap (times h) m.blocks_are in omega arith in
+            let nothing : times h k.zs + times h shared ≡ 0 = omega (arith, times-append h blocks shared) in
+            let step : KeepsBlock mid cleared h = kept_cleared h x ne nothing in
+            let still : 1 ≤ times h (positions (live cleared)) = omega (arith, live_cleared h, stays h) in
+            let last = last_kept h still ne in
+            let first : KeepsBlockAround old mid place.at (size table place.type) h = rw cell_size (made.around h some off) in
+            let two = (lies_mid h x).size in
+            let then = lies_cleared h still in
+            around_twice old mid new place.at (size table place.type) h first (around_twice mid cleared new place.at (size table place.type) h (around_kept mid cleared place.at (size table place.type) h (omega arith) step)
+            (around_kept cleared new place.at (size table place.type) h (omega arith) last))
+
+        -- ---- the frozen objects that are left
+
+        left_away : (h : ℕ) → 1 ≤ times h left → (1 ≤ times h shared) × (1 ≤ times h (positions (live cleared))) × (h ≢ block_of node)
+        left_away h some =
+            let fewer = subst (λ fs. times h (blocks_by theirs fs) ≤ times h shared) beside.releasing.leaves (left_fewer theirs beside.releasing.pending now h) in
+            let o = all_fit h in
+            let b = shares h in
+            let x = stays h in
+            let w = live_cleared h in
+            let l = live-once old allocator s.heap h in
+            let p = times-more h s.home blocks in
+            let r = times-more h (block_of node) k.zs in
+            (omega arith, omega arith, (λ e. let q = subst (λ y. times h (y ∷ k.zs) ≡ 1 + times h k.zs) e (times-same h k.zs) in omega arith))
+
+        left_first : KeepFrozen old mid theirs final
+        left_first = frozen_kept allocator old mid s.heap theirs final (λ h some. (shared_away h (left_away h some).0).0) (λ h some. shared_whole h (left_away h some).0)
+
+        left_last : KeepFrozen cleared new theirs final
+        left_last = frozen_kept allocator cleared new heap_cleared theirs final (λ h some. (left_away h some).1) (λ h some. let w = left_away h some in last_kept h w.1 w.2)
+
+        clears : ClearsPlace old new table place (without_entry (keys, vs) i) blocks others theirs now final
+        clears =
+            let last = left_frames allocator cleared table place (without_entry (keys, vs) i) others map_cleared new (block_of node) g node_cleared node_off (size table place.type) in
+            record {
+              gives = block_of node ∷ c.gives;
+              all_are = all_are;
               changes = record {
-                length_kept = last.length_kept ∙ c.length_kept ∙ made.length_kept;
-                front_kept = IsSame-trans old mid new 0 24 (made.low 0 24 (omega arith)) (IsSame-trans mid cleared new 0 24 c.front_kept last.front_kept);
-                back_kept = IsSame-trans old mid new 28 676 (made.low 28 676 (omega arith)) (IsSame-trans mid cleared new 28 676 c.back_kept last.back_kept);
+                length_kept = last.length_kept ∙ c.changes.length_kept ∙ made.length_kept;
+                front_kept = IsSame-trans old mid new 0 24 (made.low 0 24 (omega arith)) (IsSame-trans mid cleared new 0 24 c.changes.front_kept last.front_kept);
+                back_kept = IsSame-trans old mid new 28 676 (made.low 28 676 (omega arith)) (IsSame-trans mid cleared new 28 676 c.changes.back_kept last.back_kept);
                 heap = subst (λ a. IsHeap a new) (sym s.allocator_is) g.heap;
                 ownable = map_left.ownable;
                 holds_it = map_left.holds_it;
-                live_is = refl;
+                live_is = given;
                 live_are = live_counts;
                 kept = around_new;
               };
-            };
-          }
+              shared_kept = frozen_twice old mid new theirs final left_first (frozen_twice mid cleared new theirs final c.shared_kept left_last);
+              holds = hold_kept cleared new table s.is_table theirs final (λ h some. let w = left_away h some in last_kept h w.1 w.2) c.holds;
+            }
 
-      block_kept : (h : ℕ) → 1 ≤ times h (s.home ∷ others) → KeepsBlock mid new h
-      block_kept h some =
-          let w = map_away h some in
-          let x = c.live_are h in
-          let one : 1 ≤ times h (positions (live cleared)) = let q = w.2 in let r = w.0 in omega arith in
-          kept_twice mid cleared new h (kept_cleared h w.0 w.1 w.2)
-          (left_kept allocator cleared table place (without_entry (keys, vs) i) others map_cleared new (block_of node) g node_cleared node_off h one (λ e. w.1 (sym e))).whole.kept
+        -- ---- paths through other keys
 
-      cell_kept : IsSame mid new place.at (size table place.type)
-      cell_kept = same_place allocator mid table place (without_entry (keys, vs) i) others map_stands new (subst (KeepsBlock mid new) (sym map_home) (block_kept s.home (omega (arith, times-same s.home others))))
+        block_kept : (h : ℕ) → 1 ≤ times h (s.home ∷ others) → KeepsBlock mid new h
+        block_kept h some =
+            let w = map_away h some in
+            let x = live_cleared h in
+            let y = live_mid h in
+            let z = stays h in
+            let none = w.2 in
+            let one : 1 ≤ times h (positions (live cleared)) = let r = w.0 in omega arith in
+            kept_twice mid cleared new h (kept_cleared h w.0 w.1 w.2) (last_kept h one w.1)
 
-      pub keeps_others : KeepsOtherKeys old new table place key
-      keeps_others other path inner ne way =
-          Leads-kept mid new table s.is_table (path_mid other path inner ne way) holds_less cell_kept (each_there (KeepsBlock mid new) others (λ h some. block_kept h (omega (arith, times-more h s.home others))))
+        cell_kept : IsSame mid new place.at (size table place.type)
+        cell_kept = same_place allocator mid table place (without_entry (keys, vs) i) others map_stands new (subst (KeepsBlock mid new) (sym map_home) (block_kept s.home (omega (arith, times-same s.home others))))
+
+        keeps_others : KeepsOtherKeys old new table place key
+        keeps_others other path inner ne way =
+            Leads-kept mid new table s.is_table (path_mid other path inner ne way) holds_less cell_kept (each_there (KeepsBlock mid new) others (λ h some. block_kept h (omega (arith, times-more h s.home others))))
+
+        pub takes_key : TakesKey old new table place keys vs blocks (KeepsOtherKeys old new table place key) i theirs now final
+        takes_key = record {
+          loses = record {
+            lost = block_of node ∷ k.zs;
+            part = part_gives;
+            others = others;
+            blocks_are = λ h. omega (arith, shares h, others_are h, times-append h (block_of node ∷ k.zs) others);
+            clears = clears;
+          };
+          kept = keeps_others;
+        }

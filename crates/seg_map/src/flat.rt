@@ -1,8 +1,10 @@
 //! A flat map: a buffer of entries {key, value} in order of their keys.
 
-ghost use Rattle.std.specs.Prelude.{◌≡◌, Some, None, IsOkUnless, MatchResult, slice_get};
+ghost use Rattle.std.specs.Prelude.{◌≡◌, ℕ, ℤ, List, Some, None, IsOkUnless, MatchResult, slice_get};
 ghost use Rattle.seg_spec.specs.Items.{key_place, keys_below};
-ghost use Rattle.seg_spec.specs.Types.{Form};
+ghost use Rattle.seg_spec.specs.Owning.{Stands};
+ghost use Rattle.seg_spec.specs.Types.{Form, form_at};
+ghost use Rattle.seg_spec.specs.Value.{Values, Map};
 ghost use Rattle.seg_spec.specs.Window.{KeepsHost};
 ghost use Rattle.seg_value.specs.Places.{object_at};
 ghost use Rattle.seg_value.specs.Contents.{IsEntryOf};

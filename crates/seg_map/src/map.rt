@@ -1,11 +1,13 @@
-ghost use Rattle.std.specs.Prelude.{◌≡◌, true, false, Err, IsOkUnless};
+ghost use Rattle.std.specs.Prelude.{◌≡◌, ℕ, ℤ, List, true, false, Err, IsOkUnless};
 ghost use Rattle.std.specs.Result.{result_ok};
 ghost use Rattle.seg_spec.specs.Items.{key_place};
+ghost use Rattle.seg_spec.specs.Owning.{Stands};
 ghost use Rattle.seg_spec.specs.Types.{form_at};
+ghost use Rattle.seg_spec.specs.Value.{Values, Map};
 ghost use Rattle.seg_spec.specs.Window.{KeepsHost};
 ghost use Rattle.seg_value.specs.Places.{place_of};
 ghost use Rattle.seg_rbtree.specs.Following.{LeadsInside};
-ghost use Rattle.seg_map.specs.EitherMap.{has_keys, WhereMaps, key_asks, KeepsTreePaths, KeepsKeysBut};
+ghost use Rattle.seg_map.specs.EitherMap.{has_keys, IsMapOf, WhereMaps, key_asks, KeepsTreePaths, KeepsKeysBut};
 ghost use Rattle.seg_map.specs.Maps.{FindsValue, PutsKey, RemovesKey, first_of, keys_above};
 
 use crate::{flat, tree};

@@ -1,6 +1,6 @@
 //! A map as a red-black tree of nodes: tree words, the key, the value. The pointer of the map's cell names the root.
 
-ghost use Rattle.std.specs.Prelude.{◌≡◌, ◌+◌, ◌%◌, ◌^◌, [], ◌∷◌, ⊤, IsOkUnless};
+ghost use Rattle.std.specs.Prelude.{◌≡◌, ℕ, ℤ, ◌+◌, ◌%◌, ◌^◌, List, [], ◌∷◌, Some, ⊤, IsOkUnless};
 ghost use Rattle.std.specs.Ordering.{int_cmp};
 ghost use Rattle.std.specs.Cmp.{on_total, int_cmp_total};
 ghost use Rattle.std.proofs.Common.{arith, inl, inr, ⊎_elim};
@@ -10,7 +10,9 @@ ghost use Rattle.seg_spec.specs.Window.{KeepsHost};
 ghost use Rattle.seg_spec.specs.Shrinking.{KeepsPathsInside};
 ghost use Rattle.seg_spec.proofs.BytesLaws.{number-slice};
 ghost use Rattle.seg_spec.proofs.OrderSteps.{steps_up};
-ghost use Rattle.seg_spec.specs.Types.{Form, size};
+ghost use Rattle.seg_spec.specs.Owning.{Stands};
+ghost use Rattle.seg_spec.specs.Types.{Form, form_at, size};
+ghost use Rattle.seg_spec.specs.Value.{Values, Map};
 ghost use Rattle.seg_spec.specs.Demand.{block_for};
 ghost use Rattle.seg_spec.specs.Items.{key_place};
 ghost use Rattle.seg_rbtree.specs.Parts.{part};

@@ -1,8 +1,8 @@
--- A list without one of its nodes.
-use Rattle.std.proofs.Common.{◌≡◌, ◌≢◌, ℕ, suc, ◌+◌, ◌%◌, ◌≤◌, ◌⊎◌, inl, inr, List, [], ◌∷◌, ◌++◌, length, map, Some, refl, sym, ap, ◌∙◌, subst, arith, append_assoc}
+-- A list without one of its nodes, with the frozen objects that the item in it named last.
+use Rattle.std.proofs.Common.{◌≡◌, ◌≢◌, ℕ, suc, ◌+◌, ◌%◌, ◌≤◌, ◌⊎◌, inl, inr, ⊎_elim, List, [], ◌∷◌, ◌++◌, length, map, Some, refl, sym, ap, ◌∙◌, subst, arith, append_assoc}
 use Rattle.std.specs.Prelude.{slice_get}
 use Rattle.std.specs.List.{AllByRecursion}
-use Rattle.std.proofs.lemmas.Bool.{cases_eq}
+use Rattle.std.proofs.lemmas.Bool.{cases_eq, cases_lt}
 use Rattle.seg_spec.specs.Header.{free_word, back_start, back_size}
 use Rattle.seg_spec.specs.Bytes.{word, IsSame}
 use Rattle.seg_spec.specs.Types.{Form, Table, form_at, size}
@@ -14,6 +14,9 @@ use Rattle.seg_spec.specs.Reads.{Place, AreNodes, Holds, HoldsEach, holds_none, 
 use Rattle.seg_spec.specs.Apart.{Separate, KeepsBlockAround}
 use Rattle.seg_spec.specs.Sound.{times, positions}
 use Rattle.seg_spec.specs.Roots.{ChangesPlace}
+use Rattle.seg_spec.specs.Frozen.{Frozen, blocks_by}
+use Rattle.seg_spec.specs.Destroying.{AreLive}
+use Rattle.seg_spec.specs.Clearing.{SharedBeside, ClearsPlace}
 use Rattle.seg_spec.specs.Owning.{Stands}
 use Rattle.seg_spec.specs.Demand.{after_gives}
 use Rattle.seg_spec.specs.Pointer.{target}
@@ -26,6 +29,7 @@ use Rattle.seg_spec.proofs.Leading.{Leads-each}
 use Rattle.seg_spec.proofs.Giving.{given_kept}
 use Rattle.seg_spec.proofs.KeptLaws.{front_kept}
 use Rattle.seg_spec.proofs.Destruction.{gives_more}
+use Rattle.seg_spec.proofs.FrozenBlocks.{hold_kept, frozen_twice, frozen_kept}
 use Rattle.seg_spec.proofs.GiveOrder.{in_any_order}
 use Rattle.seg_spec.proofs.Standing.{ownable_linked, each_live_at, live_at}
 use Rattle.seg_value.proofs.Turns.{is_live}
@@ -136,6 +140,18 @@ module _ (allocator : ℕ) (old : List ℕ) (table : Table) (list : Place) (U no
   blocks_count : (h : ℕ) → times h blocks ≡ times h (map block_of all) + times h owned
   blocks_count h = ap (times h) blocks_are ∙ times-append h (map block_of all) owned
 
+  -- the blocks that stay
+  abbrev pub others : List ℕ
+  others = map block_of (xs ++ ys) ++ (p.front ++ p.back)
+
+  pub dropped_blocks : (h : ℕ) → times h blocks ≡ times h (b ∷ p.its) + times h others
+  dropped_blocks h =
+      let k = blocks_count h in
+      let a = all_count h in
+      let o = owned_count h in
+      let q = times-append h (map block_of rest) (p.front ++ p.back) in
+      omega arith
+
   fits : (h : ℕ) → times h (s.home ∷ map block_of all) + times h owned ≤ times h (positions (live old))
   fits h = let o = s.owned h in let c = blocks_count h in omega arith
 
@@ -201,26 +217,8 @@ module _ (allocator : ℕ) (old : List ℕ) (table : Table) (list : Place) (U no
         let m = times-more h s.home (map block_of all) in
         other_kept allocator old s.heap list.at s.home inside s.aligned all low own one r.changes h (omega arith) (not_home h (omega arith)) (omega arith)
 
-    -- where the item stands meanwhile
-    pub item_stands : Stands allocator one table (value_in U node) p.value p.its
-    item_stands = record {
-      heap = one_heap;
-      allocator_is = word-same old one 16 (low_same allocator old one (list.at ∷ all) s.heap r.changes homes 16 4 (omega arith)) ∙ s.allocator_is;
-      is_table = s.is_table;
-      ownable = one_ownable;
-      holds_it = Holds-kept old one table s.is_table p.holds_it (value_same node node_some) (each_there (KeepsBlock old one) p.its (λ h some. owned_kept h (let c = owned_count h in omega arith)));
-      aligned = let q = there (λ q. (q % 8 ≡ 0) × (q + 8 ≤ length old)) node all dropped_spread.fit.1 node_some in let e = q.0 in omega arith;
-      home = b;
-      inside = let n = node_now node node_some in let lo = n.after_header in let room = n.room in
-          let two = (there (LiesIn one heap_start (length one)) b (positions (live one)) (live-lie one allocator one_heap) (let c = one_count b in let l = b_live in omega arith)).size in
-          record { low = omega arith; high = omega arith };
-      owned = λ h.
-          let c = one_count h in
-          let o = fits h in
-          let n = owned_count h in
-          let a = all_count h in
-          omega arith;
-    }
+    one_word : word one 16 ≡ allocator
+    one_word = word-same old one 16 (low_same allocator old one (list.at ∷ all) s.heap r.changes homes 16 4 (omega arith)) ∙ s.allocator_is
 
     pub item_inside : IsInside one b (node + 8) (size table U)
     item_inside =
@@ -230,204 +228,305 @@ module _ (allocator : ℕ) (old : List ℕ) (table : Table) (list : Place) (U no
         let two = (there (LiesIn one heap_start (length one)) b (positions (live one)) (live-lie one allocator one_heap) (let c = one_count b in let l = b_live in omega arith)).size in
         record { low = omega arith; high = omega arith }
 
-    one_word : word one 16 ≡ allocator
-    one_word = word-same old one 16 (low_same allocator old one (list.at ∷ all) s.heap r.changes homes 16 4 (omega arith)) ∙ s.allocator_is
+    -- where the item stands meanwhile
+    pub item_stands : Stands allocator one table (value_in U node) p.value p.its
+    item_stands = record {
+      heap = one_heap;
+      allocator_is = one_word;
+      is_table = s.is_table;
+      ownable = one_ownable;
+      holds_it = Holds-kept old one table s.is_table p.holds_it (value_same node node_some) (each_there (KeepsBlock old one) p.its (λ h some. owned_kept h (let c = owned_count h in omega arith)));
+      aligned = let q = there (λ q. (q % 8 ≡ 0) × (q + 8 ≤ length old)) node all dropped_spread.fit.1 node_some in let e = q.0 in omega arith;
+      home = b;
+      inside = item_inside;
+      owned = λ h.
+          let c = one_count h in
+          let o = fits h in
+          let n = owned_count h in
+          let a = all_count h in
+          omega arith;
+    }
 
-    -- ---- what the item owned is given back, and then its node
+    -- ---- beside frozen objects, whose blocks are none of the list's
 
-    module _ (two : List ℕ) (c : ChangesPlace one two table (value_in U node) (default_of table U) [] (after_gives (live one) p.its) p.its []) where
-      pub two_heap : IsHeap allocator two
-      two_heap = subst (λ a. IsHeap a two) one_word c.heap
+    module _ (theirs : ℕ → List ℕ) (now final : List Frozen) (beside : AreLive old ((s.home ∷ blocks) ++ blocks_by theirs now)) where
+      abbrev shares : List ℕ
+      shares = blocks_by theirs now
 
-      two_count : (h : ℕ) → times h (positions (live two)) + times h p.its ≡ times h (positions (live old))
-      two_count h = let l = c.live_are h in let o = one_count h in omega arith
+      all_fit : (h : ℕ) → times h (s.home ∷ map block_of all) + (times h owned + times h shares) ≤ times h (positions (live old))
+      all_fit h = let o = beside h in let c = blocks_count h in let a = times-append h (s.home ∷ blocks) shares in omega arith
 
-      b_alone : times b p.its ≡ 0
-      b_alone = let o = fits b in let l = once b in let n = owned_count b in let a = all_count b in let t = times-same b (map block_of rest) in omega arith
+      shares_other : (h : ℕ) → 1 ≤ times h shares → h ≢ s.home
+      shares_other h some e =
+          let mine : 1 ≤ times s.home shares = subst (λ k. 1 ≤ times k shares) e some in
+          let o = all_fit s.home in
+          let l = once s.home in
+          let t = times-same s.home (map block_of all) in
+          absurd (omega arith)
 
-      b_two : 1 ≤ times b (positions (live two))
-      b_two = let l = two_count b in let a = b_alone in let k = b_live in omega arith
+      -- a block of what an item owns, or of a frozen object
+      beside_kept : (h : ℕ) → 1 ≤ times h owned + times h shares → KeepsBlock old one h
+      beside_kept h some = ⊎_elim
+          (λ none. shares_kept h (omega arith))
+          (λ mine. owned_kept h mine) (cases_lt (times h owned) 1)
+        where
+          shares_kept : (h : ℕ) → 1 ≤ times h shares → KeepsBlock old one h
+          shares_kept h some =
+              let o = all_fit h in
+              let l = once h in
+              let m = times-more h s.home (map block_of all) in
+              other_kept allocator old s.heap list.at s.home inside s.aligned all low own one r.changes h (omega arith) (shares_other h some) (omega arith)
 
-      pub node_live_still : IsLive two (block_of node)
-      node_live_still = is_live two b b_two
-
-      module _ (new : List ℕ) (g : Gives allocator two new (block_of node)) where
-        -- every other block
-        module _ (h : ℕ) (some : 1 ≤ times h (positions (live old))) (ne : h ≢ b) (none : times h p.its ≡ 0) where
-          some_one : 1 ≤ times h (positions (live one))
-          some_one = let o = one_count h in omega arith
-
-          some_two : 1 ≤ times h (positions (live two))
-          some_two = let o = two_count h in omega arith
-
-          apart : OneOrApart one b h → LiesIn one heap_start (length one) h → Separate (h + 16) (payload_size one h) (node + 8) (size table U)
-          apart (inl e) l = absurd (ne e)
-          apart (inr (inl before)) l = inr (omega (arith, item_inside.high))
-          apart (inr (inr following)) l = inl (omega (arith, item_inside.low, l.size))
-
-          whole_two : KeepsBlock one two h
-          whole_two =
-              let k = c.kept h some_one none in
-              let mine = there (λ t. AllByRecursion (OneOrApart one t) (positions (live one))) b (positions (live one)) (live-apart one allocator one_heap) (let o = one_count b in let l = b_live in omega arith) in
-              let pair = there (OneOrApart one b) h (positions (live one)) mine some_one in
-              let l = there (LiesIn one heap_start (length one)) h (positions (live one)) (live-lie one allocator one_heap) some_one in
-              record { live = k.header.live; has_tag = k.header.has_tag; room = k.header.room; payload = k.payload (h + 16) (payload_size one h) (omega arith) (omega arith) (apart pair l) }
-
-          whole_new : KeepsBlock one new h
-          whole_new = kept_twice one two new h whole_two (given_kept allocator two new b two_heap g h some_two ne).whole.kept
-
-        new_count : (h : ℕ) → times h (b ∷ positions (live new)) ≡ times h (positions (live two))
-        new_count h = ap (λ bs. times h (b ∷ positions bs)) g.given ∙ times-without h b (live two) b_two
-
-        new_live : live new ≡ after_gives (live old) (b ∷ p.its)
-        new_live =
-            g.given ∙ ap (Rattle.seg_spec.specs.Heap.without b) c.live_is ∙ sym (gives_more (live one) p.its b)
-            ∙ in_any_order (live one) (p.its ++ b ∷ []) (b ∷ p.its) (λ h. let a = times-append h p.its (b ∷ []) in omega arith)
-            ∙ ap (λ bs. after_gives bs (b ∷ p.its)) one_live
-
-        new_ownable : AllByRecursion (λ k. IsOwnable new table k.at) (live new)
-        new_ownable = each_live_at (IsOwnable new table) (live new) (λ h some.
-            let n = new_count h in
-            let some_two : 1 ≤ times h (positions (live two)) = omega arith in
-            let ne : h ≢ b = λ e. let t = times-same b (positions (live new)) in let m = new_count b in let l = live-once two allocator two_heap b in
-            let z : 1 ≤ times b (positions (live new)) = subst (λ k. 1 ≤ times k (positions (live new))) e some in absurd (omega arith) in
-            ownable_linked two new table h (given_kept allocator two new b two_heap g h some_two ne) (live_at (IsOwnable two table) (live two) h c.ownable some_two))
-
-        abbrev pub others : List ℕ
-        others = map block_of (xs ++ ys) ++ (p.front ++ p.back)
-
-        -- a block that the list has still, or the one that it lies in
-        kept_now : (h : ℕ) → 1 ≤ times h (s.home ∷ others) → KeepsBlock one new h
-        kept_now h some =
-            let a = times-append h (map block_of rest) (p.front ++ p.back) in
-            let o = fits h in
-            let l = once h in
+      -- what calls find there that destroy the item
+      pub item_beside : (names : List ℕ) (kept : List Place) → SharedBeside old table (s.home ∷ blocks) names theirs kept now final → SharedBeside one table (item_stands.home ∷ p.its) names theirs kept now final
+      unfolding item_stands
+      item_beside names kept shared = record {
+        holds = hold_kept old one table s.is_table theirs now (λ h some. beside_kept h (omega arith)) shared.holds;
+        ownable = λ h some. live_at (IsOwnable one table) (live one) h one_ownable (let o = all_fit h in let c = one_count h in omega arith);
+        owned = λ h.
+            let c = one_count h in
+            let o = all_fit h in
             let n = owned_count h in
-            let m = all_count h in
-            whole_new h (omega arith) (λ e.
-            let t = times-same b (map block_of rest) in
-            let z : times h (b ∷ map block_of rest) ≡ 1 + times h (map block_of rest) = subst (λ k. times k (b ∷ map block_of rest) ≡ 1 + times k (map block_of rest)) (sym e) t in
-            absurd (omega arith)) (let q = times-more h b (map block_of rest) in omega arith)
-
-        home_now : KeepsBlock one new s.home
-        home_now = kept_now s.home (let t = times-same s.home others in omega arith)
-
-        home_first : KeepsBlockAround old one list.at 8 s.home
-        home_first = home_kept allocator old s.heap list.at s.home inside s.aligned all low own one r.changes
-
-        cell_same : IsSame one new list.at 8
-        cell_same =
-            let room = home_first.header.room in
-            let lo = inside.low in
-            let hi = inside.high in
-            IsSame-part one new (s.home + 16) (payload_size one s.home) list.at 8 (omega arith) (omega arith) home_now.payload
-
-        front_owned : (h : ℕ) → 1 ≤ times h p.front → 1 ≤ times h owned
-        front_owned h some = let n = owned_count h in let a = times-append h p.front p.back in omega arith
-
-        back_owned : (h : ℕ) → 1 ≤ times h p.back → 1 ≤ times h owned
-        back_owned h some = let n = owned_count h in let a = times-append h p.front p.back in omega arith
-
-        node_kept : (q : ℕ) → 1 ≤ times q (xs ++ ys) → KeepsBlock one new (block_of q)
-        node_kept q some =
-            let m = times_mapped q (xs ++ ys) in
-            let a = times-append (block_of q) (map block_of rest) (p.front ++ p.back) in
-            kept_now (block_of q) (let t = times-more (block_of q) s.home others in omega arith)
-
-        node_same : (q : ℕ) → 1 ≤ times q (xs ++ ys) → IsSame one new q (8 + size table U)
-        node_same q some = payload-same one new q (tag_of Kind.node list.type) (8 + size table U) (node_kept q some) (node_now q (rest_some q some))
-
-        -- the values that stay
-        value_new : (q : ℕ) → 1 ≤ times q (xs ++ ys) → IsSame old new (q + 8) (size table U)
-        value_new q some = IsSame-part one new q (8 + size table U) (q + 8) (size table U) (omega arith) (omega arith) (node_same q some) ∙ value_same q (rest_some q some)
-
-        values_new : (qs : List ℕ) → ((q : ℕ) → 1 ≤ times q qs → 1 ≤ times q (xs ++ ys)) → AllByRecursion (SamePlace old new table) (values_in U qs)
-        values_new qs among = each_map (SamePlace old new table) (λ q. record { at = q; type = U }) (map (λ q. q + 8) qs) (each_map (λ q. IsSame old new q (size table U)) (λ q. q + 8) qs
-            (each_there (λ q. IsSame old new (q + 8) (size table U)) qs (λ q some. value_new q (among q some))))
-
-        owned_new : (h : ℕ) → 1 ≤ times h (p.front ++ p.back) → KeepsBlock old new h
-        owned_new h some =
-            let n = owned_count h in
-            let a = times-append h (map block_of rest) (p.front ++ p.back) in
-            kept_twice old one new h (owned_kept h (omega arith)) (kept_now h (let t = times-more h s.home others in omega arith))
-
-        front_new : AllByRecursion (KeepsBlock old new) p.front
-        front_new = each_there (KeepsBlock old new) p.front (λ h some. owned_new h (let a = times-append h p.front p.back in omega arith))
-
-        back_new : AllByRecursion (KeepsBlock old new) p.back
-        back_new = each_there (KeepsBlock old new) p.back (λ h some. owned_new h (let a = times-append h p.front p.back in omega arith))
-
-        xs_new : AllByRecursion (SamePlace old new table) (values_in U xs)
-        xs_new = values_new xs (λ k some. let a = times-append k xs ys in omega arith)
-
-        ys_new : AllByRecursion (SamePlace old new table) (values_in U ys)
-        ys_new = values_new ys (λ k some. let a = times-append k xs ys in omega arith)
-
-        -- the list without the node
-        pub list_new : ListOf new table list U (append p.left p.right) others
-        list_new = record {
-          nodes = xs ++ ys;
-          owned = p.front ++ p.back;
-          ring = record {
-            ring = rw (cell-target one new list.at cell_same) (IsRing-same one new (target one list.at) (xs ++ ys)
-                (each_there (λ q. IsSame one new q 8) (xs ++ ys) (λ q some. IsSame-part one new q (8 + size table U) q 8 (omega arith) (omega arith) (node_same q some))) r.ring.ring);
-            counted = r.ring.counted ∙ sym (cell-count one new list.at cell_same);
-          };
-          are_nodes = each_there (λ q. IsBlock new q (tag_of Kind.node list.type) (8 + size table U)) (xs ++ ys)
-              (λ q some. IsBlock-kept one new q (tag_of Kind.node list.type) (8 + size table U) (node_kept q some) (node_now q (rest_some q some)));
-          each = rw (values_append U xs ys) (each_append new table U (HoldsEach-kept old new table s.is_table p.lefts xs_new front_new) (HoldsEach-kept old new table s.is_table p.rights ys_new back_new));
-          blocks_are = refl;
-        }
-
-        pub new_nodes : list_new.nodes ≡ xs ++ ys
-        unfolding list_new
-        new_nodes = refl
-
-        solid : (h : ℕ) → 1 ≤ times h (positions (live old)) → 2 ≤ units_at old h
-        solid h some = (there (LiesIn old heap_start (length old)) h (positions (live old)) (live-lie old allocator s.heap) some).size
-
-        kept_around : (h : ℕ) → 1 ≤ times h (positions (live old)) → times h blocks ≡ 0 → KeepsBlockAround old new list.at 8 h
-        kept_around h some none =
-            let k = blocks_count h in
             let a = all_count h in
-            let n = owned_count h in
-            let ne : h ≢ b = λ e. let t = times-same b (map block_of rest) in
-            let z : times h (b ∷ map block_of rest) ≡ 1 + times h (map block_of rest) = subst (λ k. times k (b ∷ map block_of rest) ≡ 1 + times k (map block_of rest)) (sym e) t in absurd (omega arith) in
-            let later = whole_new h some ne (omega arith) in
-            let one_solid = (there (LiesIn one heap_start (length one)) h (positions (live one)) (live-lie one allocator one_heap) (some_one h some ne (omega arith))).size in
-            around_twice old one new list.at 8 h (go (omega arith) (cases_eq s.home h)) (around_kept one new list.at 8 h (omega arith) later)
-          where
-            go : times h (map block_of all) ≡ 0 → (s.home ≡ h) ⊎ (s.home ≢ h) → KeepsBlockAround old one list.at 8 h
-            go zero_nodes (inl e) = subst (λ k. KeepsBlockAround old one list.at 8 k) e home_first
-            go zero_nodes (inr other) =
-                let two_units = solid h some in
-                around_kept old one list.at 8 h (omega arith) (other_kept allocator old s.heap list.at s.home inside s.aligned all low own one r.changes h some (λ e. other (sym e)) zero_nodes)
+            let m = times-append h (b ∷ p.its) shares in
+            omega arith;
+        releasing = shared.releasing;
+      }
 
-        long : heap_start ≤ length two
-        long = let l = there (LiesIn two heap_start (length two)) b (positions (live two)) (live-lie two allocator two_heap) b_two in let lo = l.low in let hi = l.high in omega arith
+      -- ---- what the item owned is given back, and then its node
 
-        pub dropped_changes : ChangesPlace old new table list (Seq (append p.left p.right)) others (after_gives (live old) (block_of node ∷ p.its)) blocks others
-        dropped_changes = record {
-          length_kept = g.kept.front_kept.length_kept ∙ c.length_kept ∙ r.changes.length_kept;
-          front_kept = (front_kept two new g.kept long).0 ∙ c.front_kept ∙ low_same allocator old one (list.at ∷ all) s.heap r.changes homes 0 free_word (omega arith);
-          back_kept = (front_kept two new g.kept long).1 ∙ c.back_kept ∙ low_same allocator old one (list.at ∷ all) s.heap r.changes homes back_start back_size (omega arith);
-          heap = subst (λ a. IsHeap a new) (sym s.allocator_is) g.heap;
-          ownable = new_ownable;
-          holds_it = holds_list new table list U f (append p.left p.right) others list_new;
-          live_is = new_live;
-          live_are = λ h.
+      module _ (two : List ℕ) (c : ClearsPlace one two table (value_in U node) (default_of table U) p.its [] theirs now final) where
+        pub two_heap : IsHeap allocator two
+        two_heap = subst (λ a. IsHeap a two) one_word c.changes.heap
+
+        abbrev left : List ℕ
+        left = blocks_by theirs final
+
+        -- what the item owned, and what frozen objects own, goes or is left
+        goes : (h : ℕ) → times h p.its + times h shares ≡ times h c.gives + times h left
+        goes h = let a = c.all_are h in let m = times-append h p.its shares in let n = times-append h c.gives left in omega arith
+
+        two_count : (h : ℕ) → times h (positions (live two)) + times h c.gives ≡ times h (positions (live old))
+        two_count h = let l = c.changes.live_are h in let o = one_count h in let g = goes h in let m = times-append h p.its shares in omega arith
+
+        b_alone : times b p.its + times b shares ≡ 0
+        b_alone = let o = all_fit b in let l = once b in let n = owned_count b in let a = all_count b in let t = times-same b (map block_of rest) in omega arith
+
+        b_two : 1 ≤ times b (positions (live two))
+        b_two = let l = two_count b in let a = b_alone in let g = goes b in let k = b_live in omega arith
+
+        pub node_live_still : IsLive two (block_of node)
+        node_live_still = is_live two b b_two
+
+        -- the blocks of the frozen objects that are left
+        left_one : (h : ℕ) → 1 ≤ times h left → KeepsBlock old one h
+        left_one h some = beside_kept h (let n = owned_count h in let g = goes h in omega arith)
+
+        left_old : (h : ℕ) → 1 ≤ times h left → 1 ≤ times h (positions (live old))
+        left_old h some = let o = all_fit h in let n = owned_count h in let g = goes h in omega arith
+
+        left_two : (h : ℕ) → 1 ≤ times h left → 1 ≤ times h (positions (live two))
+        left_two h some = let o = all_fit h in let n = owned_count h in let g = goes h in let t = two_count h in omega arith
+
+        left_other : (h : ℕ) → 1 ≤ times h left → h ≢ b
+        left_other h some e =
+            let mine : 1 ≤ times b left = subst (λ k. 1 ≤ times k left) e some in
+            let a = b_alone in
+            let g = goes b in
+            absurd (omega arith)
+
+        module _ (new : List ℕ) (g : Gives allocator two new (block_of node)) where
+          left_new : (h : ℕ) → 1 ≤ times h left → KeepsBlock two new h
+          left_new h some = (given_kept allocator two new b two_heap g h (left_two h some) (left_other h some)).whole.kept
+
+          -- every other block
+          module _ (h : ℕ) (some : 1 ≤ times h (positions (live old))) (ne : h ≢ b) (none : times h p.its + times h shares ≡ 0) where
+            some_one : 1 ≤ times h (positions (live one))
+            some_one = let o = one_count h in omega arith
+
+            some_two : 1 ≤ times h (positions (live two))
+            some_two = let o = two_count h in let g = goes h in omega arith
+
+            apart : OneOrApart one b h → LiesIn one heap_start (length one) h → Separate (h + 16) (payload_size one h) (node + 8) (size table U)
+            apart (inl e) l = absurd (ne e)
+            apart (inr (inl before)) l = inr (omega (arith, item_inside.high))
+            apart (inr (inr following)) l = inl (omega (arith, item_inside.low, l.size))
+
+            whole_two : KeepsBlock one two h
+            whole_two =
+                let k = c.changes.kept h some_one (let m = times-append h p.its shares in omega arith) in
+                let mine = there (λ t. AllByRecursion (OneOrApart one t) (positions (live one))) b (positions (live one)) (live-apart one allocator one_heap) (let o = one_count b in let l = b_live in omega arith) in
+                let pair = there (OneOrApart one b) h (positions (live one)) mine some_one in
+                let l = there (LiesIn one heap_start (length one)) h (positions (live one)) (live-lie one allocator one_heap) some_one in
+                record { live = k.header.live; has_tag = k.header.has_tag; room = k.header.room; payload = k.payload (h + 16) (payload_size one h) (omega arith) (omega arith) (apart pair l) }
+
+            whole_new : KeepsBlock one new h
+            whole_new = kept_twice one two new h whole_two (given_kept allocator two new b two_heap g h some_two ne).whole.kept
+
+          new_count : (h : ℕ) → times h (b ∷ positions (live new)) ≡ times h (positions (live two))
+          new_count h = ap (λ bs. times h (b ∷ positions bs)) g.given ∙ times-without h b (live two) b_two
+
+          new_live : live new ≡ after_gives (live old) (b ∷ c.gives)
+          new_live =
+              g.given ∙ ap (Rattle.seg_spec.specs.Heap.without b) c.changes.live_is ∙ sym (gives_more (live one) c.gives b)
+              ∙ in_any_order (live one) (c.gives ++ b ∷ []) (b ∷ c.gives) (λ h. let a = times-append h c.gives (b ∷ []) in omega arith)
+              ∙ ap (λ bs. after_gives bs (b ∷ c.gives)) one_live
+
+          new_ownable : AllByRecursion (λ k. IsOwnable new table k.at) (live new)
+          new_ownable = each_live_at (IsOwnable new table) (live new) (λ h some.
               let n = new_count h in
-              let t = two_count h in
+              let some_two : 1 ≤ times h (positions (live two)) = omega arith in
+              let ne : h ≢ b = λ e. let t = times-same b (positions (live new)) in let m = new_count b in let l = live-once two allocator two_heap b in
+              let z : 1 ≤ times b (positions (live new)) = subst (λ k. 1 ≤ times k (positions (live new))) e some in absurd (omega arith) in
+              ownable_linked two new table h (given_kept allocator two new b two_heap g h some_two ne) (live_at (IsOwnable two table) (live two) h c.changes.ownable some_two))
+
+          -- a block that the list has still, or the one that it lies in
+          kept_now : (h : ℕ) → 1 ≤ times h (s.home ∷ others) → KeepsBlock one new h
+          kept_now h some =
+              let a = times-append h (map block_of rest) (p.front ++ p.back) in
+              let o = all_fit h in
+              let l = once h in
+              let n = owned_count h in
+              let m = all_count h in
+              whole_new h (omega arith) (λ e.
+              let t = times-same b (map block_of rest) in
+              let z : times h (b ∷ map block_of rest) ≡ 1 + times h (map block_of rest) = subst (λ k. times k (b ∷ map block_of rest) ≡ 1 + times k (map block_of rest)) (sym e) t in
+              absurd (omega arith)) (let q = times-more h b (map block_of rest) in omega arith)
+
+          home_now : KeepsBlock one new s.home
+          home_now = kept_now s.home (let t = times-same s.home others in omega arith)
+
+          home_first : KeepsBlockAround old one list.at 8 s.home
+          home_first = home_kept allocator old s.heap list.at s.home inside s.aligned all low own one r.changes
+
+          cell_same : IsSame one new list.at 8
+          cell_same =
+              let room = home_first.header.room in
+              let lo = inside.low in
+              let hi = inside.high in
+              IsSame-part one new (s.home + 16) (payload_size one s.home) list.at 8 (omega arith) (omega arith) home_now.payload
+
+          front_owned : (h : ℕ) → 1 ≤ times h p.front → 1 ≤ times h owned
+          front_owned h some = let n = owned_count h in let a = times-append h p.front p.back in omega arith
+
+          back_owned : (h : ℕ) → 1 ≤ times h p.back → 1 ≤ times h owned
+          back_owned h some = let n = owned_count h in let a = times-append h p.front p.back in omega arith
+
+          node_kept : (q : ℕ) → 1 ≤ times q (xs ++ ys) → KeepsBlock one new (block_of q)
+          node_kept q some =
+              let m = times_mapped q (xs ++ ys) in
+              let a = times-append (block_of q) (map block_of rest) (p.front ++ p.back) in
+              kept_now (block_of q) (let t = times-more (block_of q) s.home others in omega arith)
+
+          node_same : (q : ℕ) → 1 ≤ times q (xs ++ ys) → IsSame one new q (8 + size table U)
+          node_same q some = payload-same one new q (tag_of Kind.node list.type) (8 + size table U) (node_kept q some) (node_now q (rest_some q some))
+
+          -- the values that stay
+          value_new : (q : ℕ) → 1 ≤ times q (xs ++ ys) → IsSame old new (q + 8) (size table U)
+          value_new q some = IsSame-part one new q (8 + size table U) (q + 8) (size table U) (omega arith) (omega arith) (node_same q some) ∙ value_same q (rest_some q some)
+
+          values_new : (qs : List ℕ) → ((q : ℕ) → 1 ≤ times q qs → 1 ≤ times q (xs ++ ys)) → AllByRecursion (SamePlace old new table) (values_in U qs)
+          values_new qs among = each_map (SamePlace old new table) (λ q. record { at = q; type = U }) (map (λ q. q + 8) qs) (each_map (λ q. IsSame old new q (size table U)) (λ q. q + 8) qs
+              (each_there (λ q. IsSame old new (q + 8) (size table U)) qs (λ q some. value_new q (among q some))))
+
+          owned_new : (h : ℕ) → 1 ≤ times h (p.front ++ p.back) → KeepsBlock old new h
+          owned_new h some =
+              let n = owned_count h in
+              let a = times-append h (map block_of rest) (p.front ++ p.back) in
+              kept_twice old one new h (owned_kept h (omega arith)) (kept_now h (let t = times-more h s.home others in omega arith))
+
+          front_new : AllByRecursion (KeepsBlock old new) p.front
+          front_new = each_there (KeepsBlock old new) p.front (λ h some. owned_new h (let a = times-append h p.front p.back in omega arith))
+
+          back_new : AllByRecursion (KeepsBlock old new) p.back
+          back_new = each_there (KeepsBlock old new) p.back (λ h some. owned_new h (let a = times-append h p.front p.back in omega arith))
+
+          xs_new : AllByRecursion (SamePlace old new table) (values_in U xs)
+          xs_new = values_new xs (λ k some. let a = times-append k xs ys in omega arith)
+
+          ys_new : AllByRecursion (SamePlace old new table) (values_in U ys)
+          ys_new = values_new ys (λ k some. let a = times-append k xs ys in omega arith)
+
+          -- the list without the node
+          pub list_new : ListOf new table list U (append p.left p.right) others
+          list_new = record {
+            nodes = xs ++ ys;
+            owned = p.front ++ p.back;
+            ring = record {
+              ring = rw (cell-target one new list.at cell_same) (IsRing-same one new (target one list.at) (xs ++ ys)
+                  (each_there (λ q. IsSame one new q 8) (xs ++ ys) (λ q some. IsSame-part one new q (8 + size table U) q 8 (omega arith) (omega arith) (node_same q some))) r.ring.ring);
+              counted = r.ring.counted ∙ sym (cell-count one new list.at cell_same);
+            };
+            are_nodes = each_there (λ q. IsBlock new q (tag_of Kind.node list.type) (8 + size table U)) (xs ++ ys)
+                (λ q some. IsBlock-kept one new q (tag_of Kind.node list.type) (8 + size table U) (node_kept q some) (node_now q (rest_some q some)));
+            each = rw (values_append U xs ys) (each_append new table U (HoldsEach-kept old new table s.is_table p.lefts xs_new front_new) (HoldsEach-kept old new table s.is_table p.rights ys_new back_new));
+            blocks_are = refl;
+          }
+
+          pub new_nodes : list_new.nodes ≡ xs ++ ys
+          unfolding list_new
+          new_nodes = refl
+
+          solid : (h : ℕ) → 1 ≤ times h (positions (live old)) → 2 ≤ units_at old h
+          solid h some = (there (LiesIn old heap_start (length old)) h (positions (live old)) (live-lie old allocator s.heap) some).size
+
+          kept_around : (h : ℕ) → 1 ≤ times h (positions (live old)) → times h (blocks ++ shares) ≡ 0 → KeepsBlockAround old new list.at 8 h
+          kept_around h some none =
               let k = blocks_count h in
+              let m = times-append h blocks shares in
               let a = all_count h in
-              let o = owned_count h in
-              let q = times-append h (map block_of rest) (p.front ++ p.back) in
-              omega arith;
-          kept = λ h some none. rw eight (kept_around h some none);
-        }
+              let n = owned_count h in
+              let ne : h ≢ b = λ e. let t = times-same b (map block_of rest) in
+              let z : times h (b ∷ map block_of rest) ≡ 1 + times h (map block_of rest) = subst (λ k. times k (b ∷ map block_of rest) ≡ 1 + times k (map block_of rest)) (sym e) t in absurd (omega arith) in
+              let later = whole_new h some ne (omega arith) in
+              let one_solid = (there (LiesIn one heap_start (length one)) h (positions (live one)) (live-lie one allocator one_heap) (some_one h some ne (omega arith))).size in
+              around_twice old one new list.at 8 h (go (omega arith) (cases_eq s.home h)) (around_kept one new list.at 8 h (omega arith) later)
+            where
+              go : times h (map block_of all) ≡ 0 → (s.home ≡ h) ⊎ (s.home ≢ h) → KeepsBlockAround old one list.at 8 h
+              go zero_nodes (inl e) = subst (λ k. KeepsBlockAround old one list.at 8 k) e home_first
+              go zero_nodes (inr other) =
+                  let two_units = solid h some in
+                  around_kept old one list.at 8 h (omega arith) (other_kept allocator old s.heap list.at s.home inside s.aligned all low own one r.changes h some (λ e. other (sym e)) zero_nodes)
 
-        pub lefts_lead : (i q : ℕ) (path : List Selector) (inner : Place) → slice_get xs i ≡ Some q → Leads old table (value_in U q) path inner → Leads new table (value_in U q) path inner
-        lefts_lead i q path inner e m = Leads-each old new table s.is_table (value_in U q) i p.lefts (value_at_index U xs i q e) xs_new front_new m
+          long : heap_start ≤ length two
+          long = let l = there (LiesIn two heap_start (length two)) b (positions (live two)) (live-lie two allocator two_heap) b_two in let lo = l.low in let hi = l.high in omega arith
 
-        pub rights_lead : (i q : ℕ) (path : List Selector) (inner : Place) → slice_get ys i ≡ Some q → Leads old table (value_in U q) path inner → Leads new table (value_in U q) path inner
-        rights_lead i q path inner e m = Leads-each old new table s.is_table (value_in U q) i p.rights (value_at_index U ys i q e) ys_new back_new m
+          dropped_changes : ChangesPlace old new table list (Seq (append p.left p.right)) others (after_gives (live old) (b ∷ c.gives)) (blocks ++ shares) (others ++ left)
+          dropped_changes = record {
+            length_kept = g.kept.front_kept.length_kept ∙ c.changes.length_kept ∙ r.changes.length_kept;
+            front_kept = (front_kept two new g.kept long).0 ∙ c.changes.front_kept ∙ low_same allocator old one (list.at ∷ all) s.heap r.changes homes 0 free_word (omega arith);
+            back_kept = (front_kept two new g.kept long).1 ∙ c.changes.back_kept ∙ low_same allocator old one (list.at ∷ all) s.heap r.changes homes back_start back_size (omega arith);
+            heap = subst (λ a. IsHeap a new) (sym s.allocator_is) g.heap;
+            ownable = new_ownable;
+            holds_it = holds_list new table list U f (append p.left p.right) others list_new;
+            live_is = new_live;
+            live_are = λ h.
+                let n = new_count h in
+                let t = two_count h in
+                let k = blocks_count h in
+                let a = all_count h in
+                let o = owned_count h in
+                let e = goes h in
+                let q = times-append h (map block_of rest) (p.front ++ p.back) in
+                omega (arith, times-append h blocks shares, times-append h others left);
+            kept = λ h some none. rw eight (kept_around h some none);
+          }
+
+          pub dropped : ClearsPlace old new table list (Seq (append p.left p.right)) blocks others theirs now final
+          dropped = record {
+            gives = b ∷ c.gives;
+            all_are = λ h.
+                let d = dropped_blocks h in
+                let e = goes h in
+                omega (arith, times-append h blocks shares, times-append h (b ∷ c.gives) (others ++ left), times-append h others left);
+            changes = dropped_changes;
+            shared_kept = frozen_twice old one new theirs final (frozen_kept allocator old one s.heap theirs final left_old left_one)
+                (frozen_twice one two new theirs final c.shared_kept (frozen_kept allocator two new two_heap theirs final left_two left_new));
+            holds = hold_kept two new table s.is_table theirs final left_new c.holds;
+          }
+
+          pub lefts_lead : (i q : ℕ) (path : List Selector) (inner : Place) → slice_get xs i ≡ Some q → Leads old table (value_in U q) path inner → Leads new table (value_in U q) path inner
+          lefts_lead i q path inner e m = Leads-each old new table s.is_table (value_in U q) i p.lefts (value_at_index U xs i q e) xs_new front_new m
+
+          pub rights_lead : (i q : ℕ) (path : List Selector) (inner : Place) → slice_get ys i ≡ Some q → Leads old table (value_in U q) path inner → Leads new table (value_in U q) path inner
+          rights_lead i q path inner e m = Leads-each old new table s.is_table (value_in U q) i p.rights (value_at_index U ys i q e) ys_new back_new m

@@ -1,5 +1,5 @@
 -- What the calls on vectors return, from what the calls below them return.
-use Rattle.std.proofs.Common.{◌≡◌, ℕ, ◌+◌, ◌-◌, ◌*◌, ◌%◌, ◌^◌, ◌<◌, inl, inr, min, List, [], length, Option, Some, refl, sym, ap, ◌∙◌, arith}
+use Rattle.std.proofs.Common.{◌≡◌, ℕ, ◌+◌, ◌-◌, ◌*◌, ◌%◌, ◌^◌, ◌<◌, inl, inr, min, List, [], ◌∷◌, length, Option, Some, refl, sym, ap, ◌∙◌, subst, arith}
 use Rattle.seg_spec.specs.Bytes.{set_word, ChangesOnly}
 use Rattle.seg_spec.specs.Types.{Form, Table, IsTable, form_at, size}
 use Rattle.seg_spec.specs.Value.{Value, Values, count, Seq, default_of}
@@ -7,10 +7,9 @@ use Rattle.seg_spec.specs.Reads.{count_at, start, Holds}
 use Rattle.seg_spec.specs.Cells.{IsWithin}
 use Rattle.seg_spec.specs.Calls.{Refuses}
 use Rattle.seg_spec.specs.Growing.{Reserves}
-use Rattle.seg_spec.specs.Heap.{live}
-use Rattle.seg_spec.specs.Demand.{after_gives}
 use Rattle.seg_spec.specs.Owning.{Stands}
-use Rattle.seg_spec.specs.Roots.{ChangesPlace}
+use Rattle.seg_spec.specs.Shared.{named_in}
+use Rattle.seg_spec.specs.Clearing.{SharedBeside, BesideShared, ClearsPlace}
 use Rattle.seg_spec.specs.Spending.{buffer_asks, units_named}
 use Rattle.seg_spec.proofs.PlaceSteps.{place_within}
 use Rattle.seg_spec.proofs.TypesLaws.{size_large}
@@ -24,7 +23,7 @@ use Rattle.seg_value.specs.declared.place.Place.{Place as Where}
 use Rattle.seg_seq.specs.Buffers.{NamesNone}
 use Rattle.seg_seq.specs.Sequences.{HasItems, IsFull, LacksRoom, PushesBack, PopsBack, push_asks}
 use Rattle.seg_seq.proofs.Rooms.{entries_fit}
-use Rattle.seg_seq.proofs.ItemRemoved.{some_buffer, last, others, item_stands as item_stands_there, its_blocks, item_removed}
+use Rattle.seg_seq.proofs.ItemRemoved.{some_buffer, last, value_is, item_stands as item_stands_there, item_beside, item_lost}
 use Rattle.seg_seq.proofs.ItemAdded.{has_each, count_few, has_buffer_now, item_within, item_added, item_stands}
 
 -- the entries of a vector
@@ -101,9 +100,9 @@ module _ (allocator : ℕ) (old : Stored) (cell T U : ℕ) (vs : Values) (blocks
 
   module _ (mid new : Stored) (each n first before at V : ℕ) (each_is : each ≡ 0 + size old.types U) (counts : count vs ≡ n + 1) (first_is : first ≡ start old.window.bytes cell) (before_is : before ≡ 0)
       (at_is : at ≡ (first + n * each + before) % 2 ^ 32) (V_is : V ≡ U) (new_is : new.window.bytes ≡ set_word mid.window.bytes (cell + 4) n) where
-    pub item_popped : ((v : Value) (bs : List ℕ) → Stands allocator old.window.bytes old.types (object_at at V) v bs →
-        ChangesPlace old.window.bytes mid.window.bytes old.types (object_at at V) (default_of old.types V) [] (after_gives (live old.window.bytes) bs) bs [])
-        → PopsBack allocator old new (object_at cell T) vs blocks
+    pub item_popped : ((v : Value) (bs : List ℕ) (t : Stands allocator old.window.bytes old.types (object_at at V) v bs) →
+        BesideShared old.window.bytes old.types (t.home ∷ bs) (named_in v) (ClearsPlace old.window.bytes mid.window.bytes old.types (object_at at V) (default_of old.types V) bs []))
+        → PopsBack old new (object_at cell T) vs h.stands.home blocks
     item_popped cleared =
         let more : count_at old.window.bytes cell ≡ n + 1 = sym items_counted ∙ counts in
         let b = some_buffer allocator old.window.bytes old.types (object_at cell T) U vs blocks h.form_is h.stands n more in
@@ -115,14 +114,14 @@ module _ (allocator : ℕ) (old : Stored) (cell T U : ℕ) (vs : Values) (blocks
         (let tiny = h.stands.heap.small in omega arith) in
         let last_is = last allocator old.window.bytes old.types (object_at cell T) U vs blocks h.form_is h.stands n more b.0 b.1 in
         let cleared' = rw (V_is, place) at cleared in
-        let c' = cleared' last_is.value last_is.zs (item_stands_there allocator old.window.bytes old.types (object_at cell T) U vs blocks h.form_is h.stands n more b.0 b.1) in
+        let its = item_stands_there allocator old.window.bytes old.types (object_at cell T) U vs blocks h.form_is h.stands n more b.0 b.1 in
         let less : count vs - 1 ≡ n = omega arith in
         record {
           some = omega arith;
-          gives = last_is.zs;
-          its = rw less (its_blocks allocator old.window.bytes old.types (object_at cell T) U vs blocks h.form_is h.stands n more b.0 b.1);
-          holds_it = record {
-            others = others allocator old.window.bytes old.types (object_at cell T) U vs blocks h.form_is h.stands n more b.0 b.1;
-            succeeds = item_removed allocator old.window.bytes old.types (object_at cell T) U vs blocks h.form_is h.stands n more b.0 b.1 mid.window.bytes c' new.window.bytes new_is;
-          };
+          loses = rw less (λ v e theirs kept now final beside.
+              let same = value_is allocator old.window.bytes old.types (object_at cell T) U vs blocks h.form_is h.stands n more b.0 b.1 v e in
+              let here = subst (λ u. SharedBeside old.window.bytes old.types (h.stands.home ∷ blocks) (named_in u) theirs kept now final) same beside in
+              let c' = cleared' last_is.value last_is.zs its theirs kept now final
+              (item_beside allocator old.window.bytes old.types (object_at cell T) U vs blocks h.form_is h.stands n more b.0 b.1 (named_in last_is.value) theirs kept now final here) in
+              item_lost allocator old.window.bytes old.types (object_at cell T) U vs blocks h.form_is h.stands n more b.0 b.1 theirs now final beside.owned mid.window.bytes c' new.window.bytes new_is);
         }

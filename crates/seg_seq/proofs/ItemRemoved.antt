@@ -1,4 +1,4 @@
--- A vector that loses its last item, from what the steps leave.
+-- A vector that loses its last item, with the frozen objects that the item named last, from what the steps leave.
 use Rattle.std.proofs.Common.{◌≡◌, ◌≢◌, ℕ, ◌+◌, ◌*◌, ◌/◌, ◌%◌, ◌^◌, ◌<◌, ◌≤◌, ◌⊎◌, inl, inr, List, [], ◌∷◌, ◌++◌, length, Option, Some, None, refl, sym, ap, ◌∙◌, subst, arith}
 use Rattle.std.specs.Prelude.{option_map, option_to_list}
 use Rattle.std.specs.List.{AllByRecursion}
@@ -6,30 +6,34 @@ use Rattle.std.proofs.lemmas.Bool.{cases_eq}
 use Rattle.seg_spec.specs.Bytes.{set_word, IsSame}
 use Rattle.seg_spec.specs.Pointer.{target}
 use Rattle.seg_spec.specs.Types.{Form, Table, form_at, size}
-use Rattle.seg_spec.specs.Value.{Values, Seq, default_of}
+use Rattle.seg_spec.specs.Value.{Value, Values, Seq, nil, nth, count, default_of}
 use Rattle.seg_spec.specs.Items.{without_last}
 use Rattle.seg_spec.specs.Heap.{units_at, IsHeap, live, heap_start}
 use Rattle.seg_spec.specs.Block.{Kind, tag_of, block_of, IsBlock, IsInside, KeepsBlock, payload_size}
 use Rattle.seg_spec.specs.Reads.{Place, count_at, named, start, items, NamesRoom, Holds, HoldsEach}
 use Rattle.seg_spec.specs.Apart.{Separate, KeepsBlockAround}
 use Rattle.seg_spec.specs.Sound.{times, positions}
-use Rattle.seg_spec.specs.Roots.{ChangesPlace}
 use Rattle.seg_spec.specs.Owning.{Stands}
-use Rattle.seg_spec.specs.Growing.{Succeeds}
 use Rattle.seg_spec.specs.Demand.{after_gives}
 use Rattle.seg_spec.specs.Spending.{PartBlocks}
+use Rattle.seg_spec.specs.Frozen.{Frozen, blocks_by}
+use Rattle.seg_spec.specs.Destroying.{AreLive}
+use Rattle.seg_spec.specs.Clearing.{SharedBeside, ClearsPlace, LosesPart}
 use Rattle.seg_spec.proofs.SliceLaws.{IsSame-part, IsSame-trans}
 use Rattle.seg_spec.proofs.TypesLaws.{size_large}
 use Rattle.seg_spec.proofs.CellSteps.{size_aligned}
 use Rattle.seg_spec.proofs.Frame.{cell-target}
 use Rattle.seg_spec.proofs.LiveLaws.{times-same, times-other, times-more, times-append, there, each_there, live-once, LiesIn, live-lie, live-apart, OneOrApart}
 use Rattle.seg_spec.proofs.Composing.{kept_twice, around_kept}
+use Rattle.seg_spec.proofs.FrozenBlocks.{hold_kept, frozen_twice, frozen_kept}
+use Rattle.seg_spec.proofs.SharedAlone.{shared_fewer}
+use Rattle.seg_spec.proofs.Paths.{count_is, nth-append}
 use Rattle.seg_spec.proofs.PlaceSteps.{home_live}
 use Rattle.seg_spec.proofs.Buffered.{holds_buffered, entries_kept}
 use Rattle.seg_seq.proofs.Lasting.{Leaves, ended}
 use Rattle.seg_seq.proofs.Counting as counting
 use Rattle.seg_seq.proofs.Rooms.{block_again, Reaches, reaches, none_counted}
-use Rattle.seg_seq.proofs.Items.{get_item, one_more, Last, last_of, all_but_last, its_items}
+use Rattle.seg_seq.proofs.Items.{get_item, one_more, how_many, Last, last_of, all_but_last, its_items}
 use Rattle.seg_seq.proofs.ItemAdded.{same_items, HasEach, has_each}
 
 -- the items of a buffer stand at multiples of 8
@@ -103,6 +107,13 @@ module _ (allocator : ℕ) (old : List ℕ) (table : Table) (place : Place) (U :
       owned = λ h. omega (arith, s.owned h, blocks_are h, times-more h s.home blocks, times-append h (block_of p ∷ []) last.zs, times-append h (block_of p ∷ []) last.xs);
     }
 
+    -- what calls find there that destroy the item
+    pub item_beside : (names : List ℕ) (theirs : ℕ → List ℕ) (kept : List Place) (now final : List Frozen) → SharedBeside old table (s.home ∷ blocks) names theirs kept now final
+        → SharedBeside old table (item_stands.home ∷ last.zs) names theirs kept now final
+    unfolding item_stands others
+    item_beside names theirs kept now final beside = shared_fewer old table (s.home ∷ blocks) (block_of p ∷ last.zs) names theirs kept now final
+        (λ h. omega (arith, blocks_are h, times-more h s.home blocks, times-append h (block_of p ∷ []) last.zs, times-append h (block_of p ∷ []) last.xs)) beside
+
     pub its_blocks : PartBlocks old table place n last.zs
     its_blocks = record {
       form = Form.vec U;
@@ -117,13 +128,38 @@ module _ (allocator : ℕ) (old : List ℕ) (table : Table) (place : Place) (U :
       gives_are = refl;
     }
 
-    -- ---- the item is cleared
+    -- the item that goes is the last one
+    pub value_is : (v : Value) → nth vs n ≡ Some v → v ≡ last.value
+    value_is v e =
+        let at : count last.left ≡ n = sym (count_is old table last.lefts) ∙ how_many table U p n in
+        let it : nth vs n ≡ Some last.value = ap (nth vs) (sym at) ∙ ap (λ us. nth us (count last.left)) last.values_are ∙ nth-append last.left nil last.value in
+        let both : Some v ≡ Some last.value = sym e ∙ it in
+        cc
 
-    module _ (mid : List ℕ) (c : ChangesPlace old mid table item (default_of table U) [] (after_gives (live old) last.zs) last.zs []) where
+    -- ---- the item is cleared, beside frozen objects, whose blocks are none of the vector's
+
+    module _ (theirs : ℕ → List ℕ) (now final : List Frozen) (beside : AreLive old ((s.home ∷ blocks) ++ blocks_by theirs now)) (mid : List ℕ)
+        (c : ClearsPlace old mid table item (default_of table U) last.zs [] theirs now final) where
+      abbrev shares : List ℕ
+      shares = blocks_by theirs now
+
+      abbrev left : List ℕ
+      left = blocks_by theirs final
+
+      all_fit : (h : ℕ) → times h (s.home ∷ blocks) + times h shares ≤ times h (positions (live old))
+      all_fit h = omega (arith, beside h, times-append h (s.home ∷ blocks) shares)
+
+      -- what the item owned, and what frozen objects own, goes or is left
+      goes : (h : ℕ) → times h last.zs + times h shares ≡ times h c.gives + times h left
+      goes h = omega (arith, c.all_are h, times-append h last.zs shares, times-append h c.gives left)
+
+      live_mid : (h : ℕ) → times h (positions (live mid)) + times h c.gives ≡ times h (positions (live old))
+      live_mid h = omega (arith, c.changes.live_are h, goes h, times-append h last.zs shares)
+
       -- a block that doesn't go is kept, but for the buffer
-      other_kept : (h : ℕ) → 1 ≤ times h (positions (live old)) → times h last.zs ≡ 0 → h ≢ block_of p → KeepsBlock old mid h
+      other_kept : (h : ℕ) → 1 ≤ times h (positions (live old)) → times h last.zs + times h shares ≡ 0 → h ≢ block_of p → KeepsBlock old mid h
       other_kept h some none other =
-          let k = c.kept h some none in
+          let k = c.changes.kept h some (omega (arith, none, times-append h last.zs shares)) in
           let l = there (LiesIn old heap_start (length old)) h (positions (live old)) (live-lie old allocator s.heap) some in
           let mine = there (λ t. AllByRecursion (OneOrApart old t) (positions (live old))) (block_of p) (positions (live old)) (live-apart old allocator s.heap) g.is_live in
           let apart = there (OneOrApart old (block_of p)) h (positions (live old)) mine some in
@@ -139,33 +175,41 @@ module _ (allocator : ℕ) (old : List ℕ) (table : Table) (place : Place) (U :
           away (inr (inl l)) two = let i = inside_item in inr (omega (arith, i.high, i.low, g.lies.size))
           away (inr (inr r)) two = let i = inside_item in inl (omega (arith, i.low))
 
+      once_all : (h : ℕ) → times h (s.home ∷ blocks) + times h shares ≤ 1
+      once_all h = omega (arith, all_fit h, live-once old allocator s.heap h)
+
       buffer_kept : KeepsBlockAround old mid q (size table U) (block_of p)
       unfolding others
-      buffer_kept = c.kept (block_of p) g.is_live (omega (arith, s.owned (block_of p), blocks_are (block_of p), times-more (block_of p) s.home blocks, times-same (block_of p) last.xs, live-once old allocator s.heap (block_of p)))
-
-      once_all : (h : ℕ) → times h (s.home ∷ blocks) ≤ 1
-      once_all h = omega (arith, s.owned h, live-once old allocator s.heap h)
+      buffer_kept = c.changes.kept (block_of p) g.is_live (omega (arith, once_all (block_of p), blocks_are (block_of p), times-more (block_of p) s.home blocks, times-same (block_of p) last.xs, times-append (block_of p) last.zs shares))
 
       home_kept : KeepsBlock old mid s.home
       home_kept = other_kept s.home (home_live allocator old table place (Seq vs) blocks s) (omega (arith, once_all s.home, times-same s.home blocks, blocks_are s.home)) (λ same. g.other (sym same))
 
-      lm : Leaves allocator old mid table place blocks others (after_gives (live old) last.zs)
+      lm : Leaves allocator old mid table place (blocks ++ shares) (others ++ left) (after_gives (live old) c.gives)
       unfolding others
       lm = record {
         allocator_is = s.allocator_is;
-        heap = subst (λ a. IsHeap a mid) s.allocator_is c.heap;
-        ownable = c.ownable;
-        live_is = c.live_is;
-        counts = λ h. omega (arith, subst (λ bs. times h (positions bs) + times h last.zs ≡ times h (positions (live old)) + times h []) c.live_is (c.live_are h), blocks_are h);
+        heap = subst (λ a. IsHeap a mid) s.allocator_is c.changes.heap;
+        ownable = c.changes.ownable;
+        live_is = c.changes.live_is;
+        counts = λ h. omega (
+          arith,
+          subst (λ bs. times h (positions bs) + times h c.gives ≡ times h (positions (live old))) c.changes.live_is (live_mid h),
+          blocks_are h,
+          goes h,
+          times-append h blocks shares,
+          times-append h others left,
+        );
         frames = record {
-          length_kept = c.length_kept;
-          front_kept = c.front_kept;
-          back_kept = c.back_kept;
+          length_kept = c.changes.length_kept;
+          front_kept = c.changes.front_kept;
+          back_kept = c.changes.back_kept;
           kept = λ h some none.
               let l = there (LiesIn old heap_start (length old)) h (positions (live old)) (live-lie old allocator s.heap) some in
+              let both = times-append h blocks shares in
               around_kept old mid place.at (size table place.type) h (omega (arith, l.size)) (other_kept h some (omega (arith, blocks_are h)) (λ same.
-              let zero : times (block_of p) blocks ≡ 0 = subst (λ x. times x blocks ≡ 0) same none in omega (arith, g.mine)));
-          stays = λ h some none. omega (arith, c.live_are h, blocks_are h);
+              let zero : times (block_of p) blocks ≡ 0 = subst (λ x. times x blocks ≡ 0) same (omega arith) in omega (arith, g.mine)));
+          stays = λ h some none. omega (arith, live_mid h, goes h, blocks_are h, times-append h blocks shares);
         };
         home = s.home;
         inside = record { low = s.inside.low; high = omega (arith, s.inside.high, home_kept.room, home_lies.size) };
@@ -175,10 +219,14 @@ module _ (allocator : ℕ) (old : List ℕ) (table : Table) (place : Place) (U :
           home_lies : LiesIn old heap_start (length old) s.home
           home_lies = there (LiesIn old heap_start (length old)) s.home (positions (live old)) (live-lie old allocator s.heap) (home_live allocator old table place (Seq vs) blocks s)
 
-          stay : (h : ℕ) → (s.home ≡ h) ⊎ (s.home ≢ h) → times h (s.home ∷ others) ≤ times h (positions (live mid))
-          stay h (inl same) = subst (λ x. times x (s.home ∷ others) ≤ times x (positions (live mid))) same
-              (omega (arith, c.live_are s.home, s.owned s.home, times-same s.home others, times-same s.home blocks, blocks_are s.home))
-          stay h (inr other) = omega (arith, c.live_are h, s.owned h, times-other h s.home others other, times-other h s.home blocks other, blocks_are h)
+          stay : (h : ℕ) → (s.home ≡ h) ⊎ (s.home ≢ h) → times h (s.home ∷ (others ++ left)) ≤ times h (positions (live mid))
+          stay h (inl same) = subst (λ x. times x (s.home ∷ (others ++ left)) ≤ times x (positions (live mid))) same
+              (omega (arith, live_mid s.home, goes s.home, all_fit s.home, times-same s.home (others ++ left), times-append s.home others left, times-same s.home blocks, blocks_are s.home))
+          stay h (inr other) = omega (arith, live_mid h, goes h, all_fit h, times-other h s.home (others ++ left) other, times-append h others left, times-other h s.home blocks other, blocks_are h)
+
+      -- the blocks of the frozen objects that are left
+      left_mid : (h : ℕ) → 1 ≤ times h left → 1 ≤ times h (positions (live mid))
+      left_mid h some = omega (arith, live_mid h, goes h, all_fit h, blocks_are h, times-more h s.home blocks)
 
       -- ---- and the count is written
 
@@ -186,8 +234,8 @@ module _ (allocator : ℕ) (old : List ℕ) (table : Table) (place : Place) (U :
         small : n < 2 ^ 32
         small = let few = Rattle.seg_seq.proofs.ItemAdded.count_few allocator old table place U vs blocks f s in omega arith
 
-        ln : Leaves allocator old new table place blocks others (after_gives (live old) last.zs)
-        ln = counting.count_leaves allocator old mid table s.is_table place blocks others (after_gives (live old) last.zs) lm n small new new_is
+        ln : Leaves allocator old new table place (blocks ++ shares) (others ++ left) (after_gives (live old) c.gives)
+        ln = counting.count_leaves allocator old mid table s.is_table place (blocks ++ shares) (others ++ left) (after_gives (live old) c.gives) lm n small new new_is
 
         names_mid : target mid place.at ≡ Some p
         names_mid =
@@ -197,17 +245,17 @@ module _ (allocator : ℕ) (old : List ℕ) (table : Table) (place : Place) (U :
             cell-target old mid place.at (IsSame-part old mid (s.home + 16) (payload_size old s.home) place.at 8 (omega (arith, s.inside.low)) (omega (arith, s.inside.high, l.size)) k.payload) ∙ is
 
         names : target new place.at ≡ Some p
-        names = counting.count_names allocator old mid table s.is_table place blocks others (after_gives (live old) last.zs) lm n small new new_is ∙ names_mid
+        names = counting.count_names allocator old mid table s.is_table place (blocks ++ shares) (others ++ left) (after_gives (live old) c.gives) lm n small new new_is ∙ names_mid
 
         counts : count_at new place.at ≡ n
-        counts = counting.count_is allocator old mid table s.is_table place blocks others (after_gives (live old) last.zs) lm n small new new_is
+        counts = counting.count_is allocator old mid table s.is_table place (blocks ++ shares) (others ++ left) (after_gives (live old) c.gives) lm n small new new_is
 
-        mine : 1 ≤ times (block_of p) others
+        mine : 1 ≤ times (block_of p) (others ++ left)
         unfolding others
-        mine = omega (arith, times-same (block_of p) last.xs)
+        mine = omega (arith, times-same (block_of p) last.xs, times-append (block_of p) others left)
 
-        kept_count : (h : ℕ) → 1 ≤ times h others → KeepsBlock mid new h
-        kept_count h m = counting.count_kept allocator old mid table s.is_table place blocks others (after_gives (live old) last.zs) lm n small new new_is h m
+        kept_count : (h : ℕ) → 1 ≤ times h (others ++ left) → KeepsBlock mid new h
+        kept_count h m = counting.count_kept allocator old mid table s.is_table place (blocks ++ shares) (others ++ left) (after_gives (live old) c.gives) lm n small new new_is h m
 
         first_same : IsSame old new p (n * size table U)
         first_same =
@@ -223,9 +271,9 @@ module _ (allocator : ℕ) (old : List ℕ) (table : Table) (place : Place) (U :
           where
             one : (h : ℕ) → 1 ≤ times h last.xs → KeepsBlock old new h
             one h some =
-                let in_others : 1 ≤ times h others = omega (arith, times-more h (block_of p) last.xs) in
+                let in_others : 1 ≤ times h (others ++ left) = omega (arith, times-more h (block_of p) last.xs, times-append h others left) in
                 let was : 1 ≤ times h (positions (live old)) = omega (arith, s.owned h, blocks_are h, times-more h s.home blocks) in
-                let gone : times h last.zs ≡ 0 = omega (arith, once_all h, blocks_are h, times-more h s.home blocks) in
+                let gone : times h last.zs + times h shares ≡ 0 = omega (arith, once_all h, blocks_are h, times-more h s.home blocks) in
                 kept_twice old mid new h (other_kept h was gone (λ same.
                 let again : 1 ≤ times (block_of p) last.xs = subst (λ x. 1 ≤ times x last.xs) same some in
                 omega (arith, once_all (block_of p), blocks_are (block_of p), times-more (block_of p) s.home blocks, times-same (block_of p) last.xs))) (kept_count h in_others)
@@ -245,7 +293,7 @@ module _ (allocator : ℕ) (old : List ℕ) (table : Table) (place : Place) (U :
         room_now =
             let r = room in
             let b = buffer_kept in
-            let header = counting.count_header allocator old mid table s.is_table place blocks others (after_gives (live old) last.zs) lm n small new new_is (block_of p) mine in
+            let header = counting.count_header allocator old mid table s.is_table place (blocks ++ shares) (others ++ left) (after_gives (live old) c.gives) lm n small new new_is (block_of p) mine in
             rw names (block_again mid new p (tag_of Kind.buffer place.type) (n * size table U) (count_at new place.at * size table U) header (rw counts (omega (arith, b.header.room))) mid_block)
 
         holds_them : Holds new table place (Seq last.left) others
@@ -256,12 +304,22 @@ module _ (allocator : ℕ) (old : List ℕ) (table : Table) (place : Place) (U :
             let own : block_of p ∷ last.xs ≡ named new place.at ++ last.xs = ap (λ o. option_to_list (option_map block_of o) ++ last.xs) (sym names) in
             rw own (holds_buffered new table place (Form.vec U) (Seq last.left) last.xs f refl room_now (last.left, refl, each))
 
-        pub item_removed : Succeeds allocator old new table place (Seq (without_last vs)) [] last.zs blocks others
-        item_removed =
+        left_kept : (h : ℕ) → 1 ≤ times h left → KeepsBlock mid new h
+        left_kept h some = kept_count h (omega (arith, times-append h others left))
+
+        pub item_lost : LosesPart old new table place (Seq (without_last vs)) n blocks theirs now final
+        item_lost =
             let same : without_last vs ≡ last.left = ap without_last last.values_are ∙ all_but_last last.left last.value in
-            record {
-              left = after_gives (live old) last.zs;
-              left_is = refl;
-              changes = subst (λ ws. ChangesPlace old new table place (Seq ws) others (after_gives (live old) last.zs) blocks others) (sym same)
-                  (ended allocator old new table place blocks others (after_gives (live old) last.zs) ln (Seq last.left) holds_them);
-            }
+            rw same (record {
+              lost = last.zs;
+              part = its_blocks;
+              others = others;
+              blocks_are = λ h. omega (arith, blocks_are h, times-append h last.zs others);
+              clears = record {
+                gives = c.gives;
+                all_are = λ h. omega (arith, goes h, blocks_are h, times-append h blocks shares, times-append h c.gives (others ++ left), times-append h others left);
+                changes = ended allocator old new table place (blocks ++ shares) (others ++ left) (after_gives (live old) c.gives) ln (Seq last.left) holds_them;
+                shared_kept = frozen_twice old mid new theirs final c.shared_kept (frozen_kept allocator mid new lm.heap theirs final left_mid left_kept);
+                holds = hold_kept mid new table s.is_table theirs final left_kept c.holds;
+              };
+            })

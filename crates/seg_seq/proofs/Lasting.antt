@@ -19,7 +19,8 @@ use Rattle.seg_spec.proofs.WriteInside.{tiles_kept, low_kept, KeptBut, live_kept
 use Rattle.seg_spec.proofs.Composing.{around_kept}
 use Rattle.seg_spec.proofs.Standing.{Frames, frames_twice, stands_after}
 
--- the heap is in order with these live blocks, of which the place owns others than before, and all around is kept
+-- the heap is in order with these live blocks, of which the place, with the frozen objects that go with it, owns others than before, and
+-- all around is kept
 pub record Leaves (allocator : ℕ) (old mid : List ℕ) (table : Table) (place : Place) (blocks others : List ℕ) (spans : List Span) : Type 0 where
   pub allocator_is : word old 16 ≡ allocator
   pub heap : IsHeap allocator mid
@@ -54,7 +55,7 @@ begun allocator old mid table place v w blocks others spans s c =
     }
 
 module _ (allocator : ℕ) (old mid : List ℕ) (table : Table) (place : Place) (blocks others : List ℕ) (spans : List Span) (l : Leaves allocator old mid table place blocks others spans) where
-  pub ended : (w : Value) → Holds mid table place w others → ChangesPlace old mid table place w others spans blocks others
+  pub ended : {bs : List ℕ} (w : Value) → Holds mid table place w bs → ChangesPlace old mid table place w bs spans blocks others
   ended w h = record {
     length_kept = l.frames.length_kept;
     front_kept = l.frames.front_kept;

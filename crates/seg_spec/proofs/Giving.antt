@@ -6,11 +6,13 @@ use Rattle.std.proofs.lemmas.Bool.{cases_eq}
 use Rattle.seg_spec.specs.Bytes.{Agrees}
 use Rattle.seg_spec.specs.Types.{Table, IsTable}
 use Rattle.seg_spec.specs.Heap.{Span, without, IsHeap, live, Gives}
+use Rattle.seg_spec.specs.Block.{KeepsBlock, IsOwnable, payload_size}
 use Rattle.seg_spec.specs.Sound.{times, positions}
+use Rattle.seg_spec.specs.Demand.{after_gives}
 use Rattle.seg_spec.specs.Owing.{Waits}
 use Rattle.seg_spec.proofs.BytesLaws.{number-agrees}
 use Rattle.seg_spec.proofs.PointerLaws.{target-same}
-use Rattle.seg_spec.proofs.LiveLaws.{times-other, each_there}
+use Rattle.seg_spec.proofs.LiveLaws.{times-other, times-more, each_there, not_there}
 use Rattle.seg_spec.proofs.KeptLaws.{each_contained, StatesSpan, live_stated, block_kept}
 use Rattle.seg_spec.specs.Owing.{KeepsLinked}
 use Rattle.seg_spec.proofs.Owed.{Waits-kept}
@@ -46,6 +48,27 @@ still_among at (c ∷ cs) b h ne = go (λ k. still_among at cs b k ne) h.0 h.1 h
     go rest zero l e (inr other) = let off : eqb c.at at ≡ false = grind (arith, nat_tests) in rw off (0, omega arith, e)
     go rest (suc i) l e (inl same) = let on : eqb c.at at ≡ true = grind (arith, nat_tests) in rw on (i, omega arith, e)
     go rest (suc i) l e (inr other) = let off : eqb c.at at ≡ false = grind (arith, nat_tests) in rw off (more_among c b (without at cs) (rest (i, omega arith, e)))
+
+-- after several were given back
+still_given : (gives : List ℕ) (bs : List Span) (b : Span) → Contains bs b → times b.at gives ≡ 0 → Contains (after_gives bs gives) b
+still_given [] bs b h none = h
+still_given (x ∷ xs) bs b h none =
+    let other = (not_there b.at (x ∷ xs) none).0 in
+    still_given xs (without x bs) b (still_among x bs b h (λ e. other (sym e))) (omega (arith, none, times-more b.at x xs))
+
+-- a block that is kept and stays live has its size, and between calls its link
+pub kept_linked : (allocator : ℕ) (old new : List ℕ) (table : Table) → IsHeap allocator old → IsHeap allocator new → (gives : List ℕ) → live new ≡ after_gives (live old) gives → (h : ℕ) → 1 ≤ times h (positions (live old)) → times h gives ≡ 0
+    → IsOwnable old table h → IsOwnable new table h → KeepsBlock old new h → KeepsLinked old new h
+kept_linked allocator old new table heap heap_then gives live_is h some none was is k =
+    let f = found h (live old) some in
+    let among = still_given gives (live old) f.block f.among (subst (λ x. times x gives ≡ 0) (sym f.at_is) none) in
+    let there_is : Contains (live new) f.block = subst (λ bs. Contains bs f.block) (sym live_is) among in
+    let s = each_contained (StatesSpan old (length old)) (live old) f.block (live_stated old allocator heap) f.among in
+    let t = each_contained (StatesSpan new (length new)) (live new) f.block (live_stated new allocator heap_then) there_is in
+    record {
+      whole = record { kept = k; size_kept = subst (λ x. payload_size new x ≡ payload_size old x) f.at_is (ap (λ u. 16 * u - 16) (t.units_is ∙ sym s.units_is)) };
+      link_kept = is.link_is ∙ sym was.link_is;
+    }
 
 module _ (allocator : ℕ) (old new : List ℕ) (at : ℕ) (heap : IsHeap allocator old) (g : Gives allocator old new at) where
   -- every other live block is kept, with its size, tag and link

@@ -71,6 +71,7 @@ pub mod FewBlocks
 pub mod MappedBlocks
 pub mod Resized
 pub mod PartCleared
+pub mod SharedSteps
 pub mod NoSpace
 pub mod Placements
 pub mod AddTypes
@@ -82,5 +83,7 @@ pub mod PartLaw
 pub mod RootPaths
 pub mod PathsAfter
 pub mod MoveLaw
+pub mod CountedPictures
+pub mod OwnerGone
 pub mod Sharing
 pub mod Raising

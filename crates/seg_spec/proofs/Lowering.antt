@@ -32,7 +32,7 @@ mutual
   named_positions (node Label.opt vs) = each_positions vs
   named_positions (node Label.struct vs) = each_positions vs
 
-  each_positions : (vs : Values) → positions_of (names_each vs) ≡ named_each vs
+  pub each_positions : (vs : Values) → positions_of (names_each vs) ≡ named_each vs
   each_positions nil = refl
   each_positions (cons v vs) = map-append (λ (q : Place). q.at) (names_in v) (names_each vs) ∙ ap (λ ps. ps ++ positions_of (names_each vs)) (named_positions v) ∙ ap (λ ps. named_in v ++ ps) (each_positions vs)
 

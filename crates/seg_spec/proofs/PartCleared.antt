@@ -1,6 +1,6 @@
 -- A value inside a place that gives up what it owns, with frozen objects that it names last: the place holds the value changed, and all
 -- around is kept.
-use Rattle.std.proofs.Common.{◌≡◌, ◌≢◌, ℕ, ◌+◌, ◌*◌, ◌%◌, ◌≤◌, inl, inr, ⊎_elim, List, [], ◌∷◌, ◌++◌, length, sym, ap, ◌∙◌, subst, arith}
+use Rattle.std.proofs.Common.{◌≡◌, ◌≢◌, ℕ, ◌+◌, ◌*◌, ◌%◌, ◌≤◌, inl, inr, ⊎_elim, List, [], ◌∷◌, ◌++◌, length, refl, sym, ap, ◌∙◌, subst, arith}
 use Rattle.std.proofs.lemmas.Bool.{cases_eq}
 use Rattle.std.specs.List.{AllByRecursion}
 use Rattle.seg_spec.specs.Bytes.{word, IsSame}
@@ -101,6 +101,10 @@ module _ (allocator : ℕ) (old : List ℕ) (table : Table) (place : Place) (v :
           (λ ne. let l = times-other h block c.its ne in omega (arith, own_home h, counts h))
           (cases_eq block h);
     }
+
+    pub inner_home : inner_stands.home ≡ block
+    unfolding inner_stands
+    inner_home = refl
 
     -- what calls find there that destroy the value
     pub inner_beside : (theirs : ℕ → List ℕ) (kept : List Place) (now final : List Frozen) → SharedBeside old table (s.home ∷ blocks) (named_in c.value) theirs kept now final

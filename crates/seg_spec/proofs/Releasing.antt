@@ -51,7 +51,7 @@ left_same xs ys (f ∷ fs) a =
 -- ---- the names in the objects after a turn
 
 -- of whatever adds up over names
-names_apart : (size : List Place → ℕ) → size [] ≡ 0 → ((xs ys : List Place) → size (xs ++ ys) ≡ size xs + size ys) → (p : ℕ) (fs : List Frozen)
+pub names_apart : (size : List Place → ℕ) → size [] ≡ 0 → ((xs ys : List Place) → size (xs ++ ys) ≡ size xs + size ys) → (p : ℕ) (fs : List Frozen)
     → size (let_go p fs) + size (names_of (lowered p fs)) ≡ size (names_of fs)
 names_apart size none joined p [] = omega arith
 names_apart size none joined p (f ∷ fs) = go (eqb f.at p) (names_apart size none joined p fs)
@@ -308,7 +308,7 @@ counted_permuted next xs ys kept fs s c = record {
 
 -- ---- all turns
 
-none_gone : (fs : List Frozen) → AllByRecursion (λ (f : Frozen). 1 ≤ f.count) fs → left [] fs ≡ fs
+pub none_gone : (fs : List Frozen) → AllByRecursion (λ (f : Frozen). 1 ≤ f.count) fs → left [] fs ≡ fs
 none_gone [] a = refl
 none_gone (f ∷ fs) a =
     let there = a.0 in

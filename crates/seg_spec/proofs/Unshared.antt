@@ -32,7 +32,7 @@ module _ (bytes : List ℕ) (table : Table) (first_version : AreOfVersion 1 tabl
     pub names_none : {place : Place} {v : Value} {blocks : List ℕ} → Holds bytes table place v blocks → named_in v ≡ []
     names_none {place = place} (holds form opened inside owned f o hs v_is is) = ap named_in v_is ∙ named_inside opened.label inside (not_shared place form opened f o) ∙ each_none hs
 
-    each_none : {places : List Place} {vs : Values} {owned : List ℕ} → HoldsEach bytes table places vs owned → named_each vs ≡ []
+    pub each_none : {places : List Place} {vs : Values} {owned : List ℕ} → HoldsEach bytes table places vs owned → named_each vs ≡ []
     each_none holds_none = refl
     each_none (holds_more {vs = vs} h hs) = ap (λ ns. ns ++ named_each vs) (names_none h) ∙ each_none hs
 

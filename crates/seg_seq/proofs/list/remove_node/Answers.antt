@@ -1,5 +1,4 @@
 use Rattle.std.proofs.Common.{◌≡◌, ◌+◌, ◌*◌, ◌%◌, ◌^◌, Some, sym, ap, ◌∙◌, arith}
-use Rattle.seg_spec.proofs.SharedAlone.{cleared_alone}
 use Rattle.seg_value.specs.Places.{place_of, object_at}
 use Rattle.seg_value.specs.Stored.{Stored}
 use Rattle.seg_value.specs.declared.place.Place.{Place}
@@ -30,7 +29,7 @@ returns-clause-removed g c = λ T U j vs blocks is s lead.
     let place_is : place_of found ≡ value_in U node = ap (λ a. object_at a U) at in
     let cleared : Clears code one two table (value_in U node) = elim c.match-value.branch [
       | in-Some w ↦ clears_here code one two w.clear.new.self.window.bytes table c.remove.new.heap.types (place_of w.in-Some.item) (value_in U node) c.remove.ensures.types
-          (ap place_of (same_place w.in-Some.item found (sym w.in-Some.is ∙ value_is)) ∙ place_is) (ap (λ (h : Stored). h.window.bytes) w.heap-is) (cleared_alone w.clear.ensures.cleared)
+          (ap place_of (same_place w.in-Some.item found (sym w.in-Some.is ∙ value_is)) ∙ place_is) (ap (λ (h : Stored). h.window.bytes) w.heap-is) w.clear.ensures.cleared
       | in_default w ↦ let none = w.in_default.is in absurd (cc)
     ] in
     item_removed code old one two new table list U node j is.form_is vs blocks s lead c.remove.ensures.removed cleared c.free_block.ensures.gives

@@ -5,7 +5,7 @@ use Rattle.seg_value.specs.Places.{place_of}
 use Rattle.seg_seq.proofs.TextCalls.{counted_all}
 use Rattle.seg_seq.proofs.ItemCalls.{items_counted}
 use Rattle.std.proofs.Common.{subst}
-use Rattle.seg_seq.specs.Lists.{RemovesItem}
+use Rattle.seg_seq.specs.Lists.{LosesItem}
 use Rattle.seg_seq.proofs.Fronts.{counted_items, last_item, remove_nth-last}
 use Rattle.seg_seq.proofs.SequenceKinds.{buffer_text, buffer_vector, names_list}
 use Rattle.seg_seq.proofs.sequence.pop_back.Goals as goal
@@ -57,4 +57,4 @@ returns-in-List-clause-list g c = λ U vs blocks h.
     let is = names_list table c.args.sequence.type_id c.in_ok-kind.content c.in_ok-kind.kind c.in-List.is c.in_ok-kind.ensures U h.form_is in
     let lead = last_item code old table list U h.form_is vs blocks h.stands many c.start.result c.neighbour-node.result c.start.ensures c.neighbour-node.ensures in
     let removed = c.remove_node.ensures.removed c.args.sequence.type_id U (count vs - 1) vs blocks is h.stands lead in
-    (many, subst (λ ws. RemovesItem code old c.remove_node.new.heap.window.bytes table list ws blocks (count vs - 1)) (remove_nth-last vs many) removed)
+    (many, subst (λ ws. LosesItem old c.remove_node.new.heap.window.bytes table list vs (count vs - 1) ws h.stands.home blocks) (remove_nth-last vs many) removed)

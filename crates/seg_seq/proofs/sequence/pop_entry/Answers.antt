@@ -7,7 +7,6 @@ use Rattle.seg_value.specs.declared.place.Place.{Place}
 use Rattle.seg_seq.proofs.TextCalls.{text_entry, byte_popped}
 use Rattle.seg_seq.proofs.ItemCalls.{vector_entry, one_place, item_popped}
 use Rattle.seg_spec.proofs.Placements.{bytes_of}
-use Rattle.seg_spec.proofs.SharedAlone.{cleared_alone}
 use Rattle.seg_seq.proofs.sequence.pop_entry.Goals as goal
 use Rattle.seg_seq.proofs.sequence.pop_entry.Goals.{in-Some, in_default}
 
@@ -35,7 +34,7 @@ returns-clause-vector g c = λ T U vs blocks n h more.
           let item = one_place c.value.result w.in-Some.item (record { at = (c.start.result + c.args.last * content.entry.size + content.entry.before) % 2 ^ 32; type_id = U }) w.in-Some.is is in
           item_popped g.F.Fit.allocator old c.args.cell T U vs blocks h w.clear.new.self new content.entry.size c.args.last c.start.result content.entry.before w.in-Some.item.at w.in-Some.item.type_id
           entry.size_is more c.start.ensures entry.before_is (ap (λ (x : Place). x.at) item) (ap (λ (x : Place). x.type_id) item)
-          (written ∙ ap (λ (s : Stored). set_word s.window.bytes (c.args.cell + 4) c.args.last) w.heap-is) (cleared_alone w.clear.ensures.cleared)
+          (written ∙ ap (λ (s : Stored). set_word s.window.bytes (c.args.cell + 4) c.args.last) w.heap-is) w.clear.ensures.cleared
           )
       | in_default w ↦ (let none = w.in_default.is in absurd (cc))
     ]

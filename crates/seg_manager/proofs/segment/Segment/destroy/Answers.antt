@@ -1,14 +1,19 @@
-use Rattle.std.proofs.Common.{◌≡◌, ℕ, List, ap, ◌∙◌, sym, subst, is_ok}
+use Rattle.std.proofs.Common.{◌≡◌, ℕ, List, ◌++◌, ap, ◌∙◌, sym, subst, is_ok}
 use Rattle.std.proofs.lemmas.Result.{MatchResult-at_ok, MatchResult-at_err}
 use Rattle.seg_manager.specs.NamedObjects.{found_of, found_as}
 use Rattle.seg_manager.proofs.NamedReads.{names_found, finds_in, listed_named}
 use Rattle.seg_spec.specs.Types.{Table}
 use Rattle.seg_spec.specs.Index.{Root}
 use Rattle.seg_spec.specs.Spending.{killed}
+use Rattle.seg_spec.specs.Frozen.{blocks_by}
+use Rattle.seg_spec.specs.Shared.{names_each, named_each, left}
+use Rattle.seg_spec.specs.Counting.{cells_in}
+use Rattle.seg_spec.specs.Destroying.{Destroys}
+use Rattle.seg_spec.specs.Clearing.{BesideShared}
 use Rattle.seg_value.specs.Stored.{Stored}
 use Rattle.seg_index.specs.Lists.{FindsNamesOf, IsOccupied, LeavesName}
-use Rattle.seg_manager.specs.LeavingNamed.{IsUnlisted, GivesBack}
-use Rattle.seg_manager.proofs.NamedLeaves.{is_found, its, unlisted, lost}
+use Rattle.seg_manager.specs.LeavingNamed.{IsUnlisted}
+use Rattle.seg_manager.proofs.NamedLeaves.{is_found, first, unlisted, beside, lost}
 use Rattle.seg_manager.proofs.segment.Segment.destroy.Goals as goal
 
 pub returns-in_default-clause-tells : goal.returns-in_default-clause-tells
@@ -31,7 +36,7 @@ returns-clause-tells g c = λ picture is.
     sym (ap is_ok c.in-Ok-found.is) ∙ ap is_ok found ∙ sym (ap (λ o. is_ok (found_as c.args.t o)) it.1.found)
 
 pub returns-clause-loses : goal.returns-clause-loses
-returns-clause-loses g c = λ picture is done.
+returns-clause-loses g c = λ next picture is counted done.
     let a = g.F.Fit.allocator in
     let old = c.args.self.now in
     let mid = c.remove.new.heap in
@@ -51,8 +56,11 @@ returns-clause-loses g c = λ picture is done.
     let e = subst (λ t. LeavesName old.window.bytes mid.window.bytes t picture.names is.held.index_blocks root) is.table_is
     (leaves picture.names is.held.index_blocks (names_found a old picture is) name root there) in
     let mid_types : mid.types ≡ old.types = c.remove.ensures.types ∙ ap (λ (s : Stored). s.types) c.heap_mut.ensures.value in
-    let Frees : Table → Type 0 = λ t. (root : Root) (blocks : List ℕ) → IsUnlisted a mid.window.bytes t root blocks → found ≡ found_of root → root.type ≡ T
-    → GivesBack a mid.window.bytes new.window.bytes t blocks in
-    let frees = subst Frees (mid_types ∙ is.table_is) c.destroy_named.ensures.frees in
-    let gives = frees root (its a old mid picture is root e) (unlisted a old mid picture is root e) says.found_is says.type_is in
-    lost a old mid picture is root e new (c.destroy_named.ensures.types ∙ mid_types) gives name T (ap (λ o. killed o T) it.1.found ∙ says.is_killed)
+    let Leaves : Table → Type 0 = λ t. (root : Root) (blocks : List ℕ) → IsUnlisted a mid.window.bytes t root blocks → found ≡ found_of root → root.type ≡ T
+    → BesideShared mid.window.bytes t blocks (named_each root.values) (λ theirs now. Destroys a mid.window.bytes new.window.bytes t (blocks ++ blocks_by theirs now) theirs) in
+    let destroys = subst Leaves (mid_types ∙ is.table_is) c.destroy_named.ensures.frees in
+    let gone = names_each root.values in
+    let o = first a old mid next picture is counted root e in
+    let g = destroys root o.apart.firsts (unlisted a old mid next picture is counted root e) says.found_is says.type_is o.theirs (cells_in (e.before ++ (e.after ++ (picture.uniques ++ picture.loose)))) picture.frozen
+    (left gone picture.frozen) (beside a old mid next picture is counted root e) in
+    lost a old mid next picture is counted root e new (c.destroy_named.ensures.types ∙ mid_types) g name T (ap (λ o. killed o T) it.1.found ∙ says.is_killed)
