@@ -139,7 +139,8 @@ module _ (allocator : ℕ) (a b c d : List ℕ) (table : Table) (valid : IsTable
     block_c = block_there allocator b c (p + 8) (size table T) (block_of p) g.heap place_inside own_b changes_c p (tag_of Kind.frozen T) (8 + size table T) own_b g.is_block
 
     but_c : KeptBut b c (p + 8) (size table T) changes_c allocator g.heap own place_inside own_b own
-    but_c = there (KeptBut b c (p + 8) (size table T) changes_c allocator g.heap (block_of p) place_inside own_b) (block_of p) (positions (live b)) (live_kept_but b c (p + 8) (size table T) changes_c allocator g.heap (block_of p) place_inside own_b) own_b
+    but_c = there (KeptBut b c (p + 8) (size table T) changes_c allocator g.heap (block_of p) place_inside own_b) (block_of p) (positions (live b))
+        (live_kept_but b c (p + 8) (size table T) changes_c allocator g.heap (block_of p) place_inside own_b) own_b
 
     link_c : link_at c own ≡ None
     link_c = target-same b c (block_of p + 12) (but_c.outside (block_of p + 12) 4 (omega arith) (omega arith)) ∙ g.link_is
@@ -248,7 +249,8 @@ module _ (allocator : ℕ) (a b c d : List ℕ) (table : Table) (valid : IsTable
         value_f =
             let h_e : Holds e table (record { at = p + 8; type = T }) v inside = Holds-kept d e table valid value_d (changes_e.others (p + 8) (size table T) (inr (omega arith)))
             (each_there (KeepsBlock d e) inside (λ h some.
-            ((payload_written allocator d e p 8 (block_of p) gives.heap words_inside own_d changes_e).others h (old_d h (inside_live h some) (inside_other h some)) (times-other h (block_of p) [] (λ s. other h (inside_live h some) (sym s)))).whole.kept)) in
+            ((payload_written allocator d e p 8 (block_of p) gives.heap words_inside own_d changes_e).others h (old_d h (inside_live h some) (inside_other h some))
+            (times-other h (block_of p) [] (λ s. other h (inside_live h some) (sym s)))).whole.kept)) in
             Holds-kept e f table valid h_e (changes_f.others (p + 8) (size table T) (inr (omega (arith, above_d))))
             (each_there (KeepsBlock e f) inside (λ h some. (kept_then h (subst (λ bs. 1 ≤ times h (positions bs)) (sym live_e) (old_d h (inside_live h some) (inside_other h some)))).0))
 
@@ -274,7 +276,8 @@ module _ (allocator : ℕ) (a b c d : List ℕ) (table : Table) (valid : IsTable
         unfolding e f
         moved = record {
           length_kept = changes_f.length_kept ∙ changes_e.length_kept ∙ gives.kept.front_kept.length_kept ∙ changes.length_kept ∙ g.length_kept;
-          front_kept = changes_f.others 0 free_word (inl (omega arith)) ∙ changes_e.others 0 free_word (inl (omega (arith, above_d))) ∙ front_d.0 ∙ changes.others 0 free_word (inl (omega (arith, lies_b.low, place_inside.low))) ∙ g.front_kept;
+          front_kept = changes_f.others 0 free_word (inl (omega arith)) ∙ changes_e.others 0 free_word (inl (omega (arith, above_d))) ∙ front_d.0
+              ∙ changes.others 0 free_word (inl (omega (arith, lies_b.low, place_inside.low))) ∙ g.front_kept;
           next_is = next_f ∙ ap suc number_is;
           back_kept = changes_f.others index_cell (heap_start - index_cell) (inr (omega arith)) ∙ changes_e.others index_cell (heap_start - index_cell) (inl (omega (arith, above_d)))
               ∙ IsSame-part c d back_start back_size index_cell (heap_start - index_cell) (omega arith) (omega arith) front_d.1 ∙ changes.others index_cell (heap_start - index_cell) (inl (omega (arith, lies_b.low, place_inside.low)))
@@ -312,7 +315,8 @@ all_moved allocator a b c d f table here T object p to number next v inside vali
     let room = place_inside allocator a b c d table valid T object p v inside heap loose g in
     let to_then : to ≡ p + 8 = to_is ∙ omega (arith, lies.high, room.high, g.heap.small) in
     let Changes : ℕ → Table → Type 0 = λ x t. IsWithin b object (1 * size t T) → IsWithin b x (1 * size t T) → ChangesOnly b c x (1 * size t T) in
-    let Moves : ℕ → Table → Type 0 = λ x t. (n home : ℕ) (vs : Values) (blocks : List ℕ) → IsHeap n b → x % 8 ≡ 0 → IsWithin b object (1 * size t T) → StandsBeside b home x (1 * size t T) blocks → HoldsEach b t (items t object T 1) vs blocks
+    let Moves : ℕ → Table → Type 0 = λ x t. (n home : ℕ) (vs : Values) (blocks : List ℕ) → IsHeap n b → x % 8 ≡ 0 → IsWithin b object (1 * size t T) → StandsBeside b home x (1 * size t T) blocks
+    → HoldsEach b t (items t object T 1) vs blocks
     → HoldsEach c t (items t x T 1) vs blocks in
     let changes' : Changes (p + 8) table = subst (λ x. Changes x table) to_then (subst (λ t. Changes to t) same changes) in
     let values' : Moves (p + 8) table = subst (λ x. Moves x table) to_then (subst (λ t. Moves to t) same values) in
@@ -320,7 +324,8 @@ all_moved allocator a b c d f table here T object p to number next v inside vali
     let onto = to_within allocator a b c d table valid T object p v inside heap loose g in
     let eight = even allocator a b c d table valid T object p v inside heap loose g in
     let changed = changes' from onto in
-    let held = values' allocator (block_of p) (cons v nil) inside g.heap (omega (arith, eight)) from (stands_b allocator a b c d table valid T object p v inside heap loose g) (values_b allocator a b c d table valid T object p v inside heap loose g) in
+    let held = values' allocator (block_of p) (cons v nil) inside g.heap (omega (arith, eight)) from (stands_b allocator a b c d table valid T object p v inside heap loose g)
+    (values_b allocator a b c d table valid T object p v inside heap loose g) in
     let given = gives (heap_c allocator a b c d table valid T object p v inside heap loose g changed held) (gone_c allocator a b c d table valid T object p v inside heap loose g changed held) in
     let next_then : next ≡ suc number = next_is ∙ omega arith in
     subst (λ bytes. MovesFrozen allocator a bytes table T object v inside p) (sym (f_is ∙ ap (set_word (set_word (set_word d p 1) (p + 4) number) next_word) next_then))

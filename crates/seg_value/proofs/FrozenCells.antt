@@ -57,7 +57,7 @@ module _ (p : ℕ) (its : List ℕ) (theirs : ℕ → List ℕ) where
   keep_others old new (f ∷ fs) a k = (subst (AllByRecursion (KeepsBlockAround old new f.at 4)) (with_other f.at a.0) k.0, keep_others old new fs a.1 k.1)
 
 -- objects whose blocks are live don't stand in a block that was free
-not_there : (bytes : List ℕ) (table : Table) (theirs : ℕ → List ℕ) (p : ℕ) (fs : List Frozen) → times (block_of p) (blocks_by theirs fs) ≡ 0 → HoldFrozen bytes table theirs fs → AllByRecursion (λ (f : Frozen). f.at ≢ p) fs
+pub not_there : (bytes : List ℕ) (table : Table) (theirs : ℕ → List ℕ) (p : ℕ) (fs : List Frozen) → times (block_of p) (blocks_by theirs fs) ≡ 0 → HoldFrozen bytes table theirs fs → AllByRecursion (λ (f : Frozen). f.at ≢ p) fs
 not_there bytes table theirs p [] free hold = tt
 not_there bytes table theirs p (f ∷ fs) free hold =
     let both = times-append (block_of p) (theirs f.at) (blocks_by theirs fs) in
@@ -71,10 +71,11 @@ not_there bytes table theirs p (f ∷ fs) free hold =
         absurd (omega (arith, times-append (block_of p) (theirs f.at) (blocks_by theirs fs)))
 
 -- one that none of these names names stays
-stays_left : (payload T number : ℕ) (w : Value) (gone : List Place) (fs : List Frozen) → times_named payload gone ≡ 0 → left gone (frozen_now payload T number w ∷ fs) ≡ frozen_now payload T number w ∷ left gone fs
+pub stays_left : (payload T number : ℕ) (w : Value) (gone : List Place) (fs : List Frozen) → times_named payload gone ≡ 0 → left gone (frozen_now payload T number w ∷ fs) ≡ frozen_now payload T number w ∷ left gone fs
 stays_left payload T number w gone fs none = ap (λ n. kept_with (frozen_now payload T number w) (1 - n) (left (gone ++ names_in w) fs) (left gone fs)) none
 
-module _ (allocator : ℕ) (old mid : List ℕ) (table : Table) (cell : Place) (T object p : ℕ) (f : form_at table cell.type ≡ Some (Form.shared T)) (v w : Value) (blocks inside : List ℕ) (theirs : ℕ → List ℕ) (kept : List Place) (now : List Frozen)
+module _ (allocator : ℕ) (old mid : List ℕ) (table : Table) (cell : Place) (T object p : ℕ) (f : form_at table cell.type ≡ Some (Form.shared T)) (v w : Value) (blocks inside : List ℕ)
+    (theirs : ℕ → List ℕ) (kept : List Place) (now : List Frozen)
     (s : Stands allocator old table cell v blocks) (b : FrozenBeside old table (s.home ∷ (blocks ++ block_of object ∷ inside)) (names_in w ++ (names_in v ++ kept)) (word old next_word) theirs now)
     (allowed : (bytes : List ℕ) (h : ℕ) → tag_at bytes h ≡ tag_of Kind.frozen T → link_at bytes h ≡ None → IsOwnable bytes table h) (m : MovesFrozen allocator old mid table T object w inside p) where
   abbrev own : ℕ
@@ -267,7 +268,8 @@ module _ (allocator : ℕ) (old mid : List ℕ) (table : Table) (cell : Place) (
           let around = there (KeepsBlockAround mid new p 4) h (own ∷ inside) (subst (AllByRecursion (KeepsBlockAround mid new p 4)) (with_own p (own ∷ inside) theirs) c.shared_kept.0) (omega arith) in
           kept_twice old mid new h (kept_mid h (omega (arith, some))) (inside_there new h some around));
       shared_kept = frozen_twice old mid new theirs (left (names_in v) now)
-          (frozen_kept allocator old mid s.heap theirs (left (names_in v) now) (λ h some. omega (arith, some, left_fewer theirs (names_in v) now h, counts h)) (λ h some. kept_mid h (omega (arith, some, left_fewer theirs (names_in v) now h))))
+          (frozen_kept allocator old mid s.heap theirs (left (names_in v) now) (λ h some. omega (arith, some, left_fewer theirs (names_in v) now h, counts h))
+          (λ h some. kept_mid h (omega (arith, some, left_fewer theirs (names_in v) now h))))
           (keep_others p (own ∷ inside) theirs mid new (left (names_in v) now) apart_left c.shared_kept.1);
     }
 
