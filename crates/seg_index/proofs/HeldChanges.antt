@@ -7,7 +7,7 @@ use Rattle.seg_spec.specs.Bytes.{word}
 use Rattle.seg_spec.specs.Header.{allocator_word, index_kind_word, version_word, units_word, back_start, reserved, reserved_size, types_start, types_size, uniques_start, uniques_size, KeepsFront, KeepsBack}
 use Rattle.seg_spec.specs.Types.{Table}
 use Rattle.seg_spec.specs.Heap.{Span, IsHeap, live}
-use Rattle.seg_spec.specs.Block.{KeepsBlock, IsOwnable}
+use Rattle.seg_spec.specs.Block.{KeepsBlock}
 use Rattle.seg_spec.specs.Index.{Root}
 use Rattle.seg_spec.specs.Sound.{Picture, HoldsRoot, HoldsRoots, holds_no_root, HasHeader, IsLaidOut, IsHeld, times, positions, frozen_roots}
 use Rattle.seg_spec.specs.Roots.{RootsComeApart}

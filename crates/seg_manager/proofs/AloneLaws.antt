@@ -2,7 +2,7 @@
 --     counted_alone                       an image's frozen objects are counted, since there are none
 --     LosesNamedAlone, LosesRootAlone, LosesLooseAlone, LosesUniqueAlone
 --                                         what the calls leave that destroy an object
-use Rattle.std.proofs.Common.{◌≡◌, ℕ, List, [], ◌∷◌, ◌++◌, map, Some, refl, sym, ap, ◌∙◌, subst, append_assoc, append-nil}
+use Rattle.std.proofs.Common.{◌≡◌, ℕ, List, [], ◌∷◌, ◌++◌, Some, refl, sym, ap, ◌∙◌, subst, append_assoc, append-nil}
 use Rattle.seg_spec.specs.Bytes.{word}
 use Rattle.seg_spec.specs.Header.{index_kind_word}
 use Rattle.seg_spec.specs.Types.{Table, AreOfVersion}
@@ -14,7 +14,7 @@ use Rattle.seg_spec.specs.Sound.{Picture, roots_of, frozen_roots, HoldsRoot, Hol
 use Rattle.seg_spec.specs.Roots.{Listed, with_roots}
 use Rattle.seg_spec.specs.Demand.{after_gives}
 use Rattle.seg_spec.specs.Spending.{EntryBlocks, killed}
-use Rattle.seg_spec.specs.Shared.{names_each, IsBelow, IsCounted, IsFalling, left, freed}
+use Rattle.seg_spec.specs.Shared.{names_each, IsCounted, IsFalling, left, freed}
 use Rattle.seg_spec.specs.Counting.{cells_in, owners_in, AreCounted, without_cells}
 use Rattle.seg_spec.proofs.RootLaws.{HoldsRoots-split}
 use Rattle.seg_spec.proofs.Lowering.{positions_of, each_positions}
@@ -91,8 +91,8 @@ picture_same other gone none = ap (λ fs. record other { frozen = fs }) (ap (lef
 no_theirs : (blocks : List ℕ) (theirs : ℕ → List ℕ) (fs : List Frozen) → fs ≡ [] → blocks ++ blocks_by theirs fs ≡ blocks
 no_theirs blocks theirs fs none = ap (λ gs. blocks ++ blocks_by theirs gs) none ∙ append-nil blocks
 
-becomes_alone : (allocator : ℕ) (old new : Stored) (other : Picture) (gone : List Place) (blocks : List ℕ) (theirs : ℕ → List ℕ) → other.frozen ≡ [] → Becomes allocator old new (without_cells gone other) (blocks ++ blocks_by theirs other.frozen)
-    → Becomes allocator old new other blocks
+becomes_alone : (allocator : ℕ) (old new : Stored) (other : Picture) (gone : List Place) (blocks : List ℕ) (theirs : ℕ → List ℕ) → other.frozen ≡ []
+    → Becomes allocator old new (without_cells gone other) (blocks ++ blocks_by theirs other.frozen) → Becomes allocator old new other blocks
 becomes_alone allocator old new other gone blocks theirs none b =
     subst (λ p. Becomes allocator old new p blocks) (picture_same other gone none) (subst (λ bs. Becomes allocator old new (without_cells gone other) bs) (no_theirs blocks theirs other.frozen none) b)
 

@@ -21,7 +21,7 @@ use Rattle.seg_spec.specs.Destroying.{HoldFrozen, Destroys}
 use Rattle.seg_spec.specs.Clearing.{SharedBeside, BesideShared}
 use Rattle.seg_spec.proofs.SliceLaws.{IsSame-part}
 use Rattle.seg_spec.proofs.Frame.{word-same, each_left, each_right}
-use Rattle.seg_spec.proofs.LiveLaws.{times-append, times-same, times-other}
+use Rattle.seg_spec.proofs.LiveLaws.{times-other}
 use Rattle.seg_spec.proofs.Standing.{each_live_at, live_at}
 use Rattle.seg_spec.proofs.RootLaws.{HoldsRoots-one, HoldsRoots-only, IsLaidOut-loose}
 use Rattle.seg_spec.proofs.CountedPictures.{OwnerBeside, owner_beside, named_one}

@@ -15,7 +15,7 @@ use Rattle.seg_spec.specs.Demand.{after_gives}
 use Rattle.seg_spec.specs.Spending.{killed}
 use Rattle.seg_spec.specs.Shared.{names_each, named_each, left, freed}
 use Rattle.seg_spec.specs.Counting.{cells_in, owners_in, AreCounted, without_cells}
-use Rattle.seg_spec.specs.Destroying.{HoldFrozen, Destroys}
+use Rattle.seg_spec.specs.Destroying.{HoldFrozen, KeepFrozen, Destroys}
 use Rattle.seg_spec.specs.Clearing.{SharedBeside}
 use Rattle.seg_spec.proofs.LiveLaws.{each_there, times-append, live-once}
 use Rattle.seg_spec.proofs.RootFrame.{HoldsRoot-kept}
@@ -186,6 +186,11 @@ module _ (allocator : ℕ) (old mid : Stored) (next : ℕ) (picture : Picture) (
         holds_no_root (roots_held c table first.theirs rest g.holds) (λ h.
         omega (arith, first.counts h, mid_are h, then_are h, times-append h e.others (first.apart.around ++ blocks_by first.theirs rest), times-append h first.apart.around (blocks_by first.theirs rest)))
 
+    -- the objects that are left were kept before
+    left_mid : KeepFrozen a b first.theirs rest
+    left_mid = frozen_kept allocator a b heap_old first.theirs rest (λ h some. let l = left_fewer first.theirs cells picture.frozen h in omega (arith, first.counts h))
+        (λ h some. let l = left_fewer first.theirs cells picture.frozen h in kept_mid h (omega arith))
+
     pub lost : (name : List ℕ) (T : ℕ) → killed (root_named picture.names name) T ≡ Some root → LosesNamed allocator old new picture is.held.index_blocks name T
     lost name T root_is = record {
       before = e.before;
@@ -213,9 +218,9 @@ module _ (allocator : ℕ) (old mid : Stored) (next : ℕ) (picture : Picture) (
             let i = mid_are h in
             kept_twice a b c h (e.changes.kept h some (omega arith)) (kept_then h (omega arith) (omega arith));
       };
-      shared_kept = frozen_twice a b c first.theirs rest
-          (frozen_kept allocator a b heap_old first.theirs rest (λ h some. omega (arith, left_fewer first.theirs cells picture.frozen h, first.counts h)) (λ h some. kept_mid h (omega (arith, left_fewer first.theirs cells picture.frozen h)))) g.shared_kept;
-      live_is = live_given allocator b c table its first.theirs cells picture.frozen heap_mid e.changes.ownable g ∙ ap (λ bs. after_gives bs (its ++ went)) e.changes.live_is ∙ sym (gives_append (live a) e.gives (its ++ went))
+      shared_kept = frozen_twice a b c first.theirs rest left_mid g.shared_kept;
+      live_is =
+          live_given allocator b c table its first.theirs cells picture.frozen heap_mid e.changes.ownable g ∙ ap (λ bs. after_gives bs (its ++ went)) e.changes.live_is ∙ sym (gives_append (live a) e.gives (its ++ went))
           ∙ in_any_order (live a) (e.gives ++ (its ++ went)) ((its ++ e.gives) ++ went) (λ h.
           let x = times-append h e.gives (its ++ went) in
           let y = times-append h its went in

@@ -1,8 +1,8 @@
 -- A list without one of its nodes, with the frozen objects that the item in it named last.
-use Rattle.std.proofs.Common.{◌≡◌, ◌≢◌, ℕ, suc, ◌+◌, ◌%◌, ◌≤◌, ◌⊎◌, inl, inr, ⊎_elim, List, [], ◌∷◌, ◌++◌, length, map, Some, refl, sym, ap, ◌∙◌, subst, arith, append_assoc}
+use Rattle.std.proofs.Common.{◌≡◌, ◌≢◌, ℕ, suc, ◌+◌, ◌%◌, ◌≤◌, ◌⊎◌, inl, inr, List, [], ◌∷◌, ◌++◌, length, map, Some, refl, sym, ap, ◌∙◌, subst, arith, append_assoc}
 use Rattle.std.specs.Prelude.{slice_get}
 use Rattle.std.specs.List.{AllByRecursion}
-use Rattle.std.proofs.lemmas.Bool.{cases_eq, cases_lt}
+use Rattle.std.proofs.lemmas.Bool.{cases_eq}
 use Rattle.seg_spec.specs.Header.{free_word, back_start, back_size}
 use Rattle.seg_spec.specs.Bytes.{word, IsSame}
 use Rattle.seg_spec.specs.Types.{Form, Table, form_at, size}
@@ -256,26 +256,21 @@ module _ (allocator : ℕ) (old : List ℕ) (table : Table) (list : Place) (U no
       all_fit : (h : ℕ) → times h (s.home ∷ map block_of all) + (times h owned + times h shares) ≤ times h (positions (live old))
       all_fit h = let o = beside h in let c = blocks_count h in let a = times-append h (s.home ∷ blocks) shares in omega arith
 
-      shares_other : (h : ℕ) → 1 ≤ times h shares → h ≢ s.home
-      shares_other h some e =
-          let mine : 1 ≤ times s.home shares = subst (λ k. 1 ≤ times k shares) e some in
+      -- a block of what an item owns, or of a frozen object
+      beside_other : (h : ℕ) → 1 ≤ times h owned + times h shares → h ≢ s.home
+      beside_other h some e =
+          let mine : 1 ≤ times s.home owned + times s.home shares = subst (λ k. 1 ≤ times k owned + times k shares) e some in
           let o = all_fit s.home in
           let l = once s.home in
           let t = times-same s.home (map block_of all) in
           absurd (omega arith)
 
-      -- a block of what an item owns, or of a frozen object
       beside_kept : (h : ℕ) → 1 ≤ times h owned + times h shares → KeepsBlock old one h
-      beside_kept h some = ⊎_elim
-          (λ none. shares_kept h (omega arith))
-          (λ mine. owned_kept h mine) (cases_lt (times h owned) 1)
-        where
-          shares_kept : (h : ℕ) → 1 ≤ times h shares → KeepsBlock old one h
-          shares_kept h some =
-              let o = all_fit h in
-              let l = once h in
-              let m = times-more h s.home (map block_of all) in
-              other_kept allocator old s.heap list.at s.home inside s.aligned all low own one r.changes h (omega arith) (shares_other h some) (omega arith)
+      beside_kept h some =
+          let o = all_fit h in
+          let l = once h in
+          let m = times-more h s.home (map block_of all) in
+          other_kept allocator old s.heap list.at s.home inside s.aligned all low own one r.changes h (omega arith) (beside_other h some) (omega arith)
 
       -- what calls find there that destroy the item
       pub item_beside : (names : List ℕ) (kept : List Place) → SharedBeside old table (s.home ∷ blocks) names theirs kept now final → SharedBeside one table (item_stands.home ∷ p.its) names theirs kept now final

@@ -1,7 +1,6 @@
 -- The frozen objects of a picture, counted: what they own beside a root, and what is left of them where the root goes.
-use Rattle.std.proofs.Common.{◌≡◌, ◌≢◌, ℕ, zero, suc, ◌+◌, ◌-◌, ◌≤◌, ◌⊎◌, inl, inr, true, false, List, [], ◌∷◌, ◌++◌, length, map, cond, eqb, refl, sym, ap, ◌∙◌, subst, arith}
+use Rattle.std.proofs.Common.{◌≡◌, ◌≢◌, ℕ, zero, suc, ◌+◌, ◌-◌, ◌≤◌, true, false, List, [], ◌∷◌, ◌++◌, length, map, cond, eqb, refl, sym, ap, ◌∙◌, subst, arith}
 use Rattle.std.specs.List.{AllByRecursion}
-use Rattle.std.proofs.lemmas.Bool.{cases_eq}
 use Rattle.std.proofs.lemmas.Bool.Decides.{nat_tests}
 use Rattle.std.proofs.lemmas.List.{append_assoc, append-nil, length-append}
 use Rattle.seg_spec.specs.Types.{Table}
@@ -18,14 +17,14 @@ use Rattle.seg_spec.specs.Releasing.{lowered, let_go}
 use Rattle.seg_spec.specs.Destroying.{HoldFrozen}
 use Rattle.seg_spec.specs.Clearing.{SharedBeside}
 use Rattle.seg_spec.specs.Counting.{cells_in, owners_in, AreCounted, without_cells}
-use Rattle.seg_spec.proofs.LiveLaws.{times-append, times-same, times-other}
+use Rattle.seg_spec.proofs.LiveLaws.{times-append, times-same}
 use Rattle.seg_spec.proofs.Frame.{each_weaker, each_left, each_right}
 use Rattle.seg_spec.proofs.LooseRoots.{each_joined}
 use Rattle.seg_spec.proofs.Standing.{live_at}
 use Rattle.seg_spec.proofs.StretchLaws.{stretches_come_apart}
 use Rattle.seg_spec.proofs.SharedLaws.{named-append, names_later, left_each, counted_again}
 use Rattle.seg_spec.proofs.Releasing.{everywhere, left_same, names_apart, turn_same, counted_next, falling_lowered, none_gone}
-use Rattle.seg_spec.proofs.Lowering.{positions_of, each_positions, Picked, picked}
+use Rattle.seg_spec.proofs.Lowering.{positions_of, each_positions, picked}
 
 -- ---- what goes and what is left
 

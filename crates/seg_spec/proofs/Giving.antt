@@ -57,8 +57,8 @@ still_given (x ∷ xs) bs b h none =
     still_given xs (without x bs) b (still_among x bs b h (λ e. other (sym e))) (omega (arith, none, times-more b.at x xs))
 
 -- a block that is kept and stays live has its size, and between calls its link
-pub kept_linked : (allocator : ℕ) (old new : List ℕ) (table : Table) → IsHeap allocator old → IsHeap allocator new → (gives : List ℕ) → live new ≡ after_gives (live old) gives → (h : ℕ) → 1 ≤ times h (positions (live old)) → times h gives ≡ 0
-    → IsOwnable old table h → IsOwnable new table h → KeepsBlock old new h → KeepsLinked old new h
+pub kept_linked : (allocator : ℕ) (old new : List ℕ) (table : Table) → IsHeap allocator old → IsHeap allocator new → (gives : List ℕ) → live new ≡ after_gives (live old) gives → (h : ℕ) → 1 ≤ times h (positions (live old))
+    → times h gives ≡ 0 → IsOwnable old table h → IsOwnable new table h → KeepsBlock old new h → KeepsLinked old new h
 kept_linked allocator old new table heap heap_then gives live_is h some none was is k =
     let f = found h (live old) some in
     let among = still_given gives (live old) f.block f.among (subst (λ x. times x gives ≡ 0) (sym f.at_is) none) in

@@ -1,5 +1,5 @@
 -- An owner of blocks is destroyed, with the frozen objects that it named last: each other block is kept, and has one owner again.
-use Rattle.std.proofs.Common.{◌≡◌, ℕ, zero, suc, ◌+◌, ◌≤◌, List, [], ◌∷◌, ◌++◌, map, refl, sym, ap, ◌∙◌, subst, arith}
+use Rattle.std.proofs.Common.{◌≡◌, ℕ, zero, suc, ◌+◌, ◌≤◌, List, [], ◌++◌, map, refl, sym, ap, ◌∙◌, arith}
 use Rattle.std.specs.List.{AllByRecursion}
 use Rattle.std.proofs.lemmas.List.{append_assoc, append-nil}
 use Rattle.seg_spec.specs.Bytes.{word}
@@ -10,13 +10,12 @@ use Rattle.seg_spec.specs.Block.{IsOwnable, KeepsBlock}
 use Rattle.seg_spec.specs.Reads.{Place}
 use Rattle.seg_spec.specs.Index.{Root}
 use Rattle.seg_spec.specs.Frozen.{Frozen, root_of_frozen, blocks_by}
-use Rattle.seg_spec.specs.Sound.{Picture, roots_of, frozen_roots, HoldsRoots, holds_no_root, IsLaidOut, IsHeld, times, SameBlocks, positions}
+use Rattle.seg_spec.specs.Sound.{Picture, roots_of, holds_no_root, IsLaidOut, IsHeld, times, SameBlocks, positions}
 use Rattle.seg_spec.specs.Owing.{KeepsLinked}
 use Rattle.seg_spec.specs.Demand.{after_gives}
 use Rattle.seg_spec.specs.Shared.{names_each, left, freed}
 use Rattle.seg_spec.specs.Destroying.{Destroys}
 use Rattle.seg_spec.specs.Counting.{owners_in, without_cells}
-use Rattle.seg_spec.proofs.Frame.{each_left, each_right}
 use Rattle.seg_spec.proofs.LiveLaws.{times-append, each_there, live-once}
 use Rattle.seg_spec.proofs.GiveOrder.{in_any_order}
 use Rattle.seg_spec.proofs.RootLaws.{IsLaidOut-kept}

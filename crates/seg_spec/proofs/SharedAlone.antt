@@ -80,7 +80,7 @@ clears_alone old new table place w olds news gone theirs same c =
 -- what holds beside whichever frozen objects, where the types of version 1 have none
 pub alone : (bytes : List ℕ) (table : Table) (besides : List ℕ) {place : Place} {v : Value} {blocks : List ℕ} (claim : (ℕ → List ℕ) → List Frozen → List Frozen → Type 0) → AreOfVersion 1 table
     → Holds bytes table place v blocks → AreLive bytes besides → BesideShared bytes table besides (named_in v) claim → claim none_owned [] []
-alone bytes table besides claim version holds_it owned beside = 
+alone bytes table besides claim version holds_it owned beside =
     beside none_owned [] [] [] (subst (λ ns. SharedBeside bytes table besides ns none_owned [] [] []) (sym (names_none bytes table version holds_it)) (alone_with bytes table besides owned))
 
 -- ---- parts of a value of types of version 1
