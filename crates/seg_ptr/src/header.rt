@@ -30,6 +30,9 @@ pub const FREE: usize = 24;
 /// A word that is 0.
 const ZERO: usize = 28;
 
+/// The word with the number of the next object that becomes frozen, in images of version 2.
+pub const NEXT_NUMBER: usize = 28;
+
 /// The index cell: a pointer to the entries, and after it the number of names.
 pub const INDEX: usize = 32;
 

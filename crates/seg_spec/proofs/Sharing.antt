@@ -34,7 +34,7 @@ distinct_raised p [] d = tt
 distinct_raised p (f ∷ fs) d =
     (raised_at (λ at. AllByRecursion (λ (g : Frozen). g.at ≢ at) (raised p fs)) f (eqb f.at p) (raised_each (λ (g : Frozen). g.at ≢ f.at) (λ g n h. h) p fs d.0), distinct_raised p fs d.1)
 
-below_raised : (n p : ℕ) (fs : List Frozen) (q : Place) → IsBelow n fs q → IsBelow n (raised p fs) q
+pub below_raised : (n p : ℕ) (fs : List Frozen) (q : Place) → IsBelow n fs q → IsBelow n (raised p fs) q
 below_raised n p [] q h = h
 below_raised n p (f ∷ fs) q (inl h) = inl (go (eqb f.at p))
   where

@@ -15,6 +15,9 @@ pub mod Setting
 pub mod SetAlone
 pub mod Pointed
 pub mod SharedCells
+pub mod Freezing
+pub mod FrozenCells
+pub mod SharedCounts
 pub mod Cutting
 pub mod Pointers
 pub mod Runs

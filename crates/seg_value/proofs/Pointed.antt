@@ -55,7 +55,8 @@ module _ (bytes : List ℕ) (table : Table) (place : Place) (T : ℕ) (f : form_
       nothing : (vs : Values) (bs : List ℕ) → HoldsEach bytes table [] vs bs → (vs ≡ nil) × (bs ≡ [])
       nothing vs bs holds_none = (refl, refl)
 
-      shown : (opened : Opened) (inside : Values) (owned : List ℕ) → OpensShared bytes place.at T opened → HoldsEach bytes table opened.parts inside owned → v ≡ node opened.label inside → blocks ≡ opened.blocks ++ owned → SharedCell v blocks
+      shown : (opened : Opened) (inside : Values) (owned : List ℕ) → OpensShared bytes place.at T opened → HoldsEach bytes table opened.parts inside owned → v ≡ node opened.label inside
+          → blocks ≡ opened.blocks ++ owned → SharedCell v blocks
       shown opened inside owned o hs v_is is =
           let none = nothing inside owned (subst (λ ps. HoldsEach bytes table ps inside owned) (ap (λ (r : Opened). r.parts) o.opened_is) hs) in
           record {

@@ -59,7 +59,8 @@ module _ (allocator : ℕ) (old : List ℕ) (table : Table) (cell : Place) (T ne
 -- ---- one cell more names an object, and then the cell is changed
 
 module _ (allocator : ℕ) (old : List ℕ) (table : Table) (cell : Place) (T next : ℕ) (f : form_at table cell.type ≡ Some (Form.shared T)) (v : Value) (blocks : List ℕ) (s : Stands allocator old table cell v blocks)
-    (theirs : ℕ → List ℕ) (kept : List Place) (now : List Frozen) (b : FrozenBeside old table (s.home ∷ blocks) (names_in v ++ kept) next theirs now) (q : Place) (below : IsBelow next now q) (few : AllByRecursion (λ f. f.count ≤ length old) now) where
+    (theirs : ℕ → List ℕ) (kept : List Place) (now : List Frozen) (b : FrozenBeside old table (s.home ∷ blocks) (names_in v ++ kept) next theirs now) (q : Place) (below : IsBelow next now q)
+    (few : AllByRecursion (λ f. f.count ≤ length old) now) where
   shares_owned : AreLive old (blocks_by theirs now)
   shares_owned h = omega (arith, b.owned h, times-append h (s.home ∷ blocks) (blocks_by theirs now))
 

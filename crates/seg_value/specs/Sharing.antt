@@ -1,16 +1,32 @@
--- Cells that come to name frozen objects, as calls find and leave them.
+-- Cells that come to name frozen objects, and objects that become frozen, as calls find and leave them.
 --     FrozenBeside bytes table besides cells next theirs now
 --                            frozen objects beside these blocks, which count these cells and those in themselves
 --     raised_by names now    the objects, where cells with these names come too
 --     cell_count object      what a cell counts that names this object, or none
-use Rattle.std.specs.Prelude.{ℕ, ◌≤◌, List, [], ◌∷◌, ◌++◌, Option, Some, None}
-use Rattle.seg_spec.specs.Types.{Table}
-use Rattle.seg_spec.specs.Reads.{Place}
-use Rattle.seg_spec.specs.Block.{IsOwnable}
-use Rattle.seg_spec.specs.Sound.{times}
-use Rattle.seg_spec.specs.Frozen.{Frozen, blocks_by}
-use Rattle.seg_spec.specs.Shared.{IsCounted, IsFalling, raised}
-use Rattle.seg_spec.specs.Destroying.{AreLive, HoldFrozen}
+--     next_word              where an image has the number of the next object that becomes frozen
+--     frozen_now payload T number v
+--                            an object that became frozen, which one cell names
+--     MovesFrozen allocator old new table T object v inside payload
+--                            an object moved to a new block, and is frozen there
+--     with_blocks payload its theirs
+--                            the blocks that objects own, where the one at this position owns `its`
+--     Freezes allocator old new table cell T object v inside blocks names theirs now
+--                            a cell names it, and what the cell named before was released
+use Rattle.std.specs.Prelude.{◌≡◌, ◌≢◌, ℕ, suc, ◌+◌, ◌-◌, ◌≤◌, ◌==◌, if◌then◌else◌, List, [], ◌∷◌, ◌++◌, length, Option, Some, None}
+use Rattle.std.specs.List.{AllByRecursion}
+use Rattle.seg_spec.specs.Bytes.{word, IsSame}
+use Rattle.seg_spec.specs.Header.{allocator_word, index_cell, KeepsFront}
+use Rattle.seg_spec.specs.Types.{Table, size}
+use Rattle.seg_spec.specs.Value.{Label, Value, nil, node}
+use Rattle.seg_spec.specs.Heap.{Span, IsHeap, live, link_at, heap_start}
+use Rattle.seg_spec.specs.Block.{KeepsBlock, IsOwnable, block_of}
+use Rattle.seg_spec.specs.Reads.{Place, Holds}
+use Rattle.seg_spec.specs.Apart.{KeepsBlockAround}
+use Rattle.seg_spec.specs.Sound.{HoldsRoot, times, SameBlocks, positions}
+use Rattle.seg_spec.specs.Demand.{block_for, after_asks, after_gives}
+use Rattle.seg_spec.specs.Frozen.{Frozen, frozen_words, root_of_frozen, blocks_by}
+use Rattle.seg_spec.specs.Shared.{IsCounted, IsFalling, raised, left}
+use Rattle.seg_spec.specs.Destroying.{AreLive, HoldFrozen, KeepFrozen}
 
 -- these frozen objects own the blocks `theirs`, which are live once each with others; they count these cells and those in
 -- themselves
@@ -31,3 +47,75 @@ raised_by (q ∷ names) now = raised q.at (raised_by names now)
 abbrev pub cell_count : Option ℕ → ℕ
 cell_count None = 0
 cell_count (Some p) = 1
+
+-- ---- objects that become frozen
+
+-- the word of an image that has the number of the next object that becomes frozen
+abbrev pub next_word : ℕ
+next_word = 28
+
+-- an object that became frozen, which one cell names
+abbrev pub frozen_now : ℕ → ℕ → ℕ → Value → Frozen
+frozen_now payload T number v =
+    record { at = payload; type = T; number = number; count = 1; value = v }
+
+-- an object moved from its block, which was given back, to a new one, and is frozen there with the next number; all other
+-- live blocks are kept with their links
+pub record MovesFrozen (allocator : ℕ) (old new : List ℕ) (table : Table) (T object : ℕ)
+    (v : Value) (inside : List ℕ) (payload : ℕ) : Type 0 where
+  pub length_kept : length new ≡ length old
+  pub front_kept : KeepsFront old new
+  pub next_is : word new next_word ≡ suc (word old next_word)
+  pub back_kept : IsSame old new index_cell (heap_start - index_cell)
+  pub heap : IsHeap allocator new
+  pub spans : List Span
+  pub granted_is :
+      after_asks allocator (live old) (length old) (block_for (frozen_words + size table T) ∷ [])
+      ≡ Some spans
+  pub live_is : live new ≡ after_gives spans (block_of object ∷ [])
+  pub holds_it : HoldsRoot new table
+      (root_of_frozen (frozen_now payload T (word old next_word) v)) (block_of payload ∷ inside)
+  pub link_is : link_at new (block_of payload) ≡ None
+  pub was_free : times (block_of payload) (positions (live old)) ≡ 0
+  pub live_are : (h : ℕ) →
+      times h (positions (live new)) + times h (block_of object ∷ [])
+      ≡ times h (positions (live old)) + times h (block_of payload ∷ [])
+  pub kept : (h : ℕ) → 1 ≤ times h (positions (live old)) → h ≢ block_of object →
+      KeepsBlock old new h × (link_at new h ≡ link_at old h)
+
+-- the blocks that objects own, where the one at this position owns `its`
+abbrev pub with_blocks : ℕ → List ℕ → (ℕ → List ℕ) → ℕ → List ℕ
+with_blocks payload its theirs p = if p == payload then its else theirs p
+
+-- An object moved to a new block, and is frozen there; a cell names it, which owned `blocks`, and what the cell named
+-- before was released. Of the frozen objects `now` this is left: all that cells other than those with these names name.
+pub record Freezes (allocator : ℕ) (old new : List ℕ) (table : Table) (cell : Place) (T object : ℕ)
+    (v : Value) (inside blocks : List ℕ) (names : List Place) (theirs : ℕ → List ℕ)
+    (now : List Frozen) : Type 0 where
+  pub length_kept : length new ≡ length old
+  pub front_kept : KeepsFront old new
+  pub next_is : word new next_word ≡ suc (word old next_word)
+  pub back_kept : IsSame old new index_cell (heap_start - index_cell)
+  pub heap : IsHeap (word old allocator_word) new
+  pub ownable : AllByRecursion (λ b. IsOwnable new table b.at) (live new)
+  pub payload : ℕ
+  pub was_free : times (block_of payload) (positions (live old)) ≡ 0
+  pub holds_it : Holds new table cell (node (Label.shared T payload) nil) []
+  pub holds : HoldFrozen new table (with_blocks payload (block_of payload ∷ inside) theirs)
+      (frozen_now payload T (word old next_word) v ∷ left names now)
+  pub gives : List ℕ
+  pub all_are :
+      SameBlocks (blocks ++ blocks_by theirs now) (gives ++ blocks_by theirs (left names now))
+  pub spans : List Span
+  pub granted_is :
+      after_asks allocator (live old) (length old) (block_for (frozen_words + size table T) ∷ [])
+      ≡ Some spans
+  pub live_is : live new ≡ after_gives spans (block_of object ∷ gives)
+  pub live_are : (h : ℕ) →
+      times h (positions (live new)) + times h (block_of object ∷ gives)
+      ≡ times h (positions (live old)) + times h (block_of payload ∷ [])
+  pub kept : (h : ℕ) → 1 ≤ times h (positions (live old)) →
+      times h ((block_of object ∷ inside) ++ (blocks ++ blocks_by theirs now)) ≡ 0 →
+      KeepsBlockAround old new cell.at (size table cell.type) h
+  pub inside_kept : AllByRecursion (KeepsBlock old new) inside
+  pub shared_kept : KeepFrozen old new theirs (left names now)

@@ -1,23 +1,31 @@
-ghost use Rattle.std.specs.Prelude.{◌≡◌, ℕ, suc, ◌+◌, ◌%◌, ◌^◌, ◌<◌, ◌≤◌, List, [], ◌∷◌, ◌++◌, length, Option, Some, None, option_map};
+ghost use Rattle.std.specs.Prelude.{◌≡◌, ℕ, suc, ◌+◌, ◌%◌, ◌^◌, ◌<◌, ◌≤◌, List, [], ◌∷◌, ◌++◌, length, Option, Some, None, Err, option_map, IsOkUnless, MatchResult};
 ghost use Rattle.std.specs.List.{AllByRecursion};
+ghost use Rattle.seg_spec.specs.Block as block;
+ghost use Rattle.seg_spec.specs.Block.{AllowsType, block_of};
 ghost use Rattle.seg_spec.specs.Bytes.{word, set_word};
+ghost use Rattle.seg_spec.specs.Calls.{IsLoose, Refuses};
 ghost use Rattle.seg_spec.specs.Clearing.{ClearsPlace};
+ghost use Rattle.seg_spec.specs.Demand.{block_for};
 ghost use Rattle.seg_spec.specs.Frozen.{Frozen, frozen_words};
+ghost use Rattle.seg_spec.specs.Heap.{IsHeap};
 ghost use Rattle.seg_spec.specs.Owning.{Stands};
 ghost use Rattle.seg_spec.specs.Pointer.{target, set_pointer};
 ghost use Rattle.seg_spec.specs.Reads as reads;
 ghost use Rattle.seg_spec.specs.Reads.{Holds};
 ghost use Rattle.seg_spec.specs.Shared.{names_in, IsBelow, left};
-ghost use Rattle.seg_spec.specs.Types.{Form, form_at};
+ghost use Rattle.seg_spec.specs.Types.{Form, IsTable, form_at, size};
 ghost use Rattle.seg_spec.specs.Value.{Value};
 ghost use Rattle.seg_spec.specs.Window.{with_bytes, KeepsHost};
-ghost use Rattle.seg_value.specs.Places.{place_of};
-ghost use Rattle.seg_value.specs.Sharing.{FrozenBeside, raised_by, cell_count};
+ghost use Rattle.seg_value.specs.Places.{place_of, object_at};
+ghost use Rattle.seg_value.specs.Sharing.{FrozenBeside, raised_by, cell_count, next_word, MovesFrozen, Freezes};
 
-use crate::content::FROZEN_WORDS;
+use crate::content::{Content, FROZEN_WORDS};
 use crate::heap::Heap;
 use crate::place::Place;
 use seg_block::Fit;
+use seg_layout::{Type, TypeId};
+use seg_ptr::header::NEXT_NUMBER;
+use seg_raw::Code;
 use std::alloc::Allocator;
 
 /// Cells that share a frozen object with others, as images of version 2 have them.
@@ -53,6 +61,87 @@ impl<F: Fit, A: Allocator> Heap<F, A> {
         self.raise(object);
         self.clear(to);
         self.name(to.at, object);
+    }
+
+    /// Makes an object frozen, given by the position of its value, that nothing holds and that doesn't reach the cell. The
+    /// cell names it then, and what it named before is released; the cell must lie outside frozen objects. `NumbersUsedUp`
+    /// where there is no number for one more, `BadAlloc` where no gap has room for it, and then nothing changes.
+    pub fn freeze(&mut self, cell: Place, object: u32) -> Result<(), Code>
+        ensures window { KeepsHost self.old.window self.new.window }
+        ensures types { self.new.types ≡ self.old.types }
+        ensures used_up { suc (word self.old.window.bytes next_word) ≡ 2 ^ 32 →
+            (result ≡ Err Code.NumbersUsedUp) × (self.new.window ≡ self.old.window) }
+        ensures code { suc (word self.old.window.bytes next_word) < 2 ^ 32 →
+            IsOkUnless result Code.BadAlloc }
+        ensures frozen { (T : ℕ) (v w : Value) (blocks inside : List ℕ)
+            (theirs : ℕ → List ℕ) (kept : List reads.Place) (now : List Frozen) →
+            form_at self.old.types cell.type_id ≡ Some (Form.shared T) →
+            (s : Stands F.allocator self.old.window.bytes self.old.types (place_of cell) v blocks) →
+            IsLoose self.old.window.bytes self.old.types (object_at object T) w inside →
+            FrozenBeside self.old.window.bytes self.old.types
+            (s.home ∷ (blocks ++ block_of object ∷ inside)) (names_in w ++ (names_in v ++ kept))
+            (word self.old.window.bytes next_word) theirs now →
+            suc (word self.old.window.bytes next_word) < 2 ^ 32 →
+            AllowsType self.old.types block.Kind.frozen T →
+            MatchResult result
+            (λ done. Freezes F.allocator self.old.window.bytes self.new.window.bytes
+            self.old.types (place_of cell) T object w inside blocks (names_in v) theirs now)
+            (λ code. Refuses F.allocator self.old.window.bytes self.new.window.bytes
+            (block_for (frozen_words + size self.old.types T) ∷ [])) }
+    {
+        let number = self.window.get32(NEXT_NUMBER);
+        if number == u32::MAX {
+            return Err(Code::NumbersUsedUp);
+        }
+        let payload = self.move_frozen(self.shared_type(cell.type_id), object, number)?;
+        self.clear(cell);
+        self.name(cell.at, Some(payload));
+        Ok(())
+    }
+
+    /// The type of the objects that cells of a type share, or the type itself where it is no such cell's.
+    fn shared_type(&self, t: TypeId) -> TypeId
+        ensures { (T : ℕ) → form_at self.now.types t ≡ Some (Form.shared T) → result ≡ T }
+    {
+        match self.types.kind(t) {
+            Some(Type::Shared(held)) => held,
+            _ => t,
+        }
+    }
+
+    /// Moves an object of a type to a new block, with the words of a frozen one before its value. Returns where the payload
+    /// begins. `BadAlloc` where no gap has room for it, and then nothing changes.
+    fn move_frozen(&mut self, t: TypeId, object: u32, number: u32) -> Result<u32, Code>
+        ensures window { KeepsHost self.old.window self.new.window }
+        ensures types { self.new.types ≡ self.old.types }
+        ensures code { IsOkUnless result Code.BadAlloc }
+        ensures moved { (v : Value) (inside : List ℕ) → IsTable self.old.types →
+            t < length self.old.types → IsHeap F.allocator self.old.window.bytes →
+            IsLoose self.old.window.bytes self.old.types (object_at object t) v inside →
+            number ≡ word self.old.window.bytes next_word → suc number < 2 ^ 32 →
+            MatchResult result
+            (MovesFrozen F.allocator self.old.window.bytes self.new.window.bytes self.old.types
+            t object v inside)
+            (λ code. Refuses F.allocator self.old.window.bytes self.new.window.bytes
+            (block_for (frozen_words + size self.old.types t) ∷ [])) }
+    {
+        let content = Content::frozen(&self.types, t);
+        let payload = self.new_block(&content)?;
+        self.shift(t, object, payload.wrapping_add(FROZEN_WORDS), 1);
+        self.free_block(object);
+        self.count_frozen(payload, number);
+        Ok(payload)
+    }
+
+    /// Writes the words of a frozen object that one cell names, and the number of the next one.
+    fn count_frozen(&mut self, payload: u32, number: u32)
+        ensures window { self.new.window ≡ with_bytes self.old.window (set_word (set_word (set_word
+            self.old.window.bytes payload 1) (payload + 4) number) next_word ((number + 1) % 2 ^ 32)) }
+        ensures types { self.new.types ≡ self.old.types }
+    {
+        self.window.put32(payload as usize, 1);
+        self.window.put32(payload as usize + 4, number);
+        self.window.put32(NEXT_NUMBER, number.wrapping_add(1));
     }
 
     /// Counts one cell more that names an object, if there is one.

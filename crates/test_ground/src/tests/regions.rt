@@ -52,6 +52,7 @@ fn numbers_codes(rt: HostRuntime) {
         (Code::OtherType, 4),
         (Code::OutOfRange, 5),
         (Code::Null, 6),
+        (Code::NumbersUsedUp, 7),
     ] {
         assert_eq!(rt; code.number(), number);
     }

@@ -20,10 +20,7 @@ returns-in-Some-clause-makes g c = λ picture is below.
 no_room : (allocator : ℕ) (old new : Stored) (picture : Picture) (T : ℕ) (e : Code) → unique_at picture T ≡ None → RefusesUnique allocator old new picture T e → (e ≡ code.BadAlloc) × RefusesUnique allocator old new picture T e
 no_room allocator old new picture T code.AlreadyExists none r = absurd (let some : IsSome {T = ℕ} None = rw none at r.0 in false≢true some)
 no_room allocator old new picture T code.BadAlloc none r = (refl, r)
-no_room allocator old new picture T code.Absent none r = absurd r
-no_room allocator old new picture T code.OtherType none r = absurd r
-no_room allocator old new picture T code.OutOfRange none r = absurd r
-no_room allocator old new picture T code.Null none r = absurd r
+no_room allocator old new picture T other none r = absurd r
 
 pub returns-in-None-clause-makes : goal.returns-in-None-clause-makes
 returns-in-None-clause-makes g c = λ picture is below.
