@@ -27,10 +27,7 @@ pub const INDEX_KIND: usize = 20;
 /// The pointer to the free blocks: the lowest one, or the root of their tree.
 pub const FREE: usize = 24;
 
-/// A word that is 0.
-const ZERO: usize = 28;
-
-/// The word with the number of the next object that becomes frozen, in images of version 2.
+/// The word with the number of the next object that becomes frozen. It is 0 in images of version 1.
 pub const NEXT_NUMBER: usize = 28;
 
 /// The index cell: a pointer to the entries, and after it the number of names.
@@ -66,5 +63,6 @@ pub fn has_zeros<A: Allocator>(w: &Window<A>) -> bool
     ensures { IsTrue result
         ↔ ((word w.now.bytes 28 ≡ 0) × (slice w.now.bytes 40 24 ≡ replicate 24 0)) }
 {
-    w.get32(ZERO) == 0 && w.slice(RESERVED, TYPES - RESERVED) == [0; TYPES - RESERVED].as_slice()
+    w.get32(NEXT_NUMBER) == 0
+        && w.slice(RESERVED, TYPES - RESERVED) == [0; TYPES - RESERVED].as_slice()
 }

@@ -1,5 +1,5 @@
 -- One cell more names a frozen object: the object's count is raised in the bytes.
-use Rattle.std.proofs.Common.{◌≡◌, ◌≢◌, ℕ, suc, ◌+◌, ◌*◌, ◌<◌, ◌≤◌, ⊎_elim, Bool, true, false, List, [], ◌∷◌, ◌++◌, length, map, cond, eqb, refl, sym, ap, ◌∙◌, subst, arith}
+use Rattle.std.proofs.Common.{◌≡◌, ◌≢◌, ℕ, suc, ◌+◌, ◌≤◌, ⊎_elim, Bool, true, false, List, [], ◌∷◌, ◌++◌, length, cond, eqb, refl, sym, ap, ◌∙◌, subst, arith}
 use Rattle.std.specs.List.{AllByRecursion}
 use Rattle.std.proofs.lemmas.Bool.{cases_eq}
 use Rattle.std.proofs.lemmas.Bool.Decides.{nat_tests}
@@ -13,15 +13,15 @@ use Rattle.seg_spec.specs.Frozen.{Frozen, root_of_frozen, blocks_by}
 use Rattle.seg_spec.specs.Sound.{HoldsRoot, times, positions}
 use Rattle.seg_spec.specs.Shared.{names_of, times_named, IsBelow, AreDistinct, IsCounted, IsFalling, with_count, raised}
 use Rattle.seg_spec.specs.Owing.{KeepsLinked}
-use Rattle.seg_spec.specs.Destroying.{AreLive, KeepsOthers, HoldFrozen, KeepFrozen}
+use Rattle.seg_spec.specs.Destroying.{AreLive, HoldFrozen, KeepFrozen}
 use Rattle.seg_spec.proofs.Frame.{each_weaker, each_left, each_right}
-use Rattle.seg_spec.proofs.LiveLaws.{times-append, times-same, times-other, there, each_there, LiesIn, live-lie, live-once}
+use Rattle.seg_spec.proofs.LiveLaws.{times-append, times-same, there, each_there, LiesIn, live-lie, live-once}
 use Rattle.seg_spec.proofs.LooseRoots.{each_joined}
 use Rattle.seg_spec.proofs.Composing.{around_kept}
 use Rattle.seg_spec.proofs.FrozenBlocks.{times_by, hold_kept, frozen_kept}
 use Rattle.seg_spec.proofs.SharedLaws.{named-append}
 use Rattle.seg_spec.proofs.Lowering.{Named, named}
-use Rattle.seg_spec.proofs.Releases.{IsFrozenThere, frozen_there, there_frozen, lowered_keeps, lowered_around, lowered_there, beside_it}
+use Rattle.seg_spec.proofs.Releases.{IsFrozenThere, frozen_there, there_frozen, lowered_around, lowered_there, beside_it}
 
 -- ---- the lists
 

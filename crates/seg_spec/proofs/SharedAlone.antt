@@ -1,6 +1,6 @@
 -- What is found and left where a value is destroyed beside frozen objects; and the same where there are none.
 use Rattle.std.proofs.Common.{◌≡◌, ℕ, zero, suc, ◌<◌, ◌≤◌, List, [], ◌∷◌, ◌++◌, Option, Some, None, refl, sym, ap, ◌∙◌, subst, arith}
-use Rattle.seg_spec.specs.Types.{Table, IsTable, AreOfVersion}
+use Rattle.seg_spec.specs.Types.{Table, AreOfVersion}
 use Rattle.seg_spec.specs.Value.{Label, Value, node, Values, nil, cons, count, nth, default_of}
 use Rattle.seg_spec.specs.Heap.{IsHeap, live}
 use Rattle.seg_spec.specs.Reads.{Place, Holds}
@@ -9,17 +9,15 @@ use Rattle.seg_spec.specs.Roots.{ChangesPlace}
 use Rattle.seg_spec.specs.Growing.{Succeeds}
 use Rattle.seg_spec.specs.Frozen.{Frozen, blocks_by}
 use Rattle.seg_spec.specs.Sound.{times, SameBlocks}
-use Rattle.seg_spec.specs.Shared.{named_in, named_each, IsReleasing}
+use Rattle.seg_spec.specs.Shared.{named_in, named_each}
 use Rattle.seg_spec.specs.Owing.{Waits, none_waits}
-use Rattle.seg_spec.specs.Destroying.{AreLive, Awaits, Frees, Destroys}
+use Rattle.seg_spec.specs.Destroying.{AreLive, Awaits}
 use Rattle.seg_spec.specs.Owning.{Stands}
-use Rattle.seg_spec.specs.Calls.{IsLoose}
-use Rattle.seg_spec.specs.Block.{block_of}
 use Rattle.seg_spec.specs.Clearing.{SharedBeside, BesideShared, ClearsPlace, LosesPart}
 use Rattle.seg_spec.proofs.LiveLaws.{times-append}
 use Rattle.seg_spec.proofs.GiveOrder.{in_any_order}
 use Rattle.seg_spec.proofs.Destruction.{releasing_same}
-use Rattle.seg_spec.proofs.Unshared.{names_none, frees_alone}
+use Rattle.seg_spec.proofs.Unshared.{names_none}
 use Rattle.std.proofs.lemmas.List.{append-nil}
 
 -- nothing waits yet: what the value names is still to be released
@@ -144,15 +142,3 @@ pub cleared_alone : {allocator : ℕ} {old new : List ℕ} {table : Table} {plac
 cleared_alone {old = old} {new = new} {table = table} {place = place} version clears v blocks s =
     clears_alone old new table place (default_of table place.type) blocks [] blocks none_owned (λ h. sym (ap (times h) (append-nil blocks)))
     (alone old table (s.home ∷ blocks) (ClearsPlace old new table place (default_of table place.type) blocks []) version s.holds_it s.owned (clears v blocks s))
-
--- and one that destroys an object that nothing holds
-pub destroyed_alone : {allocator : ℕ} {old new : List ℕ} {table : Table} {object : ℕ} → ((U : ℕ) (v : Value) (inside : List ℕ) → IsTable table → IsHeap allocator old
-    → IsLoose old table (record { at = object; type = U }) v inside
-    → BesideShared old table (block_of object ∷ inside) (named_in v) (λ theirs now. Destroys allocator old new table ((block_of object ∷ inside) ++ blocks_by theirs now) theirs))
-    → (U : ℕ) (v : Value) (inside : List ℕ) → IsTable table → AreOfVersion 1 table → IsHeap allocator old → IsLoose old table (record { at = object; type = U }) v inside
-    → Frees allocator old new (block_of object ∷ inside) []
-destroyed_alone {allocator = allocator} {old = old} {new = new} {table = table} {object = object} destroys U v inside valid version heap loose =
-    let claim = λ (theirs : ℕ → List ℕ) (now : List Frozen). Destroys allocator old new table ((block_of object ∷ inside) ++ blocks_by theirs now) theirs in
-    let destroyed = alone old table (block_of object ∷ inside) claim version loose.holds_it loose.owned (destroys U v inside valid heap loose) in
-    subst (λ bs. Frees allocator old new bs []) (append-nil (block_of object ∷ inside))
-    (frees_alone allocator old new table ((block_of object ∷ inside) ++ []) none_owned destroyed)

@@ -1,14 +1,9 @@
--- Types of version 1 have no shared cells: no value names an object, so all that waits is given back.
+-- Types of version 1 have no shared cells: no value names an object.
 use Rattle.std.proofs.Common.{◌≡◌, ◌≢◌, ℕ, List, [], ◌++◌, Some, refl, ap, ◌∙◌, arith}
 use Rattle.seg_spec.specs.Types.{Form, Table, form_at, AreOfVersion}
 use Rattle.seg_spec.specs.Value.{Label, Value, Values}
-use Rattle.seg_spec.specs.Heap.{live}
 use Rattle.seg_spec.specs.Reads.{Place, Opened, Opens, Holds, holds, HoldsEach, holds_none, holds_more}
-use Rattle.seg_spec.specs.Sound.{SameBlocks}
 use Rattle.seg_spec.specs.Shared.{named_in, named_each}
-use Rattle.seg_spec.specs.Destroying.{Frees, Destroys}
-use Rattle.seg_spec.proofs.LiveLaws.{times-append}
-use Rattle.seg_spec.proofs.GiveOrder.{in_any_order}
 use Rattle.seg_spec.proofs.PartsOwed.{named_inside}
 
 module _ (bytes : List ℕ) (table : Table) (first_version : AreOfVersion 1 table) where
@@ -35,18 +30,3 @@ module _ (bytes : List ℕ) (table : Table) (first_version : AreOfVersion 1 tabl
     pub each_none : {places : List Place} {vs : Values} {owned : List ℕ} → HoldsEach bytes table places vs owned → named_each vs ≡ []
     each_none holds_none = refl
     each_none (holds_more {vs = vs} h hs) = ap (λ ns. ns ++ named_each vs) (names_none h) ∙ each_none hs
-
--- where no object is left, all blocks were given back
-pub frees_alone : (allocator : ℕ) (old new : List ℕ) (table : Table) (blocks : List ℕ) (theirs : ℕ → List ℕ) → Destroys allocator old new table blocks theirs [] → Frees allocator old new blocks []
-frees_alone allocator old new table blocks theirs d =
-    let f = d.frees in
-    let same : SameBlocks d.gives blocks = λ h. omega (arith, d.blocks_are h, times-append h d.gives []) in
-    record {
-      length_kept = f.length_kept;
-      front_kept = f.front_kept;
-      back_kept = f.back_kept;
-      heap = f.heap;
-      live_is = f.live_is ∙ in_any_order (live old) d.gives blocks same;
-      live_are = λ h. omega (arith, f.live_are h, same h);
-      kept = λ h some none. f.kept h some (omega (arith, none, same h, times-append h d.gives [], times-append h blocks []));
-    }

@@ -103,10 +103,10 @@ impl<F: Fit, A: Allocator> Heap<F, A> {
     fn shared_type(&self, t: TypeId) -> TypeId
         ensures { (T : ℕ) → form_at self.now.types t ≡ Some (Form.shared T) → result ≡ T }
     {
-        match self.types.kind(t) {
-            Some(Type::Shared(held)) => held,
-            _ => t,
-        }
+        let Some(Type::Shared(held)) = self.types.kind(t) else {
+            return t;
+        };
+        held
     }
 
     /// Moves an object of a type to a new block, with the words of a frozen one before its value. Returns where the payload
