@@ -14,6 +14,7 @@ mod mutations;
 mod objects;
 mod owners;
 mod places;
+mod plays;
 mod random_clients;
 mod runs;
 mod sizes;
