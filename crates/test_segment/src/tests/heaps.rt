@@ -4,14 +4,15 @@
 //!     push 7 => 720; pop => ok     calls, and what they give; `ok` stands for anything that isn't refused
 //!     pop => Null                  a call that is refused
 //!     items 1 2 3                  the numbers of the root; `keys 1 2` are the keys of a map
-//!     live 704:2 736:3             the live blocks and their units; none: the heap is one gap
+//!     live 704:2 736:3             the live blocks and their units; none: the heap is one gap; `tags 1 5` are their tags
+//!     bytes 32 d0 02               the bytes from a position on, in hexadecimal
 //!
 //! The types are numbers, strings, and lists, vectors, maps, owns and pairs of numbers. `push` stores the number that it is given,
 //! `put` makes a key with a number, `own` puts a new number into the root.
 
 use crate::tests::rooted::{Rooted, with_root};
 use crate::tests::support::{I64, STR, flat_map_of, given, list_of, map_of, own_of, pair, vec_of};
-use crate::tests::tiles::are_live;
+use crate::tests::tiles::{are_live, have_tags};
 use seg_block::Fit;
 use seg_layout::TypeId;
 use seg_raw::Code;
@@ -87,16 +88,38 @@ fn is_told(answer: Answer, wanted: &str) -> bool {
     }
 }
 
+/// The heap is as a text says.
+pub(crate) fn is_as<F: Fit>(alloc: Global, s: &Rooted<F>, text: &str) -> Result<(), Fail> {
+    for line in text.split(';') {
+        if !holds(alloc, s, line)? {
+            return Err(Fail::new(format_args!("not so: {line}")));
+        }
+    }
+    Ok(())
+}
+
 /// Whether the heap is as a line says.
 fn holds<F: Fit>(alloc: Global, s: &Rooted<F>, line: &str) -> Result<bool, Fail> {
     let words: Vec<&str> = line.split_whitespace().collect(alloc)?;
     match *words {
         [] => Ok(true),
         ["live", ref blocks @ ..] => are_live(alloc, s.heap.window(), blocks),
+        ["tags", ref tags @ ..] => have_tags(alloc, s.heap.window(), tags),
+        ["bytes", at, ref bytes @ ..] => Ok(has_bytes(s, at.parse()?, bytes)),
         ["items", ref items @ ..] => Ok(has_items(s, items)),
         ["keys", ref keys @ ..] => Ok(has_keys(s, keys)),
         _ => Ok(false),
     }
+}
+
+/// Whether these bytes, in hexadecimal, stand at a position.
+fn has_bytes<F: Fit>(s: &Rooted<F>, at: usize, bytes: &[&str]) -> bool {
+    for (place, byte) in (at..).zip(bytes) {
+        if u8::from_str_radix(byte, 16) != Ok(s.heap.window().get8(place)) {
+            return false;
+        }
+    }
+    true
 }
 
 fn has_items<F: Fit>(s: &Rooted<F>, items: &[&str]) -> bool {

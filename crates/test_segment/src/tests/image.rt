@@ -18,7 +18,7 @@ use std::alloc::Global;
 use std::test::Fail;
 
 /// The kinds of live blocks, as a tag has them.
-pub(crate) const NAMED: u32 = 1;
+const NAMED: u32 = 1;
 
 const OBJECT: u32 = 2;
 
@@ -26,9 +26,9 @@ const BUFFER: u32 = 3;
 
 const NODE: u32 = 4;
 
-pub(crate) const INDEX_BUFFER: u32 = 5;
+const INDEX_BUFFER: u32 = 5;
 
-pub(crate) const INDEX_NODE: u32 = 6;
+const INDEX_NODE: u32 = 6;
 
 /// The bit of a header's first word that says that the block is live.
 const LIVE: u32 = 1 << 31;
