@@ -8,6 +8,7 @@ mod generator;
 mod hostile;
 mod hosts;
 mod images;
+mod maps;
 mod memory;
 mod model;
 mod mutations;

@@ -28,11 +28,7 @@ fn refuses_text(alloc: Global, text: &str, line: &str) -> Result<(), Fail> {
 #[test]
 fn tells_which_line_is_wrong(rt: HostRuntime) -> Result<(), Fail> {
     refuses_text(rt.alloc(), "ADD r1 r16 r2", "fault 21 1")?;
-    refuses_text(
-        rt.alloc(),
-        "; adds\n\nADD r1 r16 r2\nEND",
-        "fault 21 3",
-    )?;
+    refuses_text(rt.alloc(), "; adds\n\nADD r1 r16 r2\nEND", "fault 21 3")?;
     refuses_text(rt.alloc(), "GETB r0\nELSE\n", "fault 21 3")
 }
 

@@ -112,11 +112,7 @@ named 1
 unique 0",
     )?;
     assert_eq!(rt; files.get("saved").len(), 816);
-    follow(
-        rt.alloc(),
-        &mut files,
-        "\n$ segtool shrink saved\nsize 784",
-    )?;
+    follow(rt.alloc(), &mut files, "\n$ segtool shrink saved\nsize 784")?;
     assert_eq!(rt; files.get("saved"), counter(rt.alloc())?.as_slice());
     Ok(())
 }

@@ -334,11 +334,7 @@ const PICTURE: &str =
 #[test]
 fn draws_a_picture(rt: HostRuntime) -> Result<(), Fail> {
     let mut files = counter_file(rt.alloc(), "image")?;
-    follow(
-        rt.alloc(),
-        &mut files,
-        "\n$ segtool map image --svg saved",
-    )?;
+    follow(rt.alloc(), &mut files, "\n$ segtool map image --svg saved")?;
     assert_eq!(rt; files.get("saved"), PICTURE.as_bytes());
     Ok(())
 }

@@ -90,7 +90,8 @@ impl<'a> Play<'a> {
             text.push_str(line.trim_start())?;
             text.push('\n')?;
         }
-        self.clients.push((name, client(self.alloc, text.as_str())?))?;
+        self.clients
+            .push((name, client(self.alloc, text.as_str())?))?;
         Ok(())
     }
 

@@ -181,8 +181,5 @@ fn reads_the_counter(rt: HostRuntime) -> Result<(), Fail> {
 fn finds_wrong_pointers_to_a_text(rt: HostRuntime) -> Result<(), Fail> {
     let mut image = Image::of(rt.alloc(), GREETING)?;
     assert!(rt; has(&image, 720, b"\x50\0\0\0\x02\0\0\0"));
-    image.follow(
-        rt.alloc(),
-        "720=0 | 720=1 | 720=0x7fffffff => pointer 720",
-    )
+    image.follow(rt.alloc(), "720=0 | 720=1 | 720=0x7fffffff => pointer 720")
 }

@@ -69,11 +69,7 @@ fn sizes(words: &[&str]) -> Option<(u32, u32)> {
     }
 }
 
-fn follow<F: Fit>(
-    alloc: Global,
-    segment: &mut Segment<F, Global>,
-    text: &str,
-) -> Result<(), Fail> {
+fn follow<F: Fit>(alloc: Global, segment: &mut Segment<F, Global>, text: &str) -> Result<(), Fail> {
     for line in text.lines() {
         for call in line.split(';') {
             if let Some((call, wanted)) = call.split_once("=>") {

@@ -39,7 +39,8 @@ fn maps_have_keys_in_order(rt: HostRuntime) -> Result<(), Fail> {
 }
 
 /// The calls on sequences and texts, on something else.
-const REFUSED: &str = "at 0 => OtherType; at 1 => OtherType; push => OtherType; push_front => OtherType
+const REFUSED: &str =
+    "at 0 => OtherType; at 1 => OtherType; push => OtherType; push_front => OtherType
     pop => OtherType; pop_front => OtherType
     append a => OtherType; assign a => OtherType; push_byte 7 => OtherType";
 

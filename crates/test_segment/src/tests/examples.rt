@@ -1,9 +1,7 @@
 //! Calls on whole segments, worked out by hand, with the checker looking at the bytes.
 
 use crate::tests::calls::{are, calls};
-use crate::tests::support::{
-    I64, INDEXES, NUMBER, construct_number, segment, used_region, window,
-};
+use crate::tests::support::{I64, INDEXES, NUMBER, construct_number, segment, used_region, window};
 use seg_bestfit::BestFit;
 use seg_manager::{Found, IndexKind, Segment};
 use seg_open::{open, save};

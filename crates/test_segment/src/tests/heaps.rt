@@ -7,7 +7,7 @@
 //!     live 704:2 736:3             the live blocks and their units; none: the heap is one gap; `tags 1 5` are their tags
 //!     bytes 32 d0 02               the bytes from a position on, in hexadecimal
 //!
-//! The types are numbers, strings, and lists, vectors, maps, owns and pairs of numbers. `push` stores the number that it is given,
+//! The types are numbers, strings, and lists, vectors, maps, owns and pairs of numbers. `push` stores the number after it,
 //! `put` makes a key with a number, `own` puts a new number into the root.
 
 use crate::tests::rooted::{Rooted, with_root};

@@ -140,7 +140,8 @@ impl Image {
         let at = TYPES.saturating_add(self.types.saturating_mul(16));
         self.types = self.types.saturating_add(1);
         self.w.put8(at, kind_of(kind)?);
-        self.w.put8(at.saturating_add(1), u8::try_from(parts.len()).ok()?);
+        self.w
+            .put8(at.saturating_add(1), u8::try_from(parts.len()).ok()?);
         for (place, part) in (at.saturating_add(2)..).zip(parts) {
             self.w.put8(place, u8::try_from(type_id(part)?).ok()?);
         }

@@ -114,18 +114,10 @@ fn the_fifth_name_doubles_the_buffer(rt: HostRuntime) -> Result<(), Fail> {
     }
     for (name, object) in [(b"e", 720), (b"b", 752), (b"c", 784), (b"a", 816)] {
         add(&mut s, name, object)?;
-        is_as(
-            rt.alloc(),
-            &s,
-            "live 704:2 736:2 768:2 800:2 832:2 864:3",
-        )?;
+        is_as(rt.alloc(), &s, "live 704:2 736:2 768:2 800:2 832:2 864:3")?;
     }
     add(&mut s, b"d", 848)?;
-    is_as(
-        rt.alloc(),
-        &s,
-        "live 704:2 736:2 768:2 800:2 832:2 864:5",
-    )
+    is_as(rt.alloc(), &s, "live 704:2 736:2 768:2 800:2 832:2 864:5")
 }
 
 /// Where there is no room after the buffer, the doubled one stands elsewhere.
@@ -135,7 +127,11 @@ fn the_doubled_buffer_stands_elsewhere(rt: HostRuntime) -> Result<(), Fail> {
     for name in FIVE {
         add_named(&mut s, name)?;
     }
-    is_as(rt.alloc(), &s, "live 704:2 784:2 816:2 848:2 880:2 912:5; tags 1 1 1 1 1 5")
+    is_as(
+        rt.alloc(),
+        &s,
+        "live 704:2 784:2 816:2 848:2 880:2 912:5; tags 1 1 1 1 1 5",
+    )
 }
 
 /// A node has tree words and an entry. It goes with its name.
