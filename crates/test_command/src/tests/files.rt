@@ -6,8 +6,9 @@ use seg_command::command;
 use seg_files::{FileFault, Files};
 use std::alloc::{AllocError, Global};
 use std::process::Abort;
+use std::str;
 use std::test::Fail;
-use support_data::{INCREMENT, Limited, counter};
+use support_data::{INCREMENT, Limited, counter, write_words};
 
 /// Files in memory. The read and the write with these numbers, counted from 1, fail.
 #[derive(Drop)]
@@ -84,6 +85,17 @@ pub(crate) struct Printed {
     pub(crate) err: Vec<u8>,
 }
 
+impl Printed {
+    fn shown(&self) -> &str {
+        let text = if self.status == 0 {
+            &self.out
+        } else {
+            &self.err
+        };
+        str::from_utf8(text.as_slice()).unwrap_or("no text")
+    }
+}
+
 /// This is what a command printed, and its status.
 pub(crate) fn is(rt: &impl Abort, printed: &Printed, status: u8, out: &str, err: &str) {
     assert_eq!(rt; printed.out.as_slice(), out.as_bytes());
@@ -108,20 +120,39 @@ pub(crate) fn run_into(alloc: Global, words: &[&str], files: &mut Stored, out: L
     }
 }
 
-/// Runs the program on these words, which must print this.
-pub(crate) fn says(rt: &(impl Abort + AllocGlobal), files: &mut Stored, words: &[&str], out: &str) {
-    is(rt, &run(rt.alloc(), words, files), 0, out, "");
+/// Runs commands, each after a `$` at the beginning of a line, as `$ segtool check image`. The lines after it are what it
+/// prints. With a status, as in `$1 segtool check image`, it prints nothing, and these lines are its error; with the status
+/// 2 the error's words are of no matter.
+pub(crate) fn follow(alloc: Global, files: &mut Stored, text: &str) -> Result<(), Fail> {
+    let (_, commands) = text.split_once("\n$").ok_or("no command")?;
+    for part in commands.split("\n$") {
+        let (command, lines) = part.split_once('\n').unwrap_or((part, ""));
+        let (status, words) = command.split_once(' ').ok_or("no command")?;
+        let words: Vec<&str> = words.split_whitespace().collect(alloc)?;
+        let printed = run(alloc, words.as_slice(), files);
+        if !is_printed(&printed, status, lines) {
+            return Err(Fail::new(format_args!("{part}\n\nbut {}", printed.shown())));
+        }
+    }
+    Ok(())
 }
 
-/// Runs the program on these words, which must print nothing, and end with this status and error.
-pub(crate) fn refuses(
-    rt: &(impl Abort + AllocGlobal),
-    files: &mut Stored,
-    words: &[&str],
-    status: u8,
-    err: &str,
-) {
-    is(rt, &run(rt.alloc(), words, files), status, "", err);
+/// Whether this is what a command printed, and its status.
+fn is_printed(printed: &Printed, status: &str, lines: &str) -> bool {
+    let (out, err) = (printed.out.as_slice(), printed.err.as_slice());
+    match status {
+        "" | "0" => printed.status == 0 && is_lines(out, lines) && err.is_empty(),
+        "2" => printed.status == 2 && out.is_empty() && !err.is_empty(),
+        _ => status.parse() == Ok(printed.status) && out.is_empty() && is_lines(err, lines),
+    }
+}
+
+/// Whether a text is these lines. Their last one lacks its end.
+fn is_lines(text: &[u8], lines: &str) -> bool {
+    match text.strip_suffix(b"\n") {
+        Some(text) => text == lines.as_bytes(),
+        None => text.is_empty() && lines.is_empty(),
+    }
 }
 
 /// The counter's image in a file.
@@ -136,4 +167,18 @@ pub(crate) fn counter_files(alloc: Global) -> Result<Stored, Fail> {
     let mut files = counter_file(alloc, "image")?;
     files.add_client("client", INCREMENT)?;
     Ok(files)
+}
+
+/// The counter's image with other words at some positions, as `16=2 60=0x1000000`.
+pub(crate) fn counter_where(alloc: Global, changes: &str) -> Result<Vec<u8>, Fail> {
+    let mut image = counter(alloc)?;
+    for change in changes.split_whitespace() {
+        let (at, word) = change.split_once('=').ok_or("no change")?;
+        let word = match word.strip_prefix("0x") {
+            Some(digits) => u32::from_str_radix(digits, 16)?,
+            None => word.parse()?,
+        };
+        write_words(image.as_mut_slice(), at.parse()?, &[word]);
+    }
+    Ok(image)
 }

@@ -1,5 +1,5 @@
-use crate::tests::files::{Stored, counter_file, is, refuses, run, says};
-use std::process::Abort;
+use crate::tests::files::{Stored, counter_file, follow};
+use std::alloc::Global;
 use std::test::Fail;
 use support_data::{INCREMENT, INCREMENT_FILE};
 
@@ -7,27 +7,29 @@ use support_data::{INCREMENT, INCREMENT_FILE};
 fn assembles_and_prints(rt: HostRuntime) -> Result<(), Fail> {
     let mut files = Stored::new(rt.alloc());
     files.add("text", INCREMENT.as_bytes())?;
-    says(&rt, &mut files, &["segtool", "asm", "text", "saved"], "");
+    follow(rt.alloc(), &mut files, "\n$ segtool asm text saved")?;
     assert_eq!(rt; files.get("saved"), INCREMENT_FILE.as_slice());
-    says(&rt, &mut files, &["segtool", "print", "saved"], INCREMENT);
-    Ok(())
+    let text = format!(in rt.alloc(); "\n$ segtool print saved\n{INCREMENT}")?;
+    follow(rt.alloc(), &mut files, text.trim_end())
 }
 
 /// The error output is one line, the fault with the number of the wrong line.
-#[test]
-fn tells_which_line_is_wrong(rt: HostRuntime) -> Result<(), Fail> {
-    for (text, err) in [
-        ("ADD r1 r16 r2", "fault 21 1\n"),
-        ("; adds\n\nADD r1 r16 r2\nEND", "fault 21 3\n"),
-        ("GETB r0\nELSE\n", "fault 21 3\n"),
-    ] {
-        let mut files = Stored::new(rt.alloc());
-        files.add("text", text.as_bytes())?;
-        let words = ["segtool", "asm", "text", "saved"];
-        refuses(&rt, &mut files, &words, 1, err);
-        assert!(rt; !files.has("saved"));
+fn refuses_text(alloc: Global, text: &str, line: &str) -> Result<(), Fail> {
+    let mut files = Stored::new(alloc);
+    files.add("text", text.as_bytes())?;
+    let text = format!(in alloc; "\n$1 segtool asm text saved\n{line}")?;
+    follow(alloc, &mut files, text.as_str())?;
+    if files.has("saved") {
+        return Err(Fail::from("written"));
     }
     Ok(())
+}
+
+#[test]
+fn tells_which_line_is_wrong(rt: HostRuntime) -> Result<(), Fail> {
+    refuses_text(rt.alloc(), "ADD r1 r16 r2", "fault 21 1")?;
+    refuses_text(rt.alloc(), "; adds\n\nADD r1 r16 r2\nEND", "fault 21 3")?;
+    refuses_text(rt.alloc(), "GETB r0\nELSE\n", "fault 21 3")
 }
 
 const TOO_LONG: &str = "CONST r0 1
@@ -48,38 +50,34 @@ END
 END
 ";
 
-/// What `verify` says of the client with this text.
-fn verify_says(
-    rt: &(impl Abort + AllocGlobal),
-    text: &str,
-    status: u8,
-    out: &str,
-    err: &str,
-) -> Result<(), Fail> {
-    let mut files = counter_file(rt.alloc(), "image")?;
+/// What `verify` says of the client with this text: its status, and the line.
+fn verify_says(alloc: Global, text: &str, said: &str) -> Result<(), Fail> {
+    let (status, line) = said.split_once(' ').ok_or("no status")?;
+    let mut files = counter_file(alloc, "image")?;
     files.add_client("client", text)?;
-    let words = ["segtool", "verify", "image", "client"];
-    let printed = run(rt.alloc(), words.as_slice(), &mut files);
-    is(rt, &printed, status, out, err);
-    Ok(())
+    let text = format!(in alloc; "\n${status} segtool verify image client\n{line}")?;
+    follow(alloc, &mut files, text.as_str())
 }
 
 #[test]
 fn verifies(rt: HostRuntime) -> Result<(), Fail> {
-    verify_says(&rt, INCREMENT, 0, "steps 6\n", "")?;
+    verify_says(rt.alloc(), INCREMENT, "0 steps 6")?;
     let turns = "CONST r0 0\nWHILE r0 5\nOUTI r0\nEND\n";
-    verify_says(&rt, turns, 0, "steps 12\n", "")?;
-    verify_says(&rt, "type str\n", 1, "", "fault 4 0\n")?;
-    verify_says(&rt, "LOAD r0 r1\n", 1, "", "fault 22 0 1\n")?;
-    verify_says(&rt, TOO_LONG, 1, "", "fault 23\n")
+    verify_says(rt.alloc(), turns, "0 steps 12")?;
+    verify_says(rt.alloc(), "type str\n", "1 fault 4 0")?;
+    verify_says(rt.alloc(), "LOAD r0 r1\n", "1 fault 22 0 1")?;
+    verify_says(rt.alloc(), TOO_LONG, "1 fault 23")
 }
 
 #[test]
 fn refuses_wrong_files(rt: HostRuntime) -> Result<(), Fail> {
-    let mut files = counter_file(rt.alloc(), "image")?;
-    let fault = "fault 20 0\n";
-    refuses(&rt, &mut files, &["segtool", "print", "image"], 1, fault);
-    let words = ["segtool", "verify", "image", "image"];
-    refuses(&rt, &mut files, &words, 1, fault);
-    Ok(())
+    follow(
+        rt.alloc(),
+        &mut counter_file(rt.alloc(), "image")?,
+        "
+$1 segtool print image
+fault 20 0
+$1 segtool verify image image
+fault 20 0",
+    )
 }

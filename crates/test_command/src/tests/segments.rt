@@ -1,44 +1,50 @@
-use crate::tests::files::{Stored, counter_file, is, refuses, run, run_into, says};
+use crate::tests::files::{Stored, counter_file, follow, is, run, run_into};
 use std::test::Fail;
 use support_data::{Limited, counter};
 
 /// A new image on each allocator and index is all free.
 #[test]
 fn makes_empty_images(rt: HostRuntime) -> Result<(), Fail> {
-    for allocator in ["seq", "best"] {
-        for index in ["flat", "tree"] {
-            let mut files = Stored::new(rt.alloc());
-            let new = ["segtool", "new", "saved", "1024", allocator, index];
-            says(&rt, &mut files, &new, "");
-            says(&rt, &mut files, &["segtool", "check", "saved"], "ok\n");
-            let numbers = "size 1024\nfree 320\nlargest 320\nnamed 0\nunique 0\n";
-            says(&rt, &mut files, &["segtool", "stat", "saved"], numbers);
-            says(&rt, &mut files, &["segtool", "list", "saved"], "");
-        }
+    for kind in ["seq flat", "seq tree", "best flat", "best tree"] {
+        let text = format!(in rt.alloc();
+            "
+$ segtool new saved 1024 {kind}
+$ segtool check saved
+ok
+$ segtool stat saved
+size 1024
+free 320
+largest 320
+named 0
+unique 0
+$ segtool list saved"
+        )?;
+        follow(rt.alloc(), &mut Stored::new(rt.alloc()), text.as_str())?;
     }
     Ok(())
 }
 
 #[test]
 fn refuses_sizes_and_words(rt: HostRuntime) -> Result<(), Fail> {
-    for size in ["0", "720", "1000", "1073741840"] {
-        let mut files = Stored::new(rt.alloc());
-        let words = ["segtool", "new", "saved", size, "seq", "flat"];
-        refuses(&rt, &mut files, &words, 1, "fault 5\n");
-        assert!(rt; !files.has("saved"));
-    }
-    for words in [
-        ["segtool", "new", "saved", "1024", "first", "flat"],
-        ["segtool", "new", "saved", "1024", "seq", "list"],
-        ["segtool", "new", "saved", "4294967296", "seq", "flat"],
-        ["segtool", "new", "saved", "-16", "seq", "flat"],
-    ] {
-        let mut files = Stored::new(rt.alloc());
-        let printed = run(rt.alloc(), &words, &mut files);
-        assert_eq!(rt; printed.status, 2);
-        assert!(rt; printed.out.is_empty() && !printed.err.is_empty());
-        assert!(rt; !files.has("saved"));
-    }
+    let mut files = Stored::new(rt.alloc());
+    follow(
+        rt.alloc(),
+        &mut files,
+        "
+$1 segtool new saved 0 seq flat
+fault 5
+$1 segtool new saved 720 seq flat
+fault 5
+$1 segtool new saved 1000 seq flat
+fault 5
+$1 segtool new saved 1073741840 seq flat
+fault 5
+$2 segtool new saved 1024 first flat
+$2 segtool new saved 1024 seq list
+$2 segtool new saved 4294967296 seq flat
+$2 segtool new saved -16 seq flat",
+    )?;
+    assert!(rt; !files.has("saved"));
     Ok(())
 }
 
@@ -71,20 +77,18 @@ fn lists_objects(rt: HostRuntime) -> Result<(), Fail> {
     for index in ["flat", "tree"] {
         let mut files = Stored::new(rt.alloc());
         files.add_client("client", OBJECTS)?;
-        says(
-            &rt,
-            &mut files,
-            &["segtool", "new", "saved", "2048", "best", index],
-            "",
-        );
-        says(
-            &rt,
-            &mut files,
-            &["segtool", "run", "saved", "saved", "client"],
-            "",
-        );
-        let listed = "ab 0 1\nb 0 3\nm 1 1\nunique 0\nunique 1\n";
-        says(&rt, &mut files, &["segtool", "list", "saved"], listed);
+        let text = format!(in rt.alloc();
+            "
+$ segtool new saved 2048 best {index}
+$ segtool run saved saved client
+$ segtool list saved
+ab 0 1
+b 0 3
+m 1 1
+unique 0
+unique 1"
+        )?;
+        follow(rt.alloc(), &mut files, text.as_str())?;
     }
     Ok(())
 }
@@ -92,46 +96,47 @@ fn lists_objects(rt: HostRuntime) -> Result<(), Fail> {
 #[test]
 fn grows_and_shrinks(rt: HostRuntime) -> Result<(), Fail> {
     let mut files = counter_file(rt.alloc(), "saved")?;
-    says(
-        &rt,
+    follow(
+        rt.alloc(),
         &mut files,
-        &["segtool", "grow", "saved", "0"],
-        "size 784\n",
-    );
-    says(
-        &rt,
-        &mut files,
-        &["segtool", "grow", "saved", "32"],
-        "size 816\n",
-    );
+        "
+$ segtool grow saved 0
+size 784
+$ segtool grow saved 32
+size 816
+$ segtool stat saved
+size 816
+free 32
+largest 32
+named 1
+unique 0",
+    )?;
     assert_eq!(rt; files.get("saved").len(), 816);
-    let numbers = "size 816\nfree 32\nlargest 32\nnamed 1\nunique 0\n";
-    says(&rt, &mut files, &["segtool", "stat", "saved"], numbers);
-    says(
-        &rt,
-        &mut files,
-        &["segtool", "shrink", "saved"],
-        "size 784\n",
-    );
+    follow(rt.alloc(), &mut files, "\n$ segtool shrink saved\nsize 784")?;
     assert_eq!(rt; files.get("saved"), counter(rt.alloc())?.as_slice());
-    says(
-        &rt,
+    Ok(())
+}
+
+/// The last block takes a single unit.
+#[test]
+fn grows_by_a_unit(rt: HostRuntime) -> Result<(), Fail> {
+    let mut files = counter_file(rt.alloc(), "saved")?;
+    follow(
+        rt.alloc(),
         &mut files,
-        &["segtool", "grow", "saved", "16"],
-        "size 800\n",
-    );
-    says(
-        &rt,
-        &mut files,
-        &["segtool", "shrink", "saved"],
-        "size 800\n",
-    );
-    says(&rt, &mut files, &["segtool", "check", "saved"], "ok\n");
-    for extra in ["24", "1073741824"] {
-        let words = ["segtool", "grow", "saved", extra];
-        refuses(&rt, &mut files, &words, 1, "fault 5\n");
-        assert_eq!(rt; files.get("saved").len(), 800);
-    }
+        "
+$ segtool grow saved 16
+size 800
+$ segtool shrink saved
+size 800
+$ segtool check saved
+ok
+$1 segtool grow saved 24
+fault 5
+$1 segtool grow saved 1073741824
+fault 5",
+    )?;
+    assert_eq!(rt; files.get("saved").len(), 800);
     Ok(())
 }
 

@@ -1,7 +1,6 @@
-use crate::tests::files::{Stored, counter_file, refuses, run, says};
+use crate::tests::files::{Stored, counter_file, counter_where, follow};
 use std::alloc::Global;
 use std::test::Fail;
-use support_data::counter;
 
 /// Makes an object with a value of each type, three numbers, and a unique object.
 const EVERY_TYPE: &str = "type i64
@@ -73,54 +72,55 @@ text a \"b\"\\0a
     ELSE
     END";
 
-const EVERY: &str = "every: struct
-  field 0: -7
-  field 1: \"a \\\"b\\\"\\n\"
-  field 2: vector of 2
-    [0]: 7
-    [1]: 0
-  field 3: list of 1
-    [0]: \"\"
-  field 4: flat map of 1
-    7: -7
-  field 5: map of 1
-    -7: \"\"
-  field 6: an object
-    content: 0
-  field 7: nothing
-";
-
-const FEW: &str = "few[0]: 7
-few[1]: 0
-few[2]: 0
-";
-
 /// An image on which a client ran.
-fn after(alloc: Global, allocator: &str, index: &str, text: &str) -> Result<Stored, Fail> {
+fn after(alloc: Global, kind: &str, text: &str) -> Result<Stored, Fail> {
     let mut files = Stored::new(alloc);
     files.add_client("client", text)?;
-    let words = ["segtool", "new", "saved", "8192", allocator, index];
-    let _ = run(alloc, &words, &mut files);
-    let words = ["segtool", "run", "saved", "saved", "client"];
-    let _ = run(alloc, &words, &mut files);
+    let text = format!(in alloc;
+        "
+$ segtool new saved 8192 {kind}
+$ segtool run saved saved client"
+    )?;
+    follow(alloc, &mut files, text.as_str())?;
     Ok(files)
 }
 
 /// All objects, one with a name, and a name that no object has.
 #[test]
 fn shows_values_of_each_type(rt: HostRuntime) -> Result<(), Fail> {
-    for (allocator, index) in [("seq", "flat"), ("best", "tree")] {
-        let mut files = after(rt.alloc(), allocator, index, EVERY_TYPE)?;
-        let all = format!(in rt.alloc(); "{EVERY}{FEW}unique t2: vector of 0\n")?;
-        says(&rt, &mut files, &["segtool", "show", "saved"], all.as_str());
-        says(&rt, &mut files, &["segtool", "show", "saved", "few"], FEW);
-        refuses(
-            &rt,
+    for kind in ["seq flat", "best tree"] {
+        let mut files = after(rt.alloc(), kind, EVERY_TYPE)?;
+        follow(
+            rt.alloc(),
             &mut files,
-            &["segtool", "show", "saved", "none"],
-            1,
-            "absent none\n",
-        );
+            r#"
+$ segtool show saved
+every: struct
+  field 0: -7
+  field 1: "a \"b\"\n"
+  field 2: vector of 2
+    [0]: 7
+    [1]: 0
+  field 3: list of 1
+    [0]: ""
+  field 4: flat map of 1
+    7: -7
+  field 5: map of 1
+    -7: ""
+  field 6: an object
+    content: 0
+  field 7: nothing
+few[0]: 7
+few[1]: 0
+few[2]: 0
+unique t2: vector of 0
+$ segtool show saved few
+few[0]: 7
+few[1]: 0
+few[2]: 0
+$1 segtool show saved none
+absent none"#,
+        )?;
     }
     Ok(())
 }
@@ -161,26 +161,27 @@ text x
 /// What is long is cut, and `--all` leaves nothing out.
 #[test]
 fn cuts_what_is_long(rt: HostRuntime) -> Result<(), Fail> {
-    let mut files = after(rt.alloc(), "best", "flat", LONG)?;
+    let mut files = after(rt.alloc(), "best flat", LONG)?;
     let mut items = String::new(rt.alloc());
     for index in 1..20u32 {
         write!(items, "  [{index}]: 0\n")?;
     }
     let bytes = "x".repeat(rt.alloc(), 60)?;
-    let cut = format!(in rt.alloc();
-        "items: vector of 22\n  [0]: 1\n{items}  and 2 more\ntext: \"{bytes}\".. of 62\n"
+    let text = format!(in rt.alloc();
+        "
+$ segtool show saved
+items: vector of 22
+  [0]: 1
+{items}  and 2 more
+text: \"{bytes}\".. of 62
+$ segtool show saved --all
+items: vector of 22
+  [0]: 1
+{items}  [20]: 0
+  [21]: 0
+text: \"{bytes}xx\""
     )?;
-    says(&rt, &mut files, &["segtool", "show", "saved"], cut.as_str());
-    let whole = format!(in rt.alloc();
-        "items: vector of 22\n  [0]: 1\n{items}  [20]: 0\n  [21]: 0\ntext: \"{bytes}xx\"\n"
-    )?;
-    says(
-        &rt,
-        &mut files,
-        &["segtool", "show", "saved", "--all"],
-        whole.as_str(),
-    );
-    Ok(())
+    follow(rt.alloc(), &mut files, text.as_str())
 }
 
 /// Twelve objects, each of which owns the one before, under a name.
@@ -240,18 +241,14 @@ fn chain_lines(alloc: Global, objects: usize) -> Result<String, Fail> {
 /// Values inside others are shown down to level 10, and all with `--all`.
 #[test]
 fn cuts_what_is_deep(rt: HostRuntime) -> Result<(), Fail> {
-    let mut files = after(rt.alloc(), "seq", "tree", CHAIN)?;
+    let mut files = after(rt.alloc(), "seq tree", CHAIN)?;
     let mut cut = chain_lines(rt.alloc(), 5)?;
     line(&mut cut, 11, "and 1 more")?;
-    says(&rt, &mut files, &["segtool", "show", "saved"], cut.as_str());
     let whole = chain_lines(rt.alloc(), 12)?;
-    says(
-        &rt,
-        &mut files,
-        &["segtool", "show", "saved", "--all"],
-        whole.as_str(),
-    );
-    Ok(())
+    let text = format!(in rt.alloc();
+        "\n$ segtool show saved\n{cut}$ segtool show saved --all\n{whole}"
+    )?;
+    follow(rt.alloc(), &mut files, text.trim_end())
 }
 
 /// A client that makes 100 values, each of 30 structs in one another around a number.
@@ -273,58 +270,51 @@ fn shows_structs_in_structs(rt: HostRuntime) -> Result<(), Fail> {
         line(&mut value, level, "field 0: struct")?;
     }
     line(&mut value, 30, "field 0: 0")?;
-    let mut whole = String::new(rt.alloc());
+    let mut text = String::new(rt.alloc());
+    text.push_str("\n$ segtool show saved n --all\n")?;
     for index in 0..100u32 {
-        write!(whole, "n[{index}]: struct\n{value}")?;
+        write!(text, "n[{index}]: struct\n{value}")?;
     }
-    let mut files = after(rt.alloc(), "seq", "flat", nested(rt.alloc())?.as_str())?;
-    says(
-        &rt,
-        &mut files,
-        &["segtool", "show", "saved", "n", "--all"],
-        whole.as_str(),
-    );
-    Ok(())
+    let mut files = after(rt.alloc(), "seq flat", nested(rt.alloc())?.as_str())?;
+    follow(rt.alloc(), &mut files, text.trim_end())
 }
 
 /// A faulty image is not shown, and its fault is told.
 #[test]
 fn shows_no_faulty_image(rt: HostRuntime) -> Result<(), Fail> {
-    let mut image = counter(rt.alloc())?;
-    if let Some(byte) = image.get_mut(8) {
-        *byte = 2;
-    }
-    for words in [
-        ["segtool", "show", "image"].as_slice(),
-        &["segtool", "show", "image", "x", "--all"],
-        &["segtool", "map", "image"],
-        &["segtool", "map", "image", "--svg", "saved"],
-    ] {
-        let mut files = Stored::new(rt.alloc());
-        files.add("image", image.as_slice())?;
-        refuses(&rt, &mut files, words, 1, "fault 10\n");
-        assert!(rt; !files.has("saved"));
-    }
+    let mut files = Stored::new(rt.alloc());
+    files.add("image", counter_where(rt.alloc(), "8=2")?.as_slice())?;
+    follow(
+        rt.alloc(),
+        &mut files,
+        "
+$1 segtool show image
+fault 10
+$1 segtool show image x --all
+fault 10
+$1 segtool map image
+fault 10
+$1 segtool map image --svg saved
+fault 10",
+    )?;
+    assert!(rt; !files.has("saved"));
     Ok(())
 }
 
 /// The blocks of the counter: the number with its name, and the entries of the flat index. Then those of an empty segment.
 #[test]
 fn maps_blocks(rt: HostRuntime) -> Result<(), Fail> {
-    let mut files = counter_file(rt.alloc(), "saved")?;
-    let blocks = "704 2 ##################### object of x
+    follow(
+        rt.alloc(),
+        &mut counter_file(rt.alloc(), "saved")?,
+        "
+$ segtool map saved
+704 2 ##################### object of x
 736 3 ################################ index
-";
-    says(&rt, &mut files, &["segtool", "map", "saved"], blocks);
-    let words = ["segtool", "new", "saved", "1024", "seq", "flat"];
-    let _ = run(rt.alloc(), &words, &mut files);
-    says(
-        &rt,
-        &mut files,
-        &["segtool", "map", "saved"],
-        "704 20 ................................ gap\n",
-    );
-    Ok(())
+$ segtool new saved 1024 seq flat
+$ segtool map saved
+704 20 ................................ gap",
+    )
 }
 
 /// The picture of the counter: a row of two cells for the number and three for the index.
@@ -344,8 +334,7 @@ const PICTURE: &str =
 #[test]
 fn draws_a_picture(rt: HostRuntime) -> Result<(), Fail> {
     let mut files = counter_file(rt.alloc(), "image")?;
-    let words = ["segtool", "map", "image", "--svg", "saved"];
-    says(&rt, &mut files, &words, "");
+    follow(rt.alloc(), &mut files, "\n$ segtool map image --svg saved")?;
     assert_eq!(rt; files.get("saved"), PICTURE.as_bytes());
     Ok(())
 }

@@ -1,76 +1,71 @@
-use crate::tests::runs::{
-    KINDS, Kind, PLAIN, Setting, empty, leaves, run_anew, run_in, statistics_of,
-};
+use crate::tests::plays::plays;
+use crate::tests::runs::{KINDS, Kind, PLAIN, Setting, empty, run_in, statistics_of};
 use client_vm::Ended;
 use std::process::Abort;
 use std::test::Fail;
 use support_data::chain;
 
 /// A chain of 20,000 objects, each of which owns the one before, is made and destroyed.
-fn makes_a_chain(rt: &(impl Abort + AllocGlobal), kind: Kind) -> Result<(), Fail> {
-    let text = chain(rt.alloc(), 20_000)?;
-    let ran = run_anew(rt.alloc(), 1 << 20, kind, &[text.as_str()])?;
-    leaves(rt, &ran, "", 1_047_872, 0)?;
-    let left = statistics_of(rt.alloc(), ran.image.as_slice())?;
-    assert_eq!(rt; left.largest, 1_047_872);
-    let report = ran.reports.first().copied().unwrap_or_default();
-    assert_eq!(rt; report.steps, 160_004);
-    Ok(())
-}
-
 #[test]
 fn a_chain_of_owners(rt: HostRuntime) -> Result<(), Fail> {
-    for kind in KINDS {
-        makes_a_chain(&rt, kind)?;
-    }
-    Ok(())
+    let chain = chain(rt.alloc(), 20_000)?;
+    let text = format!(in rt.alloc();
+        "> client chain
+        {chain}
+        > on 1048576 chain; free 1047872 named 0 largest 1047872 steps 160004"
+    )?;
+    plays(rt.alloc(), &KINDS, text.as_str())
 }
 
 /// What an own holds is destroyed when it is replaced, cleared or dropped with its owner.
 #[test]
 fn owners_destroy_what_they_hold(rt: HostRuntime) -> Result<(), Fail> {
-    let text = "type i64
-        type own t0
-        CONST r1 5
-        NEW r0 t1
-          REF r2 r0
-          CONTENT r3 r2
-          ELSE
-            OUTI r3
-          END
-          TAKE r3 r2
-            DROP r3
-          ELSE
-            OUTI r3
-          END
-          NEW r3 t0
-            REF r4 r3
-            STORE r4 r1
-            PUT r2 r3
-          ELSE
-          END
-          CONTENT r3 r2
-            LOAD r3 r3
-            OUTI r3
-          ELSE
-          END
-          NEW r3 t0
-            PUT r2 r3
-          ELSE
-          END
-          CLEAR r2
-          NEW r3 t0
-            PUT r2 r3
-          ELSE
-          END
-          DROP r0
-        ELSE
-        END";
-    for kind in KINDS {
-        let ran = run_anew(rt.alloc(), 1024, kind, &[text])?;
-        leaves(&rt, &ran, "6\n6\n5\n", 320, 0)?;
-    }
-    Ok(())
+    plays(
+        rt.alloc(),
+        &KINDS,
+        "> client owners
+            type i64
+            type own t0
+            CONST r1 5
+            NEW r0 t1
+              REF r2 r0
+              CONTENT r3 r2
+              ELSE
+                OUTI r3
+              END
+              TAKE r3 r2
+                DROP r3
+              ELSE
+                OUTI r3
+              END
+              NEW r3 t0
+                REF r4 r3
+                STORE r4 r1
+                PUT r2 r3
+              ELSE
+              END
+              CONTENT r3 r2
+                LOAD r3 r3
+                OUTI r3
+              ELSE
+              END
+              NEW r3 t0
+                PUT r2 r3
+              ELSE
+              END
+              CLEAR r2
+              NEW r3 t0
+                PUT r2 r3
+              ELSE
+              END
+              DROP r0
+            ELSE
+            END
+        > on 1024 owners; free 320 named 0
+        6
+        6
+        5",
+    )
 }
 
 /// Makes an object, and prints a number.

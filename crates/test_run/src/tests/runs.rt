@@ -211,18 +211,3 @@ pub(crate) fn leaves(
     assert!(rt; ran.ended == Ended::Done);
     Ok(())
 }
-
-/// Runs the client that a text spells on an image. It prints this, and leaves so many bytes free and so many names. Returns
-/// the saved image.
-pub(crate) fn goes_on(
-    rt: &(impl Abort + AllocGlobal),
-    image: &[u8],
-    text: &str,
-    printed: &str,
-    free: u32,
-    named: u32,
-) -> Result<Vec<u8>, Fail> {
-    let ran = run_on(rt.alloc(), image, &[text])?;
-    leaves(rt, &ran, printed, free, named)?;
-    Ok(ran.image)
-}

@@ -1,4 +1,5 @@
-use crate::tests::runs::{KINDS, Kind, SEQ_FLAT, leaves, run_anew, statistics_of};
+use crate::tests::plays::plays;
+use crate::tests::runs::{KINDS, Kind, SEQ_FLAT, run_anew, statistics_of};
 use client_vm::Ended;
 use std::process::Abort;
 use std::test::Fail;
@@ -165,42 +166,44 @@ fn leaves_nothing_on_each_size(rt: HostRuntime) -> Result<(), Fail> {
     Ok(())
 }
 
-/// Makes a vector of numbers, and prints its length after a push, or why it has none.
-const PUSH_ONE: &str = "type i64
-    type vec t0
-    name v
-    MAKE r0 - - t1 k0
-      PUSH r1 r0
-        LEN r2 r0
-        OUTI r2
-      ELSE
-        OUTI r1
-      END
-    ELSE
-      OUTI r0
-    END";
-
-fn pushes(
-    rt: &(impl Abort + AllocGlobal),
-    size: u32,
-    printed: &str,
-    named: u32,
-    free: u32,
-) -> Result<(), Fail> {
-    let ran = run_anew(rt.alloc(), size, SEQ_FLAT, &[PUSH_ONE])?;
-    leaves(rt, &ran, printed, free, named)
-}
-
-/// The object has 2 units, or 3; the index 2 or 3; the vector's buffer 3 for four numbers, or 2 for one.
+/// A vector of numbers tells its length after a push, or why it has none. The object has 2 units, or 3; the index 2 or 3; the
+/// vector's buffer 3 for four numbers, or 2 for one.
 #[test]
 fn first_push_by_size(rt: HostRuntime) -> Result<(), Fail> {
-    pushes(&rt, 736, "2\n", 0, 32)?;
-    pushes(&rt, 752, "2\n", 0, 48)?;
-    for size in [768, 784, 800] {
-        pushes(&rt, size, "2\n", 1, 0)?;
-    }
-    for size in [816, 832, 848] {
-        pushes(&rt, size, "1\n", 1, 0)?;
-    }
-    pushes(&rt, 864, "1\n", 1, 32)
+    plays(
+        rt.alloc(),
+        &[SEQ_FLAT],
+        "> client push
+            type i64
+            type vec t0
+            name v
+            MAKE r0 - - t1 k0
+              PUSH r1 r0
+                LEN r2 r0
+                OUTI r2
+              ELSE
+                OUTI r1
+              END
+            ELSE
+              OUTI r0
+            END
+        > on 736 push; named 0 free 32
+        2
+        > on 752 push; named 0 free 48
+        2
+        > on 768 push; named 1 free 0
+        2
+        > on 784 push; named 1 free 0
+        2
+        > on 800 push; named 1 free 0
+        2
+        > on 816 push; named 1 free 0
+        1
+        > on 832 push; named 1 free 0
+        1
+        > on 848 push; named 1 free 0
+        1
+        > on 864 push; named 1 free 32
+        1",
+    )
 }

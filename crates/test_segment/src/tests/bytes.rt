@@ -1,32 +1,30 @@
 //! The checker on two small images: each of their bytes changed to each other value, and each cut.
 
-use crate::tests::image::{BUFFER, Image, NAMED};
-use crate::tests::support::{I64, STR};
+use crate::tests::image::Image;
 use seg_raw::Fault;
 use std::alloc::Global;
 use std::process::Abort;
 use std::test::Fail;
 
 /// The number 41, named x: its object is at 704, the buffer of the index at 736.
-fn counter(alloc: Global) -> Result<Image, Fail> {
-    let mut image = Image::new(alloc, &[I64])?;
-    let object = image.add(NAMED, 0, 2);
-    image.write(&[(object, 41), (728, u32::from(b'x'))]);
-    image.add_entry(3, object, 0x0001_0001);
-    Ok(image)
-}
+const COUNTER: &str = "
+    type i64
+    720 named t0 2
+    752 index t0 3
+    720=41 728='x'
+    32->752 36=1
+    752->720 756=1,1";
 
 /// The text hi, named s: its object is at 704, the buffer of the index at 736, its own buffer at 784.
-fn greeting(alloc: Global) -> Result<Image, Fail> {
-    let mut image = Image::new(alloc, &[STR])?;
-    let object = image.add(NAMED, 0, 2);
-    image.write(&[(728, u32::from(b's'))]);
-    image.add_entry(3, object, 0x0001_0001);
-    let text = image.add(BUFFER, 0, 2);
-    image.w.copy_in(text as usize, b"hi");
-    image.cell(object, Some(text), 2);
-    Ok(image)
-}
+const GREETING: &str = "
+    type str
+    720 named t0 2
+    752 index t0 3
+    800 buffer t0 2
+    720->800 724=2 728='s'
+    32->752 36=1
+    752->720 756=1,1
+    800='hi'";
 
 /// How many changes of one byte had each answer.
 #[derive(Debug, Clone, Copy, PartialEq, Eq, Default)]
@@ -110,7 +108,7 @@ fn is_harmless_in_the_greeting(at: usize, byte: u8) -> bool {
 
 #[test]
 fn finds_each_changed_byte_of_the_counter(rt: HostRuntime) -> Result<(), Fail> {
-    let mut image = counter(rt.alloc())?;
+    let mut image = Image::of(rt.alloc(), COUNTER)?;
     assert_eq!(rt; image.w.len(), 784);
     let answers = change_each(&rt, &mut image, is_harmless_in_the_counter);
     let wanted = Answers {
@@ -129,7 +127,7 @@ fn finds_each_changed_byte_of_the_counter(rt: HostRuntime) -> Result<(), Fail> {
 
 #[test]
 fn finds_each_changed_byte_of_the_greeting(rt: HostRuntime) -> Result<(), Fail> {
-    let mut image = greeting(rt.alloc())?;
+    let mut image = Image::of(rt.alloc(), GREETING)?;
     assert_eq!(rt; image.w.len(), 816);
     let answers = change_each(&rt, &mut image, is_harmless_in_the_greeting);
     // allocator, types, letters, lengths, and bytes of no matter
@@ -137,55 +135,51 @@ fn finds_each_changed_byte_of_the_greeting(rt: HostRuntime) -> Result<(), Fail> 
     Ok(())
 }
 
-fn refuse_cuts(rt: &(impl Abort + AllocGlobal), mut image: Image) -> Result<(), Fail> {
-    image.accepts(rt, &[])?;
+fn refuse_cuts(alloc: Global, text: &str) -> Result<(), Fail> {
+    let mut image = Image::of(alloc, text)?;
+    image.follow(alloc, "=> sound")?;
     for len in 0..image.w.len() {
-        image.w.resize(len)?;
-        assert_eq!(rt; image.fault(rt.alloc()), Some(Fault::BadHeader), "at {len}");
+        if fault_of_cut(alloc, &mut image, len)? != Some(Fault::BadHeader) {
+            return Err(Fail::new(format_args!("accepted at {len}")));
+        }
     }
     Ok(())
 }
 
+fn fault_of_cut(alloc: Global, image: &mut Image, len: u32) -> Result<Option<Fault>, Fail> {
+    image.w.resize(len)?;
+    Ok(image.fault(alloc))
+}
+
 #[test]
 fn refuses_each_cut(rt: HostRuntime) -> Result<(), Fail> {
-    refuse_cuts(&rt, counter(rt.alloc())?)?;
-    refuse_cuts(&rt, greeting(rt.alloc())?)
+    refuse_cuts(rt.alloc(), COUNTER)?;
+    refuse_cuts(rt.alloc(), GREETING)
+}
+
+fn has(image: &Image, at: usize, bytes: &[u8]) -> bool {
+    image.w.slice(at, bytes.len()) == bytes
 }
 
 /// The image of the examples is the counter.
 #[test]
 fn reads_the_counter(rt: HostRuntime) -> Result<(), Fail> {
-    let mut image = counter(rt.alloc())?;
-    let w = &image.w;
-    assert_eq!(rt; w.slice(0, 8), b"SEGIMAGE".as_slice());
-    assert_eq!(rt;
-        [w.get32(12), w.get32(24), w.get32(32), w.get32(36)],
-        [49, 1, 720, 1]
-    );
-    assert_eq!(rt;
-        w.slice(736, 24),
-        b"\x03\x00\x00\x80\x02\x00\x00\x00\x05\x00\x00\x00\x01\x00\x00\x00\xe0\xff\xff\xff\x01\x00\x01\x00".as_slice()
-    );
-    image.finds_each(
-        &rt,
-        &[
-            (&[(64, 9)], Fault::BadType(0)),
-            (&[(32, 1), (36, 0)], Fault::Unowned(704)),
-            // a second entry for the same object
-            (
-                &[(36, 2), (760, 0xffff_ffd8), (764, 0x0001_0001)],
-                Fault::DoubleOwner(704),
-            ),
-        ],
+    let mut image = Image::of(rt.alloc(), COUNTER)?;
+    assert!(rt; has(&image, 0, b"SEGIMAGE") && has(&image, 12, b"\x31\0\0\0"));
+    assert!(rt; has(&image, 24, b"\x01\0\0\0") && has(&image, 32, b"\xd0\x02\0\0\x01\0\0\0"));
+    assert!(rt; has(&image, 736, b"\x03\0\0\x80\x02\0\0\0\x05\0\0\0\x01\0\0\0"));
+    assert!(rt; has(&image, 752, b"\xe0\xff\xff\xff\x01\0\x01\0"));
+    image.follow(
+        rt.alloc(),
+        "64=9 => type 0
+        32->null 36=0 => unowned 704
+        36=2 760=0xffffffd8 764=1,1 => twice 704 ; a second entry for the same object",
     )
 }
 
 #[test]
 fn finds_wrong_pointers_to_a_text(rt: HostRuntime) -> Result<(), Fail> {
-    let mut image = greeting(rt.alloc())?;
-    assert_eq!(rt; [image.w.get32(720), image.w.get32(724)], [80, 2]);
-    for word in [0, 1, 0x7fff_ffff] {
-        image.finds(&rt, &[(720, word)], Fault::BadPointer(720))?;
-    }
-    Ok(())
+    let mut image = Image::of(rt.alloc(), GREETING)?;
+    assert!(rt; has(&image, 720, b"\x50\0\0\0\x02\0\0\0"));
+    image.follow(rt.alloc(), "720=0 | 720=1 | 720=0x7fffffff => pointer 720")
 }

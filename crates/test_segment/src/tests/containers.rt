@@ -1,84 +1,78 @@
-//! Each call on a list and on a map once, over both allocators.
+//! Each call on a list and on a map once, over both allocators, and those that are refused on values of other types.
 
-use crate::tests::rooted::{Rooted, with_root};
-use crate::tests::support::{I64, Spelled, flat_map_of, list_of, map_of};
+use crate::tests::heaps::calls_on;
 use seg_bestfit::BestFit;
-use seg_block::Fit;
-use seg_map::{first_key, get, next_key, put, remove};
-use seg_raw::Code;
-use seg_seq::{at, next, pop_back, pop_front, prev, push_back, push_front};
 use seg_seqfit::SeqFit;
-use std::process::Abort;
+use std::alloc::Global;
 use std::test::Fail;
 
-/// The numbers of a list or a vector.
-fn items_are<F: Fit>(rt: &impl Abort, s: &Rooted<F>, numbers: &[i64]) -> Result<(), Fail> {
-    assert_eq!(rt; s.heap.count(s.root.at) as usize, numbers.len());
-    for (index, number) in (0u32..).zip(numbers) {
-        let item = at(&s.heap, s.root, index)?;
-        assert_eq!(rt; s.heap.load(item), *number);
-    }
-    Ok(())
-}
-
-/// Three items of a list, the last of which was put in front.
-fn tries_a_list<F: Fit>(rt: &(impl Abort + AllocGlobal)) -> Result<(), Fail> {
-    let mut s = with_root::<F>(rt.alloc(), 1024, &[I64, list_of(0)], 1)?;
-    let second = push_back(&mut s.heap, s.root)?;
-    s.heap.store(second, 2);
-    let third = push_back(&mut s.heap, s.root)?;
-    s.heap.store(third, 3);
-    let first = push_front(&mut s.heap, s.root)?;
-    s.heap.store(first, 1);
-    items_are(rt, &s, &[1, 2, 3])?;
-    assert_eq!(rt;
-        (next(&s.heap, first), prev(&s.heap, third)),
-        (second, second)
-    );
-    pop_front(&mut s.heap, s.root)?;
-    pop_back(&mut s.heap, s.root)?;
-    items_are(rt, &s, &[2])
+fn calls(alloc: Global, text: &str) -> Result<(), Fail> {
+    calls_on::<SeqFit>(alloc, text)?;
+    calls_on::<BestFit>(alloc, text)
 }
 
 #[test]
 fn lists_have_two_ends(rt: HostRuntime) -> Result<(), Fail> {
-    tries_a_list::<SeqFit>(&rt)?;
-    tries_a_list::<BestFit>(&rt)
+    calls(
+        rt.alloc(),
+        "heap 1024 list
+        push 2 => ok; push 3 => ok; push_front 1 => ok
+        items 1 2 3
+        next 0 => 2; prev 2 => 2
+        pop_front => ok; pop => ok
+        items 2",
+    )
 }
 
-/// The keys of a map, in order.
-fn keys_are<F: Fit>(rt: &impl Abort, s: &Rooted<F>, keys: &[i64]) {
-    let mut found = first_key(&s.heap, s.root);
-    for key in keys {
-        assert_eq!(rt; found, Ok(*key));
-        found = next_key(&s.heap, s.root, *key);
-    }
-    assert_eq!(rt; found, Err(Code::Null));
-}
-
-/// Three keys of a map of this type, one of which is put twice, and another removed.
-fn tries_a_map<F: Fit>(rt: &(impl Abort + AllocGlobal), map: Spelled) -> Result<(), Fail> {
-    let mut s = with_root::<F>(rt.alloc(), 1024, &[I64, map], 1)?;
-    keys_are(rt, &s, &[]);
-    for key in [3, -5, 4, 3] {
-        let value = put(&mut s.heap, s.root, key)?;
-        let number = s.heap.load(value).wrapping_add(key);
-        s.heap.store(value, number);
-    }
-    keys_are(rt, &s, &[-5, 3, 4]);
-    let value = get(&s.heap, s.root, 3)?;
-    assert_eq!(rt; s.heap.load(value), 6);
-    assert!(rt; remove(&mut s.heap, s.root, 3));
-    assert!(rt; !remove(&mut s.heap, s.root, 3));
-    assert_eq!(rt; get(&s.heap, s.root, 3), Err(Code::Absent));
-    keys_are(rt, &s, &[-5, 4]);
-    Ok(())
-}
+/// Three keys of a map, one of which is put twice, and another removed.
+const KEYS: &str = "keys
+    put 3 => 3; put -5 => -5; put 4 => 4; put 3 => 6
+    keys -5 3 4
+    get 3 => 6
+    remove 3 => 1; remove 3 => 0; get 3 => Absent
+    keys -5 4";
 
 #[test]
 fn maps_have_keys_in_order(rt: HostRuntime) -> Result<(), Fail> {
-    tries_a_map::<SeqFit>(&rt, flat_map_of(0))?;
-    tries_a_map::<SeqFit>(&rt, map_of(0))?;
-    tries_a_map::<BestFit>(&rt, flat_map_of(0))?;
-    tries_a_map::<BestFit>(&rt, map_of(0))
+    let text = format!(in rt.alloc(); "heap 1024 flat_map\n{KEYS}\nheap 1024 map\n{KEYS}")?;
+    calls(rt.alloc(), text.as_str())
+}
+
+/// The calls on sequences and texts, on something else.
+const REFUSED: &str =
+    "at 0 => OtherType; at 1 => OtherType; push => OtherType; push_front => OtherType
+    pop => OtherType; pop_front => OtherType
+    append a => OtherType; assign a => OtherType; push_byte 7 => OtherType";
+
+/// Two maps, empty and with a key.
+#[test]
+fn maps_have_no_items(rt: HostRuntime) -> Result<(), Fail> {
+    for map in ["map", "flat_map"] {
+        let text = format!(in rt.alloc();
+            "heap 1024 {map}
+            {REFUSED}
+            put 3 => 3
+            {REFUSED}
+            count => 1; first => 3; get 3 => 3"
+        )?;
+        calls(rt.alloc(), text.as_str())?;
+    }
+    Ok(())
+}
+
+/// A number, a struct, and an own, at last with an object.
+#[test]
+fn sequences_alone_have_items(rt: HostRuntime) -> Result<(), Fail> {
+    let text = format!(in rt.alloc();
+        "heap 1024 i64
+        {REFUSED}
+        heap 1024 pair
+        {REFUSED}
+        heap 1024 own
+        {REFUSED}
+        own => 720
+        {REFUSED}
+        take => 720"
+    )?;
+    calls(rt.alloc(), text.as_str())
 }

@@ -1,12 +1,9 @@
 //! Calls on whole segments, worked out by hand, with the checker looking at the bytes.
 
-use crate::tests::support::{
-    I64, INDEXES, NUMBER, construct_number, first_fault, map_of, pair, segment, segment_in,
-    used_region, window,
-};
+use crate::tests::calls::{are, calls};
+use crate::tests::support::{I64, INDEXES, NUMBER, construct_number, segment, used_region, window};
 use seg_bestfit::BestFit;
-use seg_block::Fit;
-use seg_manager::{Found, IndexKind, Named, Segment};
+use seg_manager::{Found, IndexKind, Segment};
 use seg_open::{open, save};
 use seg_ptr::Window;
 use seg_raw::{Code, Fault};
@@ -16,199 +13,84 @@ use std::process::Abort;
 use std::test::Fail;
 use support_data::counter;
 
-/// The checker accepts the segment, and these bytes of it are free.
-fn is_sound<F: Fit>(
-    rt: &(impl Abort + AllocGlobal),
-    segment: &Segment<F, Global>,
-    free: u32,
-) -> Result<(), Fail> {
-    assert_eq!(rt; first_fault(rt.alloc(), segment.window()), None);
-    assert_eq!(rt; segment.free_memory(), free);
-    Ok(())
-}
-
-/// What asking for `x` says in a segment of a size, and which bytes are free then.
-fn asks_for_x<F: Fit>(
-    rt: &(impl Abort + AllocGlobal),
-    index: IndexKind,
-    size: u32,
-    refused: Option<Code>,
-    free: u32,
-) -> Result<(), Fail> {
-    let mut segment = segment::<F>(rt.alloc(), size, index, &[I64])?;
-    let made = construct_number(&mut segment, b"x");
-    assert_eq!(rt; made.err(), refused);
-    assert_eq!(rt; segment.num_named(), u32::from(refused.is_none()));
-    is_sound(rt, &segment, free)
-}
-
-/// The object has 2 units, a flat index asks for 3 and takes 2 at its limit.
-fn flat_index_takes_what_is_there<F: Fit>(rt: &(impl Abort + AllocGlobal)) -> Result<(), Fail> {
-    let no_room = Some(Code::BadAlloc);
-    asks_for_x::<F>(rt, IndexKind::Flat, 1024, None, 240)?;
-    asks_for_x::<F>(rt, IndexKind::Flat, 784, None, 0)?;
-    asks_for_x::<F>(rt, IndexKind::Flat, 768, None, 0)?;
-    asks_for_x::<F>(rt, IndexKind::Flat, 752, no_room, 48)?;
-    asks_for_x::<F>(rt, IndexKind::Flat, 736, no_room, 32)
-}
-
-/// A node of the tree has 3 units.
-fn tree_takes_three_units<F: Fit>(rt: &(impl Abort + AllocGlobal)) -> Result<(), Fail> {
-    let no_room = Some(Code::BadAlloc);
-    asks_for_x::<F>(rt, IndexKind::Tree, 1024, None, 240)?;
-    asks_for_x::<F>(rt, IndexKind::Tree, 784, None, 0)?;
-    asks_for_x::<F>(rt, IndexKind::Tree, 768, no_room, 64)?;
-    asks_for_x::<F>(rt, IndexKind::Tree, 752, no_room, 48)?;
-    asks_for_x::<F>(rt, IndexKind::Tree, 736, no_room, 32)
-}
-
+/// The object has 2 units; a flat index asks for 3 and takes 2 at its limit, a node of the tree has 3.
 #[test]
 fn index_takes_what_is_there(rt: HostRuntime) -> Result<(), Fail> {
-    flat_index_takes_what_is_there::<SeqFit>(&rt)?;
-    flat_index_takes_what_is_there::<BestFit>(&rt)?;
-    tree_takes_three_units::<SeqFit>(&rt)?;
-    tree_takes_three_units::<BestFit>(&rt)
+    calls(
+        rt.alloc(),
+        "new 1024; make x t0 1 => ok; named => 1; free => 240
+        new 784; make x t0 1 => ok; named => 1; free => 0
+        new 768 flat; make x t0 1 => ok; named => 1; free => 0
+        new 768 tree; make x t0 1 => BadAlloc; named => 0; free => 64
+        new 752; make x t0 1 => BadAlloc; named => 0; free => 48
+        new 736; make x t0 1 => BadAlloc; named => 0; free => 32",
+    )
 }
 
-/// What `first_name` and `next_name` must return for a number.
-fn number(name: &[u8]) -> Option<Named<'_>> {
-    Some(Named {
-        name,
-        type_id: NUMBER,
-        count: 1,
-    })
-}
-
-/// The names x and y in order of their bytes, a prefix first.
-fn has_x_and_y<F: Fit>(rt: &impl Abort, segment: &Segment<F, Global>) {
-    assert_eq!(rt; segment.first_name(), number(b"x"));
-    assert_eq!(rt; segment.next_name(b"x"), number(b"y"));
-    assert_eq!(rt; segment.next_name(b"xx"), number(b"y"));
-    assert_eq!(rt; segment.next_name(b"y"), None);
-}
-
-fn names_come_in_order<F: Fit>(
-    rt: &(impl Abort + AllocGlobal),
-    index: IndexKind,
-    free: u32,
-) -> Result<(), Fail> {
-    let mut segment = segment::<F>(rt.alloc(), 1024, index, &[I64])?;
-    assert_eq!(rt; segment.first_name(), None);
-    construct_number(&mut segment, b"y")?;
-    construct_number(&mut segment, b"x")?;
-    is_sound(rt, &segment, free)?;
-    has_x_and_y(rt, &segment);
-    assert!(rt; segment.destroy(b"x", NUMBER));
-    assert!(rt; segment.destroy(b"y", NUMBER));
-    assert!(rt; !segment.destroy(b"y", NUMBER));
-    assert!(rt; segment.all_memory_deallocated());
-    is_sound(rt, &segment, 320)
-}
-
+/// The names x and y in order of their bytes, a prefix first. Two objects of 2 units, and an index of 3 or two nodes of 3.
 #[test]
 fn names_in_order(rt: HostRuntime) -> Result<(), Fail> {
-    names_come_in_order::<SeqFit>(&rt, IndexKind::Flat, 208)?;
-    names_come_in_order::<BestFit>(&rt, IndexKind::Flat, 208)?;
-    names_come_in_order::<SeqFit>(&rt, IndexKind::Tree, 160)?;
-    names_come_in_order::<BestFit>(&rt, IndexKind::Tree, 160)
+    calls(
+        rt.alloc(),
+        "new 1024 flat; make y t0 1 => ok; make x t0 1 => ok; free => 208
+        new 1024 tree; make y t0 1 => ok; make x t0 1 => ok; free => 160
+        new 1024; first none => 1; make y t0 1 => ok; make x t0 1 => ok
+        first x => 1; next x y => 1; next xx y => 1; next y none => 1
+        kill x t0 => 1; kill y t0 => 1; kill y t0 => 0; is_empty => 1; free => 320",
+    )
 }
 
-/// A wrong count comes before a name that is there.
-fn refuses_counts(rt: &impl Abort, segment: &mut Segment<SeqFit, Global>) {
-    for count in [0, 65_536, u32::MAX] {
-        let made = segment.construct(b"x", NUMBER, count);
-        assert_eq!(rt; made, Err(Code::OutOfRange));
-    }
+/// A wrong count comes before a name that is there, and that before want of room. An object isn't found as one of another
+/// type, nor destroyed.
+#[test]
+fn refusals_in_order(rt: HostRuntime) -> Result<(), Fail> {
+    calls(
+        rt.alloc(),
+        "new 1024; make x t0 2 => ok
+        make x t0 0 => OutOfRange; make x t0 65536 => OutOfRange; make x t0 4294967295 => OutOfRange
+        make x t2 65535 => AlreadyExists; make y t2 65535 => BadAlloc
+        find x t2 => OtherType; find_or_make x t2 => OtherType; kill x t2 => 0
+        count x t0 => 2; named => 1",
+    )
 }
 
 /// A name that no object may have is refused, and never found.
-fn refuses_names(rt: &impl Abort, segment: &mut Segment<SeqFit, Global>) {
-    for name in [b"".as_slice(), b"a b", b"\x7f", &[b'a'; 64]] {
-        let made = construct_number(segment, name);
-        assert_eq!(rt; made, Err(Code::OutOfRange));
-        let made = segment.find_or_construct(name, NUMBER);
-        assert_eq!(rt; made, Err(Code::OutOfRange));
-        assert_eq!(rt; segment.find(name, NUMBER), Err(Code::Absent));
-    }
-}
-
-/// A name that is there comes before want of room.
-fn refuses_what_is_there(rt: &impl Abort, segment: &mut Segment<SeqFit, Global>) {
-    let made = segment.construct(b"x", 1, 65_535);
-    assert_eq!(rt; made, Err(Code::AlreadyExists));
-    let made = segment.construct(b"y", 1, 65_535);
-    assert_eq!(rt; made, Err(Code::BadAlloc));
-}
-
-/// An object isn't found as one of another type, nor destroyed.
-fn refuses_types(rt: &impl Abort, segment: &mut Segment<SeqFit, Global>) {
-    assert_eq!(rt; segment.find(b"x", 1), Err(Code::OtherType));
-    let made = segment.find_or_construct(b"x", 1);
-    assert_eq!(rt; made, Err(Code::OtherType));
-    assert!(rt; !segment.destroy(b"x", 1));
-}
-
-fn refuses_in_order(rt: &(impl Abort + AllocGlobal), index: IndexKind) -> Result<(), Fail> {
-    let mut segment = segment::<SeqFit>(rt.alloc(), 1024, index, &[I64, map_of(NUMBER)])?;
-    segment.construct(b"x", NUMBER, 2)?;
-    refuses_counts(rt, &mut segment);
-    refuses_names(rt, &mut segment);
-    refuses_what_is_there(rt, &mut segment);
-    refuses_types(rt, &mut segment);
-    assert_eq!(rt; segment.find(b"x", NUMBER)?.count, 2);
-    assert_eq!(rt; segment.num_named(), 1);
-    construct_number(&mut segment, &[b'a'; 63])?;
-    assert_eq!(rt; first_fault(rt.alloc(), segment.window()), None);
-    Ok(())
+fn is_refused(segment: &mut Segment<SeqFit, Global>, name: &[u8]) -> bool {
+    construct_number(segment, name) == Err(Code::OutOfRange)
+        && segment.find_or_construct(name, NUMBER) == Err(Code::OutOfRange)
+        && segment.find(name, NUMBER).err() == Some(Code::Absent)
 }
 
 #[test]
-fn refusals_in_order(rt: HostRuntime) -> Result<(), Fail> {
+fn names_have_limits(rt: HostRuntime) -> Result<(), Fail> {
     for index in INDEXES {
-        refuses_in_order(&rt, index)?;
+        let mut segment = segment::<SeqFit>(rt.alloc(), 1024, index, &[I64])?;
+        assert!(rt; is_refused(&mut segment, b"") && is_refused(&mut segment, b"a b"));
+        assert!(rt; is_refused(&mut segment, b"\x7f") && is_refused(&mut segment, &[b'a'; 64]));
+        construct_number(&mut segment, &[b'a'; 63])?;
+        assert_eq!(rt; segment.num_named(), 1);
     }
     Ok(())
 }
 
 #[test]
 fn one_unique_object_of_a_type(rt: HostRuntime) -> Result<(), Fail> {
-    let types = [I64, pair(NUMBER, NUMBER)];
-    let mut segment = segment::<SeqFit>(rt.alloc(), 1024, IndexKind::Flat, &types)?;
-    assert_eq!(rt; segment.find_unique(1), Err(Code::Absent));
-    let at = segment.construct_unique(1)?;
-    assert_eq!(rt; at, 720);
-    assert_eq!(rt; segment.construct_unique(1), Err(Code::AlreadyExists));
-    assert_eq!(rt; segment.find_unique(1), Ok(at));
-    assert_eq!(rt; segment.find_or_construct_unique(1), Ok(at));
-    assert_eq!(rt; segment.num_unique(), 1);
-    is_sound(&rt, &segment, 288)?;
-    assert!(rt; segment.destroy_unique(1));
-    assert!(rt; !segment.destroy_unique(1));
-    assert_eq!(rt; segment.num_unique(), 0);
-    is_sound(&rt, &segment, 320)
-}
-
-fn is_filled(bytes: &[u8], with: u8) -> bool {
-    bytes.iter().all(|byte| *byte == with)
+    calls(
+        rt.alloc(),
+        "new 1024; find_unique t1 => Absent; make_unique t1 => 720; make_unique t1 => AlreadyExists
+        find_unique t1 => 720; find_or_make_unique t1 => 720; unique => 1; free => 288
+        kill_unique t1 => 1; kill_unique t1 => 0; unique => 0; free => 320",
+    )
 }
 
 /// What the library makes anew has none of the bytes that the host had there.
-fn makes_an_empty_one(rt: &(impl Abort + AllocGlobal), index: IndexKind) -> Result<(), Fail> {
-    let segment = segment::<SeqFit>(rt.alloc(), 1024, index, &[])?;
-    is_sound(rt, &segment, 320)?;
-    assert_eq!(rt; segment.largest_gap(), 320);
-    assert_eq!(rt; segment.num_named(), 0);
-    assert!(rt; segment.all_memory_deallocated());
-    assert!(rt; is_filled(segment.window().slice(720, 304), 0));
-    Ok(())
-}
-
 #[test]
 fn new_segments_are_empty(rt: HostRuntime) -> Result<(), Fail> {
-    for index in INDEXES {
-        makes_an_empty_one(&rt, index)?;
-    }
-    Ok(())
+    calls(
+        rt.alloc(),
+        "new 1024; free => 320; largest => 320; named => 0; is_empty => 1
+        new 1024 seq; zeros 720 304 => 1",
+    )
 }
 
 /// A segment isn't made where this is the fault. The region comes back as it was.
@@ -223,7 +105,7 @@ fn makes_none(
         Ok(_) => Err(Fail::from("made")),
         Err((refused, region)) => {
             assert_eq!(rt; refused, fault);
-            assert!(rt; is_filled(region.slice(0, region.len() as usize), 0xa5));
+            assert!(rt; are(region.slice(0, region.len() as usize), 0xa5));
             Ok(())
         }
     }
@@ -237,114 +119,55 @@ fn refused_segments(rt: HostRuntime) -> Result<(), Fail> {
     makes_none(&rt, 16, 1024, Fault::Misplaced)
 }
 
-/// Sequential fit uses no byte of a gap after its header.
-fn zeroes_gaps(rt: &(impl Abort + AllocGlobal), index: IndexKind) -> Result<(), Fail> {
-    let mut segment = segment::<SeqFit>(rt.alloc(), 1024, index, &[I64])?;
-    segment.heap_mut().window_mut().fill(720, 304, 0xa5);
-    segment.zero_free_memory();
-    assert!(rt; is_filled(segment.window().slice(720, 304), 0));
-    is_sound(rt, &segment, 320)?;
-    construct_number(&mut segment, b"x")?;
-    segment.heap_mut().window_mut().put64(720, u64::MAX);
-    segment.zero_free_memory();
-    assert_eq!(rt; segment.window().get64(720), u64::MAX);
-    is_sound(rt, &segment, 240)
-}
-
+/// Sequential fit uses no byte of a gap after its header; best fit keeps the tree's words there. A value stays.
 #[test]
 fn free_memory_is_zeroed(rt: HostRuntime) -> Result<(), Fail> {
-    for index in INDEXES {
-        zeroes_gaps(&rt, index)?;
-    }
-    Ok(())
+    calls(
+        rt.alloc(),
+        "new 1024 seq; fill 720 304 => ok; zero_free => ok; zeros 720 304 => 1; free => 320
+        make x t0 1 => 720; fill 720 8 => ok; zero_free => ok; filled 720 8 => 1; free => 240
+        new 1024 best; fill 736 288 => ok; zero_free => ok; zeros 736 288 => 1; free => 320",
+    )
 }
 
-/// Best fit keeps the tree's words after the header of a gap.
+/// A single unit goes to the last block, two are a gap. A size that isn't a multiple of 16, and one past the region's end or
+/// the limit, are refused.
 #[test]
-fn free_tree_stays(rt: HostRuntime) -> Result<(), Fail> {
-    let mut segment = segment::<BestFit>(rt.alloc(), 1024, IndexKind::Flat, &[I64])?;
-    segment.heap_mut().window_mut().fill(736, 288, 0xa5);
-    segment.zero_free_memory();
-    assert!(rt; is_filled(segment.window().slice(736, 288), 0));
-    is_sound(&rt, &segment, 320)
-}
-
-/// A segment in a larger region, with the number x, that can't shrink.
-fn full_segment<F: Fit>(alloc: Global, room: u32) -> Result<Segment<F, Global>, Fail> {
-    let mut segment = segment_in::<F>(alloc, room, 784, IndexKind::Flat, &[I64])?;
-    construct_number(&mut segment, b"x")?;
-    Ok(segment)
-}
-
-/// What growing says in a region of `room` bytes, how many bytes are free then, and the size to which the segment shrinks.
-fn grows_by<F: Fit>(
-    rt: &(impl Abort + AllocGlobal),
-    room: u32,
-    extra: u32,
-    grown: Result<u32, Fault>,
-    free: u32,
-    shrunk: u32,
-) -> Result<(), Fail> {
-    let mut segment = full_segment::<F>(rt.alloc(), room)?;
-    assert_eq!(rt; segment.grow(extra), grown);
-    assert_eq!(rt; segment.window().len(), grown.unwrap_or(784));
-    assert_eq!(rt; segment.num_named(), 1);
-    is_sound(rt, &segment, free)?;
-    assert_eq!(rt; segment.shrink_to_fit(), shrunk);
-    is_sound(rt, &segment, 0)
-}
-
-/// A single unit goes to the last block, two are a gap.
-fn grows<F: Fit>(rt: &(impl Abort + AllocGlobal)) -> Result<(), Fail> {
-    grows_by::<F>(rt, 1024, 0, Ok(784), 0, 784)?;
-    grows_by::<F>(rt, 1024, 16, Ok(800), 0, 800)?;
-    grows_by::<F>(rt, 1024, 32, Ok(816), 32, 784)?;
-    grows_by::<F>(rt, 1024, 240, Ok(1024), 240, 784)
-}
-
-/// A size that isn't a multiple of 16, and one past the region's end or the limit, are refused.
-fn stays<F: Fit>(rt: &(impl Abort + AllocGlobal)) -> Result<(), Fail> {
-    grows_by::<F>(rt, 1024, 24, Err(Fault::BadSize), 0, 784)?;
-    grows_by::<F>(rt, 1024, 256, Err(Fault::NoHostRoom), 0, 784)?;
-    grows_by::<F>(rt, 784, 16, Err(Fault::NoHostRoom), 0, 784)?;
-    grows_by::<F>(rt, 784, 1 << 30, Err(Fault::BadSize), 0, 784)
+fn segments_grow(rt: HostRuntime) -> Result<(), Fail> {
+    calls(
+        rt.alloc(),
+        "new 784 in 1024; make x t0 1 => ok; grow 0 => 784; size => 784; named => 1; free => 0
+        shrink => 784; free => 0
+        new 784 in 1024; make x t0 1 => ok; grow 16 => 800; size => 800; named => 1; free => 0
+        shrink => 800; free => 0
+        new 784 in 1024; make x t0 1 => ok; grow 32 => 816; size => 816; named => 1; free => 32
+        shrink => 784; free => 0
+        new 784 in 1024; make x t0 1 => ok; grow 240 => 1024; size => 1024; named => 1; free => 240
+        shrink => 784; free => 0
+        new 784 in 1024; make x t0 1 => ok; grow 24 => BadSize; grow 256 => NoHostRoom
+        size => 784; named => 1; free => 0; shrink => 784; free => 0
+        new 784 in 784; make x t0 1 => ok; grow 16 => NoHostRoom; grow 1073741824 => BadSize
+        size => 784; named => 1; free => 0; shrink => 784; free => 0",
+    )
 }
 
 /// What the host had where a segment grows doesn't get into it: after a header and the allocator's words the bytes are 0.
-fn takes_in_zeros<F: Fit>(rt: &(impl Abort + AllocGlobal)) -> Result<(), Fail> {
-    let mut segment = full_segment::<F>(rt.alloc(), 1024)?;
-    assert_eq!(rt; segment.grow(240), Ok(1024));
-    let taken = segment.window().slice(784 + 32, 240 - 32);
-    assert!(rt; taken.len() == 208 && taken.iter().all(|byte| *byte == 0));
-    Ok(())
-}
-
 #[test]
-fn segments_grow(rt: HostRuntime) -> Result<(), Fail> {
-    grows::<SeqFit>(&rt)?;
-    grows::<BestFit>(&rt)?;
-    takes_in_zeros::<SeqFit>(&rt)?;
-    takes_in_zeros::<BestFit>(&rt)?;
-    stays::<SeqFit>(&rt)?;
-    stays::<BestFit>(&rt)
+fn segments_grow_by_zeros(rt: HostRuntime) -> Result<(), Fail> {
+    calls(
+        rt.alloc(),
+        "new 784 in 1024; make x t0 1 => ok; grow 240 => 1024; zeros 816 208 => 1",
+    )
 }
 
 /// An empty segment keeps two units, one with the number x what that needs.
-fn shrinks<F: Fit>(rt: &(impl Abort + AllocGlobal)) -> Result<(), Fail> {
-    let mut empty = segment::<F>(rt.alloc(), 1024, IndexKind::Flat, &[I64])?;
-    assert_eq!(rt; empty.shrink_to_fit(), 736);
-    is_sound(rt, &empty, 32)?;
-    assert_eq!(rt; empty.grow(288), Ok(1024));
-    is_sound(rt, &empty, 320)?;
-    construct_number(&mut empty, b"x")?;
-    assert_eq!(rt; empty.shrink_to_fit(), 784);
-    is_sound(rt, &empty, 0)
-}
-
 #[test]
 fn segments_shrink(rt: HostRuntime) -> Result<(), Fail> {
-    shrinks::<SeqFit>(&rt)?;
-    shrinks::<BestFit>(&rt)
+    calls(
+        rt.alloc(),
+        "new 1024; shrink => 736; free => 32; grow 288 => 1024; free => 320; make x t0 1 => ok
+        shrink => 784; free => 0",
+    )
 }
 
 /// The counter's image in a window.

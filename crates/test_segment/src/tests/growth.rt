@@ -1,87 +1,89 @@
 //! Sizes of blocks that follow from the rules of growth, worked out by hand.
 
+use crate::tests::heaps::calls_on;
 use crate::tests::rooted::{ROOT, Rooted, with_root};
-use crate::tests::support::{I64, STR, flat_map_of, list_of, own_of, pair, place_of, vec_of};
+use crate::tests::support::{I64, STR, own_of, pair, place_of, vec_of};
 use crate::tests::tiles::{is_one_gap, live_are, tiles};
-use seg_map::put;
-use seg_raw::Code;
-use seg_seq::{append, assign, pop_back, push_back};
+use seg_seq::{assign, push_back};
 use seg_seqfit::SeqFit;
 use seg_value::Content;
-use std::process::Abort;
 use std::test::Fail;
 
+/// A text that is assigned keeps the buffer.
 #[test]
 fn a_string_grows_and_shrinks_in_place(rt: HostRuntime) -> Result<(), Fail> {
-    let mut s = with_root::<SeqFit>(rt.alloc(), 1024, &[STR], 0)?;
-    assign(&mut s.heap, place_of(0, ROOT), b"hello")?;
-    live_are(&rt, s.heap.window(), &[(704, 2)])?;
-    append(&mut s.heap, place_of(0, ROOT), b", dear neighbours!!")?;
-    live_are(&rt, s.heap.window(), &[(704, 3)])?;
-    assert_eq!(rt;
-        s.heap.window().slice(720, 24),
-        b"hello, dear neighbours!!".as_slice()
-    );
-    // an assigned text keeps the buffer
-    assign(&mut s.heap, place_of(0, ROOT), b"hello")?;
-    live_are(&rt, s.heap.window(), &[(704, 3)])?;
-    s.heap.shrink_to_fit(place_of(0, ROOT));
-    live_are(&rt, s.heap.window(), &[(704, 2)])?;
-    assign(&mut s.heap, place_of(0, ROOT), b"")?;
-    live_are(&rt, s.heap.window(), &[(704, 2)])?;
-    s.heap.shrink_to_fit(place_of(0, ROOT));
-    is_one_gap(&rt, s.heap.window())
+    calls_on::<SeqFit>(
+        rt.alloc(),
+        "heap 1024 str
+        assign hello => ok
+        live 704:2
+        append , dear neighbours!! => ok
+        live 704:3
+        text hello, dear neighbours!! => 1
+        assign hello => ok
+        live 704:3
+        shrink => ok
+        live 704:2
+        assign => ok
+        live 704:2
+        shrink => ok
+        live",
+    )
 }
 
 /// A vector of numbers has room for 4, then for 8 where it stands.
 #[test]
 fn a_vector_doubles_in_place(rt: HostRuntime) -> Result<(), Fail> {
-    let mut s = with_root::<SeqFit>(rt.alloc(), 1024, &[I64, vec_of(0)], 1)?;
-    for units in [3, 3, 3, 3, 5] {
-        let _ = push_back(&mut s.heap, place_of(1, ROOT))?;
-        live_are(&rt, s.heap.window(), &[(704, units)])?;
-    }
-    Ok(())
+    calls_on::<SeqFit>(
+        rt.alloc(),
+        "heap 1024 vec
+        push => ok; live 704:3
+        push => ok; live 704:3
+        push => ok; live 704:3
+        push => ok; live 704:3
+        push => ok; live 704:5",
+    )
 }
 
 /// A fifth push that finds no room for 8 takes its limit elsewhere. A seventh finds no room, and changes nothing.
 #[test]
 fn a_fifth_push_takes_its_limit(rt: HostRuntime) -> Result<(), Fail> {
-    let mut s = with_root::<SeqFit>(rt.alloc(), 704 + 9 * 16, &[I64, vec_of(0)], 1)?;
-    for _ in 0..4 {
-        let _ = push_back(&mut s.heap, place_of(1, ROOT))?;
-    }
-    let number = Content::object(s.heap.types(), 0);
-    let _ = s.heap.new_block(&number)?;
-    live_are(&rt, s.heap.window(), &[(704, 3), (752, 2)])?;
-    for _ in 0..2 {
-        let _ = push_back(&mut s.heap, place_of(1, ROOT))?;
-        live_are(&rt, s.heap.window(), &[(752, 2), (784, 4)])?;
-    }
-    let seventh = push_back(&mut s.heap, place_of(1, ROOT));
-    assert_eq!(rt; seventh, Err(Code::BadAlloc));
-    live_are(&rt, s.heap.window(), &[(752, 2), (784, 4)])
+    calls_on::<SeqFit>(
+        rt.alloc(),
+        "heap 848 vec
+        push => ok; push => ok; push => ok; push => ok
+        new => ok
+        live 704:3 752:2
+        push => ok; live 752:2 784:4
+        push => ok; live 752:2 784:4
+        push => BadAlloc
+        live 752:2 784:4",
+    )
 }
 
 #[test]
 fn list_nodes_of_numbers_have_2_units(rt: HostRuntime) -> Result<(), Fail> {
-    let mut s = with_root::<SeqFit>(rt.alloc(), 1024, &[I64, list_of(0)], 1)?;
-    for _ in 0..3 {
-        let _ = push_back(&mut s.heap, place_of(1, ROOT))?;
-    }
-    live_are(&rt, s.heap.window(), &[(704, 2), (736, 2), (768, 2)])?;
-    pop_back(&mut s.heap, place_of(1, ROOT))?;
-    live_are(&rt, s.heap.window(), &[(704, 2), (736, 2)])
+    calls_on::<SeqFit>(
+        rt.alloc(),
+        "heap 1024 list
+        push => ok; push => ok; push => ok
+        live 704:2 736:2 768:2
+        pop => ok
+        live 704:2 736:2",
+    )
 }
 
 #[test]
 fn a_flat_map_of_numbers_has_5_then_9_units(rt: HostRuntime) -> Result<(), Fail> {
-    let mut s = with_root::<SeqFit>(rt.alloc(), 1024, &[I64, flat_map_of(0)], 1)?;
-    for (key, units) in [(1, 5), (2, 5), (3, 5), (4, 5), (5, 9)] {
-        let _ = put(&mut s.heap, place_of(1, ROOT), key)?;
-        live_are(&rt, s.heap.window(), &[(704, units)])?;
-    }
-    Ok(())
+    calls_on::<SeqFit>(
+        rt.alloc(),
+        "heap 1024 flat_map
+        put 1 => ok; live 704:5
+        put 2 => ok; live 704:5
+        put 3 => ok; live 704:5
+        put 4 => ok; live 704:5
+        put 5 => ok; live 704:9",
+    )
 }
 
 /// Puts an object that owns what the root owned before into the root.

@@ -1,24 +1,34 @@
-use crate::tests::support::{Spelled, first_fault, window};
-use seg_layout::TypeId;
+//! Images and the faults that the checker must find in them, written as text. `;` begins a comment, and a line is one of these:
+//!
+//!     type vec t1             the next type: its kind, and the types that it is of
+//!     720 unique t0 2         the next block: where its payload must begin, what it is, of which type, and its units
+//!     752 gap 2               the next block, which is free
+//!     chain node 720 60       so many nodes of 3 units, each to the left of the one before; the pointer at 720 names the first
+//!     720->752 724=20         changes that stay
+//!     724=33 => pointer 720   with these changes, which are undone, this is the first fault; `|` stands between several such
+//!
+//! A change is `at=word`, where the word may also be `low,high`, its halves, or `'ab'`, its bytes; `at:number` for a number of 64
+//! bits; `at->named` or `at->null` for a pointer. A block `unique` is an object that its type's word for unique objects names.
+
+use crate::tests::support::{first_fault, window};
 use seg_ptr::Window;
-use seg_ptr::header::{ALLOCATOR, INDEX, INDEX_KIND, SIZE, TYPES, UNIQUES};
+use seg_ptr::header::{SIZE, TYPES, UNIQUES};
 use seg_raw::Fault;
-use std::alloc::{AllocError, Global};
-use std::process::Abort;
+use std::alloc::Global;
 use std::test::Fail;
 
 /// The kinds of live blocks, as a tag has them.
-pub(crate) const NAMED: u32 = 1;
+const NAMED: u32 = 1;
 
-pub(crate) const OBJECT: u32 = 2;
+const OBJECT: u32 = 2;
 
-pub(crate) const BUFFER: u32 = 3;
+const BUFFER: u32 = 3;
 
-pub(crate) const NODE: u32 = 4;
+const NODE: u32 = 4;
 
-pub(crate) const INDEX_BUFFER: u32 = 5;
+const INDEX_BUFFER: u32 = 5;
 
-pub(crate) const INDEX_NODE: u32 = 6;
+const INDEX_NODE: u32 = 6;
 
 /// The bit of a header's first word that says that the block is live.
 const LIVE: u32 = 1 << 31;
@@ -29,135 +39,75 @@ const HEAP: u32 = 704;
 /// The most bytes of an image here.
 const ROOM: u32 = 4096;
 
-/// A word of an image, and what is written there.
-pub(crate) type Change = (u32, u32);
-
-/// Lets a pointer name a position.
-pub(crate) fn to(at: u32, named: u32) -> Change {
-    (at, named.wrapping_sub(at))
-}
-
-/// Lets a pointer name nothing.
-pub(crate) fn null(at: u32) -> Change {
-    (at, 1)
-}
-
 /// An image that grows by a block at a time.
 #[derive(Drop)]
 pub(crate) struct Image {
     pub(crate) w: Window<Global>,
+    types: usize,
     /// The units of the last block, 0 while there is none.
     before: u32,
 }
 
+/// The image that a text describes has the faults that it says.
+pub(crate) fn checks(alloc: Global, text: &str) -> Result<(), Fail> {
+    let _ = Image::of(alloc, text)?;
+    Ok(())
+}
+
 impl Image {
-    /// The header, these types, no name and no unique object. It has no block yet.
-    pub(crate) fn new(alloc: Global, types: &[Spelled]) -> Result<Image, Fail> {
+    /// The image that a text describes. It has the faults that the text says.
+    pub(crate) fn of(alloc: Global, text: &str) -> Result<Image, Fail> {
+        let mut image = Image::empty(alloc)?;
+        image.follow(alloc, text)?;
+        Ok(image)
+    }
+
+    /// The header, no type, no name and no unique object. It has no block yet.
+    fn empty(alloc: Global) -> Result<Image, Fail> {
         let mut w = window(alloc, ROOM, HEAP)?;
         w.copy_in(0, b"SEGIMAGE");
-        w.put32(8, 1);
-        w.put32(24, 1);
-        w.put32(INDEX, 1);
+        for at in [8, 24, 32] {
+            w.put32(at, 1);
+        }
         for t in 0..32 {
             w.put32(UNIQUES + 4 * t, 1);
         }
-        for (t, entry) in types.iter().enumerate() {
-            w.copy_in(TYPES.saturating_add(t.saturating_mul(16)), entry);
+        Ok(Image {
+            w,
+            types: 0,
+            before: 0,
+        })
+    }
+
+    /// Does what each line says.
+    pub(crate) fn follow(&mut self, alloc: Global, text: &str) -> Result<(), Fail> {
+        for line in text.lines() {
+            let line = line.split_once(';').map_or(line, |parts| parts.0);
+            match line.split_once("=>") {
+                Some((changes, fault)) => self.finds_each(alloc, changes, fault)?,
+                None => self.builds(alloc, line)?,
+            }
         }
-        Ok(Image { w, before: 0 })
+        Ok(())
     }
 
-    pub(crate) fn with_best_fit(mut self) -> Image {
-        self.w.put32(ALLOCATOR, 1);
-        self
-    }
-
-    pub(crate) fn with_tree_index(mut self) -> Image {
-        self.w.put32(INDEX_KIND, 1);
-        self
-    }
-
-    /// Adds a live block for a type, and returns where its payload begins.
-    pub(crate) fn add(&mut self, kind: u32, t: u32, units: u32) -> u32 {
-        let tag = kind.wrapping_add(t.wrapping_mul(256));
-        self.add_block(units, units.wrapping_add(LIVE), tag)
-    }
-
-    /// Adds a free block, and returns where its payload begins.
-    pub(crate) fn add_gap(&mut self, units: u32) -> u32 {
-        self.add_block(units, units, 0)
-    }
-
-    fn add_block(&mut self, units: u32, size: u32, tag: u32) -> u32 {
-        let block = self.w.len();
-        let end = block.saturating_add(units.saturating_mul(16));
-        if self.w.resize(end).is_ok() {
-            self.write(&[
-                (SIZE as u32, end / 16),
-                (block, size),
-                (block.wrapping_add(4), self.before),
-                (block.wrapping_add(8), tag),
-                (block.wrapping_add(12), 1),
-            ]);
-            self.before = units;
+    /// This is the first fault with each of the changes, which are undone.
+    fn finds_each(&mut self, alloc: Global, changes: &str, fault: &str) -> Result<(), Fail> {
+        for change in changes.split('|') {
+            let found = self.fault_with(alloc, change)?;
+            if !is_told(found, fault) {
+                return Err(Fail::new(format_args!("{change} => {fault}, not {found:?}")));
+            }
         }
-        block.wrapping_add(16)
+        Ok(())
     }
 
-    /// Lets a type's unique object be this one.
-    pub(crate) fn set_unique(&mut self, t: TypeId, object: u32) {
-        self.w.point(UNIQUES + 4 * t as usize, Some(object));
-    }
-
-    /// Adds a unique object of a type, with these units.
-    pub(crate) fn add_unique(&mut self, t: TypeId, units: u32) -> u32 {
-        let object = self.add(OBJECT, u32::from(t), units);
-        self.set_unique(t, object);
-        object
-    }
-
-    /// Adds the buffer of an index, with these units and one entry: the object that it names, and its counts.
-    pub(crate) fn add_entry(&mut self, units: u32, object: u32, counts: u32) {
-        let entry = self.add(INDEX_BUFFER, 0, units);
-        self.write(&[to(entry, object), (entry.wrapping_add(4), counts)]);
-        self.cell(INDEX as u32, Some(entry), 1);
-    }
-
-    /// Adds nodes of three units, each to the left of the one before. The pointer at `from` names the first.
-    pub(crate) fn add_chain(&mut self, kind: u32, from: u32, nodes: u32) {
-        let mut pointer = from;
-        for _ in 0..nodes {
-            let node = self.add(kind, 0, 3);
-            self.tree_words(node, None, None, 0);
-            self.write(&[to(pointer, node)]);
-            pointer = node;
-        }
-    }
-
-    /// Writes a cell: what it names, and its number.
-    pub(crate) fn cell(&mut self, at: u32, named: Option<u32>, n: u32) {
-        self.w.point(at as usize, named);
-        self.w.put32(at as usize + 4, n);
-    }
-
-    /// Writes tree words: what is to the left and to the right, and the colour.
-    pub(crate) fn tree_words(
-        &mut self,
-        node: u32,
-        left: Option<u32>,
-        right: Option<u32>,
-        colour: u32,
-    ) {
-        self.w.point(node as usize, left);
-        self.w.point(node as usize + 4, right);
-        self.w.put32(node as usize + 8, colour);
-        self.w.put32(node as usize + 12, 0);
-    }
-
-    pub(crate) fn write(&mut self, changes: &[Change]) {
-        for (at, word) in changes {
-            self.w.put32(*at as usize, *word);
-        }
+    fn fault_with(&mut self, alloc: Global, change: &str) -> Result<Option<Fault>, Fail> {
+        let bytes = Vec::from_slice(alloc, self.w.slice(0, self.w.len() as usize))?;
+        self.builds(alloc, change)?;
+        let found = self.fault(alloc);
+        self.w.copy_in(0, bytes.as_slice());
+        Ok(found)
     }
 
     /// The image's first fault, if it has one.
@@ -165,54 +115,174 @@ impl Image {
         first_fault(alloc, &self.w)
     }
 
-    /// The image is accepted with these changes. They are undone.
-    pub(crate) fn accepts(
-        &mut self,
-        rt: &(impl Abort + AllocGlobal),
-        changes: &[Change],
-    ) -> Result<(), Fail> {
-        let fault = self.fault_with(rt.alloc(), changes)?;
-        assert_eq!(rt; fault, None, "at {changes:?}");
-        Ok(())
-    }
-
-    /// This is the image's first fault with these changes. They are undone.
-    pub(crate) fn finds(
-        &mut self,
-        rt: &(impl Abort + AllocGlobal),
-        changes: &[Change],
-        wanted: Fault,
-    ) -> Result<(), Fail> {
-        let fault = self.fault_with(rt.alloc(), changes)?;
-        assert_eq!(rt; fault, Some(wanted), "at {changes:?}");
-        Ok(())
-    }
-
-    /// Each of these is the image's first fault with the changes beside it. They are undone.
-    pub(crate) fn finds_each(
-        &mut self,
-        rt: &(impl Abort + AllocGlobal),
-        cases: &[(&[Change], Fault)],
-    ) -> Result<(), Fail> {
-        for (changes, wanted) in cases {
-            self.finds(rt, changes, *wanted)?;
+    fn builds(&mut self, alloc: Global, line: &str) -> Result<(), Fail> {
+        let words: Vec<&str> = line.split_whitespace().collect(alloc)?;
+        match self.build(words.as_slice()) {
+            Some(()) => Ok(()),
+            None => Err(Fail::new(format_args!("not understood: {line}"))),
         }
-        Ok(())
     }
 
-    fn fault_with(
-        &mut self,
-        alloc: Global,
-        changes: &[Change],
-    ) -> Result<Option<Fault>, AllocError> {
-        let mut old = Vec::new(alloc);
-        for (at, word) in changes {
-            old.push((*at, self.w.get32(*at as usize)))?;
-            self.w.put32(*at as usize, *word);
+    fn build(&mut self, words: &[&str]) -> Option<()> {
+        match *words {
+            ["type", kind, ref parts @ ..] => self.add_type(kind, parts),
+            ["chain", kind, from, nodes] => self.add_chain(kind, number(from)?, number(nodes)?),
+            [at, "gap", units] => self.add_block(number(at)?, number(units)?, 0, 0),
+            [at, "unique", t, units] => self.add_unique(number(at)?, type_id(t)?, number(units)?),
+            [at, kind, t, units] if tag_of(kind, t).is_some() => {
+                self.add_block(number(at)?, number(units)?, LIVE, tag_of(kind, t)?)
+            }
+            _ => self.change_all(words),
         }
-        let fault = self.fault(alloc);
-        old.reverse();
-        self.write(old.as_slice());
-        Ok(fault)
+    }
+
+    fn add_type(&mut self, kind: &str, parts: &[&str]) -> Option<()> {
+        let at = TYPES.saturating_add(self.types.saturating_mul(16));
+        self.types = self.types.saturating_add(1);
+        self.w.put8(at, kind_of(kind)?);
+        self.w
+            .put8(at.saturating_add(1), u8::try_from(parts.len()).ok()?);
+        for (place, part) in (at.saturating_add(2)..).zip(parts) {
+            self.w.put8(place, u8::try_from(type_id(part)?).ok()?);
+        }
+        Some(())
+    }
+
+    fn add_block(&mut self, payload: u32, units: u32, live: u32, tag: u32) -> Option<()> {
+        let block = self.w.len();
+        let end = block.saturating_add(units.saturating_mul(16));
+        if payload != block.saturating_add(16) || self.w.resize(end).is_err() {
+            return None;
+        }
+        let words = [units.wrapping_add(live), self.before, tag, 1];
+        for (at, word) in (block as usize..).step_by(4).zip(words) {
+            self.w.put32(at, word);
+        }
+        self.w.put32(SIZE, end / 16);
+        self.before = units;
+        Some(())
+    }
+
+    fn add_unique(&mut self, payload: u32, t: u32, units: u32) -> Option<()> {
+        let tag = OBJECT.wrapping_add(t.wrapping_mul(256));
+        self.point((UNIQUES as u32).wrapping_add(t.wrapping_mul(4)), payload);
+        self.add_block(payload, units, LIVE, tag)
+    }
+
+    fn add_chain(&mut self, kind: &str, from: u32, nodes: u32) -> Option<()> {
+        let mut pointer = from;
+        for _ in 0..nodes {
+            let node = self.w.len().saturating_add(16);
+            self.add_block(node, 3, LIVE, tag_of(kind, "t0")?)?;
+            self.w.put32(node as usize, 1);
+            self.w.put32(node as usize + 4, 1);
+            self.point(pointer, node);
+            pointer = node;
+        }
+        Some(())
+    }
+
+    /// Lets a pointer name a position.
+    fn point(&mut self, at: u32, named: u32) {
+        self.w.put32(at as usize, named.wrapping_sub(at));
+    }
+
+    fn change_all(&mut self, changes: &[&str]) -> Option<()> {
+        for change in changes {
+            self.change(change)?;
+        }
+        Some(())
+    }
+
+    fn change(&mut self, change: &str) -> Option<()> {
+        if let Some((at, named)) = change.split_once("->") {
+            let at = number(at)?;
+            match named {
+                "null" => self.w.put32(at as usize, 1),
+                _ => self.point(at, number(named)?),
+            }
+        } else if let Some((at, long)) = change.split_once(':') {
+            let long: i64 = long.parse().ok()?;
+            self.w.put64(number(at)? as usize, long.cast_unsigned());
+        } else {
+            let (at, word) = change.split_once('=')?;
+            self.w.put32(number(at)? as usize, word_of(word)?);
+        }
+        Some(())
+    }
+}
+
+fn kind_of(word: &str) -> Option<u8> {
+    Some(match word {
+        "i64" => 1,
+        "str" => 2,
+        "vec" => 3,
+        "list" => 4,
+        "flat_map" => 5,
+        "map" => 6,
+        "own" => 7,
+        "struct" => 8,
+        _ => return None,
+    })
+}
+
+/// The tag of a live block.
+fn tag_of(kind: &str, t: &str) -> Option<u32> {
+    let kind = match kind {
+        "named" => NAMED,
+        "object" => OBJECT,
+        "buffer" => BUFFER,
+        "node" => NODE,
+        "index" => INDEX_BUFFER,
+        "index_node" => INDEX_NODE,
+        _ => return None,
+    };
+    Some(kind.wrapping_add(type_id(t)?.wrapping_mul(256)))
+}
+
+fn type_id(word: &str) -> Option<u32> {
+    number(word.strip_prefix('t')?)
+}
+
+fn number(word: &str) -> Option<u32> {
+    match word.strip_prefix("0x") {
+        Some(digits) => u32::from_str_radix(digits, 16).ok(),
+        None => word.parse().ok(),
+    }
+}
+
+/// A word of an image: a number, its halves, or its bytes.
+fn word_of(word: &str) -> Option<u32> {
+    if let Some((low, high)) = word.split_once(',') {
+        return Some(number(low)?.wrapping_add(number(high)?.wrapping_mul(1 << 16)));
+    }
+    match word.as_bytes() {
+        [b'\'', letter, b'\''] => Some(u32::from(*letter)),
+        [b'\'', first, second, b'\''] => Some(u32::from_le_bytes([*first, *second, 0, 0])),
+        _ => number(word),
+    }
+}
+
+/// Whether a fault is the one that these words tell.
+fn is_told(fault: Option<Fault>, words: &str) -> bool {
+    let mut words = words.split_whitespace();
+    let (kind, at) = in_words(fault);
+    words.next() == Some(kind) && words.next().and_then(|at| number(at)) == at
+}
+
+/// What is wrong, and where.
+fn in_words(fault: Option<Fault>) -> (&'static str, Option<u32>) {
+    match fault {
+        None => ("sound", None),
+        Some(Fault::BadHeader) => ("header", None),
+        Some(Fault::BadType(t)) => ("type", Some(t)),
+        Some(Fault::BadBlock(at)) => ("block", Some(at)),
+        Some(Fault::BadFree(at)) => ("free", Some(at)),
+        Some(Fault::BadIndex(at)) => ("index", Some(at)),
+        Some(Fault::BadPointer(at)) => ("pointer", Some(at)),
+        Some(Fault::DoubleOwner(at)) => ("twice", Some(at)),
+        Some(Fault::Unowned(at)) => ("unowned", Some(at)),
+        Some(Fault::BadValue(at)) => ("value", Some(at)),
+        Some(_) => ("other", None),
     }
 }

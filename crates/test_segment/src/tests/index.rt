@@ -1,9 +1,8 @@
 //! Blocks and bytes that follow from the rules of growth and from the format of an index, worked out by hand.
 
-use crate::tests::image::{INDEX_BUFFER, INDEX_NODE, NAMED};
+use crate::tests::heaps::is_as;
 use crate::tests::rooted::{Rooted, with_root};
 use crate::tests::support::{I64, INDEXES};
-use crate::tests::tiles::{live_are, tags_are, tiles};
 use seg_block::{Fit, Kind, Tag, UNIT, block_of, need};
 use seg_index::{
     IndexKind, NameEntry, find, first_name, look_up, name_count, next_name, set_unique, unique,
@@ -11,7 +10,6 @@ use seg_index::{
 use seg_ptr::header;
 use seg_raw::Code;
 use seg_seqfit::SeqFit;
-use std::process::Abort;
 use std::test::Fail;
 
 /// A heap of numbers without names, which is one gap.
@@ -70,22 +68,19 @@ fn add_named<F: Fit>(s: &mut Rooted<F>, name: &[u8]) -> Result<(), Code> {
 fn the_first_name_takes_a_buffer_of_4(rt: HostRuntime) -> Result<(), Fail> {
     let mut s = nameless(&rt, 1024, IndexKind::Flat)?;
     add_named(&mut s, b"x")?;
-    live_are(&rt, s.heap.window(), &[(704, 2), (736, 3)])?;
-    tags_are(&rt, s.heap.window(), &[NAMED, INDEX_BUFFER])?;
-    assert_eq!(rt;
-        s.heap.window().slice(32, 8),
-        [0xd0, 2, 0, 0, 1, 0, 0, 0].as_slice()
-    );
-    assert_eq!(rt;
-        s.heap.window().slice(752, 8),
-        [0xe0, 0xff, 0xff, 0xff, 1, 0, 1, 0].as_slice()
-    );
+    is_as(rt.alloc(), &s, "live 704:2 736:3; tags 1 5")?;
+    is_as(rt.alloc(), &s, "bytes 32 d0 02 00 00 01 00 00 00")?;
+    is_as(rt.alloc(), &s, "bytes 752 e0 ff ff ff 01 00 01 00")?;
     assert!(rt; remove(&mut s, b"x").is_some());
-    live_are(&rt, s.heap.window(), &[(704, 2)])?;
-    tags_are(&rt, s.heap.window(), &[NAMED])?;
-    assert_eq!(rt; s.heap.window().target(header::INDEX), None);
-    assert_eq!(rt; name_count(s.heap.window()), 0);
+    is_as(rt.alloc(), &s, "live 704:2; tags 1")?;
+    assert!(rt; has_no_index(&s));
     Ok(())
+}
+
+/// The pointer to the entries is null, and there is no name.
+fn has_no_index<F: Fit>(s: &Rooted<F>) -> bool {
+    let w = s.heap.window();
+    w.target(header::INDEX).is_none() && name_count(w) == 0
 }
 
 /// Where no gap holds 4 entries, the buffer has room for 1.
@@ -93,8 +88,7 @@ fn the_first_name_takes_a_buffer_of_4(rt: HostRuntime) -> Result<(), Fail> {
 fn a_buffer_takes_its_limit(rt: HostRuntime) -> Result<(), Fail> {
     let mut s = nameless(&rt, 768, IndexKind::Flat)?;
     add_named(&mut s, b"x")?;
-    live_are(&rt, s.heap.window(), &[(704, 2), (736, 2)])?;
-    tags_are(&rt, s.heap.window(), &[NAMED, INDEX_BUFFER])
+    is_as(rt.alloc(), &s, "live 704:2 736:2; tags 1 5")
 }
 
 /// An object takes the last 3 units, and the index finds none.
@@ -103,30 +97,13 @@ fn an_index_finds_no_room(rt: HostRuntime) -> Result<(), Fail> {
     for kind in INDEXES {
         let mut s = nameless(&rt, 752, kind)?;
         assert_eq!(rt; add_named(&mut s, b"x"), Err(Code::BadAlloc));
-        live_are(&rt, s.heap.window(), &[(704, 3)])?;
-        tags_are(&rt, s.heap.window(), &[NAMED])?;
-        assert_eq!(rt; s.heap.window().target(header::INDEX), None);
-        assert_eq!(rt; name_count(s.heap.window()), 0);
+        is_as(rt.alloc(), &s, "live 704:3; tags 1")?;
+        assert!(rt; has_no_index(&s));
     }
     Ok(())
 }
 
 const FIVE: [&[u8]; 5] = [b"e", b"b", b"c", b"a", b"d"];
-
-/// The buffer stands after five objects, and has so many units.
-fn buffer_has<F: Fit>(
-    rt: &(impl Abort + AllocGlobal),
-    s: &Rooted<F>,
-    units: u32,
-) -> Result<(), Fail> {
-    let tiles = tiles(rt.alloc(), s.heap.window())?;
-    let Some(buffer) = tiles.get(5) else {
-        return Err(Fail::from("no buffer"));
-    };
-    assert_eq!(rt; buffer.at, 864);
-    assert_eq!(rt; buffer.units, units);
-    Ok(())
-}
 
 /// The fifth entry doubles the buffer where it stands, if there is room after it.
 #[test]
@@ -135,12 +112,12 @@ fn the_fifth_name_doubles_the_buffer(rt: HostRuntime) -> Result<(), Fail> {
     for name in FIVE {
         let _ = new_object(&mut s, name);
     }
-    let wanted = [(720, 3), (752, 3), (784, 3), (816, 3), (848, 5)];
-    for (name, (object, units)) in FIVE.into_iter().zip(wanted) {
+    for (name, object) in [(b"e", 720), (b"b", 752), (b"c", 784), (b"a", 816)] {
         add(&mut s, name, object)?;
-        buffer_has(&rt, &s, units)?;
+        is_as(rt.alloc(), &s, "live 704:2 736:2 768:2 800:2 832:2 864:3")?;
     }
-    Ok(())
+    add(&mut s, b"d", 848)?;
+    is_as(rt.alloc(), &s, "live 704:2 736:2 768:2 800:2 832:2 864:5")
 }
 
 /// Where there is no room after the buffer, the doubled one stands elsewhere.
@@ -150,15 +127,10 @@ fn the_doubled_buffer_stands_elsewhere(rt: HostRuntime) -> Result<(), Fail> {
     for name in FIVE {
         add_named(&mut s, name)?;
     }
-    live_are(
-        &rt,
-        s.heap.window(),
-        &[(704, 2), (784, 2), (816, 2), (848, 2), (880, 2), (912, 5)],
-    )?;
-    tags_are(
-        &rt,
-        s.heap.window(),
-        &[NAMED, NAMED, NAMED, NAMED, NAMED, INDEX_BUFFER],
+    is_as(
+        rt.alloc(),
+        &s,
+        "live 704:2 784:2 816:2 848:2 880:2 912:5; tags 1 1 1 1 1 5",
     )
 }
 
@@ -168,28 +140,16 @@ fn a_tree_node_takes_3_units(rt: HostRuntime) -> Result<(), Fail> {
     let mut s = nameless(&rt, 1024, IndexKind::Tree)?;
     add_named(&mut s, b"y")?;
     add_named(&mut s, b"x")?;
-    live_are(
-        &rt,
-        s.heap.window(),
-        &[(704, 2), (736, 3), (784, 2), (816, 3)],
-    )?;
-    tags_are(
-        &rt,
-        s.heap.window(),
-        &[NAMED, INDEX_NODE, NAMED, INDEX_NODE],
-    )?;
+    is_as(rt.alloc(), &s, "live 704:2 736:3 784:2 816:3; tags 1 6 1 6")?;
     // the root's left child, no right one, black; the object, one number, one byte of a name
-    assert_eq!(rt; s.heap.window().target(header::INDEX), Some(752));
-    assert_eq!(rt;
-        s.heap.window().slice(752, 24),
-        [
-            80, 0, 0, 0, 1, 0, 0, 0, 0, 0, 0, 0, 0, 0, 0, 0, 0xd0, 0xff, 0xff, 0xff, 1, 0, 1, 0
-        ]
-        .as_slice()
-    );
+    assert!(rt; s.heap.window().target(header::INDEX) == Some(752));
+    is_as(
+        rt.alloc(),
+        &s,
+        "bytes 752 50 00 00 00 01 00 00 00 00 00 00 00 00 00 00 00; bytes 768 d0 ff ff ff 01 00 01 00",
+    )?;
     assert!(rt; remove(&mut s, b"y").is_some());
-    live_are(&rt, s.heap.window(), &[(704, 2), (784, 2), (816, 3)])?;
-    tags_are(&rt, s.heap.window(), &[NAMED, NAMED, INDEX_NODE])
+    is_as(rt.alloc(), &s, "live 704:2 784:2 816:3; tags 1 1 6")
 }
 
 /// The word of a type's unique object, and no other.
@@ -200,16 +160,10 @@ fn a_type_has_one_unique_object(rt: HostRuntime) -> Result<(), Fail> {
         set_unique(s.heap.window_mut(), t, None);
     }
     set_unique(s.heap.window_mut(), 31, Some(720));
-    assert_eq!(rt;
-        s.heap.window().slice(696, 8),
-        [1, 0, 0, 0, 20, 0, 0, 0].as_slice()
-    );
-    assert_eq!(rt;
-        (unique(s.heap.window(), 30), unique(s.heap.window(), 31)),
-        (None, Some(720))
-    );
-    assert_eq!(rt; block_of(720), 704);
-    Ok(())
+    let w = s.heap.window();
+    assert!(rt; unique(w, 30).is_none() && unique(w, 31) == Some(720));
+    assert!(rt; block_of(720) == 704);
+    is_as(rt.alloc(), &s, "bytes 696 01 00 00 00 14 00 00 00")
 }
 
 /// Names in order, and what a name leads to, in either index.
@@ -220,23 +174,23 @@ fn names_are_found_and_follow_one_another(rt: HostRuntime) -> Result<(), Fail> {
         for name in FIVE {
             add_named(&mut s, name)?;
         }
-        goes_over_five(&rt, &s);
+        assert!(rt; goes_over_five(&s));
     }
     Ok(())
 }
 
-fn goes_over_five<F: Fit>(rt: &impl Abort, s: &Rooted<F>) {
+/// Whether five names follow one another, are found, and are all.
+fn goes_over_five<F: Fit>(s: &Rooted<F>) -> bool {
     let mut entry = first_name(&s.heap);
     for name in [b"a", b"b", b"c", b"d", b"e"] {
-        is_entry_of(rt, s, entry, name);
-        is_entry_of(rt, s, find(&s.heap, name), name);
+        if !is_entry_of(s, entry, name) || !is_entry_of(s, find(&s.heap, name), name) {
+            return false;
+        }
         entry = next_name(&s.heap, name);
     }
-    assert!(rt; entry.is_none());
-    assert!(rt; find(&s.heap, b"bb").is_none());
+    entry.is_none() && find(&s.heap, b"bb").is_none()
 }
 
-fn is_entry_of<F: Fit>(rt: &impl Abort, s: &Rooted<F>, entry: Option<NameEntry>, name: &[u8]) {
-    let found = entry.is_some_and(|entry| entry.name(s.heap.window(), s.heap.types()) == name);
-    assert!(rt; found);
+fn is_entry_of<F: Fit>(s: &Rooted<F>, entry: Option<NameEntry>, name: &[u8]) -> bool {
+    entry.is_some_and(|entry| entry.name(s.heap.window(), s.heap.types()) == name)
 }

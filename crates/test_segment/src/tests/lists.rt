@@ -1,103 +1,93 @@
 //! The checker on lists.
 
-use crate::tests::image::{Change, Image, NODE, null, to};
-use crate::tests::support::{I64, list_of, pair};
-use seg_raw::Fault;
-use std::alloc::Global;
+use crate::tests::image::{Image, checks};
 use std::test::Fail;
 
-/// A unique list of three numbers: its cell is at 720, its nodes at 752, 784 and 816.
-fn list(alloc: Global) -> Result<Image, Fail> {
-    let mut image = Image::new(alloc, &[list_of(1), I64])?;
-    let cell = image.add_unique(0, 2);
-    image.cell(cell, Some(752), 3);
-    for _ in 0..3 {
-        image.add(NODE, 0, 2);
-    }
-    for (node, next) in [(752u32, 784u32), (784, 816), (816, 752)] {
-        image.write(&[to(node, next), to(next.wrapping_add(4), node)]);
-    }
-    Ok(image)
-}
+/// A unique list of three numbers: its cell is at 720.
+const LIST: &str = "
+    type list t1
+    type i64
+    720 unique t0 2
+    752 node t0 2
+    784 node t0 2
+    816 node t0 2
+    720->752 724=3
+    752->784 756->816
+    784->816 788->752
+    816->752 820->784";
 
 #[test]
 fn claims_the_nodes_of_a_list(rt: HostRuntime) -> Result<(), Fail> {
-    let mut image = list(rt.alloc())?;
-    image.accepts(&rt, &[])?;
-    // the number 7, and another one
-    image.accepts(&rt, &[(760, 7), (764, 1 << 31)])?;
-    image.finds_each(
-        &rt,
-        &[
-            (&[null(720)], Fault::BadPointer(720)),
-            (&[null(752)], Fault::BadPointer(752)),
-            (&[to(752, 720)], Fault::BadPointer(752)),
-            (&[to(784, 817)], Fault::BadPointer(784)),
-            (&[to(784, 752)], Fault::DoubleOwner(736)),
-            (&[to(752, 752)], Fault::DoubleOwner(736)),
-            // a fourth node is the first again
-            (&[(724, 4)], Fault::DoubleOwner(736)),
-            (&[(724, u32::MAX)], Fault::DoubleOwner(736)),
-            (&[null(720), (724, 0)], Fault::Unowned(736)),
-        ],
+    Image::of(rt.alloc(), LIST)?.follow(
+        rt.alloc(),
+        "=> sound
+        760=7 764=0x80000000 => sound ; another number
+        720->null => pointer 720
+        752->null | 752->720 => pointer 752
+        784->817 => pointer 784
+        784->752 | 752->752 => twice 736
+        724=4 | 724=0xffffffff => twice 736 ; a fourth node is the first again
+        720->null 724=0 => unowned 736",
     )
 }
 
 #[test]
 fn finds_what_is_no_ring(rt: HostRuntime) -> Result<(), Fail> {
-    let mut image = list(rt.alloc())?;
-    let wrong: [Change; 9] = [
-        // fewer nodes, and none beside a pointer
-        (724, 2),
-        (724, 1),
-        (724, 0),
-        // the last one's next
-        null(816),
-        to(816, 784),
-        // previous ones
-        null(756),
-        to(756, 784),
-        to(788, 816),
-        to(820, 816),
-    ];
-    for change in wrong {
-        image.finds(&rt, &[change], Fault::BadValue(720))?;
-    }
-    // the claims come first
-    image.finds_each(
-        &rt,
-        &[
-            (&[null(756), null(784)], Fault::BadPointer(784)),
-            // a ring that goes on after the nodes that are counted
-            (&[(724, 2), to(784, 752)], Fault::BadValue(720)),
-            (&[(724, 2), to(784, 752), to(756, 784)], Fault::Unowned(800)),
-        ],
+    Image::of(rt.alloc(), LIST)?.follow(
+        rt.alloc(),
+        "724=2 | 724=1 | 724=0 => value 720 ; fewer nodes, and none beside a pointer
+        816->null | 816->784 => value 720 ; the last one's next
+        756->null | 756->784 | 788->816 | 820->816 => value 720 ; previous ones
+        756->null 784->null => pointer 784 ; the claims come first
+        ; a ring that goes on after the nodes that are counted
+        724=2 784->752 => value 720
+        724=2 784->752 756->784 => unowned 800",
     )
 }
 
 /// In a list of one node next holds 0 and the pointer to the one before -4.
 #[test]
 fn accepts_a_list_of_one_node(rt: HostRuntime) -> Result<(), Fail> {
-    let mut image = Image::new(rt.alloc(), &[list_of(1), I64])?;
-    let cell = image.add_unique(0, 2);
-    let node = image.add(NODE, 0, 2);
-    image.cell(cell, Some(node), 1);
-    image.write(&[(node, 0), (node.wrapping_add(4), 0xffff_fffc)]);
-    image.accepts(&rt, &[])?;
-    image.finds(&rt, &[(node, 1)], Fault::BadValue(720))?;
-    image.finds(&rt, &[(node.wrapping_add(4), 1)], Fault::BadValue(720))
+    checks(
+        rt.alloc(),
+        "type list t1
+        type i64
+        720 unique t0 2
+        752 node t0 2
+        720->752 724=1
+        752=0 756=0xfffffffc
+        => sound
+        752=1 | 756=1 => value 720",
+    )
 }
 
-/// A node of two units has 16 bytes: two pointers, and 8 more. With a value of 16 bytes it has three.
+/// A node of two units has 16 bytes: two pointers, and 8 more. A value of 16 bytes doesn't fit.
 #[test]
 fn finds_nodes_that_are_too_small(rt: HostRuntime) -> Result<(), Fail> {
-    for (units, fault) in [(2, Some(Fault::BadPointer(720))), (3, None)] {
-        let mut image = Image::new(rt.alloc(), &[I64, pair(0, 0), list_of(1)])?;
-        let cell = image.add_unique(2, 2);
-        let node = image.add(NODE, 2, units);
-        image.cell(cell, Some(node), 1);
-        image.write(&[(node, 0), (node.wrapping_add(4), 0xffff_fffc)]);
-        assert_eq!(rt; image.fault(rt.alloc()), fault);
-    }
-    Ok(())
+    checks(
+        rt.alloc(),
+        "type i64
+        type struct t0 t0
+        type list t1
+        720 unique t2 2
+        752 node t2 2
+        720->752 724=1
+        752=0 756=0xfffffffc
+        => pointer 720",
+    )
+}
+
+#[test]
+fn accepts_nodes_that_are_large_enough(rt: HostRuntime) -> Result<(), Fail> {
+    checks(
+        rt.alloc(),
+        "type i64
+        type struct t0 t0
+        type list t1
+        720 unique t2 2
+        752 node t2 3
+        720->752 724=1
+        752=0 756=0xfffffffc
+        => sound",
+    )
 }

@@ -56,28 +56,48 @@ pub(crate) fn live_are(
     Ok(())
 }
 
-/// These are the tags of the live blocks.
-pub(crate) fn tags_are(
-    rt: &(impl Abort + AllocGlobal),
-    w: &Window<Global>,
-    wanted: &[u32],
-) -> Result<(), Fail> {
-    let live = live(rt.alloc(), w)?;
-    let found: Vec<u32> = live.iter().map(|tile| tile.tag).collect(rt.alloc())?;
-    assert_eq!(rt; found.as_slice(), wanted);
-    Ok(())
+/// Whether these are the live blocks, as `704:2`: where each is, and its units. Without any the heap is one gap.
+pub(crate) fn are_live(alloc: Global, w: &Window<Global>, wanted: &[&str]) -> Result<bool, Fail> {
+    let live = live(alloc, w)?;
+    if wanted.is_empty() {
+        return is_gap(alloc, w);
+    }
+    for (tile, wanted) in live.iter().zip(wanted) {
+        let (at, units) = wanted.split_once(':').ok_or("no block")?;
+        if at.parse() != Ok(tile.at) || units.parse() != Ok(tile.units) {
+            return Ok(false);
+        }
+    }
+    Ok(live.len() == wanted.len())
 }
 
-/// The heap is one gap, with which the free structure starts. Its link is null.
-pub(crate) fn is_one_gap(rt: &(impl Abort + AllocGlobal), w: &Window<Global>) -> Result<(), Fail> {
+/// Whether these are the tags of the live blocks.
+pub(crate) fn have_tags(alloc: Global, w: &Window<Global>, wanted: &[&str]) -> Result<bool, Fail> {
+    let live = live(alloc, w)?;
+    for (tile, wanted) in live.iter().zip(wanted) {
+        if wanted.parse() != Ok(tile.tag) {
+            return Ok(false);
+        }
+    }
+    Ok(live.len() == wanted.len())
+}
+
+/// Whether the heap is one gap, with which the free structure starts. Its link is null.
+fn is_gap(alloc: Global, w: &Window<Global>) -> Result<bool, Fail> {
     let whole = Tile {
         at: HEAP_START,
         units: w.len().saturating_sub(HEAP_START) / UNIT,
         live: false,
         tag: 0,
     };
-    assert_eq!(rt; tiles(rt.alloc(), w)?.as_slice(), [whole].as_slice());
-    assert_eq!(rt; w.target(FREE), Some(HEAP_START + UNIT));
-    assert_eq!(rt; w.target(HEAP_START as usize + 12), None);
+    let tiles = tiles(alloc, w)?;
+    let starts = w.target(FREE) == Some(HEAP_START + UNIT);
+    let ends = w.target(HEAP_START as usize + 12).is_none();
+    Ok(tiles.as_slice() == [whole].as_slice() && starts && ends)
+}
+
+/// The heap is one gap, with which the free structure starts. Its link is null.
+pub(crate) fn is_one_gap(rt: &(impl Abort + AllocGlobal), w: &Window<Global>) -> Result<(), Fail> {
+    assert!(rt; is_gap(rt.alloc(), w)?);
     Ok(())
 }

@@ -1,191 +1,150 @@
 //! The checker on strings, vectors, owns and structs, and on unique objects.
 
-use crate::tests::image::{BUFFER, Image, NAMED, OBJECT, null, to};
-use crate::tests::support::{I64, STR, Spelled, own_of, vec_of};
-use seg_raw::Fault;
+use crate::tests::image::checks;
 use std::test::Fail;
 
 #[test]
 fn finds_faults_of_a_string(rt: HostRuntime) -> Result<(), Fail> {
-    let mut image = Image::new(rt.alloc(), &[STR])?;
-    let cell = image.add_unique(0, 2);
-    let text = image.add(BUFFER, 0, 3);
-    image.cell(cell, Some(text), 20);
-    assert_eq!(rt; (cell, text), (720, 752));
-    for n in [20, 32, 0] {
-        image.accepts(&rt, &[(724, n)])?;
-    }
-    image.accepts(&rt, &[(752, u32::MAX), (780, 7)])?;
-    for change in [
-        (724, 33),
-        (724, u32::MAX),
-        null(720),
-        to(720, 720),
-        to(720, 753),
-        to(720, 704),
-        (720, 0x7fff_ffff),
-        (744, 2),
-    ] {
-        image.finds(&rt, &[change], Fault::BadPointer(720))?;
-    }
-    image.finds(&rt, &[null(720), (724, 0)], Fault::Unowned(736))
+    checks(
+        rt.alloc(),
+        "type str
+        720 unique t0 2
+        752 buffer t0 3
+        720->752 724=20
+        => sound
+        724=32 | 724=0 | 752=0xffffffff 780=7 => sound
+        724=33 | 724=0xffffffff | 720->null | 720->720 | 720->753 | 720->704 => pointer 720
+        720=0x7fffffff | 744=2 => pointer 720
+        720->null 724=0 => unowned 736",
+    )
 }
 
 /// A vector of two strings, the second of them empty, in a buffer with room for six.
 #[test]
 fn finds_faults_of_a_vector(rt: HostRuntime) -> Result<(), Fail> {
-    let mut image = Image::new(rt.alloc(), &[vec_of(1), STR])?;
-    let cell = image.add_unique(0, 2);
-    let items = image.add(BUFFER, 0, 4);
-    let text = image.add(BUFFER, 1, 2);
-    image.cell(cell, Some(items), 2);
-    image.cell(items, Some(text), 3);
-    image.cell(items.wrapping_add(8), None, 0);
-    assert_eq!(rt; (cell, items, text), (720, 752, 816));
-    image.accepts(&rt, &[])?;
-    image.accepts(&rt, &[(724, 1)])?;
-    image.finds_each(
-        &rt,
-        &[
-            (&[(724, 0)], Fault::Unowned(800)),
-            (&[(724, 7)], Fault::BadPointer(720)),
-            (&[(720, 1)], Fault::BadPointer(720)),
-            // the third item's pointer names itself
-            (&[(724, 3)], Fault::BadPointer(768)),
-            (&[null(752)], Fault::BadPointer(752)),
-            (&[(756, 17)], Fault::BadPointer(752)),
-            (&[(764, 1)], Fault::BadPointer(760)),
-            (&[to(760, 816)], Fault::DoubleOwner(800)),
-            // the buffer of the vector isn't one of a string
-            (&[to(760, 752)], Fault::BadPointer(760)),
-            // a wrong tag comes before a second owner
-            (&[to(760, 720)], Fault::BadPointer(760)),
-        ],
+    checks(
+        rt.alloc(),
+        "type vec t1
+        type str
+        720 unique t0 2
+        752 buffer t0 4
+        816 buffer t1 2
+        720->752 724=2
+        752->816 756=3
+        760->null 764=0
+        => sound
+        724=1 => sound
+        724=0 => unowned 800
+        724=7 | 720->null => pointer 720
+        724=3 => pointer 768 ; the third item's pointer names itself
+        752->null | 756=17 => pointer 752
+        764=1 => pointer 760
+        760->816 => twice 800
+        760->752 => pointer 760 ; the buffer of the vector isn't one of a string
+        760->720 => pointer 760 ; a wrong tag comes before a second owner",
     )
 }
 
 #[test]
 fn finds_faults_of_an_own(rt: HostRuntime) -> Result<(), Fail> {
-    let mut image = Image::new(rt.alloc(), &[own_of(1), I64])?;
-    let cell = image.add_unique(0, 2);
-    let object = image.add(OBJECT, 1, 2);
-    image.cell(cell, Some(object), 1);
-    image.accepts(&rt, &[])?;
-    image.finds_each(
-        &rt,
-        &[
-            (&[(724, 0)], Fault::BadValue(720)),
-            (&[(724, 2)], Fault::BadValue(720)),
-            (&[null(720), (724, 2)], Fault::BadValue(720)),
-            (&[null(720), (724, u32::MAX)], Fault::BadValue(720)),
-            (&[to(720, 5), (724, 2)], Fault::BadValue(720)),
-            (&[null(720)], Fault::BadPointer(720)),
-            (&[to(720, 720)], Fault::BadPointer(720)),
-            (&[null(720), (724, 0)], Fault::Unowned(736)),
-            // the object is a unique one too
-            (&[to(580, 752)], Fault::DoubleOwner(736)),
-        ],
+    checks(
+        rt.alloc(),
+        "type own t1
+        type i64
+        720 unique t0 2
+        752 object t1 2
+        720->752 724=1
+        => sound
+        724=0 | 724=2 | 720->null 724=2 | 720->null 724=0xffffffff | 720->5 724=2 => value 720
+        720->null | 720->720 => pointer 720
+        720->null 724=0 => unowned 736
+        580->752 => twice 736 ; the object is a unique one too",
     )
 }
 
 /// An own of a type that is an own of the same type: objects in objects.
 #[test]
 fn finds_an_own_in_itself(rt: HostRuntime) -> Result<(), Fail> {
-    let mut image = Image::new(rt.alloc(), &[own_of(0)])?;
-    let mut cell = image.add_unique(0, 2);
-    for _ in 0..3 {
-        let object = image.add(OBJECT, 0, 2);
-        image.cell(cell, Some(object), 1);
-        cell = object;
-    }
-    image.cell(cell, None, 0);
-    image.accepts(&rt, &[])?;
-    assert_eq!(rt; cell, 816);
-    image.finds_each(
-        &rt,
-        &[
-            (&[to(816, 816), (820, 1)], Fault::DoubleOwner(800)),
-            (&[to(816, 720), (820, 1)], Fault::DoubleOwner(704)),
-            (&[to(784, 784)], Fault::DoubleOwner(768)),
-        ],
+    checks(
+        rt.alloc(),
+        "type own t0
+        720 unique t0 2
+        752 object t0 2
+        784 object t0 2
+        816 object t0 2
+        720->752 724=1
+        752->784 756=1
+        784->816 788=1
+        816->null 820=0
+        => sound
+        816->816 820=1 => twice 800
+        816->720 820=1 => twice 704
+        784->784 => twice 768",
     )
 }
 
 /// A struct of a number, a string, and a struct with a string. Its cells are at 728 and 736.
-const OUTER: Spelled = [8, 3, 0, 1, 2, 0, 0, 0, 0, 0];
-
 #[test]
 fn finds_faults_in_a_struct(rt: HostRuntime) -> Result<(), Fail> {
-    let inner: Spelled = [8, 1, 1, 0, 0, 0, 0, 0, 0, 0];
-    let mut image = Image::new(rt.alloc(), &[I64, STR, inner, OUTER])?;
-    let object = image.add_unique(3, 3);
-    for at in [728, 736] {
-        let text = image.add(BUFFER, 1, 2);
-        image.cell(at, Some(text), 1);
-    }
-    assert_eq!(rt; object, 720);
-    image.accepts(&rt, &[])?;
-    image.accepts(&rt, &[(720, 1), (724, 9)])?;
-    image.finds_each(
-        &rt,
-        &[
-            (&[null(728), null(736)], Fault::BadPointer(728)),
-            (&[null(736)], Fault::BadPointer(736)),
-            (&[to(736, 768)], Fault::DoubleOwner(752)),
-        ],
+    checks(
+        rt.alloc(),
+        "type i64
+        type str
+        type struct t1
+        type struct t0 t1 t2
+        720 unique t3 3
+        768 buffer t1 2
+        800 buffer t1 2
+        728->768 732=1
+        736->800 740=1
+        => sound
+        720=1 724=9 => sound
+        728->null 736->null => pointer 728
+        736->null => pointer 736
+        736->768 => twice 752",
     )
 }
 
 /// The values of a named object: two strings, and after them its name.
 #[test]
 fn finds_faults_in_each_value_of_an_object(rt: HostRuntime) -> Result<(), Fail> {
-    let mut image = Image::new(rt.alloc(), &[STR])?;
-    let object = image.add(NAMED, 0, 3);
-    image.w.copy_in(736, b"n");
-    image.add_entry(2, object, 0x0001_0002);
-    for at in [720, 728] {
-        let text = image.add(BUFFER, 0, 2);
-        image.cell(at, Some(text), 5);
-    }
-    image.accepts(&rt, &[])?;
-    image.finds_each(
-        &rt,
-        &[
-            (&[null(720), null(728)], Fault::BadPointer(720)),
-            (&[(732, 17)], Fault::BadPointer(728)),
-            (&[to(728, 800)], Fault::DoubleOwner(784)),
-        ],
+    checks(
+        rt.alloc(),
+        "type str
+        720 named t0 3
+        768 index t0 2
+        800 buffer t0 2
+        832 buffer t0 2
+        736='n'
+        32->768 36=1
+        768->720 772=2,1
+        720->800 724=5
+        728->832 732=5
+        => sound
+        720->null 728->null => pointer 720
+        732=17 => pointer 728
+        728->800 => twice 784",
     )
 }
 
 #[test]
 fn finds_faults_of_unique_objects(rt: HostRuntime) -> Result<(), Fail> {
-    let large: Spelled = [8, 3, 0, 0, 0, 0, 0, 0, 0, 0];
-    let mut image = Image::new(rt.alloc(), &[I64, I64, large])?;
-    let first = image.add_unique(0, 2);
-    image.add_unique(1, 2);
-    image.add_unique(2, 3);
-    assert_eq!(rt; first, 720);
-    image.accepts(&rt, &[])?;
-    image.finds_each(
-        &rt,
-        &[
-            (&[null(576)], Fault::Unowned(704)),
-            (&[null(580), null(584)], Fault::Unowned(736)),
-            // the word of the second type names the first object, of the first type
-            (&[to(580, 720)], Fault::BadPointer(580)),
-            (&[to(576, 721)], Fault::BadPointer(576)),
-            (&[to(576, 16)], Fault::BadPointer(576)),
-            (&[(712, 1)], Fault::BadPointer(576)),
-            // the words of types that there are not
-            (&[to(588, 720)], Fault::BadPointer(588)),
-            (&[(700, 0)], Fault::BadPointer(700)),
-            // 16 bytes for a value of 24
-            (&[(744, 0x202), to(584, 752)], Fault::BadPointer(580)),
-            (
-                &[(744, 0x202), null(580), to(584, 752)],
-                Fault::BadPointer(584),
-            ),
-        ],
+    checks(
+        rt.alloc(),
+        "type i64
+        type i64
+        type struct t0 t0 t0
+        720 unique t0 2
+        752 unique t1 2
+        784 unique t2 3
+        => sound
+        576->null => unowned 704
+        580->null 584->null => unowned 736
+        580->720 => pointer 580 ; the word of the second type names the first object, of the first type
+        576->721 | 576->16 | 712=1 => pointer 576
+        588->720 => pointer 588 ; the words of types that there are not
+        700=0 => pointer 700
+        744=0x202 584->752 => pointer 580 ; 16 bytes for a value of 24
+        744=0x202 580->null 584->752 => pointer 584",
     )
 }

@@ -1,4 +1,4 @@
-use crate::tests::explain::sources::clients_alone;
+use crate::tests::explain::sources::{clients_alone, is};
 use client_code::parse;
 use seg_explain::explain;
 use std::alloc::Global;
@@ -19,76 +19,52 @@ fn explained(alloc: Global, len: usize, at: usize, byte: u8) -> Result<Vec<u8>, 
     }
 }
 
-static CASES: [(usize, usize, u8, &str); 10] = [
-    (
-        103,
-        0,
-        b's',
-        "byte 0 of the client file begins the first 4 bytes, in the header\nit should be `SEGC`\n",
-    ),
-    (
-        103,
-        8,
-        33,
-        "byte 8 of the client file begins the number of types, in the header\nit should be 0 to 32\n",
-    ),
-    (
-        103,
-        20,
-        9,
-        "byte 20 of the client file begins the entry of type 0
-the kind of a type should be 1 to 8, and an unused entry, which is all 0, be followed by such alone\n",
-    ),
-    (
-        103,
-        35,
-        1,
-        "byte 20 of the client file begins the entry of type 0\nthe bytes after the parts should be 0\n",
-    ),
-    (
-        103,
-        36,
-        4,
-        "byte 36 of the client file begins constant 0\n4 is no kind: 1 is a text, 2 an exact name, 3 a family\n",
-    ),
-    (
-        103,
-        39,
-        51,
-        "byte 39 of the client file begins instruction 0\n51 is no operation: they are 1 to 50\n",
-    ),
-    (
-        103,
-        48,
-        16,
-        "byte 47 of the client file begins instruction 1\noperand a should be a register, r0 to r15\n",
-    ),
-    (
-        103,
-        50,
-        1,
-        "byte 47 of the client file begins instruction 1\noperand c should be 0, since the operation doesn't have it\n",
-    ),
-    (
-        103,
-        95,
-        32,
-        "byte 103 of the client file begins what follows the last instruction
-ELSE and END should follow each opener, and END each loop: an END is missing\n",
-    ),
-    (
-        102,
-        0,
-        b'S',
-        "byte 95 of the client file begins instruction 7\nthe file should not end before this is whole\n",
-    ),
-];
+/// The bytes that are left of the file, a position, and the byte there, each with what is wrong then.
+const CASES: &str = "
+=== 103 0 115
+byte 0 of the client file begins the first 4 bytes, in the header
+it should be `SEGC`
+=== 103 8 33
+byte 8 of the client file begins the number of types, in the header
+it should be 0 to 32
+=== 103 20 9
+byte 20 of the client file begins the entry of type 0
+the kind of a type should be 1 to 8, and an unused entry, which is all 0, be followed by such alone
+=== 103 35 1
+byte 20 of the client file begins the entry of type 0
+the bytes after the parts should be 0
+=== 103 36 4
+byte 36 of the client file begins constant 0
+4 is no kind: 1 is a text, 2 an exact name, 3 a family
+=== 103 39 51
+byte 39 of the client file begins instruction 0
+51 is no operation: they are 1 to 50
+=== 103 48 16
+byte 47 of the client file begins instruction 1
+operand a should be a register, r0 to r15
+=== 103 50 1
+byte 47 of the client file begins instruction 1
+operand c should be 0, since the operation doesn't have it
+=== 103 95 32
+byte 103 of the client file begins what follows the last instruction
+ELSE and END should follow each opener, and END each loop: an END is missing
+=== 102 0 83
+byte 95 of the client file begins instruction 7
+the file should not end before this is whole
+";
+
+fn explains(alloc: Global, case: &str) -> Result<(), Fail> {
+    let (numbers, wanted) = case.split_once('\n').ok_or("no case")?;
+    let (len, change) = numbers.split_once(' ').ok_or("no position")?;
+    let (at, byte) = change.split_once(' ').ok_or("no byte")?;
+    let found = explained(alloc, len.parse()?, at.parse()?, byte.parse()?)?;
+    is(&found, wanted)
+}
 
 #[test]
 fn explains_wrong_fields(rt: HostRuntime) -> Result<(), Fail> {
-    for (len, at, byte, wanted) in &CASES {
-        let found = explained(rt.alloc(), *len, *at, *byte)?;
-        assert_eq!(rt; found.as_slice(), wanted.as_bytes());
+    for case in CASES.split("=== ").skip(1) {
+        explains(rt.alloc(), case)?;
     }
     Ok(())
 }

@@ -1,14 +1,14 @@
-use crate::tests::explain::sources::{clients_alone, image_alone};
+use crate::tests::explain::sources::{clients_alone, image_alone, is};
+use crate::tests::files::counter_where;
 use lezgauri::check;
 use seg_explain::explain;
 use seg_raw::Fault;
 use std::alloc::Global;
 use std::test::Fail;
-use support_data::counter_with;
 
 /// What is wrong with the counter's image where some words are others.
-fn explained(alloc: Global, changes: &[(usize, u32)]) -> Result<Vec<u8>, Fail> {
-    let image = counter_with(alloc, changes)?;
+fn explained(alloc: Global, changes: &str) -> Result<Vec<u8>, Fail> {
+    let image = counter_where(alloc, changes)?;
     match check(alloc, image.as_slice()) {
         Ok(_types) => Ok(Vec::new(alloc)),
         Err(fault) => {
@@ -18,68 +18,51 @@ fn explained(alloc: Global, changes: &[(usize, u32)]) -> Result<Vec<u8>, Fail> {
     }
 }
 
-static CASES: [(&[(usize, u32)], &str); 10] = [
-    (
-        &[(0, 0)],
-        "the first 8 bytes should be `SEGIMAGE`: the file is no image\n",
-    ),
-    (
-        &[(12, 50)],
-        "the length in units at byte 12 is 50, and should be 49\n",
-    ),
-    (
-        &[(16, 2)],
-        "the allocator at byte 16 is 2, and should be 0 (sequential fit) or 1 (best fit)\n",
-    ),
-    (
-        &[(64, 0x0101)],
-        "the entry of type 0 begins at byte 64
-i64 and str should have no part, a struct 1 to 8, and any other type one\n",
-    ),
-    // the units of the block before
-    (
-        &[(740, 3)],
-        "byte 736 lies in the block at 736, the index's buffer, in the block's header
+/// Words of the counter's image, each with what is wrong then.
+const CASES: &str = "
+=== 0=0
+the first 8 bytes should be `SEGIMAGE`: the file is no image
+=== 12=50
+the length in units at byte 12 is 50, and should be 49
+=== 16=2
+the allocator at byte 16 is 2, and should be 0 (sequential fit) or 1 (best fit)
+=== 64=0x0101
+the entry of type 0 begins at byte 64
+i64 and str should have no part, a struct 1 to 8, and any other type one
+=== 740=3 ; the units of the block before
+byte 736 lies in the block at 736, the index's buffer, in the block's header
 a header should have 2 units or more up to the heap's end, the units of the block before, a tag and a null link; \
-and no two free blocks are neighbours\n",
-    ),
-    (
-        &[(24, 696)],
-        "byte 24 lies in the pointer to the free blocks, in the header
+and no two free blocks are neighbours
+=== 24=696
+byte 24 lies in the pointer to the free blocks, in the header
 the pointer there names byte 720, in the object `x`, at byte 0 of its values
-the free blocks should be a list in ascending order (sequential fit), or a red-black tree by their sizes (best fit)\n",
-    ),
-    (
-        &[(756, 0x0001_0000)],
-        "byte 752 lies in the block at 736, the index's buffer, at byte 0 of its payload
-names should ascend, as many as byte 36 says, with 1 to 63 visible bytes and 1 to 65535 values each\n",
-    ),
-    (
-        &[(752, 1)],
-        "byte 752 lies in the block at 736, the index's buffer, at byte 0 of its payload
+the free blocks should be a list in ascending order (sequential fit), or a red-black tree by their sizes (best fit)
+=== 756=0x00010000
+byte 752 lies in the block at 736, the index's buffer, at byte 0 of its payload
+names should ascend, as many as byte 36 says, with 1 to 63 visible bytes and 1 to 65535 values each
+=== 752=1
+byte 752 lies in the block at 736, the index's buffer, at byte 0 of its payload
 the pointer there is null
-it should name the first payload byte of a live block of the right kind and type, with enough room\n",
-    ),
-    // the index without names, and no pointer to them
-    (
-        &[(32, 1), (36, 0)],
-        "byte 704 lies in the block at 704, a named object of type 0, in the block's header
-the index, a unique object's pointer or a value should name the block, and none does\n",
-    ),
-    // an own of itself that says it has 2 objects
-    (
-        &[(64, 0x0107), (720, 1), (724, 2)],
-        "byte 720 lies in the object `x`, at byte 0 of its values
-a list should be a ring, a map a red-black tree with ascending keys, each with as many nodes as it says, \
-and a pointer null exactly where there are none\n",
-    ),
-];
+it should name the first payload byte of a live block of the right kind and type, with enough room
+=== 32=1 36=0 ; the index without names, and no pointer to them
+byte 704 lies in the block at 704, a named object of type 0, in the block's header
+the index, a unique object's pointer or a value should name the block, and none does
+=== 64=0x0107 720=1 724=2 ; an own of itself that says it has 2 objects
+byte 720 lies in the object `x`, at byte 0 of its values
+a list should be a ring, a map a red-black tree with ascending keys, each with as many nodes as it says, and a \
+pointer null exactly where there are none
+";
+
+fn explains(alloc: Global, case: &str) -> Result<(), Fail> {
+    let (changes, wanted) = case.split_once('\n').ok_or("no case")?;
+    let changes = changes.split_once(';').map_or(changes, |parts| parts.0);
+    is(&explained(alloc, changes)?, wanted)
+}
 
 #[test]
 fn explains_faulty_images(rt: HostRuntime) -> Result<(), Fail> {
-    for (changes, wanted) in &CASES {
-        let found = explained(rt.alloc(), changes)?;
-        assert_eq!(rt; found.as_slice(), wanted.as_bytes());
+    for case in CASES.split("=== ").skip(1) {
+        explains(rt.alloc(), case)?;
     }
     Ok(())
 }

@@ -1,4 +1,4 @@
-use crate::tests::explain::sources::{clients_alone, run_of};
+use crate::tests::explain::sources::{clients_alone, is, parts, run_of};
 use client_code::{assemble, parse};
 use client_verify::verify;
 use seg_explain::explain;
@@ -20,114 +20,178 @@ fn explained(alloc: Global, text: &str) -> Result<Vec<u8>, Fail> {
     }
 }
 
-static CASES: [(&str, &str); 12] = [
-    (
-        "CONST r1 1\nADD r0 r1 r2\n",
-        "instruction 1, line 2 of the printed text: `ADD r0 r1 r2`
+/// Clients, each with why it is refused.
+const CASES: &str = "
+===
+CONST r1 1
+ADD r0 r1 r2
+---
+instruction 1, line 2 of the printed text: `ADD r0 r1 r2`
 r1 holds a number
 r2 holds nothing that may be used
 r2 should hold a number
 each register has to hold what the operation needs, on every way to the instruction
-",
-    ),
-    (
-        "type i64\ntype own t0\nname a
-FINDOR r0 - t1 k0\nNEW r1 t0\nREF r2 r1\nPUT r0 r1\nLOAD r3 r2\nELSE\nEND\nELSE\nEND\n",
-        "instruction 4, line 8 of the printed text: `LOAD r3 r2`
+===
+type i64
+type own t0
+name a
+FINDOR r0 - t1 k0
+NEW r1 t0
+REF r2 r1
+PUT r0 r1
+LOAD r3 r2
+ELSE
+END
+ELSE
+END
+---
+instruction 4, line 8 of the printed text: `LOAD r3 r2`
 r2 holds nothing that may be used
 r2 led to a value of type 0 (i64), of the object that r1 owns, until `PUT r0 r1` in line 7
 r2 should lead to an i64
 each register has to hold what the operation needs, on every way to the instruction
-",
-    ),
-    (
-        "type i64\ntype vec t0\nfamily v\nCONST r9 7
-FINDOR r0 r9 t1 k0\nPUSH r1 r0\nPUSH r2 r0\nSTORE r1 r9\nELSE\nEND\nELSE\nEND\nELSE\nEND\n",
-        "instruction 4, line 8 of the printed text: `STORE r1 r9`
+===
+type i64
+type vec t0
+family v
+CONST r9 7
+FINDOR r0 r9 t1 k0
+PUSH r1 r0
+PUSH r2 r0
+STORE r1 r9
+ELSE
+END
+ELSE
+END
+ELSE
+END
+---
+instruction 4, line 8 of the printed text: `STORE r1 r9`
 r1 holds nothing that may be used
 r1 led to a value of type 0 (i64), of the objects of family `v`, until `PUSH r2 r0` in line 7: FIND the object again
 r9 holds a number
 r1 should lead to an i64
 each register has to hold what the operation needs, on every way to the instruction
-",
-    ),
-    (
-        "type i64\ntype str\ntype own t1
-NEW r0 t0\nUFINDOR r1 t2\nPUT r1 r0\nELSE\nEND\nDROP r0\nELSE\nEND\n",
-        "instruction 2, line 6 of the printed text: `PUT r1 r0`
+===
+type i64
+type str
+type own t1
+NEW r0 t0
+UFINDOR r1 t2
+PUT r1 r0
+ELSE
+END
+DROP r0
+ELSE
+END
+---
+instruction 2, line 6 of the printed text: `PUT r1 r0`
 r1 leads to a value of type 2 (own of type 1), of the unique object of type 2 (own of type 1)
 r0 owns an object of type 0 (i64)
 r0 should own an object of type 1 (str)
 each register has to hold what the operation needs, on every way to the instruction
-",
-    ),
-    (
-        "type i64\ntype struct t0 t0\nUFIND r0 t1\nFIELD r1 r0 2\nELSE\nEND\n",
-        "instruction 1, line 4 of the printed text: `FIELD r1 r0 2`
+===
+type i64
+type struct t0 t0
+UFIND r0 t1
+FIELD r1 r0 2
+ELSE
+END
+---
+instruction 1, line 4 of the printed text: `FIELD r1 r0 2`
 r0 leads to a value of type 1 (struct of types 0, 0), of the unique object of type 1 (struct of types 0, 0)
 r0 should lead to a struct that has a field 2, counted from 0
 each register has to hold what the operation needs, on every way to the instruction
-",
-    ),
-    (
-        "type str\nname x\nFIND r0 - - t0 k0\nAT r1 r0 r0\nELSE\nEND\nELSE\nEND\n",
-        "instruction 1, line 4 of the printed text: `AT r1 r0 r0`
+===
+type str
+name x
+FIND r0 - - t0 k0
+AT r1 r0 r0
+ELSE
+END
+ELSE
+END
+---
+instruction 1, line 4 of the printed text: `AT r1 r0 r0`
 r0 leads to a value of type 0 (str), of the objects of name `x`
 r0 should hold a number
 each register has to hold what the operation needs, on every way to the instruction
-",
-    ),
-    (
-        "type i64\nNEW r1 t0\nCONST r1 5\nELSE\nEND\n",
-        "instruction 1, line 3 of the printed text: `CONST r1 5`
+===
+type i64
+NEW r1 t0
+CONST r1 5
+ELSE
+END
+---
+instruction 1, line 3 of the printed text: `CONST r1 5`
 r1 owns an object of type 0 (i64), and would be overwritten
 an owned object may not be lost: PUT it into an own, or DROP it
-",
-    ),
-    (
-        "type own t0\nNEW r0 t0\nREF r1 r0\nPUT r1 r0\nELSE\nEND\n",
-        "instruction 2, line 4 of the printed text: `PUT r1 r0`
+===
+type own t0
+NEW r0 t0
+REF r1 r0
+PUT r1 r0
+ELSE
+END
+---
+instruction 2, line 4 of the printed text: `PUT r1 r0`
 r1 leads to a value of type 0 (own of type 0), of the object that r0 owns
 r0 owns an object of type 0 (own of type 0)
 an object may not own itself: PUT it where it isn't inside itself
-",
-    ),
-    (
-        "type i64\nname x
-CONST r0 1\nFINDOR r1 - t0 k0\nWHILE r0 10\nMOV r0 r1\nEND\nELSE\nEND\n",
-        "instruction 4, line 7 of the printed text: `END`
+===
+type i64
+name x
+CONST r0 1
+FINDOR r1 - t0 k0
+WHILE r0 10
+MOV r0 r1
+END
+ELSE
+END
+---
+instruction 4, line 7 of the printed text: `END`
 r0 held a number in front of the loop, and leads to a value of type 0 (i64), of the objects of name `x` at its end, \
 since `MOV r0 r1` in line 6
 a loop's body has to leave each register that was defined in front of the loop as it was
-",
-    ),
-    (
-        "type i64\nGETB r0\nNEW r1 t0\nELSE\nEND\nELSE\nEND\n",
-        "instruction 3, line 5 of the printed text: `END`
+===
+type i64
+GETB r0
+NEW r1 t0
+ELSE
+END
+ELSE
+END
+---
+instruction 3, line 5 of the printed text: `END`
 r1 owns an object of type 0 (i64) at the end of the success part, and holds a number at that of the else part
 an owned object may not be lost: PUT it into an own, or DROP it
-",
-    ),
-    (
-        "type i64\nCONST r0 1\nNEW r1 t0\nFORGET r1\nELSE\nEND\n",
-        "instruction 2, line 4 of the printed text: `FORGET r1`
+===
+type i64
+CONST r0 1
+NEW r1 t0
+FORGET r1
+ELSE
+END
+---
+instruction 2, line 4 of the printed text: `FORGET r1`
 r1 owns an object of type 0 (i64)
 an owned object may not be lost: PUT it into an own, or DROP it
-",
-    ),
-    (
-        "CONST r0 1\nWHILE r0 100000\nWHILE r0 100000\nEND\nEND\n",
-        "the client could take 10000200002 steps, and the most is 1000000000
+===
+CONST r0 1
+WHILE r0 100000
+WHILE r0 100000
+END
+END
+---
+the client could take 10000200002 steps, and the most is 1000000000
 a loop takes 1 step and its turns times the steps of its body and 1 more, so loops inside loops multiply
-",
-    ),
-];
+";
 
 #[test]
 fn explains_refused_clients(rt: HostRuntime) -> Result<(), Fail> {
-    for (text, wanted) in &CASES {
-        let found = explained(rt.alloc(), text)?;
-        assert_eq!(rt; found.as_slice(), wanted.as_bytes());
+    for case in CASES.split("===\n").skip(1) {
+        let (text, wanted) = parts(case)?;
+        is(&explained(rt.alloc(), text)?, wanted)?;
     }
     Ok(())
 }

@@ -1,4 +1,6 @@
 use seg_explain::Sources;
+use std::str;
+use std::test::Fail;
 
 /// An image alone.
 pub(crate) fn image_alone(image: &[u8]) -> Sources<'_> {
@@ -25,4 +27,18 @@ pub(crate) fn run_of<'a>(image: &'a [u8], clients: &'a [&'a [u8]]) -> Sources<'a
         clients,
         text: None,
     }
+}
+
+/// The two texts of a case, which a line `---` parts.
+pub(crate) fn parts(case: &str) -> Result<(&str, &str), Fail> {
+    Ok(case.split_once("---\n").ok_or("no parts")?)
+}
+
+/// These are the words that were found.
+pub(crate) fn is(found: &Vec<u8>, wanted: &str) -> Result<(), Fail> {
+    if found.as_slice() == wanted.as_bytes() {
+        return Ok(());
+    }
+    let found = str::from_utf8(found.as_slice()).unwrap_or("no text");
+    Err(Fail::new(format_args!("{found}, and not {wanted}")))
 }

@@ -1,3 +1,4 @@
+use crate::tests::explain::sources::{is, parts};
 use client_code::assemble;
 use seg_explain::{Sources, explain};
 use std::alloc::Global;
@@ -18,87 +19,125 @@ fn explained(alloc: Global, text: &str) -> Result<Vec<u8>, Fail> {
     }
 }
 
-static CASES: [(&str, &str); 18] = [
-    (
-        "type i64\n\nFOO r1\n",
-        "line 3: `FOO r1`\n`FOO` is no operation, and none of type, text, name and family\n",
-    ),
-    (
-        "ADD r0 r1\n",
-        "line 1: `ADD r0 r1`\n3 words should follow ADD, and 2 do\n",
-    ),
-    (
-        "CONST r16 1\n",
-        "line 1: `CONST r16 1`\n`r16` should be a register, r0 to r15\n",
-    ),
-    (
-        "CONST r0 01\n",
-        "line 1: `CONST r0 01`\n`01` should be a decimal number of 32 bits, without leading zeros\n",
-    ),
-    (
-        "type i64\nname x\nFIND r0 - - t0 k1\nELSE\nEND\n",
-        "line 3: `FIND r0 - - t0 k1`\nconstant 1 isn't there\n",
-    ),
-    (
-        "type i64\nname x\nFIND r0 - - t1 k0\nELSE\nEND\n",
-        "line 3: `FIND r0 - - t1 k0`\nthe client has no type 1\n",
-    ),
-    (
-        "type i64\nname x\nCONST r1 1\nKILL r0 r1 t0 k0\n",
-        "line 4: `KILL r0 r1 t0 k0`\nconstant 0 is an exact name, so operand b should be none\n",
-    ),
-    (
-        "type vec t1\n",
-        "line 1: `type vec t1`\n`t1` should be a type of this client, as `t0`\n",
-    ),
-    (
-        "type array t0\n",
-        "line 1: `type array t0`\n`array` is none of i64, str, vec, list, flat_map, map, own and struct\n",
-    ),
-    (
-        "type i64 t0\n",
-        "line 1: `type i64 t0`\ni64 and str should have no part, a struct 1 to 8, and any other type one\n",
-    ),
-    (
-        "name a#b\n",
-        "line 1: `name a#b`\nthe name should have 1 to 63 bytes of 0x21 to 0x7e, none of them `#`\n",
-    ),
-    (
-        "name x\ntext x\nname  x\n",
-        "line 3: `name  x`\nthe name should differ from those before it\n",
-    ),
-    (
-        "text a\\0g\n",
-        "line 1: `text a\\\\0g`
-a byte of a text should be 0x20 to 0x7e, or spelled as a backslash and two of 0 to 9 and a to f\n",
-    ),
-    (
-        "CONST r0 1\ntype i64\n",
-        "line 2: `type i64`\ntypes should stand first, then constants, then instructions\n",
-    ),
-    (
-        "CONST r0 1\nEND\n",
-        "line 2: `END`\nEND should end an else part or the body of a loop, and none is open here\n",
-    ),
-    (
-        "ELSE\n",
-        "line 1: `ELSE`\nELSE should end the success part of an opener, and no such part is open here\n",
-    ),
-    (
-        "CONST r0 1\nWHILE r0 0\nEND\n",
-        "line 2: `WHILE r0 0`\na loop should have 1 to 1000000000 turns\n",
-    ),
-    (
-        "CONST r0 1\nIF r0\nELSE\n",
-        "line 4, after the last: ELSE and END should follow each opener, and END each loop: an END is missing\n",
-    ),
-];
+/// Texts, each with what is wrong with it.
+const CASES: &str = "
+===
+type i64
+
+FOO r1
+---
+line 3: `FOO r1`
+`FOO` is no operation, and none of type, text, name and family
+===
+ADD r0 r1
+---
+line 1: `ADD r0 r1`
+3 words should follow ADD, and 2 do
+===
+CONST r16 1
+---
+line 1: `CONST r16 1`
+`r16` should be a register, r0 to r15
+===
+CONST r0 01
+---
+line 1: `CONST r0 01`
+`01` should be a decimal number of 32 bits, without leading zeros
+===
+type i64
+name x
+FIND r0 - - t0 k1
+ELSE
+END
+---
+line 3: `FIND r0 - - t0 k1`
+constant 1 isn't there
+===
+type i64
+name x
+FIND r0 - - t1 k0
+ELSE
+END
+---
+line 3: `FIND r0 - - t1 k0`
+the client has no type 1
+===
+type i64
+name x
+CONST r1 1
+KILL r0 r1 t0 k0
+---
+line 4: `KILL r0 r1 t0 k0`
+constant 0 is an exact name, so operand b should be none
+===
+type vec t1
+---
+line 1: `type vec t1`
+`t1` should be a type of this client, as `t0`
+===
+type array t0
+---
+line 1: `type array t0`
+`array` is none of i64, str, vec, list, flat_map, map, own and struct
+===
+type i64 t0
+---
+line 1: `type i64 t0`
+i64 and str should have no part, a struct 1 to 8, and any other type one
+===
+name a#b
+---
+line 1: `name a#b`
+the name should have 1 to 63 bytes of 0x21 to 0x7e, none of them `#`
+===
+name x
+text x
+name  x
+---
+line 3: `name  x`
+the name should differ from those before it
+===
+text a\\0g
+---
+line 1: `text a\\\\0g`
+a byte of a text should be 0x20 to 0x7e, or spelled as a backslash and two of 0 to 9 and a to f
+===
+CONST r0 1
+type i64
+---
+line 2: `type i64`
+types should stand first, then constants, then instructions
+===
+CONST r0 1
+END
+---
+line 2: `END`
+END should end an else part or the body of a loop, and none is open here
+===
+ELSE
+---
+line 1: `ELSE`
+ELSE should end the success part of an opener, and no such part is open here
+===
+CONST r0 1
+WHILE r0 0
+END
+---
+line 2: `WHILE r0 0`
+a loop should have 1 to 1000000000 turns
+===
+CONST r0 1
+IF r0
+ELSE
+---
+line 4, after the last: ELSE and END should follow each opener, and END each loop: an END is missing
+";
 
 #[test]
 fn explains_wrong_lines(rt: HostRuntime) -> Result<(), Fail> {
-    for (text, wanted) in &CASES {
-        let found = explained(rt.alloc(), text)?;
-        assert_eq!(rt; found.as_slice(), wanted.as_bytes());
+    for case in CASES.split("===\n").skip(1) {
+        let (text, wanted) = parts(case)?;
+        is(&explained(rt.alloc(), text)?, wanted)?;
     }
     Ok(())
 }

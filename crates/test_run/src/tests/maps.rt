@@ -1,0 +1,150 @@
+use crate::tests::plays::plays;
+use crate::tests::runs::{KINDS, SEQ_FLAT};
+use std::test::Fail;
+
+/// The least and the greatest number are keys, of both kinds of maps. Prints the first, the next, and the code after the last.
+#[test]
+fn keys_in_order(rt: HostRuntime) -> Result<(), Fail> {
+    for kind in ["flat_map", "map"] {
+        let text = format!(in rt.alloc();
+            "> client print_keys
+                type i64
+                type {kind} t0
+                name m
+                CONST r1 -2147483648
+                CONST r2 1
+                MUL r3 r1 r1
+                ADD r3 r3 r3
+                SUB r4 r3 r2
+                MAKE r0 - - t1 k0
+                  PUTK r5 r0 r4
+                  ELSE
+                  END
+                  PUTK r5 r0 r3
+                  ELSE
+                  END
+                  FIRSTK r6 r0
+                    OUTI r6
+                    NEXTK r6 r0 r6
+                      OUTI r6
+                      NEXTK r6 r0 r6
+                      ELSE
+                        OUTI r6
+                      END
+                    ELSE
+                    END
+                  ELSE
+                  END
+                ELSE
+                END
+            > on 1024 print_keys
+            -9223372036854775808
+            9223372036854775807
+            6"
+        )?;
+        plays(rt.alloc(), &KINDS, text.as_str())?;
+    }
+    Ok(())
+}
+
+/// A flat map of 4 numbers has a buffer of 5 units, of 5 one of 9 at its place.
+#[test]
+fn flat_maps_grow(rt: HostRuntime) -> Result<(), Fail> {
+    plays(
+        rt.alloc(),
+        &[SEQ_FLAT],
+        "> client put_four
+            type i64
+            type flat_map t0
+            name m
+            CONST r1 3
+            CONST r2 1
+            CONST r3 2
+            CONST r4 4
+            FINDOR r0 - t1 k0
+              PUTK r5 r0 r1
+                STORE r5 r1
+              ELSE
+              END
+              PUTK r5 r0 r2
+                STORE r5 r2
+              ELSE
+              END
+              PUTK r5 r0 r3
+                STORE r5 r3
+              ELSE
+              END
+              PUTK r5 r0 r4
+                STORE r5 r4
+              ELSE
+              END
+            ELSE
+            END
+        > client put_fifth
+            type i64
+            type flat_map t0
+            name m
+            CONST r1 5
+            CONST r2 1
+            FINDOR r0 - t1 k0
+              GETK r5 r0 r1
+              ELSE
+                OUTI r5
+              END
+              PUTK r5 r0 r1
+                LOAD r5 r5
+                OUTI r5
+              ELSE
+              END
+              GETK r5 r0 r2
+                LOAD r5 r5
+                OUTI r5
+              ELSE
+              END
+              DELK r5 r0 r2
+              OUTI r5
+              DELK r5 r0 r2
+              OUTI r5
+              LEN r5 r0
+              OUTI r5
+            ELSE
+            END
+        > on 1024 put_four; free 160 named 1
+        > then put_fifth; free 96 named 1
+        3
+        0
+        1
+        1
+        0
+        4",
+    )
+}
+
+/// A node of a map of numbers has 3 units.
+#[test]
+fn maps_have_nodes(rt: HostRuntime) -> Result<(), Fail> {
+    plays(
+        rt.alloc(),
+        &[SEQ_FLAT],
+        "> client put
+            type i64
+            type map t0
+            name m
+            CONST r1 3
+            CONST r2 1
+            CONST r3 2
+            FINDOR r0 - t1 k0
+              PUTK r5 r0 r1
+              ELSE
+              END
+              PUTK r5 r0 r2
+              ELSE
+              END
+              PUTK r5 r0 r3
+              ELSE
+              END
+            ELSE
+            END
+        > on 1024 put; free 96 named 1",
+    )
+}

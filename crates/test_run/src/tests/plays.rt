@@ -1,0 +1,179 @@
+//! Clients, what they print, and what they leave, written as text: statements, each after a `>`, with lines below them.
+//!
+//!     > client add                      the text of a client, which is called `add`, each line without the spaces in front
+//!     ...
+//!     > on 1024 add add; free 240       clients run on a new segment of 1024 bytes, and leave this
+//!     1                                 what they print, likewise; `\` at the end of a line stands for no new line
+//!     2
+//!     > then add; named 1 largest 240   a client runs on the saved image
+//!     3
+//!     > flat on 768 add reads AB        only with a flat index, or `tree`, `seq`, `best`; the input is AB
+//!
+//! Each run must end well, and its saved image be sound.
+
+use crate::tests::runs::{Kind, PLAIN, Ran, Setting, client, empty, run_files, statistics_of};
+use client_vm::Ended;
+use seg_manager::IndexKind;
+use std::alloc::Global;
+use std::str;
+use std::test::Fail;
+
+/// Runs what a text says on each kind of segments.
+pub(crate) fn plays(alloc: Global, kinds: &[Kind], text: &str) -> Result<(), Fail> {
+    for kind in kinds {
+        let mut play = Play {
+            alloc,
+            kind: *kind,
+            clients: Vec::new(alloc),
+            image: Vec::new(alloc),
+        };
+        play.follow(text)?;
+    }
+    Ok(())
+}
+
+/// A text that is followed on one kind of segments.
+#[derive(Drop)]
+struct Play<'a> {
+    alloc: Global,
+    kind: Kind,
+    clients: Vec<(&'a str, Vec<u8>)>,
+    image: Vec<u8>,
+}
+
+impl<'a> Play<'a> {
+    fn follow(&mut self, text: &'a str) -> Result<(), Fail> {
+        let (_, statements) = text.split_once('>').ok_or("no statement")?;
+        for part in statements.split('>') {
+            let (statement, lines) = part.split_once('\n').unwrap_or((part, ""));
+            self.perform(statement.trim(), lines)?;
+        }
+        Ok(())
+    }
+
+    fn perform(&mut self, statement: &'a str, lines: &'a str) -> Result<(), Fail> {
+        let (first, rest) = statement.split_once(' ').ok_or("no statement")?;
+        match self.is_of(first) {
+            None => self.perform_here(first, rest, lines),
+            Some(true) => {
+                let (first, rest) = rest.split_once(' ').ok_or("no statement")?;
+                self.perform_here(first, rest, lines)
+            }
+            Some(false) => Ok(()),
+        }
+    }
+
+    fn perform_here(&mut self, verb: &str, rest: &'a str, lines: &str) -> Result<(), Fail> {
+        match verb {
+            "client" => self.add(rest, lines),
+            "on" => self.run_anew(rest, lines),
+            "then" => self.run(rest, lines),
+            _ => Err(Fail::new(format_args!("no statement: {verb} {rest}"))),
+        }
+    }
+
+    /// Whether the segment is of a kind, where the word names one.
+    fn is_of(&self, word: &str) -> Option<bool> {
+        match word {
+            "seq" => Some(!self.kind.is_best_fit),
+            "best" => Some(self.kind.is_best_fit),
+            "flat" => Some(self.kind.index == IndexKind::Flat),
+            "tree" => Some(self.kind.index == IndexKind::Tree),
+            _ => None,
+        }
+    }
+
+    /// Adds a client. Its lines lose the spaces in front.
+    fn add(&mut self, name: &'a str, lines: &str) -> Result<(), Fail> {
+        let mut text = String::new(self.alloc);
+        for line in lines.trim_end().lines() {
+            text.push_str(line.trim_start())?;
+            text.push('\n')?;
+        }
+        self.clients
+            .push((name, client(self.alloc, text.as_str())?))?;
+        Ok(())
+    }
+
+    fn run_anew(&mut self, words: &str, lines: &str) -> Result<(), Fail> {
+        let (size, words) = words.split_once(' ').ok_or("no size")?;
+        self.image = empty(self.alloc, size.parse::<u32>()?, self.kind)?;
+        self.run(words, lines)
+    }
+
+    /// Runs clients, which must print these lines.
+    fn run(&mut self, words: &str, lines: &str) -> Result<(), Fail> {
+        let (run, left) = words.split_once(';').unwrap_or((words, ""));
+        let (names, input) = run.split_once(" reads ").unwrap_or((run, ""));
+        let ran = self.outcome(names, input.as_bytes())?;
+        if ran.ended != Ended::Done || !is_printed(ran.out.as_slice(), lines) {
+            let printed = str::from_utf8(ran.out.as_slice()).unwrap_or("bytes");
+            return Err(Fail::new(format_args!("{words} printed {printed:?}")));
+        }
+        self.leaves(&ran, left)?;
+        self.image = ran.image;
+        Ok(())
+    }
+
+    fn outcome(&self, names: &str, input: &[u8]) -> Result<Ran, Fail> {
+        let mut files = Vec::new(self.alloc);
+        for name in names.split_whitespace() {
+            files.push(self.file(name).ok_or("no such client")?)?;
+        }
+        let setting = Setting { input, ..PLAIN };
+        run_files(self.alloc, self.image.as_slice(), files.as_slice(), setting)
+    }
+
+    fn file(&self, name: &str) -> Option<&[u8]> {
+        let client = self.clients.iter().find(|client| client.0 == name)?;
+        Some(client.1.as_slice())
+    }
+
+    /// These numbers, each after what it is of, are those of the run and its image.
+    fn leaves(&self, ran: &Ran, facts: &str) -> Result<(), Fail> {
+        let words: Vec<&str> = facts.split_whitespace().collect(self.alloc)?;
+        for fact in words.as_slice().chunks(2) {
+            let [what, wanted] = *fact else {
+                return Err(Fail::new(format_args!("no facts: {facts}")));
+            };
+            let number = self.number(ran, what)?;
+            if number != wanted.parse::<u64>()? {
+                return Err(Fail::new(format_args!("{what} {number}, not {wanted}")));
+            }
+        }
+        Ok(())
+    }
+
+    fn number(&self, ran: &Ran, what: &str) -> Result<u64, Fail> {
+        let left = statistics_of(self.alloc, ran.image.as_slice())?;
+        match what {
+            "free" => Ok(u64::from(left.free)),
+            "largest" => Ok(u64::from(left.largest)),
+            "named" => Ok(u64::from(left.named)),
+            "unique" => Ok(left.unique as u64),
+            "steps" => Ok(ran.reports.first().copied().unwrap_or_default().steps),
+            _ => Err(Fail::new(format_args!("no number: {what}"))),
+        }
+    }
+}
+
+/// Whether these lines, and no more, were printed.
+fn is_printed(printed: &[u8], lines: &str) -> bool {
+    let mut rest = printed;
+    for line in lines.trim_end().lines() {
+        let line = line.trim_start();
+        let after = match line.strip_suffix('\\') {
+            Some(unended) => rest.strip_prefix(unended.as_bytes()),
+            None => after_line(rest, line),
+        };
+        match after {
+            Some(after) => rest = after,
+            None => return false,
+        }
+    }
+    rest.is_empty()
+}
+
+fn after_line<'p>(printed: &'p [u8], line: &str) -> Option<&'p [u8]> {
+    printed.strip_prefix(line.as_bytes())?.strip_prefix(b"\n")
+}
