@@ -127,8 +127,9 @@ impl<A: Allocator> Image<A> {
         ensures tells { (picture : Picture) → IsOpen self.old picture →
             result ≡ is_ok (found_as t (root_named picture.names name.now)) }
         ensures loses { (next : ℕ) (picture : Picture) → (s : IsOpen self.old picture) →
-            AreCounted next picture → IsTrue result → LosesNamed (allocator_of self.old) (segment_of self.old)
-            (segment_of self.new) picture s.held.index_blocks name.now t }
+            AreCounted next picture → IsTrue result →
+            LosesNamed (allocator_of self.old) (segment_of self.old) (segment_of self.new)
+            picture s.held.index_blocks name.now t }
         ensures unchanged { result ≡ false → self.new ≡ self.old }
     {
         on!(self, segment => segment.destroy(name, t))

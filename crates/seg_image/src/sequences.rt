@@ -179,8 +179,8 @@ impl<A: Allocator> Image<A> {
             it.stands.home blocks)
             (HasNone (segment_of self.old) (segment_of self.new) (count vs)) }
         ensures list { (U : ℕ) (vs : Values) (blocks : List ℕ) →
-            (it : HasList (allocator_of self.old) (segment_of self.old) (place_of place) U vs blocks) →
-            MatchResult result
+            (it : HasList (allocator_of self.old) (segment_of self.old) (place_of place) U vs
+            blocks) → MatchResult result
             (λ done. (1 ≤ count vs) × LosesItem (bytes_in self.old) (bytes_in self.new)
             (types_of self.old) (place_of place) vs (count vs - 1) (without_last vs)
             it.stands.home blocks)

@@ -68,8 +68,9 @@ impl<A: Allocator> Image<A> {
         ensures bytes { ChangesBytes self.old self.new }
         ensures unknown { length (types_of self.old) ≤ t → result ≡ false }
         ensures loses { (next : ℕ) (picture : Picture) → IsOpen self.old picture →
-            AreCounted next picture → IsTrue result → LosesUnique (allocator_of self.old) (segment_of self.old)
-            (segment_of self.new) picture t }
+            AreCounted next picture → IsTrue result →
+            LosesUnique (allocator_of self.old) (segment_of self.old) (segment_of self.new)
+            picture t }
         ensures none { (picture : Picture) → IsOpen self.old picture →
             t < length (types_of self.old) → result ≡ false → unique_at picture t ≡ None }
         ensures unchanged { result ≡ false → self.new ≡ self.old }

@@ -85,7 +85,8 @@ abbrev pub RemovesKey : List ℕ → List ℕ → Table → Place → List ℤ �
 RemovesKey old new table map keys vs home blocks keeps None gone = (gone ≡ false) × (new ≡ old)
 RemovesKey old new table map keys vs home blocks keeps (Some i) gone =
     (gone ≡ true) × ((v : Value) → nth vs i ≡ Some v →
-    BesideShared old table (home ∷ blocks) (named_in v) (TakesKey old new table map keys vs blocks keeps i))
+    BesideShared old table (home ∷ blocks) (named_in v)
+    (TakesKey old new table map keys vs blocks keeps i))
 
 -- each path through a key below another leads where it led
 abbrev pub KeepsLowerKeys : List ℕ → List ℕ → Table → Place → ℤ → Type 0

@@ -70,4 +70,5 @@ pub record RemovesItem (old new : List ℕ) (table : Table) (list : Place) (item
 -- so it is beside whichever frozen objects, where the list lies in the block `home`
 abbrev pub LosesItem : List ℕ → List ℕ → Table → Place → Values → ℕ → Values → ℕ → List ℕ → Type 0
 LosesItem old new table list vs j items home blocks = (v : Value) → nth vs j ≡ Some v →
-    BesideShared old table (home ∷ blocks) (named_in v) (RemovesItem old new table list items blocks j)
+    BesideShared old table (home ∷ blocks) (named_in v)
+    (RemovesItem old new table list items blocks j)

@@ -169,7 +169,8 @@ pub beside_same : (allocator : ℕ) (a : List ℕ) (table : Table) (first : Opti
     → PendsBeside allocator a table first xs names theirs frozen → PendsBeside allocator a table first ys names theirs frozen
 beside_same allocator a table first xs ys names theirs frozen same w = record { owed = w.owed; pends = w.pends; holds = w.holds; ownable = w.ownable; blocks_are = λ h. sym (same h) ∙ w.blocks_are h }
 
-pub awaits_names : (allocator : ℕ) (a : List ℕ) (table : Table) (first : Option ℕ) (blocks ns ms : List ℕ) (kept : List Place) (theirs : ℕ → List ℕ) (final : List Frozen) → SameBlocks ns ms → Awaits allocator a table first blocks ns kept theirs final
+pub awaits_names : (allocator : ℕ) (a : List ℕ) (table : Table) (first : Option ℕ) (blocks ns ms : List ℕ) (kept : List Place) (theirs : ℕ → List ℕ) (final : List Frozen) → SameBlocks ns ms
+    → Awaits allocator a table first blocks ns kept theirs final
     → Awaits allocator a table first blocks ms kept theirs final
 awaits_names allocator a table first blocks ns ms kept theirs final same w = record {
   named = w.named;
@@ -178,7 +179,8 @@ awaits_names allocator a table first blocks ns ms kept theirs final same w = rec
   releasing = releasing_same kept final (ns ++ w.named) (ms ++ w.named) w.frozen (λ h. omega (arith, same h, times-append h ns w.named, times-append h ms w.named)) w.releasing;
 }
 
-pub awaits_blocks : (allocator : ℕ) (a : List ℕ) (table : Table) (first : Option ℕ) (xs ys names : List ℕ) (kept : List Place) (theirs : ℕ → List ℕ) (final : List Frozen) → SameBlocks xs ys → Awaits allocator a table first xs names kept theirs final
+pub awaits_blocks : (allocator : ℕ) (a : List ℕ) (table : Table) (first : Option ℕ) (xs ys names : List ℕ) (kept : List Place) (theirs : ℕ → List ℕ) (final : List Frozen) → SameBlocks xs ys
+    → Awaits allocator a table first xs names kept theirs final
     → Awaits allocator a table first ys names kept theirs final
 awaits_blocks allocator a table first xs ys names kept theirs final same w = record { named = w.named; frozen = w.frozen; beside = beside_same allocator a table first xs ys w.named theirs w.frozen same w.beside; releasing = w.releasing }
 
@@ -189,7 +191,8 @@ final_kept allocator old new table first blocks names kept theirs final w owned 
     released_each (λ at. AllByRecursion (KeepsBlockAround old new at 4) (theirs at)) kept final (names ++ w.named) w.frozen w.releasing
     (frozen_kept allocator old new w.beside.pends.heap theirs w.frozen (λ h some. omega (arith, owned h, w.beside.blocks_are h, times-append h w.beside.owed (blocks_by theirs w.frozen))) whole)
 
-pub same_adds : (allocator : ℕ) (a : List ℕ) (table : Table) (first : Option ℕ) (xs ys ns more : List ℕ) (kept : List Place) (theirs : ℕ → List ℕ) (final : List Frozen) → xs ≡ [] → ns ≡ [] → Awaits allocator a table first ys (ns ++ more) kept theirs final
+pub same_adds : (allocator : ℕ) (a : List ℕ) (table : Table) (first : Option ℕ) (xs ys ns more : List ℕ) (kept : List Place) (theirs : ℕ → List ℕ) (final : List Frozen) → xs ≡ [] → ns ≡ []
+    → Awaits allocator a table first ys (ns ++ more) kept theirs final
     → AreLive a ys → Adds allocator a a table first xs ys more kept theirs final
 same_adds allocator a table first xs ys ns more kept theirs final none no_names w owned = record {
   keeps = others_none a (xs ++ ys);
@@ -197,7 +200,8 @@ same_adds allocator a table first xs ys ns more kept theirs final none no_names 
   awaits = subst (λ zs. Awaits allocator a table first (zs ++ ys) more kept theirs final) (sym none) (subst (λ vs. Awaits allocator a table first ys (vs ++ more) kept theirs final) no_names w);
 }
 
-pub adds_twice : (allocator : ℕ) (a b c : List ℕ) (table : Table) (f g : Option ℕ) (xs ys zs all first_more more : List ℕ) (kept : List Place) (theirs : ℕ → List ℕ) (final : List Frozen) → Adds allocator a b table f xs zs first_more kept theirs final
+pub adds_twice : (allocator : ℕ) (a b c : List ℕ) (table : Table) (f g : Option ℕ) (xs ys zs all first_more more : List ℕ) (kept : List Place) (theirs : ℕ → List ℕ) (final : List Frozen)
+    → Adds allocator a b table f xs zs first_more kept theirs final
     → Adds allocator b c table g ys (xs ++ zs) more kept theirs final → SameBlocks all (ys ++ xs) → Adds allocator a c table g all zs more kept theirs final
 adds_twice allocator a b c table f g xs ys zs all first_more more kept theirs final k l same = record {
   keeps = others_twice a b c (xs ++ zs) (ys ++ (xs ++ zs)) (all ++ zs) (λ h none. let s = twice h in (omega (arith, times-append h ys (xs ++ zs)), omega arith)) k.keeps l.keeps;
@@ -208,7 +212,8 @@ adds_twice allocator a b c table f g xs ys zs all first_more more kept theirs fi
     twice : SameBlocks (ys ++ (xs ++ zs)) (all ++ zs)
     twice h = omega (arith, same h, times-append h ys xs, times-append h ys (xs ++ zs), times-append h xs zs, times-append h all zs)
 
-pub adds_same : (allocator : ℕ) (a b : List ℕ) (table : Table) (f : Option ℕ) (xs ys zs more : List ℕ) (kept : List Place) (theirs : ℕ → List ℕ) (final : List Frozen) → SameBlocks xs ys → Adds allocator a b table f xs zs more kept theirs final
+pub adds_same : (allocator : ℕ) (a b : List ℕ) (table : Table) (f : Option ℕ) (xs ys zs more : List ℕ) (kept : List Place) (theirs : ℕ → List ℕ) (final : List Frozen) → SameBlocks xs ys
+    → Adds allocator a b table f xs zs more kept theirs final
     → Adds allocator a b table f ys zs more kept theirs final
 adds_same allocator a b table f xs ys zs more kept theirs final same k = record {
   keeps = others_more a b (xs ++ zs) (ys ++ zs) (λ h none. all h ∙ none) k.keeps;
@@ -296,7 +301,8 @@ pops allocator bytes table p blocks names kept theirs final all = go w.pends.owe
         releasing = releasing_same kept final (names ++ all.named) ((ns ++ names) ++ ms) all.frozen
             (λ h. omega (arith, same_names h, times-append h names all.named, times-append h (ns ++ names) ms, times-append h ns names, times-append h ns ms)) all.releasing;
       };
-      blocks_are = λ h. omega (arith, same h, w.blocks_are h, times-append h xs ys, times-append h w.owed (blocks_by theirs all.frozen), times-append h xs (ys ++ blocks_by theirs all.frozen), times-append h ys (blocks_by theirs all.frozen));
+      blocks_are = λ h.
+          omega (arith, same h, w.blocks_are h, times-append h xs ys, times-append h w.owed (blocks_by theirs all.frozen), times-append h xs (ys ++ blocks_by theirs all.frozen), times-append h ys (blocks_by theirs all.frozen));
     }
 
 -- where none waits, nothing is to be released any more

@@ -43,7 +43,8 @@ BesideShared bytes table besides names claim =
 pub record ClearsPlace (old new : List ℕ) (table : Table) (place : Place) (w : Value)
     (olds news : List ℕ) (theirs : ℕ → List ℕ) (now final : List Frozen) : Type 0 where
   pub gives : List ℕ
-  pub all_are : SameBlocks (olds ++ blocks_by theirs now) (gives ++ (news ++ blocks_by theirs final))
+  pub all_are :
+      SameBlocks (olds ++ blocks_by theirs now) (gives ++ (news ++ blocks_by theirs final))
   pub changes : ChangesPlace old new table place w news (after_gives (live old) gives)
       (olds ++ blocks_by theirs now) (news ++ blocks_by theirs final)
   pub shared_kept : KeepFrozen old new theirs final

@@ -202,7 +202,8 @@ pub cleared : (allocator : ℕ) (old mid after new : List ℕ) (table here there
     ((home : ℕ) (xs ns : List ℕ) → IsInside old home place.at (size table place.type) → IsPart old table place xs ns → AddsIn old mid table none first (home ∷ []) xs ns) →
     (IsWithin mid place.at (size here place.type) → ChangesOnly mid after place.at (size here place.type)) →
     (IsWithin mid place.at (size here place.type) → place.type < length here → Holds after here place (default_of here place.type) []) →
-    ((blocks : List ℕ) (kept : List Place) (theirs : ℕ → List ℕ) (final : List Frozen) → IsTable there_too → Awaits allocator after there_too first blocks [] kept theirs final → AreLive after blocks → Destroys allocator after new there_too blocks theirs final) →
+    ((blocks : List ℕ) (kept : List Place) (theirs : ℕ → List ℕ) (final : List Frozen) → IsTable there_too → Awaits allocator after there_too first blocks [] kept theirs final → AreLive after blocks →
+    Destroys allocator after new there_too blocks theirs final) →
     ClearsPlace old new table place (default_of table place.type) blocks [] theirs now final
 cleared allocator old mid after new table here there_too same same_too place v blocks s theirs kept now final b none first is_none added changes filled destroyed =
     let shares = blocks_by theirs now in
@@ -215,8 +216,10 @@ cleared allocator old mid after new table here there_too same same_too place v b
     ChangesOnly mid after place.at (size t place.type)) same changes in
     let filled' : IsWithin mid place.at (size table place.type) → place.type < length table → Holds after table place (default_of table place.type) [] =
     subst (λ t. IsWithin mid place.at (size t place.type) → place.type < length t → Holds after t place (default_of t place.type) []) same filled in
-    let destroyed' : (blocks : List ℕ) (kept : List Place) (theirs : ℕ → List ℕ) (final : List Frozen) → IsTable table → Awaits allocator after table first blocks [] kept theirs final → AreLive after blocks → Destroys allocator after new table blocks theirs final =
-    subst (λ t. (blocks : List ℕ) (kept : List Place) (theirs : ℕ → List ℕ) (final : List Frozen) → IsTable t → Awaits allocator after t first blocks [] kept theirs final → AreLive after blocks → Destroys allocator after new t blocks theirs final) same_too destroyed in
+    let destroyed' : (blocks : List ℕ) (kept : List Place) (theirs : ℕ → List ℕ) (final : List Frozen) → IsTable table → Awaits allocator after table first blocks [] kept theirs final → AreLive after blocks →
+    Destroys allocator after new table blocks theirs final =
+    subst (λ t. (blocks : List ℕ) (kept : List Place) (theirs : ℕ → List ℕ) (final : List Frozen) → IsTable t → Awaits allocator after t first blocks [] kept theirs final → AreLive after blocks →
+    Destroys allocator after new t blocks theirs final) same_too destroyed in
     let c = changes' within in
     let h = filled' within (typed old table place v blocks s.holds_it) in
     let d = destroyed' (blocks ++ shares) kept theirs final s.is_table (awaits_after allocator old mid after new table place v blocks s theirs kept now final b first a c h)

@@ -105,7 +105,8 @@ module _ (allocator : ℕ) (old now : List ℕ) (table : Table) (valid : IsTable
   next_entry_joined new here next place_at V s b less same at_is type_is size_is before_is step =
       let at = start + i * (before + size table U) + before in
       let rest = entries_at table (start + (i + 1) * (before + size table U)) before U (n - (i + 1)) in
-      let j' : Joined allocator old now table first home (record { at = start + i * (before + size table U) + before; type = U } ∷ entries_at table (start + (i + 1) * (before + size table U)) before U (n - (i + 1))) xs ys names kept theirs final =
+      let j' : Joined allocator old now table first home (record { at = start + i * (before + size table U) + before; type = U } ∷ entries_at table (start + (i + 1) * (before + size table U)) before U (n - (i + 1)))
+      xs ys names kept theirs final =
       subst (λ ps. Joined allocator old now table first home ps xs ys names kept theirs final) (entry_next table start before U i n less) j in
       let inside = j'.inside.0 in
       let own = owned home in
@@ -120,7 +121,8 @@ module _ (allocator : ℕ) (old now : List ℕ) (table : Table) (valid : IsTable
       subst (λ t. (home : ℕ) (its ns : List ℕ) → IsInside now home place_at (size t V) → IsPart now t (record { at = place_at; type = V }) its ns → AddsIn now new t first next (home ∷ []) its ns) same step in
       let step_2 : at_type place_at U = subst (λ W. at_type place_at W) type_is step_1 in
       let step_3 : at_type (start + i * (before + size table U) + before) U = subst (λ a. at_type a U) position step_2 in
-      joined_more allocator old table valid home xs ys names kept theirs final owned now new first next (record { at = start + i * (before + size table U) + before; type = U }) (entries_at table (start + (i + 1) * (before + size table U)) before U
+      joined_more allocator old table valid home xs ys names kept theirs final owned now new first next (record { at = start + i * (before + size table U) + before; type = U })
+      (entries_at table (start + (i + 1) * (before + size table U)) before U
       (n - (i + 1))) j'
       (λ its others ns more part lies_in w fits. step_3 home its ns lies_in part allocator others more kept theirs final valid w fits)
 

@@ -374,7 +374,8 @@ module _ (bytes : List ℕ) (table : Table) (valid : IsTable table) (p : ℕ) wh
 -- ---- its links, and then its entries
 
 module _ (allocator : ℕ) (old mid new : List ℕ) (table here : Table) (same : here ≡ table) (valid : IsTable table) (p n : ℕ) (content : Content) (f g k : Option ℕ) (us bs vs ws xs ns ys names : List ℕ) (kept_cells : List Place)
-    (theirs : ℕ → List ℕ) (final : List Frozen) (xs_are : SameBlocks xs (block_of p ∷ (us ++ bs))) (ns_are : SameBlocks ns (vs ++ ws)) (s : Shows old table valid p content us bs vs ws) (w : Awaits allocator old table f ys (ns ++ names) kept_cells theirs final)
+    (theirs : ℕ → List ℕ) (final : List Frozen) (xs_are : SameBlocks xs (block_of p ∷ (us ++ bs))) (ns_are : SameBlocks ns (vs ++ ws))
+    (s : Shows old table valid p content us bs vs ws) (w : Awaits allocator old table f ys (ns ++ names) kept_cells theirs final)
     (fits : AreLive old (xs ++ ys)) where
   home : ℕ
   home = block_of p

@@ -29,7 +29,8 @@ is_live bytes at some =
     let f = found at (live bytes) some in
     subst (λ a. IsLive bytes a) f.at_is (f.block.units, f.among)
 
-pub turned : (allocator : ℕ) (old now opened new : List ℕ) (table here : Table) → here ≡ table → (valid : IsTable table) (first next after : Option ℕ) (p : ℕ) (blocks : List ℕ) (kept : List Place) (theirs : ℕ → List ℕ) (final : List Frozen) (turns : ℕ) →
+pub turned : (allocator : ℕ) (old now opened new : List ℕ) (table here : Table) → here ≡ table → (valid : IsTable table) (first next after : Option ℕ) (p : ℕ) (blocks : List ℕ) (kept : List Place)
+    (theirs : ℕ → List ℕ) (final : List Frozen) (turns : ℕ) →
     (owned : AreLive old blocks) → HasFreed allocator old now table first blocks kept theirs final turns →
     ((left names : List ℕ) → Awaits allocator now here first left names kept theirs final → Pops allocator now here p next left names kept theirs final) →
     ((xs ns : List ℕ) → GoesWith now here p xs ns → (ys names : List ℕ) → IsTable here → Awaits allocator now here next ys (ns ++ names) kept theirs final → AreLive now (xs ++ ys) →
@@ -65,7 +66,8 @@ loose_goes bytes table object U v inside l = record {
 }
 
 -- what joined those that wait is destroyed
-pub added_destroys : (allocator : ℕ) (old mid new : List ℕ) (table : Table) (first : Option ℕ) (xs ys names blocks : List ℕ) (kept : List Place) (theirs : ℕ → List ℕ) (final : List Frozen) → Adds allocator old mid table first xs ys names kept theirs final →
+pub added_destroys : (allocator : ℕ) (old mid new : List ℕ) (table : Table) (first : Option ℕ) (xs ys names blocks : List ℕ) (kept : List Place) (theirs : ℕ → List ℕ) (final : List Frozen) →
+    Adds allocator old mid table first xs ys names kept theirs final →
     SameBlocks (xs ++ ys) blocks → Destroys allocator mid new table blocks theirs final → Destroys allocator old new table blocks theirs final
 added_destroys allocator old mid new table first xs ys names blocks kept theirs final a same d =
     let f = d.frees in

@@ -22,7 +22,8 @@ use Rattle.seg_value.specs.declared.content.Shape.TheVariants as shape
 abbrev pub AddsIn :
     List ℕ → List ℕ → Table → Option ℕ → Option ℕ → List ℕ → List ℕ → List ℕ → Type 0
 AddsIn old new table first next beside xs ns =
-    (allocator : ℕ) (ys names : List ℕ) (kept : List Place) (theirs : ℕ → List ℕ) (final : List Frozen) →
+    (allocator : ℕ) (ys names : List ℕ) (kept : List Place) (theirs : ℕ → List ℕ)
+    (final : List Frozen) →
     IsTable table → Awaits allocator old table first ys (ns ++ names) kept theirs final →
     AreLive old (beside ++ (xs ++ ys)) →
     Adds allocator old new table next xs ys names kept theirs final
@@ -34,7 +35,8 @@ AddsWaiting old new first next beside xs ns =
 
 -- a block was opened that no longer waits: the others that go with it go with what waits now
 pub record IsOpened (allocator : ℕ) (old new : List ℕ) (table : Table) (next : Option ℕ) (p : ℕ)
-    (xs ys names : List ℕ) (kept : List Place) (theirs : ℕ → List ℕ) (final : List Frozen) : Type 0 where
+    (xs ys names : List ℕ) (kept : List Place) (theirs : ℕ → List ℕ) (final : List Frozen) :
+    Type 0 where
   pub rest : List ℕ
   pub xs_are : SameBlocks xs (block_of p ∷ rest)
   pub adds : Adds allocator old new table next rest ys names kept theirs final
@@ -42,11 +44,13 @@ pub record IsOpened (allocator : ℕ) (old new : List ℕ) (table : Table) (next
 abbrev pub OpensPending :
     Stored → Stored → Option ℕ → Option ℕ → ℕ → List ℕ → List ℕ → Type 0
 OpensPending old new first next p xs ns =
-    (allocator : ℕ) (ys names : List ℕ) (kept : List Place) (theirs : ℕ → List ℕ) (final : List Frozen) →
+    (allocator : ℕ) (ys names : List ℕ) (kept : List Place) (theirs : ℕ → List ℕ)
+    (final : List Frozen) →
     IsTable old.types →
     Awaits allocator old.window.bytes old.types first ys (ns ++ names) kept theirs final →
     AreLive old.window.bytes (xs ++ ys) →
-    IsOpened allocator old.window.bytes new.window.bytes old.types next p xs ys names kept theirs final
+    IsOpened allocator old.window.bytes new.window.bytes old.types next p xs ys names kept theirs
+    final
 
 -- the words of a block that name further nodes
 abbrev pub links_of : Shape → ℕ → List ℕ

@@ -216,7 +216,8 @@ impl Pending {
     pub(crate) fn destroy<F: Fit, A: Allocator>(mut self, heap: &mut Heap<F, A>)
         ensures window { KeepsHost heap.old.window heap.new.window }
         ensures types { heap.new.types ≡ heap.old.types }
-        ensures destroyed { (blocks : List ℕ) (kept : List reads.Place) (theirs : ℕ → List ℕ) (final : List Frozen) →
+        ensures destroyed { (blocks : List ℕ) (kept : List reads.Place) (theirs : ℕ → List ℕ)
+            (final : List Frozen) →
             IsTable heap.old.types →
             Awaits F.allocator heap.old.window.bytes heap.old.types self.first
             blocks [] kept theirs final →
