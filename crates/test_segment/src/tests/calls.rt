@@ -90,9 +90,13 @@ fn gives<F: Fit>(
     wanted: &str,
 ) -> Result<(), Fail> {
     let words: Vec<&str> = call.split_whitespace().collect(alloc)?;
-    let answer = on_names(segment, words.as_slice())
-        .or(on_uniques(segment, words.as_slice()))
-        .or(on_space(segment, words.as_slice()));
+    let answer = match *words {
+        [verb] => answer(segment, verb, "", "", ""),
+        [verb, first] => answer(segment, verb, first, "", ""),
+        [verb, first, second] => answer(segment, verb, first, second, ""),
+        [verb, first, second, third] => answer(segment, verb, first, second, third),
+        _ => None,
+    };
     let Some(answer) = answer else {
         return Err(Fail::new(format_args!("no call: {call}")));
     };
@@ -112,45 +116,63 @@ fn gives<F: Fit>(
 /// What a call gives, or why it is refused.
 type Answer = Result<u32, &'static str>;
 
-fn on_names<F: Fit>(s: &mut Segment<F, Global>, words: &[&str]) -> Option<Answer> {
-    match *words {
-        ["make", name, t, n] => Some(given(make(s, name, type_id(t)?, n.parse().ok()?))),
-        ["find", name, t] => Some(given(found(s, name, type_id(t)?))),
-        ["count", name, t] => Some(given(count(s, name, type_id(t)?))),
-        ["find_or_make", name, t] => Some(given(find_or_make(s, name, type_id(t)?))),
-        ["kill", name, t] => Some(Ok(kill(s, name, type_id(t)?))),
-        ["first", name] => Some(Ok(u32::from(is_number(s.first_name(), name)))),
-        ["next", name, next] => Some(Ok(u32::from(is_number(next_name(s, name), next)))),
-        ["named"] => Some(Ok(s.num_named())),
+fn answer<F: Fit>(
+    s: &mut Segment<F, Global>,
+    verb: &str,
+    first: &str,
+    second: &str,
+    third: &str,
+) -> Option<Answer> {
+    match verb {
+        "make" => Some(given(make(s, first, type_id(second)?, number(third)?))),
+        "find" => Some(given(found(s, first, type_id(second)?))),
+        "count" => Some(given(count(s, first, type_id(second)?))),
+        "find_or_make" => Some(given(find_or_make(s, first, type_id(second)?))),
+        "kill" => Some(Ok(kill(s, first, type_id(second)?))),
+        "first" => Some(Ok(u32::from(is_number(s.first_name(), first)))),
+        "next" => Some(Ok(u32::from(is_number(next_name(s, first), second)))),
+        _ => on_segment(s, verb, first).or(on_bytes(s, verb, first, second)),
+    }
+}
+
+fn on_segment<F: Fit>(s: &mut Segment<F, Global>, verb: &str, t: &str) -> Option<Answer> {
+    match verb {
+        "make_unique" => Some(given(s.construct_unique(type_id(t)?))),
+        "find_unique" => Some(given(s.find_unique(type_id(t)?))),
+        "find_or_make_unique" => Some(given(s.find_or_construct_unique(type_id(t)?))),
+        "kill_unique" => Some(Ok(u32::from(s.destroy_unique(type_id(t)?)))),
+        "grow" => Some(grow(s, number(t)?)),
+        "shrink" => Some(Ok(s.shrink_to_fit())),
+        "zero_free" => Some(zero_free(s)),
+        _ => size(s, verb),
+    }
+}
+
+/// The number that a word is for.
+fn size<F: Fit>(s: &Segment<F, Global>, what: &str) -> Option<Answer> {
+    match what {
+        "free" => Some(Ok(s.free_memory())),
+        "largest" => Some(Ok(s.largest_gap())),
+        "is_empty" => Some(Ok(u32::from(s.all_memory_deallocated()))),
+        "size" => Some(Ok(s.window().len())),
+        "named" => Some(Ok(s.num_named())),
+        "unique" => Some(Ok(s.num_unique() as u32)),
         _ => None,
     }
 }
 
-fn on_uniques<F: Fit>(s: &mut Segment<F, Global>, words: &[&str]) -> Option<Answer> {
-    match *words {
-        ["make_unique", t] => Some(given(s.construct_unique(type_id(t)?))),
-        ["find_unique", t] => Some(given(s.find_unique(type_id(t)?))),
-        ["find_or_make_unique", t] => Some(given(s.find_or_construct_unique(type_id(t)?))),
-        ["kill_unique", t] => Some(Ok(u32::from(s.destroy_unique(type_id(t)?)))),
-        ["unique"] => Some(Ok(s.num_unique() as u32)),
+fn on_bytes<F: Fit>(s: &mut Segment<F, Global>, verb: &str, at: &str, n: &str) -> Option<Answer> {
+    let (at, n) = (number(at)? as usize, number(n)? as usize);
+    match verb {
+        "fill" => Some(fill(s, at, n)),
+        "zeros" => Some(Ok(has(s, at, n, 0))),
+        "filled" => Some(Ok(has(s, at, n, FILLING))),
         _ => None,
     }
 }
 
-fn on_space<F: Fit>(s: &mut Segment<F, Global>, words: &[&str]) -> Option<Answer> {
-    match *words {
-        ["free"] => Some(Ok(s.free_memory())),
-        ["largest"] => Some(Ok(s.largest_gap())),
-        ["is_empty"] => Some(Ok(u32::from(s.all_memory_deallocated()))),
-        ["size"] => Some(Ok(s.window().len())),
-        ["grow", extra] => Some(grow(s, extra.parse().ok()?)),
-        ["shrink"] => Some(Ok(s.shrink_to_fit())),
-        ["zero_free"] => Some(zero_free(s)),
-        ["fill", at, n] => Some(fill(s, at.parse().ok()?, n.parse().ok()?)),
-        ["zeros", at, n] => Some(Ok(has(s, at.parse().ok()?, n.parse().ok()?, 0))),
-        ["filled", at, n] => Some(Ok(has(s, at.parse().ok()?, n.parse().ok()?, FILLING))),
-        _ => None,
-    }
+fn number(word: &str) -> Option<u32> {
+    word.parse().ok()
 }
 
 /// The byte of what a host had in its memory.
