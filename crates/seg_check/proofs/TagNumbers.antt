@@ -83,4 +83,4 @@ module _ (table : Table) (valid : IsTable table) where
       no_nodes e = cc
   type_small block.Kind.index_buffer T a = omega (arith, a)
   type_small block.Kind.index_node T a = omega (arith, a)
-  type_small block.Kind.frozen T a = absurd a
+  type_small block.Kind.frozen T a = let few = valid.few in omega (arith, a.0)

@@ -118,6 +118,6 @@ fn is_live_tag(types: &TypeTable, tag: Tag) -> bool
         Kind::Buffer => matches!(kind, Some(Type::Str | Type::Vec(_) | Type::FlatMap(_))),
         Kind::Node => matches!(kind, Some(Type::List(_) | Type::Map(_))),
         Kind::IndexBuffer | Kind::IndexNode => tag.type_id == 0,
-        Kind::Frozen => false,
+        Kind::Frozen => kind.is_some() && types.shares(tag.type_id),
     }
 }

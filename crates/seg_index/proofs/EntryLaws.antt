@@ -121,7 +121,7 @@ type_small bytes table root valid ownable named = by o.kind o.allowed (sym named
     by Kind.node allowed e = absurd (omega arith)
     by Kind.index_buffer allowed e = absurd (omega arith)
     by Kind.index_node allowed e = absurd (omega arith)
-    by Kind.frozen allowed e = absurd allowed
+    by Kind.frozen allowed e = absurd (omega arith)
 
 module _ (bytes : List ℕ) (table : Table) (root : Root) (small : root.type < 32) (named : IsNamed bytes table root) where
   pub type_is : type_at bytes root.at ≡ Some root.type

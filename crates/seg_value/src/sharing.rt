@@ -1,7 +1,6 @@
 ghost use Rattle.std.specs.Prelude.{◌≡◌, ℕ, suc, ◌+◌, ◌%◌, ◌^◌, ◌<◌, ◌≤◌, List, [], ◌∷◌, ◌++◌, length, Option, Some, None, Err, option_map, IsOkUnless, MatchResult};
 ghost use Rattle.std.specs.List.{AllByRecursion};
-ghost use Rattle.seg_spec.specs.Block as block;
-ghost use Rattle.seg_spec.specs.Block.{AllowsType, block_of};
+ghost use Rattle.seg_spec.specs.Block.{block_of};
 ghost use Rattle.seg_spec.specs.Bytes.{word, set_word};
 ghost use Rattle.seg_spec.specs.Calls.{IsLoose, Refuses};
 ghost use Rattle.seg_spec.specs.Clearing.{ClearsPlace};
@@ -82,7 +81,6 @@ impl<F: Fit, A: Allocator> Heap<F, A> {
             (s.home ∷ (blocks ++ block_of object ∷ inside)) (names_in w ++ (names_in v ++ kept))
             (word self.old.window.bytes next_word) theirs now →
             suc (word self.old.window.bytes next_word) < 2 ^ 32 →
-            AllowsType self.old.types block.Kind.frozen T →
             MatchResult result
             (λ done. Freezes F.allocator self.old.window.bytes self.new.window.bytes
             self.old.types (place_of cell) T object w inside blocks (names_in v) theirs now)

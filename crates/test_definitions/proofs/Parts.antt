@@ -4,7 +4,7 @@ use Rattle.std.proofs.lemmas.Bool.{cases_lt}
 use Rattle.std.specs.List.{AllByRecursion}
 use Rattle.seg_spec.specs.Bytes.{slice, put, number, number_of, set_number}
 use Rattle.seg_spec.specs.Pointer.{target}
-use Rattle.seg_spec.specs.Types.{Form, Table, size, form_bytes, version_of, IsRight, IsFirstWrong}
+use Rattle.seg_spec.specs.Types.{AreOfVersion, Form, Table, size, form_bytes, version_of, IsRight, IsFirstWrong}
 use Rattle.seg_spec.specs.Heap.{Tile, Fill, AreHeaders, AreApart, heap_start, live, live_of, gaps, gaps_of, HoldsGaps, IsHeap}
 use Rattle.seg_spec.specs.Block.{Kind, IsOwnable}
 use Rattle.seg_spec.specs.Sound.{HasHeader, IsLaidOut, holds_no_root, IsSound, SameBlocks, times, positions}
@@ -130,11 +130,11 @@ linked-tiles table t =
     let link = blocks.0.link_is in
     cc
 
-pub odd_kind-tiles : (table : Table) → HasTiles odd_kind table → ⊥
+pub odd_kind-tiles : (table : Table) → AreOfVersion 1 table → HasTiles odd_kind table → ⊥
 unfolding odd_kind counter slice put set_number number number_of
-odd_kind-tiles table t =
+odd_kind-tiles table version t =
     let blocks = subst (λ bs. AllByRecursion (λ b. IsOwnable odd_kind table b.at) bs) odd_kind_live t.ownable in
-    no_seventh table blocks.0.kind blocks.0.type 0 blocks.0.allowed blocks.0.tag_is
+    no_seventh table version blocks.0.kind blocks.0.type 0 blocks.0.allowed blocks.0.tag_is
 
 pub counter-all : HoldsAll counter
 counter-all = all_held counter counter_sound

@@ -58,7 +58,7 @@ pub odd_kind-unsound : IsSound odd_kind → ⊥
 unfolding odd_kind counter slice put set_number number number_of
 odd_kind-unsound s =
     let blocks = subst (λ bs. AllByRecursion (λ b. IsOwnable odd_kind s.picture.table b.at) bs) odd_kind_live s.held.laid_out.blocks in
-    no_seventh s.picture.table blocks.0.kind blocks.0.type 0 blocks.0.allowed blocks.0.tag_is
+    no_seventh s.picture.table s.held.laid_out.of_version blocks.0.kind blocks.0.type 0 blocks.0.allowed blocks.0.tag_is
 
 abbrev pub two_free : List Tile
 two_free = record { at = 704; units = 2; live = false } ∷ record { at = 736; units = 2; live = false } ∷ []

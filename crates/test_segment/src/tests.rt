@@ -15,6 +15,7 @@ mod maps;
 mod names;
 mod order;
 mod rooted;
+mod sharing;
 mod support;
 mod tiles;
 mod values;

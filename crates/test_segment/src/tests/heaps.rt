@@ -21,7 +21,7 @@ use std::alloc::Global;
 use std::test::Fail;
 
 /// What a call gives, or why it is refused.
-type Answer = Result<i64, &'static str>;
+pub(crate) type Answer = Result<i64, &'static str>;
 
 fn root_of(word: &str) -> Option<TypeId> {
     Some(match word {
@@ -81,7 +81,8 @@ fn follow<F: Fit>(alloc: Global, s: &mut Rooted<F>, line: &str) -> Result<(), Fa
     Err(Fail::new(format_args!("not so: {line}")))
 }
 
-fn is_told(answer: Answer, wanted: &str) -> bool {
+/// Whether that is what a text wants.
+pub(crate) fn is_told(answer: Answer, wanted: &str) -> bool {
     match answer {
         Ok(number) => wanted == "ok" || wanted.parse::<i64>() == Ok(number),
         Err(refusal) => wanted == refusal,

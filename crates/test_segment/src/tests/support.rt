@@ -41,6 +41,11 @@ pub(crate) fn own_of(item: TypeId) -> Spelled {
     [7, 1, item, 0, 0, 0, 0, 0, 0, 0]
 }
 
+/// A cell that shares an object with others.
+pub(crate) fn shared_of(item: TypeId) -> Spelled {
+    [9, 1, item, 0, 0, 0, 0, 0, 0, 0]
+}
+
 /// A struct of two fields.
 pub(crate) fn pair(first: TypeId, second: TypeId) -> Spelled {
     [8, 2, first, second, 0, 0, 0, 0, 0, 0]
@@ -55,9 +60,9 @@ fn spelled(alloc: Global, types: &[Spelled]) -> Result<Vec<u8>, AllocError> {
     Ok(bytes)
 }
 
-/// The table of these types.
+/// The table of these types, of either version.
 pub(crate) fn table(alloc: Global, types: &[Spelled]) -> Result<TypeTable, Fail> {
-    Ok(TypeTable::read(&spelled(alloc, types)?)?)
+    Ok(TypeTable::read_shared(&spelled(alloc, types)?)?)
 }
 
 /// The place of a value of a type.
@@ -139,5 +144,6 @@ pub(crate) fn given<T>(found: Result<T, Code>) -> Result<T, &'static str> {
         Err(Code::OtherType) => Err("OtherType"),
         Err(Code::OutOfRange) => Err("OutOfRange"),
         Err(Code::Null) => Err("Null"),
+        Err(Code::NumbersUsedUp) => Err("NumbersUsedUp"),
     }
 }

@@ -4,7 +4,7 @@ use Rattle.std.proofs.lemmas.Bool.{false≢true}
 use Rattle.seg_spec.specs.Bytes.{word, set_word}
 use Rattle.seg_spec.specs.Pointer.{set_pointer}
 use Rattle.seg_spec.specs.Types.{size}
-use Rattle.seg_spec.specs.Block.{Kind}
+use Rattle.seg_spec.specs.Block.{Kind, AllowsType}
 use Rattle.seg_spec.specs.Calls.{IsLoose, Refuses}
 use Rattle.seg_spec.specs.Demand.{block_for}
 use Rattle.seg_spec.specs.Shared.{names_in}
@@ -23,7 +23,7 @@ only_err (Ok x) P Q e q = absurd (false≢true e)
 only_err (Err y) P Q e q = q
 
 pub returns-in_err-payload-clause-frozen : goal.returns-in_err-payload-clause-frozen
-returns-in_err-payload-clause-frozen g c = λ T v w blocks inside theirs kept now f s loose b small allowed.
+returns-in_err-payload-clause-frozen g c = λ T v w blocks inside theirs kept now f s loose b small.
     let old = c.args.self.now in
     let last = c.move_frozen.new.self.window.bytes in
     let t_is = c.shared_type.ensures T f in
@@ -36,7 +36,7 @@ returns-in_err-payload-clause-frozen g c = λ T v w blocks inside theirs kept no
     (subst (λ x. Refuses g.F.Fit.allocator old.window.bytes last (block_for (8 + size old.types x) ∷ [])) t_is refused)
 
 pub returns-clause-frozen : goal.returns-clause-frozen
-returns-clause-frozen g c = λ T v w blocks inside theirs kept now f s loose b small allowed.
+returns-clause-frozen g c = λ T v w blocks inside theirs kept now f s loose b small.
     let old = c.args.self.now in
     let mid = c.move_frozen.new.self in
     let last = c.clear.new.self.window in
@@ -50,6 +50,7 @@ returns-clause-frozen g c = λ T v w blocks inside theirs kept now f s loose b s
     let moved = moved_as g.F.Fit.allocator old.window.bytes mid.window.bytes old.types c.shared_type.result T c.args.object p w inside t_is m in
     let clears = subst (λ t. ClearsCell g.F.Fit.allocator mid.window.bytes last.bytes t (place_of cell)) c.move_frozen.ensures.types c.clear.ensures.cleared in
     let named = bytes_of c.name.new.self.window (with_bytes last (set_word (set_pointer last.bytes cell.at (Some p)) (cell.at + 4) 1)) c.name.ensures.window in
+    let allowed : AllowsType old.types Kind.frozen T = (typed old.window.bytes old.types (object_at c.args.object T) w inside loose.holds_it, (cell.type_id, f)) in
     let made = freezes g.F.Fit.allocator old.window.bytes mid.window.bytes old.types (place_of cell) T c.args.object p f v w blocks inside theirs kept now s b
     (λ bytes h tag link. record { kind = Kind.frozen; type = T; allowed = allowed; tag_is = tag; link_is = link }) moved last.bytes clears in
     subst (λ bytes. Freezes g.F.Fit.allocator old.window.bytes bytes old.types (place_of cell) T c.args.object w inside blocks (names_in v) theirs now) (sym named) made
