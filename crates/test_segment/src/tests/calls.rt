@@ -71,15 +71,32 @@ fn sizes(words: &[&str]) -> Option<(u32, u32)> {
 
 fn follow<F: Fit>(alloc: Global, segment: &mut Segment<F, Global>, text: &str) -> Result<(), Fail> {
     for line in text.lines() {
-        for call in line.split(';') {
-            if let Some((call, wanted)) = call.split_once("=>") {
-                gives(alloc, segment, call, wanted.trim())?;
-            } else if !call.trim().is_empty() {
-                return Err(Fail::new(format_args!("no call: {call}")));
-            }
-        }
+        follow_line(alloc, segment, line)?;
     }
     Ok(())
+}
+
+fn follow_line<F: Fit>(
+    alloc: Global,
+    segment: &mut Segment<F, Global>,
+    line: &str,
+) -> Result<(), Fail> {
+    for call in line.split(';') {
+        follow_call(alloc, segment, call)?;
+    }
+    Ok(())
+}
+
+fn follow_call<F: Fit>(
+    alloc: Global,
+    segment: &mut Segment<F, Global>,
+    call: &str,
+) -> Result<(), Fail> {
+    match call.split_once("=>") {
+        Some((call, wanted)) => gives(alloc, segment, call, wanted.trim()),
+        None if call.trim().is_empty() => Ok(()),
+        None => Err(Fail::new(format_args!("no call: {call}"))),
+    }
 }
 
 /// A call gives this, and leaves the segment sound.
@@ -156,7 +173,7 @@ fn size<F: Fit>(s: &Segment<F, Global>, what: &str) -> Option<Answer> {
         "is_empty" => Some(Ok(u32::from(s.all_memory_deallocated()))),
         "size" => Some(Ok(s.window().len())),
         "named" => Some(Ok(s.num_named())),
-        "unique" => Some(Ok(s.num_unique() as u32)),
+        "unique" => Some(Ok(u32::try_from(s.num_unique()).ok()?)),
         _ => None,
     }
 }

@@ -59,10 +59,15 @@ pub(crate) fn calls_on<F: Fit>(alloc: Global, text: &str) -> Result<(), Fail> {
         let (first, rest) = heap.split_once('\n').ok_or("no calls")?;
         let mut s = heap_of::<F>(alloc, first)?;
         for line in rest.lines() {
-            for call in line.split(';') {
-                follow(alloc, &mut s, call.trim_start())?;
-            }
+            follow_line(alloc, &mut s, line)?;
         }
+    }
+    Ok(())
+}
+
+fn follow_line<F: Fit>(alloc: Global, s: &mut Rooted<F>, line: &str) -> Result<(), Fail> {
+    for call in line.split(';') {
+        follow(alloc, s, call.trim_start())?;
     }
     Ok(())
 }

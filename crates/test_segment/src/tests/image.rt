@@ -94,12 +94,17 @@ impl Image {
     /// This is the first fault with each of the changes, which are undone.
     fn finds_each(&mut self, alloc: Global, changes: &str, fault: &str) -> Result<(), Fail> {
         for change in changes.split('|') {
-            let found = self.fault_with(alloc, change)?;
-            if !is_told(found, fault) {
-                return Err(Fail::new(format_args!("{change} => {fault}, not {found:?}")));
-            }
+            self.finds(alloc, change, fault)?;
         }
         Ok(())
+    }
+
+    fn finds(&mut self, alloc: Global, change: &str, fault: &str) -> Result<(), Fail> {
+        let found = self.fault_with(alloc, change)?;
+        if is_told(found, fault) {
+            return Ok(());
+        }
+        Err(Fail::new(format_args!("{change} => {fault}, not {found:?}")))
     }
 
     fn fault_with(&mut self, alloc: Global, change: &str) -> Result<Option<Fault>, Fail> {
