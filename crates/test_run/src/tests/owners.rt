@@ -1,7 +1,7 @@
 use crate::tests::plays::plays;
-use crate::tests::runs::{KINDS, Kind, PLAIN, Setting, empty, run_in, statistics_of};
+use crate::tests::runs::{KINDS, Kind, PLAIN, Ran, Setting, empty, run_in, statistics_of};
 use client_vm::Ended;
-use std::process::Abort;
+use std::alloc::Global;
 use std::test::Fail;
 use support_data::chain;
 
@@ -77,26 +77,29 @@ const PRINT_WHILE_OWNING: &str = "type i64
     ELSE
     END";
 
-/// At a failed output the object that a register owns is destroyed.
-fn empties_registers(rt: &(impl Abort + AllocGlobal), kind: Kind) -> Result<(), Fail> {
-    let image = empty(rt.alloc(), 1024, kind)?;
+/// The second client doesn't run: the first one's output failed at its third step, after it took 2 bytes.
+fn has_failed(ran: &Ran) -> bool {
+    let report = ran.reports.first().copied().unwrap_or_default();
+    ran.ended == Ended::OutputFailed
+        && ran.reports.len() == 1
+        && report.steps == 3
+        && ran.out.as_slice() == b"42".as_slice()
+}
+
+/// The bytes that are free after a failed output, at which the object that a register owns is destroyed.
+fn free_at_failure(alloc: Global, kind: Kind) -> Result<Option<u32>, Fail> {
+    let image = empty(alloc, 1024, kind)?;
     let setting = Setting { limit: 2, ..PLAIN };
     let texts = [PRINT_WHILE_OWNING, PRINT_WHILE_OWNING];
-    let ran = run_in(rt.alloc(), image.as_slice(), &texts, setting)?;
-    assert_eq!(rt; ran.out.as_slice(), b"42".as_slice());
-    assert!(rt; ran.ended == Ended::OutputFailed);
-    assert_eq!(rt; ran.reports.len(), 1);
-    let report = ran.reports.first().copied().unwrap_or_default();
-    assert_eq!(rt; report.steps, 3);
-    let left = statistics_of(rt.alloc(), ran.image.as_slice())?;
-    assert_eq!(rt; left.free, 320);
-    Ok(())
+    let ran = run_in(alloc, image.as_slice(), &texts, setting)?;
+    let left = statistics_of(alloc, ran.image.as_slice())?;
+    Ok(has_failed(&ran).then_some(left.free))
 }
 
 #[test]
 fn registers_are_emptied_at_the_end(rt: HostRuntime) -> Result<(), Fail> {
     for kind in KINDS {
-        empties_registers(&rt, kind)?;
+        assert!(rt; free_at_failure(rt.alloc(), kind)? == Some(320));
     }
     Ok(())
 }

@@ -8,7 +8,9 @@
 //!     724=33 => pointer 720   with these changes, which are undone, this is the first fault; `|` stands between several such
 //!
 //! A change is `at=word`, where the word may also be `low,high`, its halves, or `'ab'`, its bytes; `at:number` for a number of 64
-//! bits; `at->named` or `at->null` for a pointer. A block `unique` is an object that its type's word for unique objects names.
+//! bits; `at->named` or `at->null` for a pointer. A block is `named`, an `object` (`unique` where its type's word for unique objects
+//! names it), a `buffer`, a `node`, or of the names an `index` or an `index_node`. A fault is told by what is wrong, `header`, `type`,
+//! `block`, `free`, `index`, `pointer`, `twice` for two owners, `unowned` or `value`, and where; `sound` is none.
 
 use crate::tests::support::{first_fault, window};
 use seg_ptr::Window;
