@@ -14,7 +14,7 @@
 --     unique_at picture T                 where the unique object of a type begins
 use Rattle.std.specs.Prelude.{◌≡◌, ℕ, ◌+◌, ◌≤◌, take, drop, List, [], ◌∷◌, ◌++◌, length, ◌⊎◌, Option, Some, None, IsSome, option_map}
 use Rattle.seg_spec.specs.Bytes.{word, ChangesOnly}
-use Rattle.seg_spec.specs.Header.{allocator_word, index_kind_word, types_start, types_size, KeepsFront}
+use Rattle.seg_spec.specs.Header.{allocator_word, number_word, index_kind_word, types_start, types_size, KeepsFront}
 use Rattle.seg_spec.specs.Types.{Table, size, longer}
 use Rattle.seg_spec.specs.Value.{copies, default_of}
 use Rattle.seg_spec.specs.Heap.{live}
@@ -22,7 +22,7 @@ use Rattle.seg_spec.specs.Block.{KeepsBlock}
 use Rattle.seg_spec.specs.Index.{Root, root_of_type, plain_root}
 use Rattle.seg_spec.specs.Sound.{Picture, IsHeld, HoldsRoot, times, positions}
 use Rattle.seg_spec.specs.Roots.{Listed, with_roots}
-use Rattle.seg_spec.specs.Counting.{without_cells}
+use Rattle.seg_spec.specs.Counting.{AreCounted, without_cells}
 use Rattle.seg_spec.specs.Demand.{Ask, block_for, after_gives}
 use Rattle.seg_spec.specs.Destroying.{HoldFrozen, KeepFrozen}
 use Rattle.seg_spec.specs.Frozen.{blocks_by}
@@ -35,9 +35,11 @@ use Rattle.seg_raw.specs.declared.code.Code.{Code}
 use Rattle.seg_raw.specs.declared.code.Code.TheVariants as code
 use Rattle.seg_value.specs.Stored.{Stored}
 
--- the segment's bytes hold the picture, its types are the picture's, and its allocator is this one
+-- the segment's bytes hold the picture, whose frozen objects are counted, its types are the
+-- picture's, and its allocator is this one
 pub record IsSegment (allocator : ℕ) (s : Stored) (picture : Picture) : Type 0 where
   pub held : IsHeld s.window.bytes picture
+  pub counted : AreCounted (word s.window.bytes number_word) picture
   pub table_is : s.types ≡ picture.table
   pub allocator_is : word s.window.bytes allocator_word ≡ allocator
 

@@ -1,25 +1,28 @@
 -- What is wrong with an image excludes that it is sound.
 use Rattle.std.proofs.Common.{◌≡◌, ℕ, ◌%◌, List, length, sym, ap, ◌∙◌, subst, arith}
 use Rattle.std.specs.Prelude.{flat_map}
-use Rattle.seg_spec.specs.Bytes.{slice}
+use Rattle.seg_spec.specs.Bytes.{word, slice}
 use Rattle.seg_spec.specs.Types.{Table, form_bytes, padded, Spells}
-use Rattle.seg_spec.specs.Sound.{Picture, IsHeld, IsSound}
+use Rattle.seg_spec.specs.Sound.{Picture, IsHeld}
+use Rattle.seg_spec.specs.Images.{IsSound}
+use Rattle.seg_spec.specs.Header.{version_word}
+use Rattle.seg_spec.proofs.OwnedTags.{tags_of_version}
 use Rattle.seg_spec.specs.Faulty.{HasTiles, HasFront, LacksType, LacksTiles, Failure, Lacks}
 use Rattle.seg_spec.proofs.BytesLaws.{length-slice}
 use Rattle.seg_spec.proofs.OneTable.{HasTable-one}
 use Rattle.seg_spec.proofs.RightTables.{valid_right}
 
-pub tiles_held : (bytes : List ℕ) (picture : Picture) → IsHeld bytes picture → HasTiles bytes picture.table
-tiles_held bytes picture held =
-    let l = held.laid_out in
-    record { filled = l.heap.filled; headers = l.heap.headers; apart = l.heap.apart; ownable = l.blocks }
+pub tiles_held : (bytes : List ℕ) (s : IsSound bytes) → HasTiles bytes s.picture.table
+tiles_held bytes s =
+    let l = s.held.laid_out in
+    record { filled = l.heap.filled; headers = l.heap.headers; apart = l.heap.apart; ownable = l.blocks; of_version = tags_of_version bytes s }
 
 -- the table of an image that is in order at the front is that of its picture
 pub front_table : (bytes : List ℕ) (table : Table) (s : IsSound bytes) → HasFront bytes table → s.picture.table ≡ table
 front_table bytes table s f = HasTable-one bytes 64 s.picture.table table s.held.laid_out.is_table f.is_table s.held.laid_out.types f.types
 
 no_tiles : (bytes : List ℕ) → LacksTiles bytes → IsSound bytes → ⊥
-no_tiles bytes l s = l.2 (subst (HasTiles bytes) (front_table bytes l.0 s l.1) (tiles_held bytes s.picture s.held))
+no_tiles bytes l s = l.2 (subst (HasTiles bytes) (front_table bytes l.0 s l.1) (tiles_held bytes s))
 
 -- a table in order has no first wrong entry
 pub right_types : (bytes : List ℕ) (table : Table) (k : ℕ) → HasFront bytes table → LacksType bytes k → ⊥
@@ -27,7 +30,7 @@ right_types bytes table k f l =
     let h = f.header in
     let long : length (slice bytes 64 512) ≡ 512 = length-slice bytes 64 512 (let small = h.not_small in omega arith) in
     let spelled : Spells (slice bytes 64 512) table = f.types ∙ ap (λ n. padded n (flat_map form_bytes table)) (sym long) in
-    valid_right 1 (slice bytes 64 512) table f.is_table f.of_version spelled (ap (λ n. n % 16) long) (omega arith) k l.1.wrong
+    valid_right (word bytes version_word) (slice bytes 64 512) table f.is_table f.of_version spelled (ap (λ n. n % 16) long) (omega arith) k l.1.wrong
 
 front_held : (bytes : List ℕ) (s : IsSound bytes) → HasFront bytes s.picture.table
 front_held bytes s = record { header = s.held.laid_out.header; types = s.held.laid_out.types; is_table = s.held.laid_out.is_table; of_version = s.held.laid_out.of_version }

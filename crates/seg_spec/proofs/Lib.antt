@@ -3,6 +3,7 @@ pub mod SliceLaws
 pub mod PointerLaws
 pub mod TileLaws
 pub mod HeaderLaws
+pub mod Versions
 pub mod Frame
 pub mod OneReading
 pub mod Paths
@@ -77,6 +78,7 @@ pub mod Placements
 pub mod AddTypes
 pub mod UniqueLaws
 pub mod LooseRoots
+pub mod OwnedTags
 pub mod Failures
 pub mod OneRequest
 pub mod PartLaw

@@ -5,11 +5,14 @@
 --                              next, and don't rise along the list
 --     without_cells gone picture   the picture with what is left of its frozen objects where cells with
 --                              these names go
-use Rattle.std.specs.Prelude.{ℕ, List, [], ◌∷◌, ◌++◌}
+--     FrozenGone bytes picture gone blocks     the blocks of those that go then
+use Rattle.std.specs.Prelude.{◌≡◌, ℕ, List, [], ◌∷◌, ◌++◌}
 use Rattle.seg_spec.specs.Reads.{Place}
 use Rattle.seg_spec.specs.Index.{Root}
 use Rattle.seg_spec.specs.Sound.{Picture}
-use Rattle.seg_spec.specs.Shared.{names_each, IsCounted, IsFalling, left}
+use Rattle.seg_spec.specs.Shared.{names_each, IsCounted, IsFalling, left, freed}
+use Rattle.seg_spec.specs.Frozen.{blocks_by}
+use Rattle.seg_spec.specs.Destroying.{HoldFrozen}
 
 abbrev pub cells_in : List Root → List Place
 cells_in [] = []
@@ -24,3 +27,10 @@ pub record AreCounted (next : ℕ) (picture : Picture) : Type 0 where
 
 abbrev pub without_cells : List Place → Picture → Picture
 without_cells gone picture = record picture { frozen = left gone picture.frozen }
+
+-- the blocks of the frozen objects of a picture that go where cells with these names go
+pub record FrozenGone (bytes : List ℕ) (picture : Picture) (gone : List Place)
+    (blocks : List ℕ) : Type 0 where
+  pub theirs : ℕ → List ℕ
+  pub holds : HoldFrozen bytes picture.table theirs picture.frozen
+  pub blocks_are : blocks ≡ blocks_by theirs (freed gone picture.frozen)

@@ -1,13 +1,14 @@
 -- Where the fixed parts of a segment stand, and how long a segment may be.
 --     min_length, max_length         the bytes of the shortest and of the longest segment
---     version_word, units_word, allocator_word, index_kind_word, free_word, index_cell,
+--     version_word, units_word, allocator_word, index_kind_word, free_word, number_word, index_cell,
 --     reserved, reserved_size        where the header's words stand, after the magic bytes
+--     IsVersion version next         an image of the version may have this next number
 --     types_start, types_size        where the table of types begins, and its bytes
 --     uniques_start, uniques_size    where the words of the unique objects begin, and their bytes
 --     heap_start                     where the heap begins
 --     back_start, back_size          what stands between the free structure's word and the heap
 --     KeepsFront, KeepsBack          all before that word is kept; all after it, to the heap
-use Rattle.std.specs.Prelude.{ℕ, ◌+◌, ◌-◌, ◌*◌, ◌^◌, List}
+use Rattle.std.specs.Prelude.{◌≡◌, ◌⊎◌, ℕ, ◌+◌, ◌-◌, ◌*◌, ◌^◌, List}
 use Rattle.seg_spec.specs.Bytes.{IsSame}
 
 -- where the table of types begins, right after the header
@@ -31,9 +32,13 @@ allocator_word = 16
 abbrev pub index_kind_word : ℕ
 index_kind_word = 20
 
--- the pointer to the free structure, before a zero word
+-- the pointer to the free structure
 abbrev pub free_word : ℕ
 free_word = 24
+
+-- the number of the next object that becomes frozen: 0 in version 1, which has none
+abbrev pub number_word : ℕ
+number_word = 28
 
 -- the cell of the index: its pointer, and the number of names
 abbrev pub index_cell : ℕ
@@ -45,6 +50,14 @@ reserved = 40
 
 abbrev pub reserved_size : ℕ
 reserved_size = types_start - reserved
+
+-- the version of the images that may have frozen objects
+abbrev pub sharing_version : ℕ
+sharing_version = 2
+
+-- the versions of images, and what the word for the next number may be in each
+abbrev pub IsVersion : ℕ → ℕ → Type 0
+IsVersion version next = (version ≡ 1) × (next ≡ 0)
 
 -- ---- what follows the header
 

@@ -14,7 +14,6 @@ pub mod Apart
 pub mod Index
 pub mod Frozen
 pub mod Sound
-pub mod Faulty
 pub mod Roots
 pub mod Demand
 pub mod Items
@@ -27,6 +26,8 @@ pub mod Owing
 pub mod Destroying
 pub mod Clearing
 pub mod Counting
+pub mod Images
+pub mod Faulty
 pub mod Spending
 pub mod Shrinking
 pub mod Fixtures
