@@ -1,6 +1,5 @@
 ghost use Rattle.std.specs.Prelude.{◌≡◌, ℕ, ◌<◌, ◌≤◌, ◌==◌, ◌↔◌, ◌%◌, ◌*◌, ◌+◌, ◌++◌, [], map, sum_by, length, slice_get, IsOk, IfOk, IfErr, IfSome, IsTrue};
 ghost use Rattle.arrayvec.specs.ArrayVec.{array_vec_len};
-ghost use Rattle.seg_spec.specs.Block.{IsShared};
 ghost use Rattle.seg_spec.specs.Types.{Table, Agree, IsFirstDifference, longer, fields_of, fields_from, pointers, IsTable, form_at, entry_at, AreOfVersion, size, Spells, IsWrong, IsFirstWrong};
 ghost use Rattle.seg_layout.specs.Forms.{cell_of, form_of, map_option, has_cells};
 ghost use Rattle.seg_layout.specs.Reading.{IsReading};
@@ -99,18 +98,6 @@ impl TypeTable {
     {
         let entry = self.entries.get(t as usize)?;
         Some(entry.kind)
-    }
-
-    /// Whether cells of one of the types share objects of this one.
-    pub fn shares(&self, t: TypeId) -> bool
-        ensures { IsTrue result ↔ IsShared self.now t }
-    {
-        for cell in 0..self.len() {
-            if self.kind(cell as TypeId) == Some(Type::Shared(t)) {
-                return true;
-            }
-        }
-        false
     }
 
     /// Whether values of this type may have cells that hold pointers: all types but i64, and those that the table lacks.

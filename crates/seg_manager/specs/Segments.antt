@@ -14,7 +14,7 @@
 --     unique_at picture T                 where the unique object of a type begins
 use Rattle.std.specs.Prelude.{◌≡◌, ℕ, ◌+◌, ◌≤◌, take, drop, List, [], ◌∷◌, ◌++◌, length, ◌⊎◌, Option, Some, None, IsSome, option_map}
 use Rattle.seg_spec.specs.Bytes.{word, ChangesOnly}
-use Rattle.seg_spec.specs.Header.{allocator_word, number_word, index_kind_word, types_start, types_size, KeepsFront}
+use Rattle.seg_spec.specs.Header.{allocator_word, next_word, index_kind_word, types_start, types_size, KeepsFront}
 use Rattle.seg_spec.specs.Types.{Table, size, longer}
 use Rattle.seg_spec.specs.Value.{copies, default_of}
 use Rattle.seg_spec.specs.Heap.{live}
@@ -39,7 +39,7 @@ use Rattle.seg_value.specs.Stored.{Stored}
 -- picture's, and its allocator is this one
 pub record IsSegment (allocator : ℕ) (s : Stored) (picture : Picture) : Type 0 where
   pub held : IsHeld s.window.bytes picture
-  pub counted : AreCounted (word s.window.bytes number_word) picture
+  pub counted : AreCounted (word s.window.bytes next_word) picture
   pub table_is : s.types ≡ picture.table
   pub allocator_is : word s.window.bytes allocator_word ≡ allocator
 

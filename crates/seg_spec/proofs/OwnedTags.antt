@@ -3,7 +3,7 @@ use Rattle.std.proofs.Common.{◌≡◌, ◌≢◌, ℕ, zero, suc, ◌+◌, ◌
 use Rattle.std.specs.List.{AllByRecursion}
 use Rattle.std.proofs.lemmas.Bool.{cases_eq}
 use Rattle.seg_spec.specs.Bytes.{word}
-use Rattle.seg_spec.specs.Header.{index_kind_word, index_cell, number_word, version_word, sharing_version}
+use Rattle.seg_spec.specs.Header.{index_kind_word, index_cell, next_word, version_word, sharing_version}
 use Rattle.seg_spec.specs.Pointer.{target}
 use Rattle.seg_spec.specs.Types.{Form, Table}
 use Rattle.seg_spec.specs.Value.{Value, Values}
@@ -130,5 +130,5 @@ tags_of_version bytes s = go (cases_eq (word bytes version_word) sharing_version
     go : (word bytes version_word ≡ sharing_version) ⊎ (word bytes version_word ≢ sharing_version) → AllByRecursion Of (live bytes)
     go (inl shares) = all_of shares (live bytes)
     go (inr other) =
-        let none = none_numbered s.picture (subst (λ n. AreCounted n s.picture) (unnumbered (word bytes version_word) (word bytes number_word) s.held.laid_out.header.version other) s.counted) in
+        let none = none_numbered s.picture (subst (λ n. AreCounted n s.picture) (unnumbered (word bytes version_word) (word bytes next_word) s.held.laid_out.header.version other) s.counted) in
         each_weaker (λ (b : Span). IsOther bytes b.at) Of (λ b differs frozen. absurd (differs frozen)) (live bytes) (each_of_map (IsOther bytes) (λ b. b.at) (live bytes) (none_tagged bytes s.picture s.held none))

@@ -17,7 +17,7 @@ use Rattle.seg_spec.specs.Block.{Kind, kind_number, IsOwnable}
 use Rattle.seg_spec.specs.Sound.{Picture, roots_of, HasHeader, HoldsRoots, IsLaidOut, times, positions}
 use Rattle.seg_spec.specs.Counting.{AreCounted}
 use Rattle.seg_spec.specs.Images.{IsSound}
-use Rattle.seg_spec.specs.Header.{min_length, max_length, types_start, types_size, allocator_word, version_word, number_word, sharing_version}
+use Rattle.seg_spec.specs.Header.{min_length, max_length, types_start, types_size, allocator_word, version_word, next_word, sharing_version}
 
 -- a length that an image may have: whole units, as many as a segment may have
 pub record IsImageLength (n : ℕ) : Type 0 where
@@ -43,7 +43,7 @@ pub record HasTiles (bytes : List ℕ) (table : Table) : Type 0 where
 pub record HoldsAll (bytes : List ℕ) : Type 0 where
   pub picture : Picture
   pub none_loose : picture.loose ≡ []
-  pub counted : AreCounted (word bytes number_word) picture
+  pub counted : AreCounted (word bytes next_word) picture
   pub index_blocks : List ℕ
   pub laid_out : IsLaidOut bytes picture index_blocks
   pub root_blocks : List ℕ

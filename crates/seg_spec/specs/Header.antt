@@ -1,6 +1,6 @@
 -- Where the fixed parts of a segment stand, and how long a segment may be.
 --     min_length, max_length         the bytes of the shortest and of the longest segment
---     version_word, units_word, allocator_word, index_kind_word, free_word, number_word, index_cell,
+--     version_word, units_word, allocator_word, index_kind_word, free_word, next_word, index_cell,
 --     reserved, reserved_size        where the header's words stand, after the magic bytes
 --     IsVersion version next         an image of the version may have this next number
 --     types_start, types_size        where the table of types begins, and its bytes
@@ -37,8 +37,8 @@ abbrev pub free_word : ℕ
 free_word = 24
 
 -- the number of the next object that becomes frozen: 0 in version 1, which has none
-abbrev pub number_word : ℕ
-number_word = 28
+abbrev pub next_word : ℕ
+next_word = 28
 
 -- the cell of the index: its pointer, and the number of names
 abbrev pub index_cell : ℕ

@@ -2,12 +2,12 @@
 --     IsSound bytes     a segment that owns all its objects, and counts those that cells share
 use Rattle.std.specs.Prelude.{◌≡◌, ℕ, List, []}
 use Rattle.seg_spec.specs.Bytes.{word}
-use Rattle.seg_spec.specs.Header.{number_word}
+use Rattle.seg_spec.specs.Header.{next_word}
 use Rattle.seg_spec.specs.Sound.{Picture, IsHeld}
 use Rattle.seg_spec.specs.Counting.{AreCounted}
 
 pub record IsSound (bytes : List ℕ) : Type 0 where
   pub picture : Picture
   pub held : IsHeld bytes picture
-  pub counted : AreCounted (word bytes number_word) picture
+  pub counted : AreCounted (word bytes next_word) picture
   pub none_loose : picture.loose ≡ []

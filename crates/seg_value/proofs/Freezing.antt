@@ -1,7 +1,7 @@
 -- An object moves to a new block, and is frozen there.
 use Rattle.std.proofs.Common.{◌≡◌, ◌≢◌, ℕ, suc, ◌+◌, ◌-◌, ◌*◌, ◌%◌, ◌^◌, ◌<◌, ◌≤◌, inl, inr, List, [], ◌∷◌, length, None, refl, sym, ap, ◌∙◌, subst, arith, append-nil}
 use Rattle.seg_spec.specs.Bytes.{word, set_word, IsSame, ChangesOnly}
-use Rattle.seg_spec.specs.Header.{free_word, back_start, back_size, index_cell}
+use Rattle.seg_spec.specs.Header.{free_word, back_start, back_size, index_cell, next_word}
 use Rattle.seg_spec.specs.Types.{Table, IsTable, size}
 use Rattle.seg_spec.specs.Value.{Value, Values, nil, cons}
 use Rattle.seg_spec.specs.Heap.{IsHeap, IsLive, live, link_at, heap_start, Gives}
@@ -29,7 +29,7 @@ use Rattle.seg_spec.proofs.CellOwed.{block_there}
 use Rattle.seg_spec.proofs.Destruction.{heap_written, payload_written}
 use Rattle.seg_spec.proofs.Releases.{there_frozen}
 use Rattle.seg_value.specs.Contents.{GivesBlock}
-use Rattle.seg_value.specs.Sharing.{next_word, frozen_now, MovesFrozen}
+use Rattle.seg_value.specs.Sharing.{frozen_now, MovesFrozen}
 use Rattle.seg_value.proofs.Header.{header_fits, header_heap, header_live, header_kept}
 use Rattle.seg_value.proofs.Turns.{is_live}
 

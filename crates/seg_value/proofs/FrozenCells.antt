@@ -4,7 +4,7 @@ use Rattle.std.specs.List.{AllByRecursion}
 use Rattle.std.proofs.lemmas.Bool.{cases_eq}
 use Rattle.std.proofs.lemmas.Bool.Decides.{nat_tests}
 use Rattle.seg_spec.specs.Bytes.{word, set_word}
-use Rattle.seg_spec.specs.Header.{back_start, back_size, index_cell}
+use Rattle.seg_spec.specs.Header.{back_start, back_size, index_cell, next_word}
 use Rattle.seg_spec.specs.Pointer.{set_pointer}
 use Rattle.seg_spec.specs.Types.{Form, Table, form_at, size}
 use Rattle.seg_spec.specs.Value.{Label, Value, nil, node}
@@ -29,7 +29,7 @@ use Rattle.seg_spec.proofs.Releases.{IsFrozenThere, frozen_there}
 use Rattle.seg_spec.proofs.Sharing.{one_frozen}
 use Rattle.seg_spec.proofs.Raising.{counted_moved}
 use Rattle.seg_spec.proofs.Standing.{each_live_at, live_at, stands_still, still_home}
-use Rattle.seg_value.specs.Sharing.{FrozenBeside, next_word, frozen_now, with_blocks, MovesFrozen, Freezes}
+use Rattle.seg_value.specs.Sharing.{FrozenBeside, frozen_now, with_blocks, MovesFrozen, Freezes}
 use Rattle.seg_value.proofs.SharedCells.{ClearsCell, cell_changed}
 
 -- ---- the blocks of objects, where one more owns some

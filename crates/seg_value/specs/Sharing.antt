@@ -3,7 +3,6 @@
 --                            frozen objects beside these blocks, which count these cells and those in themselves
 --     raised_by names now    the objects, where cells with these names come too
 --     cell_count object      what a cell counts that names this object, or none
---     next_word              where an image has the number of the next object that becomes frozen
 --     frozen_now payload T number v
 --                            an object that became frozen, which one cell names
 --     MovesFrozen allocator old new table T object v inside payload
@@ -15,7 +14,7 @@
 use Rattle.std.specs.Prelude.{◌≡◌, ◌≢◌, ℕ, suc, ◌+◌, ◌-◌, ◌≤◌, ◌==◌, if◌then◌else◌, List, [], ◌∷◌, ◌++◌, length, Option, Some, None}
 use Rattle.std.specs.List.{AllByRecursion}
 use Rattle.seg_spec.specs.Bytes.{word, IsSame}
-use Rattle.seg_spec.specs.Header.{allocator_word, index_cell, KeepsFront}
+use Rattle.seg_spec.specs.Header.{allocator_word, index_cell, KeepsFront, next_word}
 use Rattle.seg_spec.specs.Types.{Table, size}
 use Rattle.seg_spec.specs.Value.{Label, Value, nil, node}
 use Rattle.seg_spec.specs.Heap.{Span, IsHeap, live, link_at, heap_start}
@@ -49,10 +48,6 @@ cell_count None = 0
 cell_count (Some p) = 1
 
 -- ---- objects that become frozen
-
--- the word of an image that has the number of the next object that becomes frozen
-abbrev pub next_word : ℕ
-next_word = 28
 
 -- an object that became frozen, which one cell names
 abbrev pub frozen_now : ℕ → ℕ → ℕ → Value → Frozen

@@ -2,6 +2,7 @@ ghost use Rattle.std.specs.Prelude.{◌≡◌, ℕ, suc, ◌+◌, ◌%◌, ◌^�
 ghost use Rattle.std.specs.List.{AllByRecursion};
 ghost use Rattle.seg_spec.specs.Block.{block_of};
 ghost use Rattle.seg_spec.specs.Bytes.{word, set_word};
+ghost use Rattle.seg_spec.specs.Header.{next_word};
 ghost use Rattle.seg_spec.specs.Calls.{IsLoose, Refuses};
 ghost use Rattle.seg_spec.specs.Clearing.{ClearsPlace};
 ghost use Rattle.seg_spec.specs.Demand.{block_for};
@@ -16,7 +17,7 @@ ghost use Rattle.seg_spec.specs.Types.{Form, IsTable, form_at, size};
 ghost use Rattle.seg_spec.specs.Value.{Value};
 ghost use Rattle.seg_spec.specs.Window.{with_bytes, KeepsHost};
 ghost use Rattle.seg_value.specs.Places.{place_of, object_at};
-ghost use Rattle.seg_value.specs.Sharing.{FrozenBeside, raised_by, cell_count, next_word, MovesFrozen, Freezes};
+ghost use Rattle.seg_value.specs.Sharing.{FrozenBeside, raised_by, cell_count, MovesFrozen, Freezes};
 
 use crate::content::{Content, FROZEN_WORDS};
 use crate::heap::Heap;

@@ -2,6 +2,7 @@ use Rattle.std.proofs.Common.{◌≡◌, ◌<◌, ◌+◌, suc, length, ◌∷�
 use Rattle.std.specs.Prelude.{MatchResult, IsErr}
 use Rattle.std.proofs.lemmas.Bool.{false≢true}
 use Rattle.seg_spec.specs.Bytes.{word, set_word}
+use Rattle.seg_spec.specs.Header.{next_word}
 use Rattle.seg_spec.specs.Pointer.{set_pointer}
 use Rattle.seg_spec.specs.Types.{size}
 use Rattle.seg_spec.specs.Block.{Kind, AllowsType}
@@ -12,7 +13,7 @@ use Rattle.seg_spec.specs.Window.{with_bytes}
 use Rattle.seg_spec.proofs.Placements.{bytes_of}
 use Rattle.seg_value.specs.Places.{place_of, object_at}
 use Rattle.seg_value.specs.Stored.{Stored}
-use Rattle.seg_value.specs.Sharing.{next_word, Freezes}
+use Rattle.seg_value.specs.Sharing.{Freezes}
 use Rattle.seg_value.proofs.Clearing.{typed}
 use Rattle.seg_value.proofs.SharedCells.{ClearsCell}
 use Rattle.seg_value.proofs.FrozenCells.{freezes, moved_as}
@@ -50,7 +51,7 @@ returns-clause-frozen g c = λ T v w blocks inside theirs kept now f s loose b s
     let moved = moved_as g.F.Fit.allocator old.window.bytes mid.window.bytes old.types c.shared_type.result T c.args.object p w inside t_is m in
     let clears = subst (λ t. ClearsCell g.F.Fit.allocator mid.window.bytes last.bytes t (place_of cell)) c.move_frozen.ensures.types c.clear.ensures.cleared in
     let named = bytes_of c.name.new.self.window (with_bytes last (set_word (set_pointer last.bytes cell.at (Some p)) (cell.at + 4) 1)) c.name.ensures.window in
-    let allowed : AllowsType old.types Kind.frozen T = (typed old.window.bytes old.types (object_at c.args.object T) w inside loose.holds_it, (cell.type_id, f)) in
+    let allowed : AllowsType old.types Kind.frozen T = typed old.window.bytes old.types (object_at c.args.object T) w inside loose.holds_it in
     let made = freezes g.F.Fit.allocator old.window.bytes mid.window.bytes old.types (place_of cell) T c.args.object p f v w blocks inside theirs kept now s b
     (λ bytes h tag link. record { kind = Kind.frozen; type = T; allowed = allowed; tag_is = tag; link_is = link }) moved last.bytes clears in
     subst (λ bytes. Freezes g.F.Fit.allocator old.window.bytes bytes old.types (place_of cell) T c.args.object w inside blocks (names_in v) theirs now) (sym named) made

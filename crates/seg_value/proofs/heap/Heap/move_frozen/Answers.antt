@@ -1,12 +1,12 @@
 use Rattle.std.proofs.Common.{◌+◌, ◌^◌, ◌<◌, ◌%◌, refl, ap, subst, arith}
 use Rattle.seg_spec.specs.Bytes.{set_word}
+use Rattle.seg_spec.specs.Header.{next_word}
 use Rattle.seg_spec.specs.Block.{Kind, tag_of}
 use Rattle.seg_spec.specs.Window.{with_bytes}
 use Rattle.seg_spec.proofs.Placements.{bytes_of}
 use Rattle.seg_value.specs.declared.content.Shape.TheVariants as shape
 use Rattle.seg_value.specs.Contents.{IsContent}
 use Rattle.seg_value.specs.Stored.{Stored}
-use Rattle.seg_value.specs.Sharing.{next_word}
 use Rattle.seg_value.proofs.Freezing.{all_moved}
 use Rattle.seg_value.proofs.heap.Heap.move_frozen.Goals as goal
 
