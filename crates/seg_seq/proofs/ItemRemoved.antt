@@ -26,7 +26,7 @@ use Rattle.seg_spec.proofs.Frame.{cell-target}
 use Rattle.seg_spec.proofs.LiveLaws.{times-same, times-other, times-more, times-append, there, each_there, live-once, LiesIn, live-lie, live-apart, OneOrApart}
 use Rattle.seg_spec.proofs.Composing.{kept_twice, around_kept}
 use Rattle.seg_spec.proofs.FrozenBlocks.{hold_kept, frozen_twice, frozen_kept}
-use Rattle.seg_spec.proofs.SharedAlone.{shared_fewer}
+use Rattle.seg_spec.proofs.SharedBeside.{shared_fewer}
 use Rattle.seg_spec.proofs.Paths.{count_is, nth-append}
 use Rattle.seg_spec.proofs.PlaceSteps.{home_live}
 use Rattle.seg_spec.proofs.Buffered.{holds_buffered, entries_kept}

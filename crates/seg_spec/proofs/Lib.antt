@@ -56,8 +56,7 @@ pub mod Destruction
 pub mod Lowering
 pub mod Releases
 pub mod PartsOwed
-pub mod Unshared
-pub mod SharedAlone
+pub mod SharedBeside
 pub mod NoFrozen
 pub mod CellOwed
 pub mod RingOwed

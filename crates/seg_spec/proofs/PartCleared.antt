@@ -25,7 +25,7 @@ use Rattle.seg_spec.proofs.LiveLaws.{OneOrApart, times-same, times-other, times-
 use Rattle.seg_spec.proofs.PutLaw.{comes_apart}
 use Rattle.seg_spec.proofs.Composing.{around_twice, around_kept}
 use Rattle.seg_spec.proofs.FrozenBlocks.{hold_kept, frozen_twice, frozen_kept}
-use Rattle.seg_spec.proofs.SharedAlone.{shared_fewer}
+use Rattle.seg_spec.proofs.SharedBeside.{shared_fewer}
 
 module _ (allocator : ℕ) (old : List ℕ) (table : Table) (place : Place) (v : Value) (blocks : List ℕ) (s : Stands allocator old table place v blocks)
     (inner : Place) (path : List Selector) (leads : Leads old table place path inner) where

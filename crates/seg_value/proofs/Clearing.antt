@@ -26,7 +26,7 @@ use Rattle.seg_spec.proofs.LiveLaws.{times-append, times-same, times-other, ther
 use Rattle.seg_spec.proofs.WriteInside.{KeptBut, live_kept_but}
 use Rattle.seg_spec.proofs.Destruction.{inside_same, inside_then, heap_written, payload_written, awaits_then, final_kept, none_freed, all_freed}
 use Rattle.seg_spec.proofs.FrozenBlocks.{frozen_twice}
-use Rattle.seg_spec.proofs.SharedAlone.{awaits_shared}
+use Rattle.seg_spec.proofs.SharedBeside.{awaits_shared}
 use Rattle.seg_layout.specs.Forms.{has_cells}
 use Rattle.seg_value.proofs.Nulls.{no_cells_own}
 use Rattle.seg_value.specs.Waiting.{AddsIn}

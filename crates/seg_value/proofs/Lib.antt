@@ -12,7 +12,6 @@ pub mod Opening
 pub mod Turns
 pub mod Clearing
 pub mod Setting
-pub mod SetAlone
 pub mod Pointed
 pub mod SharedCells
 pub mod Freezing

@@ -20,7 +20,7 @@ use Rattle.seg_spec.proofs.Destruction.{HasFreed, pop_live, freed_more, linked_t
 use Rattle.seg_spec.specs.Clearing.{SharedBeside}
 use Rattle.seg_spec.proofs.FrozenBlocks.{hold_kept, frozen_twice, frozen_kept}
 use Rattle.seg_spec.proofs.Standing.{ownable_linked}
-use Rattle.seg_spec.proofs.SharedAlone.{awaits_shared}
+use Rattle.seg_spec.proofs.SharedBeside.{awaits_shared}
 use Rattle.seg_value.specs.Waiting.{AddsIn, IsOpened}
 
 -- a block in a list of live ones
