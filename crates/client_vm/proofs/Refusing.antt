@@ -9,7 +9,7 @@ use Rattle.seg_spec.specs.Window.{Placement, region_of, IsPlace}
 use Rattle.seg_spec.proofs.SliceLaws.{region-placed}
 use Rattle.seg_spec.specs.Header.{allocator_word}
 use Rattle.seg_spec.specs.Types.{Table}
-use Rattle.seg_spec.specs.Sound.{IsSound}
+use Rattle.seg_spec.specs.Images.{IsSound}
 use Rattle.seg_spec.specs.Faulty.{Failure}
 use Rattle.seg_layout.proofs.Extending.{no_agreement}
 use Rattle.seg_raw.specs.declared.fault.Fault.{Fault}

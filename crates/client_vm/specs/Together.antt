@@ -4,7 +4,7 @@
 --     HaveRunOn ..     so it is on a sound image in a window, where the moves may be made
 use Rattle.std.specs.Prelude.{◌≡◌, ℕ, List, [], length, Bool, Option, if◌then◌else◌}
 use Rattle.seg_spec.specs.Window.{Placement, region_of}
-use Rattle.seg_spec.specs.Sound.{IsSound}
+use Rattle.seg_spec.specs.Images.{IsSound}
 use Rattle.client_spec.specs.Syntax.{Client}
 use Rattle.client_spec.specs.Run.{Ending, finished, stopped}
 use Rattle.client_spec.specs.OnImages.{Move, Left}

@@ -9,7 +9,7 @@
 --     IsRefusedAs image texts fault   why no client ran, as it is told
 use Rattle.std.specs.Prelude.{◌≡◌, ◌≤◌, ℕ, List, [], ◌∷◌, Some, None, length, map, take}
 use Rattle.seg_spec.specs.Types.{Table}
-use Rattle.seg_spec.specs.Sound.{IsSound}
+use Rattle.seg_spec.specs.Images.{IsSound}
 use Rattle.seg_raw.specs.declared.fault.Fault as seg_raw_fault
 use Rattle.seg_check.specs.Faults.{IsImageOf, IsFaultOf}
 use Rattle.client_spec.specs.Syntax.{Client}

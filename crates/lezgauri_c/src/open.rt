@@ -2,7 +2,7 @@ ghost use Rattle.std.specs.Prelude.{◌≡◌, ◌≢◌, ◌≤◌, ◌<◌, Ok
 ghost use Rattle.seg_spec.specs.Bytes.{word};
 ghost use Rattle.seg_spec.specs.Header.{allocator_word};
 ghost use Rattle.seg_spec.specs.Types.{Table};
-ghost use Rattle.seg_spec.specs.Sound.{IsSound};
+ghost use Rattle.seg_spec.specs.Images.{IsSound};
 ghost use Rattle.seg_spec.specs.Window.{region_of};
 ghost use Rattle.seg_check.specs.Faults.{IsImageOf, IsFaultOf};
 ghost use Rattle.client_spec.specs.Syntax as syntax;

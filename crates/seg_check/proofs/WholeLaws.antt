@@ -9,7 +9,8 @@ use Rattle.seg_spec.specs.Heap.{HoldsGaps, gaps, live}
 use Rattle.seg_spec.specs.Header.{types_start, allocator_word}
 use Rattle.seg_spec.specs.Reads.{Place, HoldsEach, holds_none}
 use Rattle.seg_spec.specs.Index.{Root, AreEntries, AreAscending, Precedes}
-use Rattle.seg_spec.specs.Sound.{Picture, roots_of, IsPlain, HoldsRoots, IsLaidOut, IsSound, times, SameBlocks, positions}
+use Rattle.seg_spec.specs.Images.{IsSound}
+use Rattle.seg_spec.specs.Sound.{Picture, roots_of, IsPlain, HoldsRoots, IsLaidOut, times, SameBlocks, positions}
 use Rattle.seg_spec.specs.Faulty.{HasFront, HasTiles, HoldsAll, LacksOwner}
 use Rattle.seg_spec.proofs.Frame.{each_left}
 use Rattle.seg_spec.proofs.LiveLaws.{times-append, each_there}

@@ -6,7 +6,8 @@
 use Rattle.std.specs.Prelude.{◌≡◌, ◌≢◌, ◌⊎◌, ⊤, ℕ, List, []}
 use Rattle.seg_spec.specs.Bytes.{word}
 use Rattle.seg_spec.specs.Types.{Table}
-use Rattle.seg_spec.specs.Sound.{Picture, IsHeld, IsSound}
+use Rattle.seg_spec.specs.Images.{IsSound}
+use Rattle.seg_spec.specs.Sound.{Picture, IsHeld}
 use Rattle.seg_spec.specs.Faulty.{HasFront, LacksHeader, LacksType, LacksTiles, LacksGaps, LacksContent, LacksOwner}
 use Rattle.seg_raw.specs.declared.fault.Fault.{Fault}
 use Rattle.seg_raw.specs.declared.fault.Fault.TheVariants as fault

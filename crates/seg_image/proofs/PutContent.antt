@@ -12,25 +12,17 @@ use Rattle.seg_spec.specs.Owning.{Stands}
 use Rattle.seg_spec.specs.Calls.{IsLoose}
 use Rattle.seg_spec.specs.Roots.{ChangesPlace}
 use Rattle.seg_spec.specs.Demand.{Ask, need, block_for, after_asks, after_gives}
-use Rattle.seg_spec.specs.Destroying.{AreLive}
-use Rattle.seg_spec.specs.Growing.{Succeeds}
-use Rattle.seg_spec.specs.Spending.{replaced, spent}
+use Rattle.seg_spec.specs.Clearing.{SharedBeside, BesideShared}
+use Rattle.seg_spec.specs.Frozen.{Frozen, blocks_by}
+use Rattle.seg_spec.specs.Shared.{named_in}
 use Rattle.seg_spec.proofs.Composing.{around_twice, around_kept}
 use Rattle.seg_spec.proofs.LiveLaws.{LiesIn, there, live-lie, times-other, times-more, times-append}
-use Rattle.seg_spec.proofs.OneRequest.{spent_one, counts_one}
+use Rattle.seg_spec.proofs.FrozenBlocks.{hold_kept, frozen_twice, frozen_kept, left_fewer}
+use Rattle.seg_spec.proofs.OneRequest.{counts_one}
 use Rattle.seg_spec.proofs.Standing.{each_live_at, live_at, stands_still, still_home}
 use Rattle.seg_value.specs.Contents.{GivesBlock}
-use Rattle.seg_value.specs.Places.{object_at}
-use Rattle.seg_manager.proofs.ClearedItems.{gives_append}
-
-spent_then : (allocator : ℕ) (bs after : List Span) (end : ℕ) (asks : List Ask) (gives : List ℕ) → after_asks allocator bs end asks ≡ Some after → spent allocator bs end asks [] ≡ Some after
-    → spent allocator bs end asks gives ≡ Some (after_gives after gives)
-spent_then allocator bs after end asks gives granted none =
-    let olds = replaced allocator bs end asks in
-    let empty : Some (after_gives after (olds ++ [])) ≡ Some after = sym (ap (option_map (λ left. after_gives left (olds ++ []))) granted) ∙ none in
-    let same : after_gives after (olds ++ []) ≡ after = cc in
-    let back : after_gives after olds ≡ after = ap (after_gives after) (sym (append-nil olds)) ∙ same in
-    ap (option_map (λ left. after_gives left (olds ++ gives))) granted ∙ ap Some (gives_append after olds gives ∙ ap (λ cs. after_gives cs gives) back)
+use Rattle.seg_value.specs.Places.{object_at, SetsOwn}
+use Rattle.seg_image.specs.Owners.{PutsNew}
 
 module _ (allocator : ℕ) (old mid new : List ℕ) (table : Table) (own : Place) (U at : ℕ) (v : Value) (blocks : List ℕ)
     (form : form_at table own.type ≡ Some (Form.own U)) (s : Stands allocator old table own v blocks) (given : GivesBlock allocator old mid table (tag_of Kind.object U) 0 U at) where
@@ -81,18 +73,41 @@ module _ (allocator : ℕ) (old mid new : List ℕ) (table : Table) (own : Place
     owned = λ h. rw (counts h) (let a = times-append h (block_of at ∷ []) (positions (live old)) in omega arith);
   }
 
-  alive : AreLive mid (stands.home ∷ (blocks ++ block_of at ∷ []))
-  alive h = subst (λ x. times h (x ∷ (blocks ++ block_of at ∷ [])) ≤ times h (positions (live mid))) (sym home_is)
-      (let a = times-append h (s.home ∷ blocks) (block_of at ∷ []) in let b = times-append h (block_of at ∷ []) (positions (live old)) in let c = counts h in let o = s.owned h in omega arith)
-
-  pub holds_new : ((w v : Value) (bs inside : List ℕ) → (t : Stands allocator mid table own v bs) → IsLoose mid table (object_at at U) w inside → AreLive mid (t.home ∷ (bs ++ block_of at ∷ inside))
-      → ChangesPlace mid new table own (Full w) (block_of at ∷ inside) (after_gives (live mid) bs) bs [])
-      → Succeeds allocator old new table own (Full (default_of table U)) (block_for (size table U) ∷ []) blocks blocks (block_of at ∷ [])
-  holds_new sets =
-      let c = sets (default_of table U) v blocks [] stands loose alive in
+  -- frozen objects stand beside these blocks and the new one, too
+  beside_then : (names : List ℕ) (theirs : ℕ → List ℕ) (kept : List Place) (now final : List Frozen) → SharedBeside old table (s.home ∷ blocks) names theirs kept now final
+      → SharedBeside mid table (stands.home ∷ (blocks ++ block_of at ∷ [])) names theirs kept now final
+  beside_then names theirs kept now final b =
+      let shared_live : (h : ℕ) → 1 ≤ times h (blocks_by theirs now) → 1 ≤ times h (positions (live old)) = λ h some. omega (arith, b.owned h, times-append h (s.home ∷ blocks) (blocks_by theirs now)) in
       record {
-        left = after_gives (live mid) blocks;
-        left_is = spent_then allocator (live old) (live mid) (length old) (block_for (size table U) ∷ []) blocks granted (spent_one allocator (live old) (live mid) (length old) (need (size table U)) granted);
+        holds = hold_kept old mid table s.is_table theirs now (λ h some. (given.kept h (shared_live h some)).0) b.holds;
+        ownable = λ h some. ownable_at h (let m = more h in omega (arith, shared_live h some));
+        owned = λ h. subst (λ x. times h ((x ∷ (blocks ++ block_of at ∷ [])) ++ blocks_by theirs now) ≤ times h (positions (live mid))) (sym home_is)
+            (let c = counts h in
+            let own = times-append h (block_of at ∷ []) (positions (live old)) in
+            let all = times-append h (s.home ∷ (blocks ++ block_of at ∷ [])) (blocks_by theirs now) in
+            let both = times-append h (s.home ∷ blocks) (block_of at ∷ []) in
+            let were = times-append h (s.home ∷ blocks) (blocks_by theirs now) in
+            omega (arith, b.owned h));
+        releasing = b.releasing;
+      }
+
+  pub holds_new : ((w v : Value) (bs inside : List ℕ) → (t : Stands allocator mid table own v bs) → IsLoose mid table (object_at at U) w inside
+      → BesideShared mid table (t.home ∷ (bs ++ block_of at ∷ inside)) (named_in v) (SetsOwn mid new table own w bs (block_of at ∷ inside)))
+      → BesideShared old table (s.home ∷ blocks) (named_in v) (PutsNew allocator old new table own U blocks at)
+  holds_new sets = λ theirs kept now final b.
+      let o = sets (default_of table U) v blocks [] stands loose theirs kept now final (beside_then (named_in v) theirs kept now final b) in
+      let c = o.clears.changes in
+      let mine : List ℕ = block_of at ∷ [] in
+      let shared = blocks_by theirs now in
+      let still = blocks_by theirs final in
+      let fewer : (h : ℕ) → times h still ≤ times h shared = λ h. subst (λ fs. times h (blocks_by theirs fs) ≤ times h shared) b.releasing.leaves (left_fewer theirs b.releasing.pending now h) in
+      let shared_live : (h : ℕ) → 1 ≤ times h still → 1 ≤ times h (positions (live old)) = λ h some. omega (arith, fewer h, b.owned h, times-append h (s.home ∷ blocks) shared) in
+      record {
+        granted = live mid;
+        granted_is = granted;
+        gives = o.clears.gives;
+        gives_are = λ h. omega (arith, o.clears.all_are h, times-append h (blocks ++ mine) shared, times-append h blocks mine, times-append h blocks shared, times-append h o.clears.gives (mine ++ still), times-append h mine still,
+            times-append h o.clears.gives still);
         changes = record {
           length_kept = c.length_kept ∙ given.length_kept;
           front_kept = c.front_kept ∙ given.front_kept;
@@ -101,10 +116,13 @@ module _ (allocator : ℕ) (old mid new : List ℕ) (table : Table) (own : Place
           ownable = c.ownable;
           holds_it = c.holds_it;
           live_is = c.live_is;
-          live_are = λ h. let l = c.live_are h in let m = counts h in let a = times-append h (block_of at ∷ []) (positions (live old)) in omega arith;
+          live_are = λ h. omega (arith, c.live_are h, counts h, times-append h mine (positions (live old)), times-append h (blocks ++ mine) shared, times-append h blocks mine, times-append h blocks shared, times-append h mine still);
           kept = λ h some none.
               let two = (there (LiesIn old heap_start (length old)) h (positions (live old)) (live-lie old allocator s.heap) some).size in
+              let other : times h mine ≡ 0 = times-other h (block_of at) [] (λ e. let free : times h (positions (live old)) ≡ 0 = subst (λ x. times x (positions (live old)) ≡ 0) e given.was_free in absurd (omega arith)) in
               around_twice old mid new own.at (size table own.type) h (around_kept old mid own.at (size table own.type) h (omega arith) (given.kept h some).0)
-              (c.kept h (let m = more h in omega arith) none);
+              (c.kept h (let m = more h in omega arith) (omega (arith, none, other, times-append h (blocks ++ mine) shared, times-append h blocks mine, times-append h blocks shared)));
         };
+        shared_kept = frozen_twice old mid new theirs final (frozen_kept allocator old mid s.heap theirs final shared_live (λ h some. (given.kept h (shared_live h some)).0)) o.clears.shared_kept;
+        holds = o.clears.holds;
       }

@@ -1,3 +1,4 @@
 pub mod Growth
 pub mod Images
 pub mod Places
+pub mod Owners

@@ -1,9 +1,12 @@
 ghost use Rattle.std.specs.Prelude.{◌≡◌, ◌↔◌, ℕ, [], length, IsOk, IfOk, IfErr, OnOk, OnErr, IsOkUnless};
-ghost use Rattle.seg_spec.specs.Sound.{Picture, IsSound};
+ghost use Rattle.seg_spec.specs.Bytes.{word};
+ghost use Rattle.seg_spec.specs.Header.{version_word};
+ghost use Rattle.seg_spec.specs.Images.{IsSound};
+ghost use Rattle.seg_spec.specs.Sound.{Picture};
 ghost use Rattle.seg_spec.specs.Types.{AreOfVersion, Agree, IsFirstDifference, longer};
 ghost use Rattle.seg_spec.specs.Window.{KeepsHost};
 ghost use Rattle.seg_manager.specs.Segments.{AddsTypes};
-ghost use Rattle.seg_image.specs.Images.{segment_of, allocator_of, IsOpen};
+ghost use Rattle.seg_image.specs.Images.{segment_of, allocator_of, bytes_in, IsOpen};
 
 use seg_bestfit::BestFit;
 use seg_layout::TypeTable;
@@ -71,7 +74,8 @@ impl<A: Allocator> Image<A> {
         ensures types { OnOk result ((segment_of self.new).types
             ≡ longer (segment_of self.old).types types.now) }
         ensures adds { OnOk result ((picture : Picture) → IsOpen self.old picture →
-            AreOfVersion 1 types.now → AddsTypes (allocator_of self.old)
+            AreOfVersion (word (bytes_in self.old) version_word) types.now →
+            AddsTypes (allocator_of self.old)
             (segment_of self.old) (segment_of self.new) picture types.now) }
         ensures differs { IfErr result (λ fault. (k : ℕ) × (fault ≡ Fault.TypeMismatch k)
             × IsFirstDifference (segment_of self.old).types types.now k) }

@@ -1,15 +1,16 @@
-ghost use Rattle.std.specs.Prelude.{◌≡◌, ℕ, List, [], ◌∷◌, None, Some, Err, IfOk, MatchResult};
-ghost use Rattle.seg_spec.specs.Block.{block_of};
-ghost use Rattle.seg_spec.specs.Growing.{Succeeds};
+ghost use Rattle.std.specs.Prelude.{◌≡◌, ℕ, List, ◌∷◌, None, Some, Err, IfOk, MatchResult};
+ghost use Rattle.seg_spec.specs.Clearing.{BesideShared};
 ghost use Rattle.seg_spec.specs.Owning.{Stands};
 ghost use Rattle.seg_spec.specs.Pointer.{target};
-ghost use Rattle.seg_spec.specs.Types.{AreOfVersion, Form, form_at};
-ghost use Rattle.seg_spec.specs.Value.{Value, Full, default_of};
+ghost use Rattle.seg_spec.specs.Shared.{named_in};
+ghost use Rattle.seg_spec.specs.Types.{Form, form_at};
+ghost use Rattle.seg_spec.specs.Value.{Value};
 ghost use Rattle.seg_spec.specs.Window.{KeepsHost};
 ghost use Rattle.seg_value.specs.Places.{place_of};
 ghost use Rattle.seg_manager.specs.Segments.{one_value};
 ghost use Rattle.seg_seq.specs.Sequences.{LacksRoom};
 ghost use Rattle.seg_image.specs.Images.{segment_of, allocator_of, bytes_in, types_of, ChangesBytes};
+ghost use Rattle.seg_image.specs.Owners.{PutsNew};
 ghost use Rattle.seg_image.specs.Places.{position_of, object_type, content_place, StandsIn};
 
 use crate::image::{Image, on};
@@ -42,11 +43,10 @@ impl<A: Allocator> Image<A> {
             object_type (form_at (types_of self.old) own.type_id) ≡ Some place.type_id) }
         ensures puts { (U : ℕ) (v : Value) (blocks : List ℕ) →
             form_at (types_of self.old) own.type_id ≡ Some (Form.own U) →
-            StandsIn self.old own v blocks → AreOfVersion 1 (types_of self.old) →
-            MatchResult (position_of result)
-            (λ at. Succeeds (allocator_of self.old) (bytes_in self.old) (bytes_in self.new)
-            (types_of self.old) (place_of own) (Full (default_of (types_of self.old) U))
-            (one_value (types_of self.old) U) blocks blocks (block_of at ∷ []))
+            (s : StandsIn self.old own v blocks) → MatchResult (position_of result)
+            (λ at. BesideShared (bytes_in self.old) (types_of self.old) (s.home ∷ blocks)
+            (named_in v) (PutsNew (allocator_of self.old) (bytes_in self.old)
+            (bytes_in self.new) (types_of self.old) (place_of own) U blocks at))
             (LacksRoom (allocator_of self.old) (segment_of self.old) (segment_of self.new)
             (one_value (types_of self.old) U)) }
         ensures other { object_type (form_at (types_of self.old) own.type_id) ≡ None →
@@ -68,12 +68,11 @@ fn put_new<F: Fit, A: Allocator>(
     ensures types { heap.new.types ≡ heap.old.types }
     ensures puts { (v : Value) (blocks : List ℕ) →
         form_at heap.old.types own.type_id ≡ Some (Form.own object) →
-        Stands F.allocator heap.old.window.bytes heap.old.types (place_of own) v blocks →
-        AreOfVersion 1 heap.old.types →
+        (s : Stands F.allocator heap.old.window.bytes heap.old.types (place_of own) v blocks) →
         MatchResult result
-        (λ at. Succeeds F.allocator heap.old.window.bytes heap.new.window.bytes heap.old.types
-        (place_of own) (Full (default_of heap.old.types object))
-        (one_value heap.old.types object) blocks blocks (block_of at ∷ []))
+        (λ at. BesideShared heap.old.window.bytes heap.old.types (s.home ∷ blocks) (named_in v)
+        (PutsNew F.allocator heap.old.window.bytes heap.new.window.bytes heap.old.types
+        (place_of own) object blocks at))
         (LacksRoom F.allocator heap.old heap.new (one_value heap.old.types object)) }
 {
     let content = Content::object(heap.types(), object);

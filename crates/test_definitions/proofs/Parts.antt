@@ -7,7 +7,8 @@ use Rattle.seg_spec.specs.Pointer.{target}
 use Rattle.seg_spec.specs.Types.{AreOfVersion, Form, Table, size, form_bytes, version_of, IsRight, IsFirstWrong}
 use Rattle.seg_spec.specs.Heap.{Tile, Fill, AreHeaders, AreApart, heap_start, live, live_of, gaps, gaps_of, HoldsGaps, IsHeap}
 use Rattle.seg_spec.specs.Block.{Kind, IsOwnable}
-use Rattle.seg_spec.specs.Sound.{HasHeader, IsLaidOut, holds_no_root, IsSound, SameBlocks, times, positions}
+use Rattle.seg_spec.specs.Images.{IsSound}
+use Rattle.seg_spec.specs.Sound.{HasHeader, IsLaidOut, holds_no_root, SameBlocks, times, positions}
 use Rattle.seg_spec.specs.Faulty.{IsImageLength, HasTiles, HoldsAll, HasFront, LacksHeader, LacksType, LacksTiles, LacksGaps, LacksContent, LacksOwner, Failure, Lacks}
 use Rattle.seg_spec.specs.Fixtures.{counter, empty, neighbours, linked, odd_kind, lost_gap, two_owners, no_owner, other_magic, odd_type, empty_picture}
 use Rattle.seg_spec.proofs.Failures.{right_types}

@@ -11,7 +11,8 @@ use Rattle.seg_spec.specs.Heap.{Tile, Fill, AreHeaders, heap_start}
 use Rattle.seg_spec.specs.Block.{Kind, IsOwnable}
 use Rattle.seg_spec.specs.Reads.{Holds, holds, holds_none, holds_more}
 use Rattle.seg_spec.specs.Index.{Root, plain_root}
-use Rattle.seg_spec.specs.Sound.{HoldsRoot, holds_no_root, holds_more_roots, IsLaidOut, IsHeld, IsSound, times, positions}
+use Rattle.seg_spec.specs.Images.{IsSound}
+use Rattle.seg_spec.specs.Sound.{HoldsRoot, holds_no_root, holds_more_roots, IsLaidOut, IsHeld, times, positions}
 use Rattle.seg_spec.specs.Fixtures.{counter, greeting, empty, empty_tree, counter_picture, greeting_picture, empty_picture}
 use Rattle.test_definitions.proofs.Evaluating.{live_evaluated, heap_evaluated, uniques_evaluated, numbers-valid, texts-valid, numbers-old, texts-old}
 

@@ -10,7 +10,8 @@ use Rattle.seg_spec.specs.Heap.{Tile, live, live_of, tag_at}
 use Rattle.seg_spec.specs.Block.{Kind, tag_of, block_of, IsOwnable}
 use Rattle.seg_spec.specs.Reads.{Place, Opened, Opens, count_at, named, start, spaced, items, Holds, holds, HoldsEach, holds_more}
 use Rattle.seg_spec.specs.Index.{Root, Index, OpensIndex, AreEntries, position_of, ListsNames}
-use Rattle.seg_spec.specs.Sound.{IsPlain, kind_with, frozen_roots, HoldsRoots, holds_no_root, holds_more_roots, IsSound, times, positions}
+use Rattle.seg_spec.specs.Images.{IsSound}
+use Rattle.seg_spec.specs.Sound.{IsPlain, kind_with, frozen_roots, HoldsRoots, holds_no_root, holds_more_roots, times, positions}
 use Rattle.seg_spec.specs.Fixtures.{counter, greeting, empty, empty_tree, other_magic, other_size, linked, odd_kind, lost_gap, red_root, neighbours, no_items, named_as_unique, no_buffer, own_buffer, two_owners, no_owner}
 use Rattle.seg_spec.proofs.OneTable.{HasTable-one}
 use Rattle.seg_spec.proofs.PlainRoots.{plain_of}

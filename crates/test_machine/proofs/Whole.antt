@@ -2,7 +2,7 @@
 use Rattle.std.proofs.Common.{◌≡◌, ◌≢◌, ℕ, zero, suc, List, [], ◌∷◌, length, take, Some, refl, sym, ◌∙◌, subst}
 use Rattle.std.specs.Prelude.{slice_get}
 use Rattle.seg_spec.specs.Types.{Table, longer}
-use Rattle.seg_spec.specs.Sound.{IsSound}
+use Rattle.seg_spec.specs.Images.{IsSound}
 use Rattle.test_definitions.proofs.OnePicture.{Held-one}
 use Rattle.client_spec.specs.Syntax.{Client}
 use Rattle.client_spec.specs.Grammar.{SpellsClient}

@@ -2,7 +2,7 @@
 use Rattle.std.proofs.Common.{◌≡◌, ℕ, List, [], ◌∷◌, refl, sym, ◌∙◌, inl, inr, arith}
 use Rattle.seg_spec.specs.Bytes.{slice, number, number_of}
 use Rattle.seg_spec.specs.Types.{Form, Table}
-use Rattle.seg_spec.specs.Sound.{IsSound}
+use Rattle.seg_spec.specs.Images.{IsSound}
 use Rattle.seg_spec.specs.Faulty.{Failure}
 use Rattle.seg_spec.specs.Fixtures.{counter, counter_picture}
 use Rattle.test_definitions.proofs.OnePicture.{Held-one}

@@ -2,7 +2,7 @@
 
 ghost use Rattle.std.specs.Prelude.{◌≡◌, ℕ, List, [], ◌∷◌};
 ghost use Rattle.seg_spec.specs.Types.{Form, Table};
-ghost use Rattle.seg_spec.specs.Sound.{IsSound};
+ghost use Rattle.seg_spec.specs.Images.{IsSound};
 ghost use Rattle.seg_spec.specs.Fixtures.{counter, other_magic, odd_type, linked, lost_gap, two_owners, no_owner};
 ghost use Rattle.seg_check.specs.Faults.{IsImageOf, IsFaultOf, IsFaultOfOpening};
 

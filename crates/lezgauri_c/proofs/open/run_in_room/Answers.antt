@@ -1,6 +1,6 @@
 use Rattle.std.proofs.Common.{◌∷◌, [], List, ℕ, None, Some, length, sym, ap, subst, arith}
 use Rattle.std.proofs.lemmas.Result.{IfErr-at_err}
-use Rattle.seg_spec.specs.Sound.{IsSound}
+use Rattle.seg_spec.specs.Images.{IsSound}
 use Rattle.seg_check.specs.Faults.{IsImageOf}
 use Rattle.client_spec.specs.Grammar.{SpellsClient}
 use Rattle.client_code.specs.Clients.{bytes_of}

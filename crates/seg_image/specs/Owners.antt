@@ -1,0 +1,31 @@
+-- What an own leaves that came to hold a new object.
+--     PutsNew allocator old new table own U blocks at theirs now final
+--                            the object at a position has the default value of its type; what the
+--                            own held before went, with the frozen objects that it named last
+use Rattle.std.specs.Prelude.{◌≡◌, ℕ, List, [], ◌∷◌, ◌++◌, length, Some}
+use Rattle.seg_spec.specs.Types.{Table}
+use Rattle.seg_spec.specs.Value.{Full, default_of}
+use Rattle.seg_spec.specs.Heap.{Span, live}
+use Rattle.seg_spec.specs.Block.{block_of}
+use Rattle.seg_spec.specs.Reads.{Place}
+use Rattle.seg_spec.specs.Roots.{ChangesPlace}
+use Rattle.seg_spec.specs.Sound.{SameBlocks}
+use Rattle.seg_spec.specs.Demand.{after_asks, after_gives}
+use Rattle.seg_spec.specs.Destroying.{HoldFrozen, KeepFrozen}
+use Rattle.seg_spec.specs.Frozen.{Frozen, blocks_by}
+use Rattle.seg_manager.specs.Segments.{one_value}
+
+-- the own, which owned `blocks`, owns the object's block; beside frozen objects that own `theirs`, of
+-- which this is left in the end
+pub record PutsNew (allocator : ℕ) (old new : List ℕ) (table : Table) (own : Place) (U : ℕ)
+    (blocks : List ℕ) (at : ℕ) (theirs : ℕ → List ℕ) (now final : List Frozen) : Type 0 where
+  pub granted : List Span
+  pub granted_is : after_asks allocator (live old) (length old) (one_value table U) ≡ Some granted
+  pub gives : List ℕ
+  pub gives_are :
+      SameBlocks (blocks ++ blocks_by theirs now) (gives ++ blocks_by theirs final)
+  pub changes : ChangesPlace old new table own (Full (default_of table U)) (block_of at ∷ [])
+      (after_gives granted gives) (blocks ++ blocks_by theirs now)
+      (block_of at ∷ blocks_by theirs final)
+  pub shared_kept : KeepFrozen old new theirs final
+  pub holds : HoldFrozen new table theirs final
