@@ -3,7 +3,7 @@
 --     AreLiveTags table are_right      for each word whether it is such a tag
 --     Follows table before header      a header is right after another one, its units aside
 --     KnowsGaps bytes list gs          the list of sequential fit was followed over these free blocks
-use Rattle.std.specs.Prelude.{◌≡◌, ℕ, ◌↔◌, Bool, true, false, List, ◌++◌, None, get_or}
+use Rattle.std.specs.Prelude.{◌≡◌, ◌≢◌, ℕ, ◌↔◌, Bool, true, false, List, ◌++◌, None, get_or}
 use Rattle.seg_spec.specs.Types.{Table}
 use Rattle.seg_spec.specs.Heap.{Span, Links}
 use Rattle.seg_spec.specs.Header.{free_word}
@@ -11,11 +11,15 @@ use Rattle.seg_spec.specs.Block.{Kind, AllowsType, tag_of}
 use Rattle.seg_block.specs.declared.header.Header.{Header}
 use Rattle.seg_check.specs.declared.free_list.FreeList.{FreeList}
 
+-- a live block may be of this kind for the type, in an image without frozen objects
+abbrev pub AllowsLive : Table → Kind → ℕ → Type 0
+AllowsLive table kind T = AllowsType table kind T × (kind ≢ Kind.frozen)
+
 -- a live block may have this tag
 pub record IsAllowed (table : Table) (tag : ℕ) : Type 0 where
   pub kind : Kind
   pub type : ℕ
-  pub allowed : AllowsType table kind type
+  pub allowed : AllowsLive table kind type
   pub tag_is : tag ≡ tag_of kind type
 
 -- for each word whether it is such a tag
