@@ -5,7 +5,7 @@
 --                                                         looked at before it is right
 use Rattle.std.specs.Prelude.{◌≡◌, ⊤, ℕ, ◌^◌, ◌≤◌, List, [], length, take, Some, slice_get}
 use Rattle.seg_spec.specs.Window.{IsPlace}
-use Rattle.seg_spec.specs.Sound.{IsSound}
+use Rattle.seg_spec.specs.Images.{IsSound}
 use Rattle.seg_spec.specs.Faulty.{IsImageLength}
 use Rattle.client_spec.specs.Syntax.{Client}
 use Rattle.client_spec.specs.Grammar.{SpellsClient}
