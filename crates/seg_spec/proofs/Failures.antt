@@ -3,7 +3,6 @@ use Rattle.std.proofs.Common.{◌≡◌, ℕ, ◌%◌, List, length, sym, ap, �
 use Rattle.std.specs.Prelude.{flat_map}
 use Rattle.seg_spec.specs.Bytes.{word, slice}
 use Rattle.seg_spec.specs.Types.{Table, form_bytes, padded, Spells}
-use Rattle.seg_spec.specs.Sound.{Picture, IsHeld}
 use Rattle.seg_spec.specs.Images.{IsSound}
 use Rattle.seg_spec.specs.Header.{version_word}
 use Rattle.seg_spec.proofs.OwnedTags.{tags_of_version}

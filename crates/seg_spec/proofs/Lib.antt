@@ -87,5 +87,6 @@ pub mod PathsAfter
 pub mod MoveLaw
 pub mod CountedPictures
 pub mod OwnerGone
+pub mod CountedParts
 pub mod Sharing
 pub mod Raising

@@ -1,9 +1,8 @@
 -- Where no number was given so far, no object is frozen.
-use Rattle.std.proofs.Common.{◌≡◌, ℕ, ◌<◌, [], ◌∷◌, List, refl, arith}
+use Rattle.std.proofs.Common.{◌≡◌, ◌<◌, [], ◌∷◌, List, refl, arith}
 use Rattle.std.specs.List.{AllByRecursion}
 use Rattle.seg_spec.specs.Frozen.{Frozen}
 use Rattle.seg_spec.specs.Sound.{Picture}
-use Rattle.seg_spec.specs.Shared.{IsCounted}
 use Rattle.seg_spec.specs.Counting.{AreCounted}
 
 pub none_numbered : (picture : Picture) → AreCounted 0 picture → picture.frozen ≡ []
