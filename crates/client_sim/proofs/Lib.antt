@@ -2,6 +2,7 @@ pub mod FirstRoots
 pub mod OwnedRoots
 pub mod Looks
 pub mod RootPuts
+pub mod MovedPlaces
 pub mod Placed
 pub mod Giving
 pub mod Aligned
@@ -32,7 +33,6 @@ pub mod Rooted
 pub mod Naming
 pub mod NameBytes
 pub mod NamedActs
-pub mod MovedPlaces
 pub mod Owning
 pub mod OwnedLooks
 pub mod MovingOwned
