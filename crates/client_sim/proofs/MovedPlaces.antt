@@ -250,6 +250,6 @@ module _ (root : Root) (j : ℕ) (item : Value) (item_is : nth root.values j ≡
         falling = subst IsFalling (sym frozen) (falling_left gone picture.frozen c.falling);
       }
     where
-      names_between : (as bs cs ds : List Place) → SameNames ((as ++ bs) ++ (cs ++ ds)) ((as ++ cs) ++ (bs ++ ds))
-      names_between as bs cs ds =
-          names_then (names_same (append_assoc as bs (cs ++ ds))) (names_then (names_joined (names_same {xs = as} refl) (names_first bs cs ds)) (names_same (sym (append_assoc as cs (bs ++ ds)))))
+      names_between : (xs ys zs us : List Place) → SameNames ((xs ++ ys) ++ (zs ++ us)) ((xs ++ zs) ++ (ys ++ us))
+      names_between xs ys zs us =
+          names_then (names_same (append_assoc xs ys (zs ++ us))) (names_then (names_joined (names_same {xs = xs} refl) (names_first ys zs us)) (names_same (sym (append_assoc xs zs (ys ++ us)))))

@@ -623,7 +623,7 @@ module _ (allocator : â„•) (constants : List Constant) (role : Role) (a b c : â„
         asks = [];
         asked = refl;
         gives = gives;
-        returned = given_back Operation.Kill h.pictured n.name_is n.type_is (Some m.root) m.root_is gives (m.objects, m.entries, m.holds, m.entry, shared, gone, refl);
+        returned = given_back Operation.Kill h.pictured n.name_is n.type_is (Some m.root) m.root_is gives (m.objects, m.entries, m.holds, m.entry, (shared, gone, refl));
         blocks = live w.image;
         granted = refl;
         left = m.left;

@@ -289,7 +289,7 @@ module _ (allocator : ℕ) (constants : List Constant) (role : Role) (a b c : �
       let shared = blocks_by call.theirs (freed (names_each r.0.values) h.pictured.picture.frozen) in
       let returned : RootGoes constants i h.pictured (root_of_register s.registers h.pictured.owned b) (call.blocks ++ shared) =
       subst (λ (o : Option Root). RootGoes constants i h.pictured o (call.blocks ++ shared)) (sym r.1)
-      (call.blocks, subst (λ (t : Table). HoldsRoot w.image t r.0 call.blocks) h.table_is call.holds_it, shared, gone_with h new r.0 refl call, refl) in
+      (call.blocks, subst (λ (t : Table). HoldsRoot w.image t r.0 call.blocks) h.table_is call.holds_it, (shared, gone_with h new r.0 refl call, refl)) in
       let blocks : GrantsAsks constants i h.pictured new = record { asks = []; asked = refl; gives = call.blocks ++ shared; returned = returned; blocks = live w.image; granted = refl; left = call.live_is } in
       subst (λ k. Acts others types constants first allocator i success k s w (without_owner w new b)) (ap (λ (r : RegisterTypes × RegisterTypes). r.0) pair)
       (acts_so others types constants first allocator ks s w h i success true after (set_register s b Register.Undefined) (without_owner w new b) row blocks call.becomes.length_kept call.becomes.front_kept refl shows)

@@ -335,7 +335,7 @@ module _ (allocator : ℕ) (constants : List Constant) (role : Role) (a b c : �
           let shared = blocks_by c.theirs (freed (names_each call.root.values) picture.frozen) in
           let returned : RootGoes constants i h.pictured (root_of_type picture.uniques (nat_abs number)) (c.blocks ++ shared) =
           subst (λ (o : Option Root). RootGoes constants i h.pictured o (c.blocks ++ shared)) (sym (ap (root_of_type picture.uniques) operand ∙ call.root_is))
-          (c.blocks, subst (λ (t : Table). HoldsRoot w.image t call.root c.blocks) h.table_is c.holds_it, shared, gone_with h new call.root refl c, refl) in
+          (c.blocks, subst (λ (t : Table). HoldsRoot w.image t call.root c.blocks) h.table_is c.holds_it, (shared, gone_with h new call.root refl c, refl)) in
           let blocks : GrantsAsks constants i h.pictured new = record { asks = []; asked = refl; gives = c.blocks ++ shared; returned = returned; blocks = live w.image; granted = refl; left = c.live_is } in
           acts_so others types constants first allocator ks s w h i success true (slice_set (ended (Class.Unique T) ks) a RegisterType.Int) (set_register s' a (Register.Int (pos 1))) (with_number (with_image w new) a (pos 1))
           (row (Some u.plain.value) u.there ∙ answer_is types constants (ended (Class.Unique T) ks) s' less.as_known success a (Register.Int (pos 1)) free) blocks c.becomes.length_kept c.becomes.front_kept refl
