@@ -4,6 +4,7 @@ pub mod Looks
 pub mod RootPuts
 pub mod MovedPlaces
 pub mod Placed
+pub mod ItemNames
 pub mod Giving
 pub mod Aligned
 pub mod Led
