@@ -120,22 +120,23 @@ module _ {others : List Root} {types : Table} {constants : List Constant} {first
   pub owns_apart : (U : ℕ) (o : OwnsHere U) {path : Path} {place : Place} {v : Value} (led : LeadsInImage h.pictured path place) (f : PlaceFound h.pictured led v) → path.origin ≢ Origin.Owned c
       → (stands : Stands allocator w.image h.pictured.picture.table place v f.blocks)
       → (inside : List ℕ) × HoldsRoot w.image h.pictured.picture.table o.root (block_of o.root.at ∷ inside) × IsLoose w.image h.pictured.picture.table (record { at = o.root.at; type = o.root.type }) o.value inside
-      × ((n : ℕ) → times n (stands.home ∷ (f.blocks ++ block_of o.root.at ∷ inside)) ≤ times n (positions (live w.image)))
+      × ((shared : List ℕ) → HoldsRoots w.image h.pictured.picture.table (frozen_roots h.pictured.picture) shared
+      → (n : ℕ) → times n (stands.home ∷ (f.blocks ++ block_of o.root.at ∷ inside)) + times n shared ≤ times n (positions (live w.image)))
   owns_apart U o {path = path} {place = place} {v = v} led f far stands =
       let picture = h.pictured.picture in
-      let put = f.root.puts (λ x. x) in
-      let among : Among (roots_before picture f.root.which f.root.before ++ roots_after picture f.root.which f.root.after) o.root =
-      elim (put.begins (Origin.Owned c) o.root 0 (ap (option_map {T = Root} {U = Root × ℕ} (λ root. (root, 0))) o.root_is)) [
-        | inl p ↦ absurd (far (sym (p.1 (sym (first_item led.root o.value led.item (ap (λ (r : Root). r.values) (sym p.0) ∙ o.values_are) f.within)))))
-        | inr p ↦ p.0
-      ] in
-      let it = other_root w.image picture h.pictured.held (roots_before picture f.root.which f.root.before) led.root (roots_after picture f.root.which f.root.after)
-      (roots_are picture f.root.which f.root.before (led.root ∷ []) f.root.after f.root.among) led.item f.within path.selectors place led.leads v f.blocks f.holds_it allocator stands o.root among in
+      let b = owned_beside h.pictured led v f c o.root far o.root_is in
+      let rest = all_others b.without.later.picture b.found.which b.found.before b.found.after in
+      let it = root_among w.image picture (roots_of picture) h.pictured.held.root_blocks o.root h.pictured.held.roots
+      (among_left (owners_in picture) (frozen_roots picture) o.root (among_right picture.names (picture.uniques ++ picture.loose) o.root (among_right picture.uniques picture.loose o.root (among_loose (looks_of h.pictured) c o.root o.root_is)))) in
+      let lives : (shared : List ℕ) → HoldsRoots w.image picture.table (frozen_roots picture) shared → (n : ℕ) → times n (stands.home ∷ (f.blocks ++ it.0)) + times n shared ≤ times n (positions (live w.image)) = λ shared frozen n.
+      (let m = beside_others w.image picture h.pictured.held led.root (o.root ∷ frozen_roots picture) rest (frozen_first picture led.root (o.root ∷ []) rest b.order) led.item f.within path.selectors place led.leads v f.blocks f.holds_it
+      (it.0 ++ shared) (holds_more_roots it.1 frozen) allocator stands n in
+      omega (arith, m, times-append n (stands.home ∷ f.blocks) it.0, times-append n it.0 shared)) in
       let live_there : (n : ℕ) → times n it.0 ≤ times n (positions (live w.image)) = λ n.
-      (let m = it.2 n in let k = times-append n f.blocks it.0 in let j = times-more n stands.home (f.blocks ++ it.0) in omega (arith, m, k, j)) in
+      (let e = h.pictured.held.owners n in let k = it.2 n in omega (arith, e, k, times-append n h.pictured.held.index_blocks h.pictured.held.root_blocks)) in
       let l = loose_of_root w.image picture.table o.root o.value it.0 o.no_name o.no_words o.values_are it.1 live_there in (
         l.0,
         subst (HoldsRoot w.image picture.table o.root) l.1 it.1,
         l.2,
-        (λ n. subst (λ bs. times n (stands.home ∷ (f.blocks ++ bs)) ≤ times n (positions (live w.image))) l.1 (it.2 n)),
+        (λ shared frozen n. subst (λ bs. times n (stands.home ∷ (f.blocks ++ bs)) + times n shared ≤ times n (positions (live w.image))) l.1 (lives shared frozen n)),
       )
