@@ -9,25 +9,41 @@ use Rattle.seg_spec.specs.Heap.{live}
 use Rattle.seg_spec.specs.Block.{IsBlock, Kind, tag_of, block_of}
 use Rattle.seg_spec.specs.Index.{Root, plain_root}
 use Rattle.seg_spec.specs.Reads.{Place, Holds, HoldsEach, holds_none, holds_more, Leads, here}
-use Rattle.seg_spec.specs.Sound.{IsPlain, HoldsRoot, times, positions}
-use Rattle.seg_spec.specs.Roots.{roots_before, roots_after, item_of}
+use Rattle.seg_spec.specs.Sound.{frozen_roots, roots_of, IsPlain, HoldsRoot, HoldsRoots, holds_more_roots, times, positions}
+use Rattle.seg_spec.specs.Counting.{owners_in}
+use Rattle.seg_spec.specs.Roots.{item_of}
 use Rattle.seg_spec.specs.Calls.{IsLoose}
 use Rattle.seg_spec.specs.Owning.{Stands}
-use Rattle.seg_spec.proofs.LiveLaws.{times-append, times-more}
+use Rattle.seg_spec.proofs.LiveLaws.{times-append}
 use Rattle.seg_spec.proofs.PlainRoots.{HoldsPlain, plain_of, root_of_plain}
-use Rattle.seg_spec.proofs.RootLaws.{roots_are}
+use Rattle.seg_spec.proofs.RootLaws.{HoldsRoots-split, HoldsRoots-only}
 use Rattle.client_spec.specs.Syntax.{Constant}
 use Rattle.client_spec.specs.Machine.{Origin, Path, Register, State, register}
 use Rattle.client_spec.specs.Meaning.{Meets}
 use Rattle.client_spec.specs.Pictures.{root_of_register, LeadsInImage}
 use Rattle.client_spec.specs.Typed.{RegisterType, RegisterTypes, known}
 use Rattle.client_sim.specs.Shows.{World, place_in, Shown, Shows}
-use Rattle.client_sim.proofs.FirstRoots.{Among, each_among, among_right}
+use Rattle.client_sim.proofs.FirstRoots.{Among, each_among, among_left, among_right}
 use Rattle.client_sim.proofs.OwnedRoots.{owned_split}
 use Rattle.client_sim.proofs.Looks.{looks_of}
-use Rattle.client_sim.proofs.RootPuts.{root_of_pair, among_loose}
+use Rattle.client_sim.proofs.RootPuts.{root_of_pair, among_loose, all_others}
 use Rattle.client_sim.proofs.Placed.{PlaceFound}
-use Rattle.client_sim.proofs.MovedPlaces.{other_root}
+use Rattle.client_sim.proofs.MovedPlaces.{frozen_first, roots_split, beside_others}
+use Rattle.client_sim.proofs.MovingOwned.{owned_beside}
+
+-- what a root owns among others
+root_among : (bytes : List ℕ) (table : Table) (roots : List Root) (xs : List ℕ) (root : Root) → HoldsRoots bytes table roots xs → Among roots root
+    → (its : List ℕ) × HoldsRoot bytes table root its × ((h : ℕ) → times h its ≤ times h xs)
+root_among bytes table roots xs root holds a =
+    let s = HoldsRoots-split bytes table a.before (root ∷ a.after) xs (subst (λ rs. HoldsRoots bytes table rs xs) a.is holds) in
+    let t = HoldsRoots-split bytes table (root ∷ []) a.after s.right s.rights in (
+      t.left,
+      HoldsRoots-only bytes table root t.left t.lefts,
+      (λ h.
+          let e = ap (times h) s.blocks_are ∙ times-append h s.left s.right in
+          let f = ap (times h) t.blocks_are ∙ times-append h t.left t.right in
+          omega (arith, e, f)),
+    )
 
 -- ---- a root without a name is a loose object
 
@@ -126,8 +142,8 @@ module _ {others : List Root} {types : Table} {constants : List Constant} {first
       let picture = h.pictured.picture in
       let b = owned_beside h.pictured led v f c o.root far o.root_is in
       let rest = all_others b.without.later.picture b.found.which b.found.before b.found.after in
-      let it = root_among w.image picture (roots_of picture) h.pictured.held.root_blocks o.root h.pictured.held.roots
-      (among_left (owners_in picture) (frozen_roots picture) o.root (among_right picture.names (picture.uniques ++ picture.loose) o.root (among_right picture.uniques picture.loose o.root (among_loose (looks_of h.pictured) c o.root o.root_is)))) in
+      let it = root_among w.image picture.table (roots_of picture) h.pictured.held.root_blocks o.root h.pictured.held.roots
+      (subst (λ rs. Among rs o.root) (sym (roots_split picture)) (among_left (owners_in picture) (frozen_roots picture) o.root (among_right picture.names (picture.uniques ++ picture.loose) o.root (among_right picture.uniques picture.loose o.root (among_loose (looks_of h.pictured) c o.root o.root_is))))) in
       let lives : (shared : List ℕ) → HoldsRoots w.image picture.table (frozen_roots picture) shared → (n : ℕ) → times n (stands.home ∷ (f.blocks ++ it.0)) + times n shared ≤ times n (positions (live w.image)) = λ shared frozen n.
       (let m = beside_others w.image picture h.pictured.held led.root (o.root ∷ frozen_roots picture) rest (frozen_first picture led.root (o.root ∷ []) rest b.order) led.item f.within path.selectors place led.leads v f.blocks f.holds_it
       (it.0 ++ shared) (holds_more_roots it.1 frozen) allocator stands n in
