@@ -6,7 +6,10 @@ pub mod SameLength
 pub mod MarkLaws
 pub mod KnownLaws
 pub mod ClaimLaws
+pub mod ReadLaws
+pub mod NamingLaws
 pub mod StepLaws
+pub mod AnyOrder
 pub mod RootSteps
 pub mod PlaceLoop
 pub mod TagLaws

@@ -10,7 +10,7 @@
 --     Finds bytes old new names            these names were met
 --     CanName bytes known pointer ..       a cell names an object that is there
 --     NamesBlock bytes old new pointer ..  it was named by one cell more
-use Rattle.std.specs.Prelude.{◌≡◌, ◌≢◌, ℕ, ◌+◌, ◌-◌, ◌/◌, ◌%◌, ◌<◌, ◌≤◌, ◌⊎◌, ◌↔◌, ⊤, List, [], ◌∷◌, ◌++◌, length, map, get_or, Option, Some, None, nat_le, if◌then◌else◌, MatchOption}
+use Rattle.std.specs.Prelude.{◌≡◌, ◌≢◌, ℕ, ◌+◌, ◌-◌, ◌*◌, ◌/◌, ◌^◌, ◌%◌, ◌<◌, ◌≤◌, ◌⊎◌, ◌↔◌, ⊤, List, [], ◌∷◌, ◌++◌, length, map, get_or, Option, Some, None, nat_le, if◌then◌else◌, MatchOption}
 use Rattle.seg_spec.specs.Bytes.{word}
 use Rattle.seg_spec.specs.Pointer.{target}
 use Rattle.seg_spec.specs.Types.{Table, size}
@@ -21,6 +21,7 @@ use Rattle.seg_spec.specs.Frozen.{frozen_words}
 use Rattle.seg_spec.specs.Sound.{times, positions}
 use Rattle.seg_check.specs.declared.marks.Waiting.{Waiting}
 use Rattle.seg_check.specs.Marks.{Known, IsCounted}
+use Rattle.seg_check.specs.Claiming.{IsLiveBlock}
 
 abbrev pub IsFrozen : List ℕ → ℕ → Type 0
 IsFrozen bytes block = tag_at bytes block % 256 ≡ kind_number Kind.frozen
@@ -58,6 +59,10 @@ left_at known block = get_or known.naming.counts (slot_of block) None
 -- so many less, if there are so many
 abbrev pub less : ℕ → ℕ → Option ℕ
 less n m = if nat_le m n then Some (n - m) else None
+
+abbrev pub one_less : Option ℕ → Option ℕ
+one_less None = None
+one_less (Some n) = less n 1
 
 -- a frozen object was named by just these cells, and what is left of its count says how often
 pub record CountsBlock (bytes : List ℕ) (known : Known) (names : List ℕ) (block : ℕ) : Type 0 where
@@ -99,6 +104,12 @@ pub record CanName (bytes : List ℕ) (known : Known) (pointer tag size : ℕ) :
   pub is_block : IsBlock bytes start tag size
   pub there : 1 ≤ standing_at known (block_of start)
 
+-- Each block that may be claimed or named lies in the segment, and has a count.
+pub record IsNameable (bytes : List ℕ) (known : Known) : Type 0 where
+  pub live : (h : ℕ) → 1 ≤ standing_at known h → IsLiveBlock bytes h
+  pub slots : length bytes ≤ heap_start + 32 * length known.naming.counts
+  pub small : length bytes ≤ 2 ^ 30
+
 -- an object that no cell named before is claimed, and waits for its turn, with its number as the limit
 -- of what it names
 pub record NamesFirst (bytes : List ℕ) (old new : Known) (start : ℕ) : Type 0 where
@@ -117,7 +128,7 @@ pub record NamesAgain (old new : Known) (start : ℕ) : Type 0 where
   pub was_named : times (block_of start) old.naming.named ≡ 1
   pub turns_kept : new.turns ≡ old.turns
   pub left : left_at new (block_of start)
-      ≡ MatchOption (left_at old (block_of start)) None (λ n. less n 1)
+      ≡ one_less (left_at old (block_of start))
 
 -- one cell more names the object that a pointer leads to
 pub record NamesBlock (bytes : List ℕ) (old new : Known) (pointer tag size : ℕ)

@@ -1,13 +1,17 @@
-ghost use Rattle.std.specs.Prelude.{◌≡◌, ℕ, ◌+◌, ◌-◌, ◌*◌, ◌/◌, ◌^◌, ◌<◌, ◌≤◌, ◌↔◌, [], ◌∷◌, ◌++◌, length, IfErr, IfOk, IfSome, IsTrue, MatchOption, OnOk, vec_len, None, Some};
+ghost use Rattle.std.specs.Prelude.{◌≡◌, ℕ, ◌+◌, ◌-◌, ◌*◌, ◌/◌, ◌^◌, ◌<◌, ◌≤◌, ◌↔◌, [], ◌∷◌, ◌++◌, length, IfErr, IfOk, IfSome, IsTrue, MatchOption, MatchResult, OnOk, get_or, vec_len, None, Some};
 ghost use Rattle.seg_spec.specs.Heap.{heap_start};
 ghost use Rattle.seg_spec.specs.Sound.{times};
 ghost use Rattle.seg_block.specs.Tags.{word_of};
-ghost use Rattle.seg_check.specs.Marks.{Known, nothing_known, IsUnit, IsMarked, IsCounted, KeepsOthers, Adds};
+ghost use Rattle.seg_spec.specs.Bytes.{word};
+ghost use Rattle.seg_spec.specs.Header.{next_word};
+ghost use Rattle.seg_check.specs.Marks.{Known, nothing_known, slots_in, IsUnit, IsMarked, IsCounted, KeepsOthers, KeepsNames, Adds};
 ghost use Rattle.seg_check.specs.Claiming.{Refuses, AreLive, CanClaim, ClaimsBlock};
+ghost use Rattle.seg_check.specs.Naming.{IsUnder, CanName, NamesBlock, IsNameable, number_at};
+ghost use Rattle.seg_check.specs.Cells.{AreRight};
 
-use crate::bytes::has_payload;
+use crate::bytes::{frozen_number, has_payload};
 use crate::fault::ContentFault;
-use crate::marks::{Mark, Turn};
+use crate::marks::{Mark, Turn, Waiting};
 use seg_block::{HEAP_START, Tag, UNIT, block_of};
 use seg_ptr::{View, Window};
 use std::alloc::{AllocError, Allocator};
@@ -195,7 +199,7 @@ impl<A: Allocator> Claims<A> {
         size: u64,
     ) -> Result<u32, ContentFault>
         ensures taken { self.new.taken ≡ self.old.taken }
-        ensures named { IsNameable bytes.entry.bytes.now self.old (word_of tag) →
+        ensures named { IsNameable bytes.entry.bytes.now self.old →
             IfOk result
             (NamesBlock bytes.entry.bytes.now self.old self.new cell (word_of tag) size) }
         ensures refused { IfErr result (λ fault. Refuses fault
@@ -273,6 +277,16 @@ impl<A: Allocator> Claims<A> {
             start = start.saturating_add(UNIT);
         }
         Ok(())
+    }
+
+    /// Whether the frozen object in the block of a unit counts its cells, and has a number below the next one. Its payload
+    /// begins at `start`.
+    fn is_right(&self, bytes: View, unit: usize, start: u32, next: u32) -> bool
+        ensures { start + 4 < 2 ^ 32 → IsTrue result
+            ↔ ((get_or self.now.naming.counts (unit / 2) None ≡ Some 0)
+            × (number_at bytes.entry.bytes.now start < next)) }
+    {
+        self.counts.get(unit / 2) == Some(&Some(0)) && frozen_number(bytes, start) < next
     }
 
     /// The lowest live block without an owner.
