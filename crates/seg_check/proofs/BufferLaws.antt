@@ -102,8 +102,8 @@ module _ (bytes : List ℕ) (table : Table) where
       let is = by.content_of in
       let d = claimed_as old new at n p (word_of content.tag) (tag_of Kind.buffer T) content.entry.size 1 (has_turns table content.entry.held) false is.tag_is is.size_is (ap (has_turns table) is.held_is) c in
       advance_open bytes table old new (record { at = at; type = T }) Form.str (text_opened at) [] by.form_is
-      (record { named_room = names_room bytes at (tag_of Kind.buffer T) 1 p d.names (block_is p (tag_of Kind.buffer T) n (count_at bytes at) 1 1 n_is refl d.is_block); ascending = tt; opened_is = refl })
-      (subst (λ bs. ClaimsAll old new bs []) (sym (named_some bytes at p d.names)) d.claims) tt tt refl
+      (record { named_room = names_room bytes at (tag_of Kind.buffer T) 1 p d.names (block_is p (tag_of Kind.buffer T) n (count_at bytes at) 1 1 n_is refl d.is_block); ascending = tt; opened_is = refl }) refl
+      (subst (λ bs. ClaimsAll old new bs []) (sym (named_some bytes at p d.names)) d.claims) tt tt tt refl
   items_advance old new at T n p (Form.vec U) content ready has by n_is c =
       let d = content_claimed old new at n p _ (tag_of Kind.buffer T) 0 U content by.content_of c in
       advance_block bytes table old new ready at (tag_of Kind.buffer T) n 0 U p T (Form.vec U) (items_opened at U Label.seq) by.form_is
@@ -113,7 +113,7 @@ module _ (bytes : List ℕ) (table : Table) where
         ascending = tt;
         opened_is = refl;
       })
-      refl (items_are at p n U d.names n_is) (ready.is_table.forms T (Form.vec U) by.form_is) d
+      refl (λ e. absurd (omega (arith, e))) refl (items_are at p n U d.names n_is) (ready.is_table.forms T (Form.vec U) by.form_is) d
       (places_tagged bytes table ready.is_table (record { start = p; count = n }) Kind.buffer T d.is_block.has_tag ∙ ap (λ o. places_by table o p n) by.form_is)
 
   pub items_nothing : (known : Known) (at T : ℕ) (form : Form) (content : Content) → HasItems form → NamesBy table T form content → target bytes at ≡ None → count_at bytes at ≡ 0
@@ -128,10 +128,10 @@ module _ (bytes : List ℕ) (table : Table) where
   items_nothing known at T (Form.shared U) content has by e n = absurd has
   items_nothing known at T Form.str content has by e n =
       advance_nothing bytes table known (record { at = at; type = T }) Form.str (text_opened at) by.form_is
-      (record { named_room = no_room bytes at (tag_of Kind.buffer T) 1 e n; ascending = tt; opened_is = refl }) (named_none bytes at e) refl
+      (record { named_room = no_room bytes at (tag_of Kind.buffer T) 1 e n; ascending = tt; opened_is = refl }) refl (named_none bytes at e) refl
   items_nothing known at T (Form.vec U) content has by e n =
       advance_nothing bytes table known (record { at = at; type = T }) (Form.vec U) (items_opened at U Label.seq) by.form_is
-      (record { named_room = no_room bytes at (tag_of Kind.buffer T) (size table U) e n; ascending = tt; opened_is = refl }) (named_none bytes at e) (ap (items table (start bytes at) U) n)
+      (record { named_room = no_room bytes at (tag_of Kind.buffer T) (size table U) e n; ascending = tt; opened_is = refl }) refl (named_none bytes at e) (ap (items table (start bytes at) U) n)
 
   -- what can be resolved has room where it names something, and names what wasn't claimed
   pub record CanName (known : Known) (at tag each : ℕ) : Type 0 where
@@ -141,18 +141,18 @@ module _ (bytes : List ℕ) (table : Table) where
   pub named_within : (known : Known) (at : ℕ) (opened : Opened) (blocks : List ℕ) → opened.blocks ≡ blocks → Within opened.blocks known.unclaimed → Within blocks known.unclaimed
   named_within known at opened blocks e within = subst (λ bs. Within bs known.unclaimed) e within
 
-  text_can : (known : Known) (at T : ℕ) → form_at table T ≡ Some Form.str → CanResolve bytes table known.unclaimed (record { at = at; type = T } ∷ []) → CanName known at (tag_of Kind.buffer T) 1
+  text_can : (known : Known) (at T : ℕ) → form_at table T ≡ Some Form.str → CanResolve bytes table known (record { at = at; type = T } ∷ []) → CanName known at (tag_of Kind.buffer T) 1
   text_can known at T f r =
-      let o = can_open bytes table known.unclaimed (record { at = at; type = T }) Form.str [] f r in
+      let o = can_open bytes table known (record { at = at; type = T }) Form.str [] f r in
       record { room = o.opens.named_room; within = named_within known at o.opened (named bytes at) (ap (λ (x : Opened). x.blocks) o.opens.opened_is) o.within }
 
-  vec_can : (known : Known) (at T U : ℕ) → form_at table T ≡ Some (Form.vec U) → CanResolve bytes table known.unclaimed (record { at = at; type = T } ∷ []) → CanName known at (tag_of Kind.buffer T) (size table U)
+  vec_can : (known : Known) (at T U : ℕ) → form_at table T ≡ Some (Form.vec U) → CanResolve bytes table known (record { at = at; type = T } ∷ []) → CanName known at (tag_of Kind.buffer T) (size table U)
   vec_can known at T U f r =
-      let o = can_open bytes table known.unclaimed (record { at = at; type = T }) (Form.vec U) [] f r in
+      let o = can_open bytes table known (record { at = at; type = T }) (Form.vec U) [] f r in
       record { room = o.opens.named_room; within = named_within known at o.opened (named bytes at) (ap (λ (x : Opened). x.blocks) o.opens.opened_is) o.within }
 
   pub items_can : (known : Known) (at T n p : ℕ) (form : Form) (content : Content) → HasItems form → NamesBy table T form content → target bytes at ≡ Some p → n ≡ count_at bytes at
-      → CanResolve bytes table known.unclaimed (record { at = at; type = T } ∷ [])
+      → CanResolve bytes table known (record { at = at; type = T } ∷ [])
       → CanClaim bytes known at (word_of content.tag) (n * content.entry.size)
   items_can known at T n p Form.i64 content has by e n_is r = absurd has
   items_can known at T n p (Form.struct Us) content has by e n_is r = absurd has
@@ -208,20 +208,20 @@ module _ (bytes : List ℕ) (table : Table) (at T U : ℕ) (content : Content) (
         counted = sym n_is ∙ sym (ap length (named_some bytes at p d.names));
         opened_is = refl;
       })
-      refl (items_are bytes table at p 1 U d.names n_is) (ready.is_table.forms T (Form.own U) by.form_is) d
+      refl (λ e. absurd (omega (arith, e))) refl (items_are bytes table at p 1 U d.names n_is) (ready.is_table.forms T (Form.own U) by.form_is) d
       (places_tagged bytes table ready.is_table (record { start = p; count = 1 }) Kind.object U d.is_block.has_tag)
 
   pub own_nothing : (known : Known) → target bytes at ≡ None → count_at bytes at ≡ 0 → Advances bytes table known known (record { at = at; type = T } ∷ [])
   unfolding own_opened
   own_nothing known e n =
       advance_nothing bytes table known (record { at = at; type = T }) (Form.own U) own_opened by.form_is
-      (record { named_room = no_room bytes at (tag_of Kind.object U) (size table U) e n; counted = n ∙ sym (ap length (named_none bytes at e)); opened_is = refl })
+      (record { named_room = no_room bytes at (tag_of Kind.object U) (size table U) e n; counted = n ∙ sym (ap length (named_none bytes at e)); opened_is = refl }) refl
       (named_none bytes at e) (ap (items table (start bytes at) U) n)
 
-  pub own_can : (known : Known) (p : ℕ) → target bytes at ≡ Some p → 1 ≡ count_at bytes at → CanResolve bytes table known.unclaimed (record { at = at; type = T } ∷ [])
+  pub own_can : (known : Known) (p : ℕ) → target bytes at ≡ Some p → 1 ≡ count_at bytes at → CanResolve bytes table known (record { at = at; type = T } ∷ [])
       → CanClaim bytes known at (word_of content.tag) (1 * content.entry.size)
   own_can known p e n_is r =
-      let o = can_open bytes table known.unclaimed (record { at = at; type = T }) (Form.own U) [] by.form_is r in
+      let o = can_open bytes table known (record { at = at; type = T }) (Form.own U) [] by.form_is r in
       let within = named_within bytes table known at o.opened (named bytes at) (ap (λ (x : Opened). x.blocks) o.opens.opened_is) o.within in
       content_can bytes table known at 1 _ (tag_of Kind.object U) 0 U (size table U) content by.content_of (zero_size bytes table U)
       (subst (λ m. CanClaim bytes known at (tag_of Kind.object U) (m * size table U)) (sym n_is) (can_claim bytes known at (tag_of Kind.object U) (size table U) p e o.opens.named_room within))

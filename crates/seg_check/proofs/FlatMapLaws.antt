@@ -58,7 +58,7 @@ module _ (bytes : List ℕ) (table : Table) (at T U : ℕ) (content : Content) (
         ascending = subst IsAscending (same_keys p n d.names n_is) ascending;
         opened_is = refl;
       })
-      refl (ap (λ q. entries_at table q 8 U (count_at bytes at)) (start_some bytes at p d.names) ∙ ap (entries_at table p 8 U) (sym n_is)) (ready.is_table.forms T (Form.flat_map U) by.form_is) d
+      refl (λ e. absurd (omega (arith, e))) refl (ap (λ q. entries_at table q 8 U (count_at bytes at)) (start_some bytes at p d.names) ∙ ap (entries_at table p 8 U) (sym n_is)) (ready.is_table.forms T (Form.flat_map U) by.form_is) d
       (places_tagged bytes table ready.is_table (record { start = p; count = n }) Kind.buffer T d.is_block.has_tag ∙ ap (λ o. places_by table o p n) by.form_is)
 
   pub flat_nothing : (known : Known) → target bytes at ≡ None → count_at bytes at ≡ 0 → Advances bytes table known known (record { at = at; type = T } ∷ [])
@@ -66,19 +66,19 @@ module _ (bytes : List ℕ) (table : Table) (at T U : ℕ) (content : Content) (
   flat_nothing known e n =
       advance_nothing bytes table known (record { at = at; type = T }) (Form.flat_map U) map_opened by.form_is
       (record { named_room = no_room bytes at (tag_of Kind.buffer T) (8 + size table U) e n; ascending = subst (λ m. IsAscending (keys (start bytes at) m)) (sym n) tt; opened_is = refl })
-      (named_none bytes at e) (ap (entries_at table (start bytes at) 8 U) n)
+      refl (named_none bytes at e) (ap (entries_at table (start bytes at) 8 U) n)
 
-  pub flat_can : (known : Known) (n p : ℕ) → target bytes at ≡ Some p → n ≡ count_at bytes at → CanResolve bytes table known.unclaimed (record { at = at; type = T } ∷ [])
+  pub flat_can : (known : Known) (n p : ℕ) → target bytes at ≡ Some p → n ≡ count_at bytes at → CanResolve bytes table known (record { at = at; type = T } ∷ [])
       → CanClaim bytes known at (word_of content.tag) (n * content.entry.size)
   flat_can known n p e n_is r =
-      let o = can_open bytes table known.unclaimed (record { at = at; type = T }) (Form.flat_map U) [] by.form_is r in
+      let o = can_open bytes table known (record { at = at; type = T }) (Form.flat_map U) [] by.form_is r in
       let within = named_within bytes table known at o.opened (named bytes at) (ap (λ (x : Opened). x.blocks) o.opens.opened_is) o.within in
       content_can bytes table known at n _ (tag_of Kind.buffer T) 8 U (8 + size table U) content by.content_of refl
       (subst (λ m. CanClaim bytes known at (tag_of Kind.buffer T) (m * (8 + size table U))) (sym n_is) (can_claim bytes known at (tag_of Kind.buffer T) (8 + size table U) p e o.opens.named_room within))
 
-  flat_ascend : (known : Known) (n p : ℕ) → target bytes at ≡ Some p → n ≡ count_at bytes at → CanResolve bytes table known.unclaimed (record { at = at; type = T } ∷ []) → IsAscending (keys p n)
+  flat_ascend : (known : Known) (n p : ℕ) → target bytes at ≡ Some p → n ≡ count_at bytes at → CanResolve bytes table known (record { at = at; type = T } ∷ []) → IsAscending (keys p n)
   flat_ascend known n p e n_is r =
-      let o = can_open bytes table known.unclaimed (record { at = at; type = T }) (Form.flat_map U) [] by.form_is r in
+      let o = can_open bytes table known (record { at = at; type = T }) (Form.flat_map U) [] by.form_is r in
       subst IsAscending (sym (same_keys p n e n_is)) o.opens.ascending
 
   -- the keys decide
@@ -87,7 +87,7 @@ module _ (bytes : List ℕ) (table : Table) (at T U : ℕ) (content : Content) (
       → MatchResult r (λ _. IsAscending (keys p n)) (λ f. (f ≡ BadValue at) × (IsAscending (keys p n) → ⊥)) → Steps bytes table old new (record { at = at; type = T } ∷ []) r
   flat_steps old new n p (Ok x) ready n_is c m = flat_advance old new n p ready n_is c m
   flat_steps old new n p (Err f) ready n_is c m =
-      subst (λ g. Refuses g (CanResolve bytes table old.unclaimed (record { at = at; type = T } ∷ []))) (sym m.0) (λ r. m.1 (flat_ascend old n p c.names n_is r))
+      subst (λ g. Refuses g (CanResolve bytes table old (record { at = at; type = T } ∷ []))) (sym m.0) (λ r. m.1 (flat_ascend old n p c.names n_is r))
 
   -- where the key of an entry stands
   pub flat_key : (old new : Known) (n p i x : ℕ) → IsReady bytes table old → ClaimsBlock bytes old new at (word_of content.tag) (n * content.entry.size) (turns_where (has_turns table content.entry.held) p n) p

@@ -76,7 +76,7 @@ module _ (bytes : List ℕ) (table : Table) where
           (λ h. rest_same h old.unclaimed mid.unclaimed index.blocks r.rest (claims.claimed h) (r.owners h ∙ ap (λ (x : Index). times h (x.blocks ++ r.rest)) same))
           (subst (λ (x : Index). ResolvesRoots bytes table r.rest left (names_ahead x.entries []) []) same r.roots)
 
-      pub index_names : CanResolveIndex bytes table old.unclaimed → CanResolveRoots bytes table mid.unclaimed (names_ahead index.entries [])
+      pub index_names : CanResolveIndex bytes table old → CanResolveRoots bytes table mid (names_ahead index.entries [])
       index_names can = record { left = can.left; places = []; resolves = names_left can.left can.resolves }
 
       pub index_ready : IsReady bytes table old → IsReady bytes table mid
@@ -182,14 +182,14 @@ module _ (bytes : List ℕ) (table : Table) where
         let both : Some p ≡ None = sym named_it ∙ none in
         cc
 
-    pub flat_can : (old : Known) → CanResolveIndex bytes table old.unclaimed → CanClaim bytes old index_cell (tag_of Kind.index_buffer 0) (n * 8)
+    pub flat_can : (old : Known) → CanResolveIndex bytes table old → CanClaim bytes old index_cell (tag_of Kind.index_buffer 0) (n * 8)
     flat_can old can =
         let o = flat_of can.resolves.index can.resolves.opens in
         subst (λ m. CanClaim bytes old index_cell (tag_of Kind.index_buffer 0) (m * 8)) (sym counted)
         (can_claim bytes old index_cell (tag_of Kind.index_buffer 0) 8 p named_it o.named_room (subst (λ (x : Index). Within x.blocks old.unclaimed) o.index_is (index_within old.unclaimed can)))
 
     module _ (old mid : Known) (some : 1 ≤ n) (block : IsBlock bytes p (tag_of Kind.index_buffer 0) (n * 8)) (claims : ClaimsAll old mid (block_of p ∷ []) []) where
-      pub flat_names : CanResolveIndex bytes table old.unclaimed → CanResolveRoots bytes table mid.unclaimed (names_ahead (spaced p 8 n) [])
+      pub flat_names : CanResolveIndex bytes table old → CanResolveRoots bytes table mid (names_ahead (spaced p 8 n) [])
       unfolding flat_index
       flat_names = index_names old mid flat_index (flat_opens some block) flat_one claims
 

@@ -1,5 +1,5 @@
 -- What is known of a block, by the marks of the units.
-use Rattle.std.proofs.Common.{◌≡◌, ℕ, ◌+◌, ◌-◌, ◌*◌, ◌^◌, ◌<◌, ◌≤◌, suc, ⊎_elim, true, false, cond, List, [], ◌∷◌, ◌++◌, length, get_or, set, take, drop, replicate, refl, sym, ap, ◌∙◌, subst, arith}
+use Rattle.std.proofs.Common.{◌≡◌, ℕ, ◌+◌, ◌-◌, ◌*◌, ◌^◌, ◌<◌, ◌≤◌, suc, ⊎_elim, true, false, cond, Option, None, List, [], ◌∷◌, ◌++◌, length, get_or, set, take, drop, replicate, refl, sym, ap, ◌∙◌, subst, arith}
 use Rattle.std.proofs.Math.ListN.{length-set}
 use Rattle.std.proofs.lemmas.List.{append-nil, length-replicate}
 use Rattle.std.proofs.lemmas.Grind.{get_or-set_at}
@@ -9,13 +9,14 @@ use Rattle.seg_spec.specs.Sound.{times, SameBlocks}
 use Rattle.seg_spec.proofs.LiveLaws.{times-same, times-other}
 use Rattle.seg_check.specs.declared.marks.Mark.{Mark}
 use Rattle.seg_check.specs.declared.marks.Mark.TheVariants.{Inside, Free, Live, Claimed}
-use Rattle.seg_check.specs.declared.marks.Turn.{Turn}
-use Rattle.seg_check.specs.Marks.{Known, known_of, nothing_known, is_unclaimed, is_free, unclaimed_from, free_from, IsUnit, IsMarked, KeepsOthers, Adds, ClaimsAll}
-use Rattle.seg_check.proofs.MarkLaws.{bit, one, looked, no_unit, set_other, one_more, none_in, few, after_none}
+use Rattle.seg_check.specs.declared.marks.Waiting.{Waiting}
+use Rattle.seg_check.specs.Marks.{Known, known_of, nothing_known, is_unclaimed, is_free, is_named, unclaimed_from, free_from, named_from, Within, IsUnit, IsMarked, KeepsOthers, Adds, ClaimsAll}
+use Rattle.seg_check.proofs.MarkLaws.{bit, one, looked, no_unit, set_other, set_same, one_more, none_in, few, after_none}
 use Rattle.seg_check.proofs.SameLength.{same_length}
 
-pub fresh : (marks : List Mark) (queue : List Turn) (units n : ℕ) → marks ≡ replicate units Inside → queue ≡ [] → units ≡ n → known_of marks 0 0 queue 0 ≡ nothing_known n
-fresh marks queue units n e q m = λ i. record {
+pub fresh : (marks : List Mark) (queue : List Waiting) (counts : List (Option ℕ)) (units n slots m : ℕ) → marks ≡ replicate units Inside → queue ≡ [] → units ≡ n → counts ≡ replicate slots None → slots ≡ m
+    → known_of marks 0 0 queue 0 counts None ≡ nothing_known n m
+fresh marks queue counts units n slots k e q m c s = λ i. record {
   unclaimed = (ap (unclaimed_from heap_start) e ∙ none_in is_unclaimed heap_start units Inside refl) i;
   unclaimed_count = 0;
   free = (ap (free_from heap_start) e ∙ none_in is_free heap_start units Inside refl) i;
@@ -23,39 +24,55 @@ fresh marks queue units n e q m = λ i. record {
   turns = q i;
   taken = 0;
   units = (ap length e ∙ length-replicate units Inside ∙ m) i;
+  naming = record {
+    named = (ap (named_from heap_start) e ∙ none_in is_named heap_start units Inside refl) i;
+    counts = (c ∙ ap (λ x. replicate x None) s) i;
+    below = None;
+  };
 }
 
-module _ (marks : List Mark) (u f : ℕ) (queue : List Turn) (taken : ℕ) where
+module _ (marks : List Mark) (u f : ℕ) (queue : List Waiting) (taken : ℕ) (counts : List (Option ℕ)) (below : Option ℕ) where
   abbrev here : Known
-  here = known_of marks u f queue taken
+  here = known_of marks u f queue taken counts below
 
   pub mark_is : (block unit : ℕ) (m : Mark) → block ≡ heap_start + 16 * unit → unit < length marks → m ≡ get_or marks unit Inside → IsMarked here block m
   mark_is block unit m at_is inside is = record {
     unclaimed = looked is_unclaimed block heap_start unit marks at_is inside ∙ ap (λ x. cond (is_unclaimed x) 1 0) (sym is);
     free = looked is_free block heap_start unit marks at_is inside ∙ ap (λ x. cond (is_free x) 1 0) (sym is);
+    named = looked is_named block heap_start unit marks at_is inside ∙ ap (λ x. cond (is_named x) 1 0) (sym is);
   }
 
   pub mark_none : (block : ℕ) → (IsUnit (length marks) block → ⊥) → IsMarked here block Inside
   mark_none block none = record {
     unclaimed = no_unit is_unclaimed block heap_start marks (λ unit at_is inside. none (record { unit = unit; at_is = at_is; inside = inside }));
     free = no_unit is_free block heap_start marks (λ unit at_is inside. none (record { unit = unit; at_is = at_is; inside = inside }));
+    named = no_unit is_named block heap_start marks (λ unit at_is inside. none (record { unit = unit; at_is = at_is; inside = inside }));
   }
 
-  pub set_others : (block unit : ℕ) (m : Mark) → block ≡ heap_start + 16 * unit → KeepsOthers here (known_of (set marks unit m) u f queue taken) block
+  pub set_others : (block unit : ℕ) (m : Mark) → block ≡ heap_start + 16 * unit → KeepsOthers here (known_of (set marks unit m) u f queue taken counts below) block
   set_others block unit m at_is = record {
     unclaimed = (λ h other. set_other is_unclaimed h heap_start unit marks m (λ e. other (sym e ∙ sym at_is)));
     free = (λ h other. set_other is_free h heap_start unit marks m (λ e. other (sym e ∙ sym at_is)));
+    named = (λ h other. set_other is_named h heap_start unit marks m (λ e. other (sym e ∙ sym at_is)));
     unclaimed_count_kept = refl;
     free_count_kept = refl;
     turns_kept = refl;
     taken_kept = refl;
     units_kept = length-set marks unit m;
+    counts_kept = refl;
+    below_kept = refl;
   }
 
   -- ---- a block was added
 
   module _ (old : Known) (block : ℕ) (kept : KeepsOthers old here block) (small : length marks ≤ 2 ^ 26) (no_live : times block old.unclaimed ≡ 0) (no_free : times block old.free ≡ 0) where
-    pub adds_live : (n : ℕ) → (u < 2 ^ 64 - 1 → n ≡ u + 1) → IsMarked here block Live → Adds old block true (known_of marks n f queue taken)
+    fewer_named : times block here.naming.named ≡ 0 → Within here.naming.named old.naming.named
+    fewer_named none h = ⊎_elim
+        (λ same. subst (λ x. times x here.naming.named ≤ times x old.naming.named) same (omega arith))
+        (λ other. omega (arith, kept.named h (λ e. other (sym e))))
+        (cases_eq block h)
+
+    pub adds_live : (n : ℕ) → (u < 2 ^ 64 - 1 → n ≡ u + 1) → IsMarked here block Live → Adds old block true (known_of marks n f queue taken counts below)
     adds_live n next is =
         let unclaimed : SameBlocks (unclaimed_from heap_start marks) (block ∷ old.unclaimed) = (λ h. ⊎_elim
         (λ same. subst (λ x. times x here.unclaimed ≡ times x (block ∷ old.unclaimed)) same (is.unclaimed ∙ sym (times-same block old.unclaimed ∙ ap (λ n. 1 + n) no_live)))
@@ -75,9 +92,12 @@ module _ (marks : List Mark) (u f : ℕ) (queue : List Turn) (taken : ℕ) where
               let was : u ≡ length old.unclaimed = kept.unclaimed_count_kept ∙ c.unclaimed in
               record { unclaimed = next (omega arith) ∙ omega arith; free = kept.free_count_kept ∙ c.free ∙ sym free_same });
           turns_kept = kept.turns_kept;
+          named = fewer_named is.named;
+          counts_kept = kept.counts_kept;
+          below_kept = kept.below_kept;
         }
 
-    pub adds_free : (n : ℕ) → (f < 2 ^ 64 - 1 → n ≡ f + 1) → IsMarked here block Free → Adds old block false (known_of marks u n queue taken)
+    pub adds_free : (n : ℕ) → (f < 2 ^ 64 - 1 → n ≡ f + 1) → IsMarked here block Free → Adds old block false (known_of marks u n queue taken counts below)
     adds_free n next is =
         let unclaimed : SameBlocks (unclaimed_from heap_start marks) old.unclaimed = (λ h. ⊎_elim
         (λ same. subst (λ x. times x here.unclaimed ≡ times x old.unclaimed) same (is.unclaimed ∙ sym no_live))
@@ -97,11 +117,14 @@ module _ (marks : List Mark) (u f : ℕ) (queue : List Turn) (taken : ℕ) where
               let was : f ≡ length old.free = kept.free_count_kept ∙ c.free in
               record { unclaimed = kept.unclaimed_count_kept ∙ c.unclaimed ∙ sym unclaimed_same; free = next (omega arith) ∙ omega arith });
           turns_kept = kept.turns_kept;
+          named = fewer_named is.named;
+          counts_kept = kept.counts_kept;
+          below_kept = kept.below_kept;
         }
 
   -- ---- a block was claimed
 
-  pub claims_one : (block unit n : ℕ) → block ≡ heap_start + 16 * unit → unit < length marks → Live ≡ get_or marks unit Inside → (1 ≤ u → n ≡ u - 1) → ClaimsAll here (known_of (set marks unit Claimed) n f queue taken) (block ∷ []) []
+  pub claims_one : (block unit n : ℕ) → block ≡ heap_start + 16 * unit → unit < length marks → Live ≡ get_or marks unit Inside → (1 ≤ u → n ≡ u - 1) → ClaimsAll here (known_of (set marks unit Claimed) n f queue taken counts below) (block ∷ []) []
   claims_one block unit n at_is inside is next =
       let new = unclaimed_from heap_start (set marks unit Claimed) in
       let there : unit < length (set marks unit Claimed) = omega (arith, length-set marks unit Claimed) in
@@ -119,10 +142,12 @@ module _ (marks : List Mark) (u f : ℕ) (queue : List Turn) (taken : ℕ) where
       (λ other. set_other is_free h heap_start unit marks Claimed (λ e. other (at_is ∙ e)))
       (cases_eq block h)) in
       let free_same = same_length (free_from heap_start (set marks unit Claimed)) here.free free in
+      let same_named : named_from heap_start (set marks unit Claimed) ≡ named_from heap_start marks = set_same is_named heap_start unit marks Claimed inside (ap is_named is) in
       record {
         claimed = claimed;
         counted = (λ c. let count = c.unclaimed in record { unclaimed = next (omega arith) ∙ omega arith; free = c.free ∙ sym free_same });
         turns_are = sym (append-nil (drop taken queue));
+        naming_kept = λ i. record { named = same_named i; counts = counts; below = below };
       }
 
 -- ---- walks over the marks

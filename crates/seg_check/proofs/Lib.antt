@@ -6,7 +6,10 @@ pub mod SameLength
 pub mod MarkLaws
 pub mod KnownLaws
 pub mod ClaimLaws
+pub mod ReadLaws
+pub mod NamingLaws
 pub mod StepLaws
+pub mod AnyOrder
 pub mod RootSteps
 pub mod PlaceLoop
 pub mod TagLaws
@@ -31,5 +34,4 @@ pub mod FreeWalk
 pub mod MapLaws
 pub mod TreeIndex
 pub mod HeapLaws
-pub mod Unshared
 pub mod WholeLaws

@@ -15,7 +15,7 @@ use Rattle.seg_check.specs.Marks.{Known, Within}
 use Rattle.seg_check.specs.Resolving.{CanResolve, Advances, IsReady}
 use Rattle.seg_check.proofs.StepLaws.{advance_open, can_open}
 use Rattle.seg_check.proofs.OpenLaws.{advance_nothing}
-use Rattle.seg_check.proofs.NodeLaws.{turns_of, Claimed, one_node, claimed_none, claimed_more, claimed_within, claimed_live, node_room, values_of, values_known, claimed_wait}
+use Rattle.seg_check.proofs.NodeLaws.{turns_of, Claimed, one_node, claimed_none, claimed_more, claimed_within, claimed_live, nodes_others, node_room, values_of, values_known, claimed_wait}
 
 module _ (bytes : List ℕ) where
   -- from x on each node names the next one, up to the last
@@ -145,13 +145,13 @@ module _ (bytes : List ℕ) (table : Table) (old : Known) (ready : IsReady bytes
         are_nodes = w.claimed.are_nodes;
         opened_is = refl;
       })
-      w.claimed.claims waits.0 (values_known bytes table old ready T 8 U (ready.is_table.forms T (Form.list U) f) nodes) waits.1
+      refl w.claimed.claims waits.0 (nodes_others bytes table old ready T 8 U has nodes w.claimed.are_nodes) (values_known bytes table old ready T 8 U (ready.is_table.forms T (Form.list U) f) nodes) waits.1
 
   pub ring_nothing : target bytes at ≡ None → count_at bytes at ≡ 0 → Advances bytes table old old (record { at = at; type = T } ∷ [])
   unfolding ring_opened
   ring_nothing e n =
       advance_nothing bytes table old (record { at = at; type = T }) (Form.list U) (ring_opened []) f
-      (record { nodes = []; ring = subst (λ o. IsRing bytes o []) (sym e) tt; counted = sym n; are_nodes = tt; opened_is = refl }) refl refl
+      (record { nodes = []; ring = subst (λ o. IsRing bytes o []) (sym e) tt; counted = sym n; are_nodes = tt; opened_is = refl }) refl refl refl
 
   -- ---- what can be resolved
 
@@ -162,9 +162,9 @@ module _ (bytes : List ℕ) (table : Table) (old : Known) (ready : IsReady bytes
     pub are_nodes : AreNodes bytes tag each (first ∷ nodes)
     pub within : Within (map block_of (first ∷ nodes)) old.unclaimed
 
-  ring_of : (first : ℕ) → target bytes at ≡ Some first → CanResolve bytes table old.unclaimed (record { at = at; type = T } ∷ []) → Ring first
+  ring_of : (first : ℕ) → target bytes at ≡ Some first → CanResolve bytes table old (record { at = at; type = T } ∷ []) → Ring first
   ring_of first named r =
-      let o = can_open bytes table old.unclaimed (record { at = at; type = T }) (Form.list U) [] f r in
+      let o = can_open bytes table old (record { at = at; type = T }) (Form.list U) [] f r in
       let within = subst (λ bs. Within bs old.unclaimed) (ap (λ (x : Opened). x.blocks) o.opens.opened_is) o.within in
       go o.opens.nodes (subst (λ t. IsRing bytes t o.opens.nodes) named o.opens.ring) o.opens.counted o.opens.are_nodes within
     where
@@ -178,7 +178,7 @@ module _ (bytes : List ℕ) (table : Table) (old : Known) (ready : IsReady bytes
         within = subst (λ y. Within (map block_of (y ∷ xs)) old.unclaimed) ring.0 within;
       }
 
-  pub first_can : (first : ℕ) → target bytes at ≡ Some first → CanResolve bytes table old.unclaimed (record { at = at; type = T } ∷ []) → CanClaim bytes old at tag (1 * each)
+  pub first_can : (first : ℕ) → target bytes at ≡ Some first → CanResolve bytes table old (record { at = at; type = T } ∷ []) → CanClaim bytes old at tag (1 * each)
   first_can first named r =
       let ring = ring_of first named r in
       record {
@@ -188,7 +188,7 @@ module _ (bytes : List ℕ) (table : Table) (old : Known) (ready : IsReady bytes
         unclaimed = omega (arith, ring.within (block_of first), times-same (block_of first) (map block_of ring.nodes));
       }
 
-  pub ring_closed : (now : Known) (first last n : ℕ) (b : Bool) → Walked now first last n b → target bytes at ≡ Some first → n ≡ count_at bytes at → CanResolve bytes table old.unclaimed (record { at = at; type = T } ∷ [])
+  pub ring_closed : (now : Known) (first last n : ℕ) (b : Bool) → Walked now first last n b → target bytes at ≡ Some first → n ≡ count_at bytes at → CanResolve bytes table old (record { at = at; type = T } ∷ [])
       → (b ≡ true) × (target bytes last ≡ Some first) × (target bytes (first + 4) ≡ Some last)
   ring_closed now first last n b w named n_is r =
       let ring = ring_of first named r in
@@ -199,7 +199,7 @@ module _ (bytes : List ℕ) (table : Table) (old : Known) (ready : IsReady bytes
       let close = linked_close bytes first first w.nodes last linked w.chain in
       (w.linked.1 (linked_backs bytes first first w.nodes linked), close.0, close.1)
 
-  pub next_can : (now : Known) (first last n : ℕ) (b : Bool) → Walked now first last n b → target bytes at ≡ Some first → n < count_at bytes at → CanResolve bytes table old.unclaimed (record { at = at; type = T } ∷ [])
+  pub next_can : (now : Known) (first last n : ℕ) (b : Bool) → Walked now first last n b → target bytes at ≡ Some first → n < count_at bytes at → CanResolve bytes table old (record { at = at; type = T } ∷ [])
       → CanClaim bytes now last tag (1 * each)
   next_can now first last n b w named less r =
       let ring = ring_of first named r in

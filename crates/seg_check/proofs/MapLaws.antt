@@ -25,26 +25,18 @@ use Rattle.seg_check.specs.Claiming.{Refuses, AreLive, CanClaim, ClaimsBlock, tu
 use Rattle.seg_check.specs.Marks.{Known, Within}
 use Rattle.seg_check.specs.Keys.{HasKeys}
 use Rattle.seg_check.specs.Walks.{Completes, Hangs, IsSteady, Proceeds, entering_of}
-use Rattle.seg_check.specs.Resolving.{Resolves, CanResolve, Advances, IsReady, Steps}
+use Rattle.seg_check.specs.Turns.{Limited, limited}
+use Rattle.seg_check.specs.Resolving.{ResolvesBy, CanResolve, Advances, IsReady, Steps}
 use Rattle.seg_check.specs.Cells.{NamesBy, blocks_counted_by}
 use Rattle.seg_check.proofs.SameLength.{splits, within_length}
-use Rattle.seg_check.proofs.StepLaws.{advance_mixed, can_open, resolves_swap}
+use Rattle.seg_check.proofs.AnyOrder.{without, in_any_order}
+use Rattle.seg_check.proofs.StepLaws.{advance_mixed, can_open}
 use Rattle.seg_check.proofs.OpenLaws.{advance_nothing}
 use Rattle.seg_check.proofs.BufferLaws.{content_claimed, content_can}
-use Rattle.seg_check.proofs.NodeLaws.{turns_of, Claimed, one_node, claimed_none, claimed_more, claimed_live, nodes_within, within_rest, node_room, values_of, values_known, claimed_wait}
+use Rattle.seg_check.proofs.NodeLaws.{turns_of, Claimed, one_node, claimed_none, claimed_more, claimed_live, nodes_within, nodes_others, within_rest, node_room, values_of, values_known, claimed_wait}
 use Rattle.seg_check.proofs.Followed.{Followed, hangs_once, follow_enter, follow_pass, follow_end, follow_all, follow_refused}
 
 -- ---- lists in which each number stands equally often
-
-module _ (xs ys : List ℕ) (x : ℕ) (before after : List ℕ) (parts : ys ≡ before ++ x ∷ after) (same : SameBlocks (x ∷ xs) ys) where
-  without : SameBlocks xs (before ++ after)
-  without h =
-      let here = same h in
-      let mine = times-append h (x ∷ []) xs in
-      let there : times h ys ≡ times h before + times h (x ∷ after) = ap (times h) parts ∙ times-append h before (x ∷ after) in
-      let own = times-append h (x ∷ []) after in
-      let apart = times-append h before after in
-      omega arith
 
 pub mapped_same : (f : ℕ → ℕ) (xs ys : List ℕ) → SameBlocks xs ys → SameBlocks (map f xs) (map f ys)
 mapped_same f [] [] same h = refl
@@ -77,28 +69,22 @@ all_parts : (P : ℕ → Type 0) (xs : List ℕ) (x : ℕ) → AllByRecursion P 
 all_parts P [] x all = (tt, all.0)
 all_parts P (y ∷ ys) x all = let rest = all_parts P ys x all.1 in ((all.0, rest.0), rest.1)
 
--- places of one type are resolved in any order
-module _ (bytes : List ℕ) (table : Table) (U before : ℕ) where
-  abbrev places : List ℕ → List Place
-  places ps = places_of U (map (λ p. p + before) ps)
+-- values of one type are resolved in any order
+module _ (bytes : List ℕ) (table : Table) (U before : ℕ) (u l : List ℕ) (below : Option ℕ) where
+  abbrev places : List ℕ → List Limited
+  places ps = limited below (places_of U (map (λ p. p + before) ps))
 
-  abbrev place : ℕ → List Place
-  place p = record { at = p + before; type = U } ∷ []
+  abbrev place : ℕ → Limited
+  place p = record { place = record { at = p + before; type = U }; below = below }
 
-  places-append : (ps qs : List ℕ) (others : List Place) → places (ps ++ qs) ++ others ≡ places ps ++ (places qs ++ others)
-  places-append [] qs others = refl
-  places-append (p ∷ ps) qs others = ap (λ xs. record { at = p + before; type = U } ∷ xs) (places-append ps qs others)
+  one_by_one : (ps : List ℕ) → places ps ≡ map place ps
+  one_by_one [] = refl
+  one_by_one (p ∷ ps) = ap (λ xs. place p ∷ xs) (one_by_one ps)
 
-  in_any_order : (u l : List ℕ) (xs ys : List ℕ) (others : List Place) → SameBlocks xs ys → Resolves bytes table u l (places xs ++ others) → Resolves bytes table u l (places ys ++ others)
-  in_any_order u l [] [] others same r = r
-  in_any_order u l [] (y ∷ ys) others same r = absurd (omega (arith, same y, times-same y ys))
-  in_any_order u l (x ∷ xs) ys others same r =
-      let s = splits x ys (omega (arith, same x, times-same x xs)) in
-      let rest = in_any_order u l xs (s.before ++ s.after) (place x ++ others) (without xs ys x s.before s.after s.parts same) (resolves_swap bytes table u l (place x) (places xs) others r) in
-      let front = resolves_swap bytes table u l (places (s.before ++ s.after)) (place x) others rest in
-      let apart = subst (λ ps. Resolves bytes table u l (place x ++ ps)) (places-append s.before s.after others) front in
-      let back = resolves_swap bytes table u l (place x) (places s.before) (places s.after ++ others) apart in
-      subst (λ ps. Resolves bytes table u l ps) (sym (ap (λ zs. places zs ++ others) s.parts ∙ places-append s.before (x ∷ s.after) others)) back
+  values_in_any_order : (xs ys : List ℕ) (others : List Limited) (names : List ℕ) → SameBlocks xs ys → ResolvesBy bytes table u l (places xs ++ others) names → ResolvesBy bytes table u l (places ys ++ others) names
+  values_in_any_order xs ys others names same r =
+      subst (λ ps. ResolvesBy bytes table u l (ps ++ others) names) (sym (one_by_one ys))
+      (in_any_order bytes table place u l xs ys others names same (subst (λ ps. ResolvesBy bytes table u l (ps ++ others) names) (one_by_one xs) r))
 
 -- ---- the nodes so far
 
@@ -199,16 +185,18 @@ module _ (bytes : List ℕ) (table : Table) (old : Known) (ready : IsReady bytes
           ascending = subst (λ ps. IsAscending (keys_of ps)) (sym w.nodes_are) ascending;
           opened_is = ap tree_opened (sym w.nodes_are);
         })
-        (λ u left others. (
-          in_any_order bytes table U map_words u left t.passed t.entered others (λ h. sym (same h)),
-          in_any_order bytes table U map_words u left t.entered t.passed others same,
+        refl
+        (λ u left below others names. (
+          values_in_any_order bytes table U map_words u left below t.passed t.entered others names (λ h. sym (same h)),
+          values_in_any_order bytes table U map_words u left below t.entered t.passed others names same,
         ))
         (record {
           claimed = (λ h. t.claimed.claims.claimed h ∙ times-append h (map block_of t.entered) mid.unclaimed ∙ ap (λ n. n + times h mid.unclaimed) (blocks h) ∙ sym (times-append h (map block_of t.passed) mid.unclaimed));
           counted = t.claimed.claims.counted;
           turns_are = t.claimed.claims.turns_are;
+          naming_kept = t.claimed.claims.naming_kept;
         })
-        waits.0 (values_known bytes table old ready T map_words U (ready.is_table.forms T (Form.map U) f) t.entered) waits.1
+        waits.0 (nodes_others bytes table old ready T map_words U has t.entered t.claimed.are_nodes) (values_known bytes table old ready T map_words U (ready.is_table.forms T (Form.map U) f) t.entered) waits.1
 
   pub tree_nothing : target bytes at ≡ None → count_at bytes at ≡ 0 → Advances bytes table old old (record { at = at; type = T } ∷ [])
   tree_nothing e n =
@@ -222,7 +210,7 @@ module _ (bytes : List ℕ) (table : Table) (old : Known) (ready : IsReady bytes
         ascending = tt;
         opened_is = refl;
       })
-      refl refl
+      refl refl refl
 
   -- ---- what can be resolved
 
@@ -235,9 +223,9 @@ module _ (bytes : List ℕ) (table : Table) (old : Known) (ready : IsReady bytes
     pub within : Within (map block_of nodes) old.unclaimed
     pub ascending : IsAscending (keys_of nodes)
 
-  planted : CanResolve bytes table old.unclaimed (record { at = at; type = T } ∷ []) → Planted
+  planted : CanResolve bytes table old (record { at = at; type = T } ∷ []) → Planted
   planted r =
-      let o = can_open bytes table old.unclaimed (record { at = at; type = T }) (Form.map U) [] f r in
+      let o = can_open bytes table old (record { at = at; type = T }) (Form.map U) [] f r in
       let tree = o.opens.tree in
       record {
         height = o.opens.red_black.height;
@@ -269,7 +257,7 @@ module _ (bytes : List ℕ) (table : Table) (old : Known) (ready : IsReady bytes
       omega arith
 
   -- a cell counts nodes just where it names one
-  pub tree_counted : (e : ContentFault) → blocks_counted_by at (target bytes at) (count_at bytes at) ≡ Err e → Refuses e (CanResolve bytes table old.unclaimed (record { at = at; type = T } ∷ []))
+  pub tree_counted : (e : ContentFault) → blocks_counted_by at (target bytes at) (count_at bytes at) ≡ Err e → Refuses e (CanResolve bytes table old (record { at = at; type = T } ∷ []))
   tree_counted e is = go (target bytes at) (count_at bytes at) refl refl is
     where
       none_there : (tree : Tree) (n : ℕ) → IsTree bytes None tree → length (nodes_of tree) ≡ suc n → ⊥
@@ -280,30 +268,30 @@ module _ (bytes : List ℕ) (table : Table) (old : Known) (ready : IsReady bytes
       some_there p leaf hangs counted = hangs
       some_there p (fork left x colour right) hangs counted = omega (arith, length-append (nodes_of left) (x ∷ nodes_of right))
 
-      go : (o : Option ℕ) (n : ℕ) → target bytes at ≡ o → count_at bytes at ≡ n → blocks_counted_by at o n ≡ Err e → Refuses e (CanResolve bytes table old.unclaimed (record { at = at; type = T } ∷ []))
+      go : (o : Option ℕ) (n : ℕ) → target bytes at ≡ o → count_at bytes at ≡ n → blocks_counted_by at o n ≡ Err e → Refuses e (CanResolve bytes table old (record { at = at; type = T } ∷ []))
       go None zero t c is = absurd (let no : Ok None ≡ Err e = is in cc)
       go (Some p) (suc n) t c is = absurd (let no : Ok (Some (suc n)) ≡ Err e = is in cc)
       go None (suc n) t c is =
           let same : BadPointer at ≡ e = cc in
-          subst (λ g. Refuses g (CanResolve bytes table old.unclaimed (record { at = at; type = T } ∷ []))) same
+          subst (λ g. Refuses g (CanResolve bytes table old (record { at = at; type = T } ∷ []))) same
           (λ r. let p = planted r in
           none_there p.hangs.tree n (subst (λ o. IsTree bytes o p.hangs.tree) t p.hangs.is_tree) (ap length p.hangs.nodes_are ∙ p.hangs.counted ∙ c))
       go (Some q) zero t c is =
           let same : BadValue at ≡ e = cc in
-          subst (λ g. Refuses g (CanResolve bytes table old.unclaimed (record { at = at; type = T } ∷ []))) same
+          subst (λ g. Refuses g (CanResolve bytes table old (record { at = at; type = T } ∷ []))) same
           (λ r. let p = planted r in
           some_there q p.hangs.tree (subst (λ o. IsTree bytes o p.hangs.tree) t p.hangs.is_tree) (ap length p.hangs.nodes_are ∙ p.hangs.counted ∙ c))
 
   module _ (mid : Known) (stage : Stage) (turns : ℕ) (keys : Keys) (t : Traced mid stage turns keys) where
     -- the walk goes on
     pub traced_refused : ((height : ℕ) (rest entering : List ℕ) → Completes bytes height stage rest entering → height < 30 → length rest + length entering < turns → ⊥)
-        → CanResolve bytes table old.unclaimed (record { at = at; type = T } ∷ []) → ⊥
+        → CanResolve bytes table old (record { at = at; type = T } ∷ []) → ⊥
     traced_refused never r =
         let p = planted r in
         follow_refused bytes at (count_at bytes at) stage turns t.passed t.entered t.followed never p.height p.nodes p.all p.hangs (planted_few p)
 
     -- the next node can be claimed
-    pub traced_can : (next : Stage) (pointer : ℕ) → Proceeds bytes stage next (Some (Enter pointer)) → CanResolve bytes table old.unclaimed (record { at = at; type = T } ∷ []) → CanClaim bytes mid pointer tag (1 * each)
+    pub traced_can : (next : Stage) (pointer : ℕ) → Proceeds bytes stage next (Some (Enter pointer)) → CanResolve bytes table old (record { at = at; type = T } ∷ []) → CanClaim bytes mid pointer tag (1 * each)
     traced_can next pointer step r =
         let p = planted r in
         let left = t.followed.forth p.height p.nodes p.all p.hangs in
@@ -335,7 +323,7 @@ module _ (bytes : List ℕ) (table : Table) (old : Known) (ready : IsReady bytes
             → Steps bytes table old mid (record { at = at; type = T } ∷ []) r
         go (Ok x) m = traced_advance mid stage turns keys t next step m
         go (Err e) m =
-            subst (λ g. Refuses g (CanResolve bytes table old.unclaimed (record { at = at; type = T } ∷ []))) (sym m.0)
+            subst (λ g. Refuses g (CanResolve bytes table old (record { at = at; type = T } ∷ []))) (sym m.0)
             (λ r.
             let p = planted r in
             let same = follow_all bytes at (count_at bytes at) stage turns t.passed t.entered t.followed next step p.height p.nodes p.all p.hangs in

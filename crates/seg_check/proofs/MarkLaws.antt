@@ -69,6 +69,12 @@ module _ (these : Mark → Bool) where
       elim (these x) as (λ b. times h (cond b (at ∷ those_from these (at + 16) (set ms u m)) (those_from these (at + 16) (set ms u m))) ≡ times h (cond b (at ∷ those_from these (at + 16) ms) (those_from these (at + 16) ms)))
       [ true ↦ counted h at _ _ rest | false ↦ rest ]
 
+  -- nor for any, where both marks are alike
+  pub set_same : (at u : ℕ) (ms : List Mark) (m : Mark) → u < length ms → these m ≡ these (get_or ms u Inside) → those_from these at (set ms u m) ≡ those_from these at ms
+  set_same at u [] m inside same = absurd (omega arith)
+  set_same at zero (x ∷ ms) m inside same = ap (λ b. cond b (at ∷ those_from these (at + 16) ms) (those_from these (at + 16) ms)) same
+  set_same at (suc u) (x ∷ ms) m inside same = ap (λ rest. cond (these x) (at ∷ rest) rest) (set_same (at + 16) u ms m (omega arith) same)
+
   -- marks of no such kind
   pub none_in : (at n : ℕ) (m : Mark) → these m ≡ false → those_from these at (replicate n m) ≡ []
   none_in at zero m isnt = refl

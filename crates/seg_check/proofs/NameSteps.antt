@@ -223,7 +223,7 @@ module _ (bytes : List ℕ) (table : Table) where
           let first : q ≡ record { at = p; type = T } = cc in
           below_length table T form (ap (λ (x : Place). form_at table x.type) (sym first) ∙ f)
 
-  pub can_enter : (old : Known) (at : ℕ) (es last : List ℕ) (t : ℕ) → CanResolveRoots bytes table old.unclaimed (record { entries = at ∷ es; last = last; type = t }) → CanEnter old at last
+  pub can_enter : (old : Known) (at : ℕ) (es last : List ℕ) (t : ℕ) → CanResolveRoots bytes table old (record { entries = at ∷ es; last = last; type = t }) → CanEnter old at last
   can_enter old at es last t can = go r.names r.are_entries r.ascending r.roots
     where
       r : ResolvesRoots bytes table old.unclaimed can.left (record { entries = at ∷ es; last = last; type = t }) can.places
@@ -257,7 +257,7 @@ module _ (bytes : List ℕ) (table : Table) where
             };
           }
 
-  pub named_can : (old : Known) (at n len : ℕ) (rest before : List ℕ) → n ≡ half bytes (at + 4) → len ≡ byte bytes (at + 6) → CanResolveRoots bytes table old.unclaimed (names_ahead (at ∷ rest) before)
+  pub named_can : (old : Known) (at n len : ℕ) (rest before : List ℕ) → n ≡ half bytes (at + 4) → len ≡ byte bytes (at + 6) → CanResolveRoots bytes table old (names_ahead (at ∷ rest) before)
       → CanClaimNamed bytes table old at n len
   named_can old at n len rest before counted measured can =
       let e = can_enter old at rest before 0 can in
@@ -314,7 +314,7 @@ module _ (bytes : List ℕ) (table : Table) where
     entry_advance rest is_name above = advance_entry old new ready at c.start c.type n name stands_named is_name (claims_again is_name) rest before 0 above
 
     -- its name and what comes before it, where it can be resolved
-    pub entry_names : (rest : List ℕ) → CanResolveRoots bytes table old.unclaimed (names_ahead (at ∷ rest) before) → Precedes before name × IsName name
+    pub entry_names : (rest : List ℕ) → CanResolveRoots bytes table old (names_ahead (at ∷ rest) before) → Precedes before name × IsName name
     entry_names rest can =
         let e = can_enter old at rest before 0 can in
         let same = root_of at c.start c.type n (n * size table c.type + len) name e.root stands_named c.claims.is_block e.entry e.block e.name_is in

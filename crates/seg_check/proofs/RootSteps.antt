@@ -69,7 +69,7 @@ module _ (bytes : List ℕ) (table : Table) where
             p.back left places (q.back left (fs ++ places) (roots_turned new.unclaimed left c fs gs places split)));
       }
 
-  pub can_roots : (old mid : Known) (a b : Ahead) → AdvancesRoots bytes table old mid a b → CanResolveRoots bytes table old.unclaimed a → CanResolveRoots bytes table mid.unclaimed b
+  pub can_roots : (old mid : Known) (a b : Ahead) → AdvancesRoots bytes table old mid a b → CanResolveRoots bytes table old a → CanResolveRoots bytes table mid b
   can_roots old mid a b p r = record { left = r.left; places = waiting bytes table p.turns ++ r.places; resolves = p.forth r.left r.places r.resolves }
 
   pub ready_roots : (old mid : Known) (a b : Ahead) → IsReady bytes table old → AdvancesRoots bytes table old mid a b → IsReady bytes table mid

@@ -3,7 +3,7 @@ use Rattle.std.proofs.Common.{◌≡◌, ℕ, suc, ◌+◌, ◌<◌, ◌≤◌, 
 use Rattle.std.proofs.lemmas.Option.{slice_get-map}
 use Rattle.std.specs.Option.{option_map}
 use Rattle.std.specs.Prelude.{slice_get}
-use Rattle.seg_spec.specs.Types.{Form, Table, IsTable, AreOfVersion, form_at, size, Cell, fields_from, fields_by, fields_of}
+use Rattle.seg_spec.specs.Types.{Form, Table, IsTable, form_at, size, Cell, fields_from, fields_by, fields_of}
 use Rattle.seg_spec.specs.Reads.{fields}
 use Rattle.seg_spec.proofs.Geometry.{InFields, fields_in}
 use Rattle.seg_spec.proofs.TypesLaws.{size-form}
@@ -65,12 +65,12 @@ module _ (bytes : List ℕ) (table : Table) (valid : IsTable table) (at T : ℕ)
     field_past e = place_past bytes table old mid (parts_at at (fields_of table T)) i done (slice_get-map (λ (d : Cell). record { at = at + d.from; type = d.type }) (fields_of table T) i
         ∙ ap (option_map (λ (d : Cell). record { at = at + d.from; type = d.type })) e)
 
-    pub field_can : (c : Cell) (x : ℕ) → slice_get (fields_of table T) i ≡ Some c → x ≡ at + c.from → CanResolve bytes table old.unclaimed (record { at = at; type = T } ∷ [])
-        → CanResolve bytes table mid.unclaimed (record { at = x; type = c.type } ∷ [])
+    pub field_can : (c : Cell) (x : ℕ) → slice_get (fields_of table T) i ≡ Some c → x ≡ at + c.from → CanResolve bytes table old (record { at = at; type = T } ∷ [])
+        → CanResolve bytes table mid (record { at = x; type = c.type } ∷ [])
     field_can c x e x_is r =
-        subst (λ y. CanResolve bytes table mid.unclaimed (record { at = y; type = c.type } ∷ [])) (sym x_is)
+        subst (λ y. CanResolve bytes table mid (record { at = y; type = c.type } ∷ [])) (sym x_is)
         (place_can bytes table old mid (parts_at at (fields_of table T)) i done (record { at = at + c.from; type = c.type }) (part_at c e)
-        (subst (λ ps. CanResolve bytes table old.unclaimed ps) fields_are (can_struct bytes table old.unclaimed at T Us f r)))
+        (subst (λ ps. CanResolve bytes table old ps) fields_are (can_struct bytes table old at T Us f r)))
 
     pub fields_all : length (fields_of table T) ≤ i → Advances bytes table old mid (record { at = at; type = T } ∷ [])
     fields_all past =
@@ -82,22 +82,22 @@ module _ (bytes : List ℕ) (table : Table) (valid : IsTable table) (at T : ℕ)
 known_form : (bytes : List ℕ) (table : Table) (T : ℕ) → T < length table → form_at table T ≡ None → ⊥
 known_form bytes table T known e = let number : form_at table T ≡ Some Form.i64 = known_number bytes table T known (ap has_cells e) in cc
 
-pub no_cell : (bytes : List ℕ) (table : Table) (valid : IsTable table) (of_version : AreOfVersion 1 table) (known : Known) (at T : ℕ) → T < length table → length (fields_of table T) ≡ 0
+pub no_cell : (bytes : List ℕ) (table : Table) (valid : IsTable table) (known : Known) (at T : ℕ) → T < length table → length (fields_of table T) ≡ 0 → ((U : ℕ) → form_at table T ≡ Some (Form.shared U) → ⊥)
     → (o : Option Form) → form_at table T ≡ o → ContentOf table T o None
     → Advances bytes table known known (record { at = at; type = T } ∷ [])
-no_cell bytes table valid of_version known at T l none None f c = absurd (known_form bytes table T l f)
-no_cell bytes table valid of_version known at T l none (Some Form.i64) f c = advance_number bytes table known (record { at = at; type = T }) f
-no_cell bytes table valid of_version known at T l none (Some (Form.struct [])) f c = absurd (omega (arith, (valid.forms T (Form.struct []) f).0))
-no_cell bytes table valid of_version known at T l none (Some (Form.struct (U ∷ Us))) f c =
+no_cell bytes table valid known at T l none unshared None f c = absurd (known_form bytes table T l f)
+no_cell bytes table valid known at T l none unshared (Some Form.i64) f c = advance_number bytes table known (record { at = at; type = T }) f
+no_cell bytes table valid known at T l none unshared (Some (Form.struct [])) f c = absurd (omega (arith, (valid.forms T (Form.struct []) f).0))
+no_cell bytes table valid known at T l none unshared (Some (Form.struct (U ∷ Us))) f c =
     let long : length (fields_of table T) ≡ suc (length (fields_from table (0 + size table U) Us)) = ap (λ o. length (fields_by table o)) f in
     absurd (omega arith)
-no_cell bytes table valid of_version known at T l none (Some Form.str) f c = absurd c
-no_cell bytes table valid of_version known at T l none (Some (Form.vec U)) f c = absurd c
-no_cell bytes table valid of_version known at T l none (Some (Form.list U)) f c = absurd c
-no_cell bytes table valid of_version known at T l none (Some (Form.flat_map U)) f c = absurd c
-no_cell bytes table valid of_version known at T l none (Some (Form.map U)) f c = absurd c
-no_cell bytes table valid of_version known at T l none (Some (Form.own U)) f c = absurd c
-no_cell bytes table valid of_version known at T l none (Some (Form.shared U)) f c = let old = of_version.each T (Form.shared U) f in absurd (omega arith)
+no_cell bytes table valid known at T l none unshared (Some Form.str) f c = absurd c
+no_cell bytes table valid known at T l none unshared (Some (Form.vec U)) f c = absurd c
+no_cell bytes table valid known at T l none unshared (Some (Form.list U)) f c = absurd c
+no_cell bytes table valid known at T l none unshared (Some (Form.flat_map U)) f c = absurd c
+no_cell bytes table valid known at T l none unshared (Some (Form.map U)) f c = absurd c
+no_cell bytes table valid known at T l none unshared (Some (Form.own U)) f c = absurd c
+no_cell bytes table valid known at T l none unshared (Some (Form.shared U)) f c = absurd (unshared U f)
 
 pub no_type : (bytes : List ℕ) (table : Table) (known : Known) (at T : ℕ) → T < length table → form_at table T ≡ None → Advances bytes table known known (record { at = at; type = T } ∷ [])
 no_type bytes table known at T l f = absurd (known_form bytes table T l f)

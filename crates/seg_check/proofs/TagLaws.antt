@@ -1,9 +1,9 @@
 -- What stands in a block, by its tag.
 use Rattle.std.proofs.Common.{◌≡◌, ℕ, ◌+◌, ◌*◌, ◌/◌, ◌%◌, ◌<◌, ◌⊎◌, inl, inr, List, [], length, Option, Some, None, true, false, refl, sym, ap, ◌∙◌, subst, arith}
+use Rattle.seg_spec.specs.Frozen.{frozen_words}
 use Rattle.seg_spec.specs.Types.{Form, Table, IsTable, form_at, size}
 use Rattle.seg_spec.specs.Heap.{tag_at}
 use Rattle.seg_spec.specs.Block as block
-use Rattle.seg_spec.specs.Frozen.{frozen_words}
 use Rattle.seg_spec.specs.Block.{kind_number, tag_of, block_of, IsOwnable, AllowsType}
 use Rattle.seg_spec.specs.Owing.{entries_at}
 use Rattle.seg_block.specs.Tags.{kind_of, word_of}

@@ -286,13 +286,13 @@ module _ (bytes : List ℕ) (table : Table) (old : Known) (ready : IsReady bytes
           its.index_is ∙ ap (λ t. record { blocks = map block_of (nodes_of t); entries = map (λ p. p + tree_words) (nodes_of t) }) (IsTree-one bytes (target bytes index_cell) its.tree c.opens.tree its.is_tree c.opens.is_tree) ∙
           sym c.opens.index_is
 
-      pub tree_names : CanResolveIndex bytes table old.unclaimed → CanResolveRoots bytes table start.unclaimed (names_ahead c.index.entries [])
+      pub tree_names : CanResolveIndex bytes table old → CanResolveRoots bytes table start (names_ahead c.index.entries [])
       tree_names = index_names bytes table old start c.index tree_opens tree_one c.claims
 
       pub tree_advance : (new : Known) (last : List ℕ) → AdvancesRoots bytes table start new (names_ahead c.index.entries []) (names_ahead [] last) → AdvancesIndex bytes table old new
       tree_advance = index_advance bytes table old start c.index tree_opens tree_one c.claims
 
-  pub planted_index : word bytes index_kind_word ≡ 1 → CanResolveIndex bytes table old.unclaimed → CanClaimTree bytes old.unclaimed
+  pub planted_index : word bytes index_kind_word ≡ 1 → CanResolveIndex bytes table old → CanClaimTree bytes old.unclaimed
   planted_index tree can = record {
     index = can.resolves.index;
     opens = subst (λ k. OpensIndex bytes k can.resolves.index) tree can.resolves.opens;

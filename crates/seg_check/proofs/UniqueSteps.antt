@@ -202,7 +202,7 @@ module _ (bytes : List ℕ) (table : Table) where
       back = λ left places r. unique_back left places r;
     }
 
-  pub can_unique : (old : Known) (T p : ℕ) → T < 32 → target bytes (unique_word T) ≡ Some p → CanResolveRoots bytes table old.unclaimed (from_type T) → CanClaim bytes old (unique_word T) (tag_of Kind.object T) (1 * size table T)
+  pub can_unique : (old : Known) (T p : ℕ) → T < 32 → target bytes (unique_word T) ≡ Some p → CanResolveRoots bytes table old (from_type T) → CanClaim bytes old (unique_word T) (tag_of Kind.object T) (1 * size table T)
   can_unique old T p small named can =
       let r = can.resolves in
       let f = first T p r.uniques r.rising (sym (r.words T (omega arith) small) ∙ named) in
@@ -244,7 +244,7 @@ module _ (bytes : List ℕ) (table : Table) where
         let f = subst (λ a. ClaimsBlock bytes old new a (tag_of Kind.object T) (1 * size table T + 0) (turns_where (has_cells (form_at table T)) p 1) p) at_is e in
         subst (λ U. AdvancesRoots bytes table old new (from_type T) (from_type U)) (sym next_is) (advance_unique old new ready T p small f.names f)
 
-    pub unique_can : (p : ℕ) → target bytes (unique_word T) ≡ Some p → CanResolveRoots bytes table old.unclaimed (from_type T) → CanClaim bytes old at (word_of content.tag) (1 * content.entry.size)
+    pub unique_can : (p : ℕ) → target bytes (unique_word T) ≡ Some p → CanResolveRoots bytes table old (from_type T) → CanClaim bytes old at (word_of content.tag) (1 * content.entry.size)
     unique_can p named can =
         subst (λ a. CanClaim bytes old a (word_of content.tag) (1 * content.entry.size)) (sym at_is)
         (content_can bytes table old (unique_word T) 1 shape (tag_of Kind.object T) 0 T (size table T) content is (zero_size T) (can_unique old T p small named can))

@@ -4,6 +4,7 @@ pub mod Faults
 pub mod Tiles
 pub mod Marks
 pub mod Claiming
+pub mod Naming
 pub mod Turns
 pub mod Resolving
 pub mod Roots

@@ -2,10 +2,10 @@
 --     Ahead                                  the entries and the types whose roots weren't looked at
 --     names_ahead entries last               entries after a name, and all unique objects
 --     uniques_ahead                          all unique objects
---     ResolvesRoots bytes table unclaimed left ahead places
+--     ResolvesRoots bytes table below unclaimed left ahead places found
 --                                            the roots ahead and the places own just the unclaimed
---                                            blocks, but for some that are left
---     ResolvesIndex bytes table unclaimed left
+--                                            blocks, but for some that are left, and name these objects
+--     ResolvesIndex bytes table below unclaimed left places found
 --                                            the same of the index and all roots
 --     CanResolveRoots, CanResolveIndex       that is so with some blocks left, and other places
 --     AdvancesRoots bytes table old new from to
@@ -15,7 +15,7 @@
 --                                            the object of an entry was claimed, or can be
 --     ClaimsTree bytes old new, CanClaimTree bytes unclaimed
 --                                            the nodes of a tree index were claimed, or can be
-use Rattle.std.specs.Prelude.{◌≡◌, ℕ, ◌+◌, ◌*◌, ◌<◌, ◌≤◌, List, [], ◌∷◌, ◌++◌, length, map, Result, Ok, Err}
+use Rattle.std.specs.Prelude.{◌≡◌, ℕ, ◌+◌, ◌*◌, ◌<◌, ◌≤◌, List, [], ◌∷◌, ◌++◌, length, map, Option, Result, Ok, Err}
 use Rattle.std.specs.List.{AllByRecursion}
 use Rattle.seg_spec.specs.Bytes.{word}
 use Rattle.seg_spec.specs.Pointer.{target}
@@ -24,14 +24,16 @@ use Rattle.seg_spec.specs.Header.{index_kind_word}
 use Rattle.seg_spec.specs.Block.{Kind, tag_of}
 use Rattle.seg_spec.specs.Reads.{Place}
 use Rattle.seg_spec.specs.Index.{Root, Index, OpensIndex, OpensTreeIndex, AreEntries, AreAscending, position_of, AreRising, unique_word}
+use Rattle.seg_spec.specs.Counting.{cells_in}
 use Rattle.seg_spec.specs.Sound.{IsPlain, HoldsRoots, SameBlocks}
 use Rattle.seg_layout.specs.Forms.{has_cells}
 use Rattle.seg_check.specs.declared.fault.ContentFault.{ContentFault}
-use Rattle.seg_check.specs.declared.marks.Turn.{Turn}
+use Rattle.seg_check.specs.declared.marks.Waiting.{Waiting}
 use Rattle.seg_check.specs.Claiming.{Refuses, CanClaim, ClaimsBlock, turns_where}
 use Rattle.seg_check.specs.Marks.{Known, IsCounted, ClaimsAll, Within}
-use Rattle.seg_check.specs.Turns.{waiting, AreTurns}
-use Rattle.seg_check.specs.Resolving.{Resolves}
+use Rattle.seg_check.specs.Naming.{SameOthers, IsNamed, Finds}
+use Rattle.seg_check.specs.Turns.{Limited, awaited, AreWaiting}
+use Rattle.seg_check.specs.Resolving.{ResolvesBy}
 
 -- entries of the index after a name, and the types from one on: those whose roots weren't looked at
 pub record Ahead : Type 0 where
@@ -47,9 +49,10 @@ names_ahead entries last = record { entries = entries; last = last; type = 0 }
 abbrev pub uniques_ahead : Ahead
 uniques_ahead = record { entries = []; last = []; type = 0 }
 
--- the roots ahead are there, and they and the places own just the unclaimed blocks, but those left
-pub record ResolvesRoots (bytes : List ℕ) (table : Table) (unclaimed left : List ℕ) (ahead : Ahead)
-    (places : List Place) : Type 0 where
+-- The roots ahead are there, with names under the limit; they and the places own just the unclaimed blocks, but
+-- frozen objects and those left, and name the objects at these positions.
+pub record ResolvesRoots (bytes : List ℕ) (table : Table) (below : Option ℕ)
+    (unclaimed left : List ℕ) (ahead : Ahead) (places : List Limited) (found : List ℕ) : Type 0 where
   pub names : List Root
   pub uniques : List Root
   pub root_blocks : List ℕ
@@ -61,86 +64,102 @@ pub record ResolvesRoots (bytes : List ℕ) (table : Table) (unclaimed left : Li
   pub rising : AreRising ahead.type uniques
   pub plain : AllByRecursion IsPlain uniques
   pub roots : HoldsRoots bytes table (names ++ uniques) root_blocks
-  pub resolves : Resolves bytes table rest left places
-  pub owners : SameBlocks unclaimed (root_blocks ++ rest)
+  pub named : AllByRecursion (IsNamed bytes table below) (cells_in (names ++ uniques))
+  pub others : List ℕ
+  pub resolves : ResolvesBy bytes table rest left places others
+  pub owners : SameOthers bytes unclaimed (root_blocks ++ rest)
+  pub found_are :
+      SameBlocks found (map (λ q. q.at) (cells_in (names ++ uniques)) ++ others)
 
--- an index is there, and it and all roots own just the unclaimed blocks, but those left
-pub record ResolvesIndex (bytes : List ℕ) (table : Table) (unclaimed left : List ℕ) : Type 0 where
+-- an index is there, and the same of it and all roots
+pub record ResolvesIndex (bytes : List ℕ) (table : Table) (below : Option ℕ)
+    (unclaimed left : List ℕ) (places : List Limited) (found : List ℕ) : Type 0 where
   pub index : Index
   pub opens : OpensIndex bytes (word bytes index_kind_word) index
   pub rest : List ℕ
-  pub roots : ResolvesRoots bytes table rest left
-      (names_ahead index.entries []) []
-  pub owners : SameBlocks unclaimed (index.blocks ++ rest)
+  pub roots : ResolvesRoots bytes table below rest left (names_ahead index.entries []) places found
+  pub owners : SameOthers bytes unclaimed (index.blocks ++ rest)
 
--- that is so with some blocks left, and some places
-pub record CanResolveRoots (bytes : List ℕ) (table : Table) (unclaimed : List ℕ)
+-- that is so with some blocks left, some places and some names
+pub record CanResolveRoots (bytes : List ℕ) (table : Table) (known : Known)
     (ahead : Ahead) : Type 0 where
   pub left : List ℕ
-  pub places : List Place
-  pub resolves : ResolvesRoots bytes table unclaimed left ahead places
+  pub places : List Limited
+  pub found : List ℕ
+  pub resolves :
+      ResolvesRoots bytes table known.naming.below known.unclaimed left ahead places found
 
-pub record CanResolveIndex (bytes : List ℕ) (table : Table) (unclaimed : List ℕ) : Type 0 where
+pub record CanResolveIndex (bytes : List ℕ) (table : Table) (known : Known) : Type 0 where
   pub left : List ℕ
-  pub resolves : ResolvesIndex bytes table unclaimed left
+  pub places : List Limited
+  pub found : List ℕ
+  pub resolves : ResolvesIndex bytes table known.naming.below known.unclaimed left places found
 
 -- ---- steps
 
 -- roots were looked at, and their values have become those of the turns that wait now after the others
 pub record AdvancesRoots (bytes : List ℕ) (table : Table) (old new : Known)
     (from to : Ahead) : Type 0 where
-  pub turns : List Turn
+  pub turns : List Waiting
   pub turns_are : new.turns ≡ old.turns ++ turns
-  pub are_turns : AreTurns bytes table turns
+  pub are_waiting : AreWaiting bytes table turns
   pub within : Within new.unclaimed old.unclaimed
   pub counted : IsCounted old → IsCounted new
-  pub forth : (left : List ℕ) (places : List Place) →
-      ResolvesRoots bytes table old.unclaimed left from places →
-      ResolvesRoots bytes table new.unclaimed left to (waiting bytes table turns ++ places)
-  pub back : (left : List ℕ) (places : List Place) →
-      ResolvesRoots bytes table new.unclaimed left to (waiting bytes table turns ++ places) →
-      ResolvesRoots bytes table old.unclaimed left from places
+  pub finds : Finds bytes old new []
+  pub forth : (left : List ℕ) (places : List Limited) (found : List ℕ) →
+      ResolvesRoots bytes table old.naming.below old.unclaimed left from places found →
+      ResolvesRoots bytes table old.naming.below new.unclaimed left to
+      (awaited bytes table turns ++ places) found
+  pub back : (left : List ℕ) (places : List Limited) (found : List ℕ) →
+      ResolvesRoots bytes table old.naming.below new.unclaimed left to
+      (awaited bytes table turns ++ places) found →
+      ResolvesRoots bytes table old.naming.below old.unclaimed left from places found
 
 -- the index was looked at, and its objects wait
 pub record AdvancesIndex (bytes : List ℕ) (table : Table) (old new : Known) : Type 0 where
-  pub turns : List Turn
+  pub turns : List Waiting
   pub turns_are : new.turns ≡ old.turns ++ turns
-  pub are_turns : AreTurns bytes table turns
+  pub are_waiting : AreWaiting bytes table turns
   pub within : Within new.unclaimed old.unclaimed
   pub counted : IsCounted old → IsCounted new
-  pub forth : (left : List ℕ) → ResolvesIndex bytes table old.unclaimed left →
-      ResolvesRoots bytes table new.unclaimed left uniques_ahead (waiting bytes table turns)
-  pub back : (left : List ℕ) →
-      ResolvesRoots bytes table new.unclaimed left uniques_ahead (waiting bytes table turns) →
-      ResolvesIndex bytes table old.unclaimed left
+  pub finds : Finds bytes old new []
+  pub forth : (left : List ℕ) (places : List Limited) (found : List ℕ) →
+      ResolvesIndex bytes table old.naming.below old.unclaimed left places found →
+      ResolvesRoots bytes table old.naming.below new.unclaimed left uniques_ahead
+      (awaited bytes table turns ++ places) found
+  pub back : (left : List ℕ) (places : List Limited) (found : List ℕ) →
+      ResolvesRoots bytes table old.naming.below new.unclaimed left uniques_ahead
+      (awaited bytes table turns ++ places) found →
+      ResolvesIndex bytes table old.naming.below old.unclaimed left places found
 
 -- the unique objects were looked at, and they wait
 pub record AdvancesUniques (bytes : List ℕ) (table : Table) (old new : Known) : Type 0 where
-  pub turns : List Turn
+  pub turns : List Waiting
   pub turns_are : new.turns ≡ old.turns ++ turns
-  pub are_turns : AreTurns bytes table turns
+  pub are_waiting : AreWaiting bytes table turns
   pub within : Within new.unclaimed old.unclaimed
   pub counted : IsCounted old → IsCounted new
-  pub forth : (left : List ℕ) (places : List Place) →
-      ResolvesRoots bytes table old.unclaimed left uniques_ahead places →
-      Resolves bytes table new.unclaimed left (waiting bytes table turns ++ places)
-  pub back : (left : List ℕ) (places : List Place) →
-      Resolves bytes table new.unclaimed left (waiting bytes table turns ++ places) →
-      ResolvesRoots bytes table old.unclaimed left uniques_ahead places
+  pub finds : Finds bytes old new []
+  pub forth : (left : List ℕ) (places : List Limited) (found : List ℕ) →
+      ResolvesRoots bytes table old.naming.below old.unclaimed left uniques_ahead places found →
+      ResolvesBy bytes table new.unclaimed left (awaited bytes table turns ++ places) found
+  pub back : (left : List ℕ) (places : List Limited) (found : List ℕ) →
+      ResolvesBy bytes table new.unclaimed left (awaited bytes table turns ++ places) found →
+      ResolvesRoots bytes table old.naming.below old.unclaimed left uniques_ahead places found
 
 -- the index is done and its objects wait, or it can't be resolved
 abbrev pub StepsIndex : {A : Type 0} → List ℕ → Table → Known → Known →
     Result A ContentFault → Type 0
 StepsIndex bytes table old new (Ok x) = AdvancesIndex bytes table old new
 StepsIndex bytes table old new (Err fault) =
-    Refuses fault (CanResolveIndex bytes table old.unclaimed)
+    Refuses fault (CanResolveIndex bytes table old)
 
 -- the unique objects wait, or they can't be resolved
 abbrev pub StepsUniques : {A : Type 0} → List ℕ → Table → Known → Known →
     Result A ContentFault → Type 0
 StepsUniques bytes table old new (Ok x) = AdvancesUniques bytes table old new
 StepsUniques bytes table old new (Err fault) =
-    Refuses fault (CanResolveRoots bytes table old.unclaimed uniques_ahead)
+    Refuses fault (CanResolveRoots bytes table old uniques_ahead)
 
 -- ---- the object of an entry
 

@@ -1,16 +1,21 @@
 -- The values in claimed blocks.
 --     places_in bytes table turn       those in the block of a turn, by its tag
 --     waiting bytes table turns        those of several turns
+--     limited below places             places whose values name objects of lower numbers
+--     awaited bytes table turns        the places of the turns that wait, but those in frozen objects
+--     frozen_place bytes block         the place of a frozen object's value
 --     with_cells table places          the places whose values may name blocks
 --     parts_at at cells                the places of cells in a value
 --     IsTurn bytes table turn          the table allows the tag, and no position overflows
+--     IsWaiting bytes table waiting    a frozen object's turn has its number as the limit
 --     AreBlocks bytes table blocks     live blocks with tags that the table allows
 --     HasEntries bytes table block e   what is read of a block as what stands in it
-use Rattle.std.specs.Prelude.{◌≡◌, ℕ, zero, suc, ◌+◌, ◌/◌, ◌%◌, ◌^◌, ◌<◌, ◌≤◌, List, [], length, map, filter, flat_map, Option, Some, None}
+use Rattle.std.specs.Prelude.{◌≡◌, ◌==◌, if◌then◌else◌, ℕ, zero, suc, ◌+◌, ◌/◌, ◌%◌, ◌^◌, ◌<◌, ◌≤◌, List, [], ◌∷◌, ◌++◌, length, map, filter, flat_map, Option, Some, None}
 use Rattle.std.specs.List.{AllByRecursion}
 use Rattle.seg_spec.specs.Types.{Form, Table, Cell, form_at, size}
 use Rattle.seg_spec.specs.Heap.{tag_at}
-use Rattle.seg_spec.specs.Block.{Kind, block_of, IsOwnable}
+use Rattle.seg_spec.specs.Bytes.{word}
+use Rattle.seg_spec.specs.Block.{Kind, kind_number, block_of, IsOwnable}
 use Rattle.seg_spec.specs.Frozen.{frozen_words}
 use Rattle.seg_spec.specs.Owing.{entries_at}
 use Rattle.seg_spec.specs.Reads.{Place, map_words}
@@ -20,6 +25,8 @@ use Rattle.seg_value.specs.declared.entry.Entry.{Entry}
 use Rattle.seg_value.specs.declared.entry.Held.{Held}
 use Rattle.seg_value.specs.declared.entry.Held.TheVariants as held
 use Rattle.seg_check.specs.declared.marks.Turn.{Turn}
+use Rattle.seg_check.specs.declared.marks.Waiting.{Waiting}
+use Rattle.seg_check.specs.Naming.{IsFrozen, number_at}
 use Rattle.seg_check.specs.Claiming.{IsLiveBlock}
 
 -- the kind with a number
@@ -59,6 +66,32 @@ places_in bytes table turn =
 abbrev pub waiting : List ℕ → Table → List Turn → List Place
 waiting bytes table turns = flat_map (places_in bytes table) turns
 
+-- ---- places whose values name objects of lower numbers
+
+pub record Limited : Type 0 where
+  pub place : Place
+  pub below : Option ℕ
+
+abbrev pub limited : Option ℕ → List Place → List Limited
+limited below places = map (λ place. record { place = place; below = below }) places
+
+-- the places of a turn that waits, but for a frozen object
+abbrev pub owned_places : List ℕ → Table → Waiting → List Limited
+owned_places bytes table w =
+    if tag_at bytes (block_of w.turn.start) % 256 == kind_number Kind.frozen
+    then [] else limited w.below (places_in bytes table w.turn)
+
+abbrev pub awaited : List ℕ → Table → List Waiting → List Limited
+awaited bytes table [] = []
+awaited bytes table (w ∷ ws) = owned_places bytes table w ++ awaited bytes table ws
+
+-- the place of the value of the frozen object in a block
+abbrev pub frozen_place : List ℕ → ℕ → Limited
+frozen_place bytes block = record {
+  place = record { at = block + 16 + frozen_words; type = tag_at bytes block / 256 };
+  below = Some (number_at bytes (block + 16));
+}
+
 -- the places whose values may name blocks
 abbrev pub with_cells : Table → List Place → List Place
 with_cells table places = filter (λ place. has_cells (form_at table place.type)) places
@@ -82,6 +115,23 @@ pub record IsTurn (bytes : List ℕ) (table : Table) (turn : Turn) : Type 0 wher
 
 abbrev pub AreTurns : List ℕ → Table → List Turn → Type 0
 AreTurns bytes table turns = AllByRecursion (IsTurn bytes table) turns
+
+-- the turn of a frozen object is of its one value, and its number is the limit
+pub record IsFrozenTurn (bytes : List ℕ) (w : Waiting) : Type 0 where
+  pub one : w.turn.count ≡ 1
+  pub after_header : 16 ≤ w.turn.start
+  pub number_is : w.below ≡ Some (number_at bytes w.turn.start)
+
+pub record IsWaiting (bytes : List ℕ) (table : Table) (w : Waiting) : Type 0 where
+  pub turn : IsTurn bytes table w.turn
+  pub frozen : IsFrozen bytes (block_of w.turn.start) → IsFrozenTurn bytes w
+
+abbrev pub AreWaiting : List ℕ → Table → List Waiting → Type 0
+AreWaiting bytes table turns = AllByRecursion (IsWaiting bytes table) turns
+
+-- turns of blocks that are no frozen objects
+abbrev pub AreOthers : List ℕ → List Turn → Type 0
+AreOthers bytes turns = AllByRecursion (λ turn. IsFrozen bytes (block_of turn.start) → ⊥) turns
 
 -- live blocks, each with a tag that the table allows
 abbrev pub AreBlocks : List ℕ → Table → List ℕ → Type 0

@@ -1,29 +1,59 @@
-ghost use Rattle.std.specs.Prelude.{◌≡◌, Err, IfErr, IfOk, OnOk};
+ghost use Rattle.std.specs.Prelude.{◌≡◌, ℕ, false, Err, Some, IfErr, IfOk, OnOk};
+ghost use Rattle.seg_spec.specs.Bytes.{slice, word};
 ghost use Rattle.seg_spec.specs.Faulty.{HasFront};
+ghost use Rattle.seg_spec.specs.Header.{version_word, types_start, types_size};
+ghost use Rattle.seg_spec.specs.Sound.{HasHeader};
+ghost use Rattle.seg_spec.specs.Types.{Form, form_at};
+ghost use Rattle.seg_layout.specs.Reading.{IsReading};
 ghost use Rattle.seg_raw.specs.declared.fault.Fault.TheVariants.{Memory};
 ghost use Rattle.seg_check.specs.Faults.{IsImageOf, IsFaultOf, IsFrontRight};
 
 use crate::claims::Claims;
 use crate::header::check_header;
 use crate::image::Image;
-use seg_layout::{ENTRY, MAX_TYPES, TypeTable};
+use seg_layout::{ENTRY, MAX_TYPES, Type, TypeId, TypeTable};
 use seg_ptr::{Window, header};
 use seg_raw::Fault;
 use std::alloc::Allocator;
 
 /// The types of a segment whose bytes are an image, or the first fault in this order: the header, the types, the
-/// blocks, the free blocks, the names, the unique objects, the values, blocks that nothing owns.
+/// blocks, the free blocks, the names, the unique objects, the values, what frozen objects count, blocks that nothing owns.
 ///
-/// It takes its memory, five bytes for each unit of the heap at most, before it looks at the heap.
+/// It takes its memory before it looks at the heap: nine bytes for each unit of it, and four more where a type shares objects.
 pub fn check<A: Allocator, B: Allocator>(alloc: B, w: &Window<A>) -> Result<TypeTable, Fault>
     ensures image { IfOk result (IsImageOf w.now.bytes) }
     ensures fault { IfErr result (IsFaultOf w.now.bytes) }
     ensures memory { result ≡ Err Memory → IsFrontRight w.now.bytes }
 {
     check_header(w)?;
-    let types = TypeTable::read(w.slice(header::TYPES, ENTRY * MAX_TYPES))?;
+    let types = read_types(w)?;
     check_heap(&alloc, w, &types)?;
     Ok(types)
+}
+
+/// The types that the bytes after the header spell, with those that images of its version may have.
+fn read_types<A: Allocator>(w: &Window<A>) -> Result<TypeTable, Fault>
+    ensures { HasHeader w.now.bytes →
+        IsReading (word w.now.bytes version_word) (slice w.now.bytes types_start types_size) result }
+{
+    let bytes = w.slice(header::TYPES, ENTRY * MAX_TYPES);
+    if header::shares(w) {
+        TypeTable::read_shared(bytes)
+    } else {
+        TypeTable::read(bytes)
+    }
+}
+
+/// Whether cells of a type of the table share objects.
+fn shares(types: &TypeTable) -> bool
+    ensures { result ≡ false → (T U : ℕ) → form_at types.now T ≡ Some (Form.shared U) → ⊥ }
+{
+    for t in 0..types.len() {
+        if let Some(Type::Shared(_)) = types.kind(t as TypeId) {
+            return true;
+        }
+    }
+    false
 }
 
 /// The heap, and all that lies in it.
@@ -36,7 +66,7 @@ fn check_heap<A: Allocator, B: Allocator + Copy>(
         OnOk result (IsImageOf w.now.bytes types.now) }
     ensures fault { HasFront w.now.bytes types.now → IfErr result (IsFaultOf w.now.bytes) }
 {
-    let mut claims = Claims::new(alloc, w)?;
+    let mut claims = Claims::new(alloc, w, shares(types))?;
     let image = Image {
         w,
         bytes: w.view(),
@@ -49,6 +79,7 @@ fn check_heap<A: Allocator, B: Allocator + Copy>(
     image.check_index(&mut claims)?;
     image.check_uniques(&mut claims)?;
     image.check_values(&mut claims)?;
+    claims.check_counts(w.view(), w.get32(header::NEXT_NUMBER))?;
     match claims.first_unowned() {
         Some(block) => Err(Fault::Unowned(block)),
         None => Ok(()),

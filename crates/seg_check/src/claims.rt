@@ -1,13 +1,17 @@
-ghost use Rattle.std.specs.Prelude.{◌≡◌, ℕ, ◌+◌, ◌-◌, ◌*◌, ◌/◌, ◌^◌, ◌<◌, ◌≤◌, ◌↔◌, [], ◌∷◌, ◌++◌, length, IfErr, IfOk, IfSome, IsTrue, MatchOption, OnOk, vec_len, None, Some};
+ghost use Rattle.std.specs.Prelude.{◌≡◌, ℕ, ◌+◌, ◌-◌, ◌*◌, ◌/◌, ◌^◌, ◌<◌, ◌≤◌, ◌↔◌, [], ◌∷◌, ◌++◌, length, IfErr, IfOk, IfSome, IsTrue, MatchOption, MatchResult, OnOk, get_or, vec_len, None, Some};
 ghost use Rattle.seg_spec.specs.Heap.{heap_start};
 ghost use Rattle.seg_spec.specs.Sound.{times};
 ghost use Rattle.seg_block.specs.Tags.{word_of};
-ghost use Rattle.seg_check.specs.Marks.{Known, nothing_known, IsUnit, IsMarked, IsCounted, KeepsOthers, Adds};
+ghost use Rattle.seg_spec.specs.Bytes.{word};
+ghost use Rattle.seg_spec.specs.Header.{next_word};
+ghost use Rattle.seg_check.specs.Marks.{Known, nothing_known, slots_in, IsUnit, IsMarked, IsCounted, KeepsOthers, KeepsNames, Adds};
 ghost use Rattle.seg_check.specs.Claiming.{Refuses, AreLive, CanClaim, ClaimsBlock};
+ghost use Rattle.seg_check.specs.Naming.{IsUnder, CanName, NamesBlock, IsNameable, number_at};
+ghost use Rattle.seg_check.specs.Cells.{AreRight};
 
-use crate::bytes::has_payload;
+use crate::bytes::{frozen_number, has_payload};
 use crate::fault::ContentFault;
-use crate::marks::{Mark, Turn};
+use crate::marks::{Mark, Turn, Waiting};
 use seg_block::{HEAP_START, Tag, UNIT, block_of};
 use seg_ptr::{View, Window};
 use std::alloc::{AllocError, Allocator};
@@ -22,9 +26,14 @@ pub(crate) struct Claims<A: Allocator> {
     /// How many live blocks nothing has claimed so far.
     unclaimed: usize,
     /// The claimed blocks with values, in the order of their claims.
-    queue: Vec<Turn, A>,
+    queue: Vec<Waiting, A>,
     /// How many of these have had their turn.
     taken: usize,
+    /// How many more cells may name the frozen object that begins in one of two units, where one does that a cell names:
+    /// none where more name it than it counts. Empty where no type shares objects.
+    counts: Vec<Option<u32>, A>,
+    /// The number that names must be below where values are looked at now, if a frozen object owns them.
+    below: Option<u32>,
 }
 
 impl<A: Allocator> Model for Claims<A> {
@@ -33,20 +42,27 @@ impl<A: Allocator> Model for Claims<A> {
 
     ghost Value = { Known };
 
-    ghost view = { λ c. known_of c.marks.items c.unclaimed c.free c.queue.items c.taken };
+    ghost view = { λ c. known_of c.marks.items c.unclaimed c.free c.queue.items c.taken
+        c.counts.items c.below };
 
     ghost invariant = { λ c. (length c.marks.items ≤ 2 ^ 26) × (c.taken ≤ length c.queue.items) };
 }
 
 impl<A: Allocator> Claims<A> {
-    /// No block is known yet.
-    pub(crate) fn new<B: Allocator>(alloc: A, w: &Window<B>) -> Result<Claims<A>, AllocError>
+    /// No block is known yet. There are counts where cells share objects.
+    pub(crate) fn new<B: Allocator>(
+        alloc: A,
+        w: &Window<B>,
+        shares: bool,
+    ) -> Result<Claims<A>, AllocError>
     where
         A: Copy,
         ensures { IfOk result (λ claims.
-            claims ≡ nothing_known ((length w.now.bytes - heap_start) / UNIT)) }
+            claims ≡ nothing_known ((length w.now.bytes - heap_start) / UNIT)
+            (slots_in shares ((length w.now.bytes - heap_start) / UNIT))) }
     {
         let units = (w.len().saturating_sub(HEAP_START) / UNIT) as usize;
+        let slots = if shares { units.div_ceil(2) } else { 0 };
         Ok(Claims {
             marks: Vec::from_elem(alloc, Mark::Inside, units)?,
             free: 0,
@@ -54,6 +70,8 @@ impl<A: Allocator> Claims<A> {
             // a block has two units, and is claimed once
             queue: Vec::with_capacity(alloc, units / 2)?,
             taken: 0,
+            counts: Vec::from_elem(alloc, None, slots)?,
+            below: None,
         })
     }
 
@@ -153,20 +171,78 @@ impl<A: Allocator> Claims<A> {
                 self.unclaimed = self.unclaimed.wrapping_sub(1);
                 Ok(start)
             }
-            Mark::Claimed => Err(ContentFault::DoubleOwner(block)),
+            Mark::Claimed | Mark::Named => Err(ContentFault::DoubleOwner(block)),
             Mark::Inside | Mark::Free => Err(bad),
         }
     }
 
-    /// Lets a claimed block wait for its turn.
+    /// Lets a claimed block wait for its turn. What owns it now owns its values.
     pub(crate) fn await_turn(&mut self, turn: Turn) -> Result<(), ContentFault>
         ensures taken { self.new.taken ≡ self.old.taken }
-        ensures waits { OnOk result
-            (self.new ≡ record self.old { turns = self.old.turns ++ turn ∷ [] }) }
+        ensures waits { OnOk result (self.new ≡ record self.old {
+            turns = self.old.turns ++ record { turn = turn; below = self.old.naming.below } ∷ []
+        }) }
         ensures refused { IfErr result (λ fault. fault ≡ ContentFault.Memory) }
     {
-        self.queue.push(turn)?;
+        let below = self.below;
+        self.queue.push(Waiting { turn, below })?;
         Ok(())
+    }
+
+    /// The frozen object of this tag that a cell names, with `size` bytes of payload: where its payload begins. It is claimed
+    /// by the first cell that names it, and counts each. `BadPointer` where the cell names no such object.
+    pub(crate) fn name(
+        &mut self,
+        bytes: View,
+        cell: u32,
+        tag: Tag,
+        size: u64,
+    ) -> Result<u32, ContentFault>
+        ensures taken { self.new.taken ≡ self.old.taken }
+        ensures named { IsNameable bytes.entry.bytes.now self.old →
+            IfOk result
+            (NamesBlock bytes.entry.bytes.now self.old self.new cell (word_of tag) size) }
+        ensures refused { IfErr result (λ fault. Refuses fault
+            (CanName bytes.entry.bytes.now self.old cell (word_of tag) size)) }
+    {
+        let bad = ContentFault::BadPointer(cell);
+        let Some(start) = bytes.target(cell as usize) else {
+            return Err(bad);
+        };
+        let block = block_of(start);
+        let Some(unit) = self.unit_at(block) else {
+            return Err(bad);
+        };
+        if !has_payload(bytes, block, tag.word(), size) {
+            return Err(bad);
+        }
+        let slot = unit / 2;
+        let left = match self.marks[unit] {
+            Mark::Live => {
+                self.marks[unit] = Mark::Named;
+                self.unclaimed = self.unclaimed.wrapping_sub(1);
+                let below = Some(frozen_number(bytes, start));
+                let turn = Turn { start, count: 1 };
+                self.queue.push(Waiting { turn, below })?;
+                Some(bytes.get32(start as usize))
+            }
+            Mark::Named => self.counts.get(slot).copied().flatten(),
+            Mark::Inside | Mark::Free | Mark::Claimed => return Err(bad),
+        };
+        if let Some(count) = self.counts.get_mut(slot) {
+            *count = left.and_then(|left| left.checked_sub(1));
+        }
+        Ok(start)
+    }
+
+    /// Whether a number is one that names may have now.
+    pub(crate) fn may_name(&self, number: u32) -> bool
+        ensures { IsTrue result ↔ IsUnder self.now.naming.below number }
+    {
+        match self.below {
+            Some(below) => number < below,
+            None => true,
+        }
     }
 
     /// The next block in the order of the claims, each once.
@@ -176,11 +252,41 @@ impl<A: Allocator> Claims<A> {
         ensures unclaimed { self.new.unclaimed ≡ self.old.unclaimed }
         ensures counted { IsCounted self.old → IsCounted self.new }
         ensures turns { MatchOption result (self.old.turns ≡ [])
-            (λ turn. self.old.turns ≡ turn ∷ self.new.turns) }
+            (λ turn. self.old.turns
+            ≡ record { turn = turn; below = self.new.naming.below } ∷ self.new.turns) }
+        ensures naming { KeepsNames self.old self.new }
     {
         let next = self.queue.get(self.taken).copied()?;
         self.taken += 1;
-        Some(next)
+        self.below = next.below;
+        Some(next.turn)
+    }
+
+    /// The counts and the numbers of the frozen objects that cells name, by ascending position: each counts its cells, and has
+    /// a number that was given, below the next one.
+    pub(crate) fn check_counts(&self, bytes: View, next: u32) -> Result<(), ContentFault>
+        ensures { next ≡ word bytes.entry.bytes.now next_word →
+            MatchResult result (λ _. AreRight bytes.entry.bytes.now self.now)
+            (λ fault. Refuses fault (AreRight bytes.entry.bytes.now self.now)) }
+    {
+        let mut start = HEAP_START.saturating_add(UNIT);
+        for (unit, mark) in self.marks.iter().enumerate() {
+            if mark.is_named() && !self.is_right(bytes, unit, start, next) {
+                return Err(ContentFault::BadValue(start));
+            }
+            start = start.saturating_add(UNIT);
+        }
+        Ok(())
+    }
+
+    /// Whether the frozen object in the block of a unit counts its cells, and has a number below the next one. Its payload
+    /// begins at `start`.
+    fn is_right(&self, bytes: View, unit: usize, start: u32, next: u32) -> bool
+        ensures { start + 4 < 2 ^ 32 → IsTrue result
+            ↔ ((get_or self.now.naming.counts (unit / 2) None ≡ Some 0)
+            × (number_at bytes.entry.bytes.now start < next)) }
+    {
+        self.counts.get(unit / 2) == Some(&Some(0)) && frozen_number(bytes, start) < next
     }
 
     /// The lowest live block without an owner.

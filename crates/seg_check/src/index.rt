@@ -131,7 +131,7 @@ impl<'w, A: Allocator> Image<'w, A> {
         ensures refused { (rest : List ℕ) →
             IsReady self.now.w.now.bytes self.now.types.now claims.old →
             IfErr result (λ fault. Refuses fault
-            (CanResolveRoots self.now.w.now.bytes self.now.types.now claims.old.unclaimed
+            (CanResolveRoots self.now.w.now.bytes self.now.types.now claims.old
             (names_ahead (at ∷ rest) before.now))) }
     {
         let entry = NameEntry::read(self.w, at as usize);

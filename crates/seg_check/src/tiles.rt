@@ -1,16 +1,20 @@
 ghost use Rattle.std.specs.Prelude.{◌≡◌, ℕ, ◌-◌, ◌/◌, ◌↔◌, true, false, get_or, length, IsOk, IsTrue, OnOk, IfOk};
 ghost use Rattle.seg_spec.specs.Types.{Table, IsTable};
 ghost use Rattle.seg_spec.specs.Heap.{gaps, heap_start};
+ghost use Rattle.seg_spec.specs.Block as block;
+ghost use Rattle.seg_spec.specs.Block.{AllowsType};
+ghost use Rattle.seg_spec.specs.Header.{sharing_version};
 ghost use Rattle.seg_spec.specs.Faulty.{HasFront, HasTiles};
 ghost use Rattle.seg_block.specs.Tags.{kind_of};
 ghost use Rattle.seg_check.specs.Marks.{nothing_known, KnowsTiles};
-ghost use Rattle.seg_check.specs.Tiles.{AllowsLive, AreLiveTags, Follows, KnowsGaps};
+ghost use Rattle.seg_check.specs.Tiles.{AreLiveTags, Follows, KnowsGaps};
 
 use crate::claims::Claims;
 use crate::free_list::FreeList;
 use crate::image::Image;
 use seg_block::{HEAP_START, Header, Kind, Tag, UNIT};
 use seg_layout::{MAX_TYPES, Type, TypeTable};
+use seg_ptr::header;
 use std::alloc::Allocator;
 
 /// One more than the greatest number of a kind.
@@ -39,11 +43,13 @@ impl<A: Allocator> Image<'_, A> {
             → IfOk result (λ list.
             KnowsGaps self.now.w.now.bytes list (gaps self.now.w.now.bytes)) }
         ensures known { HasFront self.now.w.now.bytes self.now.types.now
-            → claims.old ≡ nothing_known ((length self.now.w.now.bytes - heap_start) / UNIT)
-            → OnOk result (KnowsTiles self.now.w.now.bytes claims.new) }
+            → (slots : ℕ)
+            → claims.old ≡ nothing_known ((length self.now.w.now.bytes - heap_start) / UNIT) slots
+            → OnOk result (KnowsTiles self.now.w.now.bytes claims.new
+            × (length claims.new.naming.counts ≡ slots)) }
     {
         let bytes = self.bytes;
-        let tags = LiveTags::of(self.types);
+        let tags = LiveTags::of(self.types, header::shares(self.w));
         let mut free_list = FreeList::new();
         let end = self.w.len();
         let mut at = HEAP_START;
@@ -73,14 +79,16 @@ struct LiveTags {
 }
 
 impl LiveTags {
-    fn of(types: &TypeTable) -> LiveTags
-        ensures { IsTable types.now → AreLiveTags types.now result.are_right }
+    /// Frozen objects are there only where `shares` says so.
+    fn of(types: &TypeTable, shares: bool) -> LiveTags
+        ensures { (version : ℕ) → IsTrue shares ↔ (version ≡ sharing_version) →
+            IsTable types.now → AreLiveTags version types.now result.are_right }
     {
         let mut are_right = [false; TAG_WORDS];
         for index in 0..KINDS * MAX_TYPES {
             let word = index / MAX_TYPES + 256 * (index % MAX_TYPES);
             if let Some(tag) = Tag::read(word as u32) {
-                are_right[word] = is_live_tag(types, tag);
+                are_right[word] = is_live_tag(types, tag, shares);
             }
         }
         LiveTags { are_right }
@@ -95,8 +103,8 @@ impl LiveTags {
 
     /// Whether a header is right after another one, its size aside.
     fn follows(&self, header: Header, before: Header) -> bool
-        ensures { (table : Table) → AreLiveTags table self.now.are_right
-            → IsTrue result ↔ Follows table before header }
+        ensures { (version : ℕ) (table : Table) → AreLiveTags version table self.now.are_right
+            → IsTrue result ↔ Follows version table before header }
     {
         header.units_before == before.units
             && if header.is_live {
@@ -108,8 +116,9 @@ impl LiveTags {
 }
 
 /// Whether a live block may have this tag.
-fn is_live_tag(types: &TypeTable, tag: Tag) -> bool
-    ensures { IsTrue result ↔ AllowsLive types.now (kind_of tag.kind) tag.type_id }
+fn is_live_tag(types: &TypeTable, tag: Tag, shares: bool) -> bool
+    ensures { IsTrue result ↔ (AllowsType types.now (kind_of tag.kind) tag.type_id ×
+        (kind_of tag.kind ≡ block.Kind.frozen → IsTrue shares)) }
 {
     let kind = types.kind(tag.type_id);
     match tag.kind {
@@ -117,6 +126,6 @@ fn is_live_tag(types: &TypeTable, tag: Tag) -> bool
         Kind::Buffer => matches!(kind, Some(Type::Str | Type::Vec(_) | Type::FlatMap(_))),
         Kind::Node => matches!(kind, Some(Type::List(_) | Type::Map(_))),
         Kind::IndexBuffer | Kind::IndexNode => tag.type_id == 0,
-        Kind::Frozen => false,
+        Kind::Frozen => shares && kind.is_some(),
     }
 }

@@ -1,19 +1,20 @@
-ghost use Rattle.std.specs.Prelude.{◌≡◌, ℕ, ◌+◌, ◌^◌, ◌<◌, ◌≤◌, ◌∷◌, [], length};
-ghost use Rattle.seg_spec.specs.Types.{Form, IsTable, fields_of, size};
+ghost use Rattle.std.specs.Prelude.{◌≡◌, ℕ, ◌+◌, ◌^◌, ◌<◌, ◌≤◌, ◌∷◌, [], length, Some};
+ghost use Rattle.seg_spec.specs.Types.{Form, IsTable, form_at, fields_of, size};
 ghost use Rattle.seg_spec.specs.Block.{IsOwnable};
 ghost use Rattle.seg_spec.specs.Pointer.{target};
 ghost use Rattle.seg_spec.specs.Reads.{count_at};
 ghost use Rattle.seg_value.specs.Places.{place_of, object_at};
-ghost use Rattle.seg_check.specs.Turns.{places_in, IsTurn, AreTurns, HoldsEntries};
+ghost use Rattle.seg_check.specs.Turns.{places_in, IsTurn, AreWaiting, HoldsEntries};
 ghost use Rattle.seg_check.specs.Resolving.{IsReady, Steps};
 ghost use Rattle.seg_check.specs.Cells.{counted_by, blocks_counted_by, NamesBy, HasItems, ResolvesTurns};
 
+use crate::bytes::frozen_number;
 use crate::claims::Claims;
 use crate::fault::ContentFault;
 use crate::image::Image;
 use crate::marks::Turn;
 use seg_block::{Kind, Tag, block_of, tag_word};
-use seg_layout::Type;
+use seg_layout::{Type, TypeId};
 use seg_value::{Content, Entry, Place, count};
 use std::alloc::Allocator;
 
@@ -24,7 +25,7 @@ impl<A: Allocator> Image<'_, A> {
         claims: &mut Claims<B>,
     ) -> Result<(), ContentFault>
         ensures { IsReady self.now.w.now.bytes self.now.types.now claims.old →
-            AreTurns self.now.w.now.bytes self.now.types.now claims.old.turns →
+            AreWaiting self.now.w.now.bytes self.now.types.now claims.old.turns →
             ResolvesTurns self.now.w.now.bytes self.now.types.now claims.old claims.new result }
     {
         while let Some(turn) = claims.next_turn() {
@@ -117,14 +118,16 @@ impl<A: Allocator> Image<'_, A> {
             Steps self.now.w.now.bytes self.now.types.now claims.old claims.new
             (place_of place ∷ []) result }
     {
-        let (Some(kind), Some(content)) = (
-            self.types.kind(place.type_id),
-            Content::of(self.types, place.type_id),
-        ) else {
+        let Some(kind) = self.types.kind(place.type_id) else {
+            return Ok(());
+        };
+        if let Type::Shared(held) = kind {
+            return self.check_shared(claims, held, place.at);
+        }
+        let Some(content) = Content::of(self.types, place.type_id) else {
             return Ok(());
         };
         match kind {
-            // None is of a type of version 2.
             Type::I64 | Type::Struct(_) | Type::Shared(_) => Ok(()),
             Type::Str | Type::Vec(_) => self.check_buffer(claims, &content, place.at),
             Type::FlatMap(_) => self.check_flat_map(claims, &content, place.at),
@@ -174,6 +177,36 @@ impl<A: Allocator> Image<'_, A> {
             self.claim_entries(claims, cell, content, 1)?;
         }
         Ok(())
+    }
+
+    /// A cell that shares an object with others, and the frozen object that it names. Where a frozen object owns the cell, the
+    /// one that it names has a lower number.
+    fn check_shared<B: Allocator>(
+        &self,
+        claims: &mut Claims<B>,
+        held: TypeId,
+        cell: u32,
+    ) -> Result<(), ContentFault>
+        ensures taken { claims.new.taken ≡ claims.old.taken }
+        ensures steps { (T : ℕ) → form_at self.now.types.now T ≡ Some (Form.shared held) →
+            IsReady self.now.w.now.bytes self.now.types.now claims.old →
+            Steps self.now.w.now.bytes self.now.types.now claims.old claims.new
+            (object_at cell T ∷ []) result }
+    {
+        if count(self.w, cell) > 1 {
+            return Err(ContentFault::BadValue(cell));
+        }
+        if self.counted_blocks(cell)?.is_none() {
+            return Ok(());
+        }
+        let content = Content::frozen(self.types, held);
+        let size = u64::from(content.entry.size);
+        let object = claims.name(self.bytes, cell, content.tag, size)?;
+        if claims.may_name(frozen_number(self.bytes, object)) {
+            Ok(())
+        } else {
+            Err(ContentFault::BadValue(cell))
+        }
     }
 
     /// How much a cell counts that isn't empty. `BadPointer` where it counts something and names nothing.

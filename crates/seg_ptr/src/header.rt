@@ -1,6 +1,7 @@
 //! Where the fields of an image's header stand, in bytes from the start of the segment, and what each image has alike.
 ghost use Rattle.std.specs.Prelude.{◌≡◌, ◌↔◌, IsTrue, codes, replicate};
 ghost use Rattle.seg_spec.specs.Bytes.{slice, put, word, set_word};
+ghost use Rattle.seg_spec.specs.Header.{IsVersion};
 ghost use Rattle.seg_spec.specs.Window.{with_bytes};
 
 use crate::window::Window;
@@ -9,8 +10,11 @@ use std::alloc::Allocator;
 /// The bytes that an image begins with.
 const MAGIC: &[u8] = b"SEGIMAGE";
 
-/// The version of the format that this library reads and writes.
-const CURRENT_VERSION: u32 = 1;
+/// The version of the format whose images have no objects that cells share.
+const FIRST_VERSION: u32 = 1;
+
+/// The version of the format whose images may have some.
+const SHARING_VERSION: u32 = 2;
 
 /// The word with the version of the format.
 const VERSION: usize = 8;
@@ -42,27 +46,37 @@ pub const TYPES: usize = 64;
 /// The table of unique objects: a pointer for each type.
 pub const UNIQUES: usize = 576;
 
-/// Whether a segment begins as an image does, in the version that this library reads.
+/// Whether a segment begins as an image does, in a version that this library reads, and with a number for the next frozen
+/// object that images of this version may have.
 pub fn is_current<A: Allocator>(w: &Window<A>) -> bool
-    ensures { IsTrue result
-        ↔ ((slice w.now.bytes 0 8 ≡ codes "SEGIMAGE") × (word w.now.bytes 8 ≡ 1)) }
+    ensures { IsTrue result ↔ ((slice w.now.bytes 0 8 ≡ codes "SEGIMAGE")
+        × IsVersion (word w.now.bytes 8) (word w.now.bytes 28)) }
 {
-    w.slice(0, MAGIC.len()) == MAGIC && w.get32(VERSION) == CURRENT_VERSION
+    w.slice(0, MAGIC.len()) == MAGIC
+        && match w.get32(VERSION) {
+            FIRST_VERSION => w.get32(NEXT_NUMBER) == 0,
+            version => version == SHARING_VERSION,
+        }
 }
 
-/// Writes what an image of this version begins with.
+/// Whether an image is of the version that may have frozen objects.
+pub fn shares<A: Allocator>(w: &Window<A>) -> bool
+    ensures { IsTrue result ↔ (word w.now.bytes 8 ≡ 2) }
+{
+    w.get32(VERSION) == SHARING_VERSION
+}
+
+/// Writes what an image of the first version begins with.
 pub fn begin<A: Allocator>(w: &mut Window<A>)
     ensures { w.new ≡ with_bytes w.old (set_word (put w.old.bytes 0 (codes "SEGIMAGE")) 8 1) }
 {
     w.copy_in(0, MAGIC);
-    w.put32(VERSION, CURRENT_VERSION);
+    w.put32(VERSION, FIRST_VERSION);
 }
 
 /// Whether the bytes of the header are 0 that are so in every image.
 pub fn has_zeros<A: Allocator>(w: &Window<A>) -> bool
-    ensures { IsTrue result
-        ↔ ((word w.now.bytes 28 ≡ 0) × (slice w.now.bytes 40 24 ≡ replicate 24 0)) }
+    ensures { IsTrue result ↔ (slice w.now.bytes 40 24 ≡ replicate 24 0) }
 {
-    w.get32(NEXT_NUMBER) == 0
-        && w.slice(RESERVED, TYPES - RESERVED) == [0; TYPES - RESERVED].as_slice()
+    w.slice(RESERVED, TYPES - RESERVED) == [0; TYPES - RESERVED].as_slice()
 }

@@ -55,7 +55,7 @@ module _ (bytes : List ℕ) where
   object_other T e = absurd (omega arith)
 
   module _ (table : Table) where
-    opened_other : (place : Place) (form : Form) (opened : Opened) → Opens bytes table place form opened → AllByRecursion IsOther opened.blocks
+    pub opened_other : (place : Place) (form : Form) (opened : Opened) → Opens bytes table place form opened → AllByRecursion IsOther opened.blocks
     opened_other place Form.i64 opened o = of_blocks o tt
     opened_other place Form.str opened o = of_blocks o.opened_is (named_other place.at _ 1 (buffer_other place.type) o.named_room)
     opened_other place (Form.vec U) opened o = of_blocks o.opened_is (named_other place.at _ _ (buffer_other place.type) o.named_room)
@@ -90,7 +90,7 @@ module _ (bytes : List ℕ) where
     roots_other a holds_no_root = tt
     roots_other a (holds_more_roots {root = root} {blocks = xs} {rest = ys} h hs) = each_joined IsOther xs ys (root_other root xs a.0 h) (roots_other a.1 hs)
 
-  index_other : (kind : ℕ) (index : Index) → OpensIndex bytes kind index → AllByRecursion IsOther index.blocks
+  pub index_other : (kind : ℕ) (index : Index) → OpensIndex bytes kind index → AllByRecursion IsOther index.blocks
   index_other zero index o = subst (AllByRecursion IsOther) (sym (ap (λ (i : Index). i.blocks) o.index_is)) (named_other index_cell _ 8 (λ e. absurd (omega arith)) o.named_room)
   index_other (suc n) index o = subst (AllByRecursion IsOther) (sym (ap (λ (i : Index). i.blocks) o.index_is))
       (nodes_other _ _ (λ e. absurd (omega arith)) (nodes_of o.tree) o.are_nodes)

@@ -57,7 +57,7 @@ sharing_version = 2
 
 -- the versions of images, and what the word for the next number may be in each
 abbrev pub IsVersion : ℕ → ℕ → Type 0
-IsVersion version next = (version ≡ 1) × (next ≡ 0)
+IsVersion version next = ((version ≡ 1) × (next ≡ 0)) ⊎ (version ≡ sharing_version)
 
 -- ---- what follows the header
 

@@ -86,7 +86,7 @@ returns-in_err-check_value-clause-steps g t c = λ ready known fits.
     let failed = err_from_is_err_and c.from_residual.result c.from_residual.ensures.1 in
     let same : failed.0 ≡ e = failed.2 in
     steps_refused bytes table old c.check_value.new.claims (place_of c.args.value ∷ []) c.from_residual.result e _ (failed.1 ∙ ap Err same)
-    (λ r. subst (λ U. CanResolve bytes table mid.unclaimed (record { at = x; type = U } ∷ [])) (sym U_is) (field_can bytes table ready.is_table at T s.0 s.1 old mid i done cell x field x_is r))
+    (λ r. subst (λ U. CanResolve bytes table mid (record { at = x; type = U } ∷ [])) (sym U_is) (field_can bytes table ready.is_table at T s.0 s.1 old mid i done cell x field x_is r))
     (c.in_err-check_value.ensures.steps (ready_now bytes table old mid _ ready done) (omega arith) small)
 
 pub returns-clause-steps : goal.returns-clause-steps

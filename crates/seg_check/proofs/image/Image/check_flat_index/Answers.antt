@@ -53,7 +53,7 @@ returns-in_err-start g c = λ p named counted ready flat.
     let failed = err_from_is_err_and c.from_residual.result c.from_residual.ensures.1 in
     let same : failed.0 ≡ e = failed.2 in
     subst (λ x. StepsIndex bytes table old c.claim_entries.new.claims x) (sym (failed.1 ∙ ap Err same))
-    (refuses_map e (CanClaim bytes old index_cell (word_of content.tag) (n * content.entry.size)) (CanResolveIndex bytes table old.unclaimed)
+    (refuses_map e (CanClaim bytes old index_cell (word_of content.tag) (n * content.entry.size)) (CanResolveIndex bytes table old)
     (λ can. buffer_can bytes table old c.claim_entries.new.claims n 0 content c.index_buffer-content.ensures (flat_can bytes table flat p n named counted old can))
     (c.in_err-start.ensures.refused (ready_live bytes table old ready)))
 
@@ -86,8 +86,8 @@ returns-in_err-before g c = λ p named counted ready flat.
     let failed = err_from_is_err_and c.from_residual-in_err-before.result c.from_residual-in_err-before.ensures.1 in
     let same : failed.0 ≡ e = failed.2 in
     subst (λ x. StepsIndex bytes table old c.check_entry.new.claims x) (sym (failed.1 ∙ ap Err same))
-    (refuses_map e (CanResolveRoots bytes table now.unclaimed (names_ahead (c.at.result ∷ rest) before)) (CanResolveIndex bytes table old.unclaimed)
-    (λ can. subst (λ xs. CanResolveRoots bytes table now.unclaimed (names_ahead xs before)) (sym next)
+    (refuses_map e (CanResolveRoots bytes table now (names_ahead (c.at.result ∷ rest) before)) (CanResolveIndex bytes table old)
+    (λ can. subst (λ xs. CanResolveRoots bytes table now (names_ahead xs before)) (sym next)
     (can_roots bytes table mid now (names_ahead (spaced s 8 n) []) (names_ahead (spaced (s + i * 8) 8 (n - i)) before) done
     (flat_names bytes table flat s n claimed.names counted old mid some claimed.is_block claimed.claims can)))
     (c.in_err-before.ensures.refused rest (ready_roots bytes table mid now (names_ahead (spaced s 8 n) []) (names_ahead (spaced (s + i * 8) 8 (n - i)) before) mid_ready done)))

@@ -68,7 +68,7 @@ returns-in_err-visit-clause-steps g c = λ T U by ready.
     → length rest + length entering < walk.turns → ⊥)) c.loop-visit.invariant.same c.next.ensures.refused t.followed.steady in
     let never = subst (λ r. IfErr r (λ _. (height : ℕ) (rest entering : List ℕ) → Completes bytes height walk.stage rest entering → height < 30 → length rest + length entering < walk.turns → ⊥)) was.1 refused in
     let fault : e ≡ BadValue was.0 = was.2 in
-    steps_refused bytes table old c.loop-visit.claims (object_at at T ∷ []) c.from_residual-in_err-visit.result (BadValue was.0) (CanResolve bytes table old.unclaimed (object_at at T ∷ [])) (failed.1 ∙ ap Err (same ∙ fault))
+    steps_refused bytes table old c.loop-visit.claims (object_at at T ∷ []) c.from_residual-in_err-visit.result (BadValue was.0) (CanResolve bytes table old (object_at at T ∷ [])) (failed.1 ∙ ap Err (same ∙ fault))
     (λ r. r)
     (traced_refused bytes table old ready at T U by.form_is c.loop-visit.claims walk.stage walk.turns c.loop-visit.keys t never)
 

@@ -55,7 +55,7 @@ returns-in_err-claim_entries g c = λ ready.
     let same : failed.0 ≡ e = failed.2 in
     let some = some_of c.unique.result c.if-is_some.ensures in
     subst (λ x. StepsUniques bytes table old c.claim_entries.new.claims x) (sym (failed.1 ∙ ap Err same))
-    (refuses_map e _ (CanResolveRoots bytes table old.unclaimed uniques_ahead)
+    (refuses_map e _ (CanResolveRoots bytes table old uniques_ahead)
     (λ can. unique_can bytes table mid c.claim_entries.new.claims T _ (T + 1) _ c.object-content.result now c.loop-t-test.true c.word_of.ensures c.object-content.ensures.content some.0 (sym c.unique.ensures ∙ some.1)
     (can_roots bytes table old mid uniques_ahead (from_type T) done can))
     (c.in_err-claim_entries.ensures.refused (ready_live bytes table mid now)))
