@@ -76,6 +76,7 @@ pub mod NoSpace
 pub mod Placements
 pub mod AddTypes
 pub mod UniqueLaws
+pub mod Upgrading
 pub mod LooseRoots
 pub mod OwnedTags
 pub mod Failures

@@ -8,7 +8,7 @@
 --     heap_start                     where the heap begins
 --     back_start, back_size          what stands between the free structure's word and the heap
 --     KeepsFront, KeepsBack          all before that word is kept; all after it, to the heap
-use Rattle.std.specs.Prelude.{◌≡◌, ℕ, ◌+◌, ◌-◌, ◌*◌, ◌^◌, List}
+use Rattle.std.specs.Prelude.{◌≡◌, ◌⊎◌, ℕ, ◌+◌, ◌-◌, ◌*◌, ◌^◌, List}
 use Rattle.seg_spec.specs.Bytes.{IsSame}
 
 -- where the table of types begins, right after the header
