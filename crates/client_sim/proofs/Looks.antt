@@ -2,13 +2,11 @@
 use Rattle.std.proofs.Common.{◌≡◌, ℕ, List, ◌++◌, Option, refl, sym, subst, arith}
 use Rattle.std.specs.Prelude.{option_map}
 use Rattle.seg_spec.specs.Bytes.{word}
-use Rattle.seg_spec.specs.Header.{next_word, back_start, back_size, KeepsBack}
+use Rattle.seg_spec.specs.Header.{next_word}
 use Rattle.seg_spec.specs.Index.{Root, root_named, root_of_type}
 use Rattle.seg_spec.specs.Reads.{Place}
 use Rattle.seg_spec.specs.Sound.{Picture, IsHeld}
 use Rattle.seg_spec.specs.Counting.{AreCounted, without_cells}
-use Rattle.seg_spec.proofs.SliceLaws.{IsSame-part}
-use Rattle.seg_spec.proofs.Frame.{word-same}
 use Rattle.client_spec.specs.Machine.{Origin, State}
 use Rattle.client_spec.specs.Pictures.{root_of_register, AreOwned, names_in, uniques_in, Pictures, root_at}
 
@@ -79,7 +77,3 @@ pub begins_left : {others : List Root} {s : State} (gone : List Place) (looks : 
 begins_left gone looks (Origin.Name name i) = refl
 begins_left gone looks (Origin.Unique T) = refl
 begins_left gone looks (Origin.Owned r) = refl
-
--- the next number is kept
-pub counted_on : (old new : List ℕ) (picture : Picture) → KeepsBack old new → AreCounted (word old next_word) picture → AreCounted (word new next_word) picture
-counted_on old new picture kept c = subst (λ n. AreCounted n picture) (sym (word-same old new next_word (IsSame-part old new back_start back_size next_word 4 (omega arith) (omega arith) kept))) c

@@ -27,12 +27,13 @@ use Rattle.seg_spec.proofs.CountedParts.{owners_after, owners_are, owners_with, 
 use Rattle.seg_spec.proofs.OwnerGone.{laid_out_without}
 use Rattle.seg_spec.proofs.RootLaws.{HoldsRoots-one, IsLaidOut-kept, IsLaidOut-faced}
 use Rattle.seg_spec.proofs.Writing.{faced}
+use Rattle.seg_spec.proofs.CountedKept.{counted_on}
 use Rattle.client_spec.specs.Machine.{Origin, Path, Register, Object, State, with_name, register, set_register, owned_by, with_owned, replace_item, at_origin, path_value, put_origin, put_at}
 use Rattle.client_spec.specs.Pictures.{root_of_register, Pictures, LeadsInImage, root_at}
 use Rattle.client_spec.proofs.Puts.{put_at_is, put_length}
 use Rattle.client_spec.proofs.States.{register_set}
 use Rattle.client_sim.proofs.FirstRoots.{each_among}
-use Rattle.client_sim.proofs.Looks.{Looks, root_in, looks_of, looks_left, held_by, begins_in, begins_at, begins_left, counted_on}
+use Rattle.client_sim.proofs.Looks.{Looks, root_in, looks_of, looks_left, held_by, begins_in, begins_at, begins_left}
 use Rattle.client_sim.proofs.RootPuts.{RootFound, root_for, all_others, frozen_same}
 use Rattle.client_sim.proofs.Placed.{PlaceFound, owners_split, item_within}
 use Rattle.client_sim.proofs.OwnedLooks.{Without, goes, comes}

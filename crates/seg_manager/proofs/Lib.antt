@@ -1,5 +1,3 @@
-pub mod DefaultNames
-pub mod CountedObjects
 pub mod LooseObjects
 pub mod UniqueWords
 pub mod UniqueObjects

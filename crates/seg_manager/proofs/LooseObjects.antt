@@ -33,8 +33,8 @@ use Rattle.seg_spec.proofs.LooseRoots.{Trades, holds_its, loose_traded, each_joi
 use Rattle.seg_spec.proofs.LooseRoots as roots
 use Rattle.seg_spec.proofs.OneRequest.{spent_one, counts_one}
 use Rattle.seg_spec.proofs.PlainRoots.{HoldsPlain, plain_of, root_of_plain}
-use Rattle.seg_manager.proofs.DefaultNames.{defaults_none}
-use Rattle.seg_manager.proofs.CountedObjects.{next_same, counted_still, counted_with}
+use Rattle.seg_spec.proofs.CountedParts.{defaults_none}
+use Rattle.seg_spec.proofs.CountedKept.{next_same, counted_still, counted_with}
 
 pub allocator_same : (old new : List ℕ) → KeepsFront old new → word new allocator_word ≡ word old allocator_word
 allocator_same old new front = word-same old new allocator_word (IsSame-part old new 0 free_word allocator_word 4 (omega arith) (omega arith) front)

@@ -36,8 +36,8 @@ use Rattle.seg_manager.specs.Segments.{IsSegment, Becomes, new_root}
 use Rattle.seg_manager.specs.NewNamed.{GivesNamed, MakesNamed, FindsNoRoom}
 use Rattle.seg_spec.proofs.OneRequest.{counts_one}
 use Rattle.seg_manager.proofs.NewNamed.{count-copies, named_kind}
-use Rattle.seg_manager.proofs.DefaultNames.{defaults_none}
-use Rattle.seg_manager.proofs.CountedObjects.{next_same, counted_still, counted_with}
+use Rattle.seg_spec.proofs.CountedParts.{defaults_none}
+use Rattle.seg_spec.proofs.CountedKept.{next_same, counted_still, counted_with}
 use Rattle.seg_manager.proofs.ObjectAsks.{entry_asks_kept, spent_after, asks_after, returned_one, no_room_first}
 use Rattle.seg_spec.proofs.PlainRoots.{HoldsPlain, plain_of}
 

@@ -37,7 +37,7 @@ use Rattle.seg_manager.specs.Segments.{IsSegment}
 use Rattle.seg_manager.specs.LeavingNamed.{IsUnlisted, LosesNamed}
 use Rattle.seg_manager.proofs.LooseObjects.{allocator_same}
 use Rattle.seg_manager.proofs.ClearedItems.{gives_append}
-use Rattle.seg_manager.proofs.CountedObjects.{next_same, counted_still}
+use Rattle.seg_spec.proofs.CountedKept.{next_same, counted_still}
 
 -- what a search that found an object says
 pub record IsFound (T : ℕ) (root : Root) (found : Found) : Type 0 where

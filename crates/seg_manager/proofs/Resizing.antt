@@ -25,7 +25,7 @@ use Rattle.seg_value.specs.Stored.{Stored}
 use Rattle.seg_manager.specs.Segments.{IsSegment}
 use Rattle.seg_manager.specs.Sizes.{used_front, Grows, Shrinks}
 use Rattle.seg_manager.proofs.ZeroedGaps.{free_before}
-use Rattle.seg_manager.proofs.CountedObjects.{counted_still}
+use Rattle.seg_spec.proofs.CountedKept.{counted_still}
 
 -- ---- bytes at the front of longer ones
 

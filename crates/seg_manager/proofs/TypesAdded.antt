@@ -13,7 +13,7 @@ use Rattle.seg_spec.specs.Window.{Placement}
 use Rattle.seg_value.specs.Stored.{Stored}
 use Rattle.seg_manager.specs.Segments.{IsSegment, AddsTypes}
 use Rattle.seg_spec.proofs.AddTypes.{types_added, heap_same}
-use Rattle.seg_manager.proofs.CountedObjects.{counted_still}
+use Rattle.seg_spec.proofs.CountedKept.{counted_still}
 
 -- the longer one goes on where the other ends
 record GoesOn (old new : Table) : Type 0 where

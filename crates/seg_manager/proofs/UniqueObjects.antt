@@ -33,8 +33,8 @@ use Rattle.seg_spec.proofs.UniqueLaws.{position_root, none_root, unique_of, betw
 use Rattle.seg_manager.proofs.UniqueWords.{word_changes, word_written, word_live, word_kept, above_kept, word_allocator, word_next, unique_joined, unique_left}
 use Rattle.seg_spec.proofs.PlainRoots.{plain_of}
 use Rattle.seg_spec.proofs.Frame.{each_right}
-use Rattle.seg_manager.proofs.DefaultNames.{defaults_none}
-use Rattle.seg_manager.proofs.CountedObjects.{counted_still, counted_with}
+use Rattle.seg_spec.proofs.CountedParts.{defaults_none}
+use Rattle.seg_spec.proofs.CountedKept.{counted_still, counted_with}
 
 -- what the word of a type names
 pub names_unique : (allocator : ℕ) (s : Stored) (picture : Picture) (T : ℕ) → IsSegment allocator s picture → T < 32 → target s.window.bytes (unique_word T) ≡ unique_at picture T

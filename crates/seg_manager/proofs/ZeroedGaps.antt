@@ -24,7 +24,7 @@ use Rattle.seg_manager.specs.Gaps.{spare_start, spare_size, IsZeroed, LiesBeside
 use Rattle.seg_manager.specs.Segments.{IsSegment}
 use Rattle.seg_spec.proofs.LooseRoots.{each_joined}
 use Rattle.seg_manager.proofs.LooseObjects.{allocator_same}
-use Rattle.seg_manager.proofs.CountedObjects.{next_same, counted_still}
+use Rattle.seg_spec.proofs.CountedKept.{next_same, counted_still}
 use Rattle.seg_manager.proofs.KeptOrder.{KeepsOrder, order_live, order_heap}
 use Rattle.seg_manager.proofs.TileWalk.{Rest, Reads, reads_tile}
 

@@ -126,6 +126,10 @@ unfolding names_in names_each
 copies_names zero v none = refl
 copies_names (suc n) v none = ap (λ xs. xs ++ names_each (copies n v)) none ∙ copies_names n v none
 
+-- nor do several
+pub defaults_none : (n : ℕ) (table : Table) (T : ℕ) → names_each (copies n (default_of table T)) ≡ []
+defaults_none n table T = copies_names n (default_of table T) (default_names table T)
+
 -- ---- one of several values
 
 pub names_cons : (v : Value) (vs : Values) → names_each (cons v vs) ≡ names_in v ++ names_each vs

@@ -86,6 +86,7 @@ pub mod RootPaths
 pub mod PathsAfter
 pub mod MoveLaw
 pub mod CountedPictures
+pub mod CountedKept
 pub mod OwnerGone
 pub mod CountedParts
 pub mod Sharing

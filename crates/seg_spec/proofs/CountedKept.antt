@@ -1,4 +1,4 @@
--- The frozen objects of a segment are counted where its next number stays.
+-- The frozen objects of an image are counted where its next number stays.
 --     next_same         the number stays where what follows the pointer to the free structure does
 --     counted_still     the same picture is counted
 --     counted_with      and one where an object came that names none of them
@@ -29,3 +29,7 @@ counted_with next picture other before root after split others none same c =
       counted = subst (λ fs. IsCounted next fs (cells_in (owners_in other))) (sym same) (subst (IsCounted next picture.frozen) cells c.counted);
       falling = subst IsFalling (sym same) c.falling;
     }
+
+-- what a call kept that changed the heap alone
+pub counted_on : (old new : List ℕ) (picture : Picture) → KeepsBack old new → AreCounted (word old next_word) picture → AreCounted (word new next_word) picture
+counted_on old new picture back c = counted_still old new picture (next_same old new back) c
