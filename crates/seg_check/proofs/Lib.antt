@@ -20,6 +20,7 @@ pub mod IndexSteps
 pub mod BufferLaws
 pub mod StructLaws
 pub mod EntryLoop
+pub mod TurnLoop
 pub mod AscendLaws
 pub mod FlatMapLaws
 pub mod PassedTiles

@@ -1,15 +1,17 @@
 -- What is known of frozen objects while others are claimed.
-use Rattle.std.proofs.Common.{◌≡◌, ℕ, ◌+◌, ◌%◌, ◌≤◌, ⊎_elim, Option, None, List, [], ◌∷◌, ◌++◌, length, map, get_or, refl, sym, ap, ◌∙◌, subst, arith}
+use Rattle.std.proofs.Common.{◌≡◌, ℕ, ◌+◌, ◌%◌, ◌≤◌, ⊎_elim, Bool, true, false, cond, eqb, Option, None, List, [], ◌∷◌, ◌++◌, length, map, get_or, refl, sym, ap, ◌∙◌, subst, arith}
 use Rattle.std.specs.List.{AllByRecursion}
 use Rattle.std.proofs.lemmas.Bool.{cases_eq}
+use Rattle.std.proofs.lemmas.Bool.Decides.{nat_tests}
 use Rattle.std.proofs.lemmas.List.{map-append}
 use Rattle.seg_spec.specs.Bytes.{word}
+use Rattle.seg_spec.specs.Heap.{tag_at}
 use Rattle.seg_spec.specs.Block.{Kind, kind_number, block_of, IsBlock}
 use Rattle.seg_spec.specs.Sound.{times, SameBlocks}
 use Rattle.seg_spec.proofs.LiveLaws.{times-append, times-other}
 use Rattle.seg_check.specs.declared.marks.Turn.{Turn}
 use Rattle.seg_check.specs.declared.marks.Waiting.{Waiting}
-use Rattle.seg_check.specs.Marks.{Known, Naming, ClaimsAll, awaiting}
+use Rattle.seg_check.specs.Marks.{Known, Naming, KeepsNames, ClaimsAll, awaiting}
 use Rattle.seg_check.specs.Naming.{IsFrozen, slot_of, left_at, less, Counts, Finds, blocks_of, unseen_at}
 use Rattle.seg_check.specs.Turns.{AreOthers}
 
@@ -35,6 +37,50 @@ module _ (bytes : List ℕ) where
       (λ other. times-other h (block_of t.start) (blocks_of (awaiting below ts)) other ∙ none_waits h below ts f a.1)
       (cases_eq (block_of t.start) h)
 
+  -- those among blocks that are frozen objects
+  pub frozen_of : List ℕ → List ℕ
+  frozen_of [] = []
+  frozen_of (h ∷ hs) = cond (eqb (tag_at bytes h % 256) 7) (h ∷ frozen_of hs) (frozen_of hs)
+
+  is_seven : (a b : ℕ) → eqb a b ≡ true → a ≡ b
+  is_seven a b e = grind (arith, nat_tests)
+
+  not_seven : (a b : ℕ) → eqb a b ≡ false → a ≡ b → ⊥
+  not_seven a b e f = grind (arith, nat_tests)
+
+  pub are_frozen : (hs : List ℕ) → AllByRecursion (IsFrozen bytes) (frozen_of hs)
+  unfolding frozen_of
+  are_frozen [] = tt
+  are_frozen (h ∷ hs) = go (eqb (tag_at bytes h % 256) 7) refl (are_frozen hs)
+    where
+      go : (b : Bool) → eqb (tag_at bytes h % 256) 7 ≡ b → AllByRecursion (IsFrozen bytes) (frozen_of hs) → AllByRecursion (IsFrozen bytes) (cond b (h ∷ frozen_of hs) (frozen_of hs))
+      go true e rest = (is_seven (tag_at bytes h % 256) 7 e, rest)
+      go false e rest = rest
+
+  pub times_frozen : (h : ℕ) (hs : List ℕ) → IsFrozen bytes h → times h (frozen_of hs) ≡ times h hs
+  unfolding frozen_of
+  times_frozen h [] f = refl
+  times_frozen h (x ∷ xs) f = go (eqb (tag_at bytes x % 256) 7) refl (times_frozen h xs f)
+    where
+      go : (b : Bool) → eqb (tag_at bytes x % 256) 7 ≡ b → times h (frozen_of xs) ≡ times h xs → times h (cond b (x ∷ frozen_of xs) (frozen_of xs)) ≡ times h (x ∷ xs)
+      go true e rest = omega (arith, times-append h (x ∷ []) xs, times-append h (x ∷ []) (frozen_of xs), rest)
+      go false e rest = rest ∙ sym (times-other h x xs (λ same. not_seven (tag_at bytes x % 256) 7 e (subst (IsFrozen bytes) (sym same) f)))
+
+  -- another block isn't among frozen objects
+  pub none_other : (h : ℕ) (hs : List ℕ) → (IsFrozen bytes h → ⊥) → AllByRecursion (IsFrozen bytes) hs → times h hs ≡ 0
+  none_other h [] o a = refl
+  none_other h (x ∷ xs) o a = ⊎_elim
+      (λ same. absurd (o (subst (IsFrozen bytes) same a.0)))
+      (λ other. times-other h x xs other ∙ none_other h xs o a.1)
+      (cases_eq x h)
+
+  -- frozen objects stand equally often in both lists, so that all blocks of them do
+  pub all_same : (xs ys : List ℕ) → AllByRecursion (IsFrozen bytes) xs → AllByRecursion (IsFrozen bytes) ys → ((h : ℕ) → IsFrozen bytes h → times h xs ≡ times h ys) → SameBlocks xs ys
+  all_same xs ys a b same h = ⊎_elim
+      (λ frozen. same h frozen)
+      (λ other. none_other h xs other a ∙ sym (none_other h ys other b))
+      (cases_eq (tag_at bytes h % 256) 7)
+
   -- ---- counts
 
   pub counts_same : (known : Known) (xs ys : List ℕ) → SameBlocks xs ys → Counts bytes known xs → Counts bytes known ys
@@ -45,13 +91,13 @@ module _ (bytes : List ℕ) where
         left = λ s. subst (λ n. left_at known h ≡ less (word bytes (h + 16)) n) (same (h + 16)) (at.left s);
       }
 
-  pub counts_kept : (old new : Known) (names : List ℕ) → new.naming ≡ old.naming → Counts bytes old names → Counts bytes new names
+  pub counts_kept : (old new : Known) (names : List ℕ) → KeepsNames old new → Counts bytes old names → Counts bytes new names
   counts_kept old new names same c h f =
       let at = c h f in
-      let named : times h new.naming.named ≡ times h old.naming.named = ap (λ (n : Naming). times h n.named) same in
+      let named : times h new.naming.named ≡ times h old.naming.named = ap (times h) same.named_kept in
       record {
         named = (λ s. at.named.0 (omega (arith, s, named)), λ s. let some = at.named.1 s in omega (arith, some, named));
-        left = λ s. ap (λ (n : Naming). get_or n.counts (slot_of h) None) same ∙ at.left (omega (arith, s, named));
+        left = λ s. ap (λ counts. get_or counts (slot_of h) None) same.counts_kept ∙ at.left (omega (arith, s, named));
       }
 
   -- ---- steps
@@ -67,7 +113,7 @@ module _ (bytes : List ℕ) where
     unseen_kept = λ h f.
         let waiting = ap (λ ts. times h (blocks_of ts)) c.turns_are ∙ ap (times h) (blocks_append old.turns (awaiting old.naming.below turns)) ∙ times-append h (blocks_of old.turns) (blocks_of (awaiting old.naming.below turns)) in
         omega (arith, unclaimed h f, waiting, none_waits h old.naming.below turns f waits);
-    counts = λ before k. counts_kept old new before c.naming_kept k;
+    counts = λ before k. counts_kept old new before (record { named_kept = ap (λ (n : Naming). n.named) c.naming_kept; counts_kept = ap (λ (n : Naming). n.counts) c.naming_kept }) k;
   }
     where
       unclaimed : (h : ℕ) → IsFrozen bytes h → times h new.unclaimed ≡ times h old.unclaimed

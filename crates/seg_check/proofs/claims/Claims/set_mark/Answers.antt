@@ -13,11 +13,11 @@ returns-in-Some-clause-own g c = λ is_unit.
     let unit = c.in-Some.ensures.unit in
     let units : length marks ≡ c.args.self.now.units = ap (λ (k : Known). k.units) c.self.view_is in
     let inside : c.in-Some.unit < length marks = omega (arith, unit.1, units) in
-    mark_is (set marks c.in-Some.unit c.args.new) f.unclaimed f.free f.queue.items f.taken c.args.block c.in-Some.unit c.args.new unit.0 (omega (arith, inside, length-set marks c.in-Some.unit c.args.new))
+    mark_is (set marks c.in-Some.unit c.args.new) f.unclaimed f.free f.queue.items f.taken f.counts.items f.below c.args.block c.in-Some.unit c.args.new unit.0 (omega (arith, inside, length-set marks c.in-Some.unit c.args.new))
     (sym (get_or-set_at marks c.in-Some.unit c.in-Some.unit c.args.new Inside refl inside))
 
 pub returns-in-Some-clause-others : goal.returns-in-Some-clause-others
 returns-in-Some-clause-others g c =
     let f = c.self.inside in
-    subst (λ (k : Known). KeepsOthers k (known_of (set f.marks.items c.in-Some.unit c.args.new) f.unclaimed f.free f.queue.items f.taken) c.args.block) c.self.view_is
-    (set_others f.marks.items f.unclaimed f.free f.queue.items f.taken c.args.block c.in-Some.unit c.args.new c.in-Some.ensures.unit.0)
+    subst (λ (k : Known). KeepsOthers k (known_of (set f.marks.items c.in-Some.unit c.args.new) f.unclaimed f.free f.queue.items f.taken f.counts.items f.below) c.args.block) c.self.view_is
+    (set_others f.marks.items f.unclaimed f.free f.queue.items f.taken f.counts.items f.below c.args.block c.in-Some.unit c.args.new c.in-Some.ensures.unit.0)

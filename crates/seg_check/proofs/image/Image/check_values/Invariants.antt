@@ -1,12 +1,12 @@
 use Rattle.std.proofs.Common.{◌-◌, ◌^◌}
-use Rattle.seg_check.specs.Turns.{AreTurns}
+use Rattle.seg_check.specs.Turns.{AreWaiting}
 use Rattle.seg_check.specs.Resolving.{IsReady}
-use Rattle.seg_check.proofs.EntryLoop.{Resolving}
+use Rattle.seg_check.proofs.TurnLoop.{Resolving}
 use Rattle.seg_check.proofs.image.Image.check_values.Given as goal
 
 abbrev pub invariant-loop-turn : goal.invariant-loop-turn
 invariant-loop-turn g l =
-    IsReady l.self.w.now.bytes l.self.types.now l.fn.claims → AreTurns l.self.w.now.bytes l.self.types.now l.fn.claims.turns →
+    IsReady l.self.w.now.bytes l.self.types.now l.fn.claims → AreWaiting l.self.w.now.bytes l.self.types.now l.fn.claims.turns →
     Resolving l.self.w.now.bytes l.self.types.now l.fn.claims l.claims
 
 abbrev pub decreases-loop-turn : goal.decreases-loop-turn
