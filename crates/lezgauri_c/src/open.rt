@@ -28,7 +28,8 @@ use client_verify::Verified;
 use client_vm::{Refused, Report as Told, Sink, run};
 use seg_bestfit::BestFit;
 use seg_block::Fit;
-use seg_layout::{ENTRY, MAX_TYPES, TypeTable};
+use seg_check::read_types;
+use seg_layout::TypeTable;
 use seg_manager::Segment;
 use seg_ptr::{MAX_LEN, Window, header};
 use seg_raw::{Fault as Reason, Region};
@@ -133,7 +134,7 @@ fn window_of(alloc: Global, image: &[u8]) -> Result<Window<Global>, Reason>
 fn types_of(window: &Window<Global>) -> Result<TypeTable, Reason>
     ensures { (table : Table) → IsImageOf window.now.bytes table → result ≡ Ok table }
 {
-    TypeTable::read(window.slice(header::TYPES, ENTRY * MAX_TYPES))
+    read_types(window)
 }
 
 /// Runs a client on the segment in a window, with the allocator that it names.
@@ -160,7 +161,7 @@ fn run_alone<W: Sink>(
 
 /// Runs a client on the segment in a window.
 fn run_on<F: Fit, W: Sink>(
-    window: Window<Global>,
+    mut window: Window<Global>,
     types: TypeTable,
     client: &Verified,
     input: &[u8],
@@ -173,6 +174,7 @@ fn run_on<F: Fit, W: Sink>(
         HaveRunOn (bytes_of (client_of client.now) ∷ []) [] input.now window (W.taken sink.old)
         result.1.items (W.taken sink.new) (result.0 ∷ []) (ending_of result.0.ended)) }
 {
+    header::upgrade(&mut window);
     let mut segment: Segment<F, Global> = Segment::new(window, types);
     let told = run(&mut segment, client, input, &[], sink);
     (told, segment.into_window().into_bytes())

@@ -31,8 +31,9 @@ pub fn check<A: Allocator, B: Allocator>(alloc: B, w: &Window<A>) -> Result<Type
     Ok(types)
 }
 
-/// The types that the bytes after the header spell, with those that images of its version may have.
-fn read_types<A: Allocator>(w: &Window<A>) -> Result<TypeTable, Fault>
+/// The types that the bytes after an image's header spell: with those that share objects where it is of the version that may
+/// have some.
+pub fn read_types<A: Allocator>(w: &Window<A>) -> Result<TypeTable, Fault>
     ensures { HasHeader w.now.bytes →
         IsReading (word w.now.bytes version_word) (slice w.now.bytes types_start types_size) result }
 {

@@ -18,4 +18,4 @@ mod uniques;
 mod values;
 mod walk;
 
-pub use checker::check;
+pub use checker::{check, read_types};

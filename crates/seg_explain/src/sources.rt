@@ -49,7 +49,7 @@ fn client_of(file: &[u8]) -> Option<Client<'_>> {
 
 /// The types of an image, if they are a table.
 pub(crate) fn types_of(image: &[u8]) -> Option<TypeTable> {
-    TypeTable::read(type_bytes(image)).ok()
+    TypeTable::read_shared(type_bytes(image)).ok()
 }
 
 fn with_types_of(types: TypeTable, client: &Client) -> Option<TypeTable> {

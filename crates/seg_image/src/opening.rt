@@ -1,6 +1,7 @@
 ghost use Rattle.std.specs.Prelude.{◌≡◌, ◌≤◌, Err, length, IfOk, IfErr, OnOk};
 ghost use Rattle.seg_spec.specs.Bytes.{word};
 ghost use Rattle.seg_spec.specs.Header.{allocator_word};
+ghost use Rattle.seg_spec.specs.Images.{upgraded};
 ghost use Rattle.seg_raw.specs.declared.fault.Fault.TheVariants.{Memory};
 ghost use Rattle.seg_check.specs.Faults.{IsImageOf, IsFaultOf, IsFrontRight};
 ghost use Rattle.seg_image.specs.Images.{segment_of, allocator_of};
@@ -40,11 +41,12 @@ pub fn check<A: Allocator + Copy>(alloc: A, bytes: &[u8]) -> Result<TypeTable, F
 }
 
 impl<A: Allocator + Copy> Image<A> {
-    /// Opens an image where it is sound, in its own memory. The bytes come back with the image's first fault, or with
+    /// Opens an image where it is sound, in its own memory; it is one of the version that may have frozen objects from then
+    /// on. The bytes come back with the image's first fault, or with
     /// `Memory` where host memory for the check is refused: up to 5 bytes for each 16 of the image, freed before it returns.
     pub fn open(alloc: A, bytes: Vec<u8, A>) -> Result<Image<A>, Unopened<A>>
         ensures opened { IfOk result
-            (λ image. (segment_of image).window.bytes ≡ bytes.items) }
+            (λ image. (segment_of image).window.bytes ≡ upgraded bytes.items) }
         ensures image { IfOk result
             (λ image. IsImageOf bytes.items (segment_of image).types) }
         ensures allocator { IfOk result
@@ -66,7 +68,8 @@ fn open_on<F: Fit, A: Allocator + Copy>(
     alloc: A,
     window: Window<A>,
 ) -> Result<Segment<F, A>, Unopened<A>>
-    ensures opened { IfOk result (λ segment. segment.window.bytes ≡ window.bytes) }
+    ensures opened { IfOk result (λ segment.
+        segment.window.bytes ≡ upgraded window.bytes) }
     ensures image { IfOk result (λ segment. IsImageOf window.bytes segment.types) }
     ensures allocator { OnOk result (word window.bytes allocator_word ≡ F.allocator) }
     ensures fault { (word window.bytes allocator_word ≤ 1 →

@@ -11,5 +11,5 @@ pub fn type_table(types: &[Type]) -> Result<TypeTable, Fault> {
     for (entry, of) in entries.chunks_exact_mut(ENTRY).zip(types) {
         entry.copy_from_slice(&of.entry());
     }
-    TypeTable::read(&entries)
+    TypeTable::read_shared(&entries)
 }

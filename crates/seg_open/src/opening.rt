@@ -1,6 +1,8 @@
 ghost use Rattle.std.specs.Prelude.{◌≡◌, IfErr, IfOk, OnOk};
 ghost use Rattle.seg_spec.specs.Bytes.{word};
 ghost use Rattle.seg_spec.specs.Header.{allocator_word};
+ghost use Rattle.seg_spec.specs.Images.{upgraded};
+ghost use Rattle.seg_spec.specs.Window.{with_bytes};
 ghost use Rattle.seg_raw.specs.declared.fault.Fault.TheVariants.{Memory};
 ghost use Rattle.seg_check.specs.Faults.{IsImageOf, IsFaultOfOpening, IsFrontRight};
 
@@ -11,13 +13,14 @@ use seg_ptr::{Window, header};
 use seg_raw::Fault;
 use std::alloc::Allocator;
 
-/// The segment of an image, whose heap this allocator keeps. The window comes back with the image's first fault, and with
-/// `BadHeader` where the image names the other allocator.
+/// The segment of an image, whose heap this allocator keeps, as one of the version that may have frozen objects. The window
+/// comes back with the image's first fault, and with `BadHeader` where the image names the other allocator.
 pub fn open<F: Fit, A: Allocator, B: Allocator>(
     alloc: B,
-    window: Window<A>,
+    mut window: Window<A>,
 ) -> Result<Segment<F, A>, (Fault, Window<A>)>
-    ensures opened { IfOk result (λ segment. segment.window ≡ window) }
+    ensures opened { IfOk result (λ segment.
+        segment.window ≡ with_bytes window (upgraded window.bytes)) }
     ensures image { IfOk result (λ segment. IsImageOf window.bytes segment.types) }
     ensures allocator { OnOk result (word window.bytes allocator_word ≡ F.allocator) }
     ensures fault { IfErr result (λ refused.
@@ -28,6 +31,9 @@ pub fn open<F: Fit, A: Allocator, B: Allocator>(
     match check(alloc, &window) {
         Err(fault) => Err((fault, window)),
         Ok(_) if window.get32(header::ALLOCATOR) != F::word() => Err((Fault::BadHeader, window)),
-        Ok(types) => Ok(Segment::new(window, types)),
+        Ok(types) => {
+            header::upgrade(&mut window);
+            Ok(Segment::new(window, types))
+        }
     }
 }

@@ -2,6 +2,7 @@
 ghost use Rattle.std.specs.Prelude.{◌≡◌, ◌↔◌, IsTrue, codes, replicate};
 ghost use Rattle.seg_spec.specs.Bytes.{slice, put, word, set_word};
 ghost use Rattle.seg_spec.specs.Header.{IsVersion};
+ghost use Rattle.seg_spec.specs.Images.{upgraded};
 ghost use Rattle.seg_spec.specs.Window.{with_bytes};
 
 use crate::window::Window;
@@ -66,12 +67,19 @@ pub fn shares<A: Allocator>(w: &Window<A>) -> bool
     w.get32(VERSION) == SHARING_VERSION
 }
 
-/// Writes what an image of the first version begins with.
+/// Writes what a new image begins with, which is of the version that may have frozen objects.
 pub fn begin<A: Allocator>(w: &mut Window<A>)
-    ensures { w.new ≡ with_bytes w.old (set_word (put w.old.bytes 0 (codes "SEGIMAGE")) 8 1) }
+    ensures { w.new ≡ with_bytes w.old (set_word (put w.old.bytes 0 (codes "SEGIMAGE")) 8 2) }
 {
     w.copy_in(0, MAGIC);
-    w.put32(VERSION, FIRST_VERSION);
+    w.put32(VERSION, SHARING_VERSION);
+}
+
+/// Makes an image one of the version that may have frozen objects.
+pub fn upgrade<A: Allocator>(w: &mut Window<A>)
+    ensures { w.new ≡ with_bytes w.old (upgraded w.old.bytes) }
+{
+    w.put32(VERSION, SHARING_VERSION);
 }
 
 /// Whether the bytes of the header are 0 that are so in every image.
