@@ -14,7 +14,7 @@ use Rattle.seg_spec.specs.Sound.{payload_of, Picture, frozen_roots, roots_of, Ho
 use Rattle.seg_spec.specs.Frozen.{blocks_by}
 use Rattle.seg_spec.specs.Destroying.{HoldFrozen}
 use Rattle.seg_spec.specs.Counting.{owners_in}
-use Rattle.seg_spec.specs.Roots.{Listed, roots_in, roots_before, roots_after, item_of, KeepsPaths}
+use Rattle.seg_spec.specs.Roots.{Listed, roots_in, roots_before, item_of, KeepsPaths}
 use Rattle.seg_spec.proofs.SliceLaws.{IsSame-part}
 use Rattle.seg_spec.proofs.Frame.{word-same}
 use Rattle.seg_spec.proofs.LiveLaws.{times-append, each_there, live-once}
