@@ -239,7 +239,8 @@ module _ (old : List ℕ) (picture : Picture) (held : IsHeld old picture) (root 
 
 module _ (root : Root) (j : ℕ) (item : Value) (item_is : nth root.values j ≡ Some item) (path : List Selector) (v : Value) (value_is : value_at item path ≡ Some v) where
   -- some owners and a place give way to others, and cells with these names go
-  pub counted_moved : (next : ℕ) (picture other : Picture) (some come rest : List Root) (w : Value) → Reorders (owners_in picture) (root ∷ (some ++ rest)) → Reorders (with_item root j (with_value_at path w) ∷ (come ++ rest)) (owners_in other)
+  pub counted_moved : (next : ℕ) (picture other : Picture) (some come rest : List Root) (w : Value) → Reorders (owners_in picture) (root ∷ (some ++ rest))
+      → Reorders (with_item root j (with_value_at path w) ∷ (come ++ rest)) (owners_in other)
       → (gone : List Place) → SameNames (names_in v ++ cells_in some) (gone ++ (names_in w ++ cells_in come)) → other.frozen ≡ left gone picture.frozen → AreCounted next picture → AreCounted next other
   counted_moved next picture other some come rest w now then gone same frozen c =
       let later = with_item root j (with_value_at path w) in
