@@ -4,8 +4,8 @@
 use Rattle.std.proofs.Common.{◌≡◌, ℕ, ◌+◌, ◌≤◌, List, [], ◌∷◌, ◌++◌, length, refl, sym, ap, ◌∙◌, subst, append_assoc, arith}
 use Rattle.std.specs.List.{AllByRecursion}
 use Rattle.seg_spec.specs.Bytes.{word}
-use Rattle.seg_spec.specs.Header.{allocator_word, index_kind_word, version_word, units_word, back_start, reserved, reserved_size, types_start, types_size, uniques_start, uniques_size, KeepsFront, KeepsBack}
-use Rattle.seg_spec.specs.Types.{Table}
+use Rattle.seg_spec.specs.Header.{allocator_word, index_kind_word, version_word, next_word, IsVersion, units_word, reserved, reserved_size, types_start, types_size, uniques_start, uniques_size, KeepsFront, KeepsBack}
+use Rattle.seg_spec.specs.Types.{Table, AreOfVersion}
 use Rattle.seg_spec.specs.Heap.{Span, IsHeap, live}
 use Rattle.seg_spec.specs.Block.{KeepsBlock}
 use Rattle.seg_spec.specs.Index.{Root}
@@ -31,11 +31,11 @@ header_named old new table spans blocks names others c o =
       not_large = rw c.length_kept o.not_large;
       whole_units = rw c.length_kept o.whole_units;
       magic = IsSame-part old new 0 24 0 8 (omega arith) (omega arith) c.front_kept ∙ o.magic;
-      version = same version_word (omega arith) ∙ o.version;
+      version = subst (λ n. IsVersion n (word new next_word)) (sym (same version_word (omega arith)))
+          (subst (IsVersion (word old version_word)) (sym (word-same old new next_word c.middle_kept)) o.version);
       units_are = rw (same units_word (omega arith), c.length_kept) o.units_are;
       allocator_is = rw (same allocator_word (omega arith)) o.allocator_is;
       index_is = rw (same index_kind_word (omega arith)) o.index_is;
-      zero_word = word-same old new back_start c.middle_kept ∙ o.zero_word;
       zeros = IsSame-part old new reserved 664 reserved reserved_size (omega arith) (omega arith) c.back_kept ∙ o.zeros;
     }
 
@@ -47,7 +47,7 @@ laid_out_named old new picture blocks spans names others l c =
       header = header_named old new picture.table spans blocks names others c l.header;
       types = IsSame-part old new reserved 664 types_start types_size (omega arith) (omega arith) c.back_kept ∙ l.types;
       is_table = l.is_table;
-      of_version = l.of_version;
+      of_version = subst (λ n. AreOfVersion n picture.table) (sym (word-same old new version_word (IsSame-part old new 0 24 version_word 4 (omega arith) (omega arith) c.front_kept))) l.of_version;
       heap = rw allocator c.heap;
       blocks = c.ownable;
       names = c.lists;

@@ -4,7 +4,7 @@ use Rattle.std.specs.Prelude.{codes}
 use Rattle.std.proofs.lemmas.Bool.{cases_eq}
 use Rattle.std.proofs.lemmas.List.{length-replicate, take-replicate, drop-replicate}
 use Rattle.seg_spec.specs.Bytes.{slice, put, number, number_of, word, set_word, IsSame, ChangesOnly}
-use Rattle.seg_spec.specs.Header.{version_word, units_word, allocator_word, index_kind_word, free_word, index_cell, back_start, reserved, reserved_size, types_start, types_size, uniques_start, uniques_size, heap_start, min_length}
+use Rattle.seg_spec.specs.Header.{version_word, units_word, allocator_word, index_kind_word, free_word, next_word, index_cell, back_start, reserved, reserved_size, types_start, types_size, uniques_start, uniques_size, heap_start, min_length}
 use Rattle.seg_spec.specs.Pointer.{target, set_pointer, distance}
 use Rattle.seg_spec.specs.Types.{IsTable, size}
 use Rattle.seg_spec.specs.Heap.{Begins}
@@ -144,7 +144,7 @@ module _ (len allocator kind : ℕ) (old zeros magic version units with_allocato
     pub units_there : word bytes units_word ≡ len / 16
     pub allocator_there : word bytes allocator_word ≡ allocator
     pub kind_there : word bytes index_kind_word ≡ kind
-    pub zero_there : word bytes back_start ≡ 0
+    pub next_there : word bytes next_word ≡ 0
     pub index_there : target bytes index_cell ≡ None
     pub count_there : count_at bytes index_cell ≡ 0
     pub reserved_there : slice bytes reserved reserved_size ≡ replicate reserved_size 0
@@ -165,7 +165,7 @@ module _ (len allocator kind : ℕ) (old zeros magic version units with_allocato
             ∙ number-set_same 4 units 16 allocator (omega (arith, zeros_long, c1.length_kept, c2.length_kept, c3.length_kept)) (omega arith);
         kind_there = number-slice 4 with_kind empty 20 20 (from_kind 20 4 (omega arith)) ∙ ap (λ b. word b 20) kind_is
             ∙ number-set_same 4 with_allocator 20 kind (omega (arith, zeros_long, c1.length_kept, c2.length_kept, c3.length_kept, c4.length_kept)) (omega arith);
-        zero_there = zero_word_at empty 28 (zeros_then 28 4 (omega arith) (inl (omega arith)) (omega arith));
+        next_there = zero_word_at empty 28 (zeros_then 28 4 (omega arith) (inl (omega arith)) (omega arith));
         index_there = ap (λ b. target b 32) empty_is
             ∙ target-set_same with_kind 32 None (omega (arith, zeros_long, c1.length_kept, c2.length_kept, c3.length_kept, c4.length_kept, c5.length_kept)) (omega arith) (λ t e. absurd (let f : None ≡ Some t = e in cc));
         count_there = zero_word_at empty 36 (zeros_then 36 4 (omega arith) (inr (omega arith)) (omega arith));
@@ -205,11 +205,10 @@ module _ (len allocator kind : ℕ) (old zeros magic version units with_allocato
           not_large = rw new_long sized.not_large;
           whole_units = rw new_long sized.whole_units;
           magic = low 0 8 (omega arith) ∙ f.magic_there;
-          version = number-slice 4 empty new 8 8 (low 8 4 (omega arith)) ∙ f.version_there;
+          version = (number-slice 4 empty new 8 8 (low 8 4 (omega arith)) ∙ f.version_there, number-slice 4 empty new 28 28 (middle 28 4 (omega arith) (omega arith)) ∙ f.next_there);
           units_are = let units_then : word new 12 ≡ len / 16 = number-slice 4 empty new 12 12 (low 12 4 (omega arith)) ∙ f.units_there in let whole = sized.whole_units in omega (arith, new_long);
           allocator_is = rw allocator_then few_allocators;
           index_is = rw kind_then few_kinds;
-          zero_word = number-slice 4 empty new 28 28 (middle 28 4 (omega arith) (omega arith)) ∙ f.zero_there;
           zeros = middle 40 24 (omega arith) (omega arith) ∙ f.reserved_there;
         }
 

@@ -1,3 +1,5 @@
+pub mod DefaultNames
+pub mod CountedObjects
 pub mod LooseObjects
 pub mod UniqueWords
 pub mod UniqueObjects
@@ -19,4 +21,3 @@ pub mod UniqueCount
 pub mod ObjectAsks
 pub mod ClearedItems
 pub mod NamedLeaves
-pub mod AloneLaws

@@ -3,7 +3,7 @@ use Rattle.std.proofs.Common.{◌≡◌, ◌≢◌, ℕ, zero, suc, ◌+◌, ◌
 use Rattle.std.proofs.lemmas.Bool.{cases_eq}
 use Rattle.std.specs.List.{AllByRecursion}
 use Rattle.seg_spec.specs.Bytes.{word, slice}
-use Rattle.seg_spec.specs.Header.{allocator_word, free_word, KeepsFront}
+use Rattle.seg_spec.specs.Header.{allocator_word, next_word, free_word, KeepsFront}
 use Rattle.seg_spec.specs.Types.{Table, IsTable, size}
 use Rattle.seg_spec.specs.Value.{Value, nil, cons, default_of}
 use Rattle.seg_spec.specs.Heap.{live, IsHeap}
@@ -24,7 +24,7 @@ use Rattle.seg_spec.proofs.Frame.{word-same, each_left, each_right}
 use Rattle.seg_spec.proofs.LiveLaws.{times-other}
 use Rattle.seg_spec.proofs.Standing.{each_live_at, live_at}
 use Rattle.seg_spec.proofs.RootLaws.{HoldsRoots-one, HoldsRoots-only, IsLaidOut-loose}
-use Rattle.seg_spec.proofs.CountedPictures.{OwnerBeside, owner_beside, named_one}
+use Rattle.seg_spec.proofs.CountedPictures.{OwnerBeside, owner_beside, named_one, counted_without}
 use Rattle.seg_spec.proofs.OwnerGone.{live_given, others_linked, laid_out_without, laid_out_still, held_without}
 use Rattle.seg_value.specs.Contents.{GivesBlock}
 use Rattle.seg_value.specs.Stored.{Stored}
@@ -33,6 +33,8 @@ use Rattle.seg_spec.proofs.LooseRoots.{Trades, holds_its, loose_traded, each_joi
 use Rattle.seg_spec.proofs.LooseRoots as roots
 use Rattle.seg_spec.proofs.OneRequest.{spent_one, counts_one}
 use Rattle.seg_spec.proofs.PlainRoots.{HoldsPlain, plain_of, root_of_plain}
+use Rattle.seg_manager.proofs.DefaultNames.{defaults_none}
+use Rattle.seg_manager.proofs.CountedObjects.{next_same, counted_still, counted_with}
 
 pub allocator_same : (old new : List ℕ) → KeepsFront old new → word new allocator_word ≡ word old allocator_word
 allocator_same old new front = word-same old new allocator_word (IsSame-part old new 0 free_word allocator_word 4 (omega arith) (omega arith) front)
@@ -118,16 +120,27 @@ module _ (allocator : ℕ) (old new : Stored) (picture : Picture) (is : IsSegmen
           omega arith;
     }
 
+    next_kept : word b next_word ≡ word a next_word
+    next_kept = next_same a b given.back_kept
+
+    counted_then : AreCounted (word a next_word) (with_roots picture loose (before ++ new_root old.types [] T 1 at ∷ after))
+    counted_then =
+        let front = picture.names ++ (picture.uniques ++ before) in
+        let owners : owners_in picture ≡ front ++ after = ap (λ ls. picture.names ++ (picture.uniques ++ ls)) split ∙ simp append_assoc in
+        counted_with (word a next_word) picture (with_roots picture loose (before ++ new_root old.types [] T 1 at ∷ after)) front (new_root old.types [] T 1 at) after owners (simp append_assoc) (defaults_none 1 old.types T) refl is.counted
+
     pub joined : Becomes allocator old new (with_roots picture loose (before ++ new_root old.types [] T 1 at ∷ after)) []
     joined = record {
       segment = record {
         held = loose_traded a b picture is.held before [] after split (new_root old.types [] T 1 at ∷ []) (block_of at ∷ []) trades (HoldsRoots-one b picture.table root)
             (record { no_name = refl; no_words = refl; value = default_of old.types T; values_are = refl }, tt);
+        counted = counted_still a b (with_roots picture loose (before ++ new_root old.types [] T 1 at ∷ after)) next_kept counted_then;
         table_is = same ∙ table_is;
         allocator_is = allocator_same a b given.front_kept ∙ is.allocator_is;
       };
       length_kept = given.length_kept;
       front_kept = given.front_kept;
+      next_kept = next_kept;
       kept = λ h some none. (given.kept h some).0;
     }
 
@@ -139,7 +152,7 @@ module _ (allocator : ℕ) (old new : Stored) (picture : Picture) (is : IsSegmen
 
 -- ---- it goes
 
-module _ (allocator : ℕ) (old new : Stored) (next : ℕ) (picture : Picture) (is : IsSegment allocator old picture) (counted : AreCounted next picture) (before : List Root) (root : Root) (after : List Root)
+module _ (allocator : ℕ) (old new : Stored) (picture : Picture) (is : IsSegment allocator old picture) (before : List Root) (root : Root) (after : List Root)
     (split : picture.loose ≡ before ++ root ∷ after) (same : new.types ≡ old.types) where
   abbrev a' : List ℕ
   a' = old.window.bytes
@@ -158,7 +171,7 @@ module _ (allocator : ℕ) (old new : Stored) (next : ℕ) (picture : Picture) (
   owners = ap (λ ls. picture.names ++ (picture.uniques ++ ls)) split ∙ simp append_assoc
 
   its : OwnerBeside a' picture is.held front root after
-  its = owner_beside next a' picture is.held front root after owners counted
+  its = owner_beside (word a' next_word) a' picture is.held front root after owners is.counted
 
   abbrev blocks : List ℕ
   blocks = its.apart.firsts
@@ -249,11 +262,14 @@ module _ (allocator : ℕ) (old new : Stored) (next : ℕ) (picture : Picture) (
       becomes = record {
         segment = record {
           held = held_then;
+          counted = counted_still a' b' (without_cells cells (with_roots picture loose (before ++ after))) (next_same a' b' destroyed.frees.back_kept)
+              (counted_without (word a' next_word) picture (with_roots picture loose (before ++ after)) front root after owners (simp append_assoc) refl is.counted);
           table_is = same ∙ is.table_is;
           allocator_is = allocator_same a' b' destroyed.frees.front_kept ∙ is.allocator_is;
         };
         length_kept = destroyed.frees.length_kept;
         front_kept = destroyed.frees.front_kept;
+        next_kept = next_same a' b' destroyed.frees.back_kept;
         kept = λ h some none. (others_linked allocator a' b' picture.table blocks its.theirs cells picture.frozen heap is.held.laid_out.blocks destroyed h some none).whole.kept;
       };
       shared_kept = destroyed.shared_kept;

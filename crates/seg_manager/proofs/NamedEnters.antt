@@ -1,10 +1,10 @@
 -- A new object beside the image, which its index comes to list.
-use Rattle.std.proofs.Common.{◌≡◌, ◌≢◌, ℕ, ◌+◌, ◌*◌, ◌<◌, ◌≤◌, ◌⊎◌, inl, inr, List, [], ◌∷◌, ◌++◌, length, Some, None, refl, sym, ap, ◌∙◌, subst, arith}
+use Rattle.std.proofs.Common.{◌≡◌, ◌≢◌, ℕ, ◌+◌, ◌*◌, ◌<◌, ◌≤◌, ◌⊎◌, inl, inr, List, [], ◌∷◌, ◌++◌, length, Some, None, refl, sym, ap, ◌∙◌, subst, append_assoc, arith}
 use Rattle.std.proofs.lemmas.Bool.{cases_eq}
 use Rattle.std.specs.List.{AllByRecursion}
 use Rattle.std.specs.Prelude.{Contains}
 use Rattle.seg_spec.specs.Bytes.{word, slice, IsSame}
-use Rattle.seg_spec.specs.Header.{allocator_word, index_kind_word, index_cell, free_word, back_start, back_size, KeepsFront, KeepsBack}
+use Rattle.seg_spec.specs.Header.{allocator_word, next_word, index_kind_word, index_cell, free_word, back_start, back_size, KeepsFront, KeepsBack}
 use Rattle.seg_spec.specs.Types.{size}
 use Rattle.seg_spec.specs.Value.{count, default_of}
 use Rattle.seg_spec.specs.Heap.{live, IsLive, Gives}
@@ -12,6 +12,7 @@ use Rattle.seg_spec.specs.Block.{Kind, tag_of, block_of, IsBlock, KeepsBlock, Is
 use Rattle.seg_spec.specs.Index.{Root, IsName}
 use Rattle.seg_spec.specs.Sound.{Picture, HoldsRoots, holds_no_root, IsHeld, times, positions}
 use Rattle.seg_spec.specs.Roots.{Listed, with_roots}
+use Rattle.seg_spec.specs.Counting.{AreCounted}
 use Rattle.seg_spec.specs.Demand.{Ask, need, block_for, units_for, after_asks}
 use Rattle.seg_spec.specs.Spending.{entry_asks, object_asks, spent}
 use Rattle.seg_spec.specs.Owing.{KeepsLinked}
@@ -35,6 +36,8 @@ use Rattle.seg_manager.specs.Segments.{IsSegment, Becomes, new_root}
 use Rattle.seg_manager.specs.NewNamed.{GivesNamed, MakesNamed, FindsNoRoom}
 use Rattle.seg_spec.proofs.OneRequest.{counts_one}
 use Rattle.seg_manager.proofs.NewNamed.{count-copies, named_kind}
+use Rattle.seg_manager.proofs.DefaultNames.{defaults_none}
+use Rattle.seg_manager.proofs.CountedObjects.{next_same, counted_still, counted_with}
 use Rattle.seg_manager.proofs.ObjectAsks.{entry_asks_kept, spent_after, asks_after, returned_one, no_room_first}
 use Rattle.seg_spec.proofs.PlainRoots.{HoldsPlain, plain_of}
 
@@ -131,17 +134,29 @@ module _ (allocator : ℕ) (old mid : List ℕ) (picture : Picture) (held : IsHe
         spent_after allocator (live old) (live mid) (length old) units (its_asks old) granted_first ∙ ap (λ asks. spent allocator (live mid) (length old) asks []) (sym asks_kept)
         ∙ ap (λ end. spent allocator (live mid) end (its_asks mid) []) (sym g.length_kept) ∙ e.left_is ∙ ap Some (sym e.changes.live_is)
 
-    pub made : (was now : Stored) → was.window.bytes ≡ old → was.types ≡ picture.table → now.window.bytes ≡ new → now.types ≡ was.types → MakesNamed allocator was now picture held.index_blocks name T n object
-    made was now old_is table_is new_is types_are =
+    next_then : word new next_word ≡ word old next_word
+    next_then = word-same mid new next_word e.changes.middle_kept ∙ next_same old mid g.back_kept
+
+    counted_then : AreCounted (word old next_word) picture → AreCounted (word new next_word) (with_names picture (e.before ++ root ∷ e.after))
+    counted_then c =
+        let others = picture.uniques ++ picture.loose in
+        counted_still old new (with_names picture (e.before ++ root ∷ e.after)) next_then
+        (counted_with (word old next_word) picture (with_names picture (e.before ++ root ∷ e.after)) e.before root (e.after ++ others) (ap (λ ns. ns ++ others) e.names_are ∙ append_assoc e.before e.after others)
+        (append_assoc e.before (root ∷ e.after) others) (defaults_none n picture.table T) refl c)
+
+    pub made : AreCounted (word old next_word) picture → (was now : Stored) → was.window.bytes ≡ old → was.types ≡ picture.table → now.window.bytes ≡ new → now.types ≡ was.types
+        → MakesNamed allocator was now picture held.index_blocks name T n object
+    made counted was now old_is table_is new_is types_are =
         let root_is : new_root picture.table name T n object ≡ new_root was.types name T n object = ap (λ t. new_root t name T n object) (sym table_is) in
         record {
           before = e.before;
           after = e.after;
           names_are = e.names_are;
           becomes = subst (λ r. Becomes allocator was now (with_roots picture Listed.by_name (e.before ++ r ∷ e.after)) held.index_blocks) root_is (record {
-            segment = record { held = rw new_is held_then; table_is = types_are ∙ table_is; allocator_is = rw new_is allocator_then };
+            segment = record { held = rw new_is held_then; counted = rw new_is (counted_then counted); table_is = types_are ∙ table_is; allocator_is = rw new_is allocator_then };
             length_kept = rw (new_is, old_is) (e.changes.length_kept ∙ g.length_kept);
             front_kept = rw (new_is, old_is) front_then;
+            next_kept = rw (new_is, old_is) next_then;
             kept = rw (new_is, old_is) kept_then;
           });
           spends = rw (new_is, old_is, table_is) granted;
@@ -204,18 +219,23 @@ module _ (allocator : ℕ) (old mid : List ℕ) (picture : Picture) (held : IsHe
         asks_after allocator (live old) (live mid) (length old) units (its_asks old) granted_first ∙ ap (λ asks. after_asks allocator (live mid) (length old) asks) (sym asks_kept)
         ∙ ap (λ end. after_asks allocator (live mid) end (its_asks mid)) (sym g.length_kept) ∙ refused.no_room
 
-    pub returned : (was now : Stored) → was.window.bytes ≡ old → was.types ≡ picture.table → now.window.bytes ≡ new → now.types ≡ was.types
+    next_left : word new next_word ≡ word old next_word
+    next_left = next_same mid new fronts.1 ∙ next_same old mid g.back_kept
+
+    pub returned : AreCounted (word old next_word) picture → (was now : Stored) → was.window.bytes ≡ old → was.types ≡ picture.table → now.window.bytes ≡ new → now.types ≡ was.types
         → FindsNoRoom allocator was now picture (object_asks was.window.bytes was.types T n name)
-    returned was now old_is table_is new_is types_are = record {
+    returned counted was now old_is table_is new_is types_are = record {
       no_room = rw (old_is, table_is) lacking;
       becomes = record {
         segment = record {
           held = rw new_is held_left;
+          counted = rw new_is (counted_still old new picture next_left counted);
           table_is = types_are ∙ table_is;
           allocator_is = rw new_is (word-same old new allocator_word (IsSame-part old new 0 24 allocator_word 4 (omega arith) (omega arith) front_left) ∙ allocator_is);
         };
         length_kept = rw (new_is, old_is) (gives.kept.length_kept ∙ g.length_kept);
         front_kept = rw (new_is, old_is) front_left;
+        next_kept = rw (new_is, old_is) next_left;
         kept = rw (new_is, old_is) (λ h some none. (left_kept h some).whole.kept);
       };
       live_is = rw (new_is, old_is) left_live;
@@ -230,11 +250,13 @@ unmade allocator was now picture s name T n refused types_are = record {
   becomes = record {
     segment = record {
       held = subst (λ bs. IsHeld bs picture) (sym refused.same) s.held;
+      counted = counted_still was.window.bytes now.window.bytes picture (ap (λ bs. word bs next_word) refused.same) s.counted;
       table_is = types_are ∙ s.table_is;
       allocator_is = ap (λ bs. word bs allocator_word) refused.same ∙ s.allocator_is;
     };
     length_kept = ap length refused.same;
     front_kept = ap (λ bs. slice bs 0 free_word) refused.same;
+    next_kept = ap (λ bs. word bs next_word) refused.same;
     kept = λ h some none. subst (λ bs. KeepsBlock was.window.bytes bs h) (sym refused.same) (linked_same was.window.bytes h).whole.kept;
   };
   live_is = ap live refused.same;

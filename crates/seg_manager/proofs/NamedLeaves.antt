@@ -3,7 +3,7 @@ use Rattle.std.proofs.Common.{◌≡◌, ◌≢◌, ℕ, ◌+◌, ◌≤◌, ◌
 use Rattle.std.proofs.lemmas.Bool.Decides.{nat_tests}
 use Rattle.std.proofs.lemmas.Bool.{cases_eq}
 use Rattle.seg_spec.specs.Bytes.{word}
-use Rattle.seg_spec.specs.Header.{allocator_word}
+use Rattle.seg_spec.specs.Header.{allocator_word, next_word}
 use Rattle.seg_spec.specs.Types.{Table}
 use Rattle.seg_spec.specs.Heap.{IsHeap, live}
 use Rattle.seg_spec.specs.Block.{KeepsBlock, IsOwnable}
@@ -14,9 +14,10 @@ use Rattle.seg_spec.specs.Sound.{Picture, HoldsRoot, holds_no_root, IsLaidOut, I
 use Rattle.seg_spec.specs.Demand.{after_gives}
 use Rattle.seg_spec.specs.Spending.{killed}
 use Rattle.seg_spec.specs.Shared.{names_each, named_each, left, freed}
-use Rattle.seg_spec.specs.Counting.{cells_in, owners_in, AreCounted, without_cells}
+use Rattle.seg_spec.specs.Counting.{cells_in, owners_in, without_cells}
 use Rattle.seg_spec.specs.Destroying.{HoldFrozen, KeepFrozen, Destroys}
 use Rattle.seg_spec.specs.Clearing.{SharedBeside}
+use Rattle.seg_spec.proofs.Frame.{word-same}
 use Rattle.seg_spec.proofs.LiveLaws.{each_there, times-append, live-once}
 use Rattle.seg_spec.proofs.RootFrame.{HoldsRoot-kept}
 use Rattle.seg_spec.proofs.RootLaws.{HoldsRoots-only, IsLaidOut-kept}
@@ -24,7 +25,7 @@ use Rattle.seg_spec.proofs.Standing.{live_at}
 use Rattle.seg_spec.proofs.Composing.{kept_twice}
 use Rattle.seg_spec.proofs.GiveOrder.{in_any_order}
 use Rattle.seg_spec.proofs.FrozenBlocks.{hold_kept, frozen_twice, frozen_kept, left_fewer}
-use Rattle.seg_spec.proofs.CountedPictures.{roots_held, OwnerBeside, owner_beside}
+use Rattle.seg_spec.proofs.CountedPictures.{roots_held, OwnerBeside, owner_beside, counted_without}
 use Rattle.seg_spec.proofs.OwnerGone.{live_given, live_counts, others_linked, ownable_after, laid_out_without, owners_left}
 use Rattle.seg_raw.specs.declared.code.Code.TheVariants as code
 use Rattle.seg_value.specs.Stored.{Stored}
@@ -36,6 +37,7 @@ use Rattle.seg_manager.specs.Segments.{IsSegment}
 use Rattle.seg_manager.specs.LeavingNamed.{IsUnlisted, LosesNamed}
 use Rattle.seg_manager.proofs.LooseObjects.{allocator_same}
 use Rattle.seg_manager.proofs.ClearedItems.{gives_append}
+use Rattle.seg_manager.proofs.CountedObjects.{next_same, counted_still}
 
 -- what a search that found an object says
 pub record IsFound (T : ℕ) (root : Root) (found : Found) : Type 0 where
@@ -77,7 +79,7 @@ nothing_before bytes (entry ∷ entries) [] root after h = h.0.no_words
 nothing_before bytes [] (r ∷ before) root after h = absurd h
 nothing_before bytes (entry ∷ entries) (r ∷ before) root after h = nothing_before bytes entries before root after h.1
 
-module _ (allocator : ℕ) (old mid : Stored) (next : ℕ) (picture : Picture) (is : IsSegment allocator old picture) (counted : AreCounted next picture) (root : Root)
+module _ (allocator : ℕ) (old mid : Stored) (picture : Picture) (is : IsSegment allocator old picture) (root : Root)
     (e : LeavesName old.window.bytes mid.window.bytes picture.table picture.names is.held.index_blocks root) where
   abbrev a : List ℕ
   a = old.window.bytes
@@ -99,7 +101,7 @@ module _ (allocator : ℕ) (old mid : Stored) (next : ℕ) (picture : Picture) (
   owners = ap (λ ns. ns ++ (picture.uniques ++ picture.loose)) e.names_are ∙ append_assoc e.before (root ∷ e.after) (picture.uniques ++ picture.loose)
 
   pub first : OwnerBeside a picture is.held e.before root behind
-  first = owner_beside next a picture is.held e.before root behind owners counted
+  first = owner_beside (word a next_word) a picture is.held e.before root behind owners is.counted
 
   -- the object's blocks, and those of the frozen objects
   abbrev pub its : List ℕ
@@ -191,6 +193,9 @@ module _ (allocator : ℕ) (old mid : Stored) (next : ℕ) (picture : Picture) (
     left_mid = frozen_kept allocator a b heap_old first.theirs rest (λ h some. let l = left_fewer first.theirs cells picture.frozen h in omega (arith, first.counts h))
         (λ h some. let l = left_fewer first.theirs cells picture.frozen h in kept_mid h (omega arith))
 
+    next_then : word c next_word ≡ word a next_word
+    next_then = next_same b c g.frees.back_kept ∙ word-same a b next_word e.changes.middle_kept
+
     pub lost : (name : List ℕ) (T : ℕ) → killed (root_named picture.names name) T ≡ Some root → LosesNamed allocator old new picture is.held.index_blocks name T
     lost name T root_is = record {
       before = e.before;
@@ -207,11 +212,14 @@ module _ (allocator : ℕ) (old mid : Stored) (next : ℕ) (picture : Picture) (
       becomes = record {
         segment = record {
           held = held_then;
+          counted = counted_still a c (without_cells cells others) next_then
+              (counted_without (word a next_word) picture others e.before root behind owners (append_assoc e.before e.after (picture.uniques ++ picture.loose)) refl is.counted);
           table_is = same ∙ is.table_is;
           allocator_is = allocator_same b c g.frees.front_kept ∙ allocator_same a b e.changes.front_kept ∙ is.allocator_is;
         };
         length_kept = g.frees.length_kept ∙ e.changes.length_kept;
         front_kept = g.frees.front_kept ∙ e.changes.front_kept;
+        next_kept = next_then;
         kept = λ h some none.
             let n = times-append h (its ++ is.held.index_blocks) theirs in
             let m = times-append h its is.held.index_blocks in

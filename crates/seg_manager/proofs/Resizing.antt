@@ -6,7 +6,7 @@ use Rattle.std.proofs.lemmas.Bool.{cases_eq, cases_lt}
 use Rattle.std.proofs.lemmas.Bool.Decides.{nat_tests}
 use Rattle.std.proofs.lemmas.List.{length-take, length-drop, length-append, append_assoc, take_all, same_lists, places}
 use Rattle.seg_spec.specs.Bytes.{word, slice, put, IsSame, Agrees}
-use Rattle.seg_spec.specs.Header.{allocator_word, units_word, index_kind_word, free_word, index_cell, back_start, back_size, reserved, reserved_size, types_start, types_size, uniques_start, uniques_size, heap_start, min_length}
+use Rattle.seg_spec.specs.Header.{version_word, allocator_word, units_word, index_kind_word, free_word, next_word, index_cell, back_start, back_size, reserved, reserved_size, types_start, types_size, uniques_start, uniques_size, heap_start, min_length}
 use Rattle.seg_spec.specs.Types.{Table}
 use Rattle.seg_spec.specs.Heap.{Span, Tile, end_of, units_at, is_live_at, tag_at, link_at, tiles, Fill, IsHeap, live, gaps, without_end, after_extend, units_to_cut, Extends, Cuts}
 use Rattle.seg_spec.specs.Block.{IsOwnable, KeepsBlock, payload_size}
@@ -25,6 +25,7 @@ use Rattle.seg_value.specs.Stored.{Stored}
 use Rattle.seg_manager.specs.Segments.{IsSegment}
 use Rattle.seg_manager.specs.Sizes.{used_front, Grows, Shrinks}
 use Rattle.seg_manager.proofs.ZeroedGaps.{free_before}
+use Rattle.seg_manager.proofs.CountedObjects.{counted_still}
 
 -- ---- bytes at the front of longer ones
 
@@ -149,6 +150,12 @@ module _ (old new : List ℕ) (picture : Picture) (held : IsHeld old picture) (r
   pub allocator_then : word new allocator_word ≡ word old allocator_word
   allocator_then = word-same old new allocator_word (middle allocator_word 4 (omega arith) (omega arith))
 
+  version_then : word new version_word ≡ word old version_word
+  version_then = word-same old new version_word (low version_word 4 (omega arith))
+
+  pub next_then : word new next_word ≡ word old next_word
+  next_then = word-same old new next_word (high next_word 4 (omega arith) (omega arith))
+
   header : HasHeader new
   header =
       let o = held.laid_out.header in
@@ -158,11 +165,10 @@ module _ (old new : List ℕ) (picture : Picture) (held : IsHeld old picture) (r
         not_large = r.long.not_large;
         whole_units = r.long.whole_units;
         magic = low 0 8 (omega arith) ∙ o.magic;
-        version = word-same old new 8 (low 8 4 (omega arith)) ∙ o.version;
+        version = rw (version_then, next_then) o.version;
         units_are = r.units_is;
         allocator_is = rw allocator_then o.allocator_is;
         index_is = rw kind_then o.index_is;
-        zero_word = word-same old new back_start (high back_start 4 (omega arith) (omega arith)) ∙ o.zero_word;
         zeros = high reserved reserved_size (omega arith) (omega arith) ∙ o.zeros;
       }
 
@@ -175,7 +181,7 @@ module _ (old new : List ℕ) (picture : Picture) (held : IsHeld old picture) (r
           header = header;
           types = high types_start types_size (omega arith) (omega arith) ∙ l.types;
           is_table = l.is_table;
-          of_version = l.of_version;
+          of_version = rw version_then l.of_version;
           heap = rw allocator_then r.heap;
           blocks = ownable;
           names = ListsNames-kept old new picture.names held.index_blocks (middle index_kind_word 4 (omega arith) (omega arith)) (high index_cell 8 (omega arith) (omega arith))
@@ -271,7 +277,7 @@ module _ (allocator : ℕ) (old : Stored) (picture : Picture) (is : IsSegment al
       let b : new.window.bytes ≡ bytes = ap (λ (r : Placement). r.bytes) window ∙ same_bytes none in
       let units : extra / 16 ≡ 0 = omega arith in
       record {
-        segment = record { held = rw b is.held; table_is = types ∙ is.table_is; allocator_is = rw b is.allocator_is };
+        segment = record { held = rw b is.held; counted = rw b is.counted; table_is = types ∙ is.table_is; allocator_is = rw b is.allocator_is };
         length_is = ap length b ∙ omega arith;
         live_is = ap (λ x. live x) b ∙ none_extended (live bytes) (length bytes) ∙ ap (after_extend (live bytes) (length bytes)) (sym units);
         kept = λ h some. rw b (record { live = refl; has_tag = refl; room = omega arith; payload = refl });
@@ -305,6 +311,7 @@ module _ (allocator : ℕ) (old : Stored) (picture : Picture) (is : IsSegment al
         record {
           segment = record {
             held = resized_held bytes new.bytes picture is.held r;
+            counted = counted_still bytes new.bytes picture (next_then bytes new.bytes picture is.held r) is.counted;
             table_is = types_are ∙ is.table_is;
             allocator_is = allocator_then bytes new.bytes picture is.held r ∙ is.allocator_is;
           };
@@ -417,6 +424,7 @@ module _ (allocator : ℕ) (old new : Stored) (picture : Picture) (is : IsSegmen
   shrunk_to result result_is = record {
     segment = record {
       held = resized_held old.window.bytes new.window.bytes picture is.held resized_cut;
+      counted = counted_still old.window.bytes new.window.bytes picture (next_then old.window.bytes new.window.bytes picture is.held resized_cut) is.counted;
       table_is = types_are ∙ is.table_is;
       allocator_is = allocator_then old.window.bytes new.window.bytes picture is.held resized_cut ∙ is.allocator_is;
     };

@@ -4,7 +4,7 @@ use Rattle.std.proofs.lemmas.Bool.{cases_lt}
 use Rattle.std.proofs.lemmas.Bool.Decides.{nat_tests}
 use Rattle.std.proofs.lemmas.List.{take-append-drop, take_all}
 use Rattle.seg_spec.specs.Bytes.{word, IsSame, ChangesOnly}
-use Rattle.seg_spec.specs.Header.{allocator_word, types_start, types_size, uniques_start, heap_start}
+use Rattle.seg_spec.specs.Header.{version_word, allocator_word, next_word, types_start, types_size, uniques_start, heap_start}
 use Rattle.seg_spec.specs.Types.{AreOfVersion, Table, IsTable, HasTable, Agree, longer}
 use Rattle.seg_spec.specs.Sound.{Picture, IsHeld}
 use Rattle.seg_spec.proofs.Frame.{word-same}
@@ -13,6 +13,7 @@ use Rattle.seg_spec.specs.Window.{Placement}
 use Rattle.seg_value.specs.Stored.{Stored}
 use Rattle.seg_manager.specs.Segments.{IsSegment, AddsTypes}
 use Rattle.seg_spec.proofs.AddTypes.{types_added, heap_same}
+use Rattle.seg_manager.proofs.CountedObjects.{counted_still}
 
 -- the longer one goes on where the other ends
 record GoesOn (old new : Table) : Type 0 where
@@ -38,31 +39,35 @@ longer_valid old new a b = go (leb (length new) (length old))
     go true = a
     go false = b
 
-longer_of : (old new : Table) → AreOfVersion 1 old → AreOfVersion 1 new → AreOfVersion 1 (longer old new)
-longer_of old new a b = go (leb (length new) (length old))
+longer_of : (version : ℕ) (old new : Table) → AreOfVersion version old → AreOfVersion version new → AreOfVersion version (longer old new)
+longer_of version old new a b = go (leb (length new) (length old))
   where
-    go : (t : Rattle.std.proofs.Common.Bool) → AreOfVersion 1 (cond t old new)
+    go : (t : Rattle.std.proofs.Common.Bool) → AreOfVersion version (cond t old new)
     go true = a
     go false = b
 
-pub adds_types : (allocator : ℕ) (old new : Stored) (picture : Picture) (more : Table) → IsSegment allocator old picture → Agree old.types more → IsTable old.types → IsTable more → AreOfVersion 1 more → new.types ≡ longer old.types more
-    → ChangesOnly old.window.bytes new.window.bytes types_start types_size → HasTable new.window.bytes types_start (longer old.types more) → AddsTypes allocator old new picture more
+pub adds_types : (allocator : ℕ) (old new : Stored) (picture : Picture) (more : Table) → IsSegment allocator old picture → Agree old.types more → IsTable old.types → IsTable more
+    → AreOfVersion (word old.window.bytes version_word) more → new.types ≡ longer old.types more → ChangesOnly old.window.bytes new.window.bytes types_start types_size → HasTable new.window.bytes types_start (longer old.types more) → AddsTypes allocator old new picture more
 adds_types allocator old new picture more is agree valid valid_more of_version types_are changes has =
     let a = old.window.bytes in
     let b = new.window.bytes in
     let g = goes_on old.types more agree in
     let l = is.held.laid_out in
     let long = l.header.not_small in
+    let version = word a version_word in
     let low : IsSame a b 0 types_start = changes.others 0 types_start (inl (omega arith)) in
     let high : IsSame a b uniques_start (length a - uniques_start) = changes.others uniques_start (length a - uniques_start) (inr (omega arith)) in
     let root : IsSame a b 24 4 = changes.others 24 4 (inl (omega arith)) in
     let in_heap : IsSame a b heap_start (length a - heap_start) = changes.others heap_start (length a - heap_start) (inr (omega arith)) in
     let same : longer old.types more ≡ picture.table ++ g.rest = g.is ∙ ap (λ t. t ++ g.rest) is.table_is in
     let held = types_added a b picture g.rest is.held changes.length_kept low high (subst (HasTable b types_start) same has) (subst IsTable same (longer_valid old.types more valid valid_more))
-    (subst (AreOfVersion 1) same (longer_of old.types more (subst (AreOfVersion 1) (sym is.table_is) l.of_version) of_version)) in
+    (subst (AreOfVersion version) same (longer_of version old.types more (subst (AreOfVersion version) (sym is.table_is) l.of_version) of_version)) in
+    let next_kept = word-same a b next_word (changes.others next_word 4 (inl (omega arith))) in
+    let c = counted_still a b picture next_kept is.counted in
     record {
       segment = record {
         held = subst (λ t. IsHeld b (record picture { table = t })) (sym same) held;
+        counted = record { counted = c.counted; falling = c.falling };
         table_is = types_are;
         allocator_is = word-same a b allocator_word (changes.others allocator_word 4 (inl (omega arith))) ∙ is.allocator_is;
       };
@@ -72,7 +77,7 @@ adds_types allocator old new picture more is agree valid valid_more of_version t
 
 -- the same from what the steps of the call leave
 pub adds_by : (allocator : ℕ) (old new : Stored) (picture : Picture) (more mine then_types : Table) (from to : Placement) → IsSegment allocator old picture → from ≡ old.window → new.window ≡ to → new.types ≡ then_types → mine ≡ old.types
-    → then_types ≡ longer mine more → Agree mine more → IsTable mine → IsTable more → AreOfVersion 1 more → (IsTable then_types → ChangesOnly from.bytes to.bytes types_start types_size)
+    → then_types ≡ longer mine more → Agree mine more → IsTable mine → IsTable more → AreOfVersion (word old.window.bytes version_word) more → (IsTable then_types → ChangesOnly from.bytes to.bytes types_start types_size)
     → (IsTable then_types → types_start + types_size ≤ length from.bytes → HasTable to.bytes types_start then_types) → AddsTypes allocator old new picture more
 adds_by allocator old new picture more mine then_types from to is from_is to_is types_are mine_is then_is agree valid valid_more of_version changes table =
     let bytes_from : from.bytes ≡ old.window.bytes = ap (λ (p : Placement). p.bytes) from_is in

@@ -2,7 +2,7 @@
 use Rattle.std.proofs.Common.{◌≡◌, ◌≢◌, ℕ, ◌+◌, ◌*◌, ◌<◌, ◌≤◌, ◌^◌, List, [], ◌∷◌, ◌++◌, length, Option, Some, None, option_map, refl, sym, ap, ◌∙◌, subst, append_assoc, arith}
 use Rattle.std.specs.List.{AllByRecursion}
 use Rattle.seg_spec.specs.Bytes.{word, ChangesOnly}
-use Rattle.seg_spec.specs.Header.{allocator_word, free_word, heap_start}
+use Rattle.seg_spec.specs.Header.{allocator_word, next_word, free_word, heap_start}
 use Rattle.seg_spec.specs.Pointer.{target, set_pointer}
 use Rattle.seg_spec.specs.Types.{IsTable}
 use Rattle.seg_spec.specs.Value.{Value}
@@ -10,12 +10,12 @@ use Rattle.seg_spec.specs.Heap.{live, IsHeap}
 use Rattle.seg_spec.specs.Block.{KeepsBlock, block_of}
 use Rattle.seg_spec.specs.Index.{Root, unique_word, position_of}
 use Rattle.seg_spec.specs.Sound.{Picture, HoldsRoot, IsHeld, times, positions, IsPlain}
-use Rattle.seg_spec.specs.Roots.{loose, with_roots}
+use Rattle.seg_spec.specs.Roots.{loose, by_type, with_roots}
 use Rattle.seg_spec.specs.Calls.{IsLoose}
 use Rattle.seg_spec.specs.Demand.{after_gives}
 use Rattle.seg_spec.specs.Frozen.{blocks_by}
 use Rattle.seg_spec.specs.Shared.{names_each, named_in, left, freed}
-use Rattle.seg_spec.specs.Counting.{owners_in, AreCounted}
+use Rattle.seg_spec.specs.Counting.{owners_in}
 use Rattle.seg_spec.specs.Destroying.{HoldFrozen, Destroys}
 use Rattle.seg_spec.specs.Clearing.{BesideShared}
 use Rattle.seg_spec.proofs.FrozenBlocks.{hold_kept, frozen_twice, frozen_kept, left_fewer}
@@ -30,9 +30,11 @@ use Rattle.seg_manager.specs.Segments.{IsSegment, Becomes, new_root, MakesLoose,
 use Rattle.seg_spec.proofs.LooseRoots.{its, holds_its, its_live}
 use Rattle.seg_manager.proofs.LooseObjects.{lost, lost_owned}
 use Rattle.seg_spec.proofs.UniqueLaws.{position_root, none_root, unique_of, between}
-use Rattle.seg_manager.proofs.UniqueWords.{word_changes, word_written, word_live, word_kept, above_kept, word_allocator, unique_joined, unique_left}
+use Rattle.seg_manager.proofs.UniqueWords.{word_changes, word_written, word_live, word_kept, above_kept, word_allocator, word_next, unique_joined, unique_left}
 use Rattle.seg_spec.proofs.PlainRoots.{plain_of}
 use Rattle.seg_spec.proofs.Frame.{each_right}
+use Rattle.seg_manager.proofs.DefaultNames.{defaults_none}
+use Rattle.seg_manager.proofs.CountedObjects.{counted_still, counted_with}
 
 -- what the word of a type names
 pub names_unique : (allocator : ℕ) (s : Stored) (picture : Picture) (T : ℕ) → IsSegment allocator s picture → T < 32 → target s.window.bytes (unique_word T) ≡ unique_at picture T
@@ -97,6 +99,11 @@ module _ (allocator : ℕ) (old mid new : Stored) (picture : Picture) (is : IsSe
       let b = between 0 T picture.uniques (omega arith) less is.held.laid_out.uniques.rising no_position in
       let held = unique_joined mid.window.bytes new.window.bytes with_loose joins.segment.held T less changes b.before b.after root picture.loose b.parts refl refl (b.rising root refl) word_is in
       let same_live : live new.window.bytes ≡ live mid.window.bytes = word_live mid.window.bytes new.window.bytes with_loose joins.segment.held T less changes in
+      let next_kept = word_next mid.window.bytes new.window.bytes with_loose joins.segment.held T less changes ∙ joins.next_kept in
+      let with_it = with_roots picture by_type (b.before ++ root ∷ b.after) in
+      let front = picture.names ++ b.before in
+      let owners : owners_in picture ≡ front ++ (b.after ++ picture.loose) = ap (λ us. picture.names ++ (us ++ picture.loose)) b.parts ∙ simp append_assoc in
+      let counted = counted_with (word old.window.bytes next_word) picture with_it front root (b.after ++ picture.loose) owners (simp append_assoc) (defaults_none 1 old.types T) refl is.counted in
       record {
         none = none_root picture.uniques T no_position;
         spends = makes.spends ∙ ap Some (sym same_live);
@@ -106,11 +113,13 @@ module _ (allocator : ℕ) (old mid new : Stored) (picture : Picture) (is : IsSe
         becomes = record {
           segment = record {
             held = held;
+            counted = counted_still old.window.bytes new.window.bytes with_it next_kept counted;
             table_is = types_are ∙ joins.segment.table_is;
             allocator_is = word_allocator mid.window.bytes new.window.bytes with_loose joins.segment.held T less changes ∙ joins.segment.allocator_is;
           };
           length_kept = changes.length_kept ∙ joins.length_kept;
           front_kept = changes.others 0 free_word (Rattle.std.proofs.Common.inl (omega arith)) ∙ joins.front_kept;
+          next_kept = next_kept;
           kept = λ h some no. kept_twice old.window.bytes mid.window.bytes new.window.bytes h (joins.kept h some no)
               (above_kept mid.window.bytes new.window.bytes with_loose joins.segment.held T less changes h (above allocator old picture is h some));
         };
@@ -121,7 +130,7 @@ module _ (allocator : ℕ) (old mid new : Stored) (picture : Picture) (is : IsSe
 back : (old new : List ℕ) (at n : ℕ) → ChangesOnly old new at n → ChangesOnly new old at n
 back old new at n c = record { length_kept = sym c.length_kept; others = λ p m o. sym (c.others p m o) }
 
-module _ (allocator : ℕ) (old mid new : Stored) (next : ℕ) (picture : Picture) (is : IsSegment allocator old picture) (counted : AreCounted next picture) (T at : ℕ) (less : T < 32) (named : target old.window.bytes (unique_word T) ≡ Some at)
+module _ (allocator : ℕ) (old mid new : Stored) (picture : Picture) (is : IsSegment allocator old picture) (T at : ℕ) (less : T < 32) (named : target old.window.bytes (unique_word T) ≡ Some at)
     (bytes_are : mid.window.bytes ≡ set_pointer old.window.bytes (unique_word T) None) (types_are : mid.types ≡ old.types) (types_then : new.types ≡ mid.types)
     (leaves : (U : ℕ) (v : Value) (inside : List ℕ) → IsTable mid.types → IsHeap allocator mid.window.bytes → IsLoose mid.window.bytes mid.types (record { at = at; type = U }) v inside
     → BesideShared mid.window.bytes mid.types (block_of at ∷ inside) (named_in v)
@@ -155,19 +164,20 @@ module _ (allocator : ℕ) (old mid new : Stored) (next : ℕ) (picture : Pictur
       let destroys : LeavesIt u.root.at = subst LeavesIt (sym u.at_is) leaves in
       let without = record picture { uniques = u.before ++ u.after; loose = u.root ∷ picture.loose } in
       let held : IsHeld b without = unique_left a b picture is.held T less changes' u.before u.root u.after u.parts u.type_is word_is' in
-      let is_then : IsSegment allocator mid without = record {
-        held = held;
-        table_is = types_are ∙ is.table_is;
-        allocator_is = word_allocator a b picture is.held T less changes' ∙ is.allocator_is;
-      } in
       let names = picture.names in
       let owners : owners_in picture ≡ (names ++ u.before) ++ u.root ∷ (u.after ++ picture.loose) = ap (λ us. names ++ (us ++ picture.loose)) u.parts ∙ simp append_assoc in
       let owners_then : owners_in without ≡ (names ++ (u.before ++ u.after)) ++ u.root ∷ picture.loose = simp append_assoc in
       let others : (names ++ u.before) ++ (u.after ++ picture.loose) ≡ (names ++ (u.before ++ u.after)) ++ picture.loose = simp append_assoc in
-      let counted_then : AreCounted next without =
-      counted_elsewhere next picture without (names ++ u.before) (u.after ++ picture.loose) (names ++ (u.before ++ u.after)) picture.loose u.root owners owners_then others refl counted in
-      let l = lost allocator mid new next without is_then counted_then [] u.root picture.loose refl types_then destroys in
-      let owned = lost_owned allocator mid new next without is_then counted_then [] u.root picture.loose refl types_then destroys in
+      let next_mid : word b next_word ≡ word a next_word = word_next a b picture is.held T less changes' in
+      let is_then : IsSegment allocator mid without = record {
+        held = held;
+        counted = counted_still a b without next_mid
+            (counted_elsewhere (word a next_word) picture without (names ++ u.before) (u.after ++ picture.loose) (names ++ (u.before ++ u.after)) picture.loose u.root owners owners_then others refl is.counted);
+        table_is = types_are ∙ is.table_is;
+        allocator_is = word_allocator a b picture is.held T less changes' ∙ is.allocator_is;
+      } in
+      let l = lost allocator mid new without is_then [] u.root picture.loose refl types_then destroys in
+      let owned = lost_owned allocator mid new without is_then [] u.root picture.loose refl types_then destroys in
       let same_live : live b ≡ live a = word_live a b picture is.held T less changes' in
       let valid : IsTable old.types = rw is.table_is is.held.laid_out.is_table in
       let stays : (h : ℕ) → 1 ≤ times h (positions (live b)) → KeepsBlock b a h = λ h some. above_kept b a without held T less (back a b (unique_word T) 4 changes') h (above allocator mid without is_then h some) in
@@ -191,6 +201,7 @@ module _ (allocator : ℕ) (old mid new : Stored) (next : ℕ) (picture : Pictur
             segment = l.becomes.segment;
             length_kept = l.becomes.length_kept ∙ changes'.length_kept;
             front_kept = l.becomes.front_kept ∙ changes'.others 0 free_word (Rattle.std.proofs.Common.inl (omega arith));
+            next_kept = l.becomes.next_kept ∙ next_mid;
             kept = λ h some none. kept_twice a b new.window.bytes h (keeps h some) (l.becomes.kept h (subst (λ bs. 1 ≤ times h (positions bs)) (sym same_live) some) none);
           };
           shared_kept = frozen_twice a b new.window.bytes l.theirs rest (frozen_kept allocator a b heap' l.theirs rest lives (λ h some. keeps h (lives h some))) l.shared_kept;

@@ -4,9 +4,9 @@ use Rattle.std.proofs.lemmas.Bool.{cases_lt}
 use Rattle.std.proofs.lemmas.List.{append_assoc}
 use Rattle.std.specs.List.{AllByRecursion}
 use Rattle.seg_spec.specs.Bytes.{word, IsSame, ChangesOnly}
-use Rattle.seg_spec.specs.Header.{allocator_word, index_kind_word, index_cell, types_start, types_size, uniques_start, heap_start}
+use Rattle.seg_spec.specs.Header.{version_word, allocator_word, index_kind_word, next_word, index_cell, types_start, types_size, uniques_start, heap_start}
 use Rattle.seg_spec.specs.Pointer.{target, set_pointer, distance}
-use Rattle.seg_spec.specs.Types.{Table}
+use Rattle.seg_spec.specs.Types.{Table, AreOfVersion}
 use Rattle.seg_spec.specs.Heap.{live, IsHeap}
 use Rattle.seg_spec.specs.Block.{KeepsBlock, payload_size}
 use Rattle.seg_spec.specs.Index.{Root, unique_word, ListsUniques, AreRising}
@@ -68,6 +68,9 @@ module _ (old new : List ℕ) (picture : Picture) (held : IsHeld old picture) (T
   pub word_allocator : word new allocator_word ≡ word old allocator_word
   word_allocator = word-same old new allocator_word (low_same allocator_word 4 (omega arith))
 
+  pub word_next : word new next_word ≡ word old next_word
+  word_next = word-same old new next_word (low_same next_word 4 (omega arith))
+
   all_counts : (h : ℕ) → times h (positions (live old)) ≡ times h held.index_blocks + times h held.root_blocks
   all_counts h = held.owners h ∙ times-append h held.index_blocks held.root_blocks
 
@@ -88,7 +91,7 @@ module _ (old new : List ℕ) (picture : Picture) (held : IsHeld old picture) (T
         header = header_same old new changes.length_kept (low_same 0 64 (omega arith)) l.header;
         types = low_same types_start types_size (omega arith) ∙ l.types;
         is_table = l.is_table;
-        of_version = l.of_version;
+        of_version = subst (λ n. AreOfVersion n picture.table) (sym (word-same old new version_word (low_same version_word 4 (omega arith)))) l.of_version;
         heap = rw word_allocator word_heap;
         blocks = header_ownable allocator old new (unique_word T) 4 heap changes fits after_root picture.table l.blocks;
         names = ListsNames-kept old new picture.names held.index_blocks (low_same index_kind_word 4 (omega arith)) (low_same index_cell 8 (omega arith)) index_kept l.names;

@@ -24,6 +24,7 @@ use Rattle.seg_manager.specs.Gaps.{spare_start, spare_size, IsZeroed, LiesBeside
 use Rattle.seg_manager.specs.Segments.{IsSegment}
 use Rattle.seg_spec.proofs.LooseRoots.{each_joined}
 use Rattle.seg_manager.proofs.LooseObjects.{allocator_same}
+use Rattle.seg_manager.proofs.CountedObjects.{next_same, counted_still}
 use Rattle.seg_manager.proofs.KeptOrder.{KeepsOrder, order_live, order_heap}
 use Rattle.seg_manager.proofs.TileWalk.{Rest, Reads, reads_tile}
 
@@ -329,9 +330,11 @@ zeroes allocator old new picture is types z =
     let heap = is.held.laid_out.heap in
     let z' : AllZeroed (word old.window.bytes allocator_word) old.window.bytes new.window.bytes = rw is.allocator_is z in
     let front = low_same (word old.window.bytes allocator_word) old.window.bytes new.window.bytes heap few z' 0 free_word (omega arith) in
+    let back = low_same (word old.window.bytes allocator_word) old.window.bytes new.window.bytes heap few z' back_start back_size (omega arith) in
     record {
       segment = record {
         held = picture_same old.window.bytes new.window.bytes picture is.held few z';
+        counted = counted_still old.window.bytes new.window.bytes picture (next_same old.window.bytes new.window.bytes back) is.counted;
         table_is = types ∙ is.table_is;
         allocator_is = allocator_same old.window.bytes new.window.bytes front ∙ is.allocator_is;
       };

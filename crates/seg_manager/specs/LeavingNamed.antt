@@ -33,9 +33,9 @@ pub record IsUnlisted (allocator : ℕ) (bytes : List ℕ) (table : Table) (root
   pub no_words : root.words ≡ []
   pub owned : (h : ℕ) → times h blocks ≤ times h (positions (live bytes))
 
--- the object of the name and type goes, with its blocks, those that went with its entry, and the frozen
--- objects that it named last, with theirs; the others are where they were, and each live block that
--- isn't the index's is kept, but for the counts of the objects that are left
+-- the object of the name and type goes, with its blocks, those that went with its entry, and the
+-- frozen objects that it named last, with theirs; the others are where they were, and each live block
+-- that isn't the index's is kept, but for the counts of the objects that are left
 pub record LosesNamed (allocator : ℕ) (old new : Stored) (picture : Picture)
     (index_blocks name : List ℕ) (T : ℕ) : Type 0 where
   pub before : List Root

@@ -44,12 +44,13 @@ pub record IsSegment (allocator : ℕ) (s : Stored) (picture : Picture) : Type 0
   pub allocator_is : word s.window.bytes allocator_word ≡ allocator
 
 -- the segment has another picture now, and each live block that isn't among those that are gone is
--- kept where it was
+-- kept where it was; so is the next number
 pub record Becomes (allocator : ℕ) (old new : Stored) (other : Picture)
     (gone : List ℕ) : Type 0 where
   pub segment : IsSegment allocator new other
   pub length_kept : length new.window.bytes ≡ length old.window.bytes
   pub front_kept : KeepsFront old.window.bytes new.window.bytes
+  pub next_kept : word new.window.bytes next_word ≡ word old.window.bytes next_word
   pub kept : (h : ℕ) → 1 ≤ times h (positions (live old.window.bytes)) → times h gone ≡ 0 →
       KeepsBlock old.window.bytes new.window.bytes h
 
@@ -98,8 +99,8 @@ pub record MakesLoose (allocator : ℕ) (old new : Stored) (picture : Picture)
       Becomes allocator old new
       (with_roots picture Listed.loose (before ++ new_root old.types [] T 1 at ∷ after)) []
 
--- the root goes, with its blocks, and the frozen objects that it named last, with theirs; the picture is
--- the other one, with what is left of those objects
+-- the root goes, with its blocks, and the frozen objects that it named last, with theirs; the picture
+-- is the other one, with what is left of those objects
 pub record LosesRoot (allocator : ℕ) (old new : Stored) (root : Root) (other : Picture) :
     Type 0 where
   pub blocks : List ℕ

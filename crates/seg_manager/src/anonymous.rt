@@ -1,9 +1,8 @@
-ghost use Rattle.std.specs.Prelude.{◌≡◌, ℕ, ◌<◌, List, ◌∷◌, ◌++◌, length, IsOkUnless, MatchResult};
+ghost use Rattle.std.specs.Prelude.{◌≡◌, ◌<◌, List, ◌∷◌, ◌++◌, length, IsOkUnless, MatchResult};
 ghost use Rattle.seg_spec.specs.Window.{KeepsHost};
 ghost use Rattle.seg_spec.specs.Index.{Root};
 ghost use Rattle.seg_spec.specs.Sound.{Picture};
 ghost use Rattle.seg_spec.specs.Calls.{Refuses};
-ghost use Rattle.seg_spec.specs.Counting.{AreCounted};
 ghost use Rattle.seg_manager.specs.Segments.{IsSegment, one_value, MakesLoose, LosesLoose};
 
 use crate::segment::Segment;
@@ -35,9 +34,9 @@ impl<F: Fit, A: Allocator> Segment<F, A> {
     pub fn destroy_anonymous(&mut self, object: u32)
         ensures window { KeepsHost self.old.window self.new.window }
         ensures types { self.new.types ≡ self.old.types }
-        ensures loses { (next : ℕ) (picture : Picture) (before : List Root) (root : Root)
+        ensures loses { (picture : Picture) (before : List Root) (root : Root)
             (after : List Root) → IsSegment F.allocator self.old picture →
-            AreCounted next picture → picture.loose ≡ before ++ root ∷ after → root.at ≡ object →
+            picture.loose ≡ before ++ root ∷ after → root.at ≡ object →
             LosesLoose F.allocator self.old self.new picture before root after }
     {
         self.heap_mut().destroy(object);

@@ -2,7 +2,6 @@ ghost use Rattle.std.specs.Prelude.{◌≡◌, ◌+◌, ◌*◌, ◌%◌, ◌^�
 ghost use Rattle.seg_spec.specs.Bytes.{ChangesOnly};
 ghost use Rattle.seg_spec.specs.Calls.{Refuses};
 ghost use Rattle.seg_spec.specs.Clearing.{BesideShared};
-ghost use Rattle.seg_spec.specs.Counting.{AreCounted};
 ghost use Rattle.seg_spec.specs.Destroying.{Destroys};
 ghost use Rattle.seg_spec.specs.Frozen.{blocks_by};
 ghost use Rattle.seg_spec.specs.Heap.{IsHeap};
@@ -248,10 +247,9 @@ impl<F: Fit, A: Allocator> Segment<F, A> {
         ensures types { self.new.types ≡ self.old.types }
         ensures tells { (picture : Picture) → IsSegment F.allocator self.old picture →
             result ≡ is_ok (found_as t (root_named picture.names name.now)) }
-        ensures loses { (next : ℕ) (picture : Picture) →
-            (s : IsSegment F.allocator self.old picture) → AreCounted next picture →
-            IsTrue result → LosesNamed F.allocator self.old self.new picture s.held.index_blocks
-            name.now t }
+        ensures loses { (picture : Picture) → (s : IsSegment F.allocator self.old picture) →
+            IsTrue result →
+            LosesNamed F.allocator self.old self.new picture s.held.index_blocks name.now t }
         ensures unchanged { result ≡ false → self.new ≡ self.old }
     {
         let Ok(occupied) = look_up(self.heap(), name) else {

@@ -1,7 +1,7 @@
 ghost use Rattle.std.specs.Prelude.{◌≡◌, ℕ, ◌+◌, ◌≤◌, ◌↔◌, ◌⊎◌, [], length, IsTrue, IsOk, IfOk, IfErr, OnOk, OnErr};
 ghost use Rattle.seg_spec.specs.Bytes.{word, ChangesOnly};
 ghost use Rattle.seg_spec.specs.Faulty.{IsImageLength};
-ghost use Rattle.seg_spec.specs.Header.{allocator_word, index_kind_word, types_start, types_size};
+ghost use Rattle.seg_spec.specs.Header.{version_word, allocator_word, index_kind_word, types_start, types_size};
 ghost use Rattle.seg_spec.specs.Heap.{live};
 ghost use Rattle.seg_spec.specs.Sound.{Picture, IsHeld};
 ghost use Rattle.seg_spec.specs.Types.{AreOfVersion, IsTable, HasTable, Agree, IsFirstDifference, longer};
@@ -114,7 +114,8 @@ impl<F: Fit, A: Allocator> Segment<F, A> {
         ensures agree { IsOk result ↔ Agree self.old.types types.now }
         ensures types { OnOk result (self.new.types ≡ longer self.old.types types.now) }
         ensures adds { OnOk result ((picture : Picture) →
-            IsSegment F.allocator self.old picture → AreOfVersion 1 types.now →
+            IsSegment F.allocator self.old picture →
+            AreOfVersion (word self.old.window.bytes version_word) types.now →
             AddsTypes F.allocator self.old self.new picture types.now) }
         ensures differs { IfErr result (λ fault. (k : ℕ) × (fault ≡ Fault.TypeMismatch k)
             × IsFirstDifference self.old.types types.now k) }

@@ -1,6 +1,5 @@
-ghost use Rattle.std.specs.Prelude.{◌≡◌, ℕ, ◌<◌, false, length, IsTrue, MatchResult, Some, None};
+ghost use Rattle.std.specs.Prelude.{◌≡◌, ◌<◌, false, length, IsTrue, MatchResult, Some, None};
 ghost use Rattle.seg_spec.specs.Window.{KeepsHost};
-ghost use Rattle.seg_spec.specs.Counting.{AreCounted};
 ghost use Rattle.seg_spec.specs.Sound.{Picture};
 ghost use Rattle.seg_manager.specs.Segments.{IsSegment, unique_at, MakesUnique, FindsOrMakes, RefusesUnique, LosesUnique};
 
@@ -60,8 +59,8 @@ impl<F: Fit, A: Allocator> Segment<F, A> {
     pub fn destroy_unique(&mut self, t: TypeId) -> bool
         ensures window { KeepsHost self.old.window self.new.window }
         ensures types { self.new.types ≡ self.old.types }
-        ensures loses { (next : ℕ) (picture : Picture) → IsSegment F.allocator self.old picture →
-            AreCounted next picture → t < MAX_TYPES → IsTrue result →
+        ensures loses { (picture : Picture) → IsSegment F.allocator self.old picture →
+            t < MAX_TYPES → IsTrue result →
             LosesUnique F.allocator self.old self.new picture t }
         ensures none { (picture : Picture) → IsSegment F.allocator self.old picture →
             t < MAX_TYPES → result ≡ false → unique_at picture t ≡ None }

@@ -42,7 +42,7 @@ returns-in-Ok-clause-makes g c = λ picture s known is_name len some vacant.
     let e = enters picture.names s.held.index_blocks (finds_mid allocator old mid picture s.held s.allocator_is name T n object given known' is_name some few) (new_root table name T n object)
     (may_enter allocator old mid picture s.held s.allocator_is name T n object given known' is_name some few) (refl, count-copies n (default_of table T), sym len)
     (vacant_mid allocator old mid picture s.held s.allocator_is name T n object given known' is_name some few c.args.vacant vacant') in
-    made allocator old mid picture s.held s.allocator_is name T n object given known' is_name some few new e c.args.self.now c.insert.new.heap refl s.table_is refl
+    made allocator old mid picture s.held s.allocator_is name T n object given known' is_name some few new e s.counted c.args.self.now c.insert.new.heap refl s.table_is refl
     (c.insert.ensures.types ∙ ap (λ (h : Stored). h.types) c.heap_mut.ensures.value ∙ c.new_named.ensures.types)
 
 pub returns-in_err-object-clause-makes : goal.returns-in_err-object-clause-makes
@@ -87,5 +87,5 @@ returns-in-Err-clause-makes g c = λ picture s known is_name len some vacant.
     let gives = freed given.heap (is_live_mid allocator old mid picture s.held s.allocator_is name T n object given known' is_name some few) in
     let refused : Refuses allocator mid mid (entry_asks (word mid index_kind_word) mid) = record { no_room = r.no_room; same = refl } in
     returned allocator old mid picture s.held s.allocator_is name T n object given known' is_name some few refused c.free_block.new.self.window.bytes gives
-    c.args.self.now c.free_block.new.self refl s.table_is refl
+    s.counted c.args.self.now c.free_block.new.self refl s.table_is refl
     (c.free_block.ensures.types ∙ ap (λ (h : Stored). h.types) c.heap_mut-in-Err.ensures.value ∙ c.insert.ensures.types ∙ ap (λ (h : Stored). h.types) c.heap_mut.ensures.value ∙ c.new_named.ensures.types)

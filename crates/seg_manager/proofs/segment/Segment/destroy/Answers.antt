@@ -36,7 +36,7 @@ returns-clause-tells g c = λ picture is.
     sym (ap is_ok c.in-Ok-found.is) ∙ ap is_ok found ∙ sym (ap (λ o. is_ok (found_as c.args.t o)) it.1.found)
 
 pub returns-clause-loses : goal.returns-clause-loses
-returns-clause-loses g c = λ next picture is counted done.
+returns-clause-loses g c = λ picture is done.
     let a = g.F.Fit.allocator in
     let old = c.args.self.now in
     let mid = c.remove.new.heap in
@@ -60,7 +60,7 @@ returns-clause-loses g c = λ next picture is counted done.
     → BesideShared mid.window.bytes t blocks (named_each root.values) (λ theirs now. Destroys a mid.window.bytes new.window.bytes t (blocks ++ blocks_by theirs now) theirs) in
     let destroys = subst Leaves (mid_types ∙ is.table_is) c.destroy_named.ensures.frees in
     let gone = names_each root.values in
-    let o = first a old mid next picture is counted root e in
-    let g = destroys root o.apart.firsts (unlisted a old mid next picture is counted root e) says.found_is says.type_is o.theirs (cells_in (e.before ++ (e.after ++ (picture.uniques ++ picture.loose)))) picture.frozen
-    (left gone picture.frozen) (beside a old mid next picture is counted root e) in
-    lost a old mid next picture is counted root e new (c.destroy_named.ensures.types ∙ mid_types) g name T (ap (λ o. killed o T) it.1.found ∙ says.is_killed)
+    let o = first a old mid picture is root e in
+    let g = destroys root o.apart.firsts (unlisted a old mid picture is root e) says.found_is says.type_is o.theirs (cells_in (e.before ++ (e.after ++ (picture.uniques ++ picture.loose)))) picture.frozen
+    (left gone picture.frozen) (beside a old mid picture is root e) in
+    lost a old mid picture is root e new (c.destroy_named.ensures.types ∙ mid_types) g name T (ap (λ o. killed o T) it.1.found ∙ says.is_killed)
