@@ -2,15 +2,13 @@
 use Rattle.std.proofs.Common.{◌≡◌, ◌⊎◌, ℕ, List, [], ◌∷◌, ◌++◌, Bool, true, false, Some, refl, sym, ◌∙◌, ap, subst, arith, inl, inr, Option}
 use Rattle.std.specs.Prelude.{if◌then◌else◌}
 use Rattle.std.proofs.lemmas.List.{length-map}
-use Rattle.seg_spec.specs.Header.{allocator_word, free_word}
+use Rattle.seg_spec.specs.Header.{allocator_word, free_word, KeepsFront}
 use Rattle.seg_spec.specs.Types.{Table}
 use Rattle.seg_spec.specs.Value.{Value, Selector}
 use Rattle.seg_spec.specs.Value as values
-use Rattle.seg_spec.specs.Heap.{Span}
 use Rattle.seg_spec.specs.Apart.{GoesOnAfter}
 use Rattle.seg_spec.specs.Index.{Root}
 use Rattle.seg_spec.specs.Reads.{Place}
-use Rattle.seg_spec.specs.Roots.{ChangesPlace}
 use Rattle.seg_spec.proofs.SliceLaws.{IsSame-part}
 use Rattle.seg_spec.proofs.Frame.{word-same}
 use Rattle.seg_spec.proofs.PathsAfter.{not_after_itself}
@@ -27,21 +25,15 @@ use Rattle.client_spec.proofs.Changes.{agrees_put_others}
 use Rattle.client_spec.proofs.Puts.{put_types, put_register, put_at_is, leads_here}
 use Rattle.client_sim.specs.Writes.{Took}
 use Rattle.client_sim.specs.Shows.{World, place_in, Shown, Shows}
-use Rattle.client_sim.proofs.Placed.{PlacePut, place_put}
+use Rattle.client_sim.proofs.Placed.{PlacePut}
 use Rattle.client_sim.proofs.Led.{Led}
 use Rattle.client_sim.proofs.LeafPuts.{with_image, origin_streams}
 
 module _ {others : List Root} {types : Table} {constants : List Constant} (one : OneEach constants) {first : Option (List ℕ)} {allocator : ℕ} {ks : RegisterTypes} {s : State} {w : World}
     (h : Shows others types constants first allocator ks s w) (b : ℕ) (class : Class) (T : ℕ) (is : known ks b ≡ RegisterType.Reference class T) (l : Led h b class T) (v : Value) (fits : HasShape s.types T v)
-    (new : List ℕ) (blocks : List ℕ) {spans : List Span} (c : ChangesPlace w.image new w.table (place_in w b) v blocks spans l.found.blocks blocks) where
+    (new : List ℕ) (put : PlacePut h.pictured l.in_image l.value (put_at s l.path v) new) (front_kept : KeepsFront w.image new) where
   abbrev state_then : State
   state_then = put_at s l.path v
-
-  on_table : w.table ≡ h.pictured.picture.table
-  on_table = h.table_is ∙ sym h.pictured.types
-
-  put : PlacePut h.pictured l.in_image l.value state_then new
-  put = place_put h.pictured l.in_image l.value l.found new v blocks (subst (λ (t : Table). ChangesPlace w.image new t (place_in w b) v blocks spans l.found.blocks blocks) on_table c)
 
   abbrev root_then : Value
   root_then = values.with_value_at l.path.selectors v l.found.whole
@@ -111,17 +103,17 @@ module _ {others : List Root} {types : Table} {constants : List Constant} (one :
         table_is = h.table_is ∙ sym (ap (λ (z : State). z.types) then_is ∙ put_types s l.path.origin l.found.whole root_then l.found.type l.found.at);
         input_is = ap (λ (z : State). z.input) then_is ∙ streams.0 ∙ h.input_is;
         took = subst (λ out. Took first w.taken out) (sym (ap (λ (z : State). z.output) then_is ∙ streams.1)) h.took;
-        allocator_is = word-same w.image new allocator_word (IsSame-part w.image new 0 free_word allocator_word 4 (omega arith) (omega arith) c.front_kept) ∙ h.allocator_is;
+        allocator_is = word-same w.image new allocator_word (IsSame-part w.image new 0 free_word allocator_word 4 (omega arith) (omega arith) front_kept) ∙ h.allocator_is;
       }
 
   -- the path leads where it led, and the new value stands there
   pub leads_changed : LeadsInImage shows_changed.pictured l.path (place_in w b)
-  unfolding shows_changed put
+  unfolding shows_changed
   leads_changed = elsewhere l.path (place_in w b) l.value (λ e g. not_after_itself l.path.selectors g) l.there l.in_image
 
   pub there_changed : (t : LeadsToType state_then l.path T) × (t.value ≡ v)
   there_changed = leads_here s l.path T v (record { value = l.value; there = l.there; typed = l.typed })
 
   pub table_changed : shows_changed.pictured.picture.table ≡ w.table
-  unfolding shows_changed put
-  table_changed = put.table ∙ sym on_table
+  unfolding shows_changed
+  table_changed = put.table ∙ h.pictured.types ∙ sym h.table_is

@@ -3,10 +3,12 @@ use Rattle.std.proofs.Common.{◌≡◌, ℕ, ◌<◌, ◌≤◌, ◌⊎◌, inl
 use Rattle.std.specs.Prelude.{nat_abs, if◌then◌else◌, ◌%◌}
 use Rattle.seg_spec.specs.Types.{Form, Table, form_at}
 use Rattle.seg_spec.specs.Heap.{live}
-use Rattle.seg_spec.specs.Header.{KeepsFront}
+use Rattle.seg_spec.specs.Bytes.{word}
+use Rattle.seg_spec.specs.Header.{next_word, KeepsFront}
 use Rattle.seg_spec.specs.Block.{KeepsBlock}
 use Rattle.seg_spec.specs.Index.{Root}
 use Rattle.seg_spec.specs.Sound.{Picture, IsHeld, times, positions}
+use Rattle.seg_spec.specs.Counting.{AreCounted}
 use Rattle.client_spec.specs.declared.table.Number.{Number}
 use Rattle.client_spec.specs.Syntax.{Constant}
 use Rattle.client_spec.specs.Machine.{Origin, State, register}
@@ -20,9 +22,10 @@ use Rattle.client_sim.specs.Shows.{World, number_in, place_in, owns_in, Shown, S
 use Rattle.client_sim.proofs.Rooted.{BeginsFrom, Remains}
 use Rattle.client_sim.proofs.Finding.{type_number, slice_there}
 
--- a call leaves an image that holds this picture, and each live block that isn't gone
+-- a call leaves an image that holds this picture, whose frozen objects are counted, and each live block that isn't gone
 pub record LeavesPicture (old new : List ℕ) (other : Picture) (gone : List ℕ) : Type 0 where
   pub held : IsHeld new other
+  pub counted : AreCounted (word new next_word) other
   pub length_kept : length new ≡ length old
   pub front_kept : KeepsFront old new
   pub kept : (h : ℕ) → 1 ≤ times h (positions (live old)) → times h gone ≡ 0 → KeepsBlock old new h

@@ -2,7 +2,9 @@ pub mod FirstRoots
 pub mod OwnedRoots
 pub mod Looks
 pub mod RootPuts
+pub mod MovedPlaces
 pub mod Placed
+pub mod ItemNames
 pub mod Giving
 pub mod Aligned
 pub mod Led
@@ -32,7 +34,6 @@ pub mod Rooted
 pub mod Naming
 pub mod NameBytes
 pub mod NamedActs
-pub mod MovedPlaces
 pub mod Owning
 pub mod OwnedLooks
 pub mod MovingOwned

@@ -1,8 +1,14 @@
 -- What an image pictures of a state, without the bytes that hold it: so objects may move in steps, of which only the last is in the image.
-use Rattle.std.proofs.Common.{◌≡◌, ℕ, List, ◌++◌, Option, refl}
+use Rattle.std.proofs.Common.{◌≡◌, ℕ, List, ◌++◌, Option, refl, sym, subst, arith}
 use Rattle.std.specs.Prelude.{option_map}
+use Rattle.seg_spec.specs.Bytes.{word}
+use Rattle.seg_spec.specs.Header.{next_word, back_start, back_size, KeepsBack}
 use Rattle.seg_spec.specs.Index.{Root, root_named, root_of_type}
+use Rattle.seg_spec.specs.Reads.{Place}
 use Rattle.seg_spec.specs.Sound.{Picture, IsHeld}
+use Rattle.seg_spec.specs.Counting.{AreCounted, without_cells}
+use Rattle.seg_spec.proofs.SliceLaws.{IsSame-part}
+use Rattle.seg_spec.proofs.Frame.{word-same}
 use Rattle.client_spec.specs.Machine.{Origin, State}
 use Rattle.client_spec.specs.Pictures.{root_of_register, AreOwned, names_in, uniques_in, Pictures, root_at}
 
@@ -33,11 +39,24 @@ looks_of pictured = record {
   loose = pictured.loose;
 }
 
--- bytes that hold the picture
-abbrev pub held_by : {others : List Root} {s : State} {bytes : List ℕ} → (looks : Looks others s) → IsHeld bytes looks.picture → Pictures others s bytes
-held_by looks held = record {
+-- the same with what is left of the frozen objects where cells with these names go
+abbrev pub looks_left : {others : List Root} {s : State} → List Place → Looks others s → Looks others s
+looks_left gone looks = record {
+  picture = without_cells gone looks.picture;
+  types = looks.types;
+  names = looks.names;
+  uniques = looks.uniques;
+  owned = looks.owned;
+  are_owned = looks.are_owned;
+  loose = looks.loose;
+}
+
+-- bytes that hold the picture, and count its frozen objects
+abbrev pub held_by : {others : List Root} {s : State} {bytes : List ℕ} → (looks : Looks others s) → IsHeld bytes looks.picture → AreCounted (word bytes next_word) looks.picture → Pictures others s bytes
+held_by looks held counted = record {
   picture = looks.picture;
   held = held;
+  counted = counted;
   types = looks.types;
   names = looks.names;
   uniques = looks.uniques;
@@ -51,7 +70,16 @@ begins_in pictured (Origin.Name name i) = refl
 begins_in pictured (Origin.Unique T) = refl
 begins_in pictured (Origin.Owned r) = refl
 
-pub begins_at : {others : List Root} {s : State} {bytes : List ℕ} (looks : Looks others s) (held : IsHeld bytes looks.picture) (o : Origin) → root_in looks o ≡ root_at (held_by looks held) o
-begins_at looks held (Origin.Name name i) = refl
-begins_at looks held (Origin.Unique T) = refl
-begins_at looks held (Origin.Owned r) = refl
+pub begins_at : {others : List Root} {s : State} {bytes : List ℕ} (looks : Looks others s) (held : IsHeld bytes looks.picture) (counted : AreCounted (word bytes next_word) looks.picture) (o : Origin) → root_in looks o ≡ root_at (held_by looks held counted) o
+begins_at looks held counted (Origin.Name name i) = refl
+begins_at looks held counted (Origin.Unique T) = refl
+begins_at looks held counted (Origin.Owned r) = refl
+
+pub begins_left : {others : List Root} {s : State} (gone : List Place) (looks : Looks others s) (o : Origin) → root_in looks o ≡ root_in (looks_left gone looks) o
+begins_left gone looks (Origin.Name name i) = refl
+begins_left gone looks (Origin.Unique T) = refl
+begins_left gone looks (Origin.Owned r) = refl
+
+-- the next number is kept
+pub counted_on : (old new : List ℕ) (picture : Picture) → KeepsBack old new → AreCounted (word old next_word) picture → AreCounted (word new next_word) picture
+counted_on old new picture kept c = subst (λ n. AreCounted n picture) (sym (word-same old new next_word (IsSame-part old new back_start back_size next_word 4 (omega arith) (omega arith) kept))) c

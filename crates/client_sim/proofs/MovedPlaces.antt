@@ -1,270 +1,255 @@
--- A call on a place inside one root where a loose object comes or goes: the image holds the roots then, and paths beside the place lead where they led.
-use Rattle.std.proofs.Common.{◌≡◌, ℕ, ◌+◌, ◌<◌, ◌≤◌, ◌⊎◌, inl, inr, List, [], ◌∷◌, ◌++◌, refl, sym, ◌∙◌, ap, subst, append_assoc, arith}
+-- A call on a place inside one root where other roots come or go: the image holds the roots then, paths beside the place lead where they led, and the frozen objects are counted.
+use Rattle.std.proofs.Common.{◌≡◌, ℕ, ◌+◌, ◌<◌, ◌≤◌, inl, inr, List, [], ◌∷◌, ◌++◌, Some, refl, sym, ◌∙◌, ap, subst, append_assoc, arith}
 use Rattle.std.proofs.lemmas.Bool.{cases_eq}
 use Rattle.std.specs.List.{AllByRecursion}
 use Rattle.seg_spec.specs.Bytes.{word}
 use Rattle.seg_spec.specs.Header.{allocator_word}
-use Rattle.seg_spec.specs.Types.{size}
-use Rattle.seg_spec.specs.Value.{Value, count, Selector, with_value_at}
+use Rattle.seg_spec.specs.Types.{Table, size}
+use Rattle.seg_spec.specs.Value.{Value, count, nth, Selector, value_at, with_value_at}
 use Rattle.seg_spec.specs.Heap.{Span, live}
 use Rattle.seg_spec.specs.Block.{KeepsBlock}
-use Rattle.seg_spec.specs.Apart.{BlocksApart, KeepsBlockAround}
+use Rattle.seg_spec.specs.Apart.{BlocksApart}
 use Rattle.seg_spec.specs.Index.{Root}
 use Rattle.seg_spec.specs.Reads.{Place, Holds, Leads}
-use Rattle.seg_spec.specs.Sound.{Picture, roots_of, HoldsRoot, HoldsRoots, IsLaidOut, IsHeld, times, positions}
-use Rattle.seg_spec.specs.Roots.{item_of, with_item, KeepsPaths, KeepsPathsBeside, RootsComeApart, PartComesApart, ChangesPlace}
+use Rattle.seg_spec.specs.Shared.{names_in, names_each, IsCounted, IsFalling, left}
+use Rattle.seg_spec.specs.Sound.{Picture, frozen_roots, roots_of, HoldsRoot, HoldsRoots, holds_no_root, holds_more_roots, IsLaidOut, IsHeld, times, SameBlocks, positions}
+use Rattle.seg_spec.specs.Counting.{cells_in, owners_in, AreCounted}
+use Rattle.seg_spec.specs.Roots.{item_of, with_item, KeepsPaths, KeepsPathsBeside, PartComesApart, ChangesPlace}
 use Rattle.seg_spec.specs.Owning.{Stands}
-use Rattle.seg_spec.proofs.Frame.{each_left, each_right}
-use Rattle.seg_spec.proofs.LiveLaws.{times-append, times-same, times-other, there, each_there, live-once, live-apart, OneOrApart}
-use Rattle.seg_spec.proofs.LooseRoots.{each_joined}
-use Rattle.seg_spec.proofs.MoveLaw.{moved_after, moved_before}
+use Rattle.seg_spec.proofs.LiveLaws.{times-append, times-same, times-other, there, each_there, live-once, live-apart, OneOrApart, owned_apart}
+use Rattle.seg_spec.proofs.SharedLaws.{counted_again}
+use Rattle.seg_spec.proofs.CountedPictures.{falling_left, cells_append}
+use Rattle.seg_spec.proofs.CountedParts.{SameNames, names_same, names_then, names_joined, names_swapped, names_first, names_counted, beside_part, root_names, root_names_then}
+use Rattle.seg_spec.proofs.MoveLaw.{HoldsRoots_blocks-one, outside_all, outside, around_part, root_then, owners_then}
 use Rattle.seg_spec.proofs.OneReading.{Holds-one}
-use Rattle.seg_spec.proofs.PutLaw.{kept_whole, apart_append}
-use Rattle.seg_spec.proofs.RootLaws.{HoldsRoots-split, HoldsRoots-append, HoldsRoots-only, roots_come_apart}
+use Rattle.seg_spec.proofs.PutLaw.{apart_append}
+use Rattle.seg_spec.proofs.RootFrame.{HoldsRoots-kept}
+use Rattle.seg_spec.proofs.RootLaws.{HoldsRoots-split, HoldsRoots-append, HoldsRoots-only}
 use Rattle.seg_spec.proofs.RootPart.{part_comes_apart}
 use Rattle.seg_spec.proofs.RootPaths.{roots_paths}
-use Rattle.seg_spec.proofs.Writing.{Held-apart}
-use Rattle.client_sim.proofs.FirstRoots.{Among}
 
--- what a root owns among others
-pub root_among : (bytes : List ℕ) (picture : Picture) (roots : List Root) (xs : List ℕ) (root : Root) → HoldsRoots bytes picture.table roots xs → Among roots root
-    → (its : List ℕ) × HoldsRoot bytes picture.table root its × ((h : ℕ) → times h its ≤ times h xs)
-root_among bytes picture roots xs root holds a =
-    let table = picture.table in
-    let s = HoldsRoots-split bytes table a.before (root ∷ a.after) xs (subst (λ rs. HoldsRoots bytes table rs xs) a.is holds) in
-    let t = HoldsRoots-split bytes table (root ∷ []) a.after s.right s.rights in (
-      t.left,
-      HoldsRoots-only bytes table root t.left t.lefts,
-      (λ h.
-          let e = ap (times h) s.blocks_are ∙ times-append h s.left s.right in
-          let f = ap (times h) t.blocks_are ∙ times-append h t.left t.right in
-          omega (arith, e, f)),
-    )
+-- ---- roots in another order
 
-module _ (old : List ℕ) (picture : Picture) (held : IsHeld old picture) (before : List Root) (root : Root) (after : List Root) (roots : roots_of picture ≡ before ++ (root ∷ after)) (j : ℕ) (within : j < count root.values)
-    (path : List Selector) (q : Place) (leads : Leads old picture.table (item_of picture.table root j) path q) (v : Value) (blocks : List ℕ) (was : Holds old picture.table q v blocks) where
-  a : RootsComeApart old picture held before (root ∷ []) after
-  a = roots_come_apart old picture held before (root ∷ []) after roots
+-- they hold what they held, own the same blocks, and name the same objects
+pub record Reorders (xs ys : List Root) : Type 0 where
+  pub holds : (bytes : List ℕ) (table : Table) (blocks : List ℕ) → HoldsRoots bytes table xs blocks → (others : List ℕ) × HoldsRoots bytes table ys others × SameBlocks blocks others
+  pub cells : SameNames (cells_in xs) (cells_in ys)
 
-  its_held : HoldsRoot old picture.table root a.its
-  its_held = HoldsRoots-only old picture.table root a.its a.holds_them
+pub order_same : {xs ys : List Root} → xs ≡ ys → Reorders xs ys
+order_same e = record { holds = λ bytes table blocks h. (blocks, subst (λ rs. HoldsRoots bytes table rs blocks) e h, λ n. refl); cells = names_same (ap cells_in e) }
 
-  its_apart : BlocksApart old a.its
-  its_apart =
-      let all : BlocksApart old (a.left ++ (a.its ++ a.right)) = subst (λ bs. BlocksApart old bs) a.blocks_are (apart_append old held.index_blocks held.root_blocks (Held-apart old picture held)).right in
-      (apart_append old a.its a.right (apart_append old a.left (a.its ++ a.right) all).right).left
+pub order_then : {xs ys zs : List Root} → Reorders xs ys → Reorders ys zs → Reorders xs zs
+order_then a b = record {
+  holds = λ bytes table blocks h.
+      let p = a.holds bytes table blocks h in
+      let q = b.holds bytes table p.0 p.1 in
+      (q.0, q.1, λ n. p.2 n ∙ q.2 n);
+  cells = names_then a.cells b.cells;
+}
 
-  p : PartComesApart old picture.table root a.its j path q
-  p = part_comes_apart old picture.table held.laid_out.is_table root a.its its_held its_apart j within path q leads
+pub order_joined : {xs ys zs ws : List Root} → Reorders xs ys → Reorders zs ws → Reorders (xs ++ zs) (ys ++ ws)
+order_joined {xs = xs} {ys = ys} {zs = zs} {ws = ws} a b = record {
+  holds = λ bytes table blocks h.
+      let s = HoldsRoots-split bytes table xs zs blocks h in
+      let p = a.holds bytes table s.left s.lefts in
+      let q = b.holds bytes table s.right s.rights in
+      (p.0 ++ q.0, HoldsRoots-append bytes table p.1 q.1, λ n. let e = ap (times n) s.blocks_are in omega (arith, e, times-append n s.left s.right, times-append n p.0 q.0, p.2 n, q.2 n));
+  cells = names_then (names_same (cells_append xs zs)) (names_then (names_joined a.cells b.cells) (names_same (sym (cells_append ys ws))));
+}
+
+pub order_swapped : (xs ys : List Root) → Reorders (xs ++ ys) (ys ++ xs)
+order_swapped xs ys = record {
+  holds = λ bytes table blocks h.
+      let s = HoldsRoots-split bytes table xs ys blocks h in
+      (s.right ++ s.left, HoldsRoots-append bytes table s.rights s.lefts, λ n. let e = ap (times n) s.blocks_are in omega (arith, e, times-append n s.left s.right, times-append n s.right s.left));
+  cells = names_then (names_same (cells_append xs ys)) (names_then (names_swapped (cells_in xs) (cells_in ys)) (names_same (sym (cells_append ys xs))));
+}
+
+pub order_under : (x : Root) {ys zs : List Root} → Reorders ys zs → Reorders (x ∷ ys) (x ∷ zs)
+order_under x o = order_joined (order_same {xs = x ∷ []} refl) o
+
+-- one among others comes first, and back
+pub order_first : (before : List Root) (x : Root) (after : List Root) → Reorders (before ++ x ∷ after) (x ∷ (before ++ after))
+order_first before x after = order_then (order_same (sym (append_assoc before (x ∷ []) after))) (order_joined (order_swapped before (x ∷ [])) (order_same {xs = after} refl))
+
+pub order_back : (before : List Root) (x : Root) (after : List Root) → Reorders (x ∷ (before ++ after)) (before ++ x ∷ after)
+order_back before x after = order_then (order_joined (order_swapped (x ∷ []) before) (order_same {xs = after} refl)) (order_same (append_assoc before (x ∷ []) after))
+
+pub order_exchanged : (x y : Root) (rest : List Root) → Reorders (x ∷ (y ∷ rest)) (y ∷ (x ∷ rest))
+order_exchanged x y rest = order_first (x ∷ []) y rest
+
+-- the owners with the frozen objects behind
+pub roots_split : (picture : Picture) → roots_of picture ≡ owners_in picture ++ frozen_roots picture
+roots_split picture = simp append_assoc
+
+module _ (picture : Picture) (root : Root) (some rest : List Root) where
+  -- those among the some, or among the rest
+  pub frozen_first : Reorders (owners_in picture) (root ∷ (some ++ rest)) → Reorders (roots_of picture) (root ∷ ((some ++ frozen_roots picture) ++ rest))
+  frozen_first o =
+      let frozen = frozen_roots picture in
+      order_then (order_same (roots_split picture)) (order_then (order_joined o (order_same {xs = frozen} refl))
+      (order_under root (order_then (order_same (append_assoc some rest frozen))
+      (order_then (order_joined (order_same {xs = some} refl) (order_swapped rest frozen)) (order_same (sym (append_assoc some frozen rest)))))))
+
+  pub frozen_last : Reorders (owners_in picture) (root ∷ (some ++ rest)) → Reorders (roots_of picture) (root ∷ (some ++ (rest ++ frozen_roots picture)))
+  frozen_last o =
+      let frozen = frozen_roots picture in
+      order_then (order_same (roots_split picture)) (order_then (order_joined o (order_same {xs = frozen} refl)) (order_under root (order_same (append_assoc some rest frozen))))
+
+  pub from_frozen_first : Reorders (root ∷ (some ++ rest)) (owners_in picture) → Reorders (root ∷ ((some ++ frozen_roots picture) ++ rest)) (roots_of picture)
+  from_frozen_first o =
+      let frozen = frozen_roots picture in
+      order_then
+      (order_under root (order_then (order_same (append_assoc some frozen rest))
+      (order_then (order_joined (order_same {xs = some} refl) (order_swapped frozen rest)) (order_same (sym (append_assoc some rest frozen))))))
+      (order_then (order_joined o (order_same {xs = frozen} refl)) (order_same (sym (roots_split picture))))
+
+  pub from_frozen_last : Reorders (root ∷ (some ++ rest)) (owners_in picture) → Reorders (root ∷ (some ++ (rest ++ frozen_roots picture))) (roots_of picture)
+  from_frozen_last o =
+      let frozen = frozen_roots picture in
+      order_then (order_under root (order_same (sym (append_assoc some rest frozen)))) (order_then (order_joined o (order_same {xs = frozen} refl)) (order_same (sym (roots_split picture))))
+
+-- ---- a place inside one of them
+
+module _ (old : List ℕ) (picture : Picture) (held : IsHeld old picture) (root : Root) (some rest : List Root) (roots : Reorders (roots_of picture) (root ∷ (some ++ rest))) (j : ℕ) (within : j < count root.values)
+    (path : List Selector) (q : Place) (leads : Leads old picture.table (item_of picture.table root j) path q) (v : Value) (blocks : List ℕ) (was : Holds old picture.table q v blocks)
+    (some_blocks : List ℕ) (goes : HoldsRoots old picture.table some some_blocks) where
+  abbrev table : Table
+  table = picture.table
+
+  -- the blocks of the root, of some others, and of the rest
+  record Owned : Type 0 where
+    its : List ℕ
+    holds_it : HoldsRoot old table root its
+    others : List ℕ
+    holds_others : HoldsRoots old table rest others
+    blocks_are : (h : ℕ) → times h held.root_blocks ≡ times h others + times h its + times h some_blocks
+
+  owned : Owned
+  owned =
+      let all = roots.holds old table held.root_blocks held.roots in
+      let s = HoldsRoots-split old table (root ∷ []) (some ++ rest) all.0 all.1 in
+      let t = HoldsRoots-split old table some rest s.right s.rights in
+      let same : t.left ≡ some_blocks = HoldsRoots_blocks-one old table some t.left some_blocks t.lefts goes in
+      record {
+        its = s.left;
+        holds_it = HoldsRoots-only old table root s.left s.lefts;
+        others = t.right;
+        holds_others = t.rights;
+        blocks_are = λ h.
+            let e = all.2 h in
+            let f : times h all.0 ≡ times h (s.left ++ s.right) = ap (times h) s.blocks_are in
+            let g : times h s.right ≡ times h (t.left ++ t.right) = ap (times h) t.blocks_are in
+            let k : times h t.left ≡ times h some_blocks = ap (times h) same in
+            omega (arith, e, f, g, k, times-append h s.left s.right, times-append h t.left t.right);
+      }
+
+  apart : BlocksApart old owned.its
+  apart =
+      let beside = held.index_blocks ++ (owned.others ++ some_blocks) in
+      (apart_append old owned.its beside (owned_apart old (word old allocator_word) held.laid_out.heap (owned.its ++ beside) (λ h.
+      omega (arith, held.owners h, owned.blocks_are h, times-append h held.index_blocks held.root_blocks, times-append h owned.its beside, times-append h held.index_blocks (owned.others ++ some_blocks),
+      times-append h owned.others some_blocks)))).left
+
+  p : PartComesApart old table root owned.its j path q
+  p = part_comes_apart old table held.laid_out.is_table root owned.its owned.holds_it apart j within path q leads
 
   its_are : p.its ≡ blocks
-  its_are = (Holds-one old picture.table p.holds_it was).1
+  its_are = (Holds-one old table p.holds_it was).1
 
   -- how often a block is owned: by the index, by other roots, around the place, and by the place
-  counts : (h : ℕ) → times h (positions (live old)) ≡ times h held.index_blocks + (times h a.left + ((times h p.left + (times h blocks + times h p.right)) + times h a.right))
+  counts : (h : ℕ) → times h (positions (live old)) ≡ times h held.index_blocks + times h owned.others + times h some_blocks + times h p.left + times h blocks + times h p.right
   counts h =
-      held.owners h ∙ times-append h held.index_blocks held.root_blocks
-      ∙ ap (λ n. times h held.index_blocks + n) (ap (times h) a.blocks_are ∙ times-append h a.left (a.its ++ a.right)
-      ∙ ap (λ n. times h a.left + n) (times-append h a.its a.right
-      ∙ ap (λ n. n + times h a.right) (ap (times h) p.blocks_are ∙ times-append h p.left (p.its ++ p.right)
-      ∙ ap (λ n. times h p.left + n) (times-append h p.its p.right ∙ ap (λ bs. times h bs + times h p.right) its_are))))
-
-  once : (h : ℕ) → times h (positions (live old)) ≤ 1
-  once h = live-once old (word old allocator_word) held.laid_out.heap h
+      let e : times h owned.its ≡ times h (p.left ++ (p.its ++ p.right)) = ap (times h) p.blocks_are in
+      let f : times h p.its ≡ times h blocks = ap (times h) its_are in
+      omega (arith, held.owners h, owned.blocks_are h, times-append h held.index_blocks held.root_blocks, e, f, times-append h p.left (p.its ++ p.right), times-append h p.its p.right)
 
   home_around : 1 ≤ times p.home p.left + times p.home p.right
   home_around = omega (arith, p.home_is, times-append p.home p.left p.right)
 
-  home_live : 1 ≤ times p.home (positions (live old))
-  home_live = omega (arith, counts p.home, home_around)
-
-  one_or_apart : (h : ℕ) → 1 ≤ times h (positions (live old)) → OneOrApart old h p.home
-  one_or_apart h is_live =
-      let pairs = there (λ t. AllByRecursion (OneOrApart old t) (positions (live old))) h (positions (live old)) (live-apart old (word old allocator_word) held.laid_out.heap) is_live in
-      there (OneOrApart old h) p.home (positions (live old)) pairs home_live
-
   -- the block around the place is the one that a call on it finds
-  one_home : (allocator : ℕ) (s : Stands allocator old picture.table q v blocks) → p.home ≡ s.home
+  one_home : (allocator : ℕ) (s : Stands allocator old table q v blocks) → p.home ≡ s.home
   one_home allocator s =
       let is_live : 1 ≤ times s.home (positions (live old)) = omega (arith, s.owned s.home, times-same s.home blocks) in
-      elim (one_or_apart s.home is_live) [
+      let home_live : 1 ≤ times p.home (positions (live old)) = omega (arith, counts p.home, home_around) in
+      let pairs = there (λ t. AllByRecursion (OneOrApart old t) (positions (live old))) s.home (positions (live old)) (live-apart old (word old allocator_word) held.laid_out.heap) is_live in
+      elim (there (OneOrApart old s.home) p.home (positions (live old)) pairs home_live) [
         | inl same ↦ same
         | inr (inl far) ↦ absurd (omega (arith, far, s.inside.low, s.inside.high, p.lies_in.low, p.lies_in.high))
         | inr (inr far) ↦ absurd (omega (arith, far, s.inside.low, s.inside.high, p.lies_in.low, p.lies_in.high))
       ]
 
-  -- the blocks of another root are others
-  pub other_root : (allocator : ℕ) (s : Stands allocator old picture.table q v blocks) (other : Root) → Among (before ++ after) other
-      → (its : List ℕ) × HoldsRoot old picture.table other its × ((h : ℕ) → times h (s.home ∷ (blocks ++ its)) ≤ times h (positions (live old)))
-  other_root allocator s other among =
-      let all : HoldsRoots old picture.table (before ++ after) (a.left ++ a.right) = HoldsRoots-append old picture.table a.holds_before a.holds_after in
-      let o = root_among old picture (before ++ after) (a.left ++ a.right) other all among in (
-        o.0,
-        o.1,
-        (λ h.
-            let k = counts h in
-            let few = o.2 h in
-            let both = times-append h a.left a.right in
-            let its = times-append h blocks o.0 in
-            elim (cases_eq s.home h) [
-              | inl same ↦
-                  let home : 1 ≤ times h p.left + times h p.right = subst (λ b. 1 ≤ times b p.left + times b p.right) (one_home allocator s ∙ same) home_around in
-                  let one : times h (s.home ∷ (blocks ++ o.0)) ≡ 1 + times h (blocks ++ o.0) = subst (λ x. times h (x ∷ (blocks ++ o.0)) ≡ 1 + times h (blocks ++ o.0)) (sym same) (times-same h (blocks ++ o.0)) in
-                  omega (arith, k, few, both, its, home, one)
-              | inr distinct ↦ let none = times-other h s.home (blocks ++ o.0) distinct in omega (arith, k, few, both, its, none)
-            ]),
-      )
+  -- the blocks of other roots are others
+  pub beside_others : (allocator : ℕ) (s : Stands allocator old table q v blocks) (h : ℕ) → times h (s.home ∷ blocks) + times h some_blocks ≤ times h (positions (live old))
+  beside_others allocator s h =
+      elim (cases_eq s.home h) [
+        | inl same ↦
+            let home : 1 ≤ times h p.left + times h p.right = subst (λ b. 1 ≤ times b p.left + times b p.right) (one_home allocator s ∙ same) home_around in
+            let one : times h (s.home ∷ blocks) ≡ 1 + times h blocks = subst (λ x. times h (x ∷ blocks) ≡ 1 + times h blocks) (sym same) (times-same h blocks) in
+            omega (arith, counts h, home, one)
+        | inr distinct ↦ let none = times-other h s.home blocks distinct in omega (arith, counts h, none)
+      ]
 
-  module _ (new : List ℕ) (kept : (h : ℕ) → 1 ≤ times h (positions (live old)) → times h blocks ≡ 0 → KeepsBlockAround old new q.at (size picture.table q.type) h) where
-    far : (h : ℕ) → 1 ≤ times h held.index_blocks + (times h a.left + times h a.right) → KeepsBlock old new h
-    far h some =
-        let k = counts h in
-        let n = once h in
-        let is_live : 1 ≤ times h (positions (live old)) = omega (arith, k, some) in
-        let none : times h blocks ≡ 0 = omega (arith, k, n, some) in
-        let beside : times h p.left + times h p.right ≡ 0 = omega (arith, k, n, some) in
-        kept_whole old new picture.table held.laid_out.is_table q.at (size picture.table q.type) h (kept h is_live none)
-        (elim (one_or_apart h is_live) [
-          | inl same ↦ (let mine : 1 ≤ times h p.left + times h p.right = subst (λ b. 1 ≤ times b p.left + times b p.right) same home_around in absurd (omega (arith, mine, beside)))
-          | inr (inl s) ↦ inl (omega (arith, s, p.lies_in.low))
-          | inr (inr s) ↦ inr (omega (arith, s, p.lies_in.high))
-        ])
+  -- ---- a call on it, where some others give way to others
 
+  module _ (new : List ℕ) (w : Value) (others come_blocks : List ℕ) {spans : List Span} (c : ChangesPlace old new table q w others spans (blocks ++ some_blocks) (others ++ come_blocks)) where
+    changes : ChangesPlace old new table q w others spans (p.its ++ some_blocks) (others ++ come_blocks)
+    changes = subst (λ bs. ChangesPlace old new table q w others spans (bs ++ some_blocks) (others ++ come_blocks)) (sym its_are) c
+
+    -- the index and the other roots are kept, and so are paths beside the place
     pub index_kept : AllByRecursion (KeepsBlock old new) held.index_blocks
-    index_kept = each_there (KeepsBlock old new) held.index_blocks (λ h some. far h (omega (arith, some)))
+    index_kept = each_there (KeepsBlock old new) held.index_blocks
+        (λ h few. outside_all old new picture held owned.others owned.its some_blocks owned.blocks_are root j path q p w others come_blocks changes h (omega (arith, few)))
 
-    pub beside_kept : KeepsPathsBeside old new picture.table root j path
-    beside_kept = p.paths new (each_there (KeepsBlockAround old new q.at (size picture.table q.type)) (p.left ++ p.right) (λ h some.
-        let k = counts h in
-        let n = once h in
-        let m = times-append h p.left p.right in
-        kept h (omega (arith, k, m, some)) (omega (arith, k, n, m, some))))
+    rest_kept : AllByRecursion (KeepsBlock old new) owned.others
+    rest_kept = outside old new picture held owned.others owned.its some_blocks owned.blocks_are root j path q p w others come_blocks changes
 
-    pub rest_kept : AllByRecursion (KeepsPaths old new picture.table) (before ++ after)
-    rest_kept =
-        each_joined (KeepsPaths old new picture.table) before after
-        (roots_paths old new picture.table held.laid_out.is_table a.holds_before (each_there (KeepsBlock old new) a.left (λ h some. far h (omega (arith, some)))))
-        (roots_paths old new picture.table held.laid_out.is_table a.holds_after (each_there (KeepsBlock old new) a.right (λ h some. far h (omega (arith, some)))))
+    pub beside_kept : KeepsPathsBeside old new table root j path
+    beside_kept = p.paths new (around_part old new picture held owned.others owned.its some_blocks owned.blocks_are root j path q p w others come_blocks changes)
 
--- ---- loose roots that go or come beside it
+    pub paths_kept : AllByRecursion (KeepsPaths old new table) rest
+    paths_kept = roots_paths old new table held.laid_out.is_table owned.holds_others rest_kept
 
--- a root changes, and others behind it give way to others; or others before it do
-pub record MovesAfter (picture other : Picture) (root changed : Root) (gone come rest : List Root) : Type 0 where
-  pub before : List Root
-  pub between : List Root
-  pub after : List Root
-  pub roots_are : roots_of picture ≡ before ++ (root ∷ (between ++ (gone ++ after)))
-  pub roots_then : roots_of other ≡ before ++ (changed ∷ (between ++ (come ++ after)))
-  pub rest_is : rest ≡ before ++ (between ++ after)
+    -- the image holds the roots then
+    pub moved_held : (other : Picture) (come : List Root) → HoldsRoots new table come come_blocks → Reorders (with_item root j (with_value_at path w) ∷ (come ++ rest)) (roots_of other) → other.table ≡ table
+        → IsLaidOut new other held.index_blocks → IsHeld new other
+    moved_held other come comes then same laid_out =
+        let mine = p.left ++ (others ++ p.right) in
+        let whole = holds_more_roots (root_then old new picture held owned.others owned.its some_blocks owned.blocks_are root j path q p w others come_blocks changes)
+        (HoldsRoots-append new table comes (HoldsRoots-kept old new table held.laid_out.is_table owned.holds_others rest_kept)) in
+        let all = then.holds new table (mine ++ (come_blocks ++ owned.others)) whole in
+        record {
+          index_blocks = held.index_blocks;
+          laid_out = laid_out;
+          root_blocks = all.0;
+          roots = subst (λ (t : Table). HoldsRoots new t (roots_of other) all.0) (sym same) all.1;
+          owners = λ h.
+              let e = owners_then old new picture held owned.others owned.its some_blocks owned.blocks_are root j path q p w others come_blocks changes h in
+              omega (arith, e, all.2 h, times-append h held.index_blocks owned.others, times-append h mine (come_blocks ++ owned.others), times-append h come_blocks owned.others, times-append h held.index_blocks all.0);
+        }
 
-pub record MovesBefore (picture other : Picture) (root changed : Root) (gone come rest : List Root) : Type 0 where
-  pub before : List Root
-  pub between : List Root
-  pub after : List Root
-  pub roots_are : roots_of picture ≡ before ++ (gone ++ (between ++ (root ∷ after)))
-  pub roots_then : roots_of other ≡ before ++ (come ++ (between ++ (changed ∷ after)))
-  pub rest_is : rest ≡ (before ++ between) ++ after
+-- ---- what the owners name
 
-abbrev pub Moves : Picture → Picture → Root → Root → List Root → List Root → List Root → Type 0
-Moves picture other root changed gone come rest = MovesAfter picture other root changed gone come rest ⊎ MovesBefore picture other root changed gone come rest
-
--- a root of a list that was put together stands in one of the parts
-pub splits : (left right before after : List Root) (x : Root) → left ++ right ≡ before ++ x ∷ after
-    → ((between : List Root) × (left ≡ before ++ x ∷ between) × (after ≡ between ++ right)) ⊎ ((between : List Root) × (right ≡ between ++ x ∷ after) × (before ≡ left ++ between))
-splits [] right before after x e = inr (before, e, refl)
-splits (l ∷ left) right [] after x e = inl (left, (let same : l ≡ x = cc in ap (λ y. y ∷ left) same), (let same : left ++ right ≡ after = cc in sym same))
-splits (l ∷ left) right (b ∷ before) after x e =
-    let head : l ≡ b = cc in
-    let tail : left ++ right ≡ before ++ x ∷ after = cc in
-    elim (splits left right before after x tail) [
-      | inl p ↦ inl (p.0, ap (λ ys. l ∷ ys) p.1 ∙ ap (λ y. y ∷ (before ++ x ∷ p.0)) head, p.2)
-      | inr p ↦ inr (p.0, p.1, ap (λ y. y ∷ before) (sym head) ∙ ap (λ ys. l ∷ ys) p.2)
-    ]
-
--- a root goes
-pub goes_beside : (picture other : Picture) (root changed goes : Root) (left right before after : List Root) → roots_of picture ≡ left ++ goes ∷ right → left ++ right ≡ before ++ root ∷ after
-    → roots_of other ≡ before ++ changed ∷ after → Moves picture other root changed (goes ∷ []) [] (before ++ after)
-goes_beside picture other root changed goes left right before after roots e then = elim (splits left right before after root e) [
-  | inl p ↦ inl (record {
-    before = before;
-    between = p.0;
-    after = right;
-    roots_are = roots ∙ ap (λ xs. xs ++ goes ∷ right) p.1 ∙ append_assoc before (root ∷ p.0) (goes ∷ right);
-    roots_then = then ∙ ap (λ xs. before ++ changed ∷ xs) p.2;
-    rest_is = ap (λ xs. before ++ xs) p.2;
-  })
-  | inr p ↦ inr (record {
-    before = left;
-    between = p.0;
-    after = after;
-    roots_are = roots ∙ ap (λ xs. left ++ goes ∷ xs) p.1;
-    roots_then = then ∙ ap (λ xs. xs ++ changed ∷ after) p.2 ∙ append_assoc left p.0 (changed ∷ after);
-    rest_is = ap (λ xs. xs ++ after) p.2;
-  })
-]
-
--- a root comes
-pub comes_beside : (picture other : Picture) (root changed comes : Root) (left right before after : List Root) → roots_of picture ≡ before ++ root ∷ after → left ++ right ≡ before ++ changed ∷ after
-    → roots_of other ≡ left ++ comes ∷ right → Moves picture other root changed [] (comes ∷ []) (before ++ after)
-comes_beside picture other root changed comes left right before after roots e then = elim (splits left right before after changed e) [
-  | inl p ↦ inl (record {
-    before = before;
-    between = p.0;
-    after = right;
-    roots_are = roots ∙ ap (λ xs. before ++ root ∷ xs) p.2;
-    roots_then = then ∙ ap (λ xs. xs ++ comes ∷ right) p.1 ∙ append_assoc before (changed ∷ p.0) (comes ∷ right);
-    rest_is = ap (λ xs. before ++ xs) p.2;
-  })
-  | inr p ↦ inr (record {
-    before = left;
-    between = p.0;
-    after = after;
-    roots_are = roots ∙ ap (λ xs. xs ++ root ∷ after) p.2 ∙ append_assoc left p.0 (root ∷ after);
-    roots_then = then ∙ ap (λ xs. left ++ comes ∷ xs) p.1;
-    rest_is = ap (λ xs. xs ++ after) p.2;
-  })
-]
-
-module _ (old new : List ℕ) (picture other : Picture) (held : IsHeld old picture) (root : Root) (j : ℕ) (path : List Selector) (w : Value) (gone come rest : List Root)
-    (moves : Moves picture other root (with_item root j (with_value_at path w)) gone come rest) (within : j < count root.values) (q : Place) (leads : Leads old picture.table (item_of picture.table root j) path q) (v : Value)
-    (blocks : List ℕ) (was : Holds old picture.table q v blocks) where
-  -- the image holds the roots then
-  pub moved_held : (gone_blocks come_blocks others : List ℕ) {spans : List Span} → HoldsRoots old picture.table gone gone_blocks
-      → ChangesPlace old new picture.table q w others spans (blocks ++ gone_blocks) (others ++ come_blocks) → HoldsRoots new picture.table come come_blocks
-      → other.table ≡ picture.table → IsLaidOut new other held.index_blocks → IsHeld new other
-  moved_held gone_blocks come_blocks others goes c comes table laid_out = elim moves [
-    | inl m ↦ moved_after old new picture other held m.before m.between gone come m.after root j path q v w blocks others gone_blocks come_blocks within leads was goes c comes table laid_out m.roots_are m.roots_then
-    | inr m ↦ moved_before old new picture other held m.before m.between gone come m.after root j path q v w blocks others gone_blocks come_blocks within leads was goes c comes table laid_out m.roots_are m.roots_then
-  ]
-
-  -- and paths beside the place lead where they led
-  pub moved_paths : ((h : ℕ) → 1 ≤ times h (positions (live old)) → times h blocks ≡ 0 → KeepsBlockAround old new q.at (size picture.table q.type) h)
-      → AllByRecursion (KeepsBlock old new) held.index_blocks × KeepsPathsBeside old new picture.table root j path × AllByRecursion (KeepsPaths old new picture.table) rest
-  moved_paths kept = elim moves [
-    | inl m ↦
-        let K = KeepsPaths old new picture.table in
-        let at = m.roots_are in
-        let after = m.between ++ (gone ++ m.after) in
-        let all = rest_kept old picture held m.before root after at j within path q leads v blocks was new kept in
-        let behind = each_right K m.before after all in (
-          index_kept old picture held m.before root after at j within path q leads v blocks was new kept,
-          beside_kept old picture held m.before root after at j within path q leads v blocks was new kept,
-          subst (AllByRecursion K) (sym m.rest_is)
-              (each_joined K m.before (m.between ++ m.after) (each_left K m.before after all)
-              (each_joined K m.between m.after (each_left K m.between (gone ++ m.after) behind) (each_right K gone m.after (each_right K m.between (gone ++ m.after) behind)))),
-        )
-    | inr m ↦
-        let K = KeepsPaths old new picture.table in
-        let before = m.before ++ (gone ++ m.between) in
-        let at : roots_of picture ≡ before ++ (root ∷ m.after) =
-        m.roots_are ∙ ap (λ xs. m.before ++ xs) (sym (append_assoc gone m.between (root ∷ m.after))) ∙ sym (append_assoc m.before (gone ++ m.between) (root ∷ m.after)) in
-        let all = rest_kept old picture held before root m.after at j within path q leads v blocks was new kept in
-        let front = each_left K before m.after all in (
-          index_kept old picture held before root m.after at j within path q leads v blocks was new kept,
-          beside_kept old picture held before root m.after at j within path q leads v blocks was new kept,
-          subst (AllByRecursion K) (sym m.rest_is)
-              (each_joined K (m.before ++ m.between) m.after
-              (each_joined K m.before m.between (each_left K m.before (gone ++ m.between) front) (each_right K gone m.between (each_right K m.before (gone ++ m.between) front)))
-              (each_right K before m.after all)),
-        )
-  ]
+module _ (root : Root) (j : ℕ) (item : Value) (item_is : nth root.values j ≡ Some item) (path : List Selector) (v : Value) (value_is : value_at item path ≡ Some v) where
+  -- some owners and a place give way to others, and cells with these names go
+  pub counted_moved : (next : ℕ) (picture other : Picture) (some come rest : List Root) (w : Value) → Reorders (owners_in picture) (root ∷ (some ++ rest)) → Reorders (with_item root j (with_value_at path w) ∷ (come ++ rest)) (owners_in other)
+      → (gone : List Place) → SameNames (names_in v ++ cells_in some) (gone ++ (names_in w ++ cells_in come)) → other.frozen ≡ left gone picture.frozen → AreCounted next picture → AreCounted next other
+  counted_moved next picture other some come rest w now then gone same frozen c =
+      let later = with_item root j (with_value_at path w) in
+      let around = beside_part root j item item_is path v value_is in
+      let before : SameNames (cells_in (owners_in picture)) ((names_in v ++ cells_in some) ++ (around ++ cells_in rest)) =
+      names_then now.cells (names_then (names_joined (root_names root j item item_is path v value_is) (names_same (cells_append some rest))) (names_between (names_in v) around (cells_in some) (cells_in rest))) in
+      let apart : SameNames (cells_in (owners_in picture)) (gone ++ ((names_in w ++ cells_in come) ++ (around ++ cells_in rest))) =
+      names_then before (names_then (names_joined same (names_same {xs = around ++ cells_in rest} refl)) (names_same (append_assoc gone (names_in w ++ cells_in come) (around ++ cells_in rest)))) in
+      let fewer = counted_again next gone ((names_in w ++ cells_in come) ++ (around ++ cells_in rest)) picture.frozen c.falling (names_counted next picture.frozen apart c.counted) in
+      let after : SameNames ((names_in w ++ cells_in come) ++ (around ++ cells_in rest)) (cells_in (owners_in other)) =
+      names_then (names_between (names_in w) (cells_in come) around (cells_in rest))
+      (names_then (names_joined (root_names_then root j item item_is path v value_is w) (names_same (sym (cells_append come rest)))) then.cells) in
+      record {
+        counted = subst (λ fs. IsCounted next fs (cells_in (owners_in other))) (sym frozen) (names_counted next (left gone picture.frozen) after fewer);
+        falling = subst IsFalling (sym frozen) (falling_left gone picture.frozen c.falling);
+      }
+    where
+      names_between : (xs ys zs us : List Place) → SameNames ((xs ++ ys) ++ (zs ++ us)) ((xs ++ zs) ++ (ys ++ us))
+      names_between xs ys zs us =
+          names_then (names_same (append_assoc xs ys (zs ++ us))) (names_then (names_joined (names_same {xs = xs} refl) (names_first ys zs us)) (names_same (sym (append_assoc xs zs (ys ++ us)))))

@@ -7,7 +7,7 @@ use Rattle.std.proofs.lemmas.Bool.{eq-eqb, lt-ltb, ltb-true, le-leb, leb-true}
 use Rattle.std.proofs.lemmas.Option.{slice_get_within}
 use Rattle.std.proofs.lemmas.List.{length-map}
 use Rattle.seg_spec.specs.Bytes.{word}
-use Rattle.seg_spec.specs.Header.{allocator_word, index_kind_word, KeepsFront}
+use Rattle.seg_spec.specs.Header.{allocator_word, next_word, index_kind_word, KeepsFront}
 use Rattle.seg_spec.specs.Types.{Table}
 use Rattle.seg_spec.specs.Value.{Value, nth, count, copies, default_of}
 use Rattle.seg_spec.specs.Heap.{live}
@@ -16,6 +16,10 @@ use Rattle.seg_spec.specs.Index.{Root, plain_root, IsName, root_named}
 use Rattle.seg_spec.specs.Reads.{Place, Leads, here}
 use Rattle.seg_spec.specs.Sound.{Picture, IsHeld, HoldsRoot, times, positions}
 use Rattle.seg_spec.specs.Roots.{Listed, with_roots, item_of}
+use Rattle.seg_spec.specs.Frozen.{blocks_by}
+use Rattle.seg_spec.specs.Shared.{names_each, freed}
+use Rattle.seg_spec.specs.Destroying.{HoldFrozen}
+use Rattle.seg_spec.specs.Counting.{AreCounted, without_cells, FrozenGone}
 use Rattle.seg_spec.specs.Demand.{NoRoom, after_gives}
 use Rattle.seg_spec.specs.Spending.{object_asks, spent, EntryBlocks, killed}
 use Rattle.seg_spec.proofs.LiveLaws.{times-append}
@@ -29,7 +33,7 @@ use Rattle.client_spec.specs.Typed.{Class, RegisterType, RegisterTypes, known, i
 use Rattle.client_spec.specs.Typed as typed
 use Rattle.client_spec.specs.Meaning.{IsNamedBy, InClass, LeadsToType, IsAsKnown}
 use Rattle.client_spec.specs.Pictures.{Pictures, LeadsInImage, object_of}
-use Rattle.client_spec.specs.Asks.{NamedBlocks, GrantsAsks, Denies, ChangesBlocks, named_asks, name_operand, new_count, if_absent}
+use Rattle.client_spec.specs.Asks.{NamedGoes, GrantsAsks, Denies, ChangesBlocks, named_asks, name_operand, new_count, if_absent}
 use Rattle.client_spec.proofs.Cases.{first_of_many}
 use Rattle.client_spec.proofs.Changes.{agrees_make, agrees_kill}
 use Rattle.client_spec.proofs.Classes.{OneEach, origins_apart, known_ended, agrees_ended}
@@ -51,9 +55,9 @@ use Rattle.client_sim.proofs.Rooted.{BeginsFrom, KeepsRoots, Remains, SameBeside
 
 -- ---- what calls say
 
--- what a call says of each picture that the world's image has, and of how it has it
+-- what a call says of each picture that the world's image has, with counted frozen objects, and of how it has it
 abbrev pub OfHeld : (allocator : ℕ) (w : World) → ((p : Picture) → IsHeld w.image p → Type 0) → Type 0
-OfHeld allocator w P = (picture : Picture) (held : IsHeld w.image picture) → w.table ≡ picture.table → word w.image allocator_word ≡ allocator → P picture held
+OfHeld allocator w P = (picture : Picture) (held : IsHeld w.image picture) → AreCounted (word w.image next_word) picture → w.table ≡ picture.table → word w.image allocator_word ≡ allocator → P picture held
 
 -- a new object of n default values
 abbrev pub object_root : Table → List ℕ → ℕ → ℕ → ℕ → Root
@@ -66,6 +70,7 @@ module _ (allocator : ℕ) (old : List ℕ) (table : Table) (name : List ℕ) (T
     pub after : List Root
     pub names_are : picture.names ≡ before ++ after
     pub held : IsHeld new (with_roots picture Listed.by_name (before ++ object_root table name T n at ∷ after))
+    pub counted : AreCounted (word new next_word) (with_roots picture Listed.by_name (before ++ object_root table name T n at ∷ after))
     pub long : length new ≡ length old
     pub front : KeepsFront old new
     pub kept : (h : ℕ) → 1 ≤ times h (positions (live old)) → times h index_blocks ≡ 0 → KeepsBlock old new h
@@ -75,12 +80,13 @@ module _ (allocator : ℕ) (old : List ℕ) (table : Table) (name : List ℕ) (T
   pub record IsDenied (n : ℕ) : Type 0 where
     pub no_room : NoRoom allocator (live old) (length old) (object_asks old table T n name)
     pub held : IsHeld new picture
+    pub counted : AreCounted (word new next_word) picture
     pub long : length new ≡ length old
     pub front : KeepsFront old new
     pub kept : (h : ℕ) → 1 ≤ times h (positions (live old)) → KeepsBlock old new h
     pub left : live new ≡ live old
 
-  -- the object of the name and type went
+  -- the object of the name and type went, with the frozen objects that it named last
   pub record IsLost : Type 0 where
     pub before : List Root
     pub root : Root
@@ -91,11 +97,14 @@ module _ (allocator : ℕ) (old : List ℕ) (table : Table) (name : List ℕ) (T
     pub entries : List ℕ
     pub holds : HoldsRoot old table root objects
     pub entry : EntryBlocks (word old index_kind_word) old index_blocks root entries
-    pub held : IsHeld new (with_roots picture Listed.by_name (before ++ after))
+    pub theirs : ℕ → List ℕ
+    pub holds_shared : HoldFrozen old table theirs picture.frozen
+    pub held : IsHeld new (without_cells (names_each root.values) (with_roots picture Listed.by_name (before ++ after)))
+    pub counted : AreCounted (word new next_word) (without_cells (names_each root.values) (with_roots picture Listed.by_name (before ++ after)))
     pub long : length new ≡ length old
     pub front : KeepsFront old new
-    pub kept : (h : ℕ) → 1 ≤ times h (positions (live old)) → times h (objects ++ index_blocks) ≡ 0 → KeepsBlock old new h
-    pub left : live new ≡ after_gives (live old) (objects ++ entries)
+    pub kept : (h : ℕ) → 1 ≤ times h (positions (live old)) → times h ((objects ++ index_blocks) ++ blocks_by theirs picture.frozen) ≡ 0 → KeepsBlock old new h
+    pub left : live new ≡ after_gives (live old) ((objects ++ entries) ++ blocks_by theirs (freed (names_each root.values) picture.frozen))
 
 -- the number that an operand stands for
 abbrev pub number_for : ℤ → ℕ → ℤ → ℤ
@@ -147,7 +156,7 @@ owner_ended class (RegisterType.Reference c t) = choose (same_class class c)
 
 module _ {others : List Root} {types : Table} {constants : List Constant} {first : Option (List ℕ)} {allocator : ℕ} {ks : RegisterTypes} {s : State} {w : World} (h : Shows others types constants first allocator ks s w) where
   pub of_held : (P : (p : Picture) → IsHeld w.image p → Type 0) → OfHeld allocator w P → P h.pictured.picture h.pictured.held
-  of_held P f = f h.pictured.picture h.pictured.held (h.table_is ∙ sym h.pictured.types) h.allocator_is
+  of_held P f = f h.pictured.picture h.pictured.held h.pictured.counted (h.table_is ∙ sym h.pictured.types) h.allocator_is
 
   -- nothing is known any more of the references of a class, whose paths may end
   pub class_ends : (one : OneEach constants) (class : Class) (Ends : Origin → Type 0) → ((o : Origin) → Ends o → InClass constants class o) → ((r : ℕ) → InClass constants class (Origin.Owned r) → ⊥)
@@ -246,7 +255,7 @@ module _ {others : List Root} {types : Table} {constants : List Constant} {first
       let root = object_root s.types bytes T n at in
       let place : Place = record { at = at; type = T } in
       let paths = all_paths w.image new h.pictured.picture h.pictured.held h.pictured.held.index_blocks m.kept (λ x. omega arith) in
-      let comes : Comes h.pictured new m.before root m.after m.names_are missing = named_comes h.pictured new m.before root m.after m.names_are missing m.held paths in
+      let comes : Comes h.pictured new m.before root m.after m.names_are missing = named_comes h.pictured new m.before root m.after m.names_are missing m.held m.counted paths in
       let known_now = known_then n some missing in
       let shows = all_stays h (state_then n) new comes.later comes.keeps m.front known_now refl (record { table = refl; input = refl; read = refl; taken = refl; types = refl; state_input = refl; state_output = refl }) in
       let some_value = first_of_many n (default_of s.types T) some in
@@ -269,7 +278,7 @@ module _ {others : List Root} {types : Table} {constants : List Constant} {first
       → Acts others types constants first allocator i bad_alloc (slice_set ks a RegisterType.Int) s w (with_number (with_image w new) a (pos code))
   not_made n code code_is d row blocks =
       let paths = all_paths w.image new h.pictured.picture h.pictured.held [] (λ x some gone. d.kept x some) (λ x. omega arith) in
-      let stays : Stays h.pictured new = picture_stays h.pictured new d.held paths in
+      let stays : Stays h.pictured new = picture_stays h.pictured new d.held d.counted paths in
       let shows = all_stays h s new stays.later stays.keeps d.front h.as_known refl (record { table = refl; input = refl; read = refl; taken = refl; types = refl; state_input = refl; state_output = refl }) in
       let x : Register = Register.Int (pos 2) in
       subst (λ m. Acts others types constants first allocator i bad_alloc (slice_set ks a RegisterType.Int) s w (with_number (with_image w new) a (pos m))) (sym code_is)
@@ -311,9 +320,10 @@ module _ {others : List Root} {types : Table} {constants : List Constant} {first
       let held = h.pictured.held in
       let root_is = (why_killed T (root_named picture.names bytes) m.root m.root_is).0 in
       let holds : HoldsRoot w.image picture.table m.root m.objects = subst (λ (t : Table). HoldsRoot w.image t m.root m.objects) (sym h.pictured.types) m.holds in
-      let paths = other_paths w.image new picture held (m.objects ++ held.index_blocks) m.kept Listed.by_name m.before m.root m.after m.names_are m.objects holds
-      (λ x. let e = times-append x m.objects held.index_blocks in omega (arith, e)) in
-      let goes : Goes h.pictured new m.before m.root m.after m.names_are bytes root_is = named_goes h.pictured new m.before m.root m.after m.names_are bytes root_is m.held paths in
+      let shared = subst (λ (t : Table). HoldFrozen w.image t m.theirs picture.frozen) (sym h.pictured.types) m.holds_shared in
+      let paths = other_paths w.image new picture held ((m.objects ++ held.index_blocks) ++ blocks_by m.theirs picture.frozen) m.kept Listed.by_name m.before m.root m.after m.names_are m.objects holds m.theirs shared
+      (λ x. let e = times-append x m.objects held.index_blocks in let f = times-append x (m.objects ++ held.index_blocks) (blocks_by m.theirs picture.frozen) in omega (arith, e, f)) in
+      let goes : Goes h.pictured new m.before m.root m.after m.names_are bytes root_is = named_goes h.pictured new m.before m.root m.after m.names_are bytes root_is m.held m.counted paths in
       let known_now = agrees_kill types constants one ks s k bytes by h.as_known in
       let shows = all_but_class h one class paths_end its_class (λ r z. z) state_after new goes.later goes.keeps m.front known_now refl
       (record { table = refl; input = refl; read = refl; taken = refl; types = refl; state_input = refl; state_output = refl }) in
@@ -585,10 +595,10 @@ module _ (allocator : ℕ) (constants : List Constant) (role : Role) (a b c : �
 
   -- what is given back
   given_back : (operation : Operation) {others : List Root} {s : State} (pictured : Pictures others s w.image) → name_operand constants (on operation) s ≡ Some bytes → type_operand number ≡ T → (o : Option Root)
-      → killed (root_named pictured.picture.names bytes) T ≡ o → (gives : List ℕ) → NamedBlocks constants (on operation) pictured o gives
-      → NamedBlocks constants (on operation) pictured (name_operand constants (on operation) s >>= λ name. killed (root_named pictured.picture.names name) (type_operand number)) gives
+      → killed (root_named pictured.picture.names bytes) T ≡ o → (gives : List ℕ) → NamedGoes constants (on operation) pictured o gives
+      → NamedGoes constants (on operation) pictured (name_operand constants (on operation) s >>= λ name. killed (root_named pictured.picture.names name) (type_operand number)) gives
   given_back operation {s = s} pictured name_is type_is o is gives blocks =
-      subst (λ x. NamedBlocks constants (on operation) pictured x gives)
+      subst (λ x. NamedGoes constants (on operation) pictured x gives)
       (sym (ap (λ (o : Option (List ℕ)). o >>= λ name. killed (root_named pictured.picture.names name) (type_operand number)) name_is ∙ ap (killed (root_named pictured.picture.names bytes)) type_is ∙ is)) blocks
 
   pub kill_acts : (new : List ℕ) → OfHeld allocator w (λ p held. IsLost allocator w.image w.table bytes T p held.index_blocks new) → ActsAs allocator constants role (on Operation.Kill) w (with_number (with_image w new) a (pos 1))
@@ -602,11 +612,18 @@ module _ (allocator : ℕ) (constants : List Constant) (role : Role) (a b c : �
       let why = why_killed T (root_named h.pictured.picture.names bytes) m.root m.root_is in
       let row = kill_row s n.name_is n.type_is ∙ ap (λ (o : Option Object). destroy_object a bytes T o s) (n.object ∙ ap (option_map object_of) why.0)
       ∙ ap (λ z. if z then give_count a 1 (record s { names = with_name s.names bytes None }) else give_count a 0 s) why.1 in
+      let shared = blocks_by m.theirs (freed (names_each m.root.values) h.pictured.picture.frozen) in
+      let gone : FrozenGone w.image h.pictured.picture (names_each m.root.values) shared = record {
+        theirs = m.theirs;
+        holds = subst (λ (t : Table). HoldFrozen w.image t m.theirs h.pictured.picture.frozen) (sym h.pictured.types) m.holds_shared;
+        blocks_are = refl;
+      } in
+      let gives = (m.objects ++ m.entries) ++ shared in
       let blocks : GrantsAsks constants i h.pictured new = record {
         asks = [];
         asked = refl;
-        gives = m.objects ++ m.entries;
-        returned = given_back Operation.Kill h.pictured n.name_is n.type_is (Some m.root) m.root_is (m.objects ++ m.entries) (m.objects, m.entries, m.holds, m.entry, refl);
+        gives = gives;
+        returned = given_back Operation.Kill h.pictured n.name_is n.type_is (Some m.root) m.root_is gives (m.objects, m.entries, m.holds, m.entry, (shared, gone, refl));
         blocks = live w.image;
         granted = refl;
         left = m.left;

@@ -2,15 +2,19 @@
 use Rattle.std.proofs.Common.{◌≡◌, ℕ, ◌⊎◌, inl, inr, Bool, true, false, List, [], ◌∷◌, ◌++◌, map, Option, Some, None, refl, sym, ◌∙◌, ap, subst, arith, append_assoc}
 use Rattle.std.specs.Prelude.{if◌then◌else◌, option_map}
 use Rattle.std.specs.List.{AllByRecursion}
+use Rattle.seg_spec.specs.Bytes.{word}
+use Rattle.seg_spec.specs.Header.{next_word}
 use Rattle.seg_spec.specs.Index.{Root, Precedes, AreAscending, same_name, root_named, root_of_type}
-use Rattle.seg_spec.specs.Sound.{IsHeld, roots_of}
+use Rattle.seg_spec.specs.Shared.{names_each}
+use Rattle.seg_spec.specs.Sound.{Picture, IsHeld}
+use Rattle.seg_spec.specs.Counting.{owners_in, AreCounted, without_cells}
 use Rattle.seg_spec.specs.Roots.{Listed, with_roots, KeepsPaths}
 use Rattle.client_spec.specs.Machine.{Origin, State, with_name}
 use Rattle.client_spec.specs.Pictures.{Pictures, object_of, root_at, root_of_register}
 use Rattle.client_spec.proofs.States.{same_name_is, same_name_refl}
 use Rattle.client_sim.proofs.FirstRoots.{Among, among_left, among_right, first_of, first_split, first_among, first_here, first_beside, is_named, is_of_type, named_first, typed_first, each_among}
 use Rattle.client_sim.proofs.Looks.{looks_of}
-use Rattle.client_sim.proofs.RootPuts.{root_of_pair, unlisted, among_unlisted}
+use Rattle.client_sim.proofs.RootPuts.{root_of_pair, among_loose}
 use Rattle.client_sim.proofs.Rooted.{KeepsRoots}
 
 -- ---- names in order differ
@@ -91,18 +95,18 @@ none_in_front test (r ∷ before) after e = choose (test r) (none_in_front test 
 
 -- ---- where paths begin
 
--- at a root of the image
-pub origin_among : {others : List Root} {s : State} {bytes : List ℕ} (pictured : Pictures others s bytes) (o : Origin) (r : Root) (i : ℕ) → root_at pictured o ≡ Some (r, i) → Among (roots_of pictured.picture) r
+-- at an owner
+pub origin_among : {others : List Root} {s : State} {bytes : List ℕ} (pictured : Pictures others s bytes) (o : Origin) (r : Root) (i : ℕ) → root_at pictured o ≡ Some (r, i) → Among (owners_in pictured.picture) r
 origin_among pictured (Origin.Name m k) r i h =
     let p = root_of_pair (root_named pictured.picture.names m) k r i h in
-    among_left pictured.picture.names (pictured.picture.uniques ++ unlisted pictured.picture) r (first_among (is_named m) pictured.picture.names r (sym (named_first pictured.picture.names m) ∙ p.0))
+    among_left pictured.picture.names (pictured.picture.uniques ++ pictured.picture.loose) r (first_among (is_named m) pictured.picture.names r (sym (named_first pictured.picture.names m) ∙ p.0))
 origin_among pictured (Origin.Unique U) r i h =
     let p = root_of_pair (root_of_type pictured.picture.uniques U) 0 r i h in
-    among_right pictured.picture.names (pictured.picture.uniques ++ unlisted pictured.picture) r
-    (among_left pictured.picture.uniques (unlisted pictured.picture) r (first_among (is_of_type U) pictured.picture.uniques r (sym (typed_first pictured.picture.uniques U) ∙ p.0)))
+    among_right pictured.picture.names (pictured.picture.uniques ++ pictured.picture.loose) r
+    (among_left pictured.picture.uniques pictured.picture.loose r (first_among (is_of_type U) pictured.picture.uniques r (sym (typed_first pictured.picture.uniques U) ∙ p.0)))
 origin_among {s = s} pictured (Origin.Owned k) r i h =
     let p = root_of_pair (root_of_register s.registers pictured.owned k) 0 r i h in
-    among_right pictured.picture.names (pictured.picture.uniques ++ unlisted pictured.picture) r (among_right pictured.picture.uniques (unlisted pictured.picture) r (among_unlisted (looks_of pictured) k r p.0))
+    among_right pictured.picture.names (pictured.picture.uniques ++ pictured.picture.loose) r (among_right pictured.picture.uniques pictured.picture.loose r (among_loose (looks_of pictured) k r p.0))
 
 abbrev named_place : ℕ → Option Root → Option (Root × ℕ)
 named_place k o = option_map {T = Root} {U = Root × ℕ} (λ root. (root, k)) o
@@ -113,11 +117,12 @@ pub record Stays {others : List Root} {s : State} {old : List ℕ} (pictured : P
   pub later : Pictures others s new
   pub keeps : KeepsRoots pictured later (λ o. ⊥)
 
-module _ {others : List Root} {s : State} {old : List ℕ} (pictured : Pictures others s old) (new : List ℕ) (held : IsHeld new pictured.picture) where
+module _ {others : List Root} {s : State} {old : List ℕ} (pictured : Pictures others s old) (new : List ℕ) (held : IsHeld new pictured.picture) (counted : AreCounted (word new next_word) pictured.picture) where
   abbrev same_then : Pictures others s new
   same_then = record {
     picture = pictured.picture;
     held = held;
+    counted = counted;
     types = pictured.types;
     names = pictured.names;
     uniques = pictured.uniques;
@@ -131,12 +136,12 @@ module _ {others : List Root} {s : State} {old : List ℕ} (pictured : Pictures 
   begins_same (Origin.Unique U) root item e = e
   begins_same (Origin.Owned r) root item e = e
 
-  pub picture_stays : AllByRecursion (KeepsPaths old new pictured.picture.table) (roots_of pictured.picture) → Stays pictured new
+  pub picture_stays : AllByRecursion (KeepsPaths old new pictured.picture.table) (owners_in pictured.picture) → Stays pictured new
   picture_stays paths = record {
     later = same_then;
     keeps = record {
       table = refl;
-      begins = λ o root item e. inr (begins_same o root item e, each_among (KeepsPaths old new pictured.picture.table) (roots_of pictured.picture) root (origin_among pictured o root item e) paths);
+      begins = λ o root item e. inr (begins_same o root item e, each_among (KeepsPaths old new pictured.picture.table) (owners_in pictured.picture) root (origin_among pictured o root item e) paths);
     };
   }
 
@@ -171,11 +176,12 @@ module _ {others : List Root} {s : State} {old : List ℕ} (pictured : Pictures 
       ∙ sym (ap (option_map object_of) name_there) ∙ ap (λ n. option_map object_of (root_named names_with n)) (same_name_is m root.name g)
   names_then m false g = ap (λ b. if b then Some (object_of root) else s.names m) g ∙ pictured.names m ∙ ap (option_map object_of) (sym (others_with m g))
 
-  module _ (held : IsHeld new (with_roots pictured.picture Listed.by_name names_with)) where
+  module _ (held : IsHeld new (with_roots pictured.picture Listed.by_name names_with)) (counted : AreCounted (word new next_word) (with_roots pictured.picture Listed.by_name names_with)) where
     abbrev with_then : Pictures others state_with new
     with_then = record {
       picture = with_roots pictured.picture Listed.by_name names_with;
       held = held;
+      counted = counted;
       types = pictured.types;
       names = λ m. names_then m (same_name m root.name) refl;
       uniques = pictured.uniques;
@@ -195,12 +201,12 @@ module _ {others : List Root} {s : State} {old : List ℕ} (pictured : Pictures 
             let none : None ≡ Some r = sym free ∙ ap (root_named pictured.picture.names) (same_name_is m root.name g) ∙ p.0 in cc
         by_name false g = ap (named_place k) (others_with m g) ∙ e
 
-    pub named_comes : AllByRecursion (KeepsPaths old new pictured.picture.table) (roots_of pictured.picture) → Comes
+    pub named_comes : AllByRecursion (KeepsPaths old new pictured.picture.table) (owners_in pictured.picture) → Comes
     named_comes paths = record {
       later = with_then;
       keeps = record {
         table = refl;
-        begins = λ o r i e. inr (begins_with o r i e, each_among (KeepsPaths old new pictured.picture.table) (roots_of pictured.picture) r (origin_among pictured o r i e) paths);
+        begins = λ o r i e. inr (begins_with o r i e, each_among (KeepsPaths old new pictured.picture.table) (owners_in pictured.picture) r (origin_among pictured o r i e) paths);
       };
       begins = ap (named_place 0) name_there;
     }
@@ -241,13 +247,17 @@ module _ {others : List Root} {s : State} {old : List ℕ} (pictured : Pictures 
   names_left m false g = ap (λ b. if b then None else s.names m) g ∙ pictured.names m ∙ ap (option_map object_of) (sym (others_without m g))
 
   abbrev rest : List Root
-  rest = pictured.picture.uniques ++ unlisted pictured.picture
+  rest = pictured.picture.uniques ++ pictured.picture.loose
 
-  module _ (held : IsHeld new (with_roots pictured.picture Listed.by_name (before ++ after))) (paths : AllByRecursion (KeepsPaths old new pictured.picture.table) (before ++ (after ++ rest))) where
+  abbrev picture_left : Picture
+  picture_left = without_cells (names_each root.values) (with_roots pictured.picture Listed.by_name (before ++ after))
+
+  module _ (held : IsHeld new picture_left) (counted : AreCounted (word new next_word) picture_left) (paths : AllByRecursion (KeepsPaths old new pictured.picture.table) (before ++ (after ++ rest))) where
     abbrev without_then : Pictures others state_without new
     without_then = record {
-      picture = with_roots pictured.picture Listed.by_name (before ++ after);
+      picture = picture_left;
       held = held;
+      counted = counted;
       types = pictured.types;
       names = λ m. names_left m (same_name m name) refl;
       uniques = pictured.uniques;
@@ -265,10 +275,10 @@ module _ {others : List Root} {s : State} {old : List ℕ} (pictured : Pictures 
     begins_without : (o : Origin) (r : Root) (i : ℕ) → root_at pictured o ≡ Some (r, i) → EndsAt o ⊎ ((root_at without_then o ≡ Some (r, i)) × KeepsPaths old new pictured.picture.table r)
     begins_without (Origin.Unique U) r i e =
         let p = root_of_pair (root_of_type pictured.picture.uniques U) 0 r i e in
-        inr (e, kept r (behind r (among_left pictured.picture.uniques (unlisted pictured.picture) r (first_among (is_of_type U) pictured.picture.uniques r (sym (typed_first pictured.picture.uniques U) ∙ p.0)))))
+        inr (e, kept r (behind r (among_left pictured.picture.uniques pictured.picture.loose r (first_among (is_of_type U) pictured.picture.uniques r (sym (typed_first pictured.picture.uniques U) ∙ p.0)))))
     begins_without (Origin.Owned k) r i e =
         let p = root_of_pair (root_of_register s.registers pictured.owned k) 0 r i e in
-        inr (e, kept r (behind r (among_right pictured.picture.uniques (unlisted pictured.picture) r (among_unlisted (looks_of pictured) k r p.0))))
+        inr (e, kept r (behind r (among_right pictured.picture.uniques pictured.picture.loose r (among_loose (looks_of pictured) k r p.0))))
     begins_without (Origin.Name m k) r i e = by_name (same_name m name) refl
       where
         by_name : (b : Bool) → same_name m name ≡ b → EndsAt (Origin.Name m k) ⊎ ((root_at without_then (Origin.Name m k) ≡ Some (r, i)) × KeepsPaths old new pictured.picture.table r)

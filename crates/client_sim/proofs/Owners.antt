@@ -10,18 +10,24 @@ use Rattle.seg_spec.specs.Value.{Value, nil, cons, copies, default_of}
 use Rattle.seg_spec.specs.Heap.{live}
 use Rattle.seg_spec.specs.Index.{Root, plain_root}
 use Rattle.seg_spec.specs.Reads.{Place, Leads, here}
-use Rattle.seg_spec.specs.Sound.{Picture, roots_of, HoldsRoot}
-use Rattle.seg_spec.specs.Roots.{Listed, roots_in, with_roots, roots_before, roots_after, item_of, KeepsPaths}
+use Rattle.seg_spec.specs.Frozen.{Frozen, blocks_by}
+use Rattle.seg_spec.specs.Shared.{names_each, freed}
+use Rattle.seg_spec.specs.Destroying.{HoldFrozen}
+use Rattle.seg_spec.specs.Counting.{owners_in, without_cells, FrozenGone}
+use Rattle.seg_spec.specs.Sound.{Picture, HoldsRoot, times}
+use Rattle.seg_spec.proofs.LiveLaws.{times-append}
+use Rattle.seg_spec.proofs.CountedParts.{owners_after}
+use Rattle.seg_spec.specs.Roots.{Listed, roots_in, with_roots, roots_before, item_of, KeepsPaths}
 use Rattle.seg_spec.specs.Calls.{Refuses}
 use Rattle.seg_spec.specs.Demand.{block_for, after_gives}
-use Rattle.seg_spec.specs.Spending.{RootBlocks, spent}
+use Rattle.seg_spec.specs.Spending.{spent}
 use Rattle.client_spec.specs.declared.table.Operation.{Operation}
 use Rattle.client_spec.specs.declared.table.Role.{Role}
 use Rattle.client_spec.specs.Syntax.{Constant, Instruction}
 use Rattle.client_spec.specs.Machine.{◌>>=◌, Origin, Register, State, register, set_register, owned_by}
 use Rattle.client_spec.specs.Answer.{success, bad_alloc, answer_number, path_from, fail, give, proceed}
 use Rattle.client_spec.specs.Effect.{outcome, effect}
-use Rattle.client_spec.specs.Asks.{GrantsAsks}
+use Rattle.client_spec.specs.Asks.{GrantsAsks, RootGoes}
 use Rattle.client_spec.specs.Shape.{HasShape}
 use Rattle.client_spec.specs.Typed.{Class, RegisterType, RegisterTypes, known, is_owner, owner_needed, known_after, ended, without_class, rule}
 use Rattle.client_spec.specs.Meaning.{InClass}
@@ -157,12 +163,14 @@ pub record JoinsLoose (allocator : ℕ) (old new : List ℕ) (table : Table) (pi
   pub spends : spent allocator (live old) (length old) (block_for (size table T) ∷ []) [] ≡ Some (live new)
   pub joins : (before after : List Root) → picture.loose ≡ before ++ after → LeavesPicture old new (with_roots picture Listed.loose (before ++ new_object table T at ∷ after)) []
 
--- a root goes with its blocks, and the picture is another one
+-- a root goes with its blocks, and with the frozen objects that it named last; the picture is another one
 pub record LeavesWithout (old new : List ℕ) (table : Table) (root : Root) (other : Picture) : Type 0 where
   pub blocks : List ℕ
   pub holds_it : HoldsRoot old table root blocks
-  pub becomes : LeavesPicture old new other blocks
-  pub live_is : live new ≡ after_gives (live old) blocks
+  pub theirs : ℕ → List ℕ
+  pub holds_shared : HoldFrozen old table theirs other.frozen
+  pub becomes : LeavesPicture old new (without_cells (names_each root.values) other) (blocks ++ blocks_by theirs other.frozen)
+  pub live_is : live new ≡ after_gives (live old) (blocks ++ blocks_by theirs (freed (names_each root.values) other.frozen))
 
 -- the object at this position leaves the loose ones
 abbrev pub LeavesLoose : List ℕ → List ℕ → Table → ℕ → Picture → Type 0
@@ -178,14 +186,29 @@ module _ {others : List Root} {types : Table} {constants : List Constant} {first
   holds_same root blocks holds = subst (λ (t : Table). HoldsRoot w.image t root blocks) table_same holds
 
   -- where one comes
-  pub paths_with : {other : Picture} (new : List ℕ) → LeavesPicture w.image new other [] → AllByRecursion (KeepsPaths w.image new h.pictured.picture.table) (roots_of h.pictured.picture)
+  pub paths_with : {other : Picture} (new : List ℕ) → LeavesPicture w.image new other [] → AllByRecursion (KeepsPaths w.image new h.pictured.picture.table) (owners_in h.pictured.picture)
   paths_with new c = all_paths w.image new h.pictured.picture h.pictured.held [] c.kept (λ n. omega arith)
 
   -- where one goes
-  pub paths_without : {other : Picture} (new : List ℕ) (which : Listed) (before : List Root) (root : Root) (after : List Root) → roots_in h.pictured.picture which ≡ before ++ root ∷ after → LeavesWithout w.image new w.table root other
-      → AllByRecursion (KeepsPaths w.image new h.pictured.picture.table) (roots_before h.pictured.picture which before ++ roots_after h.pictured.picture which after)
-  paths_without new which before root after among c =
-      other_paths w.image new h.pictured.picture h.pictured.held c.blocks c.becomes.kept which before root after among c.blocks (holds_same root c.blocks c.holds_it) (λ n. omega arith)
+  pub shared_same : (theirs : ℕ → List ℕ) (fs : List Frozen) → fs ≡ h.pictured.picture.frozen → HoldFrozen w.image w.table theirs fs → HoldFrozen w.image h.pictured.picture.table theirs h.pictured.picture.frozen
+  shared_same theirs fs same holds = subst (HoldFrozen w.image h.pictured.picture.table theirs) same (subst (λ (t : Table). HoldFrozen w.image t theirs fs) table_same holds)
+
+  pub paths_without : {other : Picture} (new : List ℕ) (which : Listed) (before : List Root) (root : Root) (after : List Root) → roots_in h.pictured.picture which ≡ before ++ root ∷ after
+      → other.frozen ≡ h.pictured.picture.frozen → LeavesWithout w.image new w.table root other
+      → AllByRecursion (KeepsPaths w.image new h.pictured.picture.table) (roots_before h.pictured.picture which before ++ owners_after h.pictured.picture which after)
+  paths_without {other = other} new which before root after among same c =
+      other_paths w.image new h.pictured.picture h.pictured.held (c.blocks ++ blocks_by c.theirs other.frozen) c.becomes.kept which before root after among c.blocks (holds_same root c.blocks c.holds_it)
+      c.theirs (shared_same c.theirs other.frozen same c.holds_shared)
+      (λ n. let e = times-append n c.blocks (blocks_by c.theirs other.frozen) in let f = ap (λ fs. times n (blocks_by c.theirs fs)) same in omega (arith, e, f))
+
+  -- what is given back with it
+  pub gone_with : {other : Picture} (new : List ℕ) (root : Root) → other.frozen ≡ h.pictured.picture.frozen → (c : LeavesWithout w.image new w.table root other)
+      → FrozenGone w.image h.pictured.picture (names_each root.values) (blocks_by c.theirs (freed (names_each root.values) other.frozen))
+  gone_with {other = other} new root same c = record {
+    theirs = c.theirs;
+    holds = shared_same c.theirs other.frozen same c.holds_shared;
+    blocks_are = ap (λ fs. blocks_by c.theirs (freed (names_each root.values) fs)) same;
+  }
 
 module _ (allocator : ℕ) (constants : List Constant) (role : Role) (a b c : ℕ) (number : ℤ) (w : World) (new : List ℕ) where
   abbrev of : Operation → Instruction
@@ -211,7 +234,7 @@ module _ (allocator : ℕ) (constants : List Constant) (role : Role) (a b c : �
       let within = valid.a in
       let joined = λ (before after : List Root) (same : h.pictured.picture.loose ≡ before ++ after). call.joins before after same in
       let alone = joined [] h.pictured.picture.loose refl in
-      let come = owned_comes h.pictured a (omega (arith, n, m, within)) vacant d T root refl values_are new (λ before after same. (joined before after same).held) (paths_with h new alone) in
+      let come = owned_comes h.pictured a (omega (arith, n, m, within)) vacant d T root refl values_are new (λ before after same. let j = joined before after same in (j.held, j.counted)) (paths_with h new alone) in
       let fits = default_has s.types h.as_known.typed.forms T t.2.0 t.2.1 in
       let shows = shows_owning one h a within g.0 d place fits root refl refl new come alone.front_kept in
       let good_is : good ≡ slice_set ks a (RegisterType.Owner T) = g.1 ∙ ap (λ u. slice_set ks a (RegisterType.Owner u)) t.0 in
@@ -260,11 +283,13 @@ module _ (allocator : ℕ) (constants : List Constant) (role : Role) (a b c : �
       let r = owned_root one h b (place_in w b) shown.2 in
       let seat = owned_goes h.pictured b r.0 r.1 in
       let call = of_picture h (LeavesLoose w.image new w.table (place_in w b).at) says seat.before r.0 seat.after seat.among r.2 in
-      let goes = seat.goes new call.becomes.held (paths_without h new Listed.loose seat.before r.0 seat.after seat.among call) in
+      let goes = seat.goes new (call.becomes.held, call.becomes.counted) (paths_without h new Listed.loose seat.before r.0 seat.after seat.among refl call) in
       let shows = shows_released one h b valid.b new goes call.becomes.front_kept in
       let row : outcome constants i true s ≡ Some (success, set_register s b Register.Undefined) = ap (λ x. owned_by x >>= λ _. proceed (set_register s b Register.Undefined)) owner.1.1 in
-      let returned : RootBlocks w.image s.types (root_of_register s.registers h.pictured.owned b) call.blocks =
-      subst (λ (o : Option Root). RootBlocks w.image s.types o call.blocks) (sym r.1) (subst (λ (t : Table). HoldsRoot w.image t r.0 call.blocks) h.table_is call.holds_it) in
-      let blocks : GrantsAsks constants i h.pictured new = record { asks = []; asked = refl; gives = call.blocks; returned = returned; blocks = live w.image; granted = refl; left = call.live_is } in
+      let shared = blocks_by call.theirs (freed (names_each r.0.values) h.pictured.picture.frozen) in
+      let returned : RootGoes constants i h.pictured (root_of_register s.registers h.pictured.owned b) (call.blocks ++ shared) =
+      subst (λ (o : Option Root). RootGoes constants i h.pictured o (call.blocks ++ shared)) (sym r.1)
+      (call.blocks, subst (λ (t : Table). HoldsRoot w.image t r.0 call.blocks) h.table_is call.holds_it, (shared, gone_with h new r.0 refl call, refl)) in
+      let blocks : GrantsAsks constants i h.pictured new = record { asks = []; asked = refl; gives = call.blocks ++ shared; returned = returned; blocks = live w.image; granted = refl; left = call.live_is } in
       subst (λ k. Acts others types constants first allocator i success k s w (without_owner w new b)) (ap (λ (r : RegisterTypes × RegisterTypes). r.0) pair)
       (acts_so others types constants first allocator ks s w h i success true after (set_register s b Register.Undefined) (without_owner w new b) row blocks call.becomes.length_kept call.becomes.front_kept refl shows)

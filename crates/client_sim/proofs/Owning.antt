@@ -4,18 +4,22 @@ use Rattle.std.specs.Prelude.{slice_set, slice_index_or, option_map}
 use Rattle.std.specs.List.{AllByRecursion}
 use Rattle.std.proofs.lemmas.Bool.{cases_eq}
 use Rattle.std.proofs.lemmas.List.{set-get_or}
+use Rattle.seg_spec.specs.Bytes.{word}
+use Rattle.seg_spec.specs.Header.{next_word}
 use Rattle.seg_spec.specs.Value.{Value, nil, cons}
 use Rattle.seg_spec.specs.Index.{Root, root_named, root_of_type}
-use Rattle.seg_spec.specs.Sound.{roots_of, IsHeld}
-use Rattle.seg_spec.specs.Roots.{Listed, with_roots, roots_before, roots_after, KeepsPaths}
-use Rattle.seg_spec.proofs.RootLaws.{roots_with}
+use Rattle.seg_spec.specs.Shared.{names_each}
+use Rattle.seg_spec.specs.Sound.{Picture, IsHeld}
+use Rattle.seg_spec.specs.Counting.{owners_in, AreCounted, without_cells}
+use Rattle.seg_spec.specs.Roots.{Listed, with_roots, roots_before, KeepsPaths}
+use Rattle.seg_spec.proofs.CountedParts.{owners_after, owners_with}
 use Rattle.client_spec.specs.Machine.{Origin, Register, State, register, set_register, owned_by}
 use Rattle.client_spec.specs.Pictures.{root_of_register, AreOwned, Pictures, root_at}
 use Rattle.client_sim.proofs.FirstRoots.{Among, each_among, among_left, among_right, first_among, is_named, is_of_type, named_first, typed_first}
 use Rattle.client_sim.proofs.OwnedRoots.{owned_split}
 use Rattle.client_sim.proofs.Giving.{first_none, later_none}
 use Rattle.client_sim.proofs.Looks.{looks_of}
-use Rattle.client_sim.proofs.RootPuts.{root_of_pair, unlisted, among_unlisted}
+use Rattle.client_sim.proofs.RootPuts.{root_of_pair, among_loose}
 use Rattle.client_sim.proofs.Rooted.{KeepsRoots}
 
 -- ---- where the object of a register stands among those of all
@@ -146,19 +150,19 @@ taken_seat (Register.Reference p ∷ rs) owned (suc a) root h e = taken_after (R
 
 module _ {others : List Root} {s : State} {old : List ℕ} (pictured : Pictures others s old) where
   -- where a path begins there is a root of the image
-  pub root_among : (o : Origin) (root : Root) (item : ℕ) → root_at pictured o ≡ Some (root, item) → Among (roots_of pictured.picture) root
+  pub root_among : (o : Origin) (root : Root) (item : ℕ) → root_at pictured o ≡ Some (root, item) → Among (owners_in pictured.picture) root
   root_among (Origin.Name name i) root item e =
       let picture = pictured.picture in
       let p = root_of_pair (root_named picture.names name) i root item e in
-      among_left picture.names (picture.uniques ++ unlisted picture) root (first_among (is_named name) picture.names root (sym (named_first picture.names name) ∙ p.0))
+      among_left picture.names (picture.uniques ++ picture.loose) root (first_among (is_named name) picture.names root (sym (named_first picture.names name) ∙ p.0))
   root_among (Origin.Unique T) root item e =
       let picture = pictured.picture in
       let p = root_of_pair (root_of_type picture.uniques T) 0 root item e in
-      among_right picture.names (picture.uniques ++ unlisted picture) root (among_left picture.uniques (unlisted picture) root (first_among (is_of_type T) picture.uniques root (sym (typed_first picture.uniques T) ∙ p.0)))
+      among_right picture.names (picture.uniques ++ picture.loose) root (among_left picture.uniques picture.loose root (first_among (is_of_type T) picture.uniques root (sym (typed_first picture.uniques T) ∙ p.0)))
   root_among (Origin.Owned r) root item e =
       let picture = pictured.picture in
       let p = root_of_pair (root_of_register s.registers pictured.owned r) 0 root item e in
-      among_right picture.names (picture.uniques ++ unlisted picture) root (among_right picture.uniques (unlisted picture) root (among_unlisted (looks_of pictured) r root p.0))
+      among_right picture.names (picture.uniques ++ picture.loose) root (among_right picture.uniques picture.loose root (among_loose (looks_of pictured) r root p.0))
 
   -- the roots where paths begin are found again
   pub found_again : {s' : State} {new : List ℕ} (later : Pictures others s' new) (Ends : Origin → Type 0)
@@ -179,25 +183,29 @@ module _ {others : List Root} {s : State} {old : List ℕ} (pictured : Pictures 
 -- where one comes, or where one goes
 pub keeps_all : {others : List Root} {s s' : State} {old new : List ℕ} (pictured : Pictures others s old) (later : Pictures others s' new) (Ends : Origin → Type 0) → later.picture.table ≡ pictured.picture.table
     → ((o : Origin) (root : Root) (item : ℕ) → root_at pictured o ≡ Some (root, item) → Ends o ⊎ (root_at later o ≡ Some (root, item)))
-    → AllByRecursion (KeepsPaths old new pictured.picture.table) (roots_of pictured.picture) → KeepsRoots pictured later Ends
+    → AllByRecursion (KeepsPaths old new pictured.picture.table) (owners_in pictured.picture) → KeepsRoots pictured later Ends
 keeps_all {old = old} {new = new} pictured later Ends table begins paths = record {
   table = table;
   begins = λ o root item e. elim (begins o root item e) [
     | inl f ↦ inl f
-    | inr f ↦ inr (f, each_among (KeepsPaths old new pictured.picture.table) (roots_of pictured.picture) root (root_among pictured o root item e) paths)
+    | inr f ↦ inr (f, each_among (KeepsPaths old new pictured.picture.table) (owners_in pictured.picture) root (root_among pictured o root item e) paths)
   ];
 }
 
 pub keeps_others : {others : List Root} {s s' : State} {old new : List ℕ} (pictured : Pictures others s old) (later : Pictures others s' new) (Ends : Origin → Type 0) → later.picture.table ≡ pictured.picture.table
     → ((o : Origin) (root : Root) (item : ℕ) → root_at pictured o ≡ Some (root, item) → Ends o ⊎ (root_at later o ≡ Some (root, item)))
-    → AllByRecursion (KeepsPaths old new pictured.picture.table) (roots_of later.picture) → KeepsRoots pictured later Ends
+    → AllByRecursion (KeepsPaths old new pictured.picture.table) (owners_in later.picture) → KeepsRoots pictured later Ends
 keeps_others {old = old} {new = new} pictured later Ends table begins paths = record {
   table = table;
   begins = λ o root item e. elim (begins o root item e) [
     | inl f ↦ inl f
-    | inr f ↦ inr (f, each_among (KeepsPaths old new pictured.picture.table) (roots_of later.picture) root (root_among later o root item f) paths)
+    | inr f ↦ inr (f, each_among (KeepsPaths old new pictured.picture.table) (owners_in later.picture) root (root_among later o root item f) paths)
   ];
 }
+
+-- the bytes hold the picture, and count its frozen objects
+abbrev pub IsHeldCounted : List ℕ → Picture → Type 0
+IsHeldCounted bytes picture = IsHeld bytes picture × AreCounted (word bytes next_word) picture
 
 module _ {others : List Root} {s : State} {old : List ℕ} (pictured : Pictures others s old) where
   -- ---- a register comes to own an object
@@ -208,13 +216,15 @@ module _ {others : List Root} {s : State} {old : List ℕ} (pictured : Pictures 
     pub here : root_at later (Origin.Owned a) ≡ Some (root, 0)
 
   pub owned_comes : (a : ℕ) → a < length s.registers → owned_by (register s a) ≡ None → (v : Value) (t : ℕ) (root : Root) → root.type ≡ t → root.values ≡ cons v nil → (new : List ℕ)
-      → ((before after : List Root) → pictured.picture.loose ≡ before ++ after → IsHeld new (with_roots pictured.picture Listed.loose (before ++ root ∷ after)))
-      → AllByRecursion (KeepsPaths old new pictured.picture.table) (roots_of pictured.picture) → OwnedComes a v t root new
+      → ((before after : List Root) → pictured.picture.loose ≡ before ++ after → IsHeldCounted new (with_roots pictured.picture Listed.loose (before ++ root ∷ after)))
+      → AllByRecursion (KeepsPaths old new pictured.picture.table) (owners_in pictured.picture) → OwnedComes a v t root new
   owned_comes a within none v t root type_is values_are new joins paths =
       let m = free_seat s.registers pictured.owned a pictured.are_owned within none in
+      let joined = joins (others ++ m.before) m.after (pictured.loose ∙ ap (λ xs. others ++ xs) m.among ∙ sym (append_assoc others m.before m.after)) in
       let later : Pictures others (set_register s a (Register.Owner v t)) new = record {
         picture = with_roots pictured.picture Listed.loose ((others ++ m.before) ++ root ∷ m.after);
-        held = joins (others ++ m.before) m.after (pictured.loose ∙ ap (λ xs. others ++ xs) m.among ∙ sym (append_assoc others m.before m.after));
+        held = joined.0;
+        counted = joined.1;
         types = pictured.types;
         names = pictured.names;
         uniques = pictured.uniques;
@@ -245,8 +255,8 @@ module _ {others : List Root} {s : State} {old : List ℕ} (pictured : Pictures 
     pub before : List Root
     pub after : List Root
     pub among : pictured.picture.loose ≡ before ++ root ∷ after
-    pub goes : (new : List ℕ) → IsHeld new (with_roots pictured.picture Listed.loose (before ++ after))
-        → AllByRecursion (KeepsPaths old new pictured.picture.table) (roots_before pictured.picture Listed.loose before ++ roots_after pictured.picture Listed.loose after) → OwnedGoes b new
+    pub goes : (new : List ℕ) → IsHeldCounted new (without_cells (names_each root.values) (with_roots pictured.picture Listed.loose (before ++ after)))
+        → AllByRecursion (KeepsPaths old new pictured.picture.table) (roots_before pictured.picture Listed.loose before ++ owners_after pictured.picture Listed.loose after) → OwnedGoes b new
 
   pub owned_goes : (b : ℕ) (root : Root) → root_of_register s.registers pictured.owned b ≡ Some root → OwnedAmong b root
   owned_goes b root e =
@@ -258,8 +268,9 @@ module _ {others : List Root} {s : State} {old : List ℕ} (pictured : Pictures 
         among = pictured.loose ∙ ap (λ xs. others ++ xs) m.among ∙ sym (append_assoc others m.before (root ∷ m.after));
         goes = λ new held paths.
             let later : Pictures others (set_register s b Register.Undefined) new = record {
-              picture = with_roots picture Listed.loose ((others ++ m.before) ++ m.after);
-              held = held;
+              picture = without_cells (names_each root.values) (with_roots picture Listed.loose ((others ++ m.before) ++ m.after));
+              held = held.0;
+              counted = held.1;
               types = pictured.types;
               names = pictured.names;
               uniques = pictured.uniques;
@@ -267,7 +278,7 @@ module _ {others : List Root} {s : State} {old : List ℕ} (pictured : Pictures 
               are_owned = m.seat.empty Register.Undefined refl;
               loose = append_assoc others m.before m.after;
             } in
-            let among : roots_before picture Listed.loose (others ++ m.before) ++ roots_after picture Listed.loose m.after ≡ roots_of later.picture = sym (roots_with picture Listed.loose (others ++ m.before) [] m.after) in
+            let among : roots_before picture Listed.loose (others ++ m.before) ++ owners_after picture Listed.loose m.after ≡ owners_in later.picture = sym (owners_with picture Listed.loose (others ++ m.before) [] m.after) in
             let there : (q : ℕ) (r : Root) → root_of_register s.registers pictured.owned q ≡ Some r
             → (Origin.Owned q ≡ Origin.Owned b) ⊎ (root_of_register (slice_set s.registers b Register.Undefined) (m.before ++ m.after) q ≡ Some r) = λ q r f. elim (cases_eq q b) [
               | inl same ↦ inl (ap Origin.Owned same)

@@ -1,5 +1,5 @@
 -- Objects come and go: each path that still begins somewhere leads where it led, and a world that stood for the state stands for the one with the object more or less.
-use Rattle.std.proofs.Common.{◌≡◌, ℕ, ◌≤◌, ◌+◌, ◌⊎◌, inl, inr, List, [], ◌∷◌, ◌++◌, length, drop, Option, Some, refl, sym, ◌∙◌, ap, subst, arith}
+use Rattle.std.proofs.Common.{◌≡◌, ℕ, ◌≤◌, ◌+◌, ◌⊎◌, inl, inr, List, [], ◌∷◌, ◌++◌, length, drop, Option, Some, refl, sym, ◌∙◌, ap, subst, append_assoc, arith}
 use Rattle.std.specs.List.{AllByRecursion}
 use Rattle.seg_spec.specs.Bytes.{word}
 use Rattle.seg_spec.specs.Header.{allocator_word, free_word, KeepsFront}
@@ -10,14 +10,21 @@ use Rattle.seg_spec.specs.Heap.{live}
 use Rattle.seg_spec.specs.Block.{block_of, KeepsBlock}
 use Rattle.seg_spec.specs.Index.{Root}
 use Rattle.seg_spec.specs.Reads.{Place, Leads}
-use Rattle.seg_spec.specs.Sound.{payload_of, Picture, roots_of, HoldsRoot, IsHeld, times, positions}
+use Rattle.seg_spec.specs.Sound.{payload_of, Picture, frozen_roots, roots_of, HoldsRoot, HoldsRoots, IsHeld, times, positions}
+use Rattle.seg_spec.specs.Frozen.{blocks_by}
+use Rattle.seg_spec.specs.Destroying.{HoldFrozen}
+use Rattle.seg_spec.specs.Counting.{owners_in}
 use Rattle.seg_spec.specs.Roots.{Listed, roots_in, roots_before, roots_after, item_of, KeepsPaths}
 use Rattle.seg_spec.proofs.SliceLaws.{IsSame-part}
 use Rattle.seg_spec.proofs.Frame.{word-same}
 use Rattle.seg_spec.proofs.LiveLaws.{times-append, each_there, live-once}
 use Rattle.seg_spec.proofs.LooseRoots.{each_joined}
 use Rattle.seg_spec.proofs.OneReading.{HoldsEach-one}
-use Rattle.seg_spec.proofs.RootLaws.{root_comes_apart}
+use Rattle.seg_spec.proofs.RootLaws.{HoldsRoots-split, root_comes_apart}
+use Rattle.seg_spec.proofs.MoveLaw.{HoldsRoots_blocks-one}
+use Rattle.seg_spec.proofs.CountedPictures.{roots_held}
+use Rattle.seg_spec.proofs.CountedParts.{owners_after}
+use Rattle.seg_spec.proofs.Frame.{each_left}
 use Rattle.seg_spec.proofs.RootPaths.{roots_paths}
 use Rattle.client_spec.specs.Syntax.{Constant}
 use Rattle.client_spec.specs.Machine.{◌>>=◌, Origin, Path, Register, State, register, owned_by, path_value}
@@ -27,36 +34,47 @@ use Rattle.client_spec.specs.Pictures.{Pictures, LeadsInImage, root_at}
 use Rattle.client_spec.specs.Typed.{RegisterType, RegisterTypes, known}
 use Rattle.client_sim.specs.Writes.{Took}
 use Rattle.client_sim.specs.Shows.{World, number_in, place_in, owns_in, HasRegisters, Shown, Shows}
+use Rattle.client_sim.proofs.RootPuts.{after_split}
 use Rattle.client_sim.proofs.Placed.{item_within}
 
 -- ---- paths
 
+-- the owners before the frozen objects
+owners_front : (picture : Picture) → roots_of picture ≡ owners_in picture ++ frozen_roots picture
+owners_front picture = simp append_assoc
+
 -- each live block but for those that are gone is kept
 module _ (old new : List ℕ) (picture : Picture) (held : IsHeld old picture) (gone : List ℕ) (kept : (h : ℕ) → 1 ≤ times h (positions (live old)) → times h gone ≡ 0 → KeepsBlock old new h) where
   -- of the roots' none is
-  pub all_paths : ((h : ℕ) → times h gone ≤ times h held.index_blocks) → AllByRecursion (KeepsPaths old new picture.table) (roots_of picture)
-  all_paths few = roots_paths old new picture.table held.laid_out.is_table held.roots (each_there (KeepsBlock old new) held.root_blocks (λ h some.
+  pub all_paths : ((h : ℕ) → times h gone ≤ times h held.index_blocks) → AllByRecursion (KeepsPaths old new picture.table) (owners_in picture)
+  all_paths few = each_left (KeepsPaths old new picture.table) (owners_in picture) (frozen_roots picture) (subst (AllByRecursion (KeepsPaths old new picture.table)) (owners_front picture)
+      (roots_paths old new picture.table held.laid_out.is_table held.roots (each_there (KeepsBlock old new) held.root_blocks (λ h some.
       let e = held.owners h ∙ times-append h held.index_blocks held.root_blocks in
       let once = live-once old (word old allocator_word) held.laid_out.heap h in
-      kept h (omega (arith, e, some)) (omega (arith, e, once, few h, some))))
+      kept h (omega (arith, e, some)) (omega (arith, e, once, few h, some))))))
 
-  -- one root's may be
+  -- one root's may be, and those of frozen objects
   pub other_paths : (which : Listed) (before : List Root) (root : Root) (after : List Root) → roots_in picture which ≡ before ++ root ∷ after → (objects : List ℕ) → HoldsRoot old picture.table root objects
-      → ((h : ℕ) → times h gone ≤ times h objects + times h held.index_blocks)
-      → AllByRecursion (KeepsPaths old new picture.table) (roots_before picture which before ++ roots_after picture which after)
-  other_paths which before root after among objects holds few =
+      → (theirs : ℕ → List ℕ) → HoldFrozen old picture.table theirs picture.frozen → ((h : ℕ) → times h gone ≤ times h objects + times h held.index_blocks + times h (blocks_by theirs picture.frozen))
+      → AllByRecursion (KeepsPaths old new picture.table) (roots_before picture which before ++ owners_after picture which after)
+  other_paths which before root after among objects holds theirs frozen few =
       let a = root_comes_apart old picture held which before root after among in
+      let back = owners_after picture which after in
       let same : a.its ≡ objects = a.holds_it.blocks_are ∙ ap (λ bs. block_of (payload_of root) ∷ bs) (HoldsEach-one old picture.table a.holds_it.values holds.values).1 ∙ sym holds.blocks_are in
-      let stay : (h : ℕ) → 1 ≤ times h a.left + times h a.right → KeepsBlock old new h = λ h some.
+      let b = HoldsRoots-split old picture.table back (frozen_roots picture) a.right (subst (λ rs. HoldsRoots old picture.table rs a.right) (after_split picture which after) a.holds_after) in
+      let shared : b.right ≡ blocks_by theirs picture.frozen = HoldsRoots_blocks-one old picture.table (frozen_roots picture) b.right (blocks_by theirs picture.frozen) b.rights (roots_held old picture.table theirs picture.frozen frozen) in
+      let stay : (h : ℕ) → 1 ≤ times h a.left + times h b.left → KeepsBlock old new h = λ h some.
       (let e = held.owners h ∙ times-append h held.index_blocks held.root_blocks in
       let f = ap (times h) a.blocks_are ∙ times-append h a.left (a.its ++ a.right) in
       let g = times-append h a.its a.right in
+      let i = ap (times h) b.blocks_are ∙ times-append h b.left b.right in
       let mine = ap (times h) same in
+      let others = ap (times h) shared in
       let once = live-once old (word old allocator_word) held.laid_out.heap h in
-      kept h (omega (arith, e, f, g, some)) (omega (arith, e, f, g, mine, once, few h, some))) in
-      each_joined (KeepsPaths old new picture.table) (roots_before picture which before) (roots_after picture which after)
+      kept h (omega (arith, e, f, g, i, some)) (omega (arith, e, f, g, i, mine, others, once, few h, some))) in
+      each_joined (KeepsPaths old new picture.table) (roots_before picture which before) back
       (roots_paths old new picture.table held.laid_out.is_table a.holds_before (each_there (KeepsBlock old new) a.left (λ h some. stay h (omega (arith, some)))))
-      (roots_paths old new picture.table held.laid_out.is_table a.holds_after (each_there (KeepsBlock old new) a.right (λ h some. stay h (omega (arith, some)))))
+      (roots_paths old new picture.table held.laid_out.is_table b.lefts (each_there (KeepsBlock old new) b.left (λ h some. stay h (omega (arith, some)))))
 
 -- where paths begin finds its root where it was, but for those that end, and paths from there lead where they led
 pub record KeepsRoots {others : List Root} {s s' : State} {old new : List ℕ} (pictured : Pictures others s old) (later : Pictures others s' new) (Ends : Origin → Type 0) : Type 0 where

@@ -12,7 +12,9 @@ use Rattle.seg_spec.specs.Sound.{Picture, HoldsRoot}
 use Rattle.seg_spec.specs.Roots.{Listed, with_roots}
 use Rattle.seg_spec.specs.Calls.{Refuses}
 use Rattle.seg_spec.specs.Demand.{Ask, block_for}
-use Rattle.seg_spec.specs.Spending.{RootBlocks, spent}
+use Rattle.seg_spec.specs.Spending.{spent}
+use Rattle.seg_spec.specs.Frozen.{blocks_by}
+use Rattle.seg_spec.specs.Shared.{names_each, freed}
 use Rattle.client_spec.specs.declared.table.Operation.{Operation}
 use Rattle.client_spec.specs.declared.table.Role.{Role}
 use Rattle.client_spec.specs.declared.table.Number.{Number}
@@ -20,7 +22,7 @@ use Rattle.client_spec.specs.Syntax.{Constant, Instruction}
 use Rattle.client_spec.specs.Machine.{Origin, Path, Register, State, with_unique, set_register}
 use Rattle.client_spec.specs.Answer.{Answer, Outcome, success, bad_alloc, already_exists, answer_number, path_from, refer, fail, give_count}
 use Rattle.client_spec.specs.Effect.{outcome, effect, add_unique, truth}
-use Rattle.client_spec.specs.Asks.{GrantsAsks, Denies, ChangesBlocks, Asks, Returns, if_absent}
+use Rattle.client_spec.specs.Asks.{GrantsAsks, Denies, ChangesBlocks, Asks, Returns, RootGoes, if_absent}
 use Rattle.client_spec.specs.Grammar.{IsNumber, IsInstruction}
 use Rattle.client_spec.specs.Shape.{HasShape}
 use Rattle.client_spec.specs.Typed.{Class, RegisterType, RegisterTypes, known, is_owner, ended, without_class, opens, rule}
@@ -40,7 +42,7 @@ use Rattle.client_sim.proofs.Granting.{grants_spent, denies}
 use Rattle.client_sim.proofs.Rooted.{shows_rooted, pictured_rooted}
 use Rattle.client_sim.proofs.Finding.{OfPicture, of_picture, begins_unique, type_number, unique_found, none_unique, leads_unique, unique_typed}
 use Rattle.client_sim.proofs.Ended.{LeavesPicture, type_known, ended_shown}
-use Rattle.client_sim.proofs.Owners.{new_object, LeavesWithout, paths_with, paths_without}
+use Rattle.client_sim.proofs.Owners.{new_object, LeavesWithout, paths_with, paths_without, gone_with}
 use Rattle.client_sim.proofs.Uniques.{UniqueComes, unique_comes, UniqueGoes, unique_goes}
 
 -- there is none of the type, and a new one joins the others
@@ -170,7 +172,7 @@ module _ (allocator : ℕ) (constants : List Constant) (role : Role) (a b c : �
         let root = new_object w.table T at in
         let values_are : root.values ≡ cons d nil = ap (λ (z : Table). copies 1 (default_of z T)) h.table_is in
         let none : s.uniques T ≡ None = none_unique h T (ap (λ (o : Option Root). option_map {T = Root} {U = ℕ} (λ r. r.at) o) call.none) in
-        let come = unique_comes h.pictured T d root refl values_are call.none call.before call.after call.uniques_are new call.becomes.held (paths_with h new call.becomes) in
+        let come = unique_comes h.pictured T d root refl values_are call.none call.before call.after call.uniques_are new (call.becomes.held, call.becomes.counted) (paths_with h new call.becomes) in
         let fits = default_has s.types h.as_known.typed.forms T known_type.2.0 known_type.2.1 in
         let more = shows_more one h T d fits none root new come call.becomes.front_kept in
         let u = unique_found more T at (more_there one h T d fits none root new come call.becomes.front_kept) in
@@ -327,13 +329,14 @@ module _ (allocator : ℕ) (constants : List Constant) (role : Role) (a b c : �
           let picture = h.pictured.picture in
           let c = call.loses in
           let u = unique_found h T call.root.at (ap (λ (o : Option Root). option_map {T = Root} {U = ℕ} (λ r. r.at) o) call.root_is) in
-          let goes = unique_goes h.pictured T call.root call.root_is call.before call.after call.uniques_are new c.becomes.held (paths_without h new Listed.by_type call.before call.root call.after call.uniques_are c) in
+          let goes = unique_goes h.pictured T call.root call.root_is call.before call.after call.uniques_are new (c.becomes.held, c.becomes.counted) (paths_without h new Listed.by_type call.before call.root call.after call.uniques_are refl c) in
           let less = shows_less one h T new goes c.becomes.front_kept in
           let s' = s_less one h T new goes c.becomes.front_kept in
-          let returned : RootBlocks w.image s.types (root_of_type picture.uniques (nat_abs number)) c.blocks =
-          subst (λ (o : Option Root). RootBlocks w.image s.types o c.blocks) (sym (ap (root_of_type picture.uniques) operand ∙ call.root_is))
-          (subst (λ (t : Table). HoldsRoot w.image t call.root c.blocks) h.table_is c.holds_it) in
-          let blocks : GrantsAsks constants i h.pictured new = record { asks = []; asked = refl; gives = c.blocks; returned = returned; blocks = live w.image; granted = refl; left = c.live_is } in
+          let shared = blocks_by c.theirs (freed (names_each call.root.values) picture.frozen) in
+          let returned : RootGoes constants i h.pictured (root_of_type picture.uniques (nat_abs number)) (c.blocks ++ shared) =
+          subst (λ (o : Option Root). RootGoes constants i h.pictured o (c.blocks ++ shared)) (sym (ap (root_of_type picture.uniques) operand ∙ call.root_is))
+          (c.blocks, subst (λ (t : Table). HoldsRoot w.image t call.root c.blocks) h.table_is c.holds_it, (shared, gone_with h new call.root refl c, refl)) in
+          let blocks : GrantsAsks constants i h.pictured new = record { asks = []; asked = refl; gives = c.blocks ++ shared; returned = returned; blocks = live w.image; granted = refl; left = c.live_is } in
           acts_so others types constants first allocator ks s w h i success true (slice_set (ended (Class.Unique T) ks) a RegisterType.Int) (set_register s' a (Register.Int (pos 1))) (with_number (with_image w new) a (pos 1))
           (row (Some u.plain.value) u.there ∙ answer_is types constants (ended (Class.Unique T) ks) s' less.as_known success a (Register.Int (pos 1)) free) blocks c.becomes.length_kept c.becomes.front_kept refl
           (shows_number others types constants first allocator (ended (Class.Unique T) ks) s' (with_image w new) less a (pos 1) within free)
@@ -341,8 +344,8 @@ module _ (allocator : ℕ) (constants : List Constant) (role : Role) (a b c : �
           let i = of Operation.KillUnique in
           let picture = h.pictured.picture in
           let still = shows_ended one h (Class.Unique T) in
-          let returned : RootBlocks w.image s.types (root_of_type picture.uniques (nat_abs number)) [] =
-          subst (λ (o : Option Root). RootBlocks w.image s.types o []) (sym (ap (root_of_type picture.uniques) operand ∙ none_begins (root_of_type picture.uniques T) call.0)) refl in
+          let returned : RootGoes constants i h.pictured (root_of_type picture.uniques (nat_abs number)) [] =
+          subst (λ (o : Option Root). RootGoes constants i h.pictured o []) (sym (ap (root_of_type picture.uniques) operand ∙ none_begins (root_of_type picture.uniques T) call.0)) refl in
           subst (λ (image : List ℕ). Acts others types constants first allocator i success (slice_set (ended (Class.Unique T) ks) a RegisterType.Int) s w (with_number (with_image w image) a (pos 0))) (sym call.1)
           (acts_so others types constants first allocator ks s w h i success true (slice_set (ended (Class.Unique T) ks) a RegisterType.Int) (set_register s a (Register.Int (pos 0))) (with_number w a (pos 0))
           (row None (none_unique h T call.0) ∙ answer_is types constants (ended (Class.Unique T) ks) s still.as_known success a (Register.Int (pos 0)) free) (quiet constants i h.pictured refl returned) refl refl refl

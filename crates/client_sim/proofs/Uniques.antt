@@ -6,15 +6,16 @@ use Rattle.std.proofs.lemmas.Bool.{eqb-true}
 use Rattle.std.proofs.lemmas.Bool.Decides.{nat_tests}
 use Rattle.seg_spec.specs.Value.{Value, nil, cons, nth}
 use Rattle.seg_spec.specs.Index.{Root, root_of_type, AreRising}
-use Rattle.seg_spec.specs.Sound.{roots_of, IsHeld}
-use Rattle.seg_spec.specs.Roots.{Listed, with_roots, roots_before, roots_after, KeepsPaths}
-use Rattle.seg_spec.proofs.RootLaws.{roots_with}
+use Rattle.seg_spec.specs.Shared.{names_each}
+use Rattle.seg_spec.specs.Counting.{owners_in, without_cells}
+use Rattle.seg_spec.specs.Roots.{Listed, with_roots, roots_before, KeepsPaths}
+use Rattle.seg_spec.proofs.CountedParts.{owners_after, owners_with}
 use Rattle.seg_spec.proofs.UniqueLaws.{none_below, none_root}
 use Rattle.client_spec.specs.Machine.{Origin, State, with_unique}
 use Rattle.client_spec.specs.Pictures.{Pictures}
 use Rattle.client_sim.proofs.FirstRoots.{first_of, first_split, first_here, first_beside, is_of_type, typed_first}
 use Rattle.client_sim.proofs.Rooted.{KeepsRoots}
-use Rattle.client_sim.proofs.Owning.{found_again, keeps_all, keeps_others}
+use Rattle.client_sim.proofs.Owning.{IsHeldCounted, found_again, keeps_all, keeps_others}
 
 -- ---- the roots of types
 
@@ -75,14 +76,15 @@ module _ {others : List Root} {s : State} {old : List ℕ} (pictured : Pictures 
     pub here : root_of_type later.picture.uniques T ≡ Some root
 
   pub unique_comes : (T : ℕ) (v : Value) (root : Root) → T ≡ root.type → root.values ≡ cons v nil → root_of_type pictured.picture.uniques T ≡ None → (before after : List Root) → pictured.picture.uniques ≡ before ++ after → (new : List ℕ)
-      → IsHeld new (with_roots pictured.picture Listed.by_type (before ++ root ∷ after)) → AllByRecursion (KeepsPaths old new pictured.picture.table) (roots_of pictured.picture) → UniqueComes T v root new
+      → IsHeldCounted new (with_roots pictured.picture Listed.by_type (before ++ root ∷ after)) → AllByRecursion (KeepsPaths old new pictured.picture.table) (owners_in pictured.picture) → UniqueComes T v root new
   unique_comes T v root type_is values_are none before after parts new held paths =
       let roots = before ++ root ∷ after in
       let there : root_of_type roots T ≡ Some root = joined_there before root after T type_is (ap (λ xs. root_of_type xs T) (sym parts) ∙ none) in
       let beside : (U : ℕ) → (U == T) ≡ false → root_of_type roots U ≡ root_of_type pictured.picture.uniques U = λ U g. joined_beside before root after T type_is U g ∙ ap (λ xs. root_of_type xs U) (sym parts) in
       let later : Pictures others (record s { uniques = with_unique s.uniques T (Some v) }) new = record {
         picture = with_roots pictured.picture Listed.by_type roots;
-        held = held;
+        held = held.0;
+        counted = held.1;
         types = pictured.types;
         names = pictured.names;
         uniques = uniques_with T (Some v) roots (ap first_value there ∙ ap (λ vs. nth vs 0) values_are) beside;
@@ -107,8 +109,8 @@ module _ {others : List Root} {s : State} {old : List ℕ} (pictured : Pictures 
     pub keeps : KeepsRoots pictured later (λ o. o ≡ Origin.Unique T)
 
   pub unique_goes : (T : ℕ) (root : Root) → root_of_type pictured.picture.uniques T ≡ Some root → (before after : List Root) → pictured.picture.uniques ≡ before ++ root ∷ after → (new : List ℕ)
-      → IsHeld new (with_roots pictured.picture Listed.by_type (before ++ after))
-      → AllByRecursion (KeepsPaths old new pictured.picture.table) (roots_before pictured.picture Listed.by_type before ++ roots_after pictured.picture Listed.by_type after) → UniqueGoes T new
+      → IsHeldCounted new (without_cells (names_each root.values) (with_roots pictured.picture Listed.by_type (before ++ after)))
+      → AllByRecursion (KeepsPaths old new pictured.picture.table) (roots_before pictured.picture Listed.by_type before ++ owners_after pictured.picture Listed.by_type after) → UniqueGoes T new
   unique_goes T root is before after parts new held paths =
       let picture = pictured.picture in
       let split = first_split (is_of_type T) picture.uniques root (sym (typed_first picture.uniques T) ∙ is) in
@@ -117,8 +119,9 @@ module _ {others : List Root} {s : State} {old : List ℕ} (pictured : Pictures 
       let none : root_of_type (before ++ after) T ≡ None = ap (root_of_type (before ++ after)) type_is ∙ none_beside 0 before root after rising in
       let beside : (U : ℕ) → (U == T) ≡ false → root_of_type (before ++ after) U ≡ root_of_type picture.uniques U = λ U g. sym (joined_beside before root after T type_is U g) ∙ ap (λ xs. root_of_type xs U) (sym parts) in
       let later : Pictures others (record s { uniques = with_unique s.uniques T None }) new = record {
-        picture = with_roots picture Listed.by_type (before ++ after);
-        held = held;
+        picture = without_cells (names_each root.values) (with_roots picture Listed.by_type (before ++ after));
+        held = held.0;
+        counted = held.1;
         types = pictured.types;
         names = pictured.names;
         uniques = uniques_with T None (before ++ after) (ap first_value none) beside;
@@ -126,7 +129,7 @@ module _ {others : List Root} {s : State} {old : List ℕ} (pictured : Pictures 
         are_owned = pictured.are_owned;
         loose = pictured.loose;
       } in
-      let among : roots_before picture Listed.by_type before ++ roots_after picture Listed.by_type after ≡ roots_of later.picture = sym (roots_with picture Listed.by_type before [] after) in
+      let among : roots_before picture Listed.by_type before ++ owners_after picture Listed.by_type after ≡ owners_in later.picture = sym (owners_with picture Listed.by_type before [] after) in
       record {
         later = later;
         keeps = keeps_others pictured later (λ o. o ≡ Origin.Unique T) refl

@@ -1,0 +1,65 @@
+-- What values name that an instruction leaves in the place of others.
+use Rattle.std.proofs.Common.{◌≡◌, ℕ, zero, suc, ◌-◌, ℤ, List, [], ◌∷◌, ◌++◌, Some, refl, sym, ◌∙◌, ap, append_assoc}
+use Rattle.std.proofs.lemmas.List.{append-nil}
+use Rattle.seg_spec.specs.Value.{Value, Values, nil, cons, count, nth, append, Int, Text, Seq, Map, Empty, Full}
+use Rattle.seg_spec.specs.Items.{without_last, insert_nth, remove_nth}
+use Rattle.seg_spec.specs.Shared.{names_in, names_each}
+use Rattle.seg_spec.proofs.CountedParts.{SameNames, names_same, names_then, names_joined, names_first, names_cons}
+
+pub names_int : (k : ℤ) → names_in (Int k) ≡ []
+unfolding names_in names_each
+names_int k = refl
+
+pub names_text : (bytes : List ℕ) → names_in (Text bytes) ≡ []
+unfolding names_in names_each
+names_text bytes = refl
+
+pub names_seq : (vs : Values) → names_in (Seq vs) ≡ names_each vs
+unfolding names_in names_each
+names_seq vs = refl
+
+pub names_map : (keys : List ℤ) (vs : Values) → names_in (Map keys vs) ≡ names_each vs
+unfolding names_in names_each
+names_map keys vs = refl
+
+pub names_empty : names_in Empty ≡ []
+unfolding names_in names_each
+names_empty = refl
+
+pub names_full : (v : Value) → names_in (Full v) ≡ names_in v
+unfolding names_in names_each
+names_full v = append-nil (names_in v)
+
+pub names_one : (v : Value) → names_each (cons v nil) ≡ names_in v
+unfolding names_each
+names_one v = append-nil (names_in v)
+
+-- ---- one that names nothing comes
+
+pub front_named : (d : Value) (vs : Values) → names_in d ≡ [] → names_each (cons d vs) ≡ names_each vs
+front_named d vs none = names_cons d vs ∙ ap (λ xs. xs ++ names_each vs) none
+
+pub back_named : (vs : Values) (d : Value) → names_in d ≡ [] → names_each (append vs (cons d nil)) ≡ names_each vs
+back_named nil d none = front_named d nil none
+back_named (cons v vs) d none = names_cons v (append vs (cons d nil)) ∙ ap (λ xs. names_in v ++ xs) (back_named vs d none) ∙ sym (names_cons v vs)
+
+pub insert_named : (vs : Values) (i : ℕ) (d : Value) → names_in d ≡ [] → names_each (insert_nth vs i d) ≡ names_each vs
+insert_named vs zero d none = front_named d vs none
+insert_named nil (suc i) d none = front_named d nil none
+insert_named (cons v vs) (suc i) d none = names_cons v (insert_nth vs i d) ∙ ap (λ xs. names_in v ++ xs) (insert_named vs i d none) ∙ sym (names_cons v vs)
+
+-- ---- one goes
+
+pub remove_named : (vs : Values) (i : ℕ) (v : Value) → nth vs i ≡ Some v → SameNames (names_each vs) (names_in v ++ names_each (remove_nth vs i))
+remove_named nil i v e = cc
+remove_named (cons u vs) zero v e = let same : u ≡ v = cc in names_same (names_cons u vs ∙ ap (λ x. names_in x ++ names_each vs) same)
+remove_named (cons u vs) (suc i) v e =
+    names_then (names_same (names_cons u vs)) (names_then (names_joined (names_same {xs = names_in u} refl) (remove_named vs i v e))
+    (names_then (names_first (names_in u) (names_in v) (names_each (remove_nth vs i))) (names_same (ap (λ xs. names_in v ++ xs) (sym (names_cons u (remove_nth vs i)))))))
+
+pub last_named : (vs : Values) (v : Value) → nth vs (count vs - 1) ≡ Some v → SameNames (names_each vs) (names_in v ++ names_each (without_last vs))
+last_named nil v e = cc
+last_named (cons u nil) v e = remove_named (cons u nil) 0 v e
+last_named (cons u (cons w ws)) v e =
+    names_then (names_same (names_cons u (cons w ws))) (names_then (names_joined (names_same {xs = names_in u} refl) (last_named (cons w ws) v e))
+    (names_then (names_first (names_in u) (names_in v) (names_each (without_last (cons w ws)))) (names_same (ap (λ xs. names_in v ++ xs) (sym (names_cons u (without_last (cons w ws))))))))
