@@ -1,9 +1,9 @@
 -- Keys that come to a map, or go, whatever state the world stands for.
-use Rattle.std.proofs.Common.{◌≡◌, ℕ, suc, ◌+◌, ◌<◌, ℤ, pos, length, List, [], ◌∷◌, Bool, true, false, Option, Some, None, refl, sym, ◌∙◌, ap, subst}
+use Rattle.std.proofs.Common.{◌≡◌, ℕ, suc, ◌+◌, ◌<◌, ℤ, pos, length, List, [], ◌∷◌, ◌++◌, Bool, true, false, Option, Some, None, refl, sym, ◌∙◌, ap, subst, arith}
 use Rattle.std.specs.Prelude.{⊤, take, drop, insert, remove, slice_set}
 use Rattle.std.specs.Option.{option_map_or}
-use Rattle.seg_spec.specs.Types.{AreOfVersion, Form, Table, form_at, size}
-use Rattle.seg_spec.specs.Value.{Values, count, Map, default_of, Selector, selected}
+use Rattle.seg_spec.specs.Types.{Form, Table, form_at, size}
+use Rattle.seg_spec.specs.Value.{Label, Value, Values, count, nth, Map, default_of, Selector, selected}
 use Rattle.seg_spec.specs.Items.{keys_below, key_place, insert_nth, remove_nth, with_entry, without_entry}
 use Rattle.seg_spec.specs.Index.{Root}
 use Rattle.seg_spec.specs.Reads.{Place, Leads, count_at, map_words}
@@ -11,7 +11,10 @@ use Rattle.seg_spec.specs.Owning.{Stands}
 use Rattle.seg_spec.specs.Demand.{Ask, block_for}
 use Rattle.seg_spec.specs.Calls.{Refuses}
 use Rattle.seg_spec.specs.Growing.{Succeeds}
-use Rattle.seg_spec.specs.Spending.{buffer_asks, PartBlocks}
+use Rattle.seg_spec.specs.Spending.{buffer_asks}
+use Rattle.seg_spec.specs.Shared.{names_in, named_in}
+use Rattle.seg_spec.specs.Clearing.{BesideShared, LosesPart}
+use Rattle.seg_spec.proofs.CountedParts.{names_same, names_then, default_names}
 use Rattle.client_spec.specs.declared.table.Operation.{Operation}
 use Rattle.client_spec.specs.declared.table.Role.{Role}
 use Rattle.client_spec.specs.Syntax.{Constant, Instruction}
@@ -19,23 +22,25 @@ use Rattle.client_spec.specs.Machine.{◌>>=◌, Path, extend, State, path_value
 use Rattle.client_spec.specs.Answer.{success, bad_alloc, path_of, path_form, integer_at, give_count, refer, entries_in, map_value, with_room}
 use Rattle.client_spec.specs.Effect.{effect, truth}
 use Rattle.client_spec.specs.Shape.{HasShape, AllHaveShape}
-use Rattle.client_spec.specs.Asks.{KeyBlocks, cell_asks, found_key, if_absent}
+use Rattle.client_spec.specs.Asks.{KeyGoes, cell_asks, found_key, if_absent}
 use Rattle.client_spec.specs.Typed.{Class, RegisterType, RegisterTypes, Rule, known, is_owner, integer_needed, is_map, others_ended, gives, opens, rule}
 use Rattle.client_spec.specs.Typed as typed
 use Rattle.client_spec.proofs.Values.{Some_inj}
 use Rattle.client_spec.proofs.Shapes.{IsOf, all_insert, all_remove}
 use Rattle.client_spec.proofs.Defaults.{default_has, part_is_entry}
 use Rattle.client_spec.proofs.Classes.{OneEach}
-use Rattle.client_spec.proofs.FirstRows.{bind_ok}
-use Rattle.client_spec.proofs.Cases.{entries_value, map_has_value, key_part, key_in, value_at_key, count_insert, length_insert, remove_length}
+use Rattle.client_spec.proofs.FirstRows.{bind_ok, nth_below}
+use Rattle.client_spec.proofs.Cases.{entries_value, place_below, map_has_value, key_part, key_in, value_at_key, count_insert, length_insert, remove_length}
 use Rattle.client_spec.proofs.Spelled.{one_each}
 use Rattle.client_sim.specs.Shows.{World, number_in, place_in, Shows, Acts}
 use Rattle.client_sim.specs.Acting.{ActsAs, IsRefusedAs}
 use Rattle.client_sim.proofs.LeafPuts.{with_image}
 use Rattle.client_sim.proofs.Numbers.{with_number, quiet, gives_both, number_shown}
 use Rattle.client_sim.proofs.Answering.{with_place}
-use Rattle.client_sim.proofs.Granting.{grants_asks, denies}
-use Rattle.client_sim.proofs.Items.{Reaches, reaches, led_to, code_acts, kept_number, kept_reference, number_acts, reference_acts, opens_then}
+use Rattle.client_sim.proofs.Granting.{grants_asks, gives_back, denies}
+use Rattle.client_sim.proofs.Led.{led_put}
+use Rattle.client_sim.proofs.ItemNames.{names_map, insert_named, remove_named}
+use Rattle.client_sim.proofs.Items.{Reaches, reaches, led_to, code_acts, kept_number, kept_reference, part_lost, number_acts, reference_acts, opens_then}
 
 -- the rows
 delete_row : (constants : List Constant) (a b c : ℕ) (number : ℤ) (room : Bool) (s : State) (path : Path) (key : ℤ) (keys : List ℤ) (vs : Values) → path_of s b ≡ Some path → integer_at s c ≡ Some key
@@ -85,17 +90,11 @@ module _ (allocator : ℕ) (constants : List Constant) (role : Role) (a b c : �
 
   -- ---- a key goes
 
-  -- the key at a place went, with its value
-  pub record TakesEntry (new : List ℕ) (keys : List ℤ) (vs : Values) (blocks : List ℕ) (j : ℕ) : Type 0 where
-    pub gives : List ℕ
-    pub part : PartBlocks w.image w.table place j gives
-    pub others : List ℕ
-    pub succeeds : Succeeds allocator w.image new w.table place (without_entry (keys, vs) j) [] gives blocks others
-
-  -- what becomes of a map, by the place of the key
-  abbrev pub Deletes : List ℕ → Bool → List ℤ → Values → List ℕ → Option ℕ → Type 0
-  Deletes new gone keys vs blocks None = (gone ≡ false) × (new ≡ w.image)
-  Deletes new gone keys vs blocks (Some j) = (gone ≡ true) × TakesEntry new keys vs blocks j
+  -- what becomes of a map in the block `home`, by the place of the key: it goes with its value, beside whichever frozen objects
+  abbrev pub Deletes : List ℕ → Bool → List ℤ → Values → ℕ → List ℕ → Option ℕ → Type 0
+  Deletes new gone keys vs home blocks None = (gone ≡ false) × (new ≡ w.image)
+  Deletes new gone keys vs home blocks (Some j) =
+      (gone ≡ true) × ((v : Value) → nth vs j ≡ Some v → BesideShared w.image w.table (home ∷ blocks) (named_in v) (LosesPart w.image new w.table place (without_entry (keys, vs) j) j blocks))
 
   module _ {others : List Root} {types : Table} (one : OneEach constants) {first : Option (List ℕ)} {ks : RegisterTypes} {s : State} (h : Shows others types constants first allocator ks s w)
       {g : Class × ℕ → ⊤ → Rule} {good bad : RegisterTypes} (r : Reaches one h is_map g b good bad) (U : ℕ) (keys : List ℤ) (vs : Values)
@@ -108,26 +107,28 @@ module _ (allocator : ℕ) (constants : List Constant) (role : Role) (a b c : �
     row o e = delete_row constants a b c number true s r.its.path key keys vs r.path_is key_is there
         ∙ ap (λ x. option_map_or (λ i. give_count a 1 (put_at s r.its.path (without_entry (keys, vs) i))) x (give_count a 0 s)) e
 
-    blocks_by : (o : Option ℕ) → key_place keys key ≡ o → (given : List ℕ) → KeyBlocks constants (of Operation.DeleteKey) h.pictured place o given
-        → KeyBlocks constants (of Operation.DeleteKey) h.pictured place (found_key (of Operation.DeleteKey) s) given
-    blocks_by o e given k = subst (λ x. KeyBlocks constants (of Operation.DeleteKey) h.pictured place x given) (sym (found_is (of Operation.DeleteKey) s r.its.path key keys vs r.path_is key_is there ∙ e)) k
+    goes_by : (o : Option ℕ) → key_place keys key ≡ o → (given : List ℕ) → KeyGoes constants (of Operation.DeleteKey) h.pictured place o given
+        → KeyGoes constants (of Operation.DeleteKey) h.pictured place (found_key (of Operation.DeleteKey) s) given
+    goes_by o e given k = subst (λ x. KeyGoes constants (of Operation.DeleteKey) h.pictured place x given) (sym (found_is (of Operation.DeleteKey) s r.its.path key keys vs r.path_is key_is there ∙ e)) k
 
-    deleted : (new : List ℕ) (gone : Bool) (o : Option ℕ) → key_place keys key ≡ o → Deletes new gone keys vs r.its.found.blocks o
+    deleted : (new : List ℕ) (gone : Bool) (o : Option ℕ) → key_place keys key ≡ o → (stands : Stands allocator w.image w.table place (Map keys vs) r.its.found.blocks) → Deletes new gone keys vs stands.home r.its.found.blocks o
         → Acts others types constants first allocator (of Operation.DeleteKey) success (slice_set (others_ended r.class b ks) a RegisterType.Int) s w (with_number (with_image w new) a (truth gone))
-    deleted new gone None e d =
+    deleted new gone None e stands d =
         let i = of Operation.DeleteKey in
         subst (λ t. Acts others types constants first allocator i success (slice_set (others_ended r.class b ks) a RegisterType.Int) s w (with_number (with_image w new) a (truth t))) (sym d.0)
-        (kept_number one h i r (pos 0) new d.1 within free (row None e) (quiet constants i h.pictured refl (place, r.form, led_to one h i r, blocks_by None e [] refl)))
-    deleted new gone (Some j) e d =
+        (kept_number one h i r (pos 0) new d.1 within free (row None e) (quiet constants i h.pictured refl (place, r.form, led_to one h i r, goes_by None e [] refl)))
+    deleted new gone (Some j) e stands d =
         let i = of Operation.DeleteKey in
-        let t = d.1 in
         let later = without_entry (keys, vs) j in
+        let item = nth_below vs j (let below = place_below keys key j e in omega (arith, long, below)) in
+        let t = part_lost one h i r (Label.map keys) vs later j item.0 new value_is item.1
+        (names_then (names_same (names_map keys vs)) (names_then (remove_named vs j item.0 item.1) (names_same (ap (λ xs. names_in item.0 ++ xs) (sym (names_map (remove keys j) (remove_nth vs j))))))) stands (d.1 item.0 item.1) in
         subst (λ t. Acts others types constants first allocator i success (slice_set (others_ended r.class b ks) a RegisterType.Int) s w (with_number (with_image w new) a (truth t))) (sym d.0)
-        (number_acts one h i r later (fits (remove keys j) (remove_nth vs j) (all_remove s.types U vs j all) (remove_length keys vs j long)) new [] t.gives t.others t.succeeds (pos 1) within free (row (Some j) e)
-        (grants_asks constants i h.pictured allocator h.allocator_is [] refl new w.table place later t.gives r.its.found.blocks t.others
-        (place, r.form, led_to one h i r, blocks_by (Some j) e t.gives (subst (λ (x : Table). PartBlocks w.image x place j t.gives) h.table_is t.part)) t.succeeds))
+        (number_acts one h i r later (fits (remove keys j) (remove_nth vs j) (all_remove s.types U vs j all) (remove_length keys vs j long)) new t.put t.long t.front (pos 1) within free (row (Some j) e)
+        (gives_back constants i h.pictured new refl t.gives (place, r.form, led_to one h i r, goes_by (Some j) e t.gives t.goes) t.left_is))
 
-  pub delete_key_acts : (new : List ℕ) (gone : Bool) → (AreOfVersion 1 w.table → EachMap (λ form U keys vs blocks. length keys ≡ count vs → Deletes new gone keys vs blocks (key_place keys key)))
+  pub delete_key_acts : (new : List ℕ) (gone : Bool) → ((form : Form) (U : ℕ) (keys : List ℤ) (vs : Values) (blocks : List ℕ) → form_at w.table place.type ≡ Some form → map_value form ≡ Some U
+      → (stands : Stands allocator w.image w.table place (Map keys vs) blocks) → length keys ≡ count vs → Deletes new gone keys vs stands.home blocks (key_place keys key))
       → ActsAs allocator constants role (of Operation.DeleteKey) w (with_number (with_image w new) a (truth gone))
   unfolding rule
   delete_key_acts new gone maps = λ types others first ks good bad s right valid e h.
@@ -139,9 +140,10 @@ module _ (allocator : ℕ) (constants : List Constant) (role : Role) (a b c : �
       let o = gives_both a RegisterType.Int (others_ended r.class b ks) good bad q.2 in
       let t = map_has_value r.form r.what r.is in
       let v = entries_value s.types r.form r.its.value t.0 t.1 r.fits in
-      let d = maps r.its.of_version r.form t.0 v.0 v.1 r.its.found.blocks r.form_is t.1 (subst (λ u. Stands allocator w.image w.table place u r.its.found.blocks) v.2 r.its.stands) v.4 in
+      let stands = subst (λ u. Stands allocator w.image w.table place u r.its.found.blocks) v.2 r.its.stands in
+      let d = maps r.form t.0 v.0 v.1 r.its.found.blocks r.form_is t.1 stands v.4 in
       subst (λ k. Acts others types constants first allocator i success k s w (with_number (with_image w new) a (truth gone))) (sym o.1)
-      (deleted one h r t.0 v.0 v.1 v.2 v.3 v.4 v.5 (number_shown others types constants first allocator ks s w h c q.0 q.1) valid.a o.0 new gone (key_place v.0 key) refl d)
+      (deleted one h r t.0 v.0 v.1 v.2 v.3 v.4 v.5 (number_shown others types constants first allocator ks s w h c q.0 q.1) valid.a o.0 new gone (key_place v.0 key) refl stands d)
 
   -- ---- a key comes
 
@@ -211,7 +213,9 @@ module _ (allocator : ℕ) (constants : List Constant) (role : Role) (a b c : �
         let part = value_at_key new_keys new_items key j.0 new_length j.1 in
         let succeeds : Succeeds allocator w.image new w.table place later (entry_asks r.form r.what) [] r.its.found.blocks d.others =
         subst (λ (t : Table). Succeeds allocator w.image new w.table place (with_entry (keys, vs) key (default_of t r.what)) (entry_asks r.form r.what) [] r.its.found.blocks d.others) h.table_is d.succeeds in
-        reference_acts one h i r later (fits new_keys new_items (all_insert s.types r.what vs m v all v_fits) new_length) new (entry_asks r.form r.what) [] d.others succeeds
+        reference_acts one h i r later (fits new_keys new_items (all_insert s.types r.what vs m v all v_fits) new_length) new
+        (led_put h b r.class r.type r.its new later d.others
+        (names_same (ap names_in value_is ∙ names_map keys vs ∙ sym (insert_named vs m v (default_names s.types r.what)) ∙ sym (names_map new_keys new_items))) succeeds.changes) succeeds.changes.length_kept succeeds.changes.front_kept
         (Selector.key key) r.what part.0 (record { at = p; type = r.what }) within free (key_part r.form r.what key r.is) part.1 refl d.leads (put_is true None e)
         (grants_asks constants i h.pictured allocator h.allocator_is (entry_asks r.form r.what) (place, r.form, led_to one h i r, asks_by None e) new w.table place later [] r.its.found.blocks d.others refl succeeds)
 

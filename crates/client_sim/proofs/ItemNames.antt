@@ -1,9 +1,14 @@
 -- What values name that an instruction leaves in the place of others.
-use Rattle.std.proofs.Common.{◌≡◌, ℕ, zero, suc, ◌-◌, ℤ, List, [], ◌∷◌, ◌++◌, Some, refl, sym, ◌∙◌, ap, append_assoc}
+use Rattle.std.proofs.Common.{◌≡◌, ℕ, zero, suc, ◌-◌, ℤ, List, [], ◌∷◌, ◌++◌, Some, refl, sym, ◌∙◌, ap, subst, arith}
+use Rattle.std.specs.Prelude.{slice_get}
 use Rattle.std.proofs.lemmas.List.{append-nil}
-use Rattle.seg_spec.specs.Value.{Value, Values, nil, cons, count, nth, append, Int, Text, Seq, Map, Empty, Full}
+use Rattle.seg_spec.specs.Types.{Table}
+use Rattle.seg_spec.specs.Value.{Label, Value, node, Values, nil, cons, count, nth, append, Int, Text, Seq, Map, Empty, Full}
 use Rattle.seg_spec.specs.Items.{without_last, insert_nth, remove_nth}
+use Rattle.seg_spec.specs.Reads.{Place, Opened, Opens, Holds, holds, HoldsEach, holds_none, holds_more}
+use Rattle.seg_spec.specs.Spending.{PartBlocks}
 use Rattle.seg_spec.specs.Shared.{names_in, names_each}
+use Rattle.seg_spec.proofs.OneReading.{Opens-one, Holds-one}
 use Rattle.seg_spec.proofs.CountedParts.{SameNames, names_same, names_then, names_joined, names_first, names_cons}
 
 pub names_int : (k : ℤ) → names_in (Int k) ≡ []
@@ -57,9 +62,39 @@ remove_named (cons u vs) (suc i) v e =
     names_then (names_same (names_cons u vs)) (names_then (names_joined (names_same {xs = names_in u} refl) (remove_named vs i v e))
     (names_then (names_first (names_in u) (names_in v) (names_each (remove_nth vs i))) (names_same (ap (λ xs. names_in v ++ xs) (sym (names_cons u (remove_nth vs i)))))))
 
-pub last_named : (vs : Values) (v : Value) → nth vs (count vs - 1) ≡ Some v → SameNames (names_each vs) (names_in v ++ names_each (without_last vs))
-last_named nil v e = cc
-last_named (cons u nil) v e = remove_named (cons u nil) 0 v e
-last_named (cons u (cons w ws)) v e =
-    names_then (names_same (names_cons u (cons w ws))) (names_then (names_joined (names_same {xs = names_in u} refl) (last_named (cons w ws) v e))
+pub last_named : (vs : Values) (v : Value) (j : ℕ) → j ≡ count vs - 1 → nth vs j ≡ Some v → SameNames (names_each vs) (names_in v ++ names_each (without_last vs))
+last_named nil v j last e = cc
+last_named (cons u nil) v zero last e = remove_named (cons u nil) 0 v e
+last_named (cons u nil) v (suc j) last e = absurd (omega (arith, last))
+last_named (cons u (cons w ws)) v zero last e = absurd (omega (arith, last))
+last_named (cons u (cons w ws)) v (suc j) last e =
+    names_then (names_same (names_cons u (cons w ws))) (names_then (names_joined (names_same {xs = names_in u} refl) (last_named (cons w ws) v j (omega (arith, last)) e))
     (names_then (names_first (names_in u) (names_in v) (names_each (without_last (cons w ws)))) (names_same (ap (λ xs. names_in v ++ xs) (sym (names_cons u (without_last (cons w ws))))))))
+
+pub count_without_last : (vs : Values) → count (without_last vs) ≡ count vs - 1
+count_without_last nil = refl
+count_without_last (cons v nil) = refl
+count_without_last (cons v (cons w ws)) = let e = count_without_last (cons w ws) in omega (arith, e)
+
+-- ---- what a part of a place holds
+
+module _ (bytes : List ℕ) (table : Table) where
+  part_holds : {places : List Place} {vs : Values} {blocks : List ℕ} (j : ℕ) (part : Place) (v : Value) → HoldsEach bytes table places vs blocks → slice_get places j ≡ Some part → nth vs j ≡ Some v
+      → (its : List ℕ) × Holds bytes table part v its
+  part_holds j part v holds_none e f = cc
+  part_holds zero part v (holds_more {place = place} {v = u} {blocks = its} h hs) e f =
+      let same : place ≡ part = cc in
+      let value : u ≡ v = cc in
+      (its, subst (λ p. Holds bytes table p v its) same (subst (λ x. Holds bytes table place x its) value h))
+  part_holds (suc j) part v (holds_more h hs) e f = part_holds j part v hs e f
+
+  -- it is the part of the value there
+  pub part_value : (place : Place) (j : ℕ) (gives : List ℕ) (p : PartBlocks bytes table place j gives) (label : Label) (vs : Values) (blocks : List ℕ) → Holds bytes table place (node label vs) blocks
+      → (v : Value) → nth vs j ≡ Some v → v ≡ p.value
+  part_value place j gives p label vs blocks (holds form opened inside owned form_is opens each v_is blocks_are) v there_is =
+      let form_same : p.form ≡ form = (let e : Some p.form ≡ Some form = sym p.form_is ∙ form_is in cc) in
+      let opened_same : p.opened ≡ opened = Opens-one bytes table place form p.opened opened (subst (λ k. Opens bytes table place k p.opened) form_same p.opens) opens in
+      let parts : slice_get opened.parts j ≡ Some p.part = ap (λ (o : Opened). slice_get o.parts j) (sym opened_same) ∙ p.part_is in
+      let values : vs ≡ inside = cc in
+      let held = part_holds j p.part v each parts (subst (λ us. nth us j ≡ Some v) values there_is) in
+      (Holds-one bytes table held.1 p.holds).0

@@ -1,14 +1,20 @@
 -- Items that come to a vector or a list, or go, and bytes of a text that go, whatever state the world stands for.
-use Rattle.std.proofs.Common.{◌≡◌, inl, inr, ℕ, ◌+◌, ◌-◌, ◌<◌, ◌≤◌, ℤ, pos, length, List, [], ◌∷◌, Bool, true, false, Option, Some, refl, sym, ◌∙◌, ap, subst, arith}
+use Rattle.std.proofs.Common.{◌≡◌, inl, inr, ℕ, ◌+◌, ◌-◌, ◌<◌, ◌≤◌, ℤ, pos, length, List, [], ◌∷◌, ◌++◌, Bool, true, false, Option, Some, refl, sym, ◌∙◌, ap, subst, arith}
 use Rattle.std.specs.Prelude.{⊤, Ok, take, slice_set, if◌then◌else◌}
 use Rattle.std.specs.Option.{option_map_or}
-use Rattle.seg_spec.specs.Types.{AreOfVersion, Form, Table, form_at, size}
-use Rattle.seg_spec.specs.Value.{Value, Values, nil, cons, count, append, Text, Seq, default_of, Selector, selected}
+use Rattle.seg_spec.specs.Types.{Form, Table, form_at, size}
+use Rattle.seg_spec.specs.Value.{Label, Value, node, Values, nil, cons, count, nth, append, Text, Seq, default_of, Selector, selected}
 use Rattle.seg_spec.specs.Items.{without_last}
 use Rattle.seg_spec.specs.Index.{Root}
-use Rattle.seg_spec.specs.Reads.{Place, Leads, count_at}
+use Rattle.seg_spec.specs.Header.{KeepsFront}
+use Rattle.seg_spec.specs.Heap.{live}
+use Rattle.seg_spec.specs.Frozen.{blocks_by}
+use Rattle.seg_spec.specs.Shared.{names_in, names_each, named_in, freed}
+use Rattle.seg_spec.specs.Clearing.{BesideShared, LosesPart}
+use Rattle.seg_spec.specs.Counting.{FrozenGone}
+use Rattle.seg_spec.specs.Reads.{Place, Holds, Leads, count_at}
 use Rattle.seg_spec.specs.Owning.{Stands}
-use Rattle.seg_spec.specs.Demand.{Ask, block_for}
+use Rattle.seg_spec.specs.Demand.{Ask, block_for, after_gives}
 use Rattle.seg_spec.specs.Calls.{Refuses}
 use Rattle.seg_spec.specs.Growing.{Succeeds}
 use Rattle.seg_spec.specs.Spending.{buffer_asks, PartBlocks}
@@ -19,7 +25,7 @@ use Rattle.client_spec.specs.Machine.{◌>>=◌, Path, extend, Register, State, 
 use Rattle.client_spec.specs.Answer.{Answer, success, bad_alloc, null_or_none, answer_number, path_in, path_of, path_form, give, give_count, fail, refer, bytes_in, items_in, vec_or_list_item, list_item, with_room}
 use Rattle.client_spec.specs.Effect.{outcome, effect, pop_bytes, pop_last, pop_first}
 use Rattle.client_spec.specs.Shape.{HasShape, AllHaveShape}
-use Rattle.client_spec.specs.Asks.{ChangesBlocks, LedTo, PopBlocks, cell_asks}
+use Rattle.client_spec.specs.Asks.{ChangesBlocks, LedTo, PartGoes, PopGoes, cell_asks}
 use Rattle.client_spec.specs.Meaning.{LeadsToType}
 use Rattle.client_spec.specs.Pictures.{LeadsInImage}
 use Rattle.client_spec.specs.Typed.{Class, RegisterType, RegisterTypes, Rule, known, is_owner, reference_needed, form_needed, is_str, can_pop, without_class, others_ended, opens, rule}
@@ -29,17 +35,22 @@ use Rattle.client_spec.proofs.Values.{Some_inj}
 use Rattle.client_spec.proofs.Defaults.{default_has, part_is_entry}
 use Rattle.client_spec.proofs.Puts.{has_leads, leads_extend, put_at_types}
 use Rattle.client_spec.proofs.Classes.{OneEach, known_others, agrees_others}
-use Rattle.client_spec.proofs.FirstRows.{bind_ok, answer_is, form_found, opens_ok}
+use Rattle.client_spec.proofs.FirstRows.{bind_ok, answer_is, form_found, opens_ok, nth_below}
 use Rattle.client_spec.proofs.Cases.{reference_is, text_value, items_value, text_fits, popped, list_is_item, item_part, last_item}
 use Rattle.client_spec.proofs.Spelled.{one_each}
 use Rattle.client_sim.specs.Shows.{World, place_in, Shown, Shows, Acts}
 use Rattle.client_sim.specs.Acting.{ActsAs, IsRefusedAs}
-use Rattle.client_sim.proofs.Led.{Led, led}
+use Rattle.seg_spec.proofs.Lowering.{named_positions}
+use Rattle.seg_spec.proofs.CountedParts.{SameNames, names_same, names_then, names_cons, default_names}
+use Rattle.client_sim.proofs.Placed.{PlacePut}
+use Rattle.client_sim.proofs.ItemNames.{names_text, names_seq, front_named, back_named, last_named, count_without_last, part_value}
+use Rattle.client_sim.proofs.Lengths.{items_held}
+use Rattle.client_sim.proofs.Led.{Led, led, led_put, led_shared, led_cleared}
 use Rattle.client_sim.proofs.LeafPuts.{with_image}
 use Rattle.client_sim.proofs.Numbers.{with_number}
 use Rattle.client_sim.proofs.Answering.{with_place, leads_part, acts_so, shows_number, shows_reference, refuses_with}
 use Rattle.client_sim.proofs.Changing.{shows_changed, leads_changed, there_changed, table_changed}
-use Rattle.client_sim.proofs.Granting.{grants_asks, denies}
+use Rattle.client_sim.proofs.Granting.{grants_asks, given_back, gives_back, denies}
 
 module _ {others : List Root} {types : Table} {constants : List Constant} (one : OneEach constants) {first : Option (List ℕ)} {allocator : ℕ} {ks : RegisterTypes} {s : State} {w : World}
     (h : Shows others types constants first allocator ks s w) where
@@ -155,7 +166,7 @@ module _ {others : List Root} {types : Table} {constants : List Constant} (one :
         (shows_reference others types constants first allocator known_then s w after i.a r.class T x_path target within free r.its.within to typed in_image))
 
     -- another value was put there
-    module _ (v : Value) (fits : IsOf s.types r.form v) (new : List ℕ) (asks : List Ask) (gives blocks : List ℕ) (c : Succeeds allocator w.image new w.table (place_in w i.b) v asks gives r.its.found.blocks blocks) where
+    module _ (v : Value) (fits : IsOf s.types r.form v) (new : List ℕ) (put : PlacePut h.pictured r.its.in_image r.its.value (put_at s r.its.path v) new) (long : length new ≡ length w.image) (front : KeepsFront w.image new) where
       abbrev state_then : State
       state_then = put_at s r.its.path v
 
@@ -163,14 +174,14 @@ module _ {others : List Root} {types : Table} {constants : List Constant} (one :
       shape = value_of_form s.types r.type r.form v r.machine_form fits
 
       after : Shows others types constants first allocator known_then state_then (with_image w new)
-      after = shows_changed one h i.b r.class r.type r.known_as r.its v shape new blocks c.changes
+      after = shows_changed one h i.b r.class r.type r.known_as r.its v shape new put front
 
       -- and a number given
       pub number_acts : (n : ℤ) → i.a < 16 → is_owner (known known_then i.a) ≡ false → outcome constants i true s ≡ give i.a (Register.Int n) state_then → ChangesBlocks constants i h.pictured success new
           → Acts others types constants first allocator i success (slice_set known_then i.a RegisterType.Int) s w (with_number (with_image w new) i.a n)
       number_acts n within free row changes =
           acts_so others types constants first allocator ks s w h i success true (slice_set known_then i.a RegisterType.Int) (set_register state_then i.a (Register.Int n)) (with_number (with_image w new) i.a n)
-          (row ∙ answer_is types constants known_then state_then after.as_known success i.a (Register.Int n) free) changes c.changes.length_kept c.changes.front_kept refl
+          (row ∙ answer_is types constants known_then state_then after.as_known success i.a (Register.Int n) free) changes long front refl
           (shows_number others types constants first allocator known_then state_then (with_image w new) after i.a n within free)
 
       -- and a reference to a part of it
@@ -181,17 +192,57 @@ module _ {others : List Root} {types : Table} {constants : List Constant} (one :
       unfolding after
       reference_acts x T part target within free of_part is typed leads row changes =
           let x_path = extend r.its.path x in
-          let t = there_changed one h i.b r.class r.type r.known_as r.its v shape new blocks c.changes in
+          let t = there_changed one h i.b r.class r.type r.known_as r.its v shape new put front in
           let types_kept = put_at_types s r.its.path r.type v (record { value = r.its.value; there = r.its.there; typed = r.its.typed }) in
           let to : LeadsToType state_then x_path T = leads_extend state_then r.its.path r.type T x r.form part t.0 (ap (λ (ts : Table). form_at ts r.type) types_kept ∙ r.machine_form) of_part (ap (λ u. selected u x) t.1 ∙ is) in
-          let table = table_changed one h i.b r.class r.type r.known_as r.its v shape new blocks c.changes in
+          let table = table_changed one h i.b r.class r.type r.known_as r.its v shape new put front in
           let in_image : LeadsInImage after.pictured x_path target =
-          leads_part after.pictured r.its.path x (place_in w i.b) target (leads_changed one h i.b r.class r.type r.known_as r.its v shape new blocks c.changes)
+          leads_part after.pictured r.its.path x (place_in w i.b) target (leads_changed one h i.b r.class r.type r.known_as r.its v shape new put front)
           (subst (λ (t : Table). Leads new t (place_in w i.b) (x ∷ []) target) (sym table) leads) in
           acts_so others types constants first allocator ks s w h i success true (slice_set known_then i.a (RegisterType.Reference r.class T)) (set_register state_then i.a (Register.Reference x_path))
           (with_place (with_image w new) i.a target)
-          (row ∙ answer_is types constants known_then state_then after.as_known success i.a (Register.Reference x_path) free) changes c.changes.length_kept c.changes.front_kept refl
+          (row ∙ answer_is types constants known_then state_then after.as_known success i.a (Register.Reference x_path) free) changes long front refl
           (shows_reference others types constants first allocator known_then state_then (with_image w new) after i.a r.class T x_path target within free r.its.within to typed in_image)
+
+    -- a part went, and the place holds what is left
+    pub record PartLost (v : Value) (j : ℕ) (new : List ℕ) : Type 0 where
+      pub put : PlacePut h.pictured r.its.in_image r.its.value (put_at s r.its.path v) new
+      pub long : length new ≡ length w.image
+      pub front : KeepsFront w.image new
+      pub its : List ℕ
+      pub holds_then : Holds new w.table (place_in w i.b) v its
+      pub gives : List ℕ
+      pub goes : PartGoes constants i h.pictured (place_in w i.b) j gives
+      pub left_is : live new ≡ after_gives (live w.image) gives
+
+    pub part_lost : (label : Label) (vs : Values) (v : Value) (j : ℕ) (part : Value) (new : List ℕ) → r.its.value ≡ node label vs → nth vs j ≡ Some part → SameNames (names_in (node label vs)) (names_in part ++ names_in v)
+        → (stands : Stands allocator w.image w.table (place_in w i.b) (node label vs) r.its.found.blocks)
+        → BesideShared w.image w.table (stands.home ∷ r.its.found.blocks) (named_in part) (LosesPart w.image new w.table (place_in w i.b) v j r.its.found.blocks) → PartLost v j new
+    part_lost label vs v j part new is there same stands loses =
+        let gone = names_in part in
+        let frozen = h.pictured.picture.frozen in
+        let shared = led_shared h i.b r.class r.type r.its (node label vs) is gone (names_in v) (named_in part) same (named_positions part)
+        {claim = LosesPart w.image new w.table (place_in w i.b) v j r.its.found.blocks} stands loses in
+        let l = shared.claimed in
+        let c = l.clears in
+        let given = blocks_by shared.theirs (freed gone frozen) in
+        let whole : SameNames (names_in r.its.value) (gone ++ names_in v) = names_then (names_same (ap names_in is)) same in
+        let part_is : part ≡ l.part.value = part_value w.image w.table (place_in w i.b) j l.lost l.part label vs r.its.found.blocks stands.holds_it part there in
+        record {
+          put = led_cleared h i.b r.class r.type r.its new v gone whole shared.theirs shared.holds l.others c;
+          long = c.changes.length_kept;
+          front = c.changes.front_kept;
+          its = l.others;
+          holds_then = c.changes.holds_it;
+          gives = l.lost ++ given;
+          goes = part_goes l.lost l.part given (subst (λ x. FrozenGone w.image h.pictured.picture (names_in x) given) part_is (record { theirs = shared.theirs; holds = shared.holds; blocks_are = refl }));
+          left_is = given_back gone frozen l.lost l.blocks_are c;
+        }
+      where
+        part_goes : (own : List ℕ) (part : PartBlocks w.image w.table (place_in w i.b) j own) (given : List ℕ) → FrozenGone w.image h.pictured.picture (names_in part.value) given → PartGoes constants i h.pictured (place_in w i.b) j (own ++ given)
+        part_goes own part given gone =
+            let on_table = subst (λ (t : Table). (p : PartBlocks w.image t (place_in w i.b) j own) × FrozenGone w.image h.pictured.picture (names_in p.value) given) h.table_is (part, gone) in
+            record { own = own; part = on_table.0; gives_are = (given, on_table.1, refl) }
 
 -- what the rule of an opener finds, where the references of a class have ended
 module _ {others : List Root} {types : Table} {constants : List Constant} (one : OneEach constants) {first : Option (List ℕ)} {allocator : ℕ} {ks : RegisterTypes} {s : State} {w : World}
@@ -202,11 +253,11 @@ module _ {others : List Root} {types : Table} {constants : List Constant} (one :
 
 module _ {others : List Root} {types : Table} {constants : List Constant} (one : OneEach constants) {first : Option (List ℕ)} {allocator : ℕ} {ks : RegisterTypes} {s : State} {w : World}
     (h : Shows others types constants first allocator ks s w) where
-  -- the blocks of an item, by the form of the place
-  pub part_blocks : (i : Instruction) (k : Form) (U : ℕ) (place : Place) (j : ℕ) (gives : List ℕ) → vec_or_list_item k ≡ Some U → PartBlocks w.image w.table place j gives → PopBlocks constants i h.pictured place k j gives
-  part_blocks i (Form.vec V) U place j gives e p = subst (λ (t : Table). PartBlocks w.image t place j gives) h.table_is p
-  part_blocks i (Form.list V) U place j gives e p = subst (λ (t : Table). PartBlocks w.image t place j gives) h.table_is p
-  part_blocks i k U place j gives e p = cc
+  -- what is given back with an item, by the form of the place
+  pub part_goes : (i : Instruction) (k : Form) (U : ℕ) (place : Place) (j : ℕ) (gives : List ℕ) → vec_or_list_item k ≡ Some U → PartGoes constants i h.pictured place j gives → PopGoes constants i h.pictured place k j gives
+  part_goes i (Form.vec V) U place j gives e p = p
+  part_goes i (Form.list V) U place j gives e p = p
+  part_goes i k U place j gives e p = cc
 
 -- ---- pops
 
@@ -285,14 +336,11 @@ pub record PushesItem (allocator : ℕ) (old new : List ℕ) (table : Table) (pl
   pub succeeds : Succeeds allocator old new table place (Seq more) asks [] blocks others
   pub leads : Leads new table place (Selector.item j ∷ []) (record { at = p; type = U })
 
--- item j went, and n others are left
-pub record PopsItem (allocator : ℕ) (old new : List ℕ) (table : Table) (place : Place) (vs left : Values) (blocks : List ℕ) (j n : ℕ) : Type 0 where
+-- item j of a place in the block `home` went, beside whichever frozen objects, and n others are left
+pub record PopsItem (old new : List ℕ) (table : Table) (place : Place) (vs left : Values) (home : ℕ) (blocks : List ℕ) (j n : ℕ) : Type 0 where
   pub some : 1 ≤ count vs
-  pub n_is : n ≡ count vs - 1
-  pub gives : List ℕ
-  pub part : PartBlocks old table place j gives
-  pub others : List ℕ
-  pub succeeds : Succeeds allocator old new table place (Seq left) [] gives blocks others
+  pub n_is : n ≡ count_at new place.at
+  pub loses : (v : Value) → nth vs j ≡ Some v → BesideShared old table (home ∷ blocks) (named_in v) (LosesPart old new table place (Seq left) j blocks)
 
 module _ (allocator : ℕ) (constants : List Constant) (role : Role) (a b c : ℕ) (number : ℤ) (w : World) where
   abbrev of : Operation → Instruction
@@ -313,7 +361,8 @@ module _ (allocator : ℕ) (constants : List Constant) (role : Role) (a b c : �
   EachList claim = (U : ℕ) (vs : Values) (blocks : List ℕ) → form_at w.table place.type ≡ Some (Form.list U) → Stands allocator w.image w.table place (Seq vs) blocks → claim U vs blocks
 
   pub pop_back_acts : (new : List ℕ) (n : ℕ) → EachText (λ xs blocks. PopsByte allocator w.image new w.table place xs blocks n)
-      → (AreOfVersion 1 w.table → EachItems (λ U vs blocks. PopsItem allocator w.image new w.table place vs (without_last vs) blocks (count_at w.image place.at - 1) n))
+      → ((U : ℕ) (vs : Values) (blocks : List ℕ) → HoldsItems w.table place.type U → (stands : Stands allocator w.image w.table place (Seq vs) blocks)
+      → PopsItem w.image new w.table place vs (without_last vs) stands.home blocks (count vs - 1) n)
       → ActsAs allocator constants role (of Operation.PopBack) w (with_number (with_image w new) a (pos n))
   unfolding rule effect
   pop_back_acts new n text items = λ types others first ks good bad s right valid e h.
@@ -333,18 +382,25 @@ module _ (allocator : ℕ) (constants : List Constant) (role : Role) (a b c : �
             let p = text v.0 r.its.found.blocks (r.form_is ∙ ap Some same) stands in
             let new_text = take (length v.0 - 1) v.0 in
             let is_row = row ∙ ap f v.1 ∙ bytes_popped a r.its.path v.0 s p.some ∙ ap (λ m. give_count a m (put_at s r.its.path (Text new_text))) (sym p.n_is) in
-            number_acts one h i r (Text new_text) (text_fits s.types r.form tt new_text is) new [] [] p.others p.succeeds (pos n) valid.a o.0 is_row
+            number_acts one h i r (Text new_text) (text_fits s.types r.form tt new_text is) new
+            (led_put h b r.class r.type r.its new (Text new_text) p.others (names_same (ap names_in v.1 ∙ names_text v.0 ∙ sym (names_text new_text))) p.succeeds.changes) p.succeeds.changes.length_kept p.succeeds.changes.front_kept
+            (pos n) valid.a o.0 is_row
             (grants_asks constants i h.pictured allocator h.allocator_is [] refl new w.table place (Text new_text) [] r.its.found.blocks p.others
-            (place, r.form, led_to one h i r, subst (λ k. PopBlocks constants i h.pictured place k (count_at w.image place.at - 1) []) (sym same) refl) p.succeeds)
+            (place, r.form, led_to one h i r, subst (λ k. PopGoes constants i h.pictured place k (count_at w.image place.at - 1) []) (sym same) refl) p.succeeds)
         | inr is ↦
             let v = items_value s.types r.form r.its.value is.0 is.1 r.fits in
             let stands = subst (λ u. Stands allocator w.image w.table place u r.its.found.blocks) v.1 r.its.stands in
-            let p = items r.its.of_version is.0 v.0 r.its.found.blocks (r.form, r.form_is, is.1) stands in
+            let p = items is.0 v.0 r.its.found.blocks (r.form, r.form_is, is.1) stands in
             let left = without_last v.0 in
-            let is_row = row ∙ ap f v.1 ∙ last_popped a r.its.path v.0 s p.some ∙ ap (λ m. give_count a m (put_at s r.its.path (Seq left))) (sym p.n_is) in
-            number_acts one h i r (Seq left) (v.3 left (all_without_last s.types is.0 v.0 v.2)) new [] p.gives p.others p.succeeds (pos n) valid.a o.0 is_row
-            (grants_asks constants i h.pictured allocator h.allocator_is [] refl new w.table place (Seq left) p.gives r.its.found.blocks p.others
-            (place, r.form, led_to one h i r, part_blocks one h i r.form is.0 place (count_at w.image place.at - 1) p.gives is.1 p.part) p.succeeds)
+            let item = nth_below v.0 (count v.0 - 1) (let some = p.some in omega arith) in
+            let t = part_lost one h i r Label.seq v.0 (Seq left) (count v.0 - 1) item.0 new v.1 item.1
+            (names_then (names_same (names_seq v.0)) (names_then (last_named v.0 item.0 (count v.0 - 1) refl item.1) (names_same (ap (λ xs. names_in item.0 ++ xs) (sym (names_seq left)))))) stands (p.loses item.0 item.1) in
+            let n_is : count v.0 - 1 ≡ n = sym (count_without_last v.0) ∙ items_held new w.table place r.form is.0 left t.its r.form_is is.1 t.holds_then ∙ sym p.n_is in
+            let at : count v.0 - 1 ≡ count_at w.image place.at - 1 = ap (λ k. k - 1) (items_held w.image w.table place r.form is.0 v.0 r.its.found.blocks r.form_is is.1 stands.holds_it) in
+            let is_row = row ∙ ap f v.1 ∙ last_popped a r.its.path v.0 s p.some ∙ ap (λ m. give_count a m (put_at s r.its.path (Seq left))) n_is in
+            number_acts one h i r (Seq left) (v.3 left (all_without_last s.types is.0 v.0 v.2)) new t.put t.long t.front (pos n) valid.a o.0 is_row
+            (gives_back constants i h.pictured new refl t.gives
+            (place, r.form, led_to one h i r, part_goes one h i r.form is.0 place (count_at w.image place.at - 1) t.gives is.1 (subst (λ k. PartGoes constants i h.pictured place k t.gives) at t.goes)) t.left_is)
       ])
 
   -- there was none to take
@@ -377,7 +433,8 @@ module _ (allocator : ℕ) (constants : List Constant) (role : Role) (a b c : �
       )
 
   -- the first item went
-  pub pop_front_acts : (new : List ℕ) (n : ℕ) → (AreOfVersion 1 w.table → EachList (λ U vs blocks. (v : Value) × (ws : Values) × (vs ≡ cons v ws) × PopsItem allocator w.image new w.table place vs ws blocks 0 n))
+  pub pop_front_acts : (new : List ℕ) (n : ℕ) → ((U : ℕ) (vs : Values) (blocks : List ℕ) → form_at w.table place.type ≡ Some (Form.list U) → (stands : Stands allocator w.image w.table place (Seq vs) blocks)
+      → (v : Value) × (ws : Values) × (vs ≡ cons v ws) × PopsItem w.image new w.table place vs ws stands.home blocks 0 n)
       → ActsAs allocator constants role (of Operation.PopFront) w (with_number (with_image w new) a (pos n))
   unfolding rule effect
   pop_front_acts new n items = λ types others first ks good bad s right valid e h.
@@ -388,18 +445,21 @@ module _ (allocator : ℕ) (constants : List Constant) (role : Role) (a b c : �
       let o = opens_then one h r.class b a RegisterType.Int good bad r.rest in
       let is = list_is_item r.form r.what r.is in
       let v = items_value s.types r.form r.its.value r.what is r.fits in
-      let q = items r.its.of_version r.what v.0 r.its.found.blocks (r.form_is ∙ ap Some (list_is r.form r.what r.is)) (subst (λ u. Stands allocator w.image w.table place u r.its.found.blocks) v.1 r.its.stands) in
+      let stands = subst (λ u. Stands allocator w.image w.table place u r.its.found.blocks) v.1 r.its.stands in
+      let q = items r.what v.0 r.its.found.blocks (r.form_is ∙ ap Some (list_is r.form r.what r.is)) stands in
       let left : Values = q.1 in
       let p = q.3 in
-      let n_is : count left ≡ n = (let c = ap count q.2 in let m = p.n_is in omega (arith, c, m)) in
+      let there : nth v.0 0 ≡ Some q.0 = ap (λ vs. nth vs 0) q.2 in
+      let t = part_lost one h i r Label.seq v.0 (Seq left) 0 q.0 new v.1 there
+      (names_then (names_same (names_seq v.0 ∙ ap names_each q.2 ∙ names_cons q.0 left)) (names_same (ap (λ xs. names_in q.0 ++ xs) (sym (names_seq left))))) stands (p.loses q.0 there) in
+      let n_is : count left ≡ n = items_held new w.table place r.form r.what left t.its r.form_is is t.holds_then ∙ sym p.n_is in
       let fits = v.3 left (all_tail s.types r.what q.0 left (subst (AllHaveShape s.types r.what) q.2 v.2)) in
       let row : outcome constants i true s ≡ give_count a n (put_at s r.its.path (Seq left)) =
       front_row constants a b c number true s r.its.path r.form r.what v.0 r.path_is r.path_form_is r.is (ap (λ x. x >>= items_in) r.its.there ∙ ap items_in v.1)
       ∙ ap (λ vs. pop_first a r.its.path vs s) q.2 ∙ ap (λ m. give_count a m (put_at s r.its.path (Seq left))) n_is in
       subst (λ k. Acts others types constants first allocator i success k s w (with_number (with_image w new) a (pos n))) (sym o.1)
-      (number_acts one h i r (Seq left) fits new [] p.gives p.others p.succeeds (pos n) valid.a o.0 row
-      (grants_asks constants i h.pictured allocator h.allocator_is [] refl new w.table place (Seq left) p.gives r.its.found.blocks p.others
-      (place, r.form, led_to one h i r, part_blocks one h i r.form r.what place 0 p.gives is p.part) p.succeeds))
+      (number_acts one h i r (Seq left) fits new t.put t.long t.front (pos n) valid.a o.0 row
+      (gives_back constants i h.pictured new refl t.gives (place, r.form, led_to one h i r, part_goes one h i r.form r.what place 0 t.gives is t.goes) t.left_is))
 
   pub pop_front_refused : (new : List ℕ) (n : ℕ) → EachList (λ U vs blocks. (count vs ≡ 0) × (new ≡ w.image) × (n ≡ 6)) → IsRefusedAs allocator constants role (of Operation.PopFront) w (with_number (with_image w new) a (pos n))
   unfolding rule effect
@@ -465,7 +525,8 @@ module _ (allocator : ℕ) (constants : List Constant) (role : Role) (a b c : �
       subst (λ k. Acts others types constants first allocator i success k s w (with_place (with_image w new) a (record { at = p; type = T }))) (sym o.1)
       (subst (λ n. Acts others types constants first allocator i success (slice_set (others_ended r.class b ks) a (RegisterType.Reference r.class r.what)) s w (with_place (with_image w new) a (record { at = p; type = n }))) q.0
       (reference_acts one h i r (Seq more) (v.3 more (all_append_one s.types r.what v.0 d v.2 (default_fits h r.type r.what r.form (Selector.item 0) r.machine_form (item_part r.form r.what 0 r.is)))) new
-      (item_asks r.form r.what) [] pushed.others pushed.succeeds x r.what d target valid.a o.0 (item_part r.form r.what (count v.0) r.is) (last_item v.0 d) refl pushed.leads row
+      (led_put h b r.class r.type r.its new (Seq more) pushed.others
+      (names_same (ap names_in v.1 ∙ names_seq v.0 ∙ sym (back_named v.0 d (default_names s.types r.what)) ∙ sym (names_seq more))) pushed.succeeds.changes) pushed.succeeds.changes.length_kept pushed.succeeds.changes.front_kept x r.what d target valid.a o.0 (item_part r.form r.what (count v.0) r.is) (last_item v.0 d) refl pushed.leads row
       (grants_asks constants i h.pictured allocator h.allocator_is (item_asks r.form r.what) (place, r.form, led_to one h i r, back_asks h r.form r.what r.is) new w.table place (Seq more) [] r.its.found.blocks pushed.others
       refl pushed.succeeds)))
 
@@ -513,7 +574,8 @@ module _ (allocator : ℕ) (constants : List Constant) (role : Role) (a b c : �
       subst (λ k. Acts others types constants first allocator i success k s w (with_place (with_image w new) a (record { at = p; type = T }))) (sym o.1)
       (subst (λ n. Acts others types constants first allocator i success (slice_set (others_ended r.class b ks) a (RegisterType.Reference r.class r.what)) s w (with_place (with_image w new) a (record { at = p; type = n }))) q.0
       (reference_acts one h i r (Seq more) (v.3 more (all_cons s.types r.what d v.0 (default_fits h r.type r.what r.form (Selector.item 0) r.machine_form part) v.2)) new
-      asks [] pushed.others pushed.succeeds (Selector.item 0) r.what d target valid.a o.0 part refl refl pushed.leads row
+      (led_put h b r.class r.type r.its new (Seq more) pushed.others
+      (names_same (ap names_in v.1 ∙ names_seq v.0 ∙ sym (front_named d v.0 (default_names s.types r.what)) ∙ sym (names_seq more))) pushed.succeeds.changes) pushed.succeeds.changes.length_kept pushed.succeeds.changes.front_kept (Selector.item 0) r.what d target valid.a o.0 part refl refl pushed.leads row
       (grants_asks constants i h.pictured allocator h.allocator_is asks (place, r.form, led_to one h i r, front_asks h r.form r.what r.is) new w.table place (Seq more) [] r.its.found.blocks pushed.others
       refl pushed.succeeds)))
 

@@ -6,7 +6,8 @@ use Rattle.std.specs.Prelude.{option_map}
 use Rattle.std.specs.List.{AllByRecursion}
 use Rattle.seg_spec.specs.Value.{Value, nil, cons}
 use Rattle.seg_spec.specs.Index.{Root, root_named, root_of_type}
-use Rattle.seg_spec.specs.Sound.{frozen_roots, IsPlain, roots_of, IsLaidOut}
+use Rattle.seg_spec.specs.Sound.{IsPlain, IsLaidOut}
+use Rattle.seg_spec.specs.Counting.{owners_in}
 use Rattle.seg_spec.specs.Roots.{Listed, with_roots}
 use Rattle.seg_spec.proofs.Frame.{each_left, each_right}
 use Rattle.seg_spec.proofs.LooseRoots.{each_joined}
@@ -18,9 +19,9 @@ use Rattle.client_sim.proofs.OwnedRoots.{owned_split}
 use Rattle.client_sim.proofs.RootPuts.{root_of_pair}
 use Rattle.client_sim.proofs.Owning.{free_seat, taken_seat}
 
--- four parts before the last two
-parts : (a b c d e f : List Root) → a ++ (b ++ ((c ++ (d ++ e)) ++ f)) ≡ (a ++ (b ++ (c ++ d))) ++ (e ++ f)
-parts a b c d e f = simp append_assoc
+-- four parts before the last
+parts : (a b c d e : List Root) → a ++ (b ++ (c ++ (d ++ e))) ≡ (a ++ (b ++ (c ++ d))) ++ e
+parts a b c d e = simp append_assoc
 
 found_in : {others : List Root} {s s' : State} (looks : Looks others s) (later : Looks others s') (Ends : Origin → Type 0) → later.picture.names ≡ looks.picture.names → later.picture.uniques ≡ looks.picture.uniques
     → ((q : ℕ) (r : Root) → root_of_register s.registers looks.owned q ≡ Some r → Ends (Origin.Owned q) ⊎ (root_of_register s'.registers later.owned q ≡ Some r))
@@ -40,8 +41,9 @@ module _ {others : List Root} {s : State} (looks : Looks others s) where
     pub right : List Root
     pub later : Looks others (set_register s c Register.Undefined)
     pub table : later.picture.table ≡ looks.picture.table
-    pub roots_are : roots_of looks.picture ≡ left ++ root ∷ right
-    pub roots_then : roots_of later.picture ≡ left ++ right
+    pub frozen : later.picture.frozen ≡ looks.picture.frozen
+    pub owners_are : owners_in looks.picture ≡ left ++ root ∷ right
+    pub owners_then : owners_in later.picture ≡ left ++ right
     pub laid_out : (bytes index_blocks : List ℕ) → IsLaidOut bytes looks.picture index_blocks → IsLaidOut bytes later.picture index_blocks
     pub begins : (o : Origin) (r : Root) (i : ℕ) → root_in looks o ≡ Some (r, i) → (o ≡ Origin.Owned c) ⊎ (root_in later o ≡ Some (r, i))
 
@@ -61,11 +63,12 @@ module _ {others : List Root} {s : State} (looks : Looks others s) where
       } in
       record {
         left = picture.names ++ (picture.uniques ++ (others ++ m.before));
-        right = m.after ++ frozen_roots picture;
+        right = m.after;
         later = later;
         table = refl;
-        roots_are = ap (λ xs. picture.names ++ (picture.uniques ++ (xs ++ frozen_roots picture))) (looks.loose ∙ ap (λ xs. others ++ xs) m.among) ∙ parts picture.names picture.uniques others m.before (root ∷ m.after) (frozen_roots picture);
-        roots_then = parts picture.names picture.uniques others m.before m.after (frozen_roots picture);
+        frozen = refl;
+        owners_are = ap (λ xs. picture.names ++ (picture.uniques ++ xs)) (looks.loose ∙ ap (λ xs. others ++ xs) m.among) ∙ parts picture.names picture.uniques others m.before (root ∷ m.after);
+        owners_then = parts picture.names picture.uniques others m.before m.after;
         laid_out = λ bytes index_blocks l.
             let all = subst (AllByRecursion IsPlain) (looks.loose ∙ ap (λ xs. others ++ xs) m.among) (each_right IsPlain picture.uniques picture.loose l.plain) in
             let mine = each_right IsPlain others (m.before ++ root ∷ m.after) all in
@@ -87,8 +90,9 @@ module _ {others : List Root} {s : State} (looks : Looks others s) where
     pub right : List Root
     pub later : Looks others (set_register s a (Register.Owner v t))
     pub table : later.picture.table ≡ looks.picture.table
-    pub roots_are : roots_of looks.picture ≡ left ++ right
-    pub roots_then : roots_of later.picture ≡ left ++ root ∷ right
+    pub frozen : later.picture.frozen ≡ looks.picture.frozen
+    pub owners_are : owners_in looks.picture ≡ left ++ right
+    pub owners_then : owners_in later.picture ≡ left ++ root ∷ right
     pub laid_out : IsPlain root → (bytes index_blocks : List ℕ) → IsLaidOut bytes looks.picture index_blocks → IsLaidOut bytes later.picture index_blocks
     pub begins : (o : Origin) (r : Root) (i : ℕ) → root_in looks o ≡ Some (r, i) → root_in later o ≡ Some (r, i)
     pub here : root_in later (Origin.Owned a) ≡ Some (root, 0)
@@ -112,11 +116,12 @@ module _ {others : List Root} {s : State} (looks : Looks others s) where
       ∙ ap (λ rs. root_of_register rs (m.before ++ m.after) q) (set-get_or s.registers a Register.Undefined) ∙ ap (λ xs. root_of_register s.registers xs q) (sym m.among) ∙ f)) in
       record {
         left = picture.names ++ (picture.uniques ++ (others ++ m.before));
-        right = m.after ++ frozen_roots picture;
+        right = m.after;
         later = later;
         table = refl;
-        roots_are = ap (λ xs. picture.names ++ (picture.uniques ++ (xs ++ frozen_roots picture))) (looks.loose ∙ ap (λ xs. others ++ xs) m.among) ∙ parts picture.names picture.uniques others m.before m.after (frozen_roots picture);
-        roots_then = parts picture.names picture.uniques others m.before (root ∷ m.after) (frozen_roots picture);
+        frozen = refl;
+        owners_are = ap (λ xs. picture.names ++ (picture.uniques ++ xs)) (looks.loose ∙ ap (λ xs. others ++ xs) m.among) ∙ parts picture.names picture.uniques others m.before m.after;
+        owners_then = parts picture.names picture.uniques others m.before (root ∷ m.after);
         laid_out = λ plain bytes index_blocks l.
             let all = subst (AllByRecursion IsPlain) (looks.loose ∙ ap (λ xs. others ++ xs) m.among) (each_right IsPlain picture.uniques picture.loose l.plain) in
             let mine = each_right IsPlain others (m.before ++ m.after) all in

@@ -9,25 +9,41 @@ use Rattle.seg_spec.specs.Heap.{live}
 use Rattle.seg_spec.specs.Block.{IsBlock, Kind, tag_of, block_of}
 use Rattle.seg_spec.specs.Index.{Root, plain_root}
 use Rattle.seg_spec.specs.Reads.{Place, Holds, HoldsEach, holds_none, holds_more, Leads, here}
-use Rattle.seg_spec.specs.Sound.{IsPlain, HoldsRoot, times, positions}
-use Rattle.seg_spec.specs.Roots.{roots_before, roots_after, item_of}
+use Rattle.seg_spec.specs.Sound.{frozen_roots, roots_of, IsPlain, HoldsRoot, HoldsRoots, holds_more_roots, times, positions}
+use Rattle.seg_spec.specs.Counting.{owners_in}
+use Rattle.seg_spec.specs.Roots.{item_of}
 use Rattle.seg_spec.specs.Calls.{IsLoose}
 use Rattle.seg_spec.specs.Owning.{Stands}
-use Rattle.seg_spec.proofs.LiveLaws.{times-append, times-more}
+use Rattle.seg_spec.proofs.LiveLaws.{times-append}
 use Rattle.seg_spec.proofs.PlainRoots.{HoldsPlain, plain_of, root_of_plain}
-use Rattle.seg_spec.proofs.RootLaws.{roots_are}
+use Rattle.seg_spec.proofs.RootLaws.{HoldsRoots-split, HoldsRoots-only}
 use Rattle.client_spec.specs.Syntax.{Constant}
 use Rattle.client_spec.specs.Machine.{Origin, Path, Register, State, register}
 use Rattle.client_spec.specs.Meaning.{Meets}
 use Rattle.client_spec.specs.Pictures.{root_of_register, LeadsInImage}
 use Rattle.client_spec.specs.Typed.{RegisterType, RegisterTypes, known}
 use Rattle.client_sim.specs.Shows.{World, place_in, Shown, Shows}
-use Rattle.client_sim.proofs.FirstRoots.{Among, each_among, among_right}
+use Rattle.client_sim.proofs.FirstRoots.{Among, each_among, among_left, among_right}
 use Rattle.client_sim.proofs.OwnedRoots.{owned_split}
 use Rattle.client_sim.proofs.Looks.{looks_of}
-use Rattle.client_sim.proofs.RootPuts.{root_of_pair, among_loose}
+use Rattle.client_sim.proofs.RootPuts.{root_of_pair, among_loose, all_others}
 use Rattle.client_sim.proofs.Placed.{PlaceFound}
-use Rattle.client_sim.proofs.MovedPlaces.{other_root}
+use Rattle.client_sim.proofs.MovedPlaces.{frozen_first, roots_split, beside_others}
+use Rattle.client_sim.proofs.MovingOwned.{owned_beside}
+
+-- what a root owns among others
+root_among : (bytes : List ℕ) (table : Table) (roots : List Root) (xs : List ℕ) (root : Root) → HoldsRoots bytes table roots xs → Among roots root
+    → (its : List ℕ) × HoldsRoot bytes table root its × ((h : ℕ) → times h its ≤ times h xs)
+root_among bytes table roots xs root holds a =
+    let s = HoldsRoots-split bytes table a.before (root ∷ a.after) xs (subst (λ rs. HoldsRoots bytes table rs xs) a.is holds) in
+    let t = HoldsRoots-split bytes table (root ∷ []) a.after s.right s.rights in (
+      t.left,
+      HoldsRoots-only bytes table root t.left t.lefts,
+      (λ h.
+          let e = ap (times h) s.blocks_are ∙ times-append h s.left s.right in
+          let f = ap (times h) t.blocks_are ∙ times-append h t.left t.right in
+          omega (arith, e, f)),
+    )
 
 -- ---- a root without a name is a loose object
 
@@ -120,22 +136,23 @@ module _ {others : List Root} {types : Table} {constants : List Constant} {first
   pub owns_apart : (U : ℕ) (o : OwnsHere U) {path : Path} {place : Place} {v : Value} (led : LeadsInImage h.pictured path place) (f : PlaceFound h.pictured led v) → path.origin ≢ Origin.Owned c
       → (stands : Stands allocator w.image h.pictured.picture.table place v f.blocks)
       → (inside : List ℕ) × HoldsRoot w.image h.pictured.picture.table o.root (block_of o.root.at ∷ inside) × IsLoose w.image h.pictured.picture.table (record { at = o.root.at; type = o.root.type }) o.value inside
-      × ((n : ℕ) → times n (stands.home ∷ (f.blocks ++ block_of o.root.at ∷ inside)) ≤ times n (positions (live w.image)))
+      × ((shared : List ℕ) → HoldsRoots w.image h.pictured.picture.table (frozen_roots h.pictured.picture) shared
+      → (n : ℕ) → times n (stands.home ∷ (f.blocks ++ block_of o.root.at ∷ inside)) + times n shared ≤ times n (positions (live w.image)))
   owns_apart U o {path = path} {place = place} {v = v} led f far stands =
       let picture = h.pictured.picture in
-      let put = f.root.puts (λ x. x) in
-      let among : Among (roots_before picture f.root.which f.root.before ++ roots_after picture f.root.which f.root.after) o.root =
-      elim (put.begins (Origin.Owned c) o.root 0 (ap (option_map {T = Root} {U = Root × ℕ} (λ root. (root, 0))) o.root_is)) [
-        | inl p ↦ absurd (far (sym (p.1 (sym (first_item led.root o.value led.item (ap (λ (r : Root). r.values) (sym p.0) ∙ o.values_are) f.within)))))
-        | inr p ↦ p.0
-      ] in
-      let it = other_root w.image picture h.pictured.held (roots_before picture f.root.which f.root.before) led.root (roots_after picture f.root.which f.root.after)
-      (roots_are picture f.root.which f.root.before (led.root ∷ []) f.root.after f.root.among) led.item f.within path.selectors place led.leads v f.blocks f.holds_it allocator stands o.root among in
+      let b = owned_beside h.pictured led v f c o.root far o.root_is in
+      let rest = all_others b.without.later.picture b.found.which b.found.before b.found.after in
+      let it = root_among w.image picture.table (roots_of picture) h.pictured.held.root_blocks o.root h.pictured.held.roots
+      (subst (λ rs. Among rs o.root) (sym (roots_split picture)) (among_left (owners_in picture) (frozen_roots picture) o.root (among_right picture.names (picture.uniques ++ picture.loose) o.root (among_right picture.uniques picture.loose o.root (among_loose (looks_of h.pictured) c o.root o.root_is))))) in
+      let lives : (shared : List ℕ) → HoldsRoots w.image picture.table (frozen_roots picture) shared → (n : ℕ) → times n (stands.home ∷ (f.blocks ++ it.0)) + times n shared ≤ times n (positions (live w.image)) = λ shared frozen n.
+      (let m = beside_others w.image picture h.pictured.held led.root (o.root ∷ frozen_roots picture) rest (frozen_first picture led.root (o.root ∷ []) rest b.order) led.item f.within path.selectors place led.leads v f.blocks f.holds_it
+      (it.0 ++ shared) (holds_more_roots it.1 frozen) allocator stands n in
+      omega (arith, m, times-append n (stands.home ∷ f.blocks) it.0, times-append n it.0 shared)) in
       let live_there : (n : ℕ) → times n it.0 ≤ times n (positions (live w.image)) = λ n.
-      (let m = it.2 n in let k = times-append n f.blocks it.0 in let j = times-more n stands.home (f.blocks ++ it.0) in omega (arith, m, k, j)) in
+      (let e = h.pictured.held.owners n in let k = it.2 n in omega (arith, e, k, times-append n h.pictured.held.index_blocks h.pictured.held.root_blocks)) in
       let l = loose_of_root w.image picture.table o.root o.value it.0 o.no_name o.no_words o.values_are it.1 live_there in (
         l.0,
         subst (HoldsRoot w.image picture.table o.root) l.1 it.1,
         l.2,
-        (λ n. subst (λ bs. times n (stands.home ∷ (f.blocks ++ bs)) ≤ times n (positions (live w.image))) l.1 (it.2 n)),
+        (λ shared frozen n. subst (λ bs. times n (stands.home ∷ (f.blocks ++ bs)) + times n shared ≤ times n (positions (live w.image))) l.1 (lives shared frozen n)),
       )

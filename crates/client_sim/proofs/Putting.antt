@@ -2,17 +2,18 @@
 use Rattle.std.proofs.Common.{◌≡◌, ◌≢◌, ℕ, ℤ, List, [], ◌∷◌, ◌++◌, length, Bool, true, false, inl, inr, Option, Some, None, refl, sym, ◌∙◌, ap, subst, arith}
 use Rattle.std.specs.Prelude.{not, ◌&&◌, ◌==◌, slice_set}
 use Rattle.std.proofs.lemmas.Bool.{eqb-true, eq-eqb}
-use Rattle.std.proofs.lemmas.List.{length-map}
-use Rattle.seg_spec.specs.Types.{AreOfVersion, Form, Table, form_at}
+use Rattle.std.proofs.lemmas.List.{length-map, append-nil}
+use Rattle.seg_spec.specs.Types.{Form, Table, form_at}
 use Rattle.seg_spec.specs.Value.{Value, Full}
-use Rattle.seg_spec.specs.Heap.{live}
 use Rattle.seg_spec.specs.Block.{block_of}
 use Rattle.seg_spec.specs.Reads.{Holds}
 use Rattle.seg_spec.specs.Owning.{Stands}
 use Rattle.seg_spec.specs.Calls.{IsLoose}
-use Rattle.seg_spec.specs.Destroying.{AreLive}
-use Rattle.seg_spec.specs.Roots.{ChangesPlace}
-use Rattle.seg_spec.specs.Demand.{after_gives}
+use Rattle.seg_spec.specs.Frozen.{blocks_by}
+use Rattle.seg_spec.specs.Shared.{names_in, names_each, named_in, left, freed}
+use Rattle.seg_spec.specs.Clearing.{SharedBeside, BesideShared, ClearsPlace}
+use Rattle.seg_spec.proofs.Lowering.{named_positions}
+use Rattle.seg_spec.proofs.CountedParts.{names_same}
 use Rattle.client_spec.specs.declared.table.Operation.{Operation}
 use Rattle.client_spec.specs.declared.table.Role.{Role}
 use Rattle.client_spec.specs.Syntax.{Constant, Instruction}
@@ -20,7 +21,7 @@ use Rattle.client_spec.specs.Machine.{◌>>=◌, Origin, Path, Register, State, 
 use Rattle.client_spec.specs.Answer.{success, path_of, path_form, content_in, owned_type, begins_at, provided, proceed}
 use Rattle.client_spec.specs.Effect.{outcome, effect}
 use Rattle.client_spec.specs.Shape.{HasShape}
-use Rattle.client_spec.specs.Asks.{GrantsAsks}
+use Rattle.client_spec.specs.Asks.{PlaceGoes}
 use Rattle.client_spec.specs.Typed.{Class, RegisterType, Reason, RegisterTypes, known, same_class, owner_needed, required, known_after, without_class, ended, others_ended, rule}
 use Rattle.client_spec.specs.Typed as typed
 use Rattle.client_spec.proofs.Cases.{own_value, own_fits, not_is, required_is}
@@ -34,6 +35,9 @@ use Rattle.client_spec.proofs.Values.{length_set}
 use Rattle.client_sim.specs.Shows.{World, place_in, owns_in, Acts}
 use Rattle.client_sim.specs.Acting.{ActsAs}
 use Rattle.client_sim.proofs.Giving.{set_there}
+use Rattle.client_sim.proofs.Placed.{shared_here}
+use Rattle.client_sim.proofs.ItemNames.{names_full, names_one}
+use Rattle.client_sim.proofs.Granting.{given_back, gives_back}
 use Rattle.client_sim.proofs.Answering.{acts_so}
 use Rattle.client_sim.proofs.Items.{reaches, led_to}
 use Rattle.client_sim.proofs.MovingOwned.{put_moves}
@@ -73,12 +77,14 @@ module _ (allocator : ℕ) (constants : List Constant) (role : Role) (a b c : �
       ∙ ap (λ o. o >>= λ _. last p U (new_value, U)) content
       ∙ ap (λ t. provided t (proceed (set_register (put_at s p (Full new_value)) c Register.Undefined))) test
 
-  -- what the call makes of an own that stands at register b's place, with the object that stands at that of register c
+  -- what the call makes of an own that stands at register b's place, with the object that stands at that of register c, beside
+  -- whichever frozen objects
   abbrev pub PutsOwn : Table → Type 0
-  PutsOwn table = AreOfVersion 1 table →
+  PutsOwn table =
       (U : ℕ) (v x : Value) (blocks inside : List ℕ) → form_at table (place_in w b).type ≡ Some (Form.own U) → (stands : Stands allocator w.image table (place_in w b) v blocks)
-      → IsLoose w.image table (record { at = (place_in w c).at; type = U }) x inside → AreLive w.image (stands.home ∷ (blocks ++ block_of (place_in w c).at ∷ inside))
-      → ChangesPlace w.image new table (place_in w b) (Full x) (block_of (place_in w c).at ∷ inside) (after_gives (live w.image) blocks) blocks []
+      → IsLoose w.image table (record { at = (place_in w c).at; type = U }) x inside
+      → BesideShared w.image table (stands.home ∷ (blocks ++ block_of (place_in w c).at ∷ inside)) (named_in v)
+      (ClearsPlace w.image new table (place_in w b) (Full x) (blocks ++ block_of (place_in w c).at ∷ inside) (block_of (place_in w c).at ∷ inside))
 
   pub put_acts : PutsOwn w.table
       → ActsAs allocator constants role put w (with_owning w new c false w.positions w.type_ids)
@@ -107,11 +113,19 @@ module _ (allocator : ℕ) (constants : List Constant) (role : Role) (a b c : �
       subst (λ (t : Table). form_at t (place_in w b).type ≡ Some (Form.own r.what)) table (r.form_is ∙ ap Some (own_is r.form r.what r.is)) in
       let loose = subst (λ n. IsLoose w.image picture_table (record { at = n; type = r.what }) o.value apart.0) (sym o.at_is)
       (subst (λ t. IsLoose w.image picture_table (record { at = o.root.at; type = t }) o.value apart.0) o.type_is apart.2) in
-      let alive = subst (λ n. AreLive w.image (stands.home ∷ (l.found.blocks ++ block_of n ∷ apart.0))) (sym o.at_is) apart.3 in
-      let changes : ChangesPlace w.image new picture_table (place_in w b) (Full o.value) (block_of o.root.at ∷ apart.0) (after_gives (live w.image) l.found.blocks) l.found.blocks [] =
-      subst (λ n. ChangesPlace w.image new picture_table (place_in w b) (Full o.value) (block_of n ∷ apart.0) (after_gives (live w.image) l.found.blocks) l.found.blocks []) o.at_is
-      (subst PutsOwn table call h.pictured.held.laid_out.of_version r.what l.value o.value l.found.blocks apart.0 form stands loose alive) in
-      let moved = put_moves h.pictured l.in_image l.value l.found new (Full o.value) c o.root (block_of o.root.at ∷ apart.0) far o.root_is apart.1 changes in
+      let its = block_of o.root.at ∷ apart.0 in
+      let picture = h.pictured.picture in
+      let gone = names_in l.value in
+      let all = shared_here h.pictured l.in_image l.value l.found (stands.home ∷ (l.found.blocks ++ its)) gone [] (names_same (sym (append-nil gone))) apart.3 in
+      let beside = subst (λ ns. SharedBeside w.image picture_table (stands.home ∷ (l.found.blocks ++ its)) ns all.theirs all.kept picture.frozen (left gone picture.frozen)) (named_positions l.value) all.beside in
+      let called : BesideShared w.image picture_table (stands.home ∷ (l.found.blocks ++ its)) (named_in l.value) (ClearsPlace w.image new picture_table (place_in w b) (Full o.value) (l.found.blocks ++ its) its) =
+      subst (λ n. BesideShared w.image picture_table (stands.home ∷ (l.found.blocks ++ block_of n ∷ apart.0)) (named_in l.value)
+      (ClearsPlace w.image new picture_table (place_in w b) (Full o.value) (l.found.blocks ++ block_of n ∷ apart.0) (block_of n ∷ apart.0))) o.at_is
+      (subst PutsOwn table call r.what l.value o.value l.found.blocks apart.0 form stands loose) in
+      let clears = called all.theirs all.kept picture.frozen (left gone picture.frozen) beside in
+      let changes = clears.changes in
+      let names : names_in (Full o.value) ≡ names_each o.root.values = names_full o.value ∙ sym (names_one o.value) ∙ ap names_each (sym o.values_are) in
+      let moved = put_moves h.pictured l.in_image l.value l.found new (Full o.value) c o.root its far o.root_is apart.1 names all.theirs all.beside.holds clears in
       let fits : HasShape s.types r.type (Full o.value) =
       value_of_form s.types r.type r.form (Full o.value) r.machine_form ((own_fits s.types r.form r.what r.is).1 o.value (h.as_known.typed.owned c o.value r.what o.register_is)) in
       let sixteen : length ks' ≡ 16 = length-map after (without_class (Class.Register c)) ∙ length_set (ended r.class ks) b (known ks b) ∙ length-map ks (without_class r.class) ∙ h.sixteen in
@@ -123,15 +137,14 @@ module _ (allocator : ℕ) (constants : List Constant) (role : Role) (a b c : �
       let content : (x : Option Value) × (content_in l.value ≡ Some x) = elim (own_value s.types r.form l.value r.what r.is r.fits) [ inl none ↦ (None, none) | inr some ↦ (Some some.0, ap content_in some.1) ] in
       let row = put_row s l.path r.form r.what l.value o.value content.0 r.path_is r.path_form_is r.is (ap owned_by o.register_is) l.there content.1 (begins_elsewhere c l.path.origin far) in
       let held : Holds w.image s.types (place_in w b) l.value l.found.blocks = subst (λ (t : Table). Holds w.image t (place_in w b) l.value l.found.blocks) h.table_is l.stands.holds_it in
-      let blocks : GrantsAsks constants put h.pictured new = record {
-        asks = [];
-        asked = refl;
-        gives = l.found.blocks;
-        returned = (place_in w b, r.form, led_to one h put r, (l.value, held));
-        blocks = live w.image;
-        granted = refl;
-        left = changes.live_is;
+      let given = blocks_by all.theirs (freed gone picture.frozen) in
+      let goes : PlaceGoes constants put h.pictured (place_in w b) (l.found.blocks ++ given) = record {
+        value = l.value;
+        own = l.found.blocks;
+        holds = held;
+        gives_are = (given, record { theirs = all.theirs; holds = all.beside.holds; blocks_are = refl }, refl);
       } in
+      let blocks = gives_back constants put h.pictured new refl (l.found.blocks ++ given) (place_in w b, r.form, led_to one h put r, goes) (given_back gone picture.frozen l.found.blocks (λ n. refl) clears) in
       subst (λ k. Acts others types constants first allocator put success k s w (with_owning w new c false w.positions w.type_ids)) (ap (λ (k : RegisterTypes × RegisterTypes). k.0) pair)
       (acts_so others types constants first allocator ks s w h put success true (slice_set ks' c RegisterType.Undefined) (set_register (put_at s l.path (Full o.value)) c Register.Undefined)
       (with_owning w new c false w.positions w.type_ids) row blocks changes.length_kept changes.front_kept refl shows)

@@ -1,5 +1,5 @@
 -- TAKE: a register comes to own what an own held, or gets a code where it held nothing.
-use Rattle.std.proofs.Common.{◌≡◌, ◌≢◌, ℕ, zero, suc, ◌<◌, ℤ, pos, List, [], ◌∷◌, length, Bool, true, false, inl, inr, Option, Some, None, refl, sym, ◌∙◌, ap, subst, arith}
+use Rattle.std.proofs.Common.{◌≡◌, ◌≢◌, ℕ, zero, suc, ◌<◌, ℤ, pos, List, [], ◌∷◌, ◌++◌, length, Bool, true, false, inl, inr, Option, Some, None, refl, sym, ◌∙◌, ap, subst, arith}
 use Rattle.std.specs.Prelude.{slice_set, slice_index_or}
 use Rattle.std.proofs.lemmas.List.{length-map}
 use Rattle.seg_spec.specs.Types.{Form, Table, form_at}
@@ -38,6 +38,9 @@ use Rattle.client_sim.proofs.Giving.{set_there, set_beside}
 use Rattle.client_sim.proofs.Numbers.{unowned}
 use Rattle.client_sim.proofs.Answering.{acts_so}
 use Rattle.client_sim.proofs.Items.{reaches, opens_then, shows_ended, code_acts}
+use Rattle.seg_spec.specs.Shared.{names_in, names_each}
+use Rattle.seg_spec.proofs.CountedParts.{names_same}
+use Rattle.client_sim.proofs.ItemNames.{names_empty, names_full, names_one}
 use Rattle.client_sim.proofs.MovingOwned.{take_moves}
 use Rattle.client_sim.proofs.MovingShows.{with_owning, shows_moved, stays_put}
 use Rattle.client_sim.proofs.OwnedObjects.{root_of, root_of_loose}
@@ -133,7 +136,8 @@ module _ (allocator : ℕ) (constants : List Constant) (role : Role) (a b c : �
             (root_of_loose new picture_table (record { at = at; type = U }) v t.1 (subst (λ (ts : Table). IsLoose new ts (record { at = at; type = U }) v t.1) table t.3)) in
             let within : a < length s.registers = (let n = h.as_known.count in let m = h.sixteen in omega (arith, n, m, valid.a)) in
             let plain : IsPlain root = record { no_name = refl; no_words = refl; value = v; values_are = refl } in
-            let moved = take_moves h.pictured l.in_image l.value l.found new Empty a U v root within free plain refl refl holds changes in
+            let moved = take_moves h.pictured l.in_image l.value l.found new Empty a U v root within free plain refl refl holds
+            (names_same (ap names_in some.1 ∙ names_full v ∙ sym (names_one v) ∙ ap (λ xs. xs ++ names_each (cons v nil)) (sym names_empty))) changes in
             let after_put = put_at s l.path Empty in
             let owner = Register.Owner v U in
             let state = set_register after_put a owner in
