@@ -154,7 +154,7 @@ module _ (allocator : ℕ) (clients : List Client) (moves : List Move) (input : 
       ending_is = m.ending_is;
       took = m.took;
       saved_is = m.saved_is;
-      sound = record { picture = m.ready.picture; held = m.ready.held; none_loose = m.ready.loose_are };
+      sound = record { picture = m.ready.picture; held = m.ready.held; counted = m.ready.counted; none_loose = m.ready.loose_are };
     }
 
     pub stops : failed ≡ true → HaveRun clients moves input old taken now.bytes taken_now reports (ending_if failed)
@@ -189,11 +189,11 @@ pub ran_on : (texts : List (List ℕ)) (moves : List Move) (input : List ℕ) (w
     → HaveRunOn texts moves input window taken saved taken_then reports ending
 ran_on texts moves input window taken saved taken_then reports ending table allocator is named clients accepted runs = record {
   accepted = record {
-    sound = record { picture = is.picture; held = is.held; none_loose = is.none_loose };
+    sound = record { picture = is.picture; held = is.held; counted = is.counted; none_loose = is.none_loose };
     clients = clients;
     accepted = subst (λ t. AreAccepted t texts clients) (sym is.table_is) accepted;
   };
-  runs = λ may. runs clients accepted (record { picture = is.picture; held = is.held; loose_are = is.none_loose; table_is = is.table_is; allocator_is = named; moves_may = may });
+  runs = λ may. runs clients accepted (record { picture = is.picture; held = is.held; counted = is.counted; loose_are = is.none_loose; table_is = is.table_is; allocator_is = named; moves_may = may });
 }
 
 module _ (texts : List (List ℕ)) (moves : List Move) (input : List ℕ) (window : Placement) (taken : Option (List ℕ)) (saved : List ℕ) (taken_then : Option (List ℕ)) (reports : List Report) (how : Ended)

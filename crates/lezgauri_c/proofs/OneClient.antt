@@ -34,7 +34,7 @@ can_move image sound =
     }
 
 pub image_of : (image : List ℕ) (sound : IsSound image) → IsImageOf image sound.picture.table
-image_of image sound = record { picture = sound.picture; held = sound.held; none_loose = sound.none_loose; table_is = refl }
+image_of image sound = record { picture = sound.picture; held = sound.held; counted = sound.counted; none_loose = sound.none_loose; table_is = refl }
 
 -- the types that are read of it
 module _ (image bytes : List ℕ) (sound : IsSound image) (result : Result Table Fault) (same : bytes ≡ image) (read : (table : Table) → IsImageOf bytes table → result ≡ Ok table) where

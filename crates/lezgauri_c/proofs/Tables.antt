@@ -17,7 +17,9 @@ module _ (image : List ℕ) (table : Table) (is : IsImageOf image table) (read :
   read_valid = subst IsTable is.table_is is.held.laid_out.is_table
 
   pub read_old : AreOfVersion 1 table
-  read_old = subst (AreOfVersion 1) is.table_is is.held.laid_out.of_version
+  read_old =
+      let l = is.held.laid_out in
+      subst (AreOfVersion 1) is.table_is (subst (λ n. AreOfVersion n is.picture.table) l.header.version.0 l.of_version)
 
   pub read_spells : Spells read table
   read_spells =
