@@ -239,7 +239,8 @@ module _ {others : List Root} {types : Table} {constants : List Constant} (one :
           left_is = given_back gone frozen l.lost l.blocks_are c;
         }
       where
-        part_goes : (own : List ℕ) (part : PartBlocks w.image w.table (place_in w i.b) j own) (given : List ℕ) → FrozenGone w.image h.pictured.picture (names_in part.value) given → PartGoes constants i h.pictured (place_in w i.b) j (own ++ given)
+        part_goes : (own : List ℕ) (part : PartBlocks w.image w.table (place_in w i.b) j own) (given : List ℕ) → FrozenGone w.image h.pictured.picture (names_in part.value) given
+            → PartGoes constants i h.pictured (place_in w i.b) j (own ++ given)
         part_goes own part given gone =
             let on_table = subst (λ (t : Table). (p : PartBlocks w.image t (place_in w i.b) j own) × FrozenGone w.image h.pictured.picture (names_in p.value) given) h.table_is (part, gone) in
             record { own = own; part = on_table.0; gives_are = (given, on_table.1, refl) }
@@ -526,7 +527,8 @@ module _ (allocator : ℕ) (constants : List Constant) (role : Role) (a b c : �
       (subst (λ n. Acts others types constants first allocator i success (slice_set (others_ended r.class b ks) a (RegisterType.Reference r.class r.what)) s w (with_place (with_image w new) a (record { at = p; type = n }))) q.0
       (reference_acts one h i r (Seq more) (v.3 more (all_append_one s.types r.what v.0 d v.2 (default_fits h r.type r.what r.form (Selector.item 0) r.machine_form (item_part r.form r.what 0 r.is)))) new
       (led_put h b r.class r.type r.its new (Seq more) pushed.others
-      (names_same (ap names_in v.1 ∙ names_seq v.0 ∙ sym (back_named v.0 d (default_names s.types r.what)) ∙ sym (names_seq more))) pushed.succeeds.changes) pushed.succeeds.changes.length_kept pushed.succeeds.changes.front_kept x r.what d target valid.a o.0 (item_part r.form r.what (count v.0) r.is) (last_item v.0 d) refl pushed.leads row
+      (names_same (ap names_in v.1 ∙ names_seq v.0 ∙ sym (back_named v.0 d (default_names s.types r.what)) ∙ sym (names_seq more))) pushed.succeeds.changes)
+      pushed.succeeds.changes.length_kept pushed.succeeds.changes.front_kept x r.what d target valid.a o.0 (item_part r.form r.what (count v.0) r.is) (last_item v.0 d) refl pushed.leads row
       (grants_asks constants i h.pictured allocator h.allocator_is (item_asks r.form r.what) (place, r.form, led_to one h i r, back_asks h r.form r.what r.is) new w.table place (Seq more) [] r.its.found.blocks pushed.others
       refl pushed.succeeds)))
 
@@ -575,7 +577,8 @@ module _ (allocator : ℕ) (constants : List Constant) (role : Role) (a b c : �
       (subst (λ n. Acts others types constants first allocator i success (slice_set (others_ended r.class b ks) a (RegisterType.Reference r.class r.what)) s w (with_place (with_image w new) a (record { at = p; type = n }))) q.0
       (reference_acts one h i r (Seq more) (v.3 more (all_cons s.types r.what d v.0 (default_fits h r.type r.what r.form (Selector.item 0) r.machine_form part) v.2)) new
       (led_put h b r.class r.type r.its new (Seq more) pushed.others
-      (names_same (ap names_in v.1 ∙ names_seq v.0 ∙ sym (front_named d v.0 (default_names s.types r.what)) ∙ sym (names_seq more))) pushed.succeeds.changes) pushed.succeeds.changes.length_kept pushed.succeeds.changes.front_kept (Selector.item 0) r.what d target valid.a o.0 part refl refl pushed.leads row
+      (names_same (ap names_in v.1 ∙ names_seq v.0 ∙ sym (front_named d v.0 (default_names s.types r.what)) ∙ sym (names_seq more))) pushed.succeeds.changes)
+      pushed.succeeds.changes.length_kept pushed.succeeds.changes.front_kept (Selector.item 0) r.what d target valid.a o.0 part refl refl pushed.leads row
       (grants_asks constants i h.pictured allocator h.allocator_is asks (place, r.form, led_to one h i r, front_asks h r.form r.what r.is) new w.table place (Seq more) [] r.its.found.blocks pushed.others
       refl pushed.succeeds)))
 

@@ -70,7 +70,8 @@ begins_in pictured (Origin.Name name i) = refl
 begins_in pictured (Origin.Unique T) = refl
 begins_in pictured (Origin.Owned r) = refl
 
-pub begins_at : {others : List Root} {s : State} {bytes : List ℕ} (looks : Looks others s) (held : IsHeld bytes looks.picture) (counted : AreCounted (word bytes next_word) looks.picture) (o : Origin) → root_in looks o ≡ root_at (held_by looks held counted) o
+pub begins_at : {others : List Root} {s : State} {bytes : List ℕ} (looks : Looks others s) (held : IsHeld bytes looks.picture) (counted : AreCounted (word bytes next_word) looks.picture) (o : Origin)
+    → root_in looks o ≡ root_at (held_by looks held counted) o
 begins_at looks held counted (Origin.Name name i) = refl
 begins_at looks held counted (Origin.Unique T) = refl
 begins_at looks held counted (Origin.Owned r) = refl

@@ -4,19 +4,19 @@ use Rattle.std.proofs.lemmas.Bool.{cases_eq}
 use Rattle.std.specs.List.{AllByRecursion}
 use Rattle.seg_spec.specs.Bytes.{word}
 use Rattle.seg_spec.specs.Header.{allocator_word}
-use Rattle.seg_spec.specs.Types.{Table, size}
+use Rattle.seg_spec.specs.Types.{Table}
 use Rattle.seg_spec.specs.Value.{Value, count, nth, Selector, value_at, with_value_at}
 use Rattle.seg_spec.specs.Heap.{Span, live}
 use Rattle.seg_spec.specs.Block.{KeepsBlock}
 use Rattle.seg_spec.specs.Apart.{BlocksApart}
 use Rattle.seg_spec.specs.Index.{Root}
 use Rattle.seg_spec.specs.Reads.{Place, Holds, Leads}
-use Rattle.seg_spec.specs.Shared.{names_in, names_each, IsCounted, IsFalling, left}
-use Rattle.seg_spec.specs.Sound.{Picture, frozen_roots, roots_of, HoldsRoot, HoldsRoots, holds_no_root, holds_more_roots, IsLaidOut, IsHeld, times, SameBlocks, positions}
+use Rattle.seg_spec.specs.Shared.{names_in, IsCounted, IsFalling, left}
+use Rattle.seg_spec.specs.Sound.{Picture, frozen_roots, roots_of, HoldsRoot, HoldsRoots, holds_more_roots, IsLaidOut, IsHeld, times, SameBlocks, positions}
 use Rattle.seg_spec.specs.Counting.{cells_in, owners_in, AreCounted}
 use Rattle.seg_spec.specs.Roots.{item_of, with_item, KeepsPaths, KeepsPathsBeside, PartComesApart, ChangesPlace}
 use Rattle.seg_spec.specs.Owning.{Stands}
-use Rattle.seg_spec.proofs.LiveLaws.{times-append, times-same, times-other, there, each_there, live-once, live-apart, OneOrApart, owned_apart}
+use Rattle.seg_spec.proofs.LiveLaws.{times-append, times-same, times-other, there, each_there, live-apart, OneOrApart, owned_apart}
 use Rattle.seg_spec.proofs.SharedLaws.{counted_again}
 use Rattle.seg_spec.proofs.CountedPictures.{falling_left, cells_append}
 use Rattle.seg_spec.proofs.CountedParts.{SameNames, names_same, names_then, names_joined, names_swapped, names_first, names_counted, beside_part, root_names, root_names_then}
@@ -148,8 +148,15 @@ module _ (old : List ℕ) (picture : Picture) (held : IsHeld old picture) (root 
   apart =
       let beside = held.index_blocks ++ (owned.others ++ some_blocks) in
       (apart_append old owned.its beside (owned_apart old (word old allocator_word) held.laid_out.heap (owned.its ++ beside) (λ h.
-      omega (arith, held.owners h, owned.blocks_are h, times-append h held.index_blocks held.root_blocks, times-append h owned.its beside, times-append h held.index_blocks (owned.others ++ some_blocks),
-      times-append h owned.others some_blocks)))).left
+      omega (
+        arith,
+        held.owners h,
+        owned.blocks_are h,
+        times-append h held.index_blocks held.root_blocks,
+        times-append h owned.its beside,
+        times-append h held.index_blocks (owned.others ++ some_blocks),
+        times-append h owned.others some_blocks,
+      )))).left
 
   p : PartComesApart old table root owned.its j path q
   p = part_comes_apart old table held.laid_out.is_table root owned.its owned.holds_it apart j within path q leads
@@ -232,7 +239,8 @@ module _ (old : List ℕ) (picture : Picture) (held : IsHeld old picture) (root 
 
 module _ (root : Root) (j : ℕ) (item : Value) (item_is : nth root.values j ≡ Some item) (path : List Selector) (v : Value) (value_is : value_at item path ≡ Some v) where
   -- some owners and a place give way to others, and cells with these names go
-  pub counted_moved : (next : ℕ) (picture other : Picture) (some come rest : List Root) (w : Value) → Reorders (owners_in picture) (root ∷ (some ++ rest)) → Reorders (with_item root j (with_value_at path w) ∷ (come ++ rest)) (owners_in other)
+  pub counted_moved : (next : ℕ) (picture other : Picture) (some come rest : List Root) (w : Value) → Reorders (owners_in picture) (root ∷ (some ++ rest))
+      → Reorders (with_item root j (with_value_at path w) ∷ (come ++ rest)) (owners_in other)
       → (gone : List Place) → SameNames (names_in v ++ cells_in some) (gone ++ (names_in w ++ cells_in come)) → other.frozen ≡ left gone picture.frozen → AreCounted next picture → AreCounted next other
   counted_moved next picture other some come rest w now then gone same frozen c =
       let later = with_item root j (with_value_at path w) in

@@ -36,7 +36,8 @@ use Rattle.client_sim.proofs.Looks.{Looks, root_in, looks_of, looks_left, held_b
 use Rattle.client_sim.proofs.RootPuts.{RootFound, root_for, all_others, frozen_same}
 use Rattle.client_sim.proofs.Placed.{PlaceFound, owners_split, item_within}
 use Rattle.client_sim.proofs.OwnedLooks.{Without, goes, comes}
-use Rattle.client_sim.proofs.MovedPlaces.{Reorders, order_same, order_then, order_under, order_first, order_back, order_exchanged, frozen_first, frozen_last, from_frozen_first, from_frozen_last, index_kept, beside_kept, paths_kept, moved_held, counted_moved}
+use Rattle.client_sim.proofs.MovedPlaces.{Reorders, order_same, order_then, order_under, order_first, order_back, order_exchanged, frozen_first, frozen_last, from_frozen_first, from_frozen_last}
+use Rattle.client_sim.proofs.MovedPlaces.{index_kept, beside_kept, paths_kept, moved_held, counted_moved}
 
 -- ---- a put beside a register that owns nothing any more
 
@@ -177,7 +178,8 @@ module _ {others : List Root} {s : State} {bytes : List ℕ} (pictured : Picture
       (order_same (sym (ap owners_in put.picture_is ∙ owners_with l.later.picture found.which found.before (changed ∷ []) found.after))) in
       let then = from_frozen_first other changed [] rest owners in
       let left_blocks = blocks_by theirs (left gone picture.frozen) in
-      let comes : HoldsRoots new table (frozen_roots other) left_blocks = subst (λ fs. HoldsRoots new table (map root_of_frozen (left gone fs)) left_blocks) (sym same_frozen) (roots_held new table theirs (left gone picture.frozen) clears.holds) in
+      let comes : HoldsRoots new table (frozen_roots other) left_blocks =
+      subst (λ fs. HoldsRoots new table (map root_of_frozen (left gone fs)) left_blocks) (sym same_frozen) (roots_held new table theirs (left gone picture.frozen) clears.holds) in
       let c' : ChangesPlace bytes new table place w its (after_gives (live bytes) clears.gives) (f.blocks ++ blocks) (its ++ left_blocks) =
       subst (λ bs. ChangesPlace bytes new table place w its (after_gives (live bytes) clears.gives) bs (its ++ left_blocks)) (append_assoc f.blocks its (blocks_by theirs picture.frozen)) changes in
       let index = index_kept bytes picture held led.root (root ∷ frozen) rest now led.item f.within path.selectors place led.leads old_value f.blocks f.holds_it blocks goes new w its left_blocks c' in

@@ -1,7 +1,6 @@
 -- The object that a register owns, as a call finds it: loose, with its value, apart from what stands at another root's place.
-use Rattle.std.proofs.Common.{◌≡◌, ◌≢◌, ℕ, ◌+◌, ◌*◌, ◌<◌, ◌≤◌, inl, inr, List, [], ◌∷◌, ◌++◌, Option, Some, refl, sym, ◌∙◌, ap, subst, arith}
+use Rattle.std.proofs.Common.{◌≡◌, ◌≢◌, ℕ, ◌+◌, ◌*◌, ◌<◌, ◌≤◌, List, [], ◌∷◌, ◌++◌, Option, Some, refl, sym, ◌∙◌, ap, subst, arith}
 use Rattle.std.proofs.lemmas.List.{append-nil}
-use Rattle.std.specs.Prelude.{option_map}
 use Rattle.seg_spec.specs.Bytes.{slice}
 use Rattle.seg_spec.specs.Types.{Table, size}
 use Rattle.seg_spec.specs.Value.{Value, nil, cons, count}
@@ -143,7 +142,8 @@ module _ {others : List Root} {types : Table} {constants : List Constant} {first
       let b = owned_beside h.pictured led v f c o.root far o.root_is in
       let rest = all_others b.without.later.picture b.found.which b.found.before b.found.after in
       let it = root_among w.image picture.table (roots_of picture) h.pictured.held.root_blocks o.root h.pictured.held.roots
-      (subst (λ rs. Among rs o.root) (sym (roots_split picture)) (among_left (owners_in picture) (frozen_roots picture) o.root (among_right picture.names (picture.uniques ++ picture.loose) o.root (among_right picture.uniques picture.loose o.root (among_loose (looks_of h.pictured) c o.root o.root_is))))) in
+      (subst (λ rs. Among rs o.root) (sym (roots_split picture)) (among_left (owners_in picture) (frozen_roots picture) o.root
+      (among_right picture.names (picture.uniques ++ picture.loose) o.root (among_right picture.uniques picture.loose o.root (among_loose (looks_of h.pictured) c o.root o.root_is))))) in
       let lives : (shared : List ℕ) → HoldsRoots w.image picture.table (frozen_roots picture) shared → (n : ℕ) → times n (stands.home ∷ (f.blocks ++ it.0)) + times n shared ≤ times n (positions (live w.image)) = λ shared frozen n.
       (let m = beside_others w.image picture h.pictured.held led.root (o.root ∷ frozen_roots picture) rest (frozen_first picture led.root (o.root ∷ []) rest b.order) led.item f.within path.selectors place led.leads v f.blocks f.holds_it
       (it.0 ++ shared) (holds_more_roots it.1 frozen) allocator stands n in

@@ -1,5 +1,5 @@
 -- Objects come and go: each path that still begins somewhere leads where it led, and a world that stood for the state stands for the one with the object more or less.
-use Rattle.std.proofs.Common.{◌≡◌, ℕ, ◌≤◌, ◌+◌, ◌⊎◌, inl, inr, List, [], ◌∷◌, ◌++◌, length, drop, Option, Some, refl, sym, ◌∙◌, ap, subst, append_assoc, arith}
+use Rattle.std.proofs.Common.{◌≡◌, ℕ, ◌≤◌, ◌+◌, ◌⊎◌, inl, inr, List, [], ◌∷◌, ◌++◌, length, drop, Option, Some, refl, sym, ◌∙◌, ap, subst, arith}
 use Rattle.std.specs.List.{AllByRecursion}
 use Rattle.seg_spec.specs.Bytes.{word}
 use Rattle.seg_spec.specs.Header.{allocator_word, free_word, KeepsFront}
@@ -10,11 +10,11 @@ use Rattle.seg_spec.specs.Heap.{live}
 use Rattle.seg_spec.specs.Block.{block_of, KeepsBlock}
 use Rattle.seg_spec.specs.Index.{Root}
 use Rattle.seg_spec.specs.Reads.{Place, Leads}
-use Rattle.seg_spec.specs.Sound.{payload_of, Picture, frozen_roots, roots_of, HoldsRoot, HoldsRoots, IsHeld, times, positions}
+use Rattle.seg_spec.specs.Sound.{payload_of, Picture, frozen_roots, HoldsRoot, HoldsRoots, IsHeld, times, positions}
 use Rattle.seg_spec.specs.Frozen.{blocks_by}
 use Rattle.seg_spec.specs.Destroying.{HoldFrozen}
 use Rattle.seg_spec.specs.Counting.{owners_in}
-use Rattle.seg_spec.specs.Roots.{Listed, roots_in, roots_before, roots_after, item_of, KeepsPaths}
+use Rattle.seg_spec.specs.Roots.{Listed, roots_in, roots_before, item_of, KeepsPaths}
 use Rattle.seg_spec.proofs.SliceLaws.{IsSame-part}
 use Rattle.seg_spec.proofs.Frame.{word-same}
 use Rattle.seg_spec.proofs.LiveLaws.{times-append, each_there, live-once}
@@ -35,19 +35,16 @@ use Rattle.client_spec.specs.Typed.{RegisterType, RegisterTypes, known}
 use Rattle.client_sim.specs.Writes.{Took}
 use Rattle.client_sim.specs.Shows.{World, number_in, place_in, owns_in, HasRegisters, Shown, Shows}
 use Rattle.client_sim.proofs.RootPuts.{after_split}
+use Rattle.client_sim.proofs.MovedPlaces.{roots_split}
 use Rattle.client_sim.proofs.Placed.{item_within}
 
 -- ---- paths
-
--- the owners before the frozen objects
-owners_front : (picture : Picture) → roots_of picture ≡ owners_in picture ++ frozen_roots picture
-owners_front picture = simp append_assoc
 
 -- each live block but for those that are gone is kept
 module _ (old new : List ℕ) (picture : Picture) (held : IsHeld old picture) (gone : List ℕ) (kept : (h : ℕ) → 1 ≤ times h (positions (live old)) → times h gone ≡ 0 → KeepsBlock old new h) where
   -- of the roots' none is
   pub all_paths : ((h : ℕ) → times h gone ≤ times h held.index_blocks) → AllByRecursion (KeepsPaths old new picture.table) (owners_in picture)
-  all_paths few = each_left (KeepsPaths old new picture.table) (owners_in picture) (frozen_roots picture) (subst (AllByRecursion (KeepsPaths old new picture.table)) (owners_front picture)
+  all_paths few = each_left (KeepsPaths old new picture.table) (owners_in picture) (frozen_roots picture) (subst (AllByRecursion (KeepsPaths old new picture.table)) (roots_split picture)
       (roots_paths old new picture.table held.laid_out.is_table held.roots (each_there (KeepsBlock old new) held.root_blocks (λ h some.
       let e = held.owners h ∙ times-append h held.index_blocks held.root_blocks in
       let once = live-once old (word old allocator_word) held.laid_out.heap h in

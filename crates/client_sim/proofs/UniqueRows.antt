@@ -329,7 +329,8 @@ module _ (allocator : ℕ) (constants : List Constant) (role : Role) (a b c : �
           let picture = h.pictured.picture in
           let c = call.loses in
           let u = unique_found h T call.root.at (ap (λ (o : Option Root). option_map {T = Root} {U = ℕ} (λ r. r.at) o) call.root_is) in
-          let goes = unique_goes h.pictured T call.root call.root_is call.before call.after call.uniques_are new (c.becomes.held, c.becomes.counted) (paths_without h new Listed.by_type call.before call.root call.after call.uniques_are refl c) in
+          let goes = unique_goes h.pictured T call.root call.root_is call.before call.after call.uniques_are new (c.becomes.held, c.becomes.counted)
+          (paths_without h new Listed.by_type call.before call.root call.after call.uniques_are refl c) in
           let less = shows_less one h T new goes c.becomes.front_kept in
           let s' = s_less one h T new goes c.becomes.front_kept in
           let shared = blocks_by c.theirs (freed (names_each call.root.values) picture.frozen) in
