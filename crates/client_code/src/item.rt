@@ -6,7 +6,7 @@ ghost use Rattle.seg_layout.specs.Forms.{form_of};
 ghost use Rattle.client_spec.specs.Syntax as syntax;
 ghost use Rattle.client_spec.specs.Grammar.{IsOperand, IsNumber};
 ghost use Rattle.client_spec.specs.Text as text;
-ghost use Rattle.client_spec.specs.Text.{words_of, type_word, constant_word, type_words, operand_words, next_words, instruction_words, SpellsItem};
+ghost use Rattle.client_spec.specs.Text.{words_of, type_word, constant_word, type_words, operand_words, number_words, instruction_words, SpellsItem};
 ghost use Rattle.client_spec.specs.Pieces.{IsReadable, IsTold, IsToldInstruction};
 ghost use Rattle.client_spec.specs.Operations.{mnemonic};
 ghost use Rattle.client_code.specs.Views.{instruction_of};
@@ -227,13 +227,13 @@ fn read_register(word: &[u8]) -> Option<u8>
 
 fn read_number(number: Number, words: &mut Words) -> Option<i32>
     ensures found { IfSome result (λ n. words_of words.old.line.now
-        ≡ next_words number n ++ words_of words.new.line.now) }
+        ≡ number_words number n ++ words_of words.new.line.now) }
     ensures told { IfSome result (λ n. IsTold number n) }
     ensures range { IfSome result (λ n. FitsSigned w32 n) }
     ensures none { IfNone result ((types : Table) (constants : List syntax.Constant) (b : ℕ) (n : ℤ)
         (rest : text.Words) → length types ≤ 32 → length constants ≤ 256 → FitsSigned w32 n →
         IsNumber types constants b number n
-        → words_of words.old.line.now ≢ next_words number n ++ rest) }
+        → words_of words.old.line.now ≢ number_words number n ++ rest) }
 {
     match number {
         Number::Unused => Some(0),

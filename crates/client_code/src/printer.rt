@@ -3,7 +3,7 @@ ghost use Rattle.seg_layout.specs.Forms.{form_of};
 ghost use Rattle.seg_spec.specs.Types.{Form, form_at};
 ghost use Rattle.client_spec.specs.Syntax as syntax;
 ghost use Rattle.client_spec.specs.Grammar.{SpellsClient, listing, IsConstant, IsNameByte};
-ghost use Rattle.client_spec.specs.Text.{type_item, constant_item, instruction_item, operand_words, next_words, type_word, is_plain, escaped, text_spelling, spaced_words, text_of};
+ghost use Rattle.client_spec.specs.Text.{type_item, constant_item, instruction_item, operand_words, number_words, type_word, is_plain, escaped, text_spelling, spaced_words, text_of};
 ghost use Rattle.client_code.specs.Views.{constant_of, constants_of, instruction_of};
 ghost use Rattle.client_code.specs.Texts.{with_spaces, ended_line};
 ghost use Rattle.client_code.specs.Clients.{bytes_of, OfTree};
@@ -227,7 +227,7 @@ fn print_number<A: Allocator>(
     number: i32,
 ) -> Result<(), AllocError>
     ensures { OnOk result (text.new.bytes.items ≡ text.old.bytes.items
-        ++ with_spaces (next_words kind number)) }
+        ++ with_spaces (number_words kind number)) }
 {
     let n = number.unsigned_abs();
     match kind {

@@ -1,8 +1,8 @@
 -- What is known after the stations of the heap.
-use Rattle.std.proofs.Common.{ℕ, ◌+◌, ◌*◌, ◌≤◌, List, length, arith}
+use Rattle.std.proofs.Common.{ℕ, subst, ◌+◌, ◌*◌, ◌≤◌, List, length, arith}
 use Rattle.std.proofs.lemmas.List.{length-map}
 use Rattle.seg_spec.specs.Bytes.{word}
-use Rattle.seg_spec.specs.Types.{Table}
+use Rattle.seg_spec.specs.Types.{Table, AreOfVersion}
 use Rattle.seg_spec.specs.Header.{allocator_word}
 use Rattle.seg_spec.specs.Heap.{heap_start, Span, IsHeap, HoldsGaps, gaps, live}
 use Rattle.seg_spec.specs.Block.{IsOwnable}
@@ -35,7 +35,7 @@ module _ (bytes : List ℕ) (table : Table) (front : HasFront bytes table) (tile
   pub ready_known : (known : Known) → KnowsTiles bytes known → IsReady bytes table known
   ready_known known knows = record {
     is_table = front.is_table;
-    of_version = front.of_version;
+    of_version = subst (λ n. AreOfVersion n table) front.header.version.0 front.of_version;
     blocks = blocks_known known knows;
     few = few_known known knows;
     small = front.header.not_large;

@@ -31,4 +31,5 @@ pub mod FreeWalk
 pub mod MapLaws
 pub mod TreeIndex
 pub mod HeapLaws
+pub mod Unshared
 pub mod WholeLaws

@@ -3,10 +3,10 @@ use Rattle.std.proofs.Common.{◌≡◌, ◌≢◌, ℕ, ◌+◌, ◌*◌, ◌/�
 use Rattle.std.specs.Prelude.{◌↔◌}
 use Rattle.std.proofs.lemmas.Bool.{cases_eq}
 use Rattle.seg_spec.specs.Types.{Table, IsTable}
-use Rattle.seg_spec.specs.Block.{tag_of, AllowsType}
+use Rattle.seg_spec.specs.Block.{tag_of}
 use Rattle.seg_block.specs.Tags.{kind_of, word_of}
 use Rattle.seg_block.specs.declared.tag.Tag.{Tag}
-use Rattle.seg_check.specs.Tiles.{IsAllowed, AreLiveTags}
+use Rattle.seg_check.specs.Tiles.{AllowsLive, IsAllowed, AreLiveTags}
 use Rattle.seg_check.proofs.TagNumbers.{number_small, one_tag, type_small, kind_from, kind_of-from}
 
 -- the turn of a word, and the word of a turn: kind by kind, and type by type
@@ -25,7 +25,7 @@ module _ (table : Table) (valid : IsTable table) where
   allowed_small : (word : ℕ) → IsAllowed table word → (word % 256 ≤ 7) × (word / 256 < 32)
   allowed_small word a =
       let n = (number_small a.kind).1 in
-      let t = type_small table valid a.kind a.type a.allowed in
+      let t = type_small table valid a.kind a.type a.allowed.0 in
       let e = a.tag_is in
       (omega arith, omega arith)
 
@@ -69,16 +69,16 @@ module _ (table : Table) (valid : IsTable table) where
   pub no_tag : (word : ℕ) (o : Option Tag) → ((t : Tag) → t.type_id < 256 → word ≡ word_of t → o ≡ Some t) → o ≡ None → IsAllowed table word → ⊥
   no_tag word o every none a =
       let t : Tag = record { kind = kind_from a.kind; type_id = a.type } in
-      let small = type_small table valid a.kind a.type a.allowed in
+      let small = type_small table valid a.kind a.type a.allowed.0 in
       let is : word ≡ word_of t = a.tag_is ∙ ap (λ k. tag_of k a.type) (sym (kind_of-from a.kind)) in
       let some : o ≡ Some t = every t (omega arith) is in
       cc
 
   -- the word of a tag is allowed where its type is
-  pub tag_allowed : (word : ℕ) (t : Tag) → word ≡ word_of t → (AllowsType table (kind_of t.kind) t.type_id → IsAllowed table word) × (IsAllowed table word → AllowsType table (kind_of t.kind) t.type_id)
+  pub tag_allowed : (word : ℕ) (t : Tag) → word ≡ word_of t → (AllowsLive table (kind_of t.kind) t.type_id → IsAllowed table word) × (IsAllowed table word → AllowsLive table (kind_of t.kind) t.type_id)
   tag_allowed word t is = (
     λ a. record { kind = kind_of t.kind; type = t.type_id; allowed = a; tag_is = is },
     λ a.
         let one = one_tag a.kind (kind_of t.kind) a.type t.type_id (sym a.tag_is ∙ is) in
-        subst (λ T. AllowsType table (kind_of t.kind) T) one.1 (subst (λ k. AllowsType table k a.type) one.0 a.allowed),
+        subst (λ T. AllowsLive table (kind_of t.kind) T) one.1 (subst (λ k. AllowsLive table k a.type) one.0 a.allowed),
   )

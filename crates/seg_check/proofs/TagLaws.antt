@@ -1,8 +1,9 @@
 -- What stands in a block, by its tag.
 use Rattle.std.proofs.Common.{◌≡◌, ℕ, ◌+◌, ◌*◌, ◌/◌, ◌%◌, ◌<◌, ◌⊎◌, inl, inr, List, [], length, Option, Some, None, true, false, refl, sym, ap, ◌∙◌, subst, arith}
-use Rattle.seg_spec.specs.Types.{AreOfVersion, Form, Table, IsTable, form_at, size}
+use Rattle.seg_spec.specs.Types.{Form, Table, IsTable, form_at, size}
 use Rattle.seg_spec.specs.Heap.{tag_at}
 use Rattle.seg_spec.specs.Block as block
+use Rattle.seg_spec.specs.Frozen.{frozen_words}
 use Rattle.seg_spec.specs.Block.{kind_number, tag_of, block_of, IsOwnable, AllowsType}
 use Rattle.seg_spec.specs.Owing.{entries_at}
 use Rattle.seg_block.specs.Tags.{kind_of, word_of}
@@ -87,16 +88,15 @@ module _ (bytes : List ℕ) (table : Table) (valid : IsTable table) where
   none_some : {X : Type 0} (x : X) → None ≡ Some x → ⊥
   none_some x h = cc
 
-  pub stands_in : AreOfVersion 1 table → (b : ℕ) (k : Kind) (T : ℕ) (content : Content) → (k ≡ kind.Named → ⊥) → IsOwnable bytes table b → tag_at bytes b ≡ tag_of (kind_of k) T → OfBlock table k T (Some content) → HasEntries bytes table b content.entry
-  stands_in version b kind.Named T content other own e s = absurd (other refl)
-  stands_in version b kind.Object T content other own e s = stands_object b block.Kind.object T content (λ start n. refl) (allowed_as b block.Kind.object T own e) e s
-  stands_in version b kind.Buffer T content other own e s = stands_by b block.Kind.buffer T (form_at table T) content refl (λ start n. refl) (inl (allowed_as b block.Kind.buffer T own e)) e s
-  stands_in version b kind.Node T content other own e s = stands_by b block.Kind.node T (form_at table T) content refl (λ start n. refl) (inr (allowed_as b block.Kind.node T own e)) e s
-  stands_in version b kind.IndexBuffer T content other own e s = absurd (none_some content (sym s))
-  stands_in version b kind.IndexNode T content other own e s = absurd (none_some content (sym s))
-  stands_in version b kind.Frozen T content other own e s =
-      let a = allowed_as b block.Kind.frozen T own e in
-      let later = version.each a.1.0 (Form.shared T) a.1.1 in absurd (omega arith)
+  pub stands_in : (b : ℕ) (k : Kind) (T : ℕ) (content : Content) → (k ≡ kind.Named → ⊥) → IsOwnable bytes table b → tag_at bytes b ≡ tag_of (kind_of k) T → OfBlock table k T (Some content) → HasEntries bytes table b content.entry
+  stands_in b kind.Named T content other own e s = absurd (other refl)
+  stands_in b kind.Object T content other own e s = stands_object b block.Kind.object T content (λ start n. refl) (allowed_as b block.Kind.object T own e) e s
+  stands_in b kind.Buffer T content other own e s = stands_by b block.Kind.buffer T (form_at table T) content refl (λ start n. refl) (inl (allowed_as b block.Kind.buffer T own e)) e s
+  stands_in b kind.Node T content other own e s = stands_by b block.Kind.node T (form_at table T) content refl (λ start n. refl) (inr (allowed_as b block.Kind.node T own e)) e s
+  stands_in b kind.IndexBuffer T content other own e s = absurd (none_some content (sym s))
+  stands_in b kind.IndexNode T content other own e s = absurd (none_some content (sym s))
+  stands_in b kind.Frozen T content other own e s =
+      has_entries b frozen_words T content.entry s.entry_is (allowed_as b block.Kind.frozen T own e) (λ turn same. tagged_at b turn block.Kind.frozen T e same)
 
   -- ---- where no values stand
 

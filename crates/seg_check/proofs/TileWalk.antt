@@ -1,12 +1,15 @@
 -- The walk over the tiles, one after the other.
-use Rattle.std.proofs.Common.{◌≡◌, ℕ, zero, suc, ◌+◌, ◌*◌, ◌%◌, ◌<◌, ◌≤◌, Bool, true, false, cond, ltb, List, [], ◌∷◌, ◌++◌, length, refl, sym, ap, ◌∙◌, subst, arith}
+use Rattle.std.proofs.Common.{◌≡◌, ◌≢◌, ℕ, zero, suc, ◌+◌, ◌*◌, ◌%◌, ◌<◌, ◌≤◌, Bool, true, false, cond, ltb, List, [], ◌∷◌, ◌++◌, length, refl, sym, ap, ◌∙◌, subst, arith}
 use Rattle.std.proofs.lemmas.List.{append_assoc, append-nil}
 use Rattle.std.proofs.lemmas.Bool.Decides.{nat_tests}
 use Rattle.std.specs.List.{AllByRecursion}
 use Rattle.seg_spec.specs.Types.{Table}
-use Rattle.seg_spec.specs.Heap.{Span, Tile, span_of, is_live_at, units_at, tiles_from, tiles, Fill, AreHeaders, AreApart, live_of, free_of, live, gaps, heap_start}
-use Rattle.seg_spec.specs.Block.{IsOwnable}
-use Rattle.seg_spec.specs.Faulty.{HasTiles}
+use Rattle.seg_spec.specs.Heap.{Span, Tile, span_of, is_live_at, units_at, tag_at, tiles_from, tiles, Fill, AreHeaders, AreApart, live_of, free_of, live, gaps, heap_start}
+use Rattle.seg_spec.specs.Bytes.{word}
+use Rattle.seg_spec.specs.Header.{version_word, sharing_version}
+use Rattle.seg_spec.specs.Block.{Kind, kind_number, tag_of, IsOwnable}
+use Rattle.seg_spec.specs.Faulty.{IsTagOf, HasTiles}
+use Rattle.seg_spec.proofs.Frame.{each_both, each_weaker}
 use Rattle.seg_spec.proofs.TileLaws.{Fill-le, free_of-append, gaps_between-live_of}
 use Rattle.seg_block.specs.declared.header.Header.{Header}
 use Rattle.seg_block.specs.Headers.{header_at}
@@ -25,6 +28,19 @@ after_free : (before now : Bool) → (now ≡ false → before ≡ true) → bef
 after_free before true wants free = refl
 after_free before false wants free = absurd (true_false (sym (wants refl) ∙ free))
 
+frozen_tag : (T : ℕ) → tag_of Kind.frozen T % 256 ≡ kind_number Kind.frozen
+frozen_tag T = omega arith
+
+-- the kind of a tag that is a frozen object's
+frozen_kind : (k : Kind) (T : ℕ) → tag_of k T % 256 ≡ kind_number Kind.frozen → k ≡ Kind.frozen
+frozen_kind Kind.named T e = absurd (omega arith)
+frozen_kind Kind.object T e = absurd (omega arith)
+frozen_kind Kind.buffer T e = absurd (omega arith)
+frozen_kind Kind.node T e = absurd (omega arith)
+frozen_kind Kind.index_buffer T e = absurd (omega arith)
+frozen_kind Kind.index_node T e = absurd (omega arith)
+frozen_kind Kind.frozen T e = refl
+
 module _ (bytes : List ℕ) (table : Table) where
   abbrev pub tile_at : ℕ → Tile
   tile_at at = record { at = at; units = units_at bytes at; live = is_live_at bytes at }
@@ -32,19 +48,31 @@ module _ (bytes : List ℕ) (table : Table) where
   abbrev pub end_at : ℕ → ℕ
   end_at at = at + 16 * units_at bytes at
 
+  -- a live block is right in an image without frozen objects
+  abbrev pub IsLiveHere : ℕ → Type 0
+  IsLiveHere at = IsOwnable bytes table at × (tag_at bytes at % 256 ≢ kind_number Kind.frozen)
+
+  -- the tiles are right, in an image that has none
+  abbrev pub HasOldTiles : Type 0
+  HasOldTiles = HasTiles bytes table × (word bytes version_word ≢ sharing_version)
+
+  all_here : word bytes version_word ≢ sharing_version → (bs : List Span) → AllByRecursion (λ b. IsOwnable bytes table b.at) bs → AllByRecursion (λ b. IsTagOf (word bytes version_word) (tag_at bytes b.at)) bs
+      → AllByRecursion (λ b. IsLiveHere b.at) bs
+  all_here old bs o v = each_both _ _ (λ (b : Span). IsLiveHere b.at) (λ b own of. (own, λ e. old (of e))) bs o v
+
   -- the tiles from a position on are right, after a header
   pub record Rest (ts : List Tile) (at : ℕ) (before : Header) : Type 0 where
     pub fill : Fill at ts (length bytes)
     pub headers : AreHeaders bytes before.units ts
     pub apart : AreApart before.is_live ts
-    pub ownable : AllByRecursion (λ b. IsOwnable bytes table b.at) (live_of ts)
+    pub ownable : AllByRecursion (λ b. IsLiveHere b.at) (live_of ts)
 
   -- the tiles up to a position were passed: all are right where those from there on are
   pub record IsTiledTo (passed : List Tile) (at : ℕ) (before : Header) : Type 0 where
     pub n : ℕ
     pub all : tiles bytes ≡ passed ++ tiles_from n bytes at
     pub enough : length bytes ≤ at + n
-    pub forth : HasTiles bytes table → Rest (tiles_from n bytes at) at before
+    pub forth : HasOldTiles → Rest (tiles_from n bytes at) at before
     pub back : Rest (tiles_from n bytes at) at before → HasTiles bytes table
     pub below : AllByRecursion (λ t. t.at < at) passed
 
@@ -54,17 +82,20 @@ module _ (bytes : List ℕ) (table : Table) where
     n = length bytes;
     all = refl;
     enough = omega arith;
-    forth = λ a. record {
-      fill = a.filled;
-      headers = subst (λ u. AreHeaders bytes u (tiles bytes)) (sym no_units) a.headers;
-      apart = subst (λ l. AreApart l (tiles bytes)) (sym is_live) a.apart;
-      ownable = a.ownable;
-    };
+    forth = λ b.
+        let a = b.0 in
+        record {
+          fill = a.filled;
+          headers = subst (λ u. AreHeaders bytes u (tiles bytes)) (sym no_units) a.headers;
+          apart = subst (λ l. AreApart l (tiles bytes)) (sym is_live) a.apart;
+          ownable = all_here b.1 (live_of (tiles bytes)) a.ownable a.of_version;
+        };
     back = λ r. record {
       filled = r.fill;
       headers = subst (λ u. AreHeaders bytes u (tiles bytes)) no_units r.headers;
       apart = subst (λ l. AreApart l (tiles bytes)) is_live r.apart;
-      ownable = r.ownable;
+      ownable = each_weaker (λ (b : Span). IsLiveHere b.at) (λ b. IsOwnable bytes table b.at) (λ b o. o.0) (live_of (tiles bytes)) r.ownable;
+      of_version = each_weaker (λ (b : Span). IsLiveHere b.at) (λ b. IsTagOf (word bytes version_word) (tag_at bytes b.at)) (λ b o e. absurd (o.1 e)) (live_of (tiles bytes)) r.ownable;
     };
     below = tt;
   }
@@ -85,13 +116,13 @@ module _ (bytes : List ℕ) (table : Table) where
 
   -- ---- one tile among those left
 
-  own_first : (at : ℕ) (ts : List Tile) (b : Bool) → is_live_at bytes at ≡ b → AllByRecursion (λ x. IsOwnable bytes table x.at) (cond b (span_of (tile_at at) ∷ live_of ts) (live_of ts))
-      → (is_live_at bytes at ≡ true → IsOwnable bytes table at) × AllByRecursion (λ x. IsOwnable bytes table x.at) (live_of ts)
+  own_first : (at : ℕ) (ts : List Tile) (b : Bool) → is_live_at bytes at ≡ b → AllByRecursion (λ x. IsLiveHere x.at) (cond b (span_of (tile_at at) ∷ live_of ts) (live_of ts))
+      → (is_live_at bytes at ≡ true → IsLiveHere at) × AllByRecursion (λ x. IsLiveHere x.at) (live_of ts)
   own_first at ts true e o = ((λ t. o.0), o.1)
   own_first at ts false e o = ((λ t. absurd (true_false (sym t ∙ e))), o)
 
-  own_both : (at : ℕ) (ts : List Tile) (b : Bool) → is_live_at bytes at ≡ b → (is_live_at bytes at ≡ true → IsOwnable bytes table at) → AllByRecursion (λ x. IsOwnable bytes table x.at) (live_of ts)
-      → AllByRecursion (λ x. IsOwnable bytes table x.at) (cond b (span_of (tile_at at) ∷ live_of ts) (live_of ts))
+  own_both : (at : ℕ) (ts : List Tile) (b : Bool) → is_live_at bytes at ≡ b → (is_live_at bytes at ≡ true → IsLiveHere at) → AllByRecursion (λ x. IsLiveHere x.at) (live_of ts)
+      → AllByRecursion (λ x. IsLiveHere x.at) (cond b (span_of (tile_at at) ∷ live_of ts) (live_of ts))
   own_both at ts true e o os = (o e, os)
   own_both at ts false e o os = os
 
@@ -101,7 +132,12 @@ module _ (bytes : List ℕ) (table : Table) where
     free = λ e. (r.headers.0.tag_is e, before_free before.is_live (is_live_at bytes at) r.apart.0 e);
     live = λ e.
         let o = (own_first at ts (is_live_at bytes at) refl r.ownable).0 e in
-        (o.link_is, record { kind = o.kind; type = o.type; allowed = o.allowed; tag_is = o.tag_is });
+        (o.0.link_is, record {
+          kind = o.0.kind;
+          type = o.0.type;
+          allowed = (o.0.allowed, λ e. o.1 (ap (λ t. t % 256) (o.0.tag_is ∙ ap (λ k. tag_of k o.0.type) e) ∙ frozen_tag o.0.type));
+          tag_is = o.0.tag_is;
+        });
   }
 
   rest_tail : (ts : List Tile) (at : ℕ) (before : Header) → Rest (tile_at at ∷ ts) at before → Rest ts (end_at at) (header_at bytes at)
@@ -115,17 +151,20 @@ module _ (bytes : List ℕ) (table : Table) where
     ownable = own_both at ts (is_live_at bytes at) refl own r.ownable;
   }
     where
-      own : is_live_at bytes at ≡ true → IsOwnable bytes table at
-      own e = let l = next.live e in let a = l.1 in record { kind = a.kind; type = a.type; allowed = a.allowed; tag_is = a.tag_is; link_is = l.0 }
+      own : is_live_at bytes at ≡ true → IsLiveHere at
+      own e =
+          let l = next.live e in
+          let a = l.1 in
+          (record { kind = a.kind; type = a.type; allowed = a.allowed.0; tag_is = a.tag_is; link_is = l.0 }, λ f. a.allowed.1 (frozen_kind a.kind a.type (sym (ap (λ t. t % 256) a.tag_is) ∙ f)))
 
   module _ (passed : List Tile) (at : ℕ) (before : Header) (w : IsTiledTo passed at before) (inside : at < length bytes) where
     first : (m : ℕ) × (w.n ≡ suc m) × (tiles_from w.n bytes at ≡ tile_at at ∷ tiles_from m bytes (end_at at))
     first = one_tile w.n at inside w.enough
 
-    pub next_is : HasTiles bytes table → Follows table before (header_at bytes at)
+    pub next_is : HasOldTiles → Follows table before (header_at bytes at)
     next_is a = rest_next (tiles_from first.0 bytes (end_at at)) at before (subst (λ ts. Rest ts at before) first.2 (w.forth a))
 
-    pub fits_is : HasTiles bytes table → (2 ≤ units_at bytes at) × (end_at at ≤ length bytes)
+    pub fits_is : HasOldTiles → (2 ≤ units_at bytes at) × (end_at at ≤ length bytes)
     fits_is a =
         let r = subst (λ ts. Rest ts at before) first.2 (w.forth a) in
         (r.fill.1, Fill-le (tiles_from first.0 bytes (end_at at)) (end_at at) (length bytes) r.fill.2)

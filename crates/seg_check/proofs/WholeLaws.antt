@@ -3,10 +3,10 @@ use Rattle.std.proofs.Common.{◌≡◌, ℕ, ◌≤◌, List, [], ◌∷◌, �
 use Rattle.std.proofs.lemmas.List.{append-nil}
 use Rattle.std.specs.List.{AllByRecursion}
 use Rattle.seg_spec.specs.Bytes.{word}
-use Rattle.seg_spec.specs.Types.{Table}
+use Rattle.seg_spec.specs.Types.{Table, AreOfVersion}
 use Rattle.seg_spec.specs.Value.{Values, nil}
 use Rattle.seg_spec.specs.Heap.{HoldsGaps, gaps, live}
-use Rattle.seg_spec.specs.Header.{types_start, allocator_word}
+use Rattle.seg_spec.specs.Header.{types_start, allocator_word, next_word}
 use Rattle.seg_spec.specs.Reads.{Place, HoldsEach, holds_none}
 use Rattle.seg_spec.specs.Index.{Root, AreEntries, AreAscending, Precedes}
 use Rattle.seg_spec.specs.Images.{IsSound}
@@ -24,7 +24,9 @@ use Rattle.seg_check.specs.Roots.{uniques_ahead, ResolvesRoots, ResolvesIndex, A
 use Rattle.seg_check.proofs.StepLaws.{resolves_swap, waiting-append, turns_both}
 use Rattle.seg_check.proofs.HeapLaws.{is_heap}
 use Rattle.seg_spec.specs.Frozen.{root_of_frozen}
-use Rattle.seg_spec.proofs.NoFrozen.{no_frozen}
+use Rattle.seg_spec.proofs.NoFrozen.{none_numbered}
+use Rattle.seg_spec.specs.Counting.{AreCounted}
+use Rattle.seg_check.proofs.Unshared.{counted_none}
 
 -- ---- names after none
 
@@ -60,6 +62,7 @@ pub record HoldsBut (bytes : List ℕ) (table : Table) (left : List ℕ) : Type 
   pub root_blocks : List ℕ
   pub roots : HoldsRoots bytes picture.table (roots_of picture) root_blocks
   pub owners : SameBlocks (positions (live bytes)) ((index_blocks ++ root_blocks) ++ left)
+  pub counted : AreCounted (word bytes next_word) picture
 
 module _ (bytes : List ℕ) (table : Table) where
   pub image_held : HoldsBut bytes table [] → IsImageOf bytes table
@@ -72,6 +75,7 @@ module _ (bytes : List ℕ) (table : Table) where
       roots = h.roots;
       owners = (λ b. h.owners b ∙ ap (times b) (append-nil (h.index_blocks ++ h.root_blocks)));
     };
+    counted = h.counted;
     none_loose = h.none_loose;
     table_is = h.table_is;
   }
@@ -80,6 +84,7 @@ module _ (bytes : List ℕ) (table : Table) where
   all_held left h = record {
     picture = h.picture;
     none_loose = h.none_loose;
+    counted = h.counted;
     index_blocks = h.index_blocks;
     laid_out = h.laid_out;
     root_blocks = h.root_blocks;
@@ -96,7 +101,7 @@ module _ (bytes : List ℕ) (table : Table) (known : Known) (front : HasFront by
       let same : p.table ≡ table = HasTable-one bytes types_start p.table table h.laid_out.is_table front.is_table h.laid_out.types front.types in
       let names = h.laid_out.names in
       let none : roots_of p ≡ p.names ++ p.uniques =
-      ap (λ fs. p.names ++ (p.uniques ++ (p.loose ++ map root_of_frozen fs))) (no_frozen bytes p h) ∙ ap (λ rs. p.names ++ (p.uniques ++ (rs ++ []))) s.none_loose ∙ ap (λ rs. p.names ++ rs) (append-nil p.uniques) in
+      ap (λ fs. p.names ++ (p.uniques ++ (p.loose ++ map root_of_frozen fs))) (none_numbered p (subst (λ n. AreCounted n p) front.header.version.1 s.counted)) ∙ ap (λ rs. p.names ++ (p.uniques ++ (rs ++ []))) s.none_loose ∙ ap (λ rs. p.names ++ rs) (append-nil p.uniques) in
       record {
         index = names.index;
         opens = names.opens;
@@ -141,6 +146,8 @@ module _ (bytes : List ℕ) (table : Table) (known : Known) (front : HasFront by
         };
         root_blocks = roots.root_blocks;
         roots = subst (λ rs. HoldsRoots bytes table (roots.names ++ rs) roots.root_blocks) (sym (append-nil roots.uniques)) roots.roots;
+        counted = counted_none bytes table (word bytes next_word) (record { table = table; names = roots.names; uniques = roots.uniques; loose = []; frozen = [] }) roots.root_blocks
+            (subst (λ n. AreOfVersion n table) front.header.version.0 front.of_version) (subst (λ rs. HoldsRoots bytes table (roots.names ++ rs) roots.root_blocks) (sym (append-nil roots.uniques)) roots.roots) refl;
         owners = (λ b. owned b r.index.blocks r.rest roots.root_blocks roots.rest values.blocks none (knows.unclaimed b) (r.owners b) (roots.owners b) (values.owners b));
       }
     where

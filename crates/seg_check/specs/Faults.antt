@@ -6,16 +6,20 @@
 use Rattle.std.specs.Prelude.{◌≡◌, ◌≢◌, ◌⊎◌, ⊤, ℕ, List, []}
 use Rattle.seg_spec.specs.Bytes.{word}
 use Rattle.seg_spec.specs.Types.{Table}
+use Rattle.seg_spec.specs.Header.{next_word}
+use Rattle.seg_spec.specs.Counting.{AreCounted}
 use Rattle.seg_spec.specs.Images.{IsSound}
 use Rattle.seg_spec.specs.Sound.{Picture, IsHeld}
 use Rattle.seg_spec.specs.Faulty.{HasFront, LacksHeader, LacksType, LacksTiles, LacksGaps, LacksContent, LacksOwner}
 use Rattle.seg_raw.specs.declared.fault.Fault.{Fault}
 use Rattle.seg_raw.specs.declared.fault.Fault.TheVariants as fault
 
--- the bytes are a segment with these types, which owns all its objects itself
+-- the bytes are a segment with these types, which owns all its objects itself, and counts those that
+-- cells share
 pub record IsImageOf (bytes : List ℕ) (table : Table) : Type 0 where
   pub picture : Picture
   pub held : IsHeld bytes picture
+  pub counted : AreCounted (word bytes next_word) picture
   pub none_loose : picture.loose ≡ []
   pub table_is : picture.table ≡ table
 

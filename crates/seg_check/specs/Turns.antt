@@ -11,6 +11,7 @@ use Rattle.std.specs.List.{AllByRecursion}
 use Rattle.seg_spec.specs.Types.{Form, Table, Cell, form_at, size}
 use Rattle.seg_spec.specs.Heap.{tag_at}
 use Rattle.seg_spec.specs.Block.{Kind, block_of, IsOwnable}
+use Rattle.seg_spec.specs.Frozen.{frozen_words}
 use Rattle.seg_spec.specs.Owing.{entries_at}
 use Rattle.seg_spec.specs.Reads.{Place, map_words}
 use Rattle.seg_spec.specs.Sound.{times}
@@ -46,6 +47,7 @@ places_with table (Some Kind.named) T start n = entries_at table start 0 T n
 places_with table (Some Kind.object) T start n = entries_at table start 0 T n
 places_with table (Some Kind.buffer) T start n = places_by table (form_at table T) start n
 places_with table (Some Kind.node) T start n = places_by table (form_at table T) start n
+places_with table (Some Kind.frozen) T start n = entries_at table start frozen_words T n
 places_with table _ T start n = []
 
 -- the values that wait in a claimed block

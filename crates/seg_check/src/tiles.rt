@@ -1,11 +1,10 @@
 ghost use Rattle.std.specs.Prelude.{◌≡◌, ℕ, ◌-◌, ◌/◌, ◌↔◌, true, false, get_or, length, IsOk, IsTrue, OnOk, IfOk};
 ghost use Rattle.seg_spec.specs.Types.{Table, IsTable};
 ghost use Rattle.seg_spec.specs.Heap.{gaps, heap_start};
-ghost use Rattle.seg_spec.specs.Block.{AllowsType};
 ghost use Rattle.seg_spec.specs.Faulty.{HasFront, HasTiles};
 ghost use Rattle.seg_block.specs.Tags.{kind_of};
 ghost use Rattle.seg_check.specs.Marks.{nothing_known, KnowsTiles};
-ghost use Rattle.seg_check.specs.Tiles.{AreLiveTags, Follows, KnowsGaps};
+ghost use Rattle.seg_check.specs.Tiles.{AllowsLive, AreLiveTags, Follows, KnowsGaps};
 
 use crate::claims::Claims;
 use crate::free_list::FreeList;
@@ -110,7 +109,7 @@ impl LiveTags {
 
 /// Whether a live block may have this tag.
 fn is_live_tag(types: &TypeTable, tag: Tag) -> bool
-    ensures { IsTrue result ↔ AllowsType types.now (kind_of tag.kind) tag.type_id }
+    ensures { IsTrue result ↔ AllowsLive types.now (kind_of tag.kind) tag.type_id }
 {
     let kind = types.kind(tag.type_id);
     match tag.kind {
@@ -118,6 +117,6 @@ fn is_live_tag(types: &TypeTable, tag: Tag) -> bool
         Kind::Buffer => matches!(kind, Some(Type::Str | Type::Vec(_) | Type::FlatMap(_))),
         Kind::Node => matches!(kind, Some(Type::List(_) | Type::Map(_))),
         Kind::IndexBuffer | Kind::IndexNode => tag.type_id == 0,
-        Kind::Frozen => kind.is_some() && types.shares(tag.type_id),
+        Kind::Frozen => false,
     }
 }

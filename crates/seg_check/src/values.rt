@@ -1,5 +1,5 @@
 ghost use Rattle.std.specs.Prelude.{◌≡◌, ℕ, ◌+◌, ◌^◌, ◌<◌, ◌≤◌, ◌∷◌, [], length};
-ghost use Rattle.seg_spec.specs.Types.{AreOfVersion, Form, IsTable, fields_of, size};
+ghost use Rattle.seg_spec.specs.Types.{Form, IsTable, fields_of, size};
 ghost use Rattle.seg_spec.specs.Block.{IsOwnable};
 ghost use Rattle.seg_spec.specs.Pointer.{target};
 ghost use Rattle.seg_spec.specs.Reads.{count_at};
@@ -58,7 +58,7 @@ impl<A: Allocator> Image<'_, A> {
 
     /// What stands in a claimed block that waited for its turn.
     fn entry_of(&self, block: u32) -> Option<Entry>
-        ensures { IsTable self.now.types.now → AreOfVersion 1 self.now.types.now →
+        ensures { IsTable self.now.types.now →
             IsOwnable self.now.w.now.bytes self.now.types.now block →
             HoldsEntries self.now.w.now.bytes self.now.types.now block result }
     {

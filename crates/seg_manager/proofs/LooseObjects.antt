@@ -273,6 +273,7 @@ module _ (allocator : ℕ) (old new : Stored) (picture : Picture) (is : IsSegmen
         kept = λ h some none. (others_linked allocator a' b' picture.table blocks its.theirs cells picture.frozen heap is.held.laid_out.blocks destroyed h some none).whole.kept;
       };
       shared_kept = destroyed.shared_kept;
+      holds_left = subst (λ t. HoldFrozen b' t its.theirs (left cells picture.frozen)) (sym is.table_is) destroyed.holds;
       live_is = live_given allocator a' b' picture.table blocks its.theirs cells picture.frozen heap is.held.laid_out.blocks destroyed;
     }
 

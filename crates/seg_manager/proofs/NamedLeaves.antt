@@ -227,6 +227,7 @@ module _ (allocator : ℕ) (old mid : Stored) (picture : Picture) (is : IsSegmen
             kept_twice a b c h (e.changes.kept h some (omega arith)) (kept_then h (omega arith) (omega arith));
       };
       shared_kept = frozen_twice a b c first.theirs rest left_mid g.shared_kept;
+      holds_left = subst (λ t. HoldFrozen c t first.theirs rest) (sym is.table_is) g.holds;
       live_is =
           live_given allocator b c table its first.theirs cells picture.frozen heap_mid e.changes.ownable g ∙ ap (λ bs. after_gives bs (its ++ went)) e.changes.live_is ∙ sym (gives_append (live a) e.gives (its ++ went))
           ∙ in_any_order (live a) (e.gives ++ (its ++ went)) ((its ++ e.gives) ++ went) (λ h.

@@ -205,6 +205,7 @@ module _ (allocator : ℕ) (old mid new : Stored) (picture : Picture) (is : IsSe
             kept = λ h some none. kept_twice a b new.window.bytes h (keeps h some) (l.becomes.kept h (subst (λ bs. 1 ≤ times h (positions bs)) (sym same_live) some) none);
           };
           shared_kept = frozen_twice a b new.window.bytes l.theirs rest (frozen_kept allocator a b heap' l.theirs rest lives (λ h some. keeps h (lives h some))) l.shared_kept;
+          holds_left = subst (λ t. HoldFrozen new.window.bytes t l.theirs rest) types_are l.holds_left;
           live_is = subst (λ bs. live new.window.bytes ≡ after_gives bs (l.blocks ++ blocks_by l.theirs (freed gone picture.frozen))) same_live l.live_is;
         };
       }

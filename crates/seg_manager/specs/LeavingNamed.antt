@@ -55,5 +55,7 @@ pub record LosesNamed (allocator : ℕ) (old new : Stored) (picture : Picture)
       ((objects ++ index_blocks) ++ blocks_by theirs picture.frozen)
   pub shared_kept : KeepFrozen old.window.bytes new.window.bytes theirs
       (left (names_each root.values) picture.frozen)
+  pub holds_left : HoldFrozen new.window.bytes old.types theirs
+      (left (names_each root.values) picture.frozen)
   pub live_is : live new.window.bytes ≡ after_gives (live old.window.bytes)
       ((objects ++ entries) ++ blocks_by theirs (freed (names_each root.values) picture.frozen))

@@ -111,6 +111,8 @@ pub record LosesRoot (allocator : ℕ) (old new : Stored) (root : Root) (other :
       (blocks ++ blocks_by theirs other.frozen)
   pub shared_kept : KeepFrozen old.window.bytes new.window.bytes theirs
       (left (names_each root.values) other.frozen)
+  pub holds_left : HoldFrozen new.window.bytes old.types theirs
+      (left (names_each root.values) other.frozen)
   pub live_is : live new.window.bytes ≡ after_gives (live old.window.bytes)
       (blocks ++ blocks_by theirs (freed (names_each root.values) other.frozen))
 

@@ -3,7 +3,7 @@ use Rattle.std.specs.Int.{w32}
 use Rattle.std.proofs.lemmas.Int.{to_z-of_z}
 use Rattle.client_spec.specs.declared.table.Row.{Row}
 use Rattle.client_spec.specs.Grammar.{IsOperand, IsNumber}
-use Rattle.client_spec.specs.Text.{words_of, operand_words, next_words}
+use Rattle.client_spec.specs.Text.{words_of, operand_words, number_words}
 use Rattle.client_spec.specs.Operations.{mnemonic, row_of}
 use Rattle.client_code.proofs.LineWords.{joined}
 use Rattle.client_code.proofs.Outcomes.{on_none}
@@ -18,8 +18,8 @@ returns-clause-found c =
     (c.in_ok-read_operand.ensures.found ∙ ap (λ r. operand_words r.a c.in_ok-read_operand.field-0 ++ words_of c.read_operand.new.words.line.now) row)
     (c.in_ok-read_operand-2.ensures.found ∙ ap (λ r. operand_words r.b c.in_ok-read_operand-2.field-0 ++ words_of c.read_operand-2.new.words.line.now) row)
     (c.in_ok-read_operand-3.ensures.found ∙ ap (λ r. operand_words r.c c.in_ok-read_operand-3.field-0 ++ words_of c.read_operand-3.new.words.line.now) row)
-    (c.in_ok-read_number.ensures.found ∙ ap (λ r. next_words r.number c.in_ok-read_number.field-0 ++ words_of c.read_number.new.words.line.now) row
-    ∙ ap (λ n. next_words (row_of c.args.operation).number n ++ words_of c.read_number.new.words.line.now) (sym (to_z-of_z w32 c.in_ok-read_number.field-0 c.in_ok-read_number.ensures.range))))
+    (c.in_ok-read_number.ensures.found ∙ ap (λ r. number_words r.number c.in_ok-read_number.field-0 ++ words_of c.read_number.new.words.line.now) row
+    ∙ ap (λ n. number_words (row_of c.args.operation).number n ++ words_of c.read_number.new.words.line.now) (sym (to_z-of_z w32 c.in_ok-read_number.field-0 c.in_ok-read_number.ensures.range))))
 
 pub returns-clause-whole : goal.returns-clause-whole
 returns-clause-whole c = λ j by same.

@@ -35,7 +35,7 @@ loop-index-preserved g c =
         taken = ap (λ (k : Known). k.taken) w.claims-is ∙ w.in_ok-check_value.ensures.taken ∙ c.loop-index.invariant.taken;
         so_far = (λ ready turn.
             let done = c.loop-index.invariant.so_far ready turn in
-            let has = c.in-Some.ensures ready.is_table ready.of_version (subst (λ b. IsOwnable bytes table b) (sym c.block_of.ensures) turn.ownable) in
+            let has = c.in-Some.ensures ready.is_table (subst (λ b. IsOwnable bytes table b) (sym c.block_of.ensures) turn.ownable) in
             let V = w.in-Some-value.value.type_id in
             let e = w.in-Some-value.ensures.held in
             let same = same_some w.in-Some-value.value _ (w.in-Some-value.ensures.value V e) in
@@ -48,7 +48,7 @@ loop-index-preserved g c =
         taken = ap (λ (k : Known). k.taken) w.claims-is ∙ c.loop-index.invariant.taken;
         so_far = (λ ready turn.
             let done = c.loop-index.invariant.so_far ready turn in
-            let has = c.in-Some.ensures ready.is_table ready.of_version (subst (λ b. IsOwnable bytes table b) (sym c.block_of.ensures) turn.ownable) in
+            let has = c.in-Some.ensures ready.is_table (subst (λ b. IsOwnable bytes table b) (sym c.block_of.ensures) turn.ownable) in
             let none = no_value bytes table c.block_of.result entry has c.args.turn c.block_of.ensures i (λ U e. none_some _ (sym w.in_default-value.is ∙ c.value.ensures.value U e)) in
             subst (λ k. Advances bytes table old k (take (i + 1) places)) (sym w.claims-is) (place_past bytes table old mid places i done none));
       }
@@ -58,7 +58,7 @@ pub returns-in_default-clause-steps : goal.returns-in_default-clause-steps
 returns-in_default-clause-steps g c = λ ready turn.
     let bytes = c.args.self.now.w.now.bytes in
     let table = c.args.self.now.types.now in
-    let none = c.in_default.ensures ready.is_table ready.of_version (subst (λ b. IsOwnable bytes table b) (sym c.block_of.ensures) turn.ownable) c.args.turn c.block_of.ensures in
+    let none = c.in_default.ensures ready.is_table (subst (λ b. IsOwnable bytes table b) (sym c.block_of.ensures) turn.ownable) c.args.turn c.block_of.ensures in
     subst (λ ps. Advances bytes table c.args.claims.now c.args.claims.now ps) (sym none) (advance_none bytes table c.args.claims.now)
 
 pub returns-in_err-check_value-clause-steps : goal.returns-in_err-check_value-clause-steps
@@ -70,7 +70,7 @@ returns-in_err-check_value-clause-steps g c = λ ready turn.
     let i = c.loop-index.index in
     let places = places_in bytes table c.args.turn in
     let done = c.loop-index.invariant.so_far ready turn in
-    let has = c.in-Some.ensures ready.is_table ready.of_version (subst (λ b. IsOwnable bytes table b) (sym c.block_of.ensures) turn.ownable) in
+    let has = c.in-Some.ensures ready.is_table (subst (λ b. IsOwnable bytes table b) (sym c.block_of.ensures) turn.ownable) in
     let V = c.in-Some-value.value.type_id in
     let held = c.in-Some-value.ensures.held in
     let value = same_some c.in-Some-value.value _ (c.in-Some-value.ensures.value V held) in
@@ -86,6 +86,6 @@ pub returns-clause-steps : goal.returns-clause-steps
 returns-clause-steps g c = λ ready turn.
     let bytes = c.args.self.now.w.now.bytes in
     let table = c.args.self.now.types.now in
-    let has = c.in-Some.ensures ready.is_table ready.of_version (subst (λ b. IsOwnable bytes table b) (sym c.block_of.ensures) turn.ownable) in
+    let has = c.in-Some.ensures ready.is_table (subst (λ b. IsOwnable bytes table b) (sym c.block_of.ensures) turn.ownable) in
     let few = few_places bytes table c.block_of.result c.in-Some.entry has c.args.turn c.block_of.ensures in
     place_all bytes table c.args.claims.now c.loop-index.claims (places_in bytes table c.args.turn) c.loop-index.index (c.loop-index.invariant.so_far ready turn) (omega (arith, c.loop-index-test.false, few))

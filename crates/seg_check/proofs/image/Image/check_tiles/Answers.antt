@@ -1,4 +1,6 @@
-use Rattle.std.proofs.Common.{◌≡◌, ℕ, ◌+◌, ◌-◌, ◌*◌, ◌/◌, ◌^◌, ◌%◌, ◌<◌, ◌≤◌, Bool, true, false, not, List, ◌∷◌, [], ◌++◌, length, refl, sym, ap, ◌∙◌, subst, arith}
+use Rattle.std.proofs.Common.{◌≡◌, ◌≢◌, ℕ, ◌+◌, ◌-◌, ◌*◌, ◌/◌, ◌^◌, ◌%◌, ◌<◌, ◌≤◌, Bool, true, false, not, List, ◌∷◌, [], ◌++◌, length, refl, sym, ap, ◌∙◌, subst, arith}
+use Rattle.seg_spec.specs.Bytes.{word}
+use Rattle.seg_spec.specs.Header.{version_word, sharing_version}
 use Rattle.seg_spec.specs.Heap.{Span, span_of, units_at, is_live_at, heap_start}
 use Rattle.seg_block.specs.declared.header.Header.{Header}
 use Rattle.seg_block.specs.Headers.{header_at}
@@ -106,8 +108,9 @@ returns-then-units-lt2-clause-tiles g c = λ front.
     let tags = c.of-tags.ensures front.is_table in (
       λ e. false_true _ e,
       λ a.
-          let sized = fits_is bytes table w.passed at before w.tiled inside a in
-          let next = next_is bytes table w.passed at before w.tiled inside a in
+          let old : word bytes version_word ≢ sharing_version = λ e. (let one = front.header.version.0 in absurd (omega arith)) in
+          let sized = fits_is bytes table w.passed at before w.tiled inside (a, old) in
+          let next = next_is bytes table w.passed at before w.tiled inside (a, old) in
           elim c.then-units-lt2.branch [
             | then-units-lt2-via-then-units-lt2 v ↦ absurd (omega (arith, v.if-units-lt2.true, sized.0, units))
             | then-units-lt2-via-else-units-lt2+then-units-end v ↦ absurd (omega (arith, v.if-units-end.true, sized.1, units, len))
