@@ -13,6 +13,7 @@ use Rattle.seg_spec.specs.Reads.{Holds, holds, holds_none, holds_more}
 use Rattle.seg_spec.specs.Index.{Root, plain_root}
 use Rattle.seg_spec.specs.Header.{next_word}
 use Rattle.seg_spec.specs.Shared.{names_in, names_each}
+use Rattle.seg_spec.specs.Counting.{AreCounted}
 use Rattle.seg_spec.specs.Images.{IsSound}
 use Rattle.seg_spec.specs.Sound.{HoldsRoot, holds_no_root, holds_more_roots, IsLaidOut, IsHeld, times, positions}
 use Rattle.seg_spec.specs.Fixtures.{counter, greeting, empty, empty_tree, counter_picture, greeting_picture, empty_picture}
@@ -104,9 +105,12 @@ counter_held = record {
   owners = λ h. subst (λ bs. times h (positions bs) ≡ times h (736 ∷ 704 ∷ [])) (sym (live_evaluated counter counter_tiles counter_fill counter_headers)) (omega arith);
 }
 
-pub counter_sound : IsSound counter
+pub counter_counted : AreCounted (word counter next_word) counter_picture
 unfolding names_in names_each
-counter_sound = record { picture = counter_picture; held = counter_held; counted = unshared (word counter next_word) counter_picture refl refl; none_loose = refl }
+counter_counted = unshared (word counter next_word) counter_picture refl refl
+
+pub counter_sound : IsSound counter
+counter_sound = record { picture = counter_picture; held = counter_held; counted = counter_counted; none_loose = refl }
 
 -- ---- the text
 
@@ -208,9 +212,12 @@ greeting_held = record {
   owners = λ h. subst (λ bs. times h (positions bs) ≡ times h (736 ∷ 704 ∷ 784 ∷ [])) (sym (live_evaluated greeting greeting_tiles greeting_fill greeting_headers)) (omega arith);
 }
 
-pub greeting_sound : IsSound greeting
+pub greeting_counted : AreCounted (word greeting next_word) greeting_picture
 unfolding names_in names_each
-greeting_sound = record { picture = greeting_picture; held = greeting_held; counted = unshared (word greeting next_word) greeting_picture refl refl; none_loose = refl }
+greeting_counted = unshared (word greeting next_word) greeting_picture refl refl
+
+pub greeting_sound : IsSound greeting
+greeting_sound = record { picture = greeting_picture; held = greeting_held; counted = greeting_counted; none_loose = refl }
 
 -- ---- no object, and one gap
 
@@ -265,7 +272,6 @@ empty_held = record {
 }
 
 pub empty_sound : IsSound empty
-unfolding names_in names_each
 empty_sound = record { picture = empty_picture; held = empty_held; counted = unshared (word empty next_word) empty_picture refl refl; none_loose = refl }
 
 -- ---- no object, and one gap
@@ -328,5 +334,4 @@ empty_tree_held = record {
 }
 
 pub empty_tree_sound : IsSound empty_tree
-unfolding names_in names_each
 empty_tree_sound = record { picture = empty_picture; held = empty_tree_held; counted = unshared (word empty_tree next_word) empty_picture refl refl; none_loose = refl }
