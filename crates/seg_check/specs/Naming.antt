@@ -105,9 +105,10 @@ pub record CanName (bytes : List ℕ) (known : Known) (pointer tag size : ℕ) :
   pub is_block : IsBlock bytes start tag size
   pub there : 1 ≤ standing_at known (block_of start)
 
--- Each block that may be claimed or named lies in the segment, and has a count.
+-- Each block that may be claimed or named lies in the heap, and has a count.
 pub record IsNameable (bytes : List ℕ) (known : Known) : Type 0 where
   pub live : (h : ℕ) → 1 ≤ standing_at known h → IsLiveBlock bytes h
+  pub low : (h : ℕ) → 1 ≤ standing_at known h → heap_start ≤ h
   pub slots : length bytes ≤ heap_start + 32 * length known.naming.counts
   pub small : length bytes ≤ 2 ^ 30
 

@@ -6,7 +6,7 @@ ghost use Rattle.seg_spec.specs.Bytes.{word};
 ghost use Rattle.seg_spec.specs.Header.{next_word};
 ghost use Rattle.seg_check.specs.Marks.{Known, nothing_known, slots_in, IsUnit, IsMarked, IsCounted, KeepsOthers, KeepsNames, Adds};
 ghost use Rattle.seg_check.specs.Claiming.{Refuses, AreLive, CanClaim, ClaimsBlock};
-ghost use Rattle.seg_check.specs.Naming.{IsUnder, CanName, NamesBlock, IsNameable, ClaimsFrozen, number_at, slot_of, left_at};
+ghost use Rattle.seg_check.specs.Naming.{IsUnder, CanName, NamesBlock, IsNameable, ClaimsFrozen, number_at, slot_of, left_at, one_less};
 ghost use Rattle.seg_check.specs.Cells.{AreRight};
 
 use crate::bytes::{frozen_number, has_payload};
@@ -226,7 +226,7 @@ impl<A: Allocator> Claims<A> {
             Mark::Named => self.left(block),
             Mark::Inside | Mark::Free | Mark::Claimed => return Err(bad),
         };
-        self.put_left(block, left.and_then(|left| left.checked_sub(1)));
+        self.put_left(block, one_less(left));
         Ok(start)
     }
 
@@ -337,5 +337,15 @@ impl<A: Allocator> Claims<A> {
             block = block.saturating_add(UNIT);
         }
         None
+    }
+}
+
+/// A count that one more cell took from, if anything was left.
+fn one_less(left: Option<u32>) -> Option<u32>
+    ensures { result ≡ one_less left }
+{
+    match left {
+        Some(left) => left.checked_sub(1),
+        None => None,
     }
 }
