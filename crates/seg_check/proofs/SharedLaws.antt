@@ -108,6 +108,18 @@ module _ (bytes : List ℕ) (table : Table) (at T U : ℕ) (f : form_at table T 
     standing : (p : ℕ) → IsBlock bytes p tag room → standing_at known (block_of p) ≡ times (block_of p) (positions (live bytes))
     standing p b = ready.frozen (block_of p) (ap (λ t. t % 256) b.has_tag ∙ frozen_tag U)
 
+    -- its block may be named
+    pub nameable : IsNameable bytes known
+    nameable = record {
+      live = λ h some. let lies = there_lies h some in record { live = lies.live_is; size = lies.size; inside = lies.high };
+      low = λ h some. let lies = there_lies h some in lies.low;
+      slots = ready.slots T U f;
+      small = ready.small;
+    }
+      where
+        there_lies : (h : ℕ) → 1 ≤ standing_at known h → LiesIn bytes heap_start (length bytes) h
+        there_lies h some = there (LiesIn bytes heap_start (length bytes)) h (positions (live bytes)) (live-lie bytes (word bytes allocator_word) ready.heap) (omega (arith, some, ready.standing h))
+
     pub shared_can : (p : ℕ) → target bytes at ≡ Some p → CanResolve bytes table known (record { at = at; type = T } ∷ []) → CanName bytes known at tag room
     shared_can p names r =
         let n = shared_named known p names r in
