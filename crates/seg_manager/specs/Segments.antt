@@ -79,8 +79,8 @@ abbrev pub word_of_kind : IndexKind → ℕ
 word_of_kind kind.Flat = 0
 word_of_kind kind.Tree = 1
 
--- a segment of this length, at a base of a region that is kept around it, with nothing in it, of the
--- version that may have frozen objects
+-- a segment of this length, at a base of a region that is kept around it, with nothing in it; its
+-- version may have frozen objects
 pub record IsNew (allocator : ℕ) (s : Stored) (region : List ℕ) (base len : ℕ)
     (index : IndexKind) : Type 0 where
   pub segment : IsSegment allocator s nothing

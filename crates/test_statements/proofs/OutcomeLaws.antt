@@ -1,7 +1,7 @@
 -- The refusal that a fault stands for, and small outcomes and refusals.
 use Rattle.std.proofs.Common.{◌≡◌, ℕ, zero, suc, ◌-◌, ◌^◌, ◌<◌, min, List, [], ◌∷◌, length, replicate, codes, Option, Some, None, refl, sym, ap, ◌∙◌, subst, inl, inr, lit<, lit≤, arith}
 use Rattle.seg_spec.specs.Types.{Form, Table, form_at}
-use Rattle.seg_spec.specs.Images.{upgraded}
+use Rattle.seg_spec.specs.Images.{IsSound, upgraded}
 use Rattle.seg_spec.specs.Faulty.{IsImageLength}
 use Rattle.seg_spec.proofs.Upgrading.{upgrade_changes, upgraded_sound}
 use Rattle.seg_spec.specs.Fixtures.{counter, greeting, empty, lost_gap, counter_picture, greeting_picture}
@@ -211,7 +211,8 @@ texts_differ v = let e = v.agree in cc
 
 pub other_types : IsFault greeting (client_bytes increment ∷ []) 2048 0 [] (Some 0) (fault.TypeMismatch 0)
 other_types =
-    let turn : IsTurnOf greeting (client_bytes increment ∷ []) 0 (client_bytes increment) = record { sound = record { picture = greeting_picture; held = greeting_held; counted = greeting_counted; none_loose = refl }; clients = []; accepted = tt; text_is = refl } in
+    let sound : IsSound greeting = record { picture = greeting_picture; held = greeting_held; counted = greeting_counted; none_loose = refl } in
+    let turn : IsTurnOf greeting (client_bytes increment ∷ []) 0 (client_bytes increment) = record { sound = sound; clients = []; accepted = tt; text_is = refl } in
     record {
       refusal = (greeting-moves, client_bytes increment, turn, increment, increment_spelled, texts_differ);
       text = client_bytes increment;
