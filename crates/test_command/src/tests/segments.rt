@@ -1,6 +1,6 @@
 use crate::tests::files::{Stored, counter_file, follow, is, run, run_into};
 use std::test::Fail;
-use support_data::{Limited, counter};
+use support_data::{Limited, counter_saved};
 
 /// A new image on each allocator and index is all free.
 #[test]
@@ -113,7 +113,7 @@ unique 0",
     )?;
     assert_eq!(rt; files.get("saved").len(), 816);
     follow(rt.alloc(), &mut files, "\n$ segtool shrink saved\nsize 784")?;
-    assert_eq!(rt; files.get("saved"), counter(rt.alloc())?.as_slice());
+    assert_eq!(rt; files.get("saved"), counter_saved(rt.alloc(), 41)?.as_slice());
     Ok(())
 }
 

@@ -283,7 +283,7 @@ fn shows_structs_in_structs(rt: HostRuntime) -> Result<(), Fail> {
 #[test]
 fn shows_no_faulty_image(rt: HostRuntime) -> Result<(), Fail> {
     let mut files = Stored::new(rt.alloc());
-    files.add("image", counter_where(rt.alloc(), "8=2")?.as_slice())?;
+    files.add("image", counter_where(rt.alloc(), "8=3")?.as_slice())?;
     follow(
         rt.alloc(),
         &mut files,
