@@ -1,3 +1,4 @@
+pub mod Versions
 pub mod MovesLaws
 pub mod NumberLaws
 pub mod WritingLaws

@@ -5,7 +5,7 @@
 --                                                         looked at before it is right
 use Rattle.std.specs.Prelude.{◌≡◌, ⊤, ℕ, ◌^◌, ◌≤◌, List, [], length, take, Some, slice_get}
 use Rattle.seg_spec.specs.Window.{IsPlace}
-use Rattle.seg_spec.specs.Images.{IsSound}
+use Rattle.seg_spec.specs.Images.{IsSound, upgraded}
 use Rattle.seg_spec.specs.Faulty.{IsImageLength}
 use Rattle.client_spec.specs.Syntax.{Client}
 use Rattle.client_spec.specs.Grammar.{SpellsClient}
@@ -28,7 +28,8 @@ abbrev pub given_first : List ℕ → List ℕ → List ℕ → ℕ → List Mov
 given_first image host input base moves =
     record { others = []; moves = moves; image = image; host = host; base = base; input = input }
 
--- The clients that the texts spell were accepted, one after the other, on a sound image, and ran.
+-- The clients that the texts spell were accepted, one after the other, on a sound image, and ran on it
+-- as it was opened.
 pub record IsOutcome (image : List ℕ) (texts : List (List ℕ)) (input : List ℕ) (room base : ℕ)
     (moves : List Move) (lefts : List Left) : Type 0 where
   pub can_move : CanMove image room base moves
@@ -37,7 +38,7 @@ pub record IsOutcome (image : List ℕ) (texts : List (List ℕ)) (input : List 
   pub accepted : AreAccepted sound.picture.table texts clients
   pub host : List ℕ
   pub host_is : length host ≡ room
-  pub runs : RunClients clients (given_first image host input base moves) lefts
+  pub runs : RunClients clients (given_first (upgraded image) host input base moves) lefts
 
 -- why no client runs, in the order in which it is looked for
 pub data Refusal : Type 0 where

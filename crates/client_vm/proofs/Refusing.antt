@@ -39,7 +39,7 @@ fault_of_image allocator image f named (inl h) = h
 fault_of_image allocator image f named (inr h) = absurd (h.2 (named h.1.held.laid_out.header.allocator_is))
 
 abbrev sound_of : (image : List ℕ) (table : Table) → IsImageOf image table → IsSound image
-sound_of image table is = record { picture = is.picture; held = is.held; none_loose = is.none_loose }
+sound_of image table is = record { picture = is.picture; held = is.held; counted = is.counted; none_loose = is.none_loose }
 
 module _ (image : List ℕ) (texts : List (List ℕ)) (table : Table) (is : IsImageOf image table) where
   wrong_texts : (client : Option ℕ) (f : Fault) → IsWrongBy table texts client f → IsWrongFor image texts client f

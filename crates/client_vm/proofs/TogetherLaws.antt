@@ -1,18 +1,18 @@
 -- Clients one after the other: what those that ran have left, and that the next one goes on from there.
-use Rattle.std.proofs.Common.{◌≡◌, ◌≢◌, ℕ, ◌↔◌, Bool, true, false, List, [], ◌∷◌, ◌++◌, length, drop, Option, Some, None, Result, Ok, Err, refl, sym, ap, ◌∙◌, subst, append_assoc}
+use Rattle.std.proofs.Common.{◌≡◌, ◌≢◌, ℕ, ◌+◌, ◌≤◌, ◌↔◌, Bool, true, false, List, [], ◌∷◌, ◌++◌, length, drop, Option, Some, None, Result, Ok, Err, refl, sym, ap, ◌∙◌, subst, append_assoc, arith}
 use Rattle.std.specs.Prelude.{if◌then◌else◌, IfOk, OnOk}
 use Rattle.seg_spec.specs.Bytes.{word}
 use Rattle.seg_spec.specs.Header.{allocator_word}
 use Rattle.seg_check.specs.Faults.{IsImageOf}
 use Rattle.client_spec.specs.Outcome.{CanMove}
-use Rattle.std.proofs.lemmas.List.{append-nil}
+use Rattle.std.proofs.lemmas.List.{append-nil, length-append}
 use Rattle.seg_spec.specs.Types.{Table}
 use Rattle.seg_spec.specs.Window.{Placement, region_of}
 use Rattle.client_spec.specs.Syntax.{Client}
 use Rattle.client_spec.specs.Grammar.{SpellsClient}
 use Rattle.client_spec.specs.Run.{Ending, finished, stopped, stuck}
 use Rattle.client_spec.specs.OnImages.{Move, Given, Left}
-use Rattle.client_spec.specs.Clients.{AreAccepted, GoesOn, RunClients, StayWithin, outputs, image_after, ending_after}
+use Rattle.client_spec.specs.Clients.{AreMoves, AreAccepted, GoesOn, RunClients, StayWithin, outputs, image_after, ending_after}
 use Rattle.client_sim.specs.Writes.{Took}
 use Rattle.client_sim.proofs.Printing.{took_more}
 use Rattle.client_run.specs.declared.report.Report.{Report}
@@ -20,7 +20,9 @@ use Rattle.client_run.specs.declared.report.Ended.{Ended}
 use Rattle.client_run.specs.declared.report.Ended.TheVariants as ended
 use Rattle.client_run.specs.Runs.{ending_of, given_of, left_of, IsReady, MayRun, HasRun}
 use Rattle.client_vm.specs.Outcomes.{AreReports, HasOutcome}
-use Rattle.client_vm.specs.Together.{ending_if, HaveRun, HaveRunOn}
+use Rattle.seg_spec.specs.Images.{upgraded}
+use Rattle.seg_spec.proofs.Upgrading.{upgrade_changes, same_word, upgraded_held, upgraded_counted}
+use Rattle.client_vm.specs.Together.{opened, ending_if, HaveRun, HaveRunOn}
 
 -- ---- what is left together, with one more
 
@@ -154,7 +156,7 @@ module _ (allocator : ℕ) (clients : List Client) (moves : List Move) (input : 
       ending_is = m.ending_is;
       took = m.took;
       saved_is = m.saved_is;
-      sound = record { picture = m.ready.picture; held = m.ready.held; none_loose = m.ready.loose_are };
+      sound = record { picture = m.ready.picture; held = m.ready.held; counted = m.ready.counted; none_loose = m.ready.loose_are };
     }
 
     pub stops : failed ≡ true → HaveRun clients moves input old taken now.bytes taken_now reports (ending_if failed)
@@ -182,18 +184,39 @@ pub ending_failed : (failed : Bool) (how : Ended) → (failed ≡ true → how �
 ending_failed true how t f = ap ending_of (sym (t refl))
 ending_failed false how t f = ap ending_of (sym (f refl))
 
+opened_region : (window : Placement) → length (region_of (opened window)) ≡ length (region_of window)
+opened_region window =
+    let kept = (upgrade_changes window.bytes).length_kept in
+    let old = length-append (window.before ++ window.bytes) window.after in
+    let new = length-append (window.before ++ upgraded window.bytes) window.after in
+    omega (arith, kept, old, new, length-append window.before window.bytes, length-append window.before (upgraded window.bytes))
+
+-- an image as it is opened is ready
+opened_ready : (window : Placement) (table : Table) (moves : List Move) (allocator : ℕ) → IsImageOf window.bytes table → word window.bytes allocator_word ≡ allocator
+    → AreMoves (length (region_of window)) (length window.bytes) 0 moves → IsReady allocator [] (opened window) table moves
+opened_ready window table moves allocator is named may = record {
+  picture = is.picture;
+  held = upgraded_held window.bytes is.picture is.held;
+  counted = upgraded_counted window.bytes is.picture is.counted;
+  loose_are = is.none_loose;
+  table_is = is.table_is;
+  allocator_is = same_word window.bytes allocator_word (omega arith) ∙ named;
+  moves_may = subst (λ n. AreMoves n (length (upgraded window.bytes)) 0 moves) (sym (opened_region window))
+      (subst (λ n. AreMoves (length (region_of window)) n 0 moves) (sym (upgrade_changes window.bytes).length_kept) may);
+}
+
 -- on a sound image, with its types
 pub ran_on : (texts : List (List ℕ)) (moves : List Move) (input : List ℕ) (window : Placement) (taken : Option (List ℕ)) (saved : List ℕ) (taken_then : Option (List ℕ)) (reports : List Report) (ending : Ending)
     (table : Table) (allocator : ℕ) → IsImageOf window.bytes table → word window.bytes allocator_word ≡ allocator → (clients : List Client) → AreAccepted table texts clients
-    → ((clients : List Client) → AreAccepted table texts clients → IsReady allocator [] window table moves → HaveRun clients moves input window taken saved taken_then reports ending)
+    → ((clients : List Client) → AreAccepted table texts clients → IsReady allocator [] (opened window) table moves → HaveRun clients moves input (opened window) taken saved taken_then reports ending)
     → HaveRunOn texts moves input window taken saved taken_then reports ending
 ran_on texts moves input window taken saved taken_then reports ending table allocator is named clients accepted runs = record {
   accepted = record {
-    sound = record { picture = is.picture; held = is.held; none_loose = is.none_loose };
+    sound = record { picture = is.picture; held = is.held; counted = is.counted; none_loose = is.none_loose };
     clients = clients;
     accepted = subst (λ t. AreAccepted t texts clients) (sym is.table_is) accepted;
   };
-  runs = λ may. runs clients accepted (record { picture = is.picture; held = is.held; loose_are = is.none_loose; table_is = is.table_is; allocator_is = named; moves_may = may });
+  runs = λ may. runs clients accepted (opened_ready window table moves allocator is named may);
 }
 
 module _ (texts : List (List ℕ)) (moves : List Move) (input : List ℕ) (window : Placement) (taken : Option (List ℕ)) (saved : List ℕ) (taken_then : Option (List ℕ)) (reports : List Report) (how : Ended)
@@ -209,8 +232,8 @@ module _ (texts : List (List ℕ)) (moves : List Move) (input : List ℕ) (windo
           sound = h.accepted.sound;
           clients = h.accepted.clients;
           accepted = h.accepted.accepted;
-          host = region_of window;
-          host_is = refl;
+          host = region_of (opened window);
+          host_is = opened_region window;
           runs = r.runs;
         };
         within = r.within;

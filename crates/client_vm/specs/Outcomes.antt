@@ -3,7 +3,7 @@
 --     HasOutcome ..               the saved image, the reports, the ending and what the output took are those of the runs
 --     IsRefusedFor .. refused     why no client ran, fault by fault
 use Rattle.std.specs.Prelude.{◌≡◌, ◌⊎◌, ⊤, ℕ, ◌-◌, ◌^◌, min, List, [], ◌∷◌, Option, Some, None}
-use Rattle.seg_spec.specs.Images.{IsSound}
+use Rattle.seg_spec.specs.Images.{IsSound, upgraded}
 use Rattle.seg_raw.specs.declared.fault.Fault.{Fault}
 use Rattle.seg_raw.specs.declared.fault.Fault.TheVariants as fault
 use Rattle.seg_check.specs.Faults.{IsFaultOf}
@@ -45,7 +45,7 @@ pub record HasOutcome (image : List ℕ) (texts : List (List ℕ)) (input : List
   pub reports_are : AreReports reports lefts
   pub ended_is : ending_of ended ≡ ending_after lefts
   pub took : Took taken taken_then (outputs lefts)
-  pub saved_is : saved ≡ image_after image lefts
+  pub saved_is : saved ≡ image_after (upgraded image) lefts
   pub sound : IsSound saved
 
 -- ---- none of them ran

@@ -1,10 +1,11 @@
 -- Several clients on a segment, one after the other.
 --     HaveRun ..       what they leave together, where the segment was one that clients run on
 --     ending_if failed         how the last one ended
+--     opened window    the image in a window as it is opened
 --     HaveRunOn ..     so it is on a sound image in a window, where the moves may be made
 use Rattle.std.specs.Prelude.{◌≡◌, ℕ, List, [], length, Bool, Option, if◌then◌else◌}
-use Rattle.seg_spec.specs.Window.{Placement, region_of}
-use Rattle.seg_spec.specs.Images.{IsSound}
+use Rattle.seg_spec.specs.Window.{Placement, region_of, with_bytes}
+use Rattle.seg_spec.specs.Images.{IsSound, upgraded}
 use Rattle.client_spec.specs.Syntax.{Client}
 use Rattle.client_spec.specs.Run.{Ending, finished, stopped}
 use Rattle.client_spec.specs.OnImages.{Move, Left}
@@ -31,10 +32,14 @@ pub record HaveRun (clients : List Client) (moves : List Move) (input : List ℕ
   pub saved_is : saved ≡ image_after old.bytes lefts
   pub sound : IsSound saved
 
--- the texts' clients were accepted on the sound image of a window, and ran
+-- the image in a window as it is opened
+abbrev pub opened : Placement → Placement
+opened window = with_bytes window (upgraded window.bytes)
+
+-- the texts' clients were accepted on the sound image of a window, and ran on it as it was opened
 pub record HaveRunOn (texts : List (List ℕ)) (moves : List Move) (input : List ℕ)
     (window : Placement) (taken : Option (List ℕ)) (saved : List ℕ)
     (taken_then : Option (List ℕ)) (reports : List Report) (ending : Ending) : Type 0 where
   pub accepted : AreAcceptedOn window.bytes texts
   pub runs : AreMoves (length (region_of window)) (length window.bytes) 0 moves →
-      HaveRun accepted.clients moves input window taken saved taken_then reports ending
+      HaveRun accepted.clients moves input (opened window) taken saved taken_then reports ending

@@ -16,7 +16,7 @@ use Rattle.client_run.specs.declared.report.Ended.{Ended}
 use Rattle.client_run.specs.declared.report.Ended.TheVariants as ended
 use Rattle.client_run.specs.Runs.{ending_of, MayRun, HasRun}
 use Rattle.client_vm.specs.Texts.{IsWrongText, AreWrong}
-use Rattle.client_vm.specs.Together.{HaveRun, HaveRunOn}
+use Rattle.client_vm.specs.Together.{opened, HaveRun, HaveRunOn}
 use Rattle.client_vm.proofs.TogetherLaws.{begins, next_ran, ends, ending_failed, ran_on}
 
 -- a sound image may be the whole region
@@ -34,7 +34,7 @@ can_move image sound =
     }
 
 pub image_of : (image : List ℕ) (sound : IsSound image) → IsImageOf image sound.picture.table
-image_of image sound = record { picture = sound.picture; held = sound.held; none_loose = sound.none_loose; table_is = refl }
+image_of image sound = record { picture = sound.picture; held = sound.held; counted = sound.counted; none_loose = sound.none_loose; table_is = refl }
 
 -- the types that are read of it
 module _ (image bytes : List ℕ) (sound : IsSound image) (result : Result Table Fault) (same : bytes ≡ image) (read : (table : Table) → IsImageOf bytes table → result ≡ Ok table) where
@@ -60,12 +60,12 @@ done ended.OutputFailed failed h is = absurd (let z : true ≡ false = sym (h re
 
 module _ (allocator : ℕ) (input : List ℕ) (old new : Placement) (table table_then : Table) (text : List ℕ) (taken taken_then : Option (List ℕ)) (report : Report) (failed : Bool) where
   pub only_ran : IsImageOf old.bytes table → word old.bytes allocator_word ≡ allocator → (tree : Client) → SpellsClient text tree → IsVerified table tree
-      → ((tree : Client) → SpellsClient text tree → MayRun allocator [] old table tree [] → HasRun allocator tree [] [] input old table taken new table_then taken_then report)
+      → ((tree : Client) → SpellsClient text tree → MayRun allocator [] (opened old) table tree [] → HasRun allocator tree [] [] input (opened old) table taken new table_then taken_then report)
       → (report.ended ≡ ended.OutputFailed) ↔ (failed ≡ true) → HaveRunOn (text ∷ []) [] input old taken new.bytes taken_then (report ∷ []) (ending_of report.ended)
   only_ran is named tree spells verified ran how =
       ran_on (text ∷ []) [] input old taken new.bytes taken_then (report ∷ []) (ending_of report.ended) table allocator is named (tree ∷ []) (spells, verified, tt)
       (λ clients accepted ready.
-      let first = begins allocator clients [] input old taken (text ∷ []) table accepted ready in
-      let last = next_ran allocator clients [] input old taken text [] input (drop report.read input) old new table table_then taken taken_then [] report failed ran refl how first in
-      let ran_all = ends allocator clients [] input old taken [] (drop report.read input) new table_then taken_then (report ∷ []) failed last refl in
+      let first = begins allocator clients [] input (opened old) taken (text ∷ []) table accepted ready in
+      let last = next_ran allocator clients [] input (opened old) taken text [] input (drop report.read input) (opened old) new table table_then taken taken_then [] report failed ran refl how first in
+      let ran_all = ends allocator clients [] input (opened old) taken [] (drop report.read input) new table_then taken_then (report ∷ []) failed last refl in
       subst (HaveRun clients [] input old taken new.bytes taken_then (report ∷ [])) (ending_failed failed report.ended how.1 (done report.ended failed how.0)) ran_all)

@@ -1,7 +1,8 @@
 -- The table of types of a sound image is what its bytes are read as.
 use Rattle.std.proofs.Common.{◌≡◌, ◌+◌, ◌≤◌, List, ℕ, length, sym, ap, ◌∙◌, subst, arith}
 use Rattle.std.specs.Prelude.{flat_map as flat_map_list}
-use Rattle.seg_spec.specs.Bytes.{slice}
+use Rattle.seg_spec.specs.Bytes.{word, slice}
+use Rattle.seg_spec.specs.Header.{version_word}
 use Rattle.seg_spec.specs.Types.{Table, IsTable, AreOfVersion, HasTable, Spells, padded, form_bytes}
 use Rattle.seg_spec.proofs.BytesLaws.{length-slice}
 use Rattle.seg_check.specs.Faults.{IsImageOf}
@@ -16,8 +17,8 @@ module _ (image : List ℕ) (table : Table) (is : IsImageOf image table) (read :
   pub read_valid : IsTable table
   read_valid = subst IsTable is.table_is is.held.laid_out.is_table
 
-  pub read_old : AreOfVersion 1 table
-  read_old = subst (AreOfVersion 1) is.table_is is.held.laid_out.of_version
+  pub read_of_version : AreOfVersion (word image version_word) table
+  read_of_version = subst (AreOfVersion (word image version_word)) is.table_is is.held.laid_out.of_version
 
   pub read_spells : Spells read table
   read_spells =

@@ -1,10 +1,11 @@
 -- Strings, vectors, flat maps and owns, by the block that each names.
-use Rattle.std.proofs.Common.{◌≡◌, ℕ, zero, suc, ◌+◌, ◌*◌, ◌≤◌, List, [], ◌∷◌, length, Bool, true, false, Option, Some, None, Ok, refl, sym, ap, ◌∙◌, subst, arith}
-use Rattle.std.specs.Option.{is_some}
+use Rattle.std.proofs.Common.{◌≡◌, ℕ, zero, suc, ◌+◌, ◌*◌, ◌≤◌, List, [], ◌∷◌, length, Bool, true, false, Option, Some, None, Ok, Err, refl, sym, ap, ◌∙◌, subst, arith}
+use Rattle.std.specs.Option.{is_some, option_map}
+use Rattle.std.specs.Prelude.{option_to_list}
 use Rattle.seg_spec.specs.Bytes.{slice}
 use Rattle.seg_spec.specs.Pointer.{target}
 use Rattle.seg_spec.specs.Types.{Form, Table, form_at, size}
-use Rattle.seg_spec.specs.Block.{Kind, tag_of, IsBlock}
+use Rattle.seg_spec.specs.Block.{Kind, tag_of, block_of, IsBlock}
 use Rattle.seg_spec.specs.Owing.{entries_at}
 use Rattle.seg_spec.specs.Value.{Label}
 use Rattle.seg_spec.specs.Reads.{Opened, NamesRoom, named, start, count_at, items}
@@ -14,14 +15,16 @@ use Rattle.seg_block.specs.Tags.{word_of}
 use Rattle.seg_value.specs.Contents.{IsContent}
 use Rattle.seg_value.specs.declared.content.Content.{Content}
 use Rattle.seg_value.specs.declared.content.Shape.{Shape}
-use Rattle.seg_check.specs.Claiming.{CanClaim, ClaimsBlock, turns_where, has_turns}
+use Rattle.seg_check.specs.declared.fault.ContentFault.{ContentFault}
+use Rattle.seg_check.specs.declared.fault.ContentFault.TheVariants.{BadPointer, BadValue}
+use Rattle.seg_check.specs.Claiming.{Refuses, CanClaim, ClaimsBlock, turns_where, has_turns}
 use Rattle.seg_check.specs.Marks.{Known, ClaimsAll, Within}
 use Rattle.seg_check.specs.Turns.{places_by}
 use Rattle.seg_check.specs.Resolving.{CanResolve, Advances, IsReady}
 use Rattle.seg_check.specs.Cells.{counted_by, blocks_counted_by, NamesBy, HasItems}
 use Rattle.seg_check.proofs.StepLaws.{advance_open, can_open}
 use Rattle.seg_check.proofs.TagLaws.{places_tagged}
-use Rattle.seg_check.proofs.OpenLaws.{named_some, named_none, start_some, names_room, no_room, can_claim, advance_block, advance_nothing}
+use Rattle.seg_check.proofs.OpenLaws.{named_some, named_none, start_some, names_room, no_room, none_counted, can_claim, advance_block, advance_nothing}
 
 -- ---- what a cell counts
 
@@ -46,6 +49,27 @@ blocks_some at zero m None e = cc
 blocks_some at (suc n) m None e = cc
 blocks_some at zero m (Some p) e = cc
 blocks_some at (suc n) m (Some p) e = (cc, omega arith)
+
+-- a cell names one block at most
+pub few_named : (bytes : List ℕ) (at : ℕ) → length (named bytes at) ≤ 1
+few_named bytes at = go (target bytes at)
+  where
+    go : (o : Option ℕ) → length (option_to_list (option_map block_of o)) ≤ 1
+    go None = omega arith
+    go (Some p) = omega arith
+
+-- ---- cells that count what they don't name
+
+pub counted_refused : (P : Type 0) (at n : ℕ) (o : Option ℕ) (e : ContentFault) → counted_by at o n ≡ Err e → (o ≡ None → 1 ≤ n → P → ⊥) → Refuses e P
+counted_refused P at zero None e is none = absurd (let no : Ok None ≡ Err e = is in cc)
+counted_refused P at (suc n) None e is none = let same : BadPointer at ≡ e = cc in subst (λ f. Refuses f P) same (none refl (omega arith))
+counted_refused P at n (Some p) e is none = absurd (let no : Ok (Some n) ≡ Err e = is in cc)
+
+pub blocks_refused : (P : Type 0) (at n : ℕ) (o : Option ℕ) (e : ContentFault) → blocks_counted_by at o n ≡ Err e → (o ≡ None → 1 ≤ n → P → ⊥) → ((p : ℕ) → o ≡ Some p → n ≡ 0 → P → ⊥) → Refuses e P
+blocks_refused P at zero None e is none some = absurd (let no : Ok None ≡ Err e = is in cc)
+blocks_refused P at (suc n) None e is none some = let same : BadPointer at ≡ e = cc in subst (λ f. Refuses f P) same (none refl (omega arith))
+blocks_refused P at zero (Some p) e is none some = let same : BadValue at ≡ e = cc in subst (λ f. Refuses f P) same (some p refl refl)
+blocks_refused P at (suc n) (Some p) e is none some = absurd (let no : Ok (Some (suc n)) ≡ Err e = is in cc)
 
 module _ (bytes : List ℕ) (table : Table) where
   -- ---- the content by its form
@@ -171,6 +195,21 @@ module _ (bytes : List ℕ) (table : Table) where
       content_can known at n _ (tag_of Kind.buffer T) 0 U (size table U) content by.content_of (zero_size U)
       (subst (λ m. CanClaim bytes known at (tag_of Kind.buffer T) (m * size table U)) (sym n_is) (can_claim bytes known at (tag_of Kind.buffer T) (size table U) p e can.room can.within))
 
+  -- a cell counts items just where it names some
+  pub items_counted : (known : Known) (at T : ℕ) (form : Form) (e : ContentFault) → HasItems form → form_at table T ≡ Some form → counted_by at (target bytes at) (count_at bytes at) ≡ Err e
+      → Refuses e (CanResolve bytes table known (record { at = at; type = T } ∷ []))
+  items_counted known at T Form.i64 e has f is = absurd has
+  items_counted known at T (Form.struct Us) e has f is = absurd has
+  items_counted known at T (Form.list U) e has f is = absurd has
+  items_counted known at T (Form.flat_map U) e has f is = absurd has
+  items_counted known at T (Form.map U) e has f is = absurd has
+  items_counted known at T (Form.own U) e has f is = absurd has
+  items_counted known at T (Form.shared U) e has f is = absurd has
+  items_counted known at T Form.str e has f is = counted_refused _ at (count_at bytes at) (target bytes at) e is
+      (λ none some r. let can = text_can known at T f r in absurd (omega (arith, some, none_counted bytes at (tag_of Kind.buffer T) 1 none can.room)))
+  items_counted known at T (Form.vec U) e has f is = counted_refused _ at (count_at bytes at) (target bytes at) e is
+      (λ none some r. let can = vec_can known at T U f r in absurd (omega (arith, some, none_counted bytes at (tag_of Kind.buffer T) (size table U) none can.room)))
+
 pub counted_names : (at n m : ℕ) (o : Option ℕ) → counted_by at o n ≡ Ok (Some m) → (p : ℕ) × (o ≡ Some p)
 counted_names at zero m None e = cc
 counted_names at (suc n) m None e = cc
@@ -225,3 +264,15 @@ module _ (bytes : List ℕ) (table : Table) (at T U : ℕ) (content : Content) (
       let within = named_within bytes table known at o.opened (named bytes at) (ap (λ (x : Opened). x.blocks) o.opens.opened_is) o.within in
       content_can bytes table known at 1 _ (tag_of Kind.object U) 0 U (size table U) content by.content_of (zero_size bytes table U)
       (subst (λ m. CanClaim bytes known at (tag_of Kind.object U) (m * size table U)) (sym n_is) (can_claim bytes known at (tag_of Kind.object U) (size table U) p e o.opens.named_room within))
+
+  own_counts : (known : Known) → CanResolve bytes table known (record { at = at; type = T } ∷ []) → count_at bytes at ≡ length (named bytes at)
+  own_counts known r = (can_open bytes table known (record { at = at; type = T }) (Form.own U) [] by.form_is r).opens.counted
+
+  -- an own counts its object
+  pub own_counted : (known : Known) (e : ContentFault) → blocks_counted_by at (target bytes at) (count_at bytes at) ≡ Err e → Refuses e (CanResolve bytes table known (record { at = at; type = T } ∷ []))
+  own_counted known e is = blocks_refused _ at (count_at bytes at) (target bytes at) e is
+      (λ none some r. absurd (omega (arith, some, own_counts known r ∙ ap length (named_none bytes at none))))
+      (λ p some none r. absurd (let counts : count_at bytes at ≡ 1 = own_counts known r ∙ ap length (named_some bytes at p some) in omega arith))
+
+  pub own_many : (known : Known) → 2 ≤ count_at bytes at → CanResolve bytes table known (record { at = at; type = T } ∷ []) → ⊥
+  own_many known many r = absurd (omega (arith, many, own_counts known r, few_named bytes at))

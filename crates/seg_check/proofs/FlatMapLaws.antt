@@ -17,11 +17,11 @@ use Rattle.seg_check.specs.Claiming.{Refuses, CanClaim, ClaimsBlock, turns_where
 use Rattle.seg_check.specs.Marks.{Known}
 use Rattle.seg_check.specs.Turns.{places_by}
 use Rattle.seg_check.specs.Resolving.{CanResolve, Advances, IsReady, Steps}
-use Rattle.seg_check.specs.Cells.{NamesBy}
+use Rattle.seg_check.specs.Cells.{NamesBy, counted_by}
 use Rattle.seg_check.proofs.StepLaws.{can_open}
 use Rattle.seg_check.proofs.TagLaws.{places_tagged}
-use Rattle.seg_check.proofs.OpenLaws.{named_none, start_some, names_room, no_room, can_claim, advance_block, advance_nothing, entries_low}
-use Rattle.seg_check.proofs.BufferLaws.{content_claimed, content_can, block_is, named_within}
+use Rattle.seg_check.proofs.OpenLaws.{named_none, start_some, names_room, no_room, none_counted, can_claim, advance_block, advance_nothing, entries_low}
+use Rattle.seg_check.proofs.BufferLaws.{counted_refused, content_claimed, content_can, block_is, named_within}
 use Rattle.seg_check.proofs.PlaceLoop.{each_get}
 use Rattle.seg_check.proofs.EntryLoop.{entry_get}
 
@@ -60,6 +60,12 @@ module _ (bytes : List ℕ) (table : Table) (at T U : ℕ) (content : Content) (
       })
       refl (λ e. absurd (omega (arith, e))) refl (ap (λ q. entries_at table q 8 U (count_at bytes at)) (start_some bytes at p d.names) ∙ ap (entries_at table p 8 U) (sym n_is)) (ready.is_table.forms T (Form.flat_map U) by.form_is) d
       (places_tagged bytes table ready.is_table (record { start = p; count = n }) Kind.buffer T d.is_block.has_tag ∙ ap (λ o. places_by table o p n) by.form_is)
+
+  pub flat_counted : (known : Known) (e : ContentFault) → counted_by at (target bytes at) (count_at bytes at) ≡ Err e → Refuses e (CanResolve bytes table known (record { at = at; type = T } ∷ []))
+  flat_counted known e is = counted_refused _ at (count_at bytes at) (target bytes at) e is
+      (λ none some r.
+      let o = can_open bytes table known (record { at = at; type = T }) (Form.flat_map U) [] by.form_is r in
+      absurd (omega (arith, some, none_counted bytes at (tag_of Kind.buffer T) (8 + size table U) none o.opens.named_room)))
 
   pub flat_nothing : (known : Known) → target bytes at ≡ None → count_at bytes at ≡ 0 → Advances bytes table known known (record { at = at; type = T } ∷ [])
   unfolding map_opened

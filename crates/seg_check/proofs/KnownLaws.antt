@@ -1,17 +1,18 @@
 -- What is known of a block, by the marks of the units.
-use Rattle.std.proofs.Common.{◌≡◌, ℕ, ◌+◌, ◌-◌, ◌*◌, ◌^◌, ◌<◌, ◌≤◌, suc, ⊎_elim, true, false, cond, Option, None, List, [], ◌∷◌, ◌++◌, length, get_or, set, take, drop, replicate, refl, sym, ap, ◌∙◌, subst, arith}
+use Rattle.std.proofs.Common.{◌≡◌, ℕ, ◌+◌, ◌-◌, ◌*◌, ◌^◌, ◌<◌, ◌≤◌, zero, suc, ⊎_elim, true, false, Bool, cond, Option, None, List, [], ◌∷◌, ◌++◌, length, get_or, set, take, drop, replicate, refl, sym, ap, ◌∙◌, subst, arith}
 use Rattle.std.proofs.Math.ListN.{length-set}
 use Rattle.std.proofs.lemmas.List.{append-nil, length-replicate}
 use Rattle.std.proofs.lemmas.Grind.{get_or-set_at}
 use Rattle.std.proofs.lemmas.Bool.{cases_eq}
 use Rattle.seg_spec.specs.Heap.{heap_start}
 use Rattle.seg_spec.specs.Sound.{times, SameBlocks}
-use Rattle.seg_spec.proofs.LiveLaws.{times-same, times-other}
+use Rattle.seg_spec.proofs.LiveLaws.{times-same, times-other, times-append}
 use Rattle.seg_check.specs.declared.marks.Mark.{Mark}
-use Rattle.seg_check.specs.declared.marks.Mark.TheVariants.{Inside, Free, Live, Claimed}
+use Rattle.seg_check.specs.declared.marks.Mark.TheVariants.{Inside, Free, Live, Claimed, Named}
 use Rattle.seg_check.specs.declared.marks.Waiting.{Waiting}
 use Rattle.seg_check.specs.Marks.{Known, known_of, nothing_known, is_unclaimed, is_free, is_named, unclaimed_from, free_from, named_from, Within, IsUnit, IsMarked, KeepsOthers, Adds, ClaimsAll}
-use Rattle.seg_check.proofs.MarkLaws.{bit, one, looked, no_unit, set_other, set_same, one_more, none_in, few, after_none}
+use Rattle.seg_check.specs.Naming.{ClaimsFrozen}
+use Rattle.seg_check.proofs.MarkLaws.{bit, one, looked, no_unit, set_other, set_same, unit_of, one_more, none_in, few, after_none}
 use Rattle.seg_check.proofs.SameLength.{same_length}
 
 pub fresh : (marks : List Mark) (queue : List Waiting) (counts : List (Option ℕ)) (units n slots m : ℕ) → marks ≡ replicate units Inside → queue ≡ [] → units ≡ n → counts ≡ replicate slots None → slots ≡ m
@@ -150,7 +151,68 @@ module _ (marks : List Mark) (u f : ℕ) (queue : List Waiting) (taken : ℕ) (c
         naming_kept = λ i. record { named = same_named i; counts = counts; below = below };
       }
 
+-- ---- a frozen object was claimed
+
+pub live_unit : (marks : List Mark) (u f : ℕ) (queue : List Waiting) (taken : ℕ) (counts : List (Option ℕ)) (below : Option ℕ) (block : ℕ) → IsMarked (known_of marks u f queue taken counts below) block Live → IsUnit (length marks) block
+live_unit marks u f queue taken counts below block is =
+    let at = unit_of is_unclaimed block heap_start marks (omega (arith, is.unclaimed)) in
+    record { unit = at.0; at_is = at.1; inside = at.2 }
+
+drop_more : {X : Type 0} (n : ℕ) (xs : List X) (x : X) → n ≤ length xs → drop n (xs ++ x ∷ []) ≡ drop n xs ++ x ∷ []
+drop_more zero xs x l = refl
+drop_more (suc n) [] x l = absurd (omega arith)
+drop_more (suc n) (y ∷ ys) x l = drop_more n ys x (omega arith)
+
+module _ (marks : List Mark) (u f : ℕ) (queue : List Waiting) (taken : ℕ) (counts : List (Option ℕ)) (below : Option ℕ) (old : Known) (block : ℕ) where
+  pub claims_frozen : (n : ℕ) (w : Waiting) → (1 ≤ u → n ≡ u - 1) → taken ≤ length queue → KeepsOthers old (known_of marks u f queue taken counts below) block → IsMarked old block Live
+      → IsMarked (known_of marks u f queue taken counts below) block Named → ClaimsFrozen old (known_of marks n f (queue ++ w ∷ []) taken counts below) block w
+  claims_frozen n w next few kept was is =
+      let new = unclaimed_from heap_start marks in
+      let claimed : SameBlocks old.unclaimed (block ∷ new) = (λ h. ⊎_elim
+      (λ same. subst (λ x. times x old.unclaimed ≡ times x (block ∷ new)) same (was.unclaimed ∙ sym (times-same block new ∙ ap (λ m. 1 + m) is.unclaimed)))
+      (λ other. sym (times-other h block new other ∙ kept.unclaimed h (λ e. other (sym e))))
+      (cases_eq block h)) in
+      let free : SameBlocks (free_from heap_start marks) old.free = (λ h. ⊎_elim
+      (λ same. subst (λ x. times x (free_from heap_start marks) ≡ times x old.free) same (is.free ∙ sym was.free))
+      (λ other. kept.free h (λ e. other (sym e)))
+      (cases_eq block h)) in
+      let less = same_length old.unclaimed (block ∷ new) claimed in
+      let free_same = same_length (free_from heap_start marks) old.free free in
+      record {
+        now_claimed = is.unclaimed;
+        now_named = is.named;
+        unclaimed_others = kept.unclaimed;
+        named_others = kept.named;
+        turns_are = drop_more taken queue w few ∙ ap (λ ts. ts ++ w ∷ []) kept.turns_kept;
+        counted = (λ c.
+            let count : u ≡ length old.unclaimed = kept.unclaimed_count_kept ∙ c.unclaimed in
+            record { unclaimed = next (omega arith) ∙ omega arith; free = kept.free_count_kept ∙ c.free ∙ sym free_same });
+        counts_kept = kept.counts_kept;
+        below_kept = kept.below_kept;
+      }
+
 -- ---- walks over the marks
+
+abbrev pub AreAll : (ℕ → Type 0) → List Mark → ℕ → Type 0
+AreAll P ms i = (h : ℕ) → 1 ≤ times h (named_from heap_start (take i ms)) → P h
+
+pub all_more : (P : ℕ → Type 0) (ms : List Mark) (i : ℕ) → i < length ms → AreAll P ms i → (is_named (get_or ms i Inside) ≡ true → P (heap_start + 16 * i)) → AreAll P ms (i + 1)
+all_more P ms i inside so_far here h some =
+    let next : i + 1 ≡ suc i = omega arith in
+    let parts : times h (named_from heap_start (take (i + 1) ms)) ≡ times h (named_from heap_start (take i ms)) + times h (one (is_named (get_or ms i Inside)) (heap_start + 16 * i)) =
+    ap (λ k. times h (named_from heap_start (take k ms))) next ∙ ap (times h) (one_more is_named heap_start i ms inside) ∙ times-append h (named_from heap_start (take i ms)) (one (is_named (get_or ms i Inside)) (heap_start + 16 * i)) in
+    go (is_named (get_or ms i Inside)) here parts (λ more. so_far h more)
+  where
+    go : (b : Bool) → (b ≡ true → P (heap_start + 16 * i)) → times h (named_from heap_start (take (i + 1) ms)) ≡ times h (named_from heap_start (take i ms)) + times h (one b (heap_start + 16 * i))
+        → (1 ≤ times h (named_from heap_start (take i ms)) → P h) → P h
+    go true here parts before = ⊎_elim
+        (λ same. subst P same (here refl))
+        (λ other. before (omega (arith, some, parts, times-other h (heap_start + 16 * i) [] other)))
+        (cases_eq (heap_start + 16 * i) h)
+    go false here parts before = before (omega (arith, some, parts))
+
+pub named_here : (ms : List Mark) (i : ℕ) → i < length ms → is_named (get_or ms i Inside) ≡ true → times (heap_start + 16 * i) (named_from heap_start ms) ≡ 1
+named_here ms i inside is = looked is_named (heap_start + 16 * i) heap_start i ms refl inside ∙ ap bit is
 
 pub none_more : (ms : List Mark) (i : ℕ) → i < length ms → unclaimed_from heap_start (take i ms) ≡ [] → false ≡ is_unclaimed (get_or ms i Inside) → unclaimed_from heap_start (take (i + 1) ms) ≡ []
 none_more ms i inside e is =

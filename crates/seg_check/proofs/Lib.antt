@@ -21,6 +21,7 @@ pub mod BufferLaws
 pub mod StructLaws
 pub mod EntryLoop
 pub mod TurnLoop
+pub mod SharedLaws
 pub mod AscendLaws
 pub mod FlatMapLaws
 pub mod PassedTiles

@@ -1,5 +1,5 @@
 -- The ring of a list, as its nodes are claimed along next.
-use Rattle.std.proofs.Common.{◌≡◌, ℕ, ◌+◌, ◌*◌, ◌^◌, ◌<◌, ◌≤◌, ◌↔◌, Bool, true, List, [], ◌∷◌, ◌++◌, length, length-append, map, Some, None, refl, sym, ap, ◌∙◌, subst, arith}
+use Rattle.std.proofs.Common.{◌≡◌, ℕ, ◌+◌, ◌*◌, ◌^◌, ◌<◌, ◌≤◌, ◌↔◌, Bool, true, List, [], ◌∷◌, ◌++◌, length, length-append, map, Some, None, Err, refl, sym, ap, ◌∙◌, subst, arith}
 use Rattle.std.proofs.lemmas.List.{map-append}
 use Rattle.seg_spec.specs.Pointer.{target}
 use Rattle.seg_spec.specs.Types.{Form, Table, form_at, size}
@@ -10,11 +10,14 @@ use Rattle.seg_spec.specs.Reads.{Opened, AreNodes, count_at}
 use Rattle.seg_spec.specs.Sound.{times}
 use Rattle.seg_spec.proofs.LiveLaws.{times-same, times-append}
 use Rattle.seg_layout.specs.Forms.{has_cells}
-use Rattle.seg_check.specs.Claiming.{AreLive, CanClaim, ClaimsBlock, turns_where}
+use Rattle.seg_check.specs.declared.fault.ContentFault.{ContentFault}
+use Rattle.seg_check.specs.Cells.{blocks_counted_by}
+use Rattle.seg_check.specs.Claiming.{Refuses, AreLive, CanClaim, ClaimsBlock, turns_where}
 use Rattle.seg_check.specs.Marks.{Known, Within}
 use Rattle.seg_check.specs.Resolving.{CanResolve, Advances, IsReady}
 use Rattle.seg_check.proofs.StepLaws.{advance_open, can_open}
 use Rattle.seg_check.proofs.OpenLaws.{advance_nothing}
+use Rattle.seg_check.proofs.BufferLaws.{blocks_refused}
 use Rattle.seg_check.proofs.NodeLaws.{turns_of, Claimed, one_node, claimed_none, claimed_more, claimed_within, claimed_live, nodes_others, node_room, values_of, values_known, claimed_wait}
 
 module _ (bytes : List ℕ) where
@@ -187,6 +190,17 @@ module _ (bytes : List ℕ) (table : Table) (old : Known) (ready : IsReady bytes
         is_block = subst (λ n. IsBlock bytes first tag n) (sym (one_node bytes table old ready T 8 U)) ring.are_nodes.0;
         unclaimed = omega (arith, ring.within (block_of first), times-same (block_of first) (map block_of ring.nodes));
       }
+
+  -- a cell counts nodes just where it names one
+  pub ring_counted : (e : ContentFault) → blocks_counted_by at (target bytes at) (count_at bytes at) ≡ Err e → Refuses e (CanResolve bytes table old (record { at = at; type = T } ∷ []))
+  ring_counted e is = blocks_refused _ at (count_at bytes at) (target bytes at) e is
+      (λ none some r. let o = can_open bytes table old (record { at = at; type = T }) (Form.list U) [] f r in none_there o.opens.nodes (subst (λ t. IsRing bytes t o.opens.nodes) none o.opens.ring) (omega (arith, some,
+      o.opens.counted)))
+      (λ p some none r. let ring = ring_of p some r in let counted = ring.counted in absurd (omega arith))
+    where
+      none_there : (nodes : List ℕ) → IsRing bytes None nodes → 1 ≤ length nodes → ⊥
+      none_there [] ring many = absurd (omega arith)
+      none_there (x ∷ xs) ring many = absurd ring
 
   pub ring_closed : (now : Known) (first last n : ℕ) (b : Bool) → Walked now first last n b → target bytes at ≡ Some first → n ≡ count_at bytes at → CanResolve bytes table old (record { at = at; type = T } ∷ [])
       → (b ≡ true) × (target bytes last ≡ Some first) × (target bytes (first + 4) ≡ Some last)

@@ -103,12 +103,13 @@ module _ (bytes : List ℕ) where
   -- ---- steps
 
   pub finds_none : (known : Known) → Finds bytes known known []
-  finds_none known = record { below_kept = refl; slots_kept = refl; standing_kept = λ h f. refl; unseen_kept = λ h f. refl; counts = λ before c. c }
+  finds_none known = record { below_kept = refl; slots_kept = refl; standing_within = λ h. omega arith; standing_kept = λ h f. refl; unseen_kept = λ h f. refl; counts = λ before c. c }
 
   pub finds_claimed : (old new : Known) (blocks : List ℕ) (turns : List Turn) → ClaimsAll old new blocks turns → AllByRecursion (λ b. IsFrozen bytes b → ⊥) blocks → AreOthers bytes turns → Finds bytes old new []
   finds_claimed old new blocks turns c others waits = record {
     below_kept = ap (λ (n : Naming). n.below) c.naming_kept;
     slots_kept = ap (λ (n : Naming). length n.counts) c.naming_kept;
+    standing_within = λ h. omega (arith, c.claimed h, times-append h blocks new.unclaimed, ap (λ (n : Naming). times h n.named) c.naming_kept);
     standing_kept = λ h f. omega (arith, unclaimed h f, ap (λ (n : Naming). times h n.named) c.naming_kept);
     unseen_kept = λ h f.
         let waiting = ap (λ ts. times h (blocks_of ts)) c.turns_are ∙ ap (times h) (blocks_append old.turns (awaiting old.naming.below turns)) ∙ times-append h (blocks_of old.turns) (blocks_of (awaiting old.naming.below turns)) in
@@ -126,6 +127,7 @@ module _ (bytes : List ℕ) where
   finds_more old mid new f g a b = record {
     below_kept = b.below_kept ∙ a.below_kept;
     slots_kept = b.slots_kept ∙ a.slots_kept;
+    standing_within = λ h. omega (arith, a.standing_within h, b.standing_within h);
     standing_kept = λ h z. b.standing_kept h z ∙ a.standing_kept h z;
     unseen_kept = λ h z. b.unseen_kept h z ∙ a.unseen_kept h z;
     counts = λ before c. counts_same new (g ++ (f ++ before)) ((f ++ g) ++ before) (λ h. both_found h f g before) (b.counts (f ++ before) (a.counts before c));

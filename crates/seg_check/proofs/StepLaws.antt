@@ -460,6 +460,7 @@ module _ (bytes : List ℕ) (table : Table) where
     blocks = (λ h some. ready.blocks h (omega (arith, within h)));
     few = omega (arith, ready.few, within_length new.unclaimed old.unclaimed within);
     small = ready.small;
+    standing = (λ h. omega (arith, finds.standing_within h, ready.standing h));
     frozen = (λ h f. finds.standing_kept h f ∙ ready.frozen h f);
     slots = (λ T U f. omega (arith, ready.slots T U f, finds.slots_kept));
   }

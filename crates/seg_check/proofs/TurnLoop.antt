@@ -88,6 +88,7 @@ module _ (bytes : List ℕ) (table : Table) where
     blocks = (λ h some. ready.blocks h (subst (λ xs. 1 ≤ times h xs) same some));
     few = omega (arith, ready.few, ap length same);
     small = ready.small;
+    standing = (λ h. omega (arith, ready.standing h, ap (times h) same, ap (times h) names.named_kept));
     frozen = (λ h f. (λ i. times h (same i) + times h (names.named_kept i)) ∙ ready.frozen h f);
     slots = (λ T U f. omega (arith, ready.slots T U f, ap length names.counts_kept));
   }

@@ -91,6 +91,7 @@ standing_at known h = times h known.unclaimed + times h known.naming.named
 pub record Finds (bytes : List ℕ) (old new : Known) (names : List ℕ) : Type 0 where
   pub below_kept : new.naming.below ≡ old.naming.below
   pub slots_kept : length new.naming.counts ≡ length old.naming.counts
+  pub standing_within : (h : ℕ) → standing_at new h ≤ standing_at old h
   pub standing_kept : (h : ℕ) → IsFrozen bytes h → standing_at new h ≡ standing_at old h
   pub unseen_kept : (h : ℕ) → IsFrozen bytes h → unseen_at new h ≡ unseen_at old h
   pub counts : (before : List ℕ) → Counts bytes old before → Counts bytes new (names ++ before)
@@ -104,11 +105,25 @@ pub record CanName (bytes : List ℕ) (known : Known) (pointer tag size : ℕ) :
   pub is_block : IsBlock bytes start tag size
   pub there : 1 ≤ standing_at known (block_of start)
 
--- Each block that may be claimed or named lies in the segment, and has a count.
+-- Each block that may be claimed or named lies in the heap, and has a count.
 pub record IsNameable (bytes : List ℕ) (known : Known) : Type 0 where
   pub live : (h : ℕ) → 1 ≤ standing_at known h → IsLiveBlock bytes h
+  pub low : (h : ℕ) → 1 ≤ standing_at known h → heap_start ≤ h
   pub slots : length bytes ≤ heap_start + 32 * length known.naming.counts
   pub small : length bytes ≤ 2 ^ 30
+
+-- the block of a frozen object was claimed, which nothing had claimed before, and its turn waits after
+-- the others
+pub record ClaimsFrozen (old new : Known) (block : ℕ) (waiting : Waiting) : Type 0 where
+  pub now_claimed : times block new.unclaimed ≡ 0
+  pub now_named : times block new.naming.named ≡ 1
+  pub unclaimed_others : (h : ℕ) → h ≢ block → times h new.unclaimed ≡ times h old.unclaimed
+  pub named_others : (h : ℕ) → h ≢ block →
+      times h new.naming.named ≡ times h old.naming.named
+  pub turns_are : new.turns ≡ old.turns ++ waiting ∷ []
+  pub counted : IsCounted old → IsCounted new
+  pub counts_kept : new.naming.counts ≡ old.naming.counts
+  pub below_kept : new.naming.below ≡ old.naming.below
 
 -- an object that no cell named before is claimed, and waits for its turn, with its number as the limit
 -- of what it names

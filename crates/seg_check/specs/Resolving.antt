@@ -89,6 +89,7 @@ pub record IsReady (bytes : List ℕ) (table : Table) (known : Known) : Type 0 w
   pub blocks : AreBlocks bytes table known.unclaimed
   pub few : heap_start + 32 * length known.unclaimed ≤ length bytes
   pub small : length bytes ≤ 2 ^ 30
+  pub standing : (h : ℕ) → standing_at known h ≤ times h (positions (live bytes))
   pub frozen : (h : ℕ) → IsFrozen bytes h → standing_at known h ≡ times h (positions (live bytes))
   pub slots : (T U : ℕ) → form_at table T ≡ Some (Form.shared U) →
       length bytes ≤ heap_start + 32 * length known.naming.counts

@@ -1,4 +1,4 @@
-ghost use Rattle.std.specs.Prelude.{◌≡◌, ℕ, ◌+◌, ◌-◌, ◌*◌, ◌/◌, ◌^◌, ◌<◌, ◌≤◌, ◌↔◌, [], ◌∷◌, ◌++◌, length, IfErr, IfOk, IfSome, IsTrue, MatchOption, MatchResult, OnOk, get_or, vec_len, None, Some};
+ghost use Rattle.std.specs.Prelude.{◌≡◌, ◌≢◌, ℕ, ◌+◌, ◌-◌, ◌*◌, ◌/◌, ◌^◌, ◌<◌, ◌≤◌, ◌↔◌, [], ◌∷◌, ◌++◌, length, IfErr, IfOk, IfSome, IsTrue, MatchOption, MatchResult, OnOk, get_or, vec_len, None, Some};
 ghost use Rattle.seg_spec.specs.Heap.{heap_start};
 ghost use Rattle.seg_spec.specs.Sound.{times};
 ghost use Rattle.seg_block.specs.Tags.{word_of};
@@ -6,7 +6,7 @@ ghost use Rattle.seg_spec.specs.Bytes.{word};
 ghost use Rattle.seg_spec.specs.Header.{next_word};
 ghost use Rattle.seg_check.specs.Marks.{Known, nothing_known, slots_in, IsUnit, IsMarked, IsCounted, KeepsOthers, KeepsNames, Adds};
 ghost use Rattle.seg_check.specs.Claiming.{Refuses, AreLive, CanClaim, ClaimsBlock};
-ghost use Rattle.seg_check.specs.Naming.{IsUnder, CanName, NamesBlock, IsNameable, number_at};
+ghost use Rattle.seg_check.specs.Naming.{IsUnder, CanName, NamesBlock, IsNameable, ClaimsFrozen, number_at, slot_of, left_at, one_less};
 ghost use Rattle.seg_check.specs.Cells.{AreRight};
 
 use crate::bytes::{frozen_number, has_payload};
@@ -62,7 +62,7 @@ impl<A: Allocator> Claims<A> {
             (slots_in shares ((length w.now.bytes - heap_start) / UNIT))) }
     {
         let units = (w.len().saturating_sub(HEAP_START) / UNIT) as usize;
-        let slots = if shares { units.div_ceil(2) } else { 0 };
+        let slots = if shares { units.saturating_add(1) / 2 } else { 0 };
         Ok(Claims {
             marks: Vec::from_elem(alloc, Mark::Inside, units)?,
             free: 0,
@@ -93,6 +93,7 @@ impl<A: Allocator> Claims<A> {
 
     fn set_mark(&mut self, block: u32, new: Mark)
         ensures own { IsUnit self.old.units block → IsMarked self.new block new }
+        ensures live { IsMarked self.old block Mark.Live → IsMarked self.new block new }
         ensures others { KeepsOthers self.old self.new block }
     {
         if let Some(unit) = self.unit_at(block) {
@@ -202,7 +203,8 @@ impl<A: Allocator> Claims<A> {
         ensures named { IsNameable bytes.entry.bytes.now self.old →
             IfOk result
             (NamesBlock bytes.entry.bytes.now self.old self.new cell (word_of tag) size) }
-        ensures refused { IfErr result (λ fault. Refuses fault
+        ensures refused { IsNameable bytes.entry.bytes.now self.old →
+            IfErr result (λ fault. Refuses fault
             (CanName bytes.entry.bytes.now self.old cell (word_of tag) size)) }
     {
         let bad = ContentFault::BadPointer(cell);
@@ -210,29 +212,58 @@ impl<A: Allocator> Claims<A> {
             return Err(bad);
         };
         let block = block_of(start);
-        let Some(unit) = self.unit_at(block) else {
-            return Err(bad);
-        };
-        if !has_payload(bytes, block, tag.word(), size) {
+        let mark = self.mark(block);
+        if mark == Mark::Inside || !has_payload(bytes, block, tag.word(), size) {
             return Err(bad);
         }
-        let slot = unit / 2;
-        let left = match self.marks[unit] {
+        let left = match mark {
             Mark::Live => {
-                self.marks[unit] = Mark::Named;
-                self.unclaimed = self.unclaimed.wrapping_sub(1);
-                let below = Some(frozen_number(bytes, start));
                 let turn = Turn { start, count: 1 };
-                self.queue.push(Waiting { turn, below })?;
+                let below = Some(frozen_number(bytes, start));
+                self.claim_frozen(block, Waiting { turn, below })?;
                 Some(bytes.get32(start as usize))
             }
-            Mark::Named => self.counts.get(slot).copied().flatten(),
+            Mark::Named => self.left(block),
             Mark::Inside | Mark::Free | Mark::Claimed => return Err(bad),
         };
-        if let Some(count) = self.counts.get_mut(slot) {
-            *count = left.and_then(|left| left.checked_sub(1));
-        }
+        self.put_left(block, one_less(left));
         Ok(start)
+    }
+
+    /// Claims the block of a frozen object that nothing has claimed so far, which waits for its turn.
+    fn claim_frozen(&mut self, block: u32, waiting: Waiting) -> Result<(), ContentFault>
+        ensures taken { self.new.taken ≡ self.old.taken }
+        ensures claimed { IsMarked self.old block Mark.Live →
+            OnOk result (ClaimsFrozen self.old self.new block waiting) }
+        ensures refused { IfErr result (λ fault. fault ≡ ContentFault.Memory) }
+    {
+        self.set_mark(block, Mark::Named);
+        self.unclaimed = self.unclaimed.wrapping_sub(1);
+        self.queue.push(waiting)?;
+        Ok(())
+    }
+
+    /// How many more cells may name the frozen object in a block.
+    fn left(&self, block: u32) -> Option<u32>
+        ensures { heap_start ≤ block → result ≡ left_at self.now block }
+    {
+        let slot = block.wrapping_sub(HEAP_START) / (2 * UNIT);
+        self.counts.get(slot as usize).copied().flatten()
+    }
+
+    fn put_left(&mut self, block: u32, left: Option<u32>)
+        ensures own { heap_start ≤ block → slot_of block < length self.old.naming.counts →
+            left_at self.new block ≡ left }
+        ensures others { heap_start ≤ block → (h : ℕ) → slot_of h ≢ slot_of block →
+            left_at self.new h ≡ left_at self.old h }
+        ensures slots { length self.new.naming.counts ≡ length self.old.naming.counts }
+        ensures kept { self.new ≡ record self.old { naming =
+            record self.old.naming { counts = self.new.naming.counts } } }
+    {
+        let slot = block.wrapping_sub(HEAP_START) / (2 * UNIT);
+        if let Some(count) = self.counts.get_mut(slot as usize) {
+            *count = left;
+        }
     }
 
     /// Whether a number is one that names may have now.
@@ -269,24 +300,24 @@ impl<A: Allocator> Claims<A> {
             MatchResult result (λ _. AreRight bytes.entry.bytes.now self.now)
             (λ fault. Refuses fault (AreRight bytes.entry.bytes.now self.now)) }
     {
-        let mut start = HEAP_START.saturating_add(UNIT);
-        for (unit, mark) in self.marks.iter().enumerate() {
-            if mark.is_named() && !self.is_right(bytes, unit, start, next) {
-                return Err(ContentFault::BadValue(start));
+        let mut block = HEAP_START;
+        for mark in &self.marks {
+            if mark.is_named() && !self.is_right(bytes, block, next) {
+                return Err(ContentFault::BadValue(block.saturating_add(UNIT)));
             }
-            start = start.saturating_add(UNIT);
+            block = block.saturating_add(UNIT);
         }
         Ok(())
     }
 
-    /// Whether the frozen object in the block of a unit counts its cells, and has a number below the next one. Its payload
-    /// begins at `start`.
-    fn is_right(&self, bytes: View, unit: usize, start: u32, next: u32) -> bool
-        ensures { start + 4 < 2 ^ 32 → IsTrue result
-            ↔ ((get_or self.now.naming.counts (unit / 2) None ≡ Some 0)
-            × (number_at bytes.entry.bytes.now start < next)) }
+    /// Whether the frozen object in a block counts its cells, and has a number below the next one.
+    fn is_right(&self, bytes: View, block: u32, next: u32) -> bool
+        ensures { heap_start ≤ block → block + 20 < 2 ^ 32 → IsTrue result
+            ↔ ((left_at self.now block ≡ Some 0)
+            × (number_at bytes.entry.bytes.now (block + 16) < next)) }
     {
-        self.counts.get(unit / 2) == Some(&Some(0)) && frozen_number(bytes, start) < next
+        let number = frozen_number(bytes, block.wrapping_add(UNIT));
+        self.left(block) == Some(0) && number < next
     }
 
     /// The lowest live block without an owner.
@@ -306,5 +337,15 @@ impl<A: Allocator> Claims<A> {
             block = block.saturating_add(UNIT);
         }
         None
+    }
+}
+
+/// A count that one more cell took from, if anything was left.
+fn one_less(left: Option<u32>) -> Option<u32>
+    ensures { result ≡ one_less left }
+{
+    match left {
+        Some(left) => left.checked_sub(1),
+        None => None,
     }
 }

@@ -4,7 +4,7 @@ use Rattle.std.specs.Prelude.{codes}
 use Rattle.std.proofs.lemmas.Bool.{cases_eq}
 use Rattle.std.proofs.lemmas.List.{length-replicate, take-replicate, drop-replicate}
 use Rattle.seg_spec.specs.Bytes.{slice, put, number, number_of, word, set_word, IsSame, ChangesOnly}
-use Rattle.seg_spec.specs.Header.{version_word, units_word, allocator_word, index_kind_word, free_word, next_word, index_cell, back_start, reserved, reserved_size, types_start, types_size, uniques_start, uniques_size, heap_start, min_length}
+use Rattle.seg_spec.specs.Header.{version_word, units_word, allocator_word, index_kind_word, free_word, next_word, index_cell, back_start, reserved, reserved_size, types_start, types_size, uniques_start, uniques_size, heap_start, min_length, sharing_version}
 use Rattle.seg_spec.specs.Pointer.{target, set_pointer, distance}
 use Rattle.seg_spec.specs.Types.{IsTable, size}
 use Rattle.seg_spec.specs.Heap.{Begins}
@@ -75,7 +75,7 @@ one_more_null first old new t changes less new_is nulls =
 
 -- the steps of writing it: zeros, the magic bytes, the version, the length, the allocator, the kind of index, its cell
 module _ (len allocator kind : ℕ) (old zeros magic version units with_allocator with_kind empty : List ℕ) (sized : IsImageLength len) (old_long : length old ≡ len) (zeros_is : zeros ≡ put old 0 (replicate len 0))
-    (magic_is : magic ≡ put zeros 0 (codes "SEGIMAGE")) (version_is : version ≡ set_word magic version_word 1) (units_is : units ≡ set_word version units_word (len / 16))
+    (magic_is : magic ≡ put zeros 0 (codes "SEGIMAGE")) (version_is : version ≡ set_word magic version_word sharing_version) (units_is : units ≡ set_word version units_word (len / 16))
     (allocator_is : with_allocator ≡ set_word units allocator_word allocator) (kind_is : with_kind ≡ set_word with_allocator index_kind_word kind) (empty_is : empty ≡ set_pointer with_kind index_cell None)
     (few_allocators : allocator ≤ 1) (few_kinds : kind ≤ 1) where
   abbrev At : List ℕ → List ℕ → ℕ → ℕ → Type 0
@@ -85,7 +85,7 @@ module _ (len allocator kind : ℕ) (old zeros magic version units with_allocato
   c1 = rw magic_is (put-changes zeros 0 (codes "SEGIMAGE"))
 
   c2 : At magic version 8 4
-  c2 = rw version_is (set_number-changes 4 magic version_word 1)
+  c2 = rw version_is (set_number-changes 4 magic version_word sharing_version)
 
   c3 : At version units 12 4
   c3 = rw units_is (set_number-changes 4 version units_word (len / 16))
@@ -140,7 +140,7 @@ module _ (len allocator kind : ℕ) (old zeros magic version units with_allocato
   -- what holds of the bytes before the words of the unique objects, and of the pointer to the free structure
   pub record Front (bytes : List ℕ) : Type 0 where
     pub magic_there : slice bytes 0 8 ≡ codes "SEGIMAGE"
-    pub version_there : word bytes version_word ≡ 1
+    pub version_there : word bytes version_word ≡ sharing_version
     pub units_there : word bytes units_word ≡ len / 16
     pub allocator_there : word bytes allocator_word ≡ allocator
     pub kind_there : word bytes index_kind_word ≡ kind
@@ -158,7 +158,7 @@ module _ (len allocator kind : ℕ) (old zeros magic version units with_allocato
       let long = long_enough in
       record {
         magic_there = from_magic 0 8 (omega arith) ∙ ap (λ b. slice b 0 8) magic_is ∙ slice-put_same zeros 0 (codes "SEGIMAGE") 8 refl (omega (arith, zeros_long));
-        version_there = number-slice 4 version empty 8 8 (from_version 8 4 (omega arith)) ∙ ap (λ b. word b 8) version_is ∙ number-set_same 4 magic 8 1 (omega (arith, zeros_long, c1.length_kept)) (omega arith);
+        version_there = number-slice 4 version empty 8 8 (from_version 8 4 (omega arith)) ∙ ap (λ b. word b 8) version_is ∙ number-set_same 4 magic 8 2 (omega (arith, zeros_long, c1.length_kept)) (omega arith);
         units_there = number-slice 4 units empty 12 12 (from_units 12 4 (omega arith)) ∙ ap (λ b. word b 12) units_is
             ∙ number-set_same 4 version 12 (len / 16) (omega (arith, zeros_long, c1.length_kept, c2.length_kept)) (omega (arith, units_small));
         allocator_there = number-slice 4 with_allocator empty 16 16 (from_allocator 16 4 (omega arith)) ∙ ap (λ b. word b 16) allocator_is
@@ -194,6 +194,9 @@ module _ (len allocator kind : ℕ) (old zeros magic version units with_allocato
     pub kind_then : word new index_kind_word ≡ kind
     kind_then = number-slice 4 empty new 20 20 (low 20 4 (omega arith)) ∙ front_written.kind_there
 
+    pub version_then : word new version_word ≡ sharing_version
+    version_then = number-slice 4 empty new 8 8 (low 8 4 (omega arith)) ∙ front_written.version_there
+
     pub allocator_then : word new allocator_word ≡ allocator
     allocator_then = number-slice 4 empty new 16 16 (low 16 4 (omega arith)) ∙ front_written.allocator_there
 
@@ -205,7 +208,7 @@ module _ (len allocator kind : ℕ) (old zeros magic version units with_allocato
           not_large = rw new_long sized.not_large;
           whole_units = rw new_long sized.whole_units;
           magic = low 0 8 (omega arith) ∙ f.magic_there;
-          version = (number-slice 4 empty new 8 8 (low 8 4 (omega arith)) ∙ f.version_there, number-slice 4 empty new 28 28 (middle 28 4 (omega arith) (omega arith)) ∙ f.next_there);
+          version = inr version_then;
           units_are = let units_then : word new 12 ≡ len / 16 = number-slice 4 empty new 12 12 (low 12 4 (omega arith)) ∙ f.units_there in let whole = sized.whole_units in omega (arith, new_long);
           allocator_is = rw allocator_then few_allocators;
           index_is = rw kind_then few_kinds;

@@ -14,7 +14,7 @@
 --     unique_at picture T                 where the unique object of a type begins
 use Rattle.std.specs.Prelude.{◌≡◌, ℕ, ◌+◌, ◌≤◌, take, drop, List, [], ◌∷◌, ◌++◌, length, ◌⊎◌, Option, Some, None, IsSome, option_map}
 use Rattle.seg_spec.specs.Bytes.{word, ChangesOnly}
-use Rattle.seg_spec.specs.Header.{allocator_word, next_word, index_kind_word, types_start, types_size, KeepsFront}
+use Rattle.seg_spec.specs.Header.{version_word, allocator_word, next_word, index_kind_word, types_start, types_size, sharing_version, KeepsFront}
 use Rattle.seg_spec.specs.Types.{Table, size, longer}
 use Rattle.seg_spec.specs.Value.{copies, default_of}
 use Rattle.seg_spec.specs.Heap.{live}
@@ -79,10 +79,12 @@ abbrev pub word_of_kind : IndexKind → ℕ
 word_of_kind kind.Flat = 0
 word_of_kind kind.Tree = 1
 
--- a segment of this length, at a base of a region that is kept around it, with nothing in it
+-- a segment of this length, at a base of a region that is kept around it, with nothing in it, of the
+-- version that may have frozen objects
 pub record IsNew (allocator : ℕ) (s : Stored) (region : List ℕ) (base len : ℕ)
     (index : IndexKind) : Type 0 where
   pub segment : IsSegment allocator s nothing
+  pub version_is : word s.window.bytes version_word ≡ sharing_version
   pub kind_is : word s.window.bytes index_kind_word ≡ word_of_kind index
   pub length_is : length s.window.bytes ≡ len
   pub no_block : live s.window.bytes ≡ []

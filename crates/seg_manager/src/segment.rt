@@ -1,7 +1,7 @@
 ghost use Rattle.std.specs.Prelude.{◌≡◌, ℕ, ◌+◌, ◌≤◌, ◌↔◌, ◌⊎◌, [], length, IsTrue, IsOk, IfOk, IfErr, OnOk, OnErr};
 ghost use Rattle.seg_spec.specs.Bytes.{word, ChangesOnly};
 ghost use Rattle.seg_spec.specs.Faulty.{IsImageLength};
-ghost use Rattle.seg_spec.specs.Header.{version_word, allocator_word, index_kind_word, types_start, types_size};
+ghost use Rattle.seg_spec.specs.Header.{version_word, allocator_word, index_kind_word, types_start, types_size, sharing_version};
 ghost use Rattle.seg_spec.specs.Heap.{live};
 ghost use Rattle.seg_spec.specs.Sound.{Picture, IsHeld};
 ghost use Rattle.seg_spec.specs.Types.{AreOfVersion, IsTable, HasTable, Agree, IsFirstDifference, longer};
@@ -169,7 +169,8 @@ fn write_empty<F: Fit, A: Allocator>(w: &mut Window<A>, size: u32, index: IndexK
         IsHeld w.new.bytes nothing × (live w.new.bytes ≡ [])
         × (length w.new.bytes ≡ size)
         × (word w.new.bytes allocator_word ≡ F.allocator)
-        × (word w.new.bytes index_kind_word ≡ word_of_kind index) }
+        × (word w.new.bytes index_kind_word ≡ word_of_kind index)
+        × (word w.new.bytes version_word ≡ sharing_version) }
 {
     w.fill(0, size as usize, 0);
     header::begin(w);

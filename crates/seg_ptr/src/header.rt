@@ -72,7 +72,7 @@ pub fn begin<A: Allocator>(w: &mut Window<A>)
     ensures { w.new ≡ with_bytes w.old (set_word (put w.old.bytes 0 (codes "SEGIMAGE")) 8 2) }
 {
     w.copy_in(0, MAGIC);
-    w.put32(VERSION, SHARING_VERSION);
+    upgrade(w);
 }
 
 /// Makes an image one of the version that may have frozen objects.

@@ -39,7 +39,7 @@ module _ (old : List ℕ) where
   after : (p n : ℕ) → units_word ≤ p → IsSame old new p n
   after p n high = upgrade_changes.others p n (inr high)
 
-  same_word : (at : ℕ) → units_word ≤ at → word new at ≡ word old at
+  pub same_word : (at : ℕ) → units_word ≤ at → word new at ≡ word old at
   same_word at high = word-same old new at (after at 4 high)
 
   pub upgraded_version : version_word + 4 ≤ length old → word new version_word ≡ sharing_version

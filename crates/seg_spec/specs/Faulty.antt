@@ -38,14 +38,16 @@ pub record HasTiles (bytes : List ℕ) (table : Table) : Type 0 where
   pub of_version :
       AllByRecursion (λ b. IsTagOf (word bytes version_word) (tag_at bytes b.at)) (live bytes)
 
--- Laid out, each value reads, the objects that cells share are counted, and all blocks that the index
--- and the roots name are live ones, which may have several owners or none.
+-- Laid out, with tags of its version, each value reads, the objects that cells share are counted, and all
+-- blocks that the index and the roots name are live ones, which may have several owners or none.
 pub record HoldsAll (bytes : List ℕ) : Type 0 where
   pub picture : Picture
   pub none_loose : picture.loose ≡ []
   pub counted : AreCounted (word bytes next_word) picture
   pub index_blocks : List ℕ
   pub laid_out : IsLaidOut bytes picture index_blocks
+  pub of_version :
+      AllByRecursion (λ b. IsTagOf (word bytes version_word) (tag_at bytes b.at)) (live bytes)
   pub root_blocks : List ℕ
   pub roots : HoldsRoots bytes picture.table (roots_of picture) root_blocks
   pub live_ones : AllByRecursion (λ h. 1 ≤ times h (positions (live bytes)))

@@ -1,5 +1,5 @@
 -- An image with a value of every kind is sound.
-use Rattle.std.proofs.Common.{◌≡◌, ℕ, zero, suc, ◌<◌, ◌≤◌, Bool, true, false, List, [], ◌∷◌, length, refl, ap, Some, ℤ, pos, negsuc, lit<, lit≤, arith, subst, sym}
+use Rattle.std.proofs.Common.{◌≡◌, ℕ, zero, suc, inl, ◌<◌, ◌≤◌, Bool, true, false, List, [], ◌∷◌, length, refl, ap, Some, ℤ, pos, negsuc, lit<, lit≤, arith, subst, sym}
 use Rattle.std.proofs.lemmas.List.Elements.{All-cons, All-nil, All-from_recursion}
 use Rattle.std.specs.List.{AllByRecursion}
 use Rattle.seg_spec.specs.Bytes.{slice, number_of, number, signed, signed_long}
@@ -218,11 +218,10 @@ laid_out = record {
     not_large = lit≤ tt;
     whole_units = refl;
     magic = refl;
-    version = refl;
+    version = inl (refl, refl);
     units_are = refl;
     allocator_is = lit≤ tt;
     index_is = lit≤ tt;
-    zero_word = refl;
     zeros = refl;
   };
   types = refl;

@@ -1,6 +1,7 @@
 pub mod OnePicture
 pub mod Evaluating
 pub mod SoundImages
+pub mod SharedImages
 pub mod UnsoundImages
 pub mod Parts
 pub mod EveryImage

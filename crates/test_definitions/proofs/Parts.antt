@@ -2,22 +2,23 @@
 use Rattle.std.proofs.Common.{◌≡◌, ℕ, ◌^◌, ◌≤◌, true, List, [], ◌∷◌, ◌++◌, length, get_or, refl, sym, ap, subst, lit<, lit≤, arith, inl, inr}
 use Rattle.std.proofs.lemmas.Bool.{cases_lt}
 use Rattle.std.specs.List.{AllByRecursion}
-use Rattle.seg_spec.specs.Bytes.{slice, put, number, number_of, set_number}
+use Rattle.seg_spec.specs.Bytes.{slice, put, number, number_of, word, set_number}
 use Rattle.seg_spec.specs.Pointer.{target}
-use Rattle.seg_spec.specs.Types.{AreOfVersion, Form, Table, size, form_bytes, version_of, IsRight, IsFirstWrong}
-use Rattle.seg_spec.specs.Heap.{Tile, Fill, AreHeaders, AreApart, heap_start, live, live_of, gaps, gaps_of, HoldsGaps, IsHeap}
+use Rattle.seg_spec.specs.Types.{Form, Table, size, form_bytes, version_of, IsRight, IsFirstWrong}
+use Rattle.seg_spec.specs.Heap.{Tile, Fill, AreHeaders, AreApart, heap_start, tag_at, live, live_of, gaps, gaps_of, HoldsGaps, IsHeap}
 use Rattle.seg_spec.specs.Block.{Kind, IsOwnable}
 use Rattle.seg_spec.specs.Images.{IsSound}
 use Rattle.seg_spec.specs.Sound.{HasHeader, IsLaidOut, holds_no_root, SameBlocks, times, positions}
-use Rattle.seg_spec.specs.Faulty.{IsImageLength, HasTiles, HoldsAll, HasFront, LacksHeader, LacksType, LacksTiles, LacksGaps, LacksContent, LacksOwner, Failure, Lacks}
+use Rattle.seg_spec.specs.Header.{version_word, next_word, sharing_version}
+use Rattle.seg_spec.specs.Faulty.{IsImageLength, IsTagOf, HasTiles, HoldsAll, HasFront, LacksHeader, LacksType, LacksTiles, LacksGaps, LacksContent, LacksOwner, Failure, Lacks}
 use Rattle.seg_spec.specs.Fixtures.{counter, empty, neighbours, linked, odd_kind, lost_gap, two_owners, no_owner, other_magic, odd_type, empty_picture}
 use Rattle.seg_spec.proofs.Failures.{right_types}
 use Rattle.seg_spec.proofs.OneTable.{HasTable-one}
 use Rattle.seg_spec.proofs.TileLaws.{tiles-unique}
 use Rattle.seg_spec.proofs.LiveLaws.{each_there}
-use Rattle.test_definitions.proofs.Evaluating.{live_evaluated, gaps_evaluated, heap_evaluated, uniques_evaluated, numbers-valid, numbers-old}
+use Rattle.test_definitions.proofs.Evaluating.{live_evaluated, gaps_evaluated, heap_evaluated, uniques_evaluated, unshared, numbers-valid, numbers-old}
 use Rattle.test_definitions.proofs.SoundImages.{counter_tiles, empty_tiles, counter_sound}
-use Rattle.seg_spec.proofs.NoFrozen.{no_seventh}
+use Rattle.seg_spec.proofs.OwnedTags.{tags_of_version}
 use Rattle.test_definitions.proofs.UnsoundImages.{linked_live, odd_kind_live, two_free, two_owners-unsound, no_owner-unsound}
 
 pub image_length : (bytes : List ℕ) → HasHeader bytes → IsImageLength (length bytes)
@@ -32,8 +33,10 @@ all_held bytes s =
     record {
       picture = s.picture;
       none_loose = s.none_loose;
+      counted = s.counted;
       index_blocks = s.held.index_blocks;
       laid_out = s.held.laid_out;
+      of_version = tags_of_version bytes s;
       root_blocks = s.held.root_blocks;
       roots = s.held.roots;
       live_ones = each_there (λ h. 1 ≤ times h (positions (live bytes))) owned (λ h some. let same = s.held.owners h in omega arith);
@@ -43,6 +46,7 @@ pub sound_of_all : (bytes : List ℕ) (h : HoldsAll bytes) → SameBlocks (posit
 sound_of_all bytes h owners = record {
   picture = h.picture;
   held = record { index_blocks = h.index_blocks; laid_out = h.laid_out; root_blocks = h.root_blocks; roots = h.roots; owners = owners };
+  counted = h.counted;
   none_loose = h.none_loose;
 }
 
@@ -51,8 +55,8 @@ sound_of_all bytes h owners = record {
 tiles_there : (bytes : List ℕ) (t u : Table) → HasFront bytes t → HasFront bytes u → HasTiles bytes t → HasTiles bytes u
 tiles_there bytes t u f g tiles = subst (HasTiles bytes) (HasTable-one bytes 64 t u f.is_table g.is_table f.types g.types) tiles
 
-one_entry : (bytes : List ℕ) (j k : ℕ) → IsFirstWrong 1 bytes j → IsFirstWrong 1 bytes k → j ≡ k
-one_entry bytes j k f g = elim (cases_lt j k) [
+one_entry : (version : ℕ) (bytes : List ℕ) (j k : ℕ) → IsFirstWrong version bytes j → IsFirstWrong version bytes k → j ≡ k
+one_entry version bytes j k f g = elim (cases_lt j k) [
   | inl less ↦ absurd (g.right_before j less f.wrong)
   | inr above ↦ (elim (cases_lt k j) [
     | inl less ↦ absurd (f.right_before k less g.wrong)
@@ -67,7 +71,7 @@ one_failure bytes Failure.bad_header Failure.bad_tiles l m = absurd (l m.1.heade
 one_failure bytes Failure.bad_header Failure.bad_gaps l m = absurd (l m.1.header)
 one_failure bytes Failure.bad_header Failure.bad_content l m = absurd (l m.1.header)
 one_failure bytes (Failure.bad_type j) Failure.bad_header l m = absurd (m l.0)
-one_failure bytes (Failure.bad_type j) (Failure.bad_type k) l m = ap Failure.bad_type (one_entry (slice bytes 64 512) j k l.1 m.1)
+one_failure bytes (Failure.bad_type j) (Failure.bad_type k) l m = ap Failure.bad_type (one_entry (word bytes version_word) (slice bytes 64 512) j k l.1 m.1)
 one_failure bytes (Failure.bad_type j) Failure.bad_tiles l m = absurd (right_types bytes m.0 j m.1 l)
 one_failure bytes (Failure.bad_type j) Failure.bad_gaps l m = absurd (right_types bytes m.0 j m.1 l)
 one_failure bytes (Failure.bad_type j) Failure.bad_content l m = absurd (right_types bytes m.0 j m.1 l)
@@ -92,26 +96,28 @@ owner_is_content bytes l =
     let laid_out = l.0.laid_out in (
       l.0.picture.table,
       record { header = laid_out.header; types = laid_out.types; is_table = laid_out.is_table; of_version = laid_out.of_version },
-      record { filled = laid_out.heap.filled; headers = laid_out.heap.headers; apart = laid_out.heap.apart; ownable = laid_out.blocks },
+      record { filled = laid_out.heap.filled; headers = laid_out.heap.headers; apart = laid_out.heap.apart; ownable = laid_out.blocks; of_version = l.0.of_version },
       laid_out.heap.free,
       l.1,
     )
 
 -- ---- small images
 
-has_tiles : (bytes : List ℕ) (table : Table) (ts : List Tile) → Fill heap_start ts (length bytes) → AreHeaders bytes 0 ts → AreApart true ts → AllByRecursion (λ b. IsOwnable bytes table b.at) (live_of ts) → HasTiles bytes table
-has_tiles bytes table ts fill headers apart ownable =
+has_tiles : (bytes : List ℕ) (table : Table) (ts : List Tile) → Fill heap_start ts (length bytes) → AreHeaders bytes 0 ts → AreApart true ts → AllByRecursion (λ b. IsOwnable bytes table b.at) (live_of ts)
+    → AllByRecursion (λ b. IsTagOf (word bytes version_word) (tag_at bytes b.at)) (live_of ts) → HasTiles bytes table
+has_tiles bytes table ts fill headers apart ownable of_version =
     let same = tiles-unique bytes ts fill headers in
     record {
       filled = rw same fill;
       headers = rw same headers;
       apart = rw same apart;
       ownable = subst (λ bs. AllByRecursion (λ b. IsOwnable bytes table b.at) bs) (sym (live_evaluated bytes ts fill headers)) ownable;
+      of_version = subst (λ bs. AllByRecursion (λ b. IsTagOf (word bytes version_word) (tag_at bytes b.at)) bs) (sym (live_evaluated bytes ts fill headers)) of_version;
     }
 
 pub lost_gap-tiles : HasTiles lost_gap (Form.i64 ∷ [])
 unfolding lost_gap empty slice put set_number number number_of
-lost_gap-tiles = has_tiles lost_gap (Form.i64 ∷ []) empty_tiles (refl, lit≤ tt, refl) (record { units_is = refl; live_is = refl; before_is = refl; tag_is = λ e. refl }, tt) ((λ e. cc), tt) tt
+lost_gap-tiles = has_tiles lost_gap (Form.i64 ∷ []) empty_tiles (refl, lit≤ tt, refl) (record { units_is = refl; live_is = refl; before_is = refl; tag_is = λ e. refl }, tt) ((λ e. cc), tt) tt tt
 
 pub neighbours-tiles : (table : Table) → HasTiles neighbours table → ⊥
 unfolding neighbours empty slice put number number_of
@@ -131,11 +137,12 @@ linked-tiles table t =
     let link = blocks.0.link_is in
     cc
 
-pub odd_kind-tiles : (table : Table) → AreOfVersion 1 table → HasTiles odd_kind table → ⊥
+pub odd_kind-tiles : (table : Table) → HasTiles odd_kind table → ⊥
 unfolding odd_kind counter slice put set_number number number_of
-odd_kind-tiles table version t =
-    let blocks = subst (λ bs. AllByRecursion (λ b. IsOwnable odd_kind table b.at) bs) odd_kind_live t.ownable in
-    no_seventh table version blocks.0.kind blocks.0.type 0 blocks.0.allowed blocks.0.tag_is
+odd_kind-tiles table t =
+    let tags = subst (λ bs. AllByRecursion (λ b. IsTagOf (word odd_kind version_word) (tag_at odd_kind b.at)) bs) odd_kind_live t.of_version in
+    let shares : word odd_kind version_word ≡ sharing_version = tags.0 refl in
+    cc
 
 pub counter-all : HoldsAll counter
 counter-all = all_held counter counter_sound
@@ -156,11 +163,10 @@ no_owner-laid_out = record {
     not_large = lit≤ tt;
     whole_units = refl;
     magic = refl;
-    version = refl;
+    version = inl (refl, refl);
     units_are = refl;
     allocator_is = lit≤ tt;
     index_is = lit≤ tt;
-    zero_word = refl;
     zeros = refl;
   };
   types = refl;
@@ -181,7 +187,18 @@ no_owner-laid_out = record {
 }
 
 pub no_owner-all : HoldsAll no_owner
-no_owner-all = record { picture = empty_picture; none_loose = refl; index_blocks = []; laid_out = no_owner-laid_out; root_blocks = []; roots = holds_no_root; live_ones = tt }
+unfolding no_owner counter slice put number number_of
+no_owner-all = record {
+  picture = empty_picture;
+  none_loose = refl;
+  counted = unshared (word no_owner next_word) empty_picture refl refl;
+  index_blocks = [];
+  laid_out = no_owner-laid_out;
+  of_version = subst (λ bs. AllByRecursion (λ b. IsTagOf (word no_owner version_word) (tag_at no_owner b.at)) bs) (sym (live_evaluated no_owner counter_tiles no_owner-fill no_owner-headers)) ((λ e. cc), ((λ e. cc), tt));
+  root_blocks = [];
+  roots = holds_no_root;
+  live_ones = tt;
+}
 
 pub lost_gap-lacks : LacksGaps lost_gap
 unfolding lost_gap empty slice put set_number number number_of target size
@@ -193,11 +210,10 @@ lost_gap-lacks = (
       not_large = lit≤ tt;
       whole_units = refl;
       magic = refl;
-      version = refl;
+      version = inl (refl, refl);
       units_are = refl;
       allocator_is = lit≤ tt;
       index_is = lit≤ tt;
-      zero_word = refl;
       zeros = refl;
     };
     types = refl;
@@ -240,11 +256,10 @@ odd_type-lacks = (
     not_large = lit≤ tt;
     whole_units = refl;
     magic = refl;
-    version = refl;
+    version = inl (refl, refl);
     units_are = refl;
     allocator_is = lit≤ tt;
     index_is = lit≤ tt;
-    zero_word = refl;
     zeros = refl;
   },
   record { wrong = (lit< tt, odd_entry); right_before = λ j l w. absurd (omega arith) },
@@ -258,11 +273,10 @@ linked-front = record {
     not_large = lit≤ tt;
     whole_units = refl;
     magic = refl;
-    version = refl;
+    version = inl (refl, refl);
     units_are = refl;
     allocator_is = lit≤ tt;
     index_is = lit≤ tt;
-    zero_word = refl;
     zeros = refl;
   };
   types = refl;
@@ -288,11 +302,10 @@ two_owners-lacks =
           not_large = lit≤ tt;
           whole_units = refl;
           magic = refl;
-          version = refl;
+          version = inl (refl, refl);
           units_are = refl;
           allocator_is = lit≤ tt;
           index_is = lit≤ tt;
-          zero_word = refl;
           zeros = refl;
         };
         types = refl;
@@ -300,7 +313,7 @@ two_owners-lacks =
         of_version = numbers-old;
       },
       has_tiles two_owners (Form.i64 ∷ []) counter_tiles fill headers ((λ e. refl), ((λ e. refl), tt))
-          (record { kind = Kind.named; type = 0; allowed = lit< tt; tag_is = refl; link_is = refl }, (record { kind = Kind.index_buffer; type = 0; allowed = refl; tag_is = refl; link_is = refl }, tt)),
+          (record { kind = Kind.named; type = 0; allowed = lit< tt; tag_is = refl; link_is = refl }, (record { kind = Kind.index_buffer; type = 0; allowed = refl; tag_is = refl; link_is = refl }, tt)) ((λ e. cc), ((λ e. cc), tt)),
       subst (λ gs. HoldsGaps 0 two_owners gs) (sym (gaps_evaluated two_owners counter_tiles fill headers)) refl,
       two_owners-unsound,
     )

@@ -1,8 +1,8 @@
 -- The small images that are sound, and what they hold.
-use Rattle.std.proofs.Common.{◌≡◌, ◌≤◌, true, false, List, [], ◌∷◌, length, refl, pos, lit<, lit≤, arith, subst, sym}
+use Rattle.std.proofs.Common.{◌≡◌, ◌≤◌, true, false, inl, List, [], ◌∷◌, length, refl, pos, lit<, lit≤, arith, subst, sym}
 use Rattle.std.proofs.lemmas.List.Elements.{All-cons, All-nil}
 use Rattle.std.specs.List.{AllByRecursion}
-use Rattle.seg_spec.specs.Bytes.{slice, number_of, number, signed}
+use Rattle.seg_spec.specs.Bytes.{slice, number_of, number, word, signed}
 use Rattle.seg_spec.specs.Pointer.{target}
 use Rattle.seg_spec.specs.Types.{Form, size}
 use Rattle.seg_spec.specs.Value.{Int, Text, nil, cons}
@@ -11,10 +11,13 @@ use Rattle.seg_spec.specs.Heap.{Tile, Fill, AreHeaders, heap_start}
 use Rattle.seg_spec.specs.Block.{Kind, IsOwnable}
 use Rattle.seg_spec.specs.Reads.{Holds, holds, holds_none, holds_more}
 use Rattle.seg_spec.specs.Index.{Root, plain_root}
+use Rattle.seg_spec.specs.Header.{next_word}
+use Rattle.seg_spec.specs.Shared.{names_in, names_each}
+use Rattle.seg_spec.specs.Counting.{AreCounted}
 use Rattle.seg_spec.specs.Images.{IsSound}
 use Rattle.seg_spec.specs.Sound.{HoldsRoot, holds_no_root, holds_more_roots, IsLaidOut, IsHeld, times, positions}
 use Rattle.seg_spec.specs.Fixtures.{counter, greeting, empty, empty_tree, counter_picture, greeting_picture, empty_picture}
-use Rattle.test_definitions.proofs.Evaluating.{live_evaluated, heap_evaluated, uniques_evaluated, numbers-valid, texts-valid, numbers-old, texts-old}
+use Rattle.test_definitions.proofs.Evaluating.{live_evaluated, heap_evaluated, uniques_evaluated, unshared, numbers-valid, texts-valid, numbers-old, texts-old}
 
 abbrev counter_root : Root
 counter_root = plain_root (120 ∷ []) 720 0 (cons (Int (pos 41)) nil)
@@ -54,11 +57,10 @@ counter_laid_out = record {
     not_large = lit≤ tt;
     whole_units = refl;
     magic = refl;
-    version = refl;
+    version = inl (refl, refl);
     units_are = refl;
     allocator_is = lit≤ tt;
     index_is = lit≤ tt;
-    zero_word = refl;
     zeros = refl;
   };
   types = refl;
@@ -103,8 +105,12 @@ counter_held = record {
   owners = λ h. subst (λ bs. times h (positions bs) ≡ times h (736 ∷ 704 ∷ [])) (sym (live_evaluated counter counter_tiles counter_fill counter_headers)) (omega arith);
 }
 
+pub counter_counted : AreCounted (word counter next_word) counter_picture
+unfolding names_in names_each
+counter_counted = unshared (word counter next_word) counter_picture refl refl
+
 pub counter_sound : IsSound counter
-counter_sound = record { picture = counter_picture; held = counter_held; none_loose = refl }
+counter_sound = record { picture = counter_picture; held = counter_held; counted = counter_counted; none_loose = refl }
 
 -- ---- the text
 
@@ -153,11 +159,10 @@ greeting_laid_out = record {
     not_large = lit≤ tt;
     whole_units = refl;
     magic = refl;
-    version = refl;
+    version = inl (refl, refl);
     units_are = refl;
     allocator_is = lit≤ tt;
     index_is = lit≤ tt;
-    zero_word = refl;
     zeros = refl;
   };
   types = refl;
@@ -207,8 +212,12 @@ greeting_held = record {
   owners = λ h. subst (λ bs. times h (positions bs) ≡ times h (736 ∷ 704 ∷ 784 ∷ [])) (sym (live_evaluated greeting greeting_tiles greeting_fill greeting_headers)) (omega arith);
 }
 
+pub greeting_counted : AreCounted (word greeting next_word) greeting_picture
+unfolding names_in names_each
+greeting_counted = unshared (word greeting next_word) greeting_picture refl refl
+
 pub greeting_sound : IsSound greeting
-greeting_sound = record { picture = greeting_picture; held = greeting_held; none_loose = refl }
+greeting_sound = record { picture = greeting_picture; held = greeting_held; counted = greeting_counted; none_loose = refl }
 
 -- ---- no object, and one gap
 
@@ -231,11 +240,10 @@ empty_laid_out = record {
     not_large = lit≤ tt;
     whole_units = refl;
     magic = refl;
-    version = refl;
+    version = inl (refl, refl);
     units_are = refl;
     allocator_is = lit≤ tt;
     index_is = lit≤ tt;
-    zero_word = refl;
     zeros = refl;
   };
   types = refl;
@@ -264,7 +272,7 @@ empty_held = record {
 }
 
 pub empty_sound : IsSound empty
-empty_sound = record { picture = empty_picture; held = empty_held; none_loose = refl }
+empty_sound = record { picture = empty_picture; held = empty_held; counted = unshared (word empty next_word) empty_picture refl refl; none_loose = refl }
 
 -- ---- no object, and one gap
 
@@ -287,11 +295,10 @@ empty_tree_laid_out = record {
     not_large = lit≤ tt;
     whole_units = refl;
     magic = refl;
-    version = refl;
+    version = inl (refl, refl);
     units_are = refl;
     allocator_is = lit≤ tt;
     index_is = lit≤ tt;
-    zero_word = refl;
     zeros = refl;
   };
   types = refl;
@@ -327,4 +334,4 @@ empty_tree_held = record {
 }
 
 pub empty_tree_sound : IsSound empty_tree
-empty_tree_sound = record { picture = empty_picture; held = empty_tree_held; none_loose = refl }
+empty_tree_sound = record { picture = empty_picture; held = empty_tree_held; counted = unshared (word empty_tree next_word) empty_picture refl refl; none_loose = refl }

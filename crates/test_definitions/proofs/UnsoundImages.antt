@@ -1,5 +1,5 @@
 -- The small images with a fault are not sound.
-use Rattle.std.proofs.Common.{◌≡◌, ℕ, zero, suc, ◌+◌, ◌*◌, ◌%◌, ◌==◌, ◌≤◌, true, false, List, [], ◌∷◌, ◌++◌, length, get_or, cond, eqb, Some, None, refl, sym, ap, ◌∙◌, subst, lit≤, arith}
+use Rattle.std.proofs.Common.{◌≡◌, ℕ, zero, suc, ◌+◌, ◌*◌, ◌%◌, ◌==◌, ◌≤◌, true, false, List, [], ◌∷◌, ◌++◌, length, map, get_or, cond, eqb, Some, None, refl, sym, ap, ◌∙◌, subst, lit≤, arith}
 use Rattle.std.specs.List.{AllByRecursion}
 use Rattle.seg_spec.specs.Bytes.{slice, put, number, number_of, set_number, word, half}
 use Rattle.seg_spec.specs.Pointer.{target}
@@ -10,6 +10,9 @@ use Rattle.seg_spec.specs.Heap.{Tile, live, live_of, tag_at}
 use Rattle.seg_spec.specs.Block.{Kind, tag_of, block_of, IsOwnable}
 use Rattle.seg_spec.specs.Reads.{Place, Opened, Opens, count_at, named, start, spaced, items, Holds, holds, HoldsEach, holds_more}
 use Rattle.seg_spec.specs.Index.{Root, Index, OpensIndex, AreEntries, position_of, ListsNames}
+use Rattle.seg_spec.specs.Header.{version_word, sharing_version}
+use Rattle.seg_spec.specs.Faulty.{IsTagOf}
+use Rattle.seg_spec.specs.Frozen.{root_of_frozen}
 use Rattle.seg_spec.specs.Images.{IsSound}
 use Rattle.seg_spec.specs.Sound.{IsPlain, kind_with, frozen_roots, HoldsRoots, holds_no_root, holds_more_roots, times, positions}
 use Rattle.seg_spec.specs.Fixtures.{counter, greeting, empty, empty_tree, other_magic, other_size, linked, odd_kind, lost_gap, red_root, neighbours, no_items, named_as_unique, no_buffer, own_buffer, two_owners, no_owner}
@@ -19,7 +22,8 @@ use Rattle.seg_spec.proofs.RootLaws.{HoldsRoots-split}
 use Rattle.seg_spec.proofs.Frame.{each_left}
 use Rattle.seg_spec.proofs.LiveLaws.{live-once, times-append, times-same}
 use Rattle.test_definitions.proofs.Evaluating.{live_evaluated, apart_evaluated, free_evaluated, numbers-valid, texts-valid}
-use Rattle.seg_spec.proofs.NoFrozen.{no_seventh, no_frozen}
+use Rattle.seg_spec.proofs.NoFrozen.{none_numbered}
+use Rattle.seg_spec.proofs.OwnedTags.{tags_of_version}
 use Rattle.test_definitions.proofs.SoundImages.{counter_tiles, empty_tiles, empty_tree_tiles}
 
 -- ---- the header
@@ -58,8 +62,9 @@ odd_kind_live = live_evaluated odd_kind counter_tiles (refl, lit≤ tt, (refl, l
 pub odd_kind-unsound : IsSound odd_kind → ⊥
 unfolding odd_kind counter slice put set_number number number_of
 odd_kind-unsound s =
-    let blocks = subst (λ bs. AllByRecursion (λ b. IsOwnable odd_kind s.picture.table b.at) bs) odd_kind_live s.held.laid_out.blocks in
-    no_seventh s.picture.table s.held.laid_out.of_version blocks.0.kind blocks.0.type 0 blocks.0.allowed blocks.0.tag_is
+    let tags = subst (λ bs. AllByRecursion (λ b. IsTagOf (word odd_kind version_word) (tag_at odd_kind b.at)) bs) odd_kind_live (tags_of_version odd_kind s) in
+    let shares : word odd_kind version_word ≡ sharing_version = tags.0 refl in
+    cc
 
 abbrev pub two_free : List Tile
 two_free = record { at = 704; units = 2; live = false } ∷ record { at = 736; units = 2; live = false } ∷ []
@@ -265,7 +270,7 @@ no_owner-unsound s =
     let them = HoldsRoots-split no_owner picture.table picture.uniques (picture.loose ++ frozen_roots picture) all.right all.rights in
     let uniques : picture.uniques ≡ [] = no_unique no_owner picture.uniques them.left (subst (λ t. HoldsRoots no_owner t picture.uniques them.left) table them.lefts) (each_left IsPlain picture.uniques picture.loose l.plain)
     (l.uniques.words 0 (omega arith)) in
-    let none_frozen = no_frozen no_owner picture s.held in
+    let none_frozen : frozen_roots picture ≡ [] = ap (map root_of_frozen) (none_numbered picture s.counted) in
     let roots : picture.names ++ (picture.uniques ++ (picture.loose ++ frozen_roots picture)) ≡ [] = rw (names, uniques, s.none_loose, none_frozen) refl in
     let none : s.held.root_blocks ≡ [] = no_blocks no_owner picture.table _ s.held.root_blocks roots s.held.roots in
     let one : times 704 (positions (live no_owner)) ≡ 1 = ap (λ bs. times 704 (positions bs)) no_owner_live in

@@ -1,20 +1,25 @@
--- The increment runs on the image of the number 41 named x.
+-- The increment runs on the image of the number 41 named x, as it is opened.
 use Rattle.std.proofs.Common.{◌≡◌, ℕ, ◌+◌, true, false, List, [], ◌∷◌, length, replicate, codes, pos, Bool, Some, None, inl, refl, sym, ◌∙◌, lit<, lit≤}
 use Rattle.std.specs.Prelude.{option_map, if◌then◌else◌}
 use Rattle.std.specs.Fmt.{digits}
-use Rattle.seg_spec.specs.Bytes.{slice, put, number, number_of, set_number, set_long, signed, IsSame}
+use Rattle.seg_spec.specs.Bytes.{slice, put, number, number_of, word, set_number, set_long, signed, IsSame}
 use Rattle.seg_spec.specs.Types.{size}
 use Rattle.seg_spec.specs.Window.{IsPlace}
 use Rattle.seg_spec.specs.Value.{Int, nil, cons}
 use Rattle.seg_spec.specs.Heap.{live}
 use Rattle.seg_spec.specs.Reads.{here}
 use Rattle.seg_spec.specs.Index.{Root, plain_root, same_name}
+use Rattle.seg_spec.specs.Header.{next_word}
+use Rattle.seg_spec.specs.Shared.{names_in, names_each}
+use Rattle.seg_spec.specs.Counting.{AreCounted}
+use Rattle.seg_spec.specs.Images.{upgraded}
 use Rattle.seg_spec.specs.Sound.{Picture, IsHeld, holds_no_root}
 use Rattle.seg_spec.specs.Faulty.{IsImageLength}
 use Rattle.seg_spec.specs.Roots.{Listed}
 use Rattle.seg_spec.specs.Fixtures.{counter, counter_picture}
-use Rattle.test_definitions.proofs.Evaluating.{live_evaluated}
-use Rattle.test_definitions.proofs.SoundImages.{counter_tiles, counter_fill, counter_headers, counter_held}
+use Rattle.test_definitions.proofs.Evaluating.{live_evaluated, unshared}
+use Rattle.test_definitions.proofs.SoundImages.{counter_tiles, counter_fill, counter_headers, counter_held, counter_counted}
+use Rattle.seg_spec.proofs.Upgrading.{upgraded_held, upgraded_counted, upgraded_live}
 use Rattle.seg_spec.proofs.Writing.{stored}
 use Rattle.client_spec.specs.declared.table.Operation.{Operation}
 use Rattle.client_spec.specs.Syntax.{Instruction}
@@ -24,13 +29,13 @@ use Rattle.client_spec.specs.Answer.{success}
 use Rattle.client_spec.specs.Effect.{outcome, effect}
 use Rattle.client_spec.specs.Typed.{RegisterType, types_after, rule}
 use Rattle.client_spec.specs.Run.{Run, Nothing, finished}
-use Rattle.client_spec.specs.Pictures.{Pictures, AreOwned, names_in, object_of}
+use Rattle.client_spec.specs.Pictures.{Pictures, AreOwned, names_in as names_of_picture, object_of}
 use Rattle.client_spec.specs.Asks.{ChangesBlocks}
 use Rattle.client_spec.specs.OnImages.{Situation, image_machine, RowOn, Given, Left, IsFirst, IsLeftAfter, RunsClient}
 use Rattle.client_spec.specs.Clients.{AreAccepted}
 use Rattle.client_spec.specs.Outcome.{given_first, IsOutcome}
 use Rattle.client_spec.specs.Fixtures.{at, increment, counted, x}
-use Rattle.test_machine.proofs.Worked.{increment_spelled, same_x, counter_pictured}
+use Rattle.test_machine.proofs.Worked.{increment_spelled, same_x}
 
 -- ---- the states and the image
 
@@ -53,8 +58,12 @@ added = with_registers (Register.Reference x ∷ Register.Int (pos 42) ∷ Regis
 abbrev more : List ℕ → State
 more output = record added { names = with_name counted.names (codes "x") (Some (record { type = 0; values = cons (Int (pos 42)) nil })); output = output }
 
+-- the image as it is opened
+abbrev start : List ℕ
+start = upgraded counter
+
 abbrev image : List ℕ
-image = set_long counter 720 42
+image = set_long start 720 42
 
 abbrev root : Root
 root = plain_root (codes "x") 720 0 (cons (Int (pos 41)) nil)
@@ -62,20 +71,30 @@ root = plain_root (codes "x") 720 0 (cons (Int (pos 41)) nil)
 abbrev picture : Picture
 picture = record counter_picture { names = record root { values = cons (Int (pos 42)) nil } ∷ [] }
 
+start_held : IsHeld start counter_picture
+start_held = upgraded_held counter counter_picture counter_held
+
+start_counted : AreCounted (word start next_word) counter_picture
+start_counted = upgraded_counted counter counter_picture counter_counted
+
 held : IsHeld image picture
 unfolding size signed
-held = stored counter counter_picture counter_held Listed.by_name [] root [] refl 0 (lit< tt) [] (record { at = 720; type = 0 }) here 42 refl (lit< tt)
+held = stored start counter_picture start_held Listed.by_name [] root [] refl 0 (lit< tt) [] (record { at = 720; type = 0 }) here 42 refl (lit< tt)
 
-same_live : live image ≡ live counter
+image_counted : AreCounted (word image next_word) picture
+unfolding names_in names_each
+image_counted = unshared (word image next_word) picture refl refl
+
+same_live : live image ≡ live start
 unfolding counter slice put set_number number number_of
 same_live = live_evaluated image counter_tiles (refl, lit≤ tt, (refl, lit≤ tt, refl))
     (record { units_is = refl; live_is = refl; before_is = refl; tag_is = λ e. cc }, (record { units_is = refl; live_is = refl; before_is = refl; tag_is = λ e. cc }, tt))
-    ∙ sym (live_evaluated counter counter_tiles counter_fill counter_headers)
+    ∙ sym (live_evaluated counter counter_tiles counter_fill counter_headers) ∙ sym (upgraded_live counter counter_picture counter_held)
 
-pictured : (rs : List Register) → AreOwned rs [] → Pictures [] (with_registers rs) counter
-pictured rs a = record { picture = counter_picture; held = counter_held; types = refl; names = same_x; uniques = λ T. refl; owned = []; are_owned = a; loose = refl }
+pictured : (rs : List Register) → AreOwned rs [] → Pictures [] (with_registers rs) start
+pictured rs a = record { picture = counter_picture; held = start_held; counted = start_counted; types = refl; names = same_x; uniques = λ T. refl; owned = []; are_owned = a; loose = refl }
 
-same_names : (output name : List ℕ) → (more output).names name ≡ names_in picture name
+same_names : (output name : List ℕ) → (more output).names name ≡ names_of_picture picture name
 same_names output name = choose (same_name name (codes "x"))
   where
     choose : (b : Bool) → (if b then Some (record { type = 0; values = cons (Int (pos 42)) nil }) else (if b then Some (record { type = 0; values = cons (Int (pos 41)) nil }) else None))
@@ -84,7 +103,7 @@ same_names output name = choose (same_name name (codes "x"))
     choose false = refl
 
 pictured_then : (output : List ℕ) → Pictures [] (more output) image
-pictured_then output = record { picture = picture; held = held; types = refl; names = same_names output; uniques = λ T. refl; owned = []; are_owned = tt; loose = refl }
+pictured_then output = record { picture = picture; held = held; counted = image_counted; types = refl; names = same_names output; uniques = λ T. refl; owned = []; are_owned = tt; loose = refl }
 
 -- ---- the places in the run
 
@@ -98,9 +117,9 @@ situation s bytes host n = record { state = s; image = bytes; host = host; base 
 abbrev Row : Instruction → Situation → Situation → Type 0
 Row i a b = RowOn increment.constants [] [] i a success b
 
-kept_row : (i : Instruction) (s t : State) (host : List ℕ) (n : ℕ) → outcome increment.constants i true s ≡ Some (success, t) → (before : Pictures [] s counter) → Pictures [] t counter
-    → ChangesBlocks increment.constants i before success counter
-    → Row i (situation s counter host n) (situation t counter (again host counter) (n + 1))
+kept_row : (i : Instruction) (s t : State) (host : List ℕ) (n : ℕ) → outcome increment.constants i true s ≡ Some (success, t) → (before : Pictures [] s start) → Pictures [] t start
+    → ChangesBlocks increment.constants i before success start
+    → Row i (situation s start host n) (situation t start (again host start) (n + 1))
 kept_row i s t host n row before after blocks = record {
   room = true;
   row = row;
@@ -112,26 +131,26 @@ kept_row i s t host n row before after blocks = record {
   moved = record { steps = refl; base = refl; host = refl };
 }
 
-header_kept : IsSame counter image 0 24
+header_kept : IsSame start image 0 24
 unfolding counter slice put set_number
 header_kept = refl
 
-same_length : length image ≡ length counter
+same_length : length image ≡ length start
 unfolding counter put set_number
 same_length = refl
 
 module _ (h : List ℕ) where
   abbrev h1 : List ℕ
-  h1 = again h counter
+  h1 = again h start
 
   abbrev h2 : List ℕ
-  h2 = again h1 counter
+  h2 = again h1 start
 
   abbrev h3 : List ℕ
-  h3 = again h2 counter
+  h3 = again h2 start
 
   abbrev h4 : List ℕ
-  h4 = again h3 counter
+  h4 = again h3 start
 
   abbrev h5 : List ℕ
   h5 = again h4 image
@@ -139,30 +158,30 @@ module _ (h : List ℕ) where
   abbrev h6 : List ℕ
   h6 = again h5 image
 
-  finds : Row (at Operation.Find 0 16 16 (pos 0)) (situation counted counter h 0) (situation found counter h1 1)
+  finds : Row (at Operation.Find 0 16 16 (pos 0)) (situation counted start h 0) (situation found start h1 1)
   unfolding effect
-  finds = kept_row _ counted found h 0 refl counter_pictured (pictured found.registers tt) (record { asks = []; asked = refl; gives = []; returned = refl; blocks = live counter; granted = refl; left = refl })
+  finds = kept_row _ counted found h 0 refl (pictured counted.registers tt) (pictured found.registers tt) (record { asks = []; asked = refl; gives = []; returned = refl; blocks = live start; granted = refl; left = refl })
 
-  loads : Row (at Operation.Load 1 0 0 (pos 0)) (situation found counter h1 1) (situation loaded counter h2 2)
+  loads : Row (at Operation.Load 1 0 0 (pos 0)) (situation found start h1 1) (situation loaded start h2 2)
   unfolding effect
-  loads = kept_row _ found loaded h1 1 refl (pictured found.registers tt) (pictured loaded.registers tt) (record { asks = []; asked = refl; gives = []; returned = refl; blocks = live counter; granted = refl; left = refl })
+  loads = kept_row _ found loaded h1 1 refl (pictured found.registers tt) (pictured loaded.registers tt) (record { asks = []; asked = refl; gives = []; returned = refl; blocks = live start; granted = refl; left = refl })
 
-  sets_one : Row (at Operation.Const 2 0 0 (pos 1)) (situation loaded counter h2 2) (situation with_one counter h3 3)
+  sets_one : Row (at Operation.Const 2 0 0 (pos 1)) (situation loaded start h2 2) (situation with_one start h3 3)
   unfolding effect
-  sets_one = kept_row _ loaded with_one h2 2 refl (pictured loaded.registers tt) (pictured with_one.registers tt) (record { asks = []; asked = refl; gives = []; returned = refl; blocks = live counter; granted = refl; left = refl })
+  sets_one = kept_row _ loaded with_one h2 2 refl (pictured loaded.registers tt) (pictured with_one.registers tt) (record { asks = []; asked = refl; gives = []; returned = refl; blocks = live start; granted = refl; left = refl })
 
-  adds : Row (at Operation.Add 1 1 2 (pos 0)) (situation with_one counter h3 3) (situation added counter h4 4)
+  adds : Row (at Operation.Add 1 1 2 (pos 0)) (situation with_one start h3 3) (situation added start h4 4)
   unfolding effect
-  adds = kept_row _ with_one added h3 3 refl (pictured with_one.registers tt) (pictured added.registers tt) (record { asks = []; asked = refl; gives = []; returned = refl; blocks = live counter; granted = refl; left = refl })
+  adds = kept_row _ with_one added h3 3 refl (pictured with_one.registers tt) (pictured added.registers tt) (record { asks = []; asked = refl; gives = []; returned = refl; blocks = live start; granted = refl; left = refl })
 
-  stores : Row (at Operation.Store 0 0 1 (pos 0)) (situation added counter h4 4) (situation (more []) image h5 5)
+  stores : Row (at Operation.Store 0 0 1 (pos 0)) (situation added start h4 4) (situation (more []) image h5 5)
   unfolding effect
   stores = record {
     room = true;
     row = refl;
     before = pictured added.registers tt;
     after = pictured_then [];
-    blocks = record { asks = []; asked = refl; gives = []; returned = refl; blocks = live counter; granted = refl; left = same_live };
+    blocks = record { asks = []; asked = refl; gives = []; returned = refl; blocks = live start; granted = refl; left = same_live };
     length_kept = same_length;
     header_kept = header_kept;
     moved = record { steps = refl; base = refl; host = refl };
@@ -184,13 +203,13 @@ module _ (h : List ℕ) where
   none : (s : Situation) → Nothing Situation s s 0 finished
   none s = record { same = refl; steps = refl; ends = refl }
 
-  runs : Run Situation (image_machine increment.constants [] []) increment.code (situation counted counter h 0) (situation (more (codes "42\n")) image h6 6) 6 finished
+  runs : Run Situation (image_machine increment.constants [] []) increment.code (situation counted start h 0) (situation (more (codes "42\n")) image h6 6) 6 finished
   unfolding Run
   runs =
-      let y1 = situation found counter h1 1 in
-      let y2 = situation loaded counter h2 2 in
-      let y3 = situation with_one counter h3 3 in
-      let y4 = situation added counter h4 4 in
+      let y1 = situation found start h1 1 in
+      let y2 = situation loaded start h2 2 in
+      let y3 = situation with_one start h3 3 in
+      let y4 = situation added start h4 4 in
       let y5 = situation (more []) image h5 5 in
       let y6 = situation (more (codes "42\n")) image h6 6 in
       let print = inl (y6, 1, 0, inl (success, y6, 0, prints, none y6, refl), none y6, refl) in
@@ -203,18 +222,19 @@ module _ (h : List ℕ) where
 -- ---- the whole
 
 abbrev first_host : List ℕ
-first_host = again (replicate 2048 0) counter
+first_host = again (replicate 2048 0) start
 
 abbrev given : Given
-given = given_first counter (replicate 2048 0) [] 0 []
+given = given_first start (replicate 2048 0) [] 0 []
 
 abbrev pub left : Left
 left = record { steps = 6; read = 0; ending = finished; output = codes "42\n"; image = image; host = again (h6 first_host) image; base = 0 }
 
-is_first : IsFirst increment given (situation counted counter first_host 0)
+is_first : IsFirst increment given (situation counted start first_host 0)
 is_first = record {
   picture = counter_picture;
-  held = counter_held;
+  held = start_held;
+  counted = start_counted;
   loose = refl;
   types = refl;
   names = same_x;
@@ -222,7 +242,7 @@ is_first = record {
   registers = refl;
   input = refl;
   output = refl;
-  pictured = counter_pictured;
+  pictured = pictured counted.registers tt;
   types_alone = record { length_kept = refl; others = λ p m apart. refl };
   host = refl;
   base = refl;
@@ -235,11 +255,14 @@ is_left = record {
   pictured = pictured_then (codes "42\n");
   owned_blocks = [];
   owned = holds_no_root;
+  shared_blocks = [];
+  shared = record { theirs = λ p. []; holds = tt; blocks_are = refl };
   returned = refl;
   length_kept = refl;
   header_kept = refl;
   picture = picture;
   held = held;
+  counted = image_counted;
   types = refl;
   names = λ name. sym (same_names (codes "42\n") name);
   uniques = λ T. refl;
@@ -252,7 +275,7 @@ is_left = record {
 }
 
 has_run : RunsClient increment given left
-has_run = record { first = situation counted counter first_host 0; is_first = is_first; last = situation (more (codes "42\n")) image (h6 first_host) 6; run = runs first_host; is_left = is_left }
+has_run = record { first = situation counted start first_host 0; is_first = is_first; last = situation (more (codes "42\n")) image (h6 first_host) 6; run = runs first_host; is_left = is_left }
 
 accepted : AreAccepted (counter_picture.table) (client_bytes increment ∷ []) (increment ∷ [])
 unfolding types_after rule
@@ -269,7 +292,7 @@ room_fits = (refl, lit≤ tt, lit≤ tt)
 pub outcome_is : IsOutcome counter (client_bytes increment ∷ []) [] 2048 0 [] (left ∷ [])
 outcome_is = record {
   can_move = record { lies = record { size = sized; room_fits = lit≤ tt; placed = room_fits }; fit = tt };
-  sound = record { picture = counter_picture; held = counter_held; none_loose = refl };
+  sound = record { picture = counter_picture; held = counter_held; counted = counter_counted; none_loose = refl };
   clients = increment ∷ [];
   accepted = accepted;
   host = replicate 2048 0;

@@ -1,7 +1,10 @@
 -- Several clients, one after the other: each stays within its bound, and the image after the last is one again.
 use Rattle.std.proofs.Common.{◌≡◌, ◌≢◌, ℕ, ◌≤◌, List, [], ◌∷◌, sym, ap, ◌∙◌, subst}
 use Rattle.seg_spec.specs.Types.{Table, Agree, longer}
+use Rattle.seg_spec.specs.Bytes.{word}
+use Rattle.seg_spec.specs.Header.{next_word}
 use Rattle.seg_spec.specs.Sound.{Picture, IsHeld}
+use Rattle.seg_spec.specs.Counting.{AreCounted}
 use Rattle.test_definitions.proofs.OnePicture.{Held-one}
 use Rattle.client_spec.specs.Syntax.{Client}
 use Rattle.client_spec.specs.Grammar.{SpellsClient}
@@ -50,19 +53,19 @@ all_within table (text ∷ texts) (client ∷ clients) given (left ∷ lefts) pi
 
 -- a picture of an image, with these loose objects
 abbrev Shows : Given → List ℕ → Type 0
-Shows given image = (picture : Picture) × IsHeld image picture × (picture.loose ≡ given.others)
+Shows given image = (picture : Picture) × IsHeld image picture × AreCounted (word image next_word) picture × (picture.loose ≡ given.others)
 
-pub held_after : (clients : List Client) (given : Given) (lefts : List Left) (picture : Picture) → IsHeld given.image picture → picture.loose ≡ given.others → RunClients clients given lefts
-    → (last : Picture) × IsHeld (image_after given.image lefts) last × (last.loose ≡ given.others)
-held_after [] given [] picture held loose r = (picture, held, loose)
-held_after [] given (left ∷ lefts) picture held loose r = absurd r
-held_after (client ∷ clients) given [] picture held loose r = absurd r
-held_after (client ∷ clients) given (left ∷ lefts) picture held loose r =
+pub held_after : (clients : List Client) (given : Given) (lefts : List Left) (picture : Picture) → IsHeld given.image picture → AreCounted (word given.image next_word) picture → picture.loose ≡ given.others
+    → RunClients clients given lefts → Shows given (image_after given.image lefts)
+held_after [] given [] picture held counted loose r = (picture, held, counted, loose)
+held_after [] given (left ∷ lefts) picture held counted loose r = absurd r
+held_after (client ∷ clients) given [] picture held counted loose r = absurd r
+held_after (client ∷ clients) given (left ∷ lefts) picture held counted loose r =
     let l = r.0.is_left in
-    rest left.ending r.1 (held_after clients (given_next given left) lefts l.picture l.held l.loose)
+    rest left.ending r.1 (held_after clients (given_next given left) lefts l.picture l.held l.counted l.loose)
   where
     ended : (ls : List Left) → ls ≡ [] → Shows given (image_after left.image ls)
-    ended [] e = (r.0.is_left.picture, r.0.is_left.held, r.0.is_left.loose)
+    ended [] e = (r.0.is_left.picture, r.0.is_left.held, r.0.is_left.counted, r.0.is_left.loose)
     ended (l ∷ ls) e = absurd (let f : l ∷ ls ≡ [] = e in cc)
 
     rest : (end : Ending) → GoesOn end (RunClients clients (given_next given left) lefts) lefts → (RunClients clients (given_next given left) lefts → Shows given (image_after left.image lefts)) → Shows given (image_after left.image lefts)

@@ -2,7 +2,8 @@
 use Rattle.std.proofs.Common.{◌≡◌, ◌≢◌, ℕ, zero, suc, List, [], ◌∷◌, length, take, Some, refl, sym, ◌∙◌, subst}
 use Rattle.std.specs.Prelude.{slice_get}
 use Rattle.seg_spec.specs.Types.{Table, longer}
-use Rattle.seg_spec.specs.Images.{IsSound}
+use Rattle.seg_spec.specs.Images.{IsSound, upgraded}
+use Rattle.seg_spec.proofs.Upgrading.{upgraded_held, upgraded_counted}
 use Rattle.test_definitions.proofs.OnePicture.{Held-one}
 use Rattle.client_spec.specs.Syntax.{Client}
 use Rattle.client_spec.specs.Grammar.{SpellsClient}
@@ -16,11 +17,13 @@ bytes_one : (text : List ℕ) (client other : Client) → SpellsClient text clie
 bytes_one text client other h k = one_client client other h.valid k.valid (sym h.spelled ∙ k.spelled)
 
 pub sound_after : (image : List ℕ) (texts : List (List ℕ)) (input : List ℕ) (room base : ℕ) (moves : List Move) (lefts : List Left) → (o : IsOutcome image texts input room base moves lefts)
-    → StayWithin o.clients lefts × IsSound (image_after image lefts)
+    → StayWithin o.clients lefts × IsSound (image_after (upgraded image) lefts)
 sound_after image texts input room base moves lefts o =
-    let given = given_first image o.host input base moves in
-    let last = held_after o.clients given lefts o.sound.picture o.sound.held o.sound.none_loose o.runs in
-    (all_within o.sound.picture.table texts o.clients given lefts o.sound.picture o.sound.held refl o.accepted o.runs, record { picture = last.0; held = last.1; none_loose = last.2 })
+    let given = given_first (upgraded image) o.host input base moves in
+    let picture = o.sound.picture in
+    let held = upgraded_held image picture o.sound.held in
+    let last = held_after o.clients given lefts picture held (upgraded_counted image picture o.sound.counted) o.sound.none_loose o.runs in
+    (all_within picture.table texts o.clients given lefts picture held refl o.accepted o.runs, record { picture = last.0; held = last.1; counted = last.2; none_loose = last.3 })
 
 -- the client of a text, and that it is verified after those before it
 its_client : (table : Table) (texts : List (List ℕ)) (clients before : List Client) (k : ℕ) (text : List ℕ) → AreAccepted table texts clients → AreAccepted table (take k texts) before → slice_get texts k ≡ Some text

@@ -7,13 +7,13 @@ use Rattle.seg_spec.specs.Faulty.{Failure}
 use Rattle.seg_spec.specs.Fixtures.{counter, counter_picture}
 use Rattle.test_definitions.proofs.OnePicture.{Held-one}
 use Rattle.seg_spec.proofs.Failures.{unsound}
-use Rattle.test_definitions.proofs.SoundImages.{counter_held, counter_sound}
+use Rattle.test_definitions.proofs.SoundImages.{counter_held, counter_counted, counter_sound}
 use Rattle.seg_raw.specs.declared.fault.Fault.{Fault}
 use Rattle.seg_raw.specs.declared.fault.Fault.TheVariants as fault
 use Rattle.seg_check.specs.Faults.{IsImageOf, IsFaultOf, IsFaultOfOpening}
 
 pub sound_image : (bytes : List ℕ) (table : Table) → IsImageOf bytes table → IsSound bytes
-sound_image bytes table i = record { picture = i.picture; held = i.held; none_loose = i.none_loose }
+sound_image bytes table i = record { picture = i.picture; held = i.held; counted = i.counted; none_loose = i.none_loose }
 
 pub one_table : (bytes : List ℕ) (table other : Table) → IsImageOf bytes table → IsImageOf bytes other → table ≡ other
 one_table bytes table other i j = sym i.table_is ∙ (Held-one bytes i.picture j.picture i.held j.held).table ∙ j.table_is
@@ -40,7 +40,7 @@ no_fault bytes fault.TooLong s l = absurd l
 no_fault bytes (fault.BadMove i) s l = absurd l
 
 pub counter_image : IsImageOf counter (Form.i64 ∷ [])
-counter_image = record { picture = counter_picture; held = counter_held; none_loose = refl; table_is = refl }
+counter_image = record { picture = counter_picture; held = counter_held; counted = counter_counted; none_loose = refl; table_is = refl }
 
 pub counter_other : IsFaultOfOpening 1 counter fault.BadHeader
 unfolding counter slice number number_of

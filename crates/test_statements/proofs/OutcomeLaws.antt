@@ -1,12 +1,14 @@
 -- The refusal that a fault stands for, and small outcomes and refusals.
 use Rattle.std.proofs.Common.{◌≡◌, ℕ, zero, suc, ◌-◌, ◌^◌, ◌<◌, min, List, [], ◌∷◌, length, replicate, codes, Option, Some, None, refl, sym, ap, ◌∙◌, subst, inl, inr, lit<, lit≤, arith}
 use Rattle.seg_spec.specs.Types.{Form, Table, form_at}
+use Rattle.seg_spec.specs.Images.{upgraded}
 use Rattle.seg_spec.specs.Faulty.{IsImageLength}
+use Rattle.seg_spec.proofs.Upgrading.{upgrade_changes, upgraded_sound}
 use Rattle.seg_spec.specs.Fixtures.{counter, greeting, empty, lost_gap, counter_picture, greeting_picture}
 use Rattle.seg_spec.specs.Bytes.{put, set_number}
 use Rattle.test_definitions.proofs.OnePicture.{Held-one}
 use Rattle.test_definitions.proofs.Parts.{lost_gap-lacks}
-use Rattle.test_definitions.proofs.SoundImages.{counter_held, counter_sound, greeting_held}
+use Rattle.test_definitions.proofs.SoundImages.{counter_held, counter_sound, greeting_held, greeting_counted}
 use Rattle.test_definitions.proofs.UnsoundImages.{lost_gap-unsound}
 use Rattle.seg_raw.specs.declared.fault.Fault.{Fault}
 use Rattle.seg_raw.specs.declared.fault.Fault.TheVariants as fault
@@ -113,7 +115,7 @@ lies_at_16 = record { size = sized; room_fits = lit≤ tt; placed = (refl, lit�
 moves : CanMove counter 2048 0 []
 moves = record { lies = lies_at_0; fit = tt }
 
-pub no_client-whole : HasOutcome counter [] [] 2048 0 [] (Some (codes "=")) (Some (codes "=")) counter [] ended.Done
+pub no_client-whole : HasOutcome counter [] [] 2048 0 [] (Some (codes "=")) (Some (codes "=")) (upgraded counter) [] ended.Done
 no_client-whole = record {
   lefts = [];
   outcome = record { can_move = moves; sound = counter_sound; clients = []; accepted = tt; host = replicate 2048 0; host_is = refl; runs = tt };
@@ -122,7 +124,7 @@ no_client-whole = record {
   ended_is = refl;
   took = refl;
   saved_is = refl;
-  sound = counter_sound;
+  sound = upgraded_sound counter counter_sound;
 }
 
 no_lefts : (table : Table) (clients : List Client) (given : Given) (lefts : List Left) → AreAccepted table [] clients → RunClients clients given lefts → lefts ≡ []
@@ -134,8 +136,8 @@ module _ {input : List ℕ} {base : ℕ} {taken taken_then : Option (List ℕ)} 
   nothing_left : o.lefts ≡ []
   nothing_left = no_lefts o.outcome.sound.picture.table o.outcome.clients _ o.lefts o.outcome.accepted o.outcome.runs
 
-  pub saved_same : saved ≡ counter
-  saved_same = o.saved_is ∙ ap (image_after counter) nothing_left
+  pub saved_same : saved ≡ upgraded counter
+  saved_same = o.saved_is ∙ ap (image_after (upgraded counter)) nothing_left
 
   pub no_reports : AreReports reports []
   no_reports = subst (AreReports reports) nothing_left o.reports_are
@@ -146,20 +148,20 @@ module _ {input : List ℕ} {base : ℕ} {taken taken_then : Option (List ℕ)} 
   pub wrote_nothing : outputs o.lefts ≡ []
   wrote_nothing = ap outputs nothing_left
 
-pub no_client-wrote : HasOutcome counter [] [] 2048 0 [] (Some (codes "=")) (Some (codes "=4")) counter [] ended.Done → ⊥
+pub no_client-wrote : HasOutcome counter [] [] 2048 0 [] (Some (codes "=")) (Some (codes "=4")) (upgraded counter) [] ended.Done → ⊥
 no_client-wrote o = let e = subst (λ (bytes : List ℕ). Some (codes "=4") ≡ Some (61 ∷ bytes)) (wrote_nothing o) o.took in cc
 
 pub no_client-another : HasOutcome counter [] [] 2048 0 [] None None empty [] ended.Done → ⊥
 unfolding counter empty
-no_client-another o = absurd (omega (arith, ap length (saved_same o)))
+no_client-another o = absurd (omega (arith, ap length (saved_same o), (upgrade_changes counter).length_kept))
 
-pub no_client-stopped : HasOutcome counter [] [] 2048 0 [] None None counter [] ended.OutputFailed → ⊥
+pub no_client-stopped : HasOutcome counter [] [] 2048 0 [] None None (upgraded counter) [] ended.OutputFailed → ⊥
 no_client-stopped o = let e : stopped ≡ finished = o.ended_is ∙ came_to_end o in cc
 
-pub no_client-report : (report : Report) → HasOutcome counter [] [] 2048 0 [] None None counter (report ∷ []) ended.Done → ⊥
+pub no_client-report : (report : Report) → HasOutcome counter [] [] 2048 0 [] None None (upgraded counter) (report ∷ []) ended.Done → ⊥
 no_client-report report o = no_reports o
 
-pub no_client-no_place : HasOutcome counter [] [] 2048 8 [] None None counter [] ended.Done → ⊥
+pub no_client-no_place : HasOutcome counter [] [] 2048 8 [] None None (upgraded counter) [] ended.Done → ⊥
 no_client-no_place o = absurd (omega (arith, o.outcome.can_move.lies.placed.0))
 
 -- ---- refused
@@ -209,7 +211,7 @@ texts_differ v = let e = v.agree in cc
 
 pub other_types : IsFault greeting (client_bytes increment ∷ []) 2048 0 [] (Some 0) (fault.TypeMismatch 0)
 other_types =
-    let turn : IsTurnOf greeting (client_bytes increment ∷ []) 0 (client_bytes increment) = record { sound = record { picture = greeting_picture; held = greeting_held; none_loose = refl }; clients = []; accepted = tt; text_is = refl } in
+    let turn : IsTurnOf greeting (client_bytes increment ∷ []) 0 (client_bytes increment) = record { sound = record { picture = greeting_picture; held = greeting_held; counted = greeting_counted; none_loose = refl }; clients = []; accepted = tt; text_is = refl } in
     record {
       refusal = (greeting-moves, client_bytes increment, turn, increment, increment_spelled, texts_differ);
       text = client_bytes increment;

@@ -2,6 +2,7 @@
 
 ghost use Rattle.std.specs.Prelude.{◌≡◌, ℕ, List, [], ◌∷◌, codes, Option, Some, None};
 ghost use Rattle.seg_spec.specs.Fixtures.{counter, greeting, empty, lost_gap};
+ghost use Rattle.seg_spec.specs.Images.{upgraded};
 ghost use Rattle.client_spec.specs.Grammar.{client_bytes};
 ghost use Rattle.client_spec.specs.OnImages.{Move};
 ghost use Rattle.client_spec.specs.Outcome.{Refusal, IsRefusalOf};
@@ -24,18 +25,19 @@ pub fn faults_and_outcomes()
         IsRefusedFor image texts room base moves refused → refused.fault ≡ Fault.Memory }
 {}
 
-/// With no client the number 41 named x is saved as it was. Nothing is written, there is no report, and the end is reached.
+/// With no client the number 41 named x is saved as it was opened. Nothing is written, there is no report, and the end is reached.
 pub fn no_clients()
     ensures whole { HasOutcome counter [] [] 2048 0 [] (Some (codes "=")) (Some (codes "="))
-        counter [] Ended.Done }
+        (upgraded counter) [] Ended.Done }
     ensures wrote { HasOutcome counter [] [] 2048 0 [] (Some (codes "=")) (Some (codes "=4"))
-        counter [] Ended.Done → ⊥ }
+        (upgraded counter) [] Ended.Done → ⊥ }
     ensures another { HasOutcome counter [] [] 2048 0 [] None None empty [] Ended.Done → ⊥ }
     ensures stopped { HasOutcome counter [] [] 2048 0 [] None None
-        counter [] Ended.OutputFailed → ⊥ }
-    ensures a_report { (report : Report) →
-        HasOutcome counter [] [] 2048 0 [] None None counter (report ∷ []) Ended.Done → ⊥ }
-    ensures no_place { HasOutcome counter [] [] 2048 8 [] None None counter [] Ended.Done → ⊥ }
+        (upgraded counter) [] Ended.OutputFailed → ⊥ }
+    ensures a_report { (report : Report) → HasOutcome counter [] [] 2048 0 [] None None
+        (upgraded counter) (report ∷ []) Ended.Done → ⊥ }
+    ensures no_place { HasOutcome counter [] [] 2048 8 [] None None
+        (upgraded counter) [] Ended.Done → ⊥ }
 {}
 
 /// Three bytes are no image, a base of 8 is no place, and no move comes at step 0. An image that has lost its gap, and a client of

@@ -1,7 +1,6 @@
 use Rattle.std.proofs.Common.{◌∙◌, ap}
 use Rattle.std.specs.Prelude.{slice_index_or}
 use Rattle.seg_value.specs.Stored.{Stored}
-use Rattle.seg_value.proofs.SetAlone.{set_alone}
 use Rattle.client_run.proofs.OwningLaws.{put_does}
 use Rattle.client_run.specs.declared.machine.Machine.{Machine}
 use Rattle.client_run.proofs.machine.Machine.put.Goals as goal
@@ -13,4 +12,4 @@ returns-clause-does g c =
     put_does g.F.Fit.allocator i c.args.self.now c.take-object.new.self c.args.segment.now c.set_own.new.self (c.set_own.ensures.types ∙ ap (λ (s : Stored). s.types) c.heap_mut.ensures.value)
     c.heap_mut.result.now c.heap_mut.ensures.value c.place.result (c.place.ensures.at ∙ ap (λ (m : Machine). slice_index_or m.positions i.b 0) gives)
     (c.place.ensures.type_id ∙ ap (λ (m : Machine). slice_index_or m.type_ids i.b 0) gives) c.take-object.result.at c.take-object.ensures.at gives
-    (λ version. set_alone version c.set_own.ensures.set)
+    (λ U v x blocks inside form stands loose theirs kept now final beside. (c.set_own.ensures.set U v x blocks inside form stands loose theirs kept now final beside).clears)

@@ -1,12 +1,24 @@
-use Rattle.std.proofs.Common.{◌≡◌, ◌∷◌, [], Ok, Err, sym, ap, ◌∙◌}
+use Rattle.std.proofs.Common.{◌≡◌, ◌∷◌, [], Ok, Err, sym, ap, ◌∙◌, subst}
 use Rattle.std.proofs.lemmas.Result.{err_from_is_err_and}
 use Rattle.seg_spec.specs.Pointer.{target}
 use Rattle.seg_spec.specs.Reads.{count_at}
 use Rattle.seg_value.specs.Places.{object_at}
+use Rattle.seg_check.specs.Resolving.{Steps}
 use Rattle.seg_check.proofs.StepLaws.{steps_refused}
 use Rattle.seg_check.proofs.OpenLaws.{ready_live}
-use Rattle.seg_check.proofs.BufferLaws.{counted_none, counted_some, counted_names, items_advance, items_nothing, items_can}
+use Rattle.seg_check.proofs.BufferLaws.{counted_none, counted_some, counted_names, items_advance, items_nothing, items_can, items_counted}
 use Rattle.seg_check.proofs.image.Image.check_buffer.Goals as goal
+
+pub returns-in_err-count-clause-steps : goal.returns-in_err-count-clause-steps
+returns-in_err-count-clause-steps g c = λ T form has by ready.
+    let bytes = c.args.self.now.w.now.bytes in
+    let table = c.args.self.now.types.now in
+    let old = c.args.claims.now in
+    let at = c.args.cell in
+    let e = c.in_err-count.field-0.0 in
+    let failed = err_from_is_err_and c.from_residual.result c.from_residual.ensures.1 in
+    let same : failed.0 ≡ e = failed.2 in
+    subst (λ r. Steps bytes table old old (object_at at T ∷ []) r) (sym (failed.1 ∙ ap Err same)) (items_counted bytes table old at T form e has by.form_is (sym c.counted.ensures ∙ c.in_err-count.was))
 
 pub returns-in_err-claim_entries-clause-steps : goal.returns-in_err-claim_entries-clause-steps
 returns-in_err-claim_entries-clause-steps g c = λ T form has by ready.

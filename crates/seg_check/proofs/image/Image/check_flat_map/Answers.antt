@@ -7,12 +7,24 @@ use Rattle.seg_spec.specs.Types.{size}
 use Rattle.seg_spec.specs.Reads.{count_at, keys_at, spaced}
 use Rattle.seg_value.specs.Places.{object_at}
 use Rattle.seg_check.specs.Keys.{HasKeys}
+use Rattle.seg_check.specs.Resolving.{Steps}
 use Rattle.seg_check.proofs.StepLaws.{steps_refused}
 use Rattle.seg_check.proofs.OpenLaws.{ready_live}
 use Rattle.seg_check.proofs.BufferLaws.{counted_none, counted_some, counted_names}
 use Rattle.seg_check.proofs.AscendLaws.{keys_more}
-use Rattle.seg_check.proofs.FlatMapLaws.{flat_nothing, flat_can, flat_steps, flat_key}
+use Rattle.seg_check.proofs.FlatMapLaws.{flat_nothing, flat_counted, flat_can, flat_steps, flat_key}
 use Rattle.seg_check.proofs.image.Image.check_flat_map.Goals as goal
+
+pub returns-in_err-count-clause-steps : goal.returns-in_err-count-clause-steps
+returns-in_err-count-clause-steps g c = λ T U by ready.
+    let bytes = c.args.self.now.w.now.bytes in
+    let table = c.args.self.now.types.now in
+    let old = c.args.claims.now in
+    let at = c.args.cell in
+    let e = c.in_err-count.field-0.0 in
+    let failed = err_from_is_err_and c.from_residual.result c.from_residual.ensures.1 in
+    let same : failed.0 ≡ e = failed.2 in
+    subst (λ r. Steps bytes table old old (object_at at T ∷ []) r) (sym (failed.1 ∙ ap Err same)) (flat_counted bytes table at T U c.args.content.now by old e (sym c.counted.ensures ∙ c.in_err-count.was))
 
 pub returns-in_default-clause-steps : goal.returns-in_default-clause-steps
 returns-in_default-clause-steps g c = λ T U by ready.

@@ -7,10 +7,11 @@ use Rattle.seg_spec.specs.Reads.{count_at}
 use Rattle.seg_block.specs.Tags.{word_of}
 use Rattle.seg_value.specs.Places.{object_at}
 use Rattle.seg_check.specs.Claiming.{AreLive, has_turns}
+use Rattle.seg_check.specs.Resolving.{Steps}
 use Rattle.seg_check.proofs.StepLaws.{steps_refused}
 use Rattle.seg_check.proofs.OpenLaws.{ready_live}
 use Rattle.seg_check.proofs.BufferLaws.{blocks_none, blocks_some, blocks_names}
-use Rattle.seg_check.proofs.ListLaws.{walked_first, walked_more, walked_live, ring_advance, ring_nothing, first_can, ring_closed, next_can, owner_claimed, owner_can, first_low, next_low}
+use Rattle.seg_check.proofs.ListLaws.{walked_first, walked_more, walked_live, ring_advance, ring_nothing, ring_counted, first_can, ring_closed, next_can, owner_claimed, owner_can, first_low, next_low}
 use Rattle.seg_check.proofs.image.Image.check_list.Goals as goal
 use Rattle.seg_check.proofs.image.Image.check_list.Goals.{then-is_linked, else-is_linked, then-eq, else-eq, else-is_linked-2-via-then-is_linked-2+else-is_closed, else-is_linked-2-via-else-is_linked-2}
 
@@ -24,6 +25,17 @@ eq_forth (Some q) p e = let same : q ≡ p = grind (arith, nat_tests) in ap Some
 eq_back : (o : Option ℕ) (p : ℕ) → o ≡ Some p → option_eq eqb o (Some p) ≡ true
 eq_back None p e = cc
 eq_back (Some q) p e = let same : q ≡ p = cc in grind (arith, nat_tests)
+
+pub returns-in_err-count-clause-steps : goal.returns-in_err-count-clause-steps
+returns-in_err-count-clause-steps g c = λ T U by ready.
+    let bytes = c.args.self.now.w.now.bytes in
+    let table = c.args.self.now.types.now in
+    let old = c.args.claims.now in
+    let at = c.args.cell in
+    let e = c.in_err-count.field-0.0 in
+    let failed = err_from_is_err_and c.from_residual.result c.from_residual.ensures.1 in
+    let same : failed.0 ≡ e = failed.2 in
+    subst (λ r. Steps bytes table old old (object_at at T ∷ []) r) (sym (failed.1 ∙ ap Err same)) (ring_counted bytes table old ready at T U by.form_is e (sym c.counted_blocks.ensures ∙ c.in_err-count.was))
 
 pub loop-init : goal.loop-init
 loop-init g c = record {

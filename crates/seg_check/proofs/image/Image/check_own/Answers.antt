@@ -1,12 +1,28 @@
-use Rattle.std.proofs.Common.{◌≡◌, ◌∷◌, [], Err, sym, ap, ◌∙◌, arith}
+use Rattle.std.proofs.Common.{◌≡◌, ◌∷◌, [], Err, sym, ap, ◌∙◌, subst, arith}
 use Rattle.std.proofs.lemmas.Result.{err_from_is_err_and}
 use Rattle.seg_spec.specs.Pointer.{target}
 use Rattle.seg_spec.specs.Reads.{count_at}
 use Rattle.seg_value.specs.Places.{object_at}
+use Rattle.seg_check.specs.Resolving.{Steps}
 use Rattle.seg_check.proofs.StepLaws.{steps_refused}
 use Rattle.seg_check.proofs.OpenLaws.{ready_live}
-use Rattle.seg_check.proofs.BufferLaws.{blocks_is_some, blocks_is_none, own_advance, own_nothing, own_can}
+use Rattle.seg_check.proofs.BufferLaws.{blocks_is_some, blocks_is_none, own_advance, own_nothing, own_can, own_counted, own_many}
 use Rattle.seg_check.proofs.image.Image.check_own.Goals as goal
+
+pub returns-in_err-counted_blocks-clause-steps : goal.returns-in_err-counted_blocks-clause-steps
+returns-in_err-counted_blocks-clause-steps g c = λ T U by ready.
+    let bytes = c.args.self.now.w.now.bytes in
+    let table = c.args.self.now.types.now in
+    let old = c.args.claims.now in
+    let at = c.args.cell in
+    let e = c.in_err-counted_blocks.field-0.0 in
+    let failed = err_from_is_err_and c.from_residual.result c.from_residual.ensures.1 in
+    let same : failed.0 ≡ e = failed.2 in
+    subst (λ r. Steps bytes table old old (object_at at T ∷ []) r) (sym (failed.1 ∙ ap Err same)) (own_counted bytes table at T U c.args.content.now by old e (sym c.counted_blocks.ensures ∙ c.in_err-counted_blocks.was))
+
+pub returns-then-count-gt1-clause-steps : goal.returns-then-count-gt1-clause-steps
+returns-then-count-gt1-clause-steps g c = λ T U by ready r.
+    own_many c.args.self.now.w.now.bytes c.args.self.now.types.now c.args.cell T U c.args.content.now by c.args.claims.now (omega (arith, c.if-count-gt1.true, c.count.ensures)) r
 
 pub returns-in_err-claim_entries-clause-steps : goal.returns-in_err-claim_entries-clause-steps
 returns-in_err-claim_entries-clause-steps g c = λ T U by ready.
