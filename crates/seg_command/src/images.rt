@@ -47,7 +47,8 @@ fn picture_file<'a>(task: ImageTask<'a>) -> Option<&'a str> {
         | ImageTask::Show { .. }
         | ImageTask::Map
         | ImageTask::Grow { .. }
-        | ImageTask::Shrink => None,
+        | ImageTask::Shrink
+        | ImageTask::Upgrade => None,
     }
 }
 

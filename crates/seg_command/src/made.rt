@@ -82,13 +82,15 @@ fn text_of<'a>(
         ImageTask::Picture { .. } => Ok(pictured(alloc, image)?),
         ImageTask::Grow { extra } => Ok(size(alloc, grown(image, extra)?)?),
         ImageTask::Shrink => Ok(size(alloc, shrunk(image))?),
+        // an image is one of version 2 as soon as it is open
+        ImageTask::Upgrade => Ok(Vec::from_slice(alloc, b"version 2\n")?),
     }
 }
 
 /// Whether a task changes the image.
 fn is_change(task: ImageTask) -> bool {
     match task {
-        ImageTask::Grow { .. } | ImageTask::Shrink => true,
+        ImageTask::Grow { .. } | ImageTask::Shrink | ImageTask::Upgrade => true,
         ImageTask::Check
         | ImageTask::Stat
         | ImageTask::List

@@ -12,6 +12,20 @@ use std::fmt::Write;
 /// Where the version stands.
 const VERSION: usize = 8;
 
+/// What values should be.
+const VALUES: &str =
+    "a list should be a ring, a map a red-black tree with ascending keys, each with as many nodes as it says, \
+and a pointer null exactly where there are none\n";
+
+/// What cells that share should be.
+const SHARING: &str =
+    "a cell that shares should name a frozen object exactly where it says 1, and one with a lower number where \
+it stands in a frozen object itself\n";
+
+/// What frozen objects should be.
+const FROZEN: &str =
+    "a frozen object should count the cells that name it, and have a number below the one at byte 28\n";
+
 /// Adds what is wrong with an image's length or its header.
 pub(crate) fn add_bad_header(text: &mut String, image: Option<&[u8]>) -> Result<(), AllocError> {
     let Some(image) = image else {
@@ -33,7 +47,7 @@ pub(crate) fn add_bad_header(text: &mut String, image: Option<&[u8]>) -> Result<
 fn add_bad_word(text: &mut String, image: &[u8]) -> Result<(), AllocError> {
     let units = image.len() / 16;
     let size = word(image, header::SIZE);
-    if size as usize != units && word(image, VERSION) == 1 {
+    if size as usize != units && matches!(word(image, VERSION), 1 | 2) {
         return write!(
             text,
             "the length in units at byte 12 is {size}, and should be {units}\n"
@@ -44,15 +58,18 @@ fn add_bad_word(text: &mut String, image: &[u8]) -> Result<(), AllocError> {
             text,
             "{field} is {number}, and should be {right}\n"
         ),
-        None => text.push_str("bytes 28 to 31 and 40 to 63 should be 0\n"),
+        None if word(image, VERSION) == 1 => text.push_str(
+            "bytes 28 to 31 and 40 to 63 should be 0\n",
+        ),
+        None => text.push_str("bytes 40 to 63 should be 0\n"),
     }
 }
 
 /// The first field of the header with a number that it may not have: its name, the number, and which it may have.
 fn wrong_number(image: &[u8]) -> Option<(&'static str, u32, &'static str)> {
     let version = word(image, VERSION);
-    if version != 1 {
-        return Some(("the version at byte 8", version, "1"));
+    if !matches!(version, 1 | 2) {
+        return Some(("the version at byte 8", version, "1 or 2"));
     }
     let allocator = word(image, header::ALLOCATOR);
     if allocator > 1 {
@@ -76,7 +93,7 @@ pub(crate) fn add_bad_type(
     let entry = type_bytes(image)
         .get(at..at.saturating_add(ENTRY))
         .unwrap_or(&[]);
-    let flaw = entry_flaw(entry);
+    let flaw = entry_flaw(entry, word(image, VERSION) == 2);
     let place = header::TYPES.saturating_add(at);
     write!(
         text,
@@ -112,6 +129,27 @@ pub(crate) fn add_pointer(
         None => text.push_str("the pointer there is null\n"),
         Some(to) => add_target(text, &image, to),
     }
+}
+
+/// Adds where the value at a byte lies, and what would be right.
+pub(crate) fn add_bad_value(
+    text: &mut String,
+    alloc: Global,
+    at: u32,
+    image: Option<&[u8]>,
+) -> Result<(), AllocError> {
+    let Some(image) = image_of(alloc, image)? else {
+        return text.push_str(VALUES);
+    };
+    add_location(text, &image, at)?;
+    if image.is_frozen(at) {
+        return text.push_str(FROZEN);
+    }
+    text.push_str(VALUES)?;
+    if image.shares() {
+        return text.push_str(SHARING);
+    }
+    Ok(())
 }
 
 fn add_location(text: &mut String, image: &Image, at: u32) -> Result<(), AllocError> {

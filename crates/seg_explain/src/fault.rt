@@ -1,4 +1,4 @@
-use crate::damage::{add_bad_header, add_bad_type, add_place, add_pointer};
+use crate::damage::{add_bad_header, add_bad_type, add_bad_value, add_place, add_pointer};
 use crate::field::add_bad_code;
 use crate::rejection::{add_bound, add_rejection};
 use crate::sources::Sources;
@@ -41,11 +41,9 @@ fn add_places(
         Fault::BadHeader => add_bad_header(text, sources.image),
         Fault::BadType(number) => add_bad_type(text, number, sources.image),
         Fault::TypeMismatch(number) => add_mismatch(text, number, client, sources),
-        Fault::BadBlock(at)
-        | Fault::BadIndex(at)
-        | Fault::DoubleOwner(at)
-        | Fault::Unowned(at)
-        | Fault::BadValue(at) => add_place(text, alloc, at, sources.image),
+        Fault::BadBlock(at) | Fault::BadIndex(at) | Fault::DoubleOwner(at) | Fault::Unowned(at) =>
+            add_place(text, alloc, at, sources.image),
+        Fault::BadValue(at) => add_bad_value(text, alloc, at, sources.image),
         Fault::BadFree(at) | Fault::BadPointer(at) => add_pointer(text, alloc, at, sources.image),
         Fault::BadCode(at) => add_bad_code(text, sources.file(client), at),
         Fault::BadLine(number) => add_bad_line(text, sources.text, number),
@@ -138,10 +136,6 @@ or a red-black tree by their sizes (best fit)\n"
         Fault::Unowned(_) => {
             "the index, a unique object's pointer or a value should name the block, and none does\n"
         }
-        Fault::BadValue(_) => {
-            "a list should be a ring, a map a red-black tree with ascending keys, each with as many nodes as it says, \
-and a pointer null exactly where there are none\n"
-        }
         Fault::TooLong => {
             "a loop takes 1 step and its turns times the steps of its body and 1 more, so loops inside loops multiply\n"
         }
@@ -150,6 +144,7 @@ and a pointer null exactly where there are none\n"
         | Fault::BadMove(_)
         | Fault::BadHeader
         | Fault::BadType(_)
+        | Fault::BadValue(_)
         | Fault::BadCode(_)
         | Fault::BadLine(_)
         | Fault::Rejected { .. } => "",

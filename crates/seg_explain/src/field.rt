@@ -145,7 +145,7 @@ impl<'a> File<'a> {
     fn type_flaw(&self, at: usize) -> Flaw<'static> {
         match self.bytes.get(at..at.saturating_add(ENTRY)) {
             None => Flaw::Unmet(rule::WHOLE),
-            Some(entry) => entry_flaw(entry),
+            Some(entry) => entry_flaw(entry, false),
         }
     }
 
@@ -228,7 +228,8 @@ impl<'a> File<'a> {
 }
 
 /// What is wrong with an entry that is no type: its kind, its number of parts, or what it breaks of the rules for types.
-pub(crate) fn entry_flaw(entry: &[u8]) -> Flaw<'static> {
+/// `shares`: whether it may be one of cells that share.
+pub(crate) fn entry_flaw(entry: &[u8], shares: bool) -> Flaw<'static> {
     let [kind, parts, rest @ ..] = entry else {
         return Flaw::Unmet(rule::WHOLE);
     };
@@ -236,6 +237,8 @@ pub(crate) fn entry_flaw(entry: &[u8]) -> Flaw<'static> {
         1 | 2 => *parts == 0,
         3..=7 => *parts == 1,
         8 => matches!(parts, 1..=8),
+        9 if shares => *parts == 1,
+        _ if shares => return Flaw::Unmet(rule::MORE_KINDS),
         _ => return Flaw::Unmet(rule::KINDS),
     };
     if !right {

@@ -2,10 +2,10 @@
 
 use crate::location::{Area, Location, Owner};
 use crate::sources::types_of;
-use seg_block::{Block, HEAP_START, Tag, UNIT, block_at, block_of, is_live, tag_word};
+use seg_block::{Block, HEAP_START, Kind, Tag, UNIT, block_at, block_of, is_live, tag_word};
 use seg_index::{ENTRY, NameEntry, first_name, name_count, next_name, unique};
 use seg_layout::{MAX_TYPES, TypeId, TypeTable};
-use seg_ptr::{MAX_LEN, Window};
+use seg_ptr::{MAX_LEN, Window, header};
 use seg_raw::Region;
 use seg_seqfit::SeqFit;
 use seg_value::Heap;
@@ -35,6 +35,19 @@ impl Image {
     /// What the pointer at a byte names.
     pub(crate) fn target(&self, at: u32) -> Option<u32> {
         self.window().target(at as usize)
+    }
+
+    /// Whether it is of the version that has frozen objects.
+    pub(crate) fn shares(&self) -> bool {
+        header::shares(self.window())
+    }
+
+    /// Whether a frozen object's payload begins at a byte.
+    pub(crate) fn is_frozen(&self, at: u32) -> bool {
+        match self.location(at) {
+            Location::Block(Owner::Live(_, tag), Area::Payload(0)) => tag.kind == Kind::Frozen,
+            _ => false,
+        }
     }
 
     /// Where a byte lies.

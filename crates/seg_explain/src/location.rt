@@ -61,6 +61,7 @@ impl Location<'_> {
             16..=19 => "the allocator's number",
             20..=23 => "the index's number",
             24..=27 => "the pointer to the free blocks",
+            28..=31 => "the next number of a frozen object",
             32..=35 => "the pointer to the index",
             36..=39 => "the number of names",
             _ => "the bytes that are 0",

@@ -11,6 +11,10 @@ pub(crate) const FEW: &str = "a client may have 32 types, 256 constants and 4096
 pub(crate) const KINDS: &str =
     "the kind of a type should be 1 to 8, and an unused entry, which is all 0, be followed by such alone";
 
+/// The same in an image of version 2.
+pub(crate) const MORE_KINDS: &str =
+    "the kind of a type should be 1 to 9, and an unused entry, which is all 0, be followed by such alone";
+
 pub(crate) const PARTS: &str =
     "i64 and str should have no part, a struct 1 to 8, and any other type one";
 

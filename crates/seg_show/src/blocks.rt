@@ -1,4 +1,4 @@
-use seg_block::{Block, HEAP_START, UNIT, block_at};
+use seg_block::{Block, HEAP_START, Tag, UNIT, block_at, is_live, tag_word};
 use seg_ptr::Window;
 use std::alloc::{AllocError, Global};
 
@@ -14,4 +14,13 @@ pub(crate) fn blocks(alloc: Global, w: &Window<Global>) -> Result<Vec<Block>, Al
         at = at.saturating_add(block.units.saturating_mul(UNIT));
     }
     Ok(blocks)
+}
+
+/// The tag of the block at a position, if it is live.
+pub(crate) fn live_tag(w: &Window<Global>, block: u32) -> Option<Tag> {
+    if is_live(w, block) {
+        Tag::read(tag_word(w, block))
+    } else {
+        None
+    }
 }

@@ -78,5 +78,6 @@ fn add_owner(lines: &mut Lines, root: &Root) -> Result<(), AllocError> {
     match root.name {
         RootName::Named(name) => lines.add(name),
         RootName::Unique => lines.add_number("unique t", i64::from(root.first.type_id)),
+        RootName::Frozen { number, .. } => lines.add_number("frozen ", i64::from(number)),
     }
 }

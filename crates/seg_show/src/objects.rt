@@ -3,57 +3,158 @@
 use crate::extent::Extent;
 use crate::lines::Lines;
 use crate::parts::Step;
-use crate::roots::{Root, RootName, roots};
+use crate::roots::{Root, RootName, frozen_number, roots};
 use crate::walk::{Met, Walk, most_turns};
-use seg_block::Fit;
+use seg_block::{Fit, UNIT};
 use seg_layout::Type;
 use seg_manager::Segment;
 use seg_value::{Heap, Place};
 use std::alloc::{AllocError, Global};
 
-/// All objects that the index names: those with a name in ascending order, then the unique ones by type.
+/// All objects that the index names: those with a name in ascending order, then the unique ones by type. Then the frozen ones
+/// by falling numbers.
 pub fn all_objects<F: Fit>(
     alloc: Global,
     segment: &Segment<F, Global>,
     extent: Extent,
 ) -> Result<Vec<u8>, AllocError> {
-    let mut lines = Lines::new(alloc);
+    let mut shown = Shown::new(alloc, segment.heap(), extent)?;
     for root in &roots(alloc, segment)? {
-        add_object(&mut lines, segment.heap(), root, extent)?;
+        shown.add_object(root)?;
     }
-    Ok(lines.into_bytes())
+    Ok(shown.lines.into_bytes())
 }
 
-/// The object with a name, if there is one.
+/// The object with a name, if there is one, and each frozen one that a cell of what is shown names.
 pub fn one_object<F: Fit>(
     alloc: Global,
     segment: &Segment<F, Global>,
     name: &[u8],
     extent: Extent,
 ) -> Result<Option<Vec<u8>>, AllocError> {
-    let mut lines = Lines::new(alloc);
+    let mut shown = Shown::new(alloc, segment.heap(), extent)?;
+    let mut found = false;
     for root in &roots(alloc, segment)? {
-        if root.is_named(name) {
-            add_object(&mut lines, segment.heap(), root, extent)?;
-            return Ok(Some(lines.into_bytes()));
+        if root.is_named(name) || shown.names(root.first.at) {
+            shown.add_object(root)?;
+            found = true;
         }
     }
-    Ok(None)
+    Ok(found.then_some(shown.lines.into_bytes()))
 }
 
-/// Adds an object, each of its values with all inside it.
-fn add_object<F: Fit>(
-    lines: &mut Lines,
-    heap: &Heap<F, Global>,
-    root: &Root,
+/// Objects of a heap as lines.
+#[derive(Drop)]
+struct Shown<'h, F: Fit> {
+    heap: &'h Heap<F, Global>,
     extent: Extent,
-) -> Result<(), AllocError> {
-    let size = heap.types().size(root.first.type_id);
-    for index in 0..root.count {
-        add_root_name(lines, root, index)?;
-        add_value(lines, heap, root.value(index, size), extent)?;
+    lines: Lines,
+    /// For each unit of the segment, whether a cell in these lines names the frozen object whose value begins in it.
+    named: Vec<bool>,
+}
+
+impl<'h, F: Fit> Shown<'h, F> {
+    fn new(
+        alloc: Global,
+        heap: &'h Heap<F, Global>,
+        extent: Extent,
+    ) -> Result<Shown<'h, F>, AllocError> {
+        let units = heap.window().len() / UNIT;
+        Ok(Shown {
+            heap,
+            extent,
+            lines: Lines::new(alloc),
+            named: Vec::from_elem(alloc, false, units as usize)?,
+        })
     }
-    Ok(())
+
+    /// Whether a cell in the lines names the frozen object with its value at this position.
+    fn names(&self, value: u32) -> bool {
+        self.named.get((value / UNIT) as usize) == Some(&true)
+    }
+
+    /// Adds an object, each of its values with all inside it.
+    fn add_object(&mut self, root: &Root) -> Result<(), AllocError> {
+        let size = self.heap.types().size(root.first.type_id);
+        for index in 0..root.count {
+            add_root_name(&mut self.lines, root, index)?;
+            self.add_value(root.value(index, size))?;
+        }
+        Ok(())
+    }
+
+    /// Ends the line of a value, and adds those of all inside it.
+    fn add_value(&mut self, value: Place) -> Result<(), AllocError> {
+        self.end_line(value)?;
+        let mut walk = Walk::new(self.lines.alloc(), self.heap, value, self.extent)?;
+        for _ in 0..most_turns(self.heap.window().len()) {
+            let Some(met) = walk.next(self.heap)? else {
+                break;
+            };
+            match met {
+                Met::Part { level, part } => {
+                    self.lines.begin(level)?;
+                    add_step(&mut self.lines, part.step)?;
+                    self.end_line(part.place)?;
+                }
+                Met::End { level, rest } => add_rest(&mut self.lines, level, rest)?,
+            }
+        }
+        Ok(())
+    }
+
+    /// Ends a line with a value: a number, a text, or what it is and how many parts it has.
+    fn end_line(&mut self, value: Place) -> Result<(), AllocError> {
+        self.lines.add(b": ")?;
+        self.add_content(value)?;
+        self.lines.end()
+    }
+
+    fn add_content(&mut self, value: Place) -> Result<(), AllocError> {
+        let word = match self.heap.types().kind(value.type_id) {
+            Some(Type::I64) => return self.lines.add_number("", self.heap.load(value.at)),
+            Some(Type::Str) => return self.add_text(value),
+            Some(Type::Vec(_)) => "vector of ",
+            Some(Type::List(_)) => "list of ",
+            Some(Type::FlatMap(_)) => "flat map of ",
+            Some(Type::Map(_)) => "map of ",
+            Some(Type::Own(_)) => return self.lines.add(own_word(self.heap.count(value.at))),
+            Some(Type::Struct(_)) => return self.lines.add(b"struct"),
+            Some(Type::Shared(_)) => return self.add_shared(value),
+            // a sound image has no value of another type
+            None => return Ok(()),
+        };
+        self.lines
+            .add_number(word, i64::from(self.heap.count(value.at)))
+    }
+
+    /// Adds which frozen object a cell names, by its number.
+    fn add_shared(&mut self, cell: Place) -> Result<(), AllocError> {
+        match self.heap.frozen(cell) {
+            Some(value) => {
+                if let Some(named) = self.named.get_mut((value / UNIT) as usize) {
+                    *named = true;
+                }
+                let number = frozen_number(self.heap.window(), value);
+                self.lines.add_number("frozen ", i64::from(number))
+            }
+            None => self.lines.add(b"nothing"),
+        }
+    }
+
+    /// Adds a string's bytes in quotation marks, and how many it has where some aren't shown.
+    fn add_text(&mut self, text: Place) -> Result<(), AllocError> {
+        let len = self.heap.count(text.at) as usize;
+        let shown = len.min(self.extent.bytes());
+        let from = self.heap.start(text.at) as usize;
+        self.lines
+            .add_quoted(self.heap.window().slice(from, shown))?;
+        if shown < len {
+            self.lines
+                .add_number(".. of ", i64::from(self.heap.count(text.at)))?;
+        }
+        Ok(())
+    }
 }
 
 /// Begins the line of one of an object's values.
@@ -63,34 +164,13 @@ fn add_root_name(lines: &mut Lines, root: &Root, index: u16) -> Result<(), Alloc
         RootName::Unique => {
             lines.add_number("unique t", i64::from(root.first.type_id))?;
         }
+        RootName::Frozen { count, number } => {
+            lines.add_number("frozen ", i64::from(number))?;
+            lines.add_number(", count ", i64::from(count))?;
+        }
     }
     if root.count > 1 {
         lines.add_index(u32::from(index))?;
-    }
-    Ok(())
-}
-
-/// Ends the line of a value, and adds those of all inside it.
-fn add_value<F: Fit>(
-    lines: &mut Lines,
-    heap: &Heap<F, Global>,
-    value: Place,
-    extent: Extent,
-) -> Result<(), AllocError> {
-    end_line(lines, heap, value, extent)?;
-    let mut walk = Walk::new(lines.alloc(), heap, value, extent)?;
-    for _ in 0..most_turns(heap.window().len()) {
-        let Some(met) = walk.next(heap)? else {
-            break;
-        };
-        match met {
-            Met::Part { level, part } => {
-                lines.begin(level)?;
-                add_step(lines, part.step)?;
-                end_line(lines, heap, part.place, extent)?;
-            }
-            Met::End { level, rest } => add_rest(lines, level, rest)?,
-        }
     }
     Ok(())
 }
@@ -115,56 +195,7 @@ fn add_step(lines: &mut Lines, step: Step) -> Result<(), AllocError> {
     }
 }
 
-/// Ends a line with a value: a number, a text, or what it is and how many parts it has.
-fn end_line<F: Fit>(
-    lines: &mut Lines,
-    heap: &Heap<F, Global>,
-    value: Place,
-    extent: Extent,
-) -> Result<(), AllocError> {
-    lines.add(b": ")?;
-    add_content(lines, heap, value, extent)?;
-    lines.end()
-}
-
-fn add_content<F: Fit>(
-    lines: &mut Lines,
-    heap: &Heap<F, Global>,
-    value: Place,
-    extent: Extent,
-) -> Result<(), AllocError> {
-    let word = match heap.types().kind(value.type_id) {
-        Some(Type::I64) => return lines.add_number("", heap.load(value.at)),
-        Some(Type::Str) => return add_text(lines, heap, value, extent),
-        Some(Type::Vec(_)) => "vector of ",
-        Some(Type::List(_)) => "list of ",
-        Some(Type::FlatMap(_)) => "flat map of ",
-        Some(Type::Map(_)) => "map of ",
-        Some(Type::Own(_)) => return lines.add(own_word(heap.count(value.at))),
-        Some(Type::Struct(_)) => return lines.add(b"struct"),
-        // a sound image has no value of another type, or of one of version 2
-        Some(Type::Shared(_)) | None => return Ok(()),
-    };
-    lines.add_number(word, i64::from(heap.count(value.at)))
-}
-
 /// What an own of so many objects holds.
 fn own_word(count: u32) -> &'static [u8] {
     if count == 0 { b"nothing" } else { b"an object" }
-}
-
-/// Adds a string's bytes in quotation marks, and how many it has where some aren't shown.
-fn add_text<F: Fit>(
-    lines: &mut Lines,
-    heap: &Heap<F, Global>,
-    text: Place,
-    extent: Extent,
-) -> Result<(), AllocError> {
-    let len = heap.count(text.at) as usize;
-    let shown = len.min(extent.bytes());
-    lines.add_quoted(heap.window().slice(heap.start(text.at) as usize, shown))?;
-    if shown < len {
-        lines.add_number(".. of ", i64::from(heap.count(text.at)))?;
-    }
-    Ok(())
 }

@@ -1,8 +1,8 @@
-use crate::blocks::blocks;
+use crate::blocks::{blocks, live_tag};
 use crate::extent::Extent;
 use crate::roots::Root;
 use crate::walk::{Met, Walk, most_turns};
-use seg_block::{Block, Fit, Tag, is_live, tag_word};
+use seg_block::{Block, Fit, Tag};
 use seg_layout::Type;
 use seg_ptr::Window;
 use seg_value::{Heap, Place};
@@ -37,19 +37,11 @@ fn unowned_blocks(alloc: Global, w: &Window<Global>) -> Result<Vec<OwnedBlock>, 
     for block in &blocks(alloc, w)? {
         unowned.push(OwnedBlock {
             block: *block,
-            tag: tag_of(w, *block),
+            tag: live_tag(w, block.at),
             root: None,
         })?;
     }
     Ok(unowned)
-}
-
-fn tag_of(w: &Window<Global>, block: Block) -> Option<Tag> {
-    if is_live(w, block.at) {
-        Tag::read(tag_word(w, block.at))
-    } else {
-        None
-    }
 }
 
 /// Gives an object's blocks to it: its own, and those of all values inside it.

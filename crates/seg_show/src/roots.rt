@@ -1,7 +1,9 @@
-use seg_block::Fit;
+use crate::blocks::{blocks, live_tag};
+use seg_block::{Fit, Kind, UNIT};
 use seg_layout::{MAX_TYPES, TypeId};
 use seg_manager::{Named, Segment};
-use seg_value::Place;
+use seg_ptr::Window;
+use seg_value::{Content, Heap, Place};
 use std::alloc::{AllocError, Global};
 
 /// What an object is found by.
@@ -10,9 +12,11 @@ pub(crate) enum RootName<'a> {
     Named(&'a [u8]),
     /// The unique object of its type.
     Unique,
+    /// Cells that share it: how many, and its number.
+    Frozen { count: u32, number: u32 },
 }
 
-/// An object that a segment's index names, with so many values.
+/// An object that a segment's index names or that is frozen, with so many values.
 #[derive(Clone, Copy)]
 pub(crate) struct Root<'a> {
     pub(crate) name: RootName<'a>,
@@ -24,7 +28,15 @@ impl Root<'_> {
     pub(crate) fn is_named(&self, name: &[u8]) -> bool {
         match self.name {
             RootName::Named(it) => it == name,
-            RootName::Unique => false,
+            RootName::Unique | RootName::Frozen { .. } => false,
+        }
+    }
+
+    /// A frozen object's number, 0 of any other.
+    fn number(&self) -> u32 {
+        match self.name {
+            RootName::Frozen { number, .. } => number,
+            RootName::Named(_) | RootName::Unique => 0,
         }
     }
 
@@ -38,7 +50,8 @@ impl Root<'_> {
     }
 }
 
-/// The named objects in ascending order of their names, then the unique ones by type.
+/// The named objects in ascending order of their names, then the unique ones by type, then the frozen ones by falling numbers,
+/// so that each comes before those that it names.
 pub(crate) fn roots<F: Fit>(
     alloc: Global,
     segment: &Segment<F, Global>,
@@ -49,7 +62,53 @@ pub(crate) fn roots<F: Fit>(
             roots.push(root)?;
         }
     }
+    for root in &frozen_roots(alloc, segment.heap())? {
+        roots.push(*root)?;
+    }
     Ok(roots)
+}
+
+/// The frozen objects by falling numbers.
+fn frozen_roots<F: Fit>(
+    alloc: Global,
+    heap: &Heap<F, Global>,
+) -> Result<Vec<Root<'static>>, AllocError> {
+    let mut frozen = Vec::new(alloc);
+    for block in &blocks(alloc, heap.window())? {
+        if let Some(root) = frozen_root(heap, block.at) {
+            frozen.push(root)?;
+        }
+    }
+    frozen.sort_unstable_by_key(|root| !root.number());
+    Ok(frozen)
+}
+
+fn frozen_root<F: Fit>(heap: &Heap<F, Global>, block: u32) -> Option<Root<'static>> {
+    let w = heap.window();
+    let tag = live_tag(w, block)?;
+    if tag.kind != Kind::Frozen {
+        return None;
+    }
+    let start = block.saturating_add(UNIT);
+    let content = Content::frozen(heap.types(), tag.type_id);
+    let first = content.entry.value(start, 0)?;
+    Some(Root {
+        name: RootName::Frozen {
+            count: frozen_count(w, first.at),
+            number: frozen_number(w, first.at),
+        },
+        first,
+        count: 1,
+    })
+}
+
+/// How many cells name the frozen object whose value stands at a position. Its count and its number stand right before it.
+fn frozen_count(w: &Window<Global>, value: u32) -> u32 {
+    w.get32(value.saturating_sub(8) as usize)
+}
+
+pub(crate) fn frozen_number(w: &Window<Global>, value: u32) -> u32 {
+    w.get32(value.saturating_sub(4) as usize)
 }
 
 fn unique_root<F: Fit>(segment: &Segment<F, Global>, type_id: TypeId) -> Option<Root<'_>> {

@@ -227,6 +227,12 @@ const LINES: &[Line] = &[
         examples: "Example:\n  segtool shrink shop.image",
     },
     Line {
+        name: "upgrade",
+        about: "Rewrites an image as one of version 2 and prints the version",
+        arguments: &[IMAGE],
+        examples: "Example:\n  segtool upgrade shop.image",
+    },
+    Line {
         name: "asm",
         about: "Assembles the text of a client",
         arguments: &ASSEMBLE,

@@ -73,6 +73,7 @@ fn task_of<'a>(command: &str, arguments: &ArgMatches<'a>) -> Option<ImageTask<'a
             extra: number(arguments, "EXTRA"),
         }),
         "shrink" => Some(ImageTask::Shrink),
+        "upgrade" => Some(ImageTask::Upgrade),
         _ => None,
     }
 }

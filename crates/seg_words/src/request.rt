@@ -44,6 +44,8 @@ pub enum ImageTask<'a> {
     /// So many bytes more.
     Grow { extra: u32 },
     Shrink,
+    /// The same in version 2.
+    Upgrade,
 }
 
 /// How a segment keeps its free blocks: by sequential fit or by best fit.

@@ -49,3 +49,33 @@ pub fn counter_with(alloc: Global, changes: &[(usize, u32)]) -> Result<Vec<u8>, 
     }
     Ok(image)
 }
+
+/// The counter's image as it is saved: of version 2, with this number.
+pub fn counter_saved(alloc: Global, number: u32) -> Result<Vec<u8>, AllocError> {
+    counter_with(alloc, &[(8, 2), (720, number)])
+}
+
+/// An image of 1024 bytes with a frozen number, which is 7: the cell named b names it. A cell named a is gone, which named it
+/// too, and so is the object that was frozen.
+pub fn sharing(alloc: Global) -> Result<Vec<u8>, AllocError> {
+    let mut image = Vec::from_elem(alloc, 0u8, 1024)?;
+    let bytes = image.as_mut_slice();
+    write(bytes, 0, b"SEGIMAGE");
+    write_words(bytes, 8, &[2, 64, 0, 0, 696, 1, 720, 1]);
+    write(bytes, 64, &[1]);
+    write(bytes, 80, &[9, 1]);
+    write_words(bytes, 576, &[1; 32]);
+    write_sharing_heap(bytes);
+    Ok(image)
+}
+
+/// A gap, the index with its entry, the cell, a gap, the frozen object, and a gap.
+fn write_sharing_heap(bytes: &mut [u8]) {
+    write_words(bytes, 704, &[2, 0, 0, 116]);
+    write_words(bytes, 736, &[0x8000_0003, 2, 5, 1, 48, 0x1_0001]);
+    write_words(bytes, 784, &[0x8000_0002, 3, 0x101, 1, 64, 1]);
+    write(bytes, 808, b"b");
+    write_words(bytes, 816, &[2, 2, 0, 68]);
+    write_words(bytes, 848, &[0x8000_0002, 2, 7, 1, 1, 0, 7]);
+    write_words(bytes, 880, &[9, 2, 0, 1]);
+}

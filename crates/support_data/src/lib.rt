@@ -10,6 +10,6 @@ mod random;
 
 pub use clients::{INCREMENT, INCREMENT_FILE, chain};
 pub use examples::{CACHE, CONFIGURE, COUNT, SETTINGS};
-pub use images::{counter, counter_with, front, write, write_words};
+pub use images::{counter, counter_saved, counter_with, front, sharing, write, write_words};
 pub use output::Limited;
 pub use random::Random;

@@ -4,6 +4,7 @@ mod bytes;
 mod calls;
 mod containers;
 mod examples;
+mod frozen;
 mod growth;
 mod heaps;
 mod image;

@@ -3,7 +3,7 @@
 use crate::tests::files::{counter_files, is, run, run_into};
 use std::process::Abort;
 use std::test::Fail;
-use support_data::{Limited, counter_with, front};
+use support_data::{Limited, counter_saved, front};
 
 const RUN: [&str; 5] = ["segtool", "run", "image", "saved", "client"];
 
@@ -16,7 +16,7 @@ fn stops_after(rt: &(impl Abort + AllocGlobal), limit: usize) -> Result<(), Fail
     assert_eq!(rt; printed.status, 3);
     assert_eq!(rt; printed.err.as_slice(), b"file -\n".as_slice());
     assert_eq!(rt; printed.out.as_slice(), front(b"42\n", limit));
-    let saved = counter_with(rt.alloc(), &[(720, 42)])?;
+    let saved = counter_saved(rt.alloc(), 42)?;
     assert_eq!(rt; files.get("saved"), saved.as_slice());
     Ok(())
 }

@@ -99,9 +99,9 @@ fn finds_faults_in_headers_and_types(rt: HostRuntime) -> Result<(), Fail> {
     finds(
         rt.alloc(),
         "0=0x47454954 => fault 10 ; magic
-        8=2 => fault 10 ; version
+        8=3 => fault 10 ; version
         12=50 => fault 10 ; size
-        28=1 => fault 10 ; the words for the allocator, the index and zero
+        28=1 => fault 10 ; the word for the next number, which is 0 in version 1, and the bytes that are 0
         60=0x1000000 => fault 10
         64=9 => fault 3 0 ; a type of an unknown kind
         96=1 => fault 3 2 ; a used entry after an unused one",

@@ -169,6 +169,11 @@ pub(crate) fn counter_files(alloc: Global) -> Result<Stored, Fail> {
     Ok(files)
 }
 
+/// Words that make the counter's image one of a unique cell and the frozen pair that it names: the number 5, and a cell that
+/// names nothing.
+pub(crate) const FROZEN_PAIR: &str = "8=2 28=1 32=1 36=0 80=0x20109 96=0x1000208 580=140 712=258 \
+    720=32 724=1 728=0 744=519 752=1 756=0 760=5 764=0 768=1 772=0";
+
 /// The counter's image with other words at some positions, as `16=2 60=0x1000000`.
 pub(crate) fn counter_where(alloc: Global, changes: &str) -> Result<Vec<u8>, Fail> {
     let mut image = counter(alloc)?;

@@ -1,13 +1,13 @@
 use crate::tests::files::{counter_files, follow};
 use std::process::Abort;
 use std::test::Fail;
-use support_data::counter_with;
+use support_data::counter_saved;
 
 /// The increment client on the counter's image, at a base of a room.
 fn increments(rt: &(impl Abort + AllocGlobal), text: &str) -> Result<(), Fail> {
     let mut files = counter_files(rt.alloc())?;
     follow(rt.alloc(), &mut files, text)?;
-    let saved = counter_with(rt.alloc(), &[(720, 42)])?;
+    let saved = counter_saved(rt.alloc(), 42)?;
     assert_eq!(rt; files.get("saved"), saved.as_slice());
     Ok(())
 }
@@ -40,7 +40,7 @@ $ segtool run image saved client client --input input
 42
 43",
     )?;
-    let saved = counter_with(rt.alloc(), &[(720, 43)])?;
+    let saved = counter_saved(rt.alloc(), 43)?;
     assert_eq!(rt; files.get("saved"), saved.as_slice());
     Ok(())
 }

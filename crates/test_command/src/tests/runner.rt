@@ -5,7 +5,7 @@ use client_vm::Through;
 use seg_program::run_command;
 use std::alloc::Global;
 use std::test::Fail;
-use support_data::{Limited, counter_with};
+use support_data::{Limited, counter_saved};
 
 fn run(alloc: Global, words: &[&str], files: &mut Stored) -> Printed {
     let mut out = Through::new(Limited::unlimited(alloc));
@@ -24,7 +24,7 @@ fn runs_clients(rt: HostRuntime) -> Result<(), Fail> {
     let words = ["segrun", "image", "saved", "client", "client"];
     let printed = run(rt.alloc(), words.as_slice(), &mut files);
     is(&rt, &printed, 0, "42\n43\n", "");
-    let saved = counter_with(rt.alloc(), &[(720, 43)])?;
+    let saved = counter_saved(rt.alloc(), 43)?;
     assert_eq!(rt; files.get("saved"), saved.as_slice());
     Ok(())
 }

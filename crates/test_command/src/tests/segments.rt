@@ -1,6 +1,6 @@
-use crate::tests::files::{Stored, counter_file, follow, is, run, run_into};
+use crate::tests::files::{Stored, counter_file, counter_where, follow, is, run, run_into};
 use std::test::Fail;
-use support_data::{Limited, counter};
+use support_data::{Limited, counter_saved};
 
 /// A new image on each allocator and index is all free.
 #[test]
@@ -113,7 +113,43 @@ unique 0",
     )?;
     assert_eq!(rt; files.get("saved").len(), 816);
     follow(rt.alloc(), &mut files, "\n$ segtool shrink saved\nsize 784")?;
-    assert_eq!(rt; files.get("saved"), counter(rt.alloc())?.as_slice());
+    assert_eq!(rt;
+        files.get("saved"),
+        counter_saved(rt.alloc(), 41)?.as_slice()
+    );
+    Ok(())
+}
+
+/// The counter's image comes to be of version 2, and stays as it is then.
+#[test]
+fn upgrades(rt: HostRuntime) -> Result<(), Fail> {
+    let mut files = counter_file(rt.alloc(), "saved")?;
+    for _ in 0..2 {
+        follow(
+            rt.alloc(),
+            &mut files,
+            "\n$ segtool upgrade saved\nversion 2",
+        )?;
+        assert_eq!(rt;
+            files.get("saved"),
+            counter_saved(rt.alloc(), 41)?.as_slice()
+        );
+    }
+    Ok(())
+}
+
+/// A faulty image stays as it is.
+#[test]
+fn upgrades_no_faulty_image(rt: HostRuntime) -> Result<(), Fail> {
+    let image = counter_where(rt.alloc(), "8=3")?;
+    let mut files = Stored::new(rt.alloc());
+    files.add("saved", image.as_slice())?;
+    follow(
+        rt.alloc(),
+        &mut files,
+        "\n$1 segtool upgrade saved\nfault 10",
+    )?;
+    assert_eq!(rt; files.get("saved"), image.as_slice());
     Ok(())
 }
 

@@ -1,6 +1,7 @@
-use crate::tests::files::{Stored, counter_file, counter_where, follow};
+use crate::tests::files::{FROZEN_PAIR, Stored, counter_file, counter_where, follow};
 use std::alloc::Global;
 use std::test::Fail;
+use support_data::{sharing, write_words};
 
 /// Makes an object with a value of each type, three numbers, and a unique object.
 const EVERY_TYPE: &str = "type i64
@@ -279,11 +280,115 @@ fn shows_structs_in_structs(rt: HostRuntime) -> Result<(), Fail> {
     follow(rt.alloc(), &mut files, text.trim_end())
 }
 
+/// A cell named b names a frozen number.
+#[test]
+fn shows_what_is_shared(rt: HostRuntime) -> Result<(), Fail> {
+    let mut files = Stored::new(rt.alloc());
+    files.add("image", sharing(rt.alloc())?.as_slice())?;
+    follow(
+        rt.alloc(),
+        &mut files,
+        "
+$ segtool check image
+ok
+$ segtool stat image
+size 1024
+free 208
+largest 144
+named 1
+unique 0
+$ segtool list image
+b 1 1
+$ segtool show image
+b: frozen 0
+frozen 0, count 1: 7
+$ segtool show image b
+b: frozen 0
+frozen 0, count 1: 7
+$ segtool map image
+704 2 ....... gap
+736 3 ########## index
+784 2 ####### object of b
+816 2 ....... gap
+848 2 ####### object of frozen 0
+880 9 ................................ gap",
+    )
+}
+
+/// The frozen pair that a unique cell names, and a second one after it with a number above its own: that one is named by the
+/// cell instead, and names the first.
+fn two_pairs(alloc: Global) -> Result<Vec<u8>, Fail> {
+    let changes = format!(in alloc; "{FROZEN_PAIR} 12=52 28=2 720=80")?;
+    let mut image = counter_where(alloc, changes.as_str())?;
+    image.extend_from_slice(&[0; 48])?;
+    let second = [0x8000_0003, 3, 519, 1, 1, 1, 8, 0, 0xffff_ffc0, 1];
+    write_words(image.as_mut_slice(), 784, &second);
+    Ok(image)
+}
+
+/// Frozen objects are shown by falling numbers, each before those that it names.
+#[test]
+fn shows_frozen_objects_in_order(rt: HostRuntime) -> Result<(), Fail> {
+    let mut files = Stored::new(rt.alloc());
+    files.add("image", two_pairs(rt.alloc())?.as_slice())?;
+    follow(
+        rt.alloc(),
+        &mut files,
+        "
+$ segtool show image
+unique t1: frozen 1
+frozen 1, count 1: struct
+  field 0: 8
+  field 1: frozen 0
+frozen 0, count 1: struct
+  field 0: 5
+  field 1: nothing
+$ segtool map image
+704 2 ##################### object of unique t1
+736 3 ################################ object of frozen 0
+784 3 ################################ object of frozen 1",
+    )
+}
+
+/// With an object those frozen ones are shown that are reached from it.
+#[test]
+fn shows_what_an_object_reaches(rt: HostRuntime) -> Result<(), Fail> {
+    let mut files = Stored::new(rt.alloc());
+    // the frozen number has the number 1, and a unique cell names another one with the number 0, in the last gap
+    let mut image = sharing(rt.alloc())?;
+    let bytes = image.as_mut_slice();
+    write_words(bytes, 28, &[2]);
+    write_words(bytes, 580, &[316]);
+    write_words(bytes, 868, &[1]);
+    write_words(bytes, 828, &[132]);
+    let unique = [0x8000_0002, 2, 0x102, 1, 32, 1];
+    write_words(bytes, 880, &unique);
+    let frozen = [0x8000_0002, 2, 7, 1, 1, 0, 9];
+    write_words(bytes, 912, &frozen);
+    write_words(bytes, 944, &[5, 2, 0, 1]);
+    files.add("image", image.as_slice())?;
+    follow(
+        rt.alloc(),
+        &mut files,
+        "
+$ segtool show image
+b: frozen 1
+unique t1: frozen 0
+frozen 1, count 1: 7
+frozen 0, count 1: 9
+$ segtool show image b
+b: frozen 1
+frozen 1, count 1: 7
+$1 segtool show image none
+absent none",
+    )
+}
+
 /// A faulty image is not shown, and its fault is told.
 #[test]
 fn shows_no_faulty_image(rt: HostRuntime) -> Result<(), Fail> {
     let mut files = Stored::new(rt.alloc());
-    files.add("image", counter_where(rt.alloc(), "8=2")?.as_slice())?;
+    files.add("image", counter_where(rt.alloc(), "8=3")?.as_slice())?;
     follow(
         rt.alloc(),
         &mut files,

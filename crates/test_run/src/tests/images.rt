@@ -63,7 +63,7 @@ fn is_no_image(rt: &(impl Abort + AllocGlobal), faulty: &[u8]) -> Result<(), Fai
 #[test]
 fn faulty_images_are_refused(rt: HostRuntime) -> Result<(), Fail> {
     let image = counter(rt.alloc())?;
-    is_no_image(&rt, counter_with(rt.alloc(), &[(8, 2)])?.as_slice())?;
+    is_no_image(&rt, counter_with(rt.alloc(), &[(8, 3)])?.as_slice())?;
     is_no_image(&rt, front(image.as_slice(), 768))?;
     is_no_image(&rt, b"")
 }

@@ -13,7 +13,7 @@ use seg_seqfit::SeqFit;
 use std::alloc::Global;
 use std::process::Abort;
 use std::test::Fail;
-use support_data::{INCREMENT, INCREMENT_FILE, Limited, counter};
+use support_data::{INCREMENT, INCREMENT_FILE, Limited, counter, counter_saved};
 
 /// What a run within this many bytes of host memory gives: nothing but a refusal for memory before anything is
 /// written, or all.
@@ -90,7 +90,8 @@ fn opens(rt: &(impl Abort + AllocGlobal), heap: &LocalHeap) -> Result<Option<Fau
     let image = counter(rt.alloc())?;
     match open::<SeqFit, Global, &LocalHeap>(heap, counter_window(rt.alloc())?) {
         Ok(segment) => {
-            assert_eq!(rt; segment.window().slice(0, 784), image.as_slice());
+            let opened = counter_saved(rt.alloc(), 41)?;
+            assert_eq!(rt; segment.window().slice(0, 784), opened.as_slice());
             Ok(None)
         }
         Err((fault, window)) => {
@@ -102,7 +103,7 @@ fn opens(rt: &(impl Abort + AllocGlobal), heap: &LocalHeap) -> Result<Option<Fau
 
 /// Saving gives the image, or nothing.
 fn saves(rt: &(impl Abort + AllocGlobal), heap: &LocalHeap) -> Result<Option<Fault>, Fail> {
-    let image = counter(rt.alloc())?;
+    let image = counter_saved(rt.alloc(), 41)?;
     let segment = opened::<SeqFit>(rt.alloc(), counter_window(rt.alloc())?)?;
     match save(heap, &segment) {
         Ok(saved) => {
@@ -169,7 +170,7 @@ fn fault_on_image(
         _ => None,
     };
     if fault.is_some() {
-        assert_eq!(rt; image.bytes(), counter(rt.alloc())?.as_slice());
+        assert_eq!(rt; image.bytes(), counter_saved(rt.alloc(), 41)?.as_slice());
     }
     Ok(fault)
 }

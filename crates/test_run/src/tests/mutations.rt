@@ -5,12 +5,13 @@ use arrayvec::ArrayVec;
 use seg_bestfit::BestFit;
 use seg_block::Fit;
 use seg_manager::Segment;
+use seg_open::save;
 use seg_ptr::header;
 use seg_seqfit::SeqFit;
 use std::alloc::Global;
 use std::process::Abort;
 use std::test::Fail;
-use support_data::front;
+use support_data::{front, sharing, write_words};
 
 /// How a byte is changed: one bit, all bits, every second bit.
 const CHANGES: [u8; 11] = [1, 2, 4, 8, 16, 32, 64, 128, 0xff, 0x55, 0xaa];
@@ -32,11 +33,26 @@ fn destroy_named<F: Fit>(rt: &impl Abort, segment: &mut Segment<F, Global>) -> R
     Ok(())
 }
 
-/// Opens an image, if it is accepted, and destroys all that is in it. The heap is one gap then.
+/// What is saved of an image that was opened is the same in version 2, and is accepted again.
+fn saves_as_opened<F: Fit>(
+    rt: &(impl Abort + AllocGlobal),
+    segment: &Segment<F, Global>,
+    image: &[u8],
+) -> Result<(), Fail> {
+    let saved = save(rt.alloc(), segment)?;
+    let mut upgraded = Vec::from_slice(rt.alloc(), image)?;
+    write_words(upgraded.as_mut_slice(), 8, &[2]);
+    assert_eq!(rt; saved.as_slice(), upgraded.as_slice());
+    let _ = opened::<F>(rt.alloc(), window(rt.alloc(), saved.as_slice())?)?;
+    Ok(())
+}
+
+/// Opens an image, if it is accepted, saves it, and destroys all that is in it. The heap is one gap then.
 fn use_up<F: Fit>(rt: &(impl Abort + AllocGlobal), image: &[u8]) -> Result<bool, Fail> {
     let Ok(mut segment) = opened::<F>(rt.alloc(), window(rt.alloc(), image)?) else {
         return Ok(false);
     };
+    saves_as_opened(rt, &segment, image)?;
     destroy_named(rt, &mut segment)?;
     for t in 0..32 {
         let _ = segment.destroy_unique(t);
@@ -91,6 +107,15 @@ fn changed_images_are_refused_or_usable(rt: HostRuntime) -> Result<(), Fail> {
     for kind in KINDS {
         changed_images(&rt, kind)?;
     }
+    Ok(())
+}
+
+/// The same of an image with a frozen object.
+#[test]
+fn changed_images_that_share_are_refused_or_usable(rt: HostRuntime) -> Result<(), Fail> {
+    let mut image = sharing(rt.alloc())?;
+    assert!(rt; use_image(&rt, image.as_slice())?);
+    assert!(rt; try_changes(&rt, &mut image)? > 0);
     Ok(())
 }
 

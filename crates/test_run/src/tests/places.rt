@@ -12,7 +12,7 @@ use seg_seqfit::SeqFit;
 use std::alloc::Global;
 use std::process::Abort;
 use std::test::Fail;
-use support_data::{INCREMENT_FILE, Limited, chain, counter, counter_with};
+use support_data::{INCREMENT_FILE, Limited, chain, counter, counter_saved};
 
 /// The bytes of the host, all of them 0xa5 but for the segment.
 const ROOM: u32 = 8192;
@@ -54,7 +54,7 @@ fn increments(
     let mut segment = counter_at(rt.alloc(), base)?;
     assert_eq!(rt; moves_fit(&segment, moves), None);
     increment(rt, &mut segment, moves)?;
-    let saved = counter_with(rt.alloc(), &[(720, 42)])?;
+    let saved = counter_saved(rt.alloc(), 42)?;
     assert_eq!(rt; segment.window().slice(0, 784), saved.as_slice());
     Ok(segment.into_region())
 }
@@ -104,7 +104,7 @@ fn host_bytes_stay_where_it_moves(rt: HostRuntime) -> Result<(), Fail> {
 fn an_image_stays_where_it_was(rt: HostRuntime) -> Result<(), Fail> {
     let region = increments(&rt, 0, &[before(5, 4096)])?;
     assert_eq!(rt; region.len(), ROOM);
-    assert_eq!(rt; region.slice(0, 784), counter(rt.alloc())?.as_slice());
+    assert_eq!(rt; region.slice(0, 784), counter_saved(rt.alloc(), 41)?.as_slice());
     Ok(())
 }
 
@@ -160,7 +160,7 @@ fn runs_alike_where_it_moves(rt: HostRuntime) -> Result<(), Fail> {
     let clients = [INCREMENT_FILE.as_slice(), INCREMENT_FILE.as_slice()];
     let ran = run_files(rt.alloc(), image.as_slice(), clients.as_slice(), setting)?;
     assert_eq!(rt; ran.out.as_slice(), b"42\n43\n".as_slice());
-    let saved = counter_with(rt.alloc(), &[(720, 43)])?;
+    let saved = counter_saved(rt.alloc(), 43)?;
     assert_eq!(rt; ran.image.as_slice(), saved.as_slice());
     Ok(())
 }

@@ -1,8 +1,12 @@
 //! Calls on whole segments, worked out by hand, with the checker looking at the bytes.
 
 use crate::tests::calls::{are, calls};
-use crate::tests::support::{I64, INDEXES, NUMBER, construct_number, segment, used_region, window};
+use crate::tests::support::{
+    I64, INDEXES, NUMBER, construct_number, first_fault, place_of, segment, shared_of, used_region,
+    window,
+};
 use seg_bestfit::BestFit;
+use seg_layout::TypeId;
 use seg_manager::{Found, IndexKind, Segment};
 use seg_open::{open, save};
 use seg_ptr::Window;
@@ -11,7 +15,7 @@ use seg_seqfit::SeqFit;
 use std::alloc::Global;
 use std::process::Abort;
 use std::test::Fail;
-use support_data::counter;
+use support_data::{counter, counter_saved, sharing};
 
 /// The object has 2 units; a flat index asks for 3 and takes 2 at its limit, a node of the tree has 3.
 #[test]
@@ -177,14 +181,64 @@ fn counter_window(alloc: Global) -> Result<Window<Global>, Fail> {
     Ok(w)
 }
 
-/// The counter's image opened: x at 720, one value; saved, it is the same bytes.
+/// The counter's image opened: x at 720, one value; saved, it is the same bytes in version 2.
 #[test]
 fn opens_and_saves_the_counter(rt: HostRuntime) -> Result<(), Fail> {
     match open::<SeqFit, Global, Global>(rt.alloc(), counter_window(rt.alloc())?) {
         Ok(segment) => {
             assert_eq!(rt; segment.find(b"x", NUMBER)?, Found { at: 720, count: 1 });
-            let image = counter(rt.alloc())?;
+            let image = counter_saved(rt.alloc(), 41)?;
             assert_eq!(rt; save(rt.alloc(), &segment)?.as_slice(), image.as_slice());
+            Ok(())
+        }
+        Err((fault, _)) => Err(Fail::from(fault)),
+    }
+}
+
+/// Cells that share a number.
+const SHARED: TypeId = 1;
+
+/// The cells a and b come to share a number, and a is destroyed.
+fn share_a_number(segment: &mut Segment<SeqFit, Global>) -> Result<(), Code> {
+    let a = place_of(SHARED, segment.construct(b"a", SHARED, 1)?);
+    let b = place_of(SHARED, segment.construct(b"b", SHARED, 1)?);
+    let number = segment.new_anonymous(NUMBER)?;
+    segment.heap_mut().store(number, 7);
+    segment.heap_mut().freeze(a, number)?;
+    segment.heap_mut().share(b, a);
+    let _ = segment.destroy(b"a", SHARED);
+    Ok(())
+}
+
+/// The image that two cells and a frozen number leave. What was in gaps, and in the index after its only entry, is zeroed.
+#[test]
+fn shares_a_number(rt: HostRuntime) -> Result<(), Fail> {
+    let types = [I64, shared_of(NUMBER)];
+    let mut segment = segment::<SeqFit>(rt.alloc(), 1024, IndexKind::Flat, &types)?;
+    share_a_number(&mut segment)?;
+    assert_eq!(rt; first_fault(rt.alloc(), segment.window()), None);
+    assert_eq!(rt; segment.free_memory(), 208);
+    segment.zero_free_memory();
+    segment.heap_mut().window_mut().fill(760, 24, 0);
+    assert_eq!(rt;
+        segment.window().slice(0, 1024),
+        sharing(rt.alloc())?.as_slice()
+    );
+    Ok(())
+}
+
+/// An image of version 2 is saved as it was. The frozen number goes with the last cell that names it.
+#[test]
+fn opens_and_saves_what_is_shared(rt: HostRuntime) -> Result<(), Fail> {
+    let image = sharing(rt.alloc())?;
+    let mut w = window(rt.alloc(), 1024, 1024)?;
+    w.copy_in(0, image.as_slice());
+    match open::<SeqFit, Global, Global>(rt.alloc(), w) {
+        Ok(mut segment) => {
+            assert_eq!(rt; save(rt.alloc(), &segment)?.as_slice(), image.as_slice());
+            assert!(rt; segment.destroy(b"b", SHARED));
+            assert_eq!(rt; segment.free_memory(), 320);
+            assert_eq!(rt; first_fault(rt.alloc(), segment.window()), None);
             Ok(())
         }
         Err((fault, _)) => Err(Fail::from(fault)),

@@ -9,8 +9,9 @@
 //!
 //! A change is `at=word`, where the word may also be `low,high`, its halves, or `'ab'`, its bytes; `at:number` for a number of 64
 //! bits; `at->named` or `at->null` for a pointer. A block is `named`, an `object` (`unique` where its type's word for unique objects
-//! names it), a `buffer`, a `node`, or of the names an `index` or an `index_node`. A fault is told by what is wrong, `header`, `type`,
-//! `block`, `free`, `index`, `pointer`, `twice` for two owners, `unowned` or `value`, and where; `sound` is none.
+//! names it), a `buffer`, a `node`, of the names an `index` or an `index_node`, or `frozen`, an object that cells share. A fault is
+//! told by what is wrong, `header`, `type`, `block`, `free`, `index`, `pointer`, `twice` for two owners, `unowned` or `value`, and
+//! where; `sound` is none. An image is of version 1 but where 8=2 says otherwise.
 
 use crate::tests::support::{first_fault, window};
 use seg_ptr::Window;
@@ -31,6 +32,8 @@ const NODE: u32 = 4;
 const INDEX_BUFFER: u32 = 5;
 
 const INDEX_NODE: u32 = 6;
+
+const FROZEN: u32 = 7;
 
 /// The bit of a header's first word that says that the block is live.
 const LIVE: u32 = 1 << 31;
@@ -229,6 +232,7 @@ fn kind_of(word: &str) -> Option<u8> {
         "map" => 6,
         "own" => 7,
         "struct" => 8,
+        "shared" => 9,
         _ => return None,
     })
 }
@@ -242,6 +246,7 @@ fn tag_of(kind: &str, t: &str) -> Option<u32> {
         "node" => NODE,
         "index" => INDEX_BUFFER,
         "index_node" => INDEX_NODE,
+        "frozen" => FROZEN,
         _ => return None,
     };
     Some(kind.wrapping_add(type_id(t)?.wrapping_mul(256)))

@@ -39,8 +39,34 @@ fn answers_the_earliest_fault(rt: HostRuntime) -> Result<(), Fail> {
         => block 704
         112=9
         => type 3
-        8=2
+        8=3
         => header",
+    )
+}
+
+/// What frozen objects count comes after all values and before blocks that nothing owns. The lowest object nobody names.
+#[test]
+fn answers_counts_after_values(rt: HostRuntime) -> Result<(), Fail> {
+    checks(
+        rt.alloc(),
+        "8=2 28=1
+        type i64
+        type shared t0
+        type own t0
+        720 object t0 2
+        752 unique t1 2
+        784 unique t2 2
+        816 frozen t0 2
+        752->816 756=1
+        784->null 788=0
+        816=1
+        => unowned 704
+        816=2
+        => value 816
+        788=2
+        => value 784
+        752->784
+        => pointer 752",
     )
 }
 

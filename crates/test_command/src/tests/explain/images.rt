@@ -1,5 +1,5 @@
 use crate::tests::explain::sources::{clients_alone, image_alone, is};
-use crate::tests::files::counter_where;
+use crate::tests::files::{FROZEN_PAIR, counter_where};
 use lezgauri::check;
 use seg_explain::explain;
 use seg_raw::Fault;
@@ -22,12 +22,27 @@ fn explained(alloc: Global, changes: &str) -> Result<Vec<u8>, Fail> {
 const CASES: &str = "
 === 0=0
 the first 8 bytes should be `SEGIMAGE`: the file is no image
+=== 8=3
+the version at byte 8 is 3, and should be 1 or 2
+=== 28=1
+bytes 28 to 31 and 40 to 63 should be 0
+=== 8=2 40=1
+bytes 40 to 63 should be 0
 === 12=50
 the length in units at byte 12 is 50, and should be 49
 === 16=2
 the allocator at byte 16 is 2, and should be 0 (sequential fit) or 1 (best fit)
 === 64=0x0101
 the entry of type 0 begins at byte 64
+i64 and str should have no part, a struct 1 to 8, and any other type one
+=== 80=0x109 ; a kind that only version 2 has
+the entry of type 1 begins at byte 80
+the kind of a type should be 1 to 8, and an unused entry, which is all 0, be followed by such alone
+=== 8=2 80=0x10a
+the entry of type 1 begins at byte 80
+the kind of a type should be 1 to 9, and an unused entry, which is all 0, be followed by such alone
+=== 8=2 80=0x209
+the entry of type 1 begins at byte 80
 i64 and str should have no part, a struct 1 to 8, and any other type one
 === 740=3 ; the units of the block before
 byte 736 lies in the block at 736, the index's buffer, in the block's header
@@ -57,6 +72,32 @@ fn explains(alloc: Global, case: &str) -> Result<(), Fail> {
     let (changes, wanted) = case.split_once('\n').ok_or("no case")?;
     let changes = changes.split_once(';').map_or(changes, |parts| parts.0);
     is(&explained(alloc, changes)?, wanted)
+}
+
+/// Words of the image of a frozen pair, each with what is wrong then.
+const FROZEN_CASES: &str = "
+=== 752=2 ; the count
+byte 752 lies in the block at 736, a frozen object of type 2, at byte 0 of its payload
+a frozen object should count the cells that name it, and have a number below the one at byte 28
+=== 724=2 ; a cell that says it names two
+byte 720 lies in the unique object of type 1, at byte 0 of its values
+a list should be a ring, a map a red-black tree with ascending keys, each with as many nodes as it says, and a \
+pointer null exactly where there are none
+a cell that shares should name a frozen object exactly where it says 1, and one with a lower number where it stands \
+in a frozen object itself
+=== 744=514 ; an object that isn't frozen
+byte 720 lies in the unique object of type 1, at byte 0 of its values
+the pointer there names byte 752, in the block at 736, an object without a name, of type 2, at byte 0 of its payload
+it should name the first payload byte of a live block of the right kind and type, with enough room
+";
+
+#[test]
+fn explains_faulty_frozen_objects(rt: HostRuntime) -> Result<(), Fail> {
+    for case in FROZEN_CASES.split("=== ").skip(1) {
+        let case = format!(in rt.alloc(); "{FROZEN_PAIR} {case}")?;
+        explains(rt.alloc(), case.as_str())?;
+    }
+    Ok(())
 }
 
 #[test]
