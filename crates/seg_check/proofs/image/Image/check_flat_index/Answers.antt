@@ -59,7 +59,7 @@ returns-in_err-start g c = λ p named counted ready flat.
 
 pub returns-then-count-eq0 : goal.returns-then-count-eq0
 returns-then-count-eq0 g c = λ p named counted ready flat can.
-    flat_some c.args.self.now.w.now.bytes c.args.self.now.types.now flat p c.args.count named counted c.args.claims.now.unclaimed can (omega arith)
+    flat_some c.args.self.now.w.now.bytes c.args.self.now.types.now flat p c.args.count named counted c.args.claims.now can (omega arith)
 
 pub returns-in_err-before : goal.returns-in_err-before
 returns-in_err-before g c = λ p named counted ready flat.
