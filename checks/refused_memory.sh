@@ -71,6 +71,7 @@ try map counter.image --svg heap.svg
 try trace counter.image increment.client
 try grow counter.image 64
 try shrink table.image
+try upgrade counter.image
 try asm increment.text assembled.client
 try print increment.client
 try_on "$segrun" counter.image saved.image increment.client

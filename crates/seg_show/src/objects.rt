@@ -18,8 +18,9 @@ pub fn all_objects<F: Fit>(
     segment: &Segment<F, Global>,
     extent: Extent,
 ) -> Result<Vec<u8>, AllocError> {
-    let mut shown = Shown::new(alloc, segment.heap(), extent)?;
-    for root in &roots(alloc, segment)? {
+    let roots = roots(alloc, segment)?;
+    let mut shown = Shown::new(alloc, segment.heap(), extent, roots.as_slice())?;
+    for root in &roots {
         shown.add_object(root)?;
     }
     Ok(shown.lines.into_bytes())
@@ -32,9 +33,10 @@ pub fn one_object<F: Fit>(
     name: &[u8],
     extent: Extent,
 ) -> Result<Option<Vec<u8>>, AllocError> {
-    let mut shown = Shown::new(alloc, segment.heap(), extent)?;
+    let roots = roots(alloc, segment)?;
+    let mut shown = Shown::new(alloc, segment.heap(), extent, roots.as_slice())?;
     let mut found = false;
-    for root in &roots(alloc, segment)? {
+    for root in &roots {
         if root.is_named(name) || shown.names(root.first.at) {
             shown.add_object(root)?;
             found = true;
@@ -49,7 +51,8 @@ struct Shown<'h, F: Fit> {
     heap: &'h Heap<F, Global>,
     extent: Extent,
     lines: Lines,
-    /// For each unit of the segment, whether a cell in these lines names the frozen object whose value begins in it.
+    /// For each unit of the segment, whether a cell in these lines names the frozen object whose value begins in it. Empty where
+    /// no object is frozen.
     named: Vec<bool>,
 }
 
@@ -58,8 +61,13 @@ impl<'h, F: Fit> Shown<'h, F> {
         alloc: Global,
         heap: &'h Heap<F, Global>,
         extent: Extent,
+        roots: &[Root],
     ) -> Result<Shown<'h, F>, AllocError> {
-        let units = heap.window().len() / UNIT;
+        let units = if roots.iter().any(|root| root.is_frozen()) {
+            heap.window().len() / UNIT
+        } else {
+            0
+        };
         Ok(Shown {
             heap,
             extent,

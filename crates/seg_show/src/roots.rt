@@ -32,6 +32,10 @@ impl Root<'_> {
         }
     }
 
+    pub(crate) fn is_frozen(&self) -> bool {
+        matches!(self.name, RootName::Frozen { .. })
+    }
+
     /// A frozen object's number, 0 of any other.
     fn number(&self) -> u32 {
         match self.name {

@@ -1,8 +1,9 @@
 use crate::tests::door::{Host, types_in};
+use crate::tests::runs::{leaves, run_on};
 use lezgauri::{Ended, Fault, Report, Type};
 use lezgauri_uses::new_counter;
 use std::test::Fail;
-use support_data::{INCREMENT_FILE, counter};
+use support_data::{COUNT, INCREMENT_FILE, counter, sharing};
 
 /// Two runs of one client on an image that stays open: 41 + 1 + 1. Each takes six steps, as `ELSE` and `END` are none.
 #[test]
@@ -23,6 +24,21 @@ fn clients_run_in_turn(rt: HostRuntime) -> Result<(), Fail> {
     let x = image.find(b"x", 0)?;
     assert_eq!(rt; image.load(x)?, 43);
     assert!(rt; types_in(rt.alloc(), image.save(rt.alloc())?.as_slice()).is_ok());
+    Ok(())
+}
+
+/// A client makes its number in the lowest gap, beside a frozen one: the cell that names this and its block stay as they are.
+#[test]
+fn clients_run_beside_a_frozen_object(rt: HostRuntime) -> Result<(), Fail> {
+    let image = sharing(rt.alloc())?;
+    let ran = run_on(rt.alloc(), image.as_slice(), &[COUNT, COUNT])?;
+    leaves(&rt, &ran, "1\n2\n", 208 - 32, 2)?;
+    for block in [784..816, 848..880] {
+        assert_eq!(rt;
+            ran.image.as_slice().get(block.clone()),
+            image.as_slice().get(block)
+        );
+    }
     Ok(())
 }
 

@@ -104,7 +104,10 @@ fn host_bytes_stay_where_it_moves(rt: HostRuntime) -> Result<(), Fail> {
 fn an_image_stays_where_it_was(rt: HostRuntime) -> Result<(), Fail> {
     let region = increments(&rt, 0, &[before(5, 4096)])?;
     assert_eq!(rt; region.len(), ROOM);
-    assert_eq!(rt; region.slice(0, 784), counter_saved(rt.alloc(), 41)?.as_slice());
+    assert_eq!(rt;
+        region.slice(0, 784),
+        counter_saved(rt.alloc(), 41)?.as_slice()
+    );
     Ok(())
 }
 
