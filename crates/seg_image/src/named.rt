@@ -1,5 +1,4 @@
 ghost use Rattle.std.specs.Prelude.{◌≡◌, ℕ, ◌<◌, ◌≤◌, false, length, None, Err, IsSomeAnd, IsTrue, IfErr, IfOk, OnOk, MatchOption, MatchResult, slice_get, is_ok};
-ghost use Rattle.seg_spec.specs.Counting.{AreCounted};
 ghost use Rattle.seg_spec.specs.Index.{root_named};
 ghost use Rattle.seg_spec.specs.Sound.{Picture};
 ghost use Rattle.seg_spec.specs.Spending.{object_asks};
@@ -126,8 +125,7 @@ impl<A: Allocator> Image<A> {
         ensures bytes { ChangesBytes self.old self.new }
         ensures tells { (picture : Picture) → IsOpen self.old picture →
             result ≡ is_ok (found_as t (root_named picture.names name.now)) }
-        ensures loses { (next : ℕ) (picture : Picture) → (s : IsOpen self.old picture) →
-            AreCounted next picture → IsTrue result →
+        ensures loses { (picture : Picture) → (s : IsOpen self.old picture) → IsTrue result →
             LosesNamed (allocator_of self.old) (segment_of self.old) (segment_of self.new)
             picture s.held.index_blocks name.now t }
         ensures unchanged { result ≡ false → self.new ≡ self.old }

@@ -1,5 +1,4 @@
 ghost use Rattle.std.specs.Prelude.{◌≡◌, ℕ, ◌<◌, ◌≤◌, false, length, None, Some, Err, IsTrue, IfOk, MatchResult};
-ghost use Rattle.seg_spec.specs.Counting.{AreCounted};
 ghost use Rattle.seg_spec.specs.Sound.{Picture};
 ghost use Rattle.seg_manager.specs.Segments.{unique_at, MakesUnique, FindsOrMakes, RefusesUnique, LosesUnique};
 ghost use Rattle.seg_image.specs.Images.{segment_of, allocator_of, types_of, IsOpen, ChangesBytes};
@@ -67,8 +66,7 @@ impl<A: Allocator> Image<A> {
     pub fn destroy_unique(&mut self, t: TypeId) -> bool
         ensures bytes { ChangesBytes self.old self.new }
         ensures unknown { length (types_of self.old) ≤ t → result ≡ false }
-        ensures loses { (next : ℕ) (picture : Picture) → IsOpen self.old picture →
-            AreCounted next picture → IsTrue result →
+        ensures loses { (picture : Picture) → IsOpen self.old picture → IsTrue result →
             LosesUnique (allocator_of self.old) (segment_of self.old) (segment_of self.new)
             picture t }
         ensures none { (picture : Picture) → IsOpen self.old picture →

@@ -8,8 +8,8 @@ on_ok (Err x) P h e = absurd (cc)
 
 pub returns-in-Seq-clause-loses : goal.returns-in-Seq-clause-loses
 returns-in-Seq-clause-loses g c =
-    rw c.in-Seq.is (λ next picture held counted done. c.destroy_unique.ensures.loses next picture held counted (on_ok c.known.result _ c.known.ensures.few (sym c.is_err.ensures.value ∙ c.if-is_err.false)) done)
+    rw c.in-Seq.is (λ picture held done. c.destroy_unique.ensures.loses picture held (on_ok c.known.result _ c.known.ensures.few (sym c.is_err.ensures.value ∙ c.if-is_err.false)) done)
 
 pub returns-in-Best-clause-loses : goal.returns-in-Best-clause-loses
 returns-in-Best-clause-loses g c =
-    rw c.in-Best.is (λ next picture held counted done. c.destroy_unique-in-Best.ensures.loses next picture held counted (on_ok c.known.result _ c.known.ensures.few (sym c.is_err.ensures.value ∙ c.if-is_err.false)) done)
+    rw c.in-Best.is (λ picture held done. c.destroy_unique-in-Best.ensures.loses picture held (on_ok c.known.result _ c.known.ensures.few (sym c.is_err.ensures.value ∙ c.if-is_err.false)) done)

@@ -20,7 +20,7 @@ returns-in-Seq-clause-puts g c = rw (c.in-Seq.is, ← c.heap_mut.ensures.value, 
     subst (λ (u : ℕ). MatchResult c.put_new.result
     (λ at. BesideShared old.window.bytes old.types (stands.home ∷ blocks) (named_in v) (PutsNew 0 old.window.bytes new.window.bytes old.types (place_of c.args.own) u blocks at))
     (LacksRoom 0 old new (one_value old.types u)))
-    same (c.put_new.ensures.puts v blocks (subst (λ (u : ℕ). form_at old.types c.args.own.type_id ≡ Some (Form.own u)) (sym same) form) stands version))
+    same (c.put_new.ensures.puts v blocks (subst (λ (u : ℕ). form_at old.types c.args.own.type_id ≡ Some (Form.own u)) (sym same) form) stands))
 
 pub returns-in-Best-clause-puts : goal.returns-in-Best-clause-puts
 returns-in-Best-clause-puts g c = rw (c.in-Best.is, ← c.heap_mut-in-Best.ensures.value, c.placed-in-Best.ensures.position) (λ U v blocks form stands.
@@ -32,4 +32,4 @@ returns-in-Best-clause-puts g c = rw (c.in-Best.is, ← c.heap_mut-in-Best.ensur
     subst (λ (u : ℕ). MatchResult c.put_new-in-Best.result
     (λ at. BesideShared old.window.bytes old.types (stands.home ∷ blocks) (named_in v) (PutsNew 1 old.window.bytes new.window.bytes old.types (place_of c.args.own) u blocks at))
     (LacksRoom 1 old new (one_value old.types u)))
-    same (c.put_new-in-Best.ensures.puts v blocks (subst (λ (u : ℕ). form_at old.types c.args.own.type_id ≡ Some (Form.own u)) (sym same) form) stands version))
+    same (c.put_new-in-Best.ensures.puts v blocks (subst (λ (u : ℕ). form_at old.types c.args.own.type_id ≡ Some (Form.own u)) (sym same) form) stands))
