@@ -12,7 +12,7 @@ use Rattle.client_spec.specs.Syntax.{Client}
 use Rattle.client_spec.specs.Grammar.{SpellsClient}
 use Rattle.client_spec.specs.Run.{Ending, finished, stopped, stuck}
 use Rattle.client_spec.specs.OnImages.{Move, Given, Left}
-use Rattle.client_spec.specs.Clients.{AreMoves, AreAccepted, GoesOn, RunClients, StayWithin, outputs, image_after, ending_after}
+use Rattle.client_spec.specs.Clients.{AreAccepted, GoesOn, RunClients, StayWithin, outputs, image_after, ending_after}
 use Rattle.client_sim.specs.Writes.{Took}
 use Rattle.client_sim.proofs.Printing.{took_more}
 use Rattle.client_run.specs.declared.report.Report.{Report}
