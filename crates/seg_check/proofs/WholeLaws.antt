@@ -21,6 +21,8 @@ use Rattle.seg_check.specs.Resolving.{Resolves}
 use Rattle.seg_check.specs.Cells.{Owned}
 use Rattle.seg_check.specs.Roots.{uniques_ahead, ResolvesRoots, ResolvesIndex, AdvancesIndex, AdvancesUniques}
 use Rattle.seg_check.proofs.StepLaws.{resolves_swap, waiting-append, turns_both}
+use Rattle.seg_check.proofs.FrozenList as frozen_list
+use Rattle.seg_check.proofs.FrozenRead as frozen_read
 use Rattle.seg_check.proofs.HeapLaws.{is_heap}
 use Rattle.seg_spec.specs.Frozen.{root_of_frozen}
 use Rattle.seg_spec.proofs.NoFrozen.{no_frozen}
