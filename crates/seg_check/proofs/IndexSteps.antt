@@ -1,11 +1,14 @@
 -- The index, whose blocks were claimed, or can't be.
-use Rattle.std.proofs.Common.{◌≡◌, ℕ, zero, suc, ◌+◌, ◌-◌, ◌*◌, ◌<◌, ◌≤◌, ◌⊎◌, inl, inr, List, [], ◌∷◌, ◌++◌, length, map, Some, None, refl, sym, ap, ◌∙◌, subst, arith}
+use Rattle.std.proofs.Common.{◌≡◌, ℕ, zero, suc, ◌+◌, ◌-◌, ◌*◌, ◌%◌, ◌<◌, ◌≤◌, ◌⊎◌, inl, inr, ⊎_elim, Option, List, [], ◌∷◌, ◌++◌, length, map, Some, None, refl, sym, ap, ◌∙◌, subst, arith}
 use Rattle.seg_spec.specs.Bytes.{word}
 use Rattle.seg_spec.specs.Header.{index_kind_word, index_cell}
 use Rattle.seg_spec.specs.Pointer.{target}
 use Rattle.seg_spec.specs.Types.{Table}
-use Rattle.seg_spec.specs.Block.{Kind, IsBlock, block_of, tag_of}
-use Rattle.seg_spec.specs.Reads.{Place, named, start, count_at, spaced}
+use Rattle.seg_spec.specs.Heap.{tag_at}
+use Rattle.seg_spec.proofs.OwnedTags.{index_other}
+use Rattle.std.proofs.lemmas.Bool.{cases_eq}
+use Rattle.seg_spec.specs.Block.{Kind, kind_number, IsBlock, block_of, tag_of}
+use Rattle.seg_spec.specs.Reads.{named, start, count_at, spaced}
 use Rattle.seg_spec.specs.Shapes.{Tree, leaf, nodes_of, IsTree, tree_words}
 use Rattle.seg_spec.specs.Index.{Root, Index, OpensFlat, OpensTreeIndex, OpensIndex, AreEntries, AreAscending}
 use Rattle.seg_spec.specs.Sound.{times, SameBlocks}
@@ -13,10 +16,12 @@ use Rattle.seg_spec.proofs.LiveLaws.{times-append, times-same}
 use Rattle.seg_spec.proofs.OneReading.{IsTree-one}
 use Rattle.seg_check.specs.Claiming.{CanClaim}
 use Rattle.seg_check.specs.Marks.{Known, ClaimsAll, Within}
-use Rattle.seg_check.specs.Turns.{waiting}
+use Rattle.seg_check.specs.Naming.{SameOthers, Finds}
+use Rattle.seg_check.specs.Turns.{Limited, awaited}
 use Rattle.seg_check.specs.Resolving.{IsReady}
 use Rattle.seg_check.specs.Roots.{Ahead, names_ahead, uniques_ahead, ResolvesRoots, ResolvesIndex, CanResolveRoots, CanResolveIndex, AdvancesRoots, AdvancesIndex}
-use Rattle.seg_check.proofs.StepLaws.{within_taken, within_trans, ready_within}
+use Rattle.seg_check.proofs.NamingLaws.{other_block, none_frozen, finds_claimed, finds_more}
+use Rattle.seg_check.proofs.StepLaws.{within_taken, within_trans, ready_found}
 use Rattle.seg_check.proofs.OpenLaws.{named_some, named_none, start_some, names_room, no_room, none_counted, can_claim}
 use Rattle.seg_check.proofs.RootSteps.{roots_none}
 use Rattle.seg_check.specs.Claiming.{ClaimsBlock, turns_where, has_turns}
@@ -29,8 +34,8 @@ rest_same : (h : ℕ) (u v blocks rest : List ℕ) → times h u ≡ times h (bl
 rest_same h u v blocks rest e f = omega (arith, times-append h blocks v, times-append h blocks rest)
 
 module _ (bytes : List ℕ) (table : Table) where
-  roots_moved : (u v l : List ℕ) (ahead : Ahead) (places : List Place) → SameBlocks u v → ResolvesRoots bytes table u l ahead places → ResolvesRoots bytes table v l ahead places
-  roots_moved u v l ahead places same r = record {
+  roots_moved : (below : Option ℕ) (u v l : List ℕ) (ahead : Ahead) (places : List Limited) (found : List ℕ) → SameOthers bytes u v → ResolvesRoots bytes table below u l ahead places found → ResolvesRoots bytes table below v l ahead places found
+  roots_moved below u v l ahead places found same r = record {
     names = r.names;
     uniques = r.uniques;
     root_blocks = r.root_blocks;
@@ -41,13 +46,16 @@ module _ (bytes : List ℕ) (table : Table) where
     rising = r.rising;
     plain = r.plain;
     roots = r.roots;
+    named = r.named;
+    others = r.others;
     resolves = r.resolves;
-    owners = λ h. sym (same h) ∙ r.owners h;
+    owners = λ h other. sym (same h other) ∙ r.owners h other;
+    found_are = r.found_are;
   }
 
   -- after the last entry its name doesn't matter
-  other_last : (u l x y : List ℕ) (places : List Place) → ResolvesRoots bytes table u l (names_ahead [] x) places → ResolvesRoots bytes table u l (names_ahead [] y) places
-  other_last u l x y places r = record {
+  other_last : (below : Option ℕ) (u l x y : List ℕ) (places : List Limited) (found : List ℕ) → ResolvesRoots bytes table below u l (names_ahead [] x) places found → ResolvesRoots bytes table below u l (names_ahead [] y) places found
+  other_last below u l x y places found r = record {
     names = r.names;
     uniques = r.uniques;
     root_blocks = r.root_blocks;
@@ -58,8 +66,11 @@ module _ (bytes : List ℕ) (table : Table) where
     rising = r.rising;
     plain = r.plain;
     roots = r.roots;
+    named = r.named;
+    others = r.others;
     resolves = r.resolves;
     owners = r.owners;
+    found_are = r.found_are;
   }
     where
       one : (names : List Root) → AreEntries bytes [] names → AreAscending (y ∷ map (λ (x : Root). x.name) names)
@@ -69,37 +80,55 @@ module _ (bytes : List ℕ) (table : Table) where
   module _ (old mid : Known) (index : Index) (opens : OpensIndex bytes (word bytes index_kind_word) index)
       (one : (other : Index) → OpensIndex bytes (word bytes index_kind_word) other → other ≡ index) (claims : ClaimsAll old mid index.blocks [])
     where
-      names_left : (left : List ℕ) → ResolvesIndex bytes table old.unclaimed left → ResolvesRoots bytes table mid.unclaimed left (names_ahead index.entries []) []
-      names_left left r =
+      names_left : (below : Option ℕ) (left : List ℕ) (places : List Limited) (found : List ℕ) → ResolvesIndex bytes table below old.unclaimed left places found
+          → ResolvesRoots bytes table below mid.unclaimed left (names_ahead index.entries []) places found
+      names_left below left places found r =
           let same = one r.index r.opens in
-          roots_moved r.rest mid.unclaimed left (names_ahead index.entries []) []
-          (λ h. rest_same h old.unclaimed mid.unclaimed index.blocks r.rest (claims.claimed h) (r.owners h ∙ ap (λ (x : Index). times h (x.blocks ++ r.rest)) same))
-          (subst (λ (x : Index). ResolvesRoots bytes table r.rest left (names_ahead x.entries []) []) same r.roots)
+          roots_moved below r.rest mid.unclaimed left (names_ahead index.entries []) places found
+          (λ h other. rest_same h old.unclaimed mid.unclaimed index.blocks r.rest (claims.claimed h) (r.owners h other ∙ ap (λ (x : Index). times h (x.blocks ++ r.rest)) same))
+          (subst (λ (x : Index). ResolvesRoots bytes table below r.rest left (names_ahead x.entries []) places found) same r.roots)
+
+      -- no block of an index is a frozen object
+      index_finds : Finds bytes old mid []
+      index_finds = finds_claimed bytes old mid index.blocks [] claims (index_other bytes (word bytes index_kind_word) index opens) tt
 
       pub index_names : CanResolveIndex bytes table old → CanResolveRoots bytes table mid (names_ahead index.entries [])
-      index_names can = record { left = can.left; places = []; resolves = names_left can.left can.resolves }
+      index_names can = record {
+        left = can.left;
+        places = can.places;
+        found = can.found;
+        resolves = subst (λ k. ResolvesRoots bytes table k mid.unclaimed can.left (names_ahead index.entries []) can.places can.found) (sym index_finds.below_kept)
+            (names_left old.naming.below can.left can.places can.found can.resolves);
+      }
 
       pub index_ready : IsReady bytes table old → IsReady bytes table mid
-      index_ready ready = ready_within bytes table old mid ready (within_taken old.unclaimed mid.unclaimed index.blocks claims.claimed)
+      index_ready ready = ready_found bytes table old mid [] ready (within_taken old.unclaimed mid.unclaimed index.blocks claims.claimed) index_finds
 
       pub index_advance : (new : Known) (last : List ℕ) → AdvancesRoots bytes table mid new (names_ahead index.entries []) (names_ahead [] last) → AdvancesIndex bytes table old new
-      index_advance new last a = record {
-        turns = a.turns;
-        turns_are = a.turns_are ∙ ap (λ ts. ts ++ a.turns) (claims.turns_are ∙ append-nil old.turns);
-        are_turns = a.are_turns;
-        within = within_trans new.unclaimed mid.unclaimed old.unclaimed a.within (within_taken old.unclaimed mid.unclaimed index.blocks claims.claimed);
-        counted = λ k. a.counted (claims.counted k);
-        forth = λ left r. subst (λ ps. ResolvesRoots bytes table new.unclaimed left uniques_ahead ps) (append-nil (waiting bytes table a.turns))
-            (other_last new.unclaimed left last [] (waiting bytes table a.turns ++ []) (a.forth left [] (names_left left r)));
-        back = λ left r. record {
-          index = index;
-          opens = opens;
-          rest = mid.unclaimed;
-          roots = a.back left [] (other_last new.unclaimed left [] last (waiting bytes table a.turns ++ [])
-              (subst (λ ps. ResolvesRoots bytes table new.unclaimed left uniques_ahead ps) (sym (append-nil (waiting bytes table a.turns))) r));
-          owners = claims.claimed;
-        };
-      }
+      index_advance new last a =
+          let below = old.naming.below in
+          let kept = index_finds.below_kept in
+          record {
+            turns = a.turns;
+            turns_are = a.turns_are ∙ ap (λ ts. ts ++ a.turns) (claims.turns_are ∙ append-nil old.turns);
+            are_waiting = a.are_waiting;
+            within = within_trans new.unclaimed mid.unclaimed old.unclaimed a.within (within_taken old.unclaimed mid.unclaimed index.blocks claims.claimed);
+            counted = λ k. a.counted (claims.counted k);
+            finds = finds_more bytes old mid new [] [] index_finds a.finds;
+            forth = λ left places found r.
+                let one = subst (λ k. ResolvesRoots bytes table k mid.unclaimed left (names_ahead index.entries []) places found) (sym kept) (names_left below left places found r) in
+                other_last below new.unclaimed left last [] (awaited bytes table a.turns ++ places) found
+                (subst (λ k. ResolvesRoots bytes table k new.unclaimed left (names_ahead [] last) (awaited bytes table a.turns ++ places) found) kept (a.forth left places found one));
+            back = λ left places found r. record {
+              index = index;
+              opens = opens;
+              rest = mid.unclaimed;
+              roots = subst (λ k. ResolvesRoots bytes table k mid.unclaimed left (names_ahead index.entries []) places found) kept (a.back left places found
+                  (subst (λ k. ResolvesRoots bytes table k new.unclaimed left (names_ahead [] last) (awaited bytes table a.turns ++ places) found) (sym kept)
+                  (other_last below new.unclaimed left [] last (awaited bytes table a.turns ++ places) found r)));
+              owners = λ h other. claims.claimed h;
+            };
+          }
 
   -- ---- no index
 
@@ -140,17 +169,20 @@ module _ (bytes : List ℕ) (table : Table) where
     pub index_empty : (old : Known) → word bytes index_kind_word ≤ 1 → count_at bytes index_cell ≡ 0 → AdvancesIndex bytes table old old
     index_empty old l n =
         index_advance old old (record { blocks = []; entries = [] }) (opens_empty (word bytes index_kind_word) l n) (one_empty (word bytes index_kind_word) l n)
-        (record { claimed = λ h. refl; counted = λ c. c; turns_are = sym (append-nil old.turns) }) old [] (roots_none bytes table old (names_ahead [] []))
+        (record { claimed = λ h. refl; counted = λ c. c; turns_are = sym (append-nil old.turns); naming_kept = refl }) old [] (roots_none bytes table old (names_ahead [] []))
 
     counts_none : (k : ℕ) (index : Index) → OpensIndex bytes k index → count_at bytes index_cell ≡ 0
     counts_none zero index o = none_counted bytes index_cell (tag_of Kind.index_buffer 0) 8 none o.named_room
     counts_none (suc k) index o = sym o.counted ∙ ap (λ t. length (nodes_of t)) (no_tree o.tree o.is_tree)
 
-    pub index_counts : (u : List ℕ) → CanResolveIndex bytes table u → count_at bytes index_cell ≡ 0
-    index_counts u can = counts_none (word bytes index_kind_word) can.resolves.index can.resolves.opens
+    pub index_counts : (known : Known) → CanResolveIndex bytes table known → count_at bytes index_cell ≡ 0
+    index_counts known can = counts_none (word bytes index_kind_word) can.resolves.index can.resolves.opens
 
-  pub index_within : (u : List ℕ) (can : CanResolveIndex bytes table u) → Within can.resolves.index.blocks u
-  index_within u can h = omega (arith, can.resolves.owners h, times-append h can.resolves.index.blocks can.resolves.rest)
+  pub index_within : (known : Known) (can : CanResolveIndex bytes table known) → Within can.resolves.index.blocks known.unclaimed
+  index_within known can h = ⊎_elim
+      (λ frozen. omega (arith, none_frozen bytes h can.resolves.index.blocks frozen (index_other bytes (word bytes index_kind_word) can.resolves.index can.resolves.opens)))
+      (λ other. omega (arith, can.resolves.owners h other, times-append h can.resolves.index.blocks can.resolves.rest))
+      (cases_eq (tag_at bytes h % 256) (kind_number Kind.frozen))
 
   -- ---- a flat index
 
@@ -176,8 +208,8 @@ module _ (bytes : List ℕ) (table : Table) where
     })
 
     -- it has entries
-    pub flat_some : (u : List ℕ) → CanResolveIndex bytes table u → n ≡ 0 → ⊥
-    flat_some u can e =
+    pub flat_some : (known : Known) → CanResolveIndex bytes table known → n ≡ 0 → ⊥
+    flat_some known can e =
         let none = (flat_of can.resolves.index can.resolves.opens).none_if_empty (sym counted ∙ e) in
         let both : Some p ≡ None = sym named_it ∙ none in
         cc
@@ -186,7 +218,7 @@ module _ (bytes : List ℕ) (table : Table) where
     flat_can old can =
         let o = flat_of can.resolves.index can.resolves.opens in
         subst (λ m. CanClaim bytes old index_cell (tag_of Kind.index_buffer 0) (m * 8)) (sym counted)
-        (can_claim bytes old index_cell (tag_of Kind.index_buffer 0) 8 p named_it o.named_room (subst (λ (x : Index). Within x.blocks old.unclaimed) o.index_is (index_within old.unclaimed can)))
+        (can_claim bytes old index_cell (tag_of Kind.index_buffer 0) 8 p named_it o.named_room (subst (λ (x : Index). Within x.blocks old.unclaimed) o.index_is (index_within old can)))
 
     module _ (old mid : Known) (some : 1 ≤ n) (block : IsBlock bytes p (tag_of Kind.index_buffer 0) (n * 8)) (claims : ClaimsAll old mid (block_of p ∷ []) []) where
       pub flat_names : CanResolveIndex bytes table old → CanResolveRoots bytes table mid (names_ahead (spaced p 8 n) [])
@@ -196,6 +228,11 @@ module _ (bytes : List ℕ) (table : Table) where
       pub flat_advance : (new : Known) (last : List ℕ) → AdvancesRoots bytes table mid new (names_ahead (spaced p 8 n) []) (names_ahead [] last) → AdvancesIndex bytes table old new
       unfolding flat_index
       flat_advance = index_advance old mid flat_index (flat_opens some block) flat_one claims
+
+  -- its buffer is no frozen object
+  pub flat_ready : (old mid : Known) (p : ℕ) {n : ℕ} → IsReady bytes table old → ClaimsAll old mid (block_of p ∷ []) [] → IsBlock bytes p (tag_of Kind.index_buffer 0) n → IsReady bytes table mid
+  flat_ready old mid p {n = n} ready claims block = ready_found bytes table old mid [] ready (within_taken old.unclaimed mid.unclaimed (block_of p ∷ []) claims.claimed)
+      (finds_claimed bytes old mid (block_of p ∷ []) [] claims (other_block bytes p (tag_of Kind.index_buffer 0) n (λ e. absurd (omega (arith, e))) block, tt) tt)
 
   -- ---- entries one after the other
 

@@ -1,10 +1,12 @@
 -- An entry of the index and its object, which was claimed, or can't be.
-use Rattle.std.proofs.Common.{◌≡◌, ℕ, zero, suc, ◌+◌, ◌*◌, ◌<◌, ◌≤◌, Bool, true, false, List, [], ◌∷◌, ◌++◌, length, map, Option, Some, refl, sym, ap, ◌∙◌, subst, arith}
+use Rattle.std.proofs.Common.{◌≡◌, ℕ, zero, suc, ◌+◌, ◌*◌, ◌%◌, ◌<◌, ◌≤◌, Bool, true, false, List, [], ◌∷◌, ◌++◌, length, map, Option, Some, refl, sym, ap, ◌∙◌, subst, arith}
 use Rattle.seg_spec.specs.Bytes.{slice, half, byte}
 use Rattle.seg_spec.specs.Pointer.{target}
 use Rattle.seg_spec.specs.Types.{Table, form_at, size}
 use Rattle.seg_spec.specs.Value.{Values, count}
-use Rattle.seg_spec.specs.Block.{Kind, IsBlock, AllowsType, block_of, tag_of}
+use Rattle.std.specs.List.{AllByRecursion}
+use Rattle.seg_spec.specs.Counting.{cells_in}
+use Rattle.seg_spec.specs.Block.{Kind, kind_number, IsBlock, AllowsType, block_of, tag_of}
 use Rattle.seg_spec.specs.Owing.{entries_at}
 use Rattle.seg_spec.specs.Reads.{Place, items, spaced, HoldsEach, holds_none, holds_more, holds}
 use Rattle.seg_spec.specs.Index.{Root, plain_root, IsName, IsEntry, AreEntries, AreAscending, Precedes}
@@ -16,15 +18,19 @@ use Rattle.seg_spec.proofs.RootLaws.{HoldsRoots-split, HoldsRoots-only}
 use Rattle.seg_spec.proofs.BytesLaws.{length-slice}
 use Rattle.seg_layout.specs.Forms.{has_cells}
 use Rattle.seg_check.specs.Claiming.{CanClaim, ClaimsBlock, turns_where}
-use Rattle.seg_check.specs.Marks.{Known}
-use Rattle.seg_check.specs.Turns.{AreLow, AreKnown, AreTurns, places_in, places_with, waiting, with_cells}
-use Rattle.seg_check.specs.Resolving.{Resolves, IsReady}
+use Rattle.seg_check.specs.declared.marks.Turn.{Turn}
+use Rattle.seg_check.specs.Marks.{Known, awaiting}
+use Rattle.seg_check.specs.Naming.{IsFrozen, IsNamed}
+use Rattle.seg_check.specs.Turns.{Limited, limited, AreLow, AreKnown, AreTurns, AreWaiting, AreOthers, places_in, places_with, waiting, awaited, with_cells}
+use Rattle.seg_check.specs.Resolving.{ResolvesBy, IsReady}
 use Rattle.seg_check.specs.Roots.{names_ahead, ResolvesRoots, CanResolveRoots, AdvancesRoots, ClaimsNamed, CanClaimNamed}
 use Rattle.seg_index.specs.Names.{type_at, name_after, name_of}
 use Rattle.seg_index.proofs.NamedTags.{is_named, in_block}
 use Rattle.seg_check.proofs.TagNumbers.{one_tag}
 use Rattle.seg_check.proofs.TagLaws.{places_tagged, allowed_as}
-use Rattle.seg_check.proofs.StepLaws.{cells_forth, cells_back, within_taken}
+use Rattle.seg_check.proofs.ReadLaws.{positions_of}
+use Rattle.seg_check.proofs.NamingLaws.{other_block, finds_claimed}
+use Rattle.seg_check.proofs.StepLaws.{cells_forth, cells_back, within_taken, awaited_one, are_awaiting}
 use Rattle.seg_check.proofs.OpenLaws.{entries_low, known_places, claimed_waiting}
 use Rattle.seg_check.proofs.RootSteps.{joined, rooted}
 use Rattle.seg_spec.proofs.PlainRoots.{plain_of}
@@ -84,11 +90,35 @@ module _ (bytes : List ℕ) (table : Table) (old new : Known) (ready : IsReady b
   known : AreKnown table (items table p T n)
   known = known_places table T (spaced p (size table T) n) type_known
 
-  pub values_forth : (u l : List ℕ) (others : List Place) → Resolves bytes table u l (items table p T n ++ others) → Resolves bytes table u l (waiting bytes table (turns_where (has_cells (form_at table T)) p n) ++ others)
-  values_forth u l others r = subst (λ ps. Resolves bytes table u l (ps ++ others)) (sym waits) (cells_forth bytes table u l (items table p T n) others known r)
+  -- it is no frozen object
+  pub object_other : IsFrozen bytes (block_of p) → ⊥
+  object_other = other_block bytes p (tag_of (kind_with [] name) T) (n * size table T + length name) (kind_other name) c.is_block
+    where
+      kind_other : (name : List ℕ) → tag_of (kind_with [] name) T % 256 ≡ kind_number Kind.frozen → ⊥
+      kind_other [] e = absurd (omega arith)
+      kind_other (b ∷ name) e = absurd (omega arith)
 
-  pub values_back : (u l : List ℕ) (others : List Place) → Resolves bytes table u l (waiting bytes table (turns_where (has_cells (form_at table T)) p n) ++ others) → Resolves bytes table u l (items table p T n ++ others)
-  values_back u l others r = cells_back bytes table u l (items table p T n) others known (subst (λ ps. Resolves bytes table u l (ps ++ others)) waits r)
+  pub object_others : AreOthers bytes (turns_where (has_cells (form_at table T)) p n)
+  object_others = go (has_cells (form_at table T)) object_other
+    where
+      go : (b : Bool) → (IsFrozen bytes (block_of p) → ⊥) → AreOthers bytes (turns_where b p n)
+      go true other = (other, tt)
+      go false other = tt
+
+  module _ (below : Option ℕ) where
+    pub object_waits : AreWaiting bytes table (awaiting below (turns_where (has_cells (form_at table T)) p n))
+    object_waits = are_awaiting bytes table below (turns_where (has_cells (form_at table T)) p n) object_are_turns object_others
+
+    awaits : awaited bytes table (awaiting below (turns_where (has_cells (form_at table T)) p n)) ≡ limited below (with_cells table (items table p T n))
+    awaits = awaited_one bytes table below (turns_where (has_cells (form_at table T)) p n) object_others ∙ ap (limited below) waits
+
+    pub values_forth : (u l : List ℕ) (others : List Limited) (names : List ℕ) → ResolvesBy bytes table u l (limited below (items table p T n) ++ others) names
+        → ResolvesBy bytes table u l (awaited bytes table (awaiting below (turns_where (has_cells (form_at table T)) p n)) ++ others) names
+    values_forth u l others names r = subst (λ ps. ResolvesBy bytes table u l (ps ++ others) names) (sym awaits) (cells_forth bytes table u l below names (items table p T n) others known r)
+
+    pub values_back : (u l : List ℕ) (others : List Limited) (names : List ℕ) → ResolvesBy bytes table u l (awaited bytes table (awaiting below (turns_where (has_cells (form_at table T)) p n)) ++ others) names
+        → ResolvesBy bytes table u l (limited below (items table p T n) ++ others) names
+    values_back u l others names r = cells_back bytes table u l below names (items table p T n) others known (subst (λ ps. ResolvesBy bytes table u l (ps ++ others) names) awaits r)
 
 -- ---- entries
 
@@ -129,15 +159,19 @@ module _ (bytes : List ℕ) (table : Table) where
     block_named : IsBlock bytes p (tag_of Kind.named T) (n * size table T + length name)
     block_named = subst (λ k. IsBlock bytes p (tag_of k T) (n * size table T + length name)) (kind_named name is_name.not_empty) c.is_block
 
-    entry_forth : (l es last : List ℕ) (t : ℕ) (places : List Place) → ResolvesRoots bytes table old.unclaimed l (record { entries = at ∷ es; last = last; type = t }) places
-        → ResolvesRoots bytes table new.unclaimed l (record { entries = es; last = name; type = t }) (waiting bytes table (turns_where (has_cells (form_at table T)) p n) ++ places)
-    entry_forth l es last t places r = go r.names r.are_entries r.ascending r.roots
+    abbrev turns : List Turn
+    turns = turns_where (has_cells (form_at table T)) p n
+
+    entry_forth : (below : Option ℕ) (l es last : List ℕ) (t : ℕ) (places : List Limited) (found : List ℕ) → ResolvesRoots bytes table below old.unclaimed l (record { entries = at ∷ es; last = last; type = t }) places found
+        → ResolvesRoots bytes table below new.unclaimed l (record { entries = es; last = name; type = t }) (awaited bytes table (awaiting below turns) ++ places) found
+    entry_forth below l es last t places found r = go r.names r.are_entries r.ascending r.roots r.named r.found_are
       where
         go : (names : List Root) → AreEntries bytes (at ∷ es) names → AreAscending (last ∷ map (λ (x : Root). x.name) names) → HoldsRoots bytes table (names ++ r.uniques) r.root_blocks
-            → ResolvesRoots bytes table new.unclaimed l (record { entries = es; last = name; type = t }) (waiting bytes table (turns_where (has_cells (form_at table T)) p n) ++ places)
-        go [] e a h = absurd e
-        go (root ∷ names) e a h =
-            let j = joined bytes table root e.0.no_words (names ++ r.uniques) old.unclaimed new.unclaimed l r.root_blocks r.rest places h r.resolves r.owners in
+            → AllByRecursion (IsNamed bytes table below) (cells_in (names ++ r.uniques)) → SameBlocks found (positions_of (cells_in (names ++ r.uniques)) ++ r.others)
+            → ResolvesRoots bytes table below new.unclaimed l (record { entries = es; last = name; type = t }) (awaited bytes table (awaiting below (turns_where (has_cells (form_at table T)) p n)) ++ places) found
+        go [] e a h named are = absurd e
+        go (root ∷ names) e a h named are =
+            let j = joined bytes table below root e.0.no_words (names ++ r.uniques) old.unclaimed new.unclaimed l r.root_blocks r.rest places r.others found h named r.resolves r.owners are in
             let is = root_of at p T n (n * size table T + length name) name root stands block_named e.0 j.block j.name_is in
             record {
               names = names;
@@ -150,19 +184,22 @@ module _ (bytes : List ℕ) (table : Table) where
               rising = r.rising;
               plain = r.plain;
               roots = j.held;
-              resolves = values_forth bytes table old new ready at p T n name c j.rest l places
-                  (subst (λ k. Resolves bytes table j.rest l (items table p T k ++ places)) is.count_is
-                  (subst (λ k. Resolves bytes table j.rest l (items table p k (count root.values) ++ places)) is.type_is
-                  (subst (λ k. Resolves bytes table j.rest l (items table k root.type (count root.values) ++ places)) is.at_is j.resolves)));
+              named = j.named;
+              others = j.names;
+              resolves = values_forth bytes table old new ready at p T n name c below j.rest l places j.names
+                  (subst (λ k. ResolvesBy bytes table j.rest l (limited below (items table p T k) ++ places) j.names) is.count_is
+                  (subst (λ k. ResolvesBy bytes table j.rest l (limited below (items table p k (count root.values)) ++ places) j.names) is.type_is
+                  (subst (λ k. ResolvesBy bytes table j.rest l (limited below (items table k root.type (count root.values)) ++ places) j.names) is.at_is j.resolves)));
               owners = j.owners (subst (λ q. SameBlocks old.unclaimed (block_of q ∷ new.unclaimed)) (sym is.at_is) c.claims.claimed);
+              found_are = j.found_are;
             }
 
-    entry_back : (l es last : List ℕ) (t : ℕ) (places : List Place) → Precedes last name
-        → ResolvesRoots bytes table new.unclaimed l (record { entries = es; last = name; type = t }) (waiting bytes table (turns_where (has_cells (form_at table T)) p n) ++ places)
-        → ResolvesRoots bytes table old.unclaimed l (record { entries = at ∷ es; last = last; type = t }) places
-    entry_back l es last t places above r =
-        let k = rooted bytes table name p T n (r.names ++ r.uniques) old.unclaimed new.unclaimed l r.root_blocks r.rest places c.is_block stands.name_is c.claims.claimed r.roots
-        (values_back bytes table old new ready at p T n name c r.rest l places r.resolves) r.owners in
+    entry_back : (below : Option ℕ) (l es last : List ℕ) (t : ℕ) (places : List Limited) (found : List ℕ) → Precedes last name
+        → ResolvesRoots bytes table below new.unclaimed l (record { entries = es; last = name; type = t }) (awaited bytes table (awaiting below turns) ++ places) found
+        → ResolvesRoots bytes table below old.unclaimed l (record { entries = at ∷ es; last = last; type = t }) places found
+    entry_back below l es last t places found above r =
+        let k = rooted bytes table below name p T n (r.names ++ r.uniques) old.unclaimed new.unclaimed l r.root_blocks r.rest places r.others found c.is_block stands.name_is c.claims.claimed r.roots r.named
+        (values_back bytes table old new ready at p T n name c below r.rest l places r.others r.resolves) r.owners r.found_are in
         let root : Root = plain_root name p T k.values in
         let entry : IsEntry bytes at root = record {
           no_words = refl;
@@ -185,20 +222,24 @@ module _ (bytes : List ℕ) (table : Table) where
           rising = r.rising;
           plain = r.plain;
           roots = k.held;
+          named = k.named;
+          others = k.names;
           resolves = k.resolves;
           owners = k.owners;
+          found_are = k.found_are;
         }
 
     -- the object of an entry was claimed, and its values wait
     pub advance_entry : (es last : List ℕ) (t : ℕ) → Precedes last name → AdvancesRoots bytes table old new (record { entries = at ∷ es; last = last; type = t }) (record { entries = es; last = name; type = t })
     advance_entry es last t above = record {
-      turns = turns_where (has_cells (form_at table T)) p n;
+      turns = awaiting old.naming.below turns;
       turns_are = c.claims.turns_are;
-      are_turns = object_are_turns bytes table old new ready at p T n name c;
+      are_waiting = object_waits bytes table old new ready at p T n name c old.naming.below;
       within = within_taken old.unclaimed new.unclaimed (block_of p ∷ []) c.claims.claimed;
       counted = c.claims.counted;
-      forth = λ left places r. entry_forth left es last t places r;
-      back = λ left places r. entry_back left es last t places above r;
+      finds = finds_claimed bytes old new (block_of p ∷ []) turns c.claims (object_other bytes table old new ready at p T n name c, tt) (object_others bytes table old new ready at p T n name c);
+      forth = λ left places found r. entry_forth old.naming.below left es last t places found r;
+      back = λ left places found r. entry_back old.naming.below left es last t places found above r;
     }
 
   -- ---- what an entry that can be resolved says
@@ -226,7 +267,7 @@ module _ (bytes : List ℕ) (table : Table) where
   pub can_enter : (old : Known) (at : ℕ) (es last : List ℕ) (t : ℕ) → CanResolveRoots bytes table old (record { entries = at ∷ es; last = last; type = t }) → CanEnter old at last
   can_enter old at es last t can = go r.names r.are_entries r.ascending r.roots
     where
-      r : ResolvesRoots bytes table old.unclaimed can.left (record { entries = at ∷ es; last = last; type = t }) can.places
+      r : ResolvesRoots bytes table old.naming.below old.unclaimed can.left (record { entries = at ∷ es; last = last; type = t }) can.places can.found
       r = can.resolves
 
       owned : (h : ℕ) (root bs own others inside rest u : List ℕ) → times h u ≡ times h (root ++ rest) → root ≡ bs ++ others → bs ≡ own ++ inside → times h own ≤ times h u
@@ -241,7 +282,8 @@ module _ (bytes : List ℕ) (table : Table) where
       go (root ∷ names) e a h =
           let s = HoldsRoots-split bytes table (root ∷ []) (names ++ r.uniques) r.root_blocks h in
           let it = plain_of bytes table root s.left e.0.no_words (HoldsRoots-only bytes table root s.left s.lefts) in
-          let own = owned (block_of root.at) r.root_blocks s.left (block_of root.at ∷ []) s.right it.inside r.rest old.unclaimed (r.owners (block_of root.at)) s.blocks_are it.blocks_are in
+          let named_block = subst (λ k. IsBlock bytes root.at (tag_of k root.type) (count root.values * size table root.type + length root.name)) (kind_named root.name e.0.is_name.not_empty) it.block in
+          let own = owned (block_of root.at) r.root_blocks s.left (block_of root.at ∷ []) s.right it.inside r.rest old.unclaimed (r.owners (block_of root.at) (other_block bytes root.at (tag_of Kind.named root.type) (count root.values * size table root.type + length root.name) (λ e. absurd (omega (arith, e))) named_block)) s.blocks_are it.blocks_are in
           record {
             root = root;
             entry = e.0;
@@ -252,7 +294,7 @@ module _ (bytes : List ℕ) (table : Table) where
             can = record {
               start = root.at;
               names = e.0.points;
-              is_block = subst (λ k. IsBlock bytes root.at (tag_of k root.type) (count root.values * size table root.type + length root.name)) (kind_named root.name e.0.is_name.not_empty) it.block;
+              is_block = named_block;
               unclaimed = omega (arith, own, times-same (block_of root.at) []);
             };
           }

@@ -4,9 +4,11 @@ use Rattle.std.proofs.lemmas.List.{append_assoc, append-nil}
 use Rattle.std.proofs.lemmas.Bool.Decides.{nat_tests}
 use Rattle.std.specs.List.{AllByRecursion}
 use Rattle.seg_spec.specs.Types.{Table}
-use Rattle.seg_spec.specs.Heap.{Span, Tile, span_of, is_live_at, units_at, tiles_from, tiles, Fill, AreHeaders, AreApart, live_of, free_of, live, gaps, heap_start}
+use Rattle.seg_spec.specs.Heap.{Span, Tile, span_of, is_live_at, units_at, tag_at, tiles_from, tiles, Fill, AreHeaders, AreApart, live_of, free_of, live, gaps, heap_start}
 use Rattle.seg_spec.specs.Block.{IsOwnable}
-use Rattle.seg_spec.specs.Faulty.{HasTiles}
+use Rattle.seg_spec.specs.Bytes.{word}
+use Rattle.seg_spec.specs.Header.{version_word}
+use Rattle.seg_spec.specs.Faulty.{HasTiles, IsTagOf}
 use Rattle.seg_spec.proofs.TileLaws.{Fill-le, free_of-append, gaps_between-live_of}
 use Rattle.seg_block.specs.declared.header.Header.{Header}
 use Rattle.seg_block.specs.Headers.{header_at}
@@ -38,6 +40,7 @@ module _ (bytes : List ℕ) (table : Table) where
     pub headers : AreHeaders bytes before.units ts
     pub apart : AreApart before.is_live ts
     pub ownable : AllByRecursion (λ b. IsOwnable bytes table b.at) (live_of ts)
+    pub of_version : AllByRecursion (λ b. IsTagOf (word bytes version_word) (tag_at bytes b.at)) (live_of ts)
 
   -- the tiles up to a position were passed: all are right where those from there on are
   pub record IsTiledTo (passed : List Tile) (at : ℕ) (before : Header) : Type 0 where
@@ -59,12 +62,14 @@ module _ (bytes : List ℕ) (table : Table) where
       headers = subst (λ u. AreHeaders bytes u (tiles bytes)) (sym no_units) a.headers;
       apart = subst (λ l. AreApart l (tiles bytes)) (sym is_live) a.apart;
       ownable = a.ownable;
+      of_version = a.of_version;
     };
     back = λ r. record {
       filled = r.fill;
       headers = subst (λ u. AreHeaders bytes u (tiles bytes)) no_units r.headers;
       apart = subst (λ l. AreApart l (tiles bytes)) is_live r.apart;
       ownable = r.ownable;
+      of_version = r.of_version;
     };
     below = tt;
   }
@@ -85,34 +90,39 @@ module _ (bytes : List ℕ) (table : Table) where
 
   -- ---- one tile among those left
 
-  own_first : (at : ℕ) (ts : List Tile) (b : Bool) → is_live_at bytes at ≡ b → AllByRecursion (λ x. IsOwnable bytes table x.at) (cond b (span_of (tile_at at) ∷ live_of ts) (live_of ts))
-      → (is_live_at bytes at ≡ true → IsOwnable bytes table at) × AllByRecursion (λ x. IsOwnable bytes table x.at) (live_of ts)
-  own_first at ts true e o = ((λ t. o.0), o.1)
-  own_first at ts false e o = ((λ t. absurd (true_false (sym t ∙ e))), o)
+  own_first : (P : ℕ → Type 0) (at : ℕ) (ts : List Tile) (b : Bool) → is_live_at bytes at ≡ b → AllByRecursion (λ x. P x.at) (cond b (span_of (tile_at at) ∷ live_of ts) (live_of ts))
+      → (is_live_at bytes at ≡ true → P at) × AllByRecursion (λ x. P x.at) (live_of ts)
+  own_first P at ts true e o = ((λ t. o.0), o.1)
+  own_first P at ts false e o = ((λ t. absurd (true_false (sym t ∙ e))), o)
 
-  own_both : (at : ℕ) (ts : List Tile) (b : Bool) → is_live_at bytes at ≡ b → (is_live_at bytes at ≡ true → IsOwnable bytes table at) → AllByRecursion (λ x. IsOwnable bytes table x.at) (live_of ts)
-      → AllByRecursion (λ x. IsOwnable bytes table x.at) (cond b (span_of (tile_at at) ∷ live_of ts) (live_of ts))
-  own_both at ts true e o os = (o e, os)
-  own_both at ts false e o os = os
+  own_both : (P : ℕ → Type 0) (at : ℕ) (ts : List Tile) (b : Bool) → is_live_at bytes at ≡ b → (is_live_at bytes at ≡ true → P at) → AllByRecursion (λ x. P x.at) (live_of ts)
+      → AllByRecursion (λ x. P x.at) (cond b (span_of (tile_at at) ∷ live_of ts) (live_of ts))
+  own_both P at ts true e o os = (o e, os)
+  own_both P at ts false e o os = os
 
-  rest_next : (ts : List Tile) (at : ℕ) (before : Header) → Rest (tile_at at ∷ ts) at before → Follows table before (header_at bytes at)
+  abbrev OfVersion : ℕ → Type 0
+  OfVersion at = IsTagOf (word bytes version_word) (tag_at bytes at)
+
+  rest_next : (ts : List Tile) (at : ℕ) (before : Header) → Rest (tile_at at ∷ ts) at before → Follows (word bytes version_word) table before (header_at bytes at)
   rest_next ts at before r = record {
     before_is = r.headers.0.before_is;
     free = λ e. (r.headers.0.tag_is e, before_free before.is_live (is_live_at bytes at) r.apart.0 e);
     live = λ e.
-        let o = (own_first at ts (is_live_at bytes at) refl r.ownable).0 e in
-        (o.link_is, record { kind = o.kind; type = o.type; allowed = o.allowed; tag_is = o.tag_is });
+        let o = (own_first (IsOwnable bytes table) at ts (is_live_at bytes at) refl r.ownable).0 e in
+        let v = (own_first OfVersion at ts (is_live_at bytes at) refl r.of_version).0 e in
+        (o.link_is, record { kind = o.kind; type = o.type; allowed = o.allowed; tag_is = o.tag_is; of_version = v });
   }
 
   rest_tail : (ts : List Tile) (at : ℕ) (before : Header) → Rest (tile_at at ∷ ts) at before → Rest ts (end_at at) (header_at bytes at)
-  rest_tail ts at before r = record { fill = r.fill.2; headers = r.headers.1; apart = r.apart.1; ownable = (own_first at ts (is_live_at bytes at) refl r.ownable).1 }
+  rest_tail ts at before r = record { fill = r.fill.2; headers = r.headers.1; apart = r.apart.1; ownable = (own_first (IsOwnable bytes table) at ts (is_live_at bytes at) refl r.ownable).1; of_version = (own_first OfVersion at ts (is_live_at bytes at) refl r.of_version).1 }
 
-  rest_more : (ts : List Tile) (at : ℕ) (before : Header) → 2 ≤ units_at bytes at → Follows table before (header_at bytes at) → Rest ts (end_at at) (header_at bytes at) → Rest (tile_at at ∷ ts) at before
+  rest_more : (ts : List Tile) (at : ℕ) (before : Header) → 2 ≤ units_at bytes at → Follows (word bytes version_word) table before (header_at bytes at) → Rest ts (end_at at) (header_at bytes at) → Rest (tile_at at ∷ ts) at before
   rest_more ts at before large next r = record {
     fill = (refl, large, r.fill);
     headers = (record { units_is = refl; live_is = refl; before_is = next.before_is; tag_is = λ e. (next.free e).0 }, r.headers);
     apart = (after_free before.is_live (is_live_at bytes at) (λ e. (next.free e).1), r.apart);
-    ownable = own_both at ts (is_live_at bytes at) refl own r.ownable;
+    ownable = own_both (IsOwnable bytes table) at ts (is_live_at bytes at) refl own r.ownable;
+    of_version = own_both OfVersion at ts (is_live_at bytes at) refl (λ e. (next.live e).1.of_version) r.of_version;
   }
     where
       own : is_live_at bytes at ≡ true → IsOwnable bytes table at
@@ -122,7 +132,7 @@ module _ (bytes : List ℕ) (table : Table) where
     first : (m : ℕ) × (w.n ≡ suc m) × (tiles_from w.n bytes at ≡ tile_at at ∷ tiles_from m bytes (end_at at))
     first = one_tile w.n at inside w.enough
 
-    pub next_is : HasTiles bytes table → Follows table before (header_at bytes at)
+    pub next_is : HasTiles bytes table → Follows (word bytes version_word) table before (header_at bytes at)
     next_is a = rest_next (tiles_from first.0 bytes (end_at at)) at before (subst (λ ts. Rest ts at before) first.2 (w.forth a))
 
     pub fits_is : HasTiles bytes table → (2 ≤ units_at bytes at) × (end_at at ≤ length bytes)
@@ -134,7 +144,7 @@ module _ (bytes : List ℕ) (table : Table) where
     below_more [] to l b = (l, tt)
     below_more (t ∷ ts) to l b = (omega (arith, b.0), below_more ts to l b.1)
 
-    pub tiled_more : 2 ≤ units_at bytes at → Follows table before (header_at bytes at) → IsTiledTo (passed ++ tile_at at ∷ []) (end_at at) (header_at bytes at)
+    pub tiled_more : 2 ≤ units_at bytes at → Follows (word bytes version_word) table before (header_at bytes at) → IsTiledTo (passed ++ tile_at at ∷ []) (end_at at) (header_at bytes at)
     tiled_more large next =
         let ts = tiles_from first.0 bytes (end_at at) in
         let enough = w.enough in
@@ -155,7 +165,7 @@ module _ (bytes : List ℕ) (table : Table) where
     nothing_left = no_tile w.n at (omega arith)
 
     pub tiles_right : HasTiles bytes table
-    tiles_right = w.back (subst (λ ts. Rest ts at before) (sym nothing_left) (record { fill = end; headers = tt; apart = tt; ownable = tt }))
+    tiles_right = w.back (subst (λ ts. Rest ts at before) (sym nothing_left) (record { fill = end; headers = tt; apart = tt; ownable = tt; of_version = tt }))
 
     pub all_passed : tiles bytes ≡ passed
     all_passed = w.all ∙ ap (λ ts. passed ++ ts) nothing_left ∙ append-nil passed
@@ -195,7 +205,7 @@ module _ (bytes : List ℕ) (table : Table) where
   free_more passed at old new true e same added followed = subst (λ gs. KnowsGaps bytes new gs) (sym (append-nil (free_of passed))) (subst (λ list. KnowsGaps bytes list (free_of passed)) (sym (same refl)) followed)
   free_more passed at old new false e same added followed = added refl followed
 
-  pub walked_more : (at : ℕ) (before : Header) (old new : FreeList) (w : Walked at before old) → at < length bytes → 2 ≤ units_at bytes at → end_at at ≤ length bytes → Follows table before (header_at bytes at)
+  pub walked_more : (at : ℕ) (before : Header) (old new : FreeList) (w : Walked at before old) → at < length bytes → 2 ≤ units_at bytes at → end_at at ≤ length bytes → Follows (word bytes version_word) table before (header_at bytes at)
       → (is_live_at bytes at ≡ true → new ≡ old)
       → (is_live_at bytes at ≡ false → (gs : List Span) → KnowsGaps bytes old gs → KnowsGaps bytes new (gs ++ span_of (tile_at at) ∷ []))
       → (more : Walked (end_at at) (header_at bytes at) new) × (more.passed ≡ w.passed ++ tile_at at ∷ [])

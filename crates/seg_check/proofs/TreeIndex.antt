@@ -23,7 +23,9 @@ use Rattle.seg_check.specs.declared.walk.Stage.{Stage}
 use Rattle.seg_check.specs.declared.walk.Visit.TheVariants.{Enter, Pass}
 use Rattle.seg_check.specs.Roots.{names_ahead, CanResolveRoots, CanResolveIndex, AdvancesRoots, AdvancesIndex, ClaimsTree, CanClaimTree}
 use Rattle.seg_check.proofs.SameLength.{Splits, splits, within_length}
-use Rattle.seg_check.proofs.StepLaws.{within_taken, ready_within}
+use Rattle.seg_spec.proofs.OwnedTags.{index_other}
+use Rattle.seg_check.proofs.NamingLaws.{finds_claimed}
+use Rattle.seg_check.proofs.StepLaws.{within_taken, ready_found}
 use Rattle.seg_check.proofs.OpenLaws.{ready_live}
 use Rattle.seg_check.proofs.NodeLaws.{claims_both, nodes_both}
 use Rattle.seg_check.proofs.Followed.{Followed, follow_enter, follow_pass, follow_end, follow_refused, hangs_once}
@@ -60,7 +62,7 @@ module _ (bytes : List ℕ) (table : Table) (old : Known) (ready : IsReady bytes
     entered = [];
     followed = f;
     are_nodes = tt;
-    claims = record { claimed = λ h. refl; counted = λ c. c; turns_are = sym (append-nil old.turns) };
+    claims = record { claimed = λ h. refl; counted = λ c. c; turns_are = sym (append-nil old.turns); naming_kept = refl };
   }
 
   -- what a tree index is for a walk
@@ -97,7 +99,7 @@ module _ (bytes : List ℕ) (table : Table) (old : Known) (ready : IsReady bytes
     traced_within = within_taken old.unclaimed mid.unclaimed (map block_of t.entered) t.claims.claimed
 
     pub traced_live : AreLive bytes mid.unclaimed
-    traced_live = ready_live bytes table mid (ready_within bytes table old mid ready traced_within)
+    traced_live h some = (ready.blocks h (omega (arith, traced_within h))).0
 
     module _ (next : Stage) (less : ℕ) (steady : IsSteady bytes next less) (spent : less + 1 ≡ turns) where
       pub traced_enter : (new : Known) (pointer p : ℕ) → Proceeds bytes stage next (Some (Enter pointer)) → ClaimsBlock bytes mid new pointer (tag_of Kind.index_node 0) 24 [] p → Traced new next less
@@ -142,6 +144,7 @@ module _ (bytes : List ℕ) (table : Table) (old : Known) (ready : IsReady bytes
                 sym (times-append h (map block_of (nodes_of w.tree)) mid.unclaimed);
             counted = t.claims.counted;
             turns_are = t.claims.turns_are;
+            naming_kept = t.claims.naming_kept;
           };
         }
 
@@ -274,7 +277,8 @@ module _ (bytes : List ℕ) (table : Table) (old : Known) (ready : IsReady bytes
     }
 
     pub tree_ready : IsReady bytes table start
-    tree_ready = ready_within bytes table old start ready (within_taken old.unclaimed start.unclaimed c.index.blocks c.claims.claimed)
+    tree_ready = ready_found bytes table old start [] ready (within_taken old.unclaimed start.unclaimed c.index.blocks c.claims.claimed)
+        (finds_claimed bytes old start c.index.blocks [] c.claims (index_other bytes 1 c.index c.opens) tt)
 
     module _ (tree : word bytes index_kind_word ≡ 1) where
       tree_opens : OpensIndex bytes (word bytes index_kind_word) c.index
@@ -296,7 +300,7 @@ module _ (bytes : List ℕ) (table : Table) (old : Known) (ready : IsReady bytes
   planted_index tree can = record {
     index = can.resolves.index;
     opens = subst (λ k. OpensIndex bytes k can.resolves.index) tree can.resolves.opens;
-    within = index_within bytes table old.unclaimed can;
+    within = index_within bytes table old can;
   }
 
   -- ---- the content of a node

@@ -1,5 +1,5 @@
 -- The word of a type, and the type's unique object, which was claimed, or can't be.
-use Rattle.std.proofs.Common.{◌≡◌, ◌≢◌, ℕ, suc, ◌+◌, ◌*◌, ◌<◌, ◌≤◌, ◌⊎◌, inl, inr, List, [], ◌∷◌, ◌++◌, length, Some, None, refl, sym, ap, ◌∙◌, subst, arith}
+use Rattle.std.proofs.Common.{◌≡◌, ◌≢◌, ℕ, suc, ◌+◌, ◌*◌, ◌%◌, ◌<◌, ◌≤◌, ◌⊎◌, inl, inr, List, [], ◌∷◌, ◌++◌, length, Option, Some, None, refl, sym, ap, ◌∙◌, subst, arith}
 use Rattle.std.proofs.lemmas.List.{append-nil}
 use Rattle.std.proofs.lemmas.Bool.{cases_eq}
 use Rattle.std.specs.List.{AllByRecursion}
@@ -7,22 +7,27 @@ use Rattle.seg_spec.specs.Bytes.{slice}
 use Rattle.seg_spec.specs.Pointer.{target}
 use Rattle.seg_spec.specs.Types.{Table, form_at, size}
 use Rattle.seg_spec.specs.Value.{Value, Values, nil, cons, count}
-use Rattle.seg_spec.specs.Block.{Kind, IsBlock, block_of, tag_of}
-use Rattle.seg_spec.specs.Reads.{Place, items}
+use Rattle.seg_spec.specs.Block.{Kind, kind_number, IsBlock, block_of, tag_of}
+use Rattle.seg_spec.specs.Reads.{items}
 use Rattle.seg_spec.specs.Index.{Root, plain_root, AreEntries, position_of, AreRising, unique_word}
+use Rattle.seg_spec.specs.Counting.{cells_in}
 use Rattle.seg_spec.specs.Sound.{IsPlain, HoldsRoots, holds_no_root, holds_more_roots, kind_with, times, SameBlocks}
 use Rattle.seg_spec.proofs.LiveLaws.{times-append, times-same}
 use Rattle.seg_spec.proofs.RootLaws.{HoldsRoots-split, HoldsRoots-only}
 use Rattle.seg_spec.proofs.UniqueLaws.{at_head, past_head, none_below}
 use Rattle.seg_layout.specs.Forms.{has_cells}
 use Rattle.seg_check.specs.Claiming.{CanClaim, ClaimsBlock, turns_where}
-use Rattle.seg_check.specs.Marks.{Known}
-use Rattle.seg_check.specs.Turns.{waiting}
-use Rattle.seg_check.specs.Resolving.{Resolves, IsReady}
+use Rattle.seg_check.specs.declared.marks.Turn.{Turn}
+use Rattle.seg_check.specs.Marks.{Known, awaiting}
+use Rattle.seg_check.specs.Naming.{IsNamed}
+use Rattle.seg_check.specs.Turns.{Limited, limited, awaited}
+use Rattle.seg_check.specs.Resolving.{ResolvesBy, IsReady}
 use Rattle.seg_check.specs.Roots.{Ahead, uniques_ahead, ResolvesRoots, CanResolveRoots, AdvancesRoots, AdvancesUniques}
+use Rattle.seg_check.proofs.ReadLaws.{positions_of}
+use Rattle.seg_check.proofs.NamingLaws.{other_block, finds_none, finds_claimed}
 use Rattle.seg_check.proofs.StepLaws.{within_taken}
 use Rattle.seg_check.proofs.RootSteps.{joined, rooted}
-use Rattle.seg_check.proofs.NameSteps.{object_are_turns, values_forth, values_back}
+use Rattle.seg_check.proofs.NameSteps.{object_other, object_others, object_waits, values_forth, values_back}
 use Rattle.seg_check.proofs.BufferLaws.{content_claimed, content_can}
 use Rattle.seg_block.specs.Tags.{word_of}
 use Rattle.seg_value.specs.Contents.{IsContent}
@@ -91,10 +96,11 @@ module _ (bytes : List ℕ) (table : Table) where
     advance_unused = record {
       turns = [];
       turns_are = sym (append-nil known.turns);
-      are_turns = tt;
+      are_waiting = tt;
       within = λ h. omega arith;
       counted = λ c. c;
-      forth = λ left places r. record {
+      finds = finds_none bytes known;
+      forth = λ left places found r. record {
         names = r.names;
         uniques = r.uniques;
         root_blocks = r.root_blocks;
@@ -105,10 +111,13 @@ module _ (bytes : List ℕ) (table : Table) where
         rising = higher T r.uniques r.rising (sym (r.words T (omega arith) small) ∙ none);
         plain = r.plain;
         roots = r.roots;
+        named = r.named;
+        others = r.others;
         resolves = r.resolves;
         owners = r.owners;
+        found_are = r.found_are;
       };
-      back = λ left places r. record {
+      back = λ left places found r. record {
         names = r.names;
         uniques = r.uniques;
         root_blocks = r.root_blocks;
@@ -119,8 +128,11 @@ module _ (bytes : List ℕ) (table : Table) where
         rising = lower T (suc T) r.uniques (omega arith) r.rising;
         plain = r.plain;
         roots = r.roots;
+        named = r.named;
+        others = r.others;
         resolves = r.resolves;
         owners = r.owners;
+        found_are = r.found_are;
       };
     }
       where
@@ -133,13 +145,17 @@ module _ (bytes : List ℕ) (table : Table) where
 
   module _ (old new : Known) (ready : IsReady bytes table old) (T p : ℕ) (small : T < 32) (named : target bytes (unique_word T) ≡ Some p)
       (c : ClaimsBlock bytes old new (unique_word T) (tag_of (kind_with [] []) T) (1 * size table T + 0) (turns_where (has_cells (form_at table T)) p 1) p) where
-    unique_forth : (l : List ℕ) (places : List Place) → ResolvesRoots bytes table old.unclaimed l (from_type T) places
-        → ResolvesRoots bytes table new.unclaimed l (from_type (suc T)) (waiting bytes table (turns_where (has_cells (form_at table T)) p 1) ++ places)
-    unique_forth l places r =
+    abbrev turns : List Turn
+    turns = turns_where (has_cells (form_at table T)) p 1
+
+    unique_forth : (below : Option ℕ) (l : List ℕ) (places : List Limited) (found : List ℕ) → ResolvesRoots bytes table below old.unclaimed l (from_type T) places found
+        → ResolvesRoots bytes table below new.unclaimed l (from_type (suc T)) (awaited bytes table (awaiting below turns) ++ places) found
+    unique_forth below l places found r =
         let f = first T p r.uniques r.rising (sym (r.words T (omega arith) small) ∙ named) in
         let both : r.names ++ r.uniques ≡ f.root ∷ f.others = ap (λ ns. ns ++ r.uniques) (no_names bytes r.names r.are_entries) ∙ f.roots_are in
         let plain : AllByRecursion IsPlain (f.root ∷ f.others) = subst (AllByRecursion IsPlain) f.roots_are r.plain in
-        let j = joined bytes table f.root plain.0.no_words f.others old.unclaimed new.unclaimed l r.root_blocks r.rest places (subst (λ rs. HoldsRoots bytes table rs r.root_blocks) both r.roots) r.resolves r.owners in
+        let j = joined bytes table below f.root plain.0.no_words f.others old.unclaimed new.unclaimed l r.root_blocks r.rest places r.others found (subst (λ rs. HoldsRoots bytes table rs r.root_blocks) both r.roots)
+        (subst (λ rs. AllByRecursion (IsNamed bytes table below) (cells_in rs)) both r.named) r.resolves r.owners (subst (λ rs. SameBlocks found (positions_of (cells_in rs) ++ r.others)) both r.found_are) in
         let rising : AreRising T (f.root ∷ f.others) = subst (AreRising T) f.roots_are r.rising in
         let one : count f.root.values ≡ 1 = ap count plain.0.values_are in
         record {
@@ -155,20 +171,24 @@ module _ (bytes : List ℕ) (table : Table) where
           rising = subst (λ V. AreRising (suc V) f.others) f.type_is rising.2;
           plain = plain.1;
           roots = j.held;
-          resolves = values_forth bytes table old new ready (unique_word T) p T 1 [] c j.rest l places
-              (subst (λ k. Resolves bytes table j.rest l (items table p T k ++ places)) one
-              (subst (λ k. Resolves bytes table j.rest l (items table p k (count f.root.values) ++ places)) f.type_is
-              (subst (λ k. Resolves bytes table j.rest l (items table k f.root.type (count f.root.values) ++ places)) f.at_is j.resolves)));
+          named = j.named;
+          others = j.names;
+          resolves = values_forth bytes table old new ready (unique_word T) p T 1 [] c below j.rest l places j.names
+              (subst (λ k. ResolvesBy bytes table j.rest l (limited below (items table p T k) ++ places) j.names) one
+              (subst (λ k. ResolvesBy bytes table j.rest l (limited below (items table p k (count f.root.values)) ++ places) j.names) f.type_is
+              (subst (λ k. ResolvesBy bytes table j.rest l (limited below (items table k f.root.type (count f.root.values)) ++ places) j.names) f.at_is j.resolves)));
           owners = j.owners (subst (λ q. SameBlocks old.unclaimed (block_of q ∷ new.unclaimed)) (sym f.at_is) c.claims.claimed);
+          found_are = j.found_are;
         }
 
-    unique_back : (l : List ℕ) (places : List Place) → ResolvesRoots bytes table new.unclaimed l (from_type (suc T)) (waiting bytes table (turns_where (has_cells (form_at table T)) p 1) ++ places)
-        → ResolvesRoots bytes table old.unclaimed l (from_type T) places
-    unique_back l places r =
+    unique_back : (below : Option ℕ) (l : List ℕ) (places : List Limited) (found : List ℕ) → ResolvesRoots bytes table below new.unclaimed l (from_type (suc T)) (awaited bytes table (awaiting below turns) ++ places) found
+        → ResolvesRoots bytes table below old.unclaimed l (from_type T) places found
+    unique_back below l places found r =
         let none = no_names bytes r.names r.are_entries in
-        let k = rooted bytes table [] p T 1 r.uniques old.unclaimed new.unclaimed l r.root_blocks r.rest places c.is_block (slice_none bytes (p + 1 * size table T)) c.claims.claimed
-        (subst (λ ns. HoldsRoots bytes table (ns ++ r.uniques) r.root_blocks) none r.roots)
-        (values_back bytes table old new ready (unique_word T) p T 1 [] c r.rest l places r.resolves) r.owners in
+        let k = rooted bytes table below [] p T 1 r.uniques old.unclaimed new.unclaimed l r.root_blocks r.rest places r.others found c.is_block (slice_none bytes (p + 1 * size table T)) c.claims.claimed
+        (subst (λ ns. HoldsRoots bytes table (ns ++ r.uniques) r.root_blocks) none r.roots) (subst (λ ns. AllByRecursion (IsNamed bytes table below) (cells_in (ns ++ r.uniques))) none r.named)
+        (values_back bytes table old new ready (unique_word T) p T 1 [] c below r.rest l places r.others r.resolves) r.owners
+        (subst (λ ns. SameBlocks found (positions_of (cells_in (ns ++ r.uniques)) ++ r.others)) none r.found_are) in
         let root : Root = plain_root [] p T k.values in
         let value = one_value k.values k.count_is in
         record {
@@ -182,8 +202,11 @@ module _ (bytes : List ℕ) (table : Table) where
           rising = (omega arith, small, r.rising);
           plain = (record { no_name = refl; no_words = refl; value = value.0; values_are = value.1 }, r.plain);
           roots = k.held;
+          named = k.named;
+          others = k.names;
           resolves = k.resolves;
           owners = k.owners;
+          found_are = k.found_are;
         }
       where
         word_of : (root : Root) (others : List Root) → root.type ≡ T → root.at ≡ p → ((U : ℕ) → suc T ≤ U → U < 32 → target bytes (unique_word U) ≡ position_of others U) → (U : ℕ) → (T ≡ U) ⊎ (T ≢ U) → T ≤ U → U < 32
@@ -193,14 +216,19 @@ module _ (bytes : List ℕ) (table : Table) where
 
     pub advance_unique : AdvancesRoots bytes table old new (from_type T) (from_type (suc T))
     advance_unique = record {
-      turns = turns_where (has_cells (form_at table T)) p 1;
+      turns = awaiting old.naming.below turns;
       turns_are = c.claims.turns_are;
-      are_turns = object_are_turns bytes table old new ready (unique_word T) p T 1 [] c;
+      are_waiting = object_waits bytes table old new ready (unique_word T) p T 1 [] c old.naming.below;
       within = within_taken old.unclaimed new.unclaimed (block_of p ∷ []) c.claims.claimed;
       counted = c.claims.counted;
-      forth = λ left places r. unique_forth left places r;
-      back = λ left places r. unique_back left places r;
+      finds = finds_claimed bytes old new (block_of p ∷ []) turns c.claims (object_other bytes table old new ready (unique_word T) p T 1 [] c, tt) (object_others bytes table old new ready (unique_word T) p T 1 [] c);
+      forth = λ left places found r. unique_forth old.naming.below left places found r;
+      back = λ left places found r. unique_back old.naming.below left places found r;
     }
+
+  plain_other : (name : List ℕ) → name ≡ [] → (T : ℕ) → tag_of (kind_with [] name) T % 256 ≡ kind_number Kind.frozen → ⊥
+  plain_other [] e T differs = absurd (omega arith)
+  plain_other (b ∷ name) e T differs = cc
 
   pub can_unique : (old : Known) (T p : ℕ) → T < 32 → target bytes (unique_word T) ≡ Some p → CanResolveRoots bytes table old (from_type T) → CanClaim bytes old (unique_word T) (tag_of Kind.object T) (1 * size table T)
   can_unique old T p small named can =
@@ -221,7 +249,7 @@ module _ (bytes : List ℕ) (table : Table) where
             (subst (λ m. IsBlock bytes f.root.at (tag_of Kind.object T) m) exact
             (subst (λ t. IsBlock bytes f.root.at t (count f.root.values * size table f.root.type + length f.root.name)) (λ i. tag_of (kind_with [] (no_name i)) (f.type_is i)) it.block));
         unclaimed = subst (λ q. 1 ≤ times (block_of q) old.unclaimed) f.at_is
-            (let i = r.owners (block_of f.root.at) in
+            (let i = r.owners (block_of f.root.at) (other_block bytes f.root.at (tag_of (kind_with [] f.root.name) f.root.type) (count f.root.values * size table f.root.type + length f.root.name) (plain_other f.root.name no_name f.root.type) it.block) in
             let j = times-append (block_of f.root.at) r.root_blocks r.rest in
             let k : times (block_of f.root.at) r.root_blocks ≡ times (block_of f.root.at) s.left + times (block_of f.root.at) s.right = ap (times (block_of f.root.at)) s.blocks_are ∙ times-append (block_of f.root.at) s.left s.right in
             let m : times (block_of f.root.at) s.left ≡ times (block_of f.root.at) (block_of f.root.at ∷ it.inside) = ap (times (block_of f.root.at)) it.blocks_are in
@@ -266,15 +294,22 @@ module _ (bytes : List ℕ) (table : Table) where
   all_unique old new T high a = record {
     turns = a.turns;
     turns_are = a.turns_are;
-    are_turns = a.are_turns;
+    are_waiting = a.are_waiting;
     within = a.within;
     counted = a.counted;
-    forth = λ left places r.
-        let s = a.forth left places r in
+    finds = a.finds;
+    forth = λ left places found r.
+        let s = a.forth left places found r in
         let none : s.names ++ s.uniques ≡ [] = (λ i. no_names bytes s.names s.are_entries i ++ none_rising T s.uniques high s.rising i) in
         let no_block = no_blocks s.roots none in
-        record { values = s.resolves.values; blocks = s.resolves.blocks; holds = s.resolves.holds; owners = λ h. s.owners h ∙ ap (λ bs. times h (bs ++ s.rest)) no_block ∙ s.resolves.owners h };
-    back = λ left places r. a.back left places (record {
+        record {
+          values = s.resolves.values;
+          blocks = s.resolves.blocks;
+          reads = s.resolves.reads;
+          owners = λ h other. s.owners h other ∙ ap (λ bs. times h (bs ++ s.rest)) no_block ∙ s.resolves.owners h other;
+          names_are = λ h. s.found_are h ∙ ap (λ rs. times h (positions_of (cells_in rs) ++ s.others)) none ∙ s.resolves.names_are h;
+        };
+    back = λ left places found r. a.back left places found (record {
       names = [];
       uniques = [];
       root_blocks = [];
@@ -285,7 +320,10 @@ module _ (bytes : List ℕ) (table : Table) where
       rising = tt;
       plain = tt;
       roots = holds_no_root;
+      named = tt;
+      others = found;
       resolves = r;
-      owners = λ h. refl;
+      owners = λ h other. refl;
+      found_are = λ h. refl;
     });
   }

@@ -7,9 +7,9 @@ use Rattle.seg_block.specs.Tags.{word_of}
 use Rattle.seg_check.specs.Claiming.{CanClaim}
 use Rattle.seg_check.specs.Roots.{StepsIndex, AdvancesRoots, CanResolveRoots, CanResolveIndex, names_ahead}
 use Rattle.seg_check.proofs.OpenLaws.{ready_live}
-use Rattle.seg_check.proofs.StepLaws.{refuses_map, ready_within, within_taken}
+use Rattle.seg_check.proofs.StepLaws.{refuses_map}
 use Rattle.seg_check.proofs.RootSteps.{roots_none, roots_more, can_roots, ready_roots}
-use Rattle.seg_check.proofs.IndexSteps.{spaced_next, spaced_end, spaced_start, flat_some, flat_can, flat_names, flat_advance, buffer_claimed, buffer_can, block_inside}
+use Rattle.seg_check.proofs.IndexSteps.{flat_ready, spaced_next, spaced_end, spaced_start, flat_some, flat_can, flat_names, flat_advance, buffer_claimed, buffer_can, block_inside}
 use Rattle.seg_spec.specs.Block.{block_of}
 use Rattle.seg_check.proofs.image.Image.check_flat_index.Goals as goal
 
@@ -59,7 +59,7 @@ returns-in_err-start g c = λ p named counted ready flat.
 
 pub returns-then-count-eq0 : goal.returns-then-count-eq0
 returns-then-count-eq0 g c = λ p named counted ready flat can.
-    flat_some c.args.self.now.w.now.bytes c.args.self.now.types.now flat p c.args.count named counted c.args.claims.now.unclaimed can (omega arith)
+    flat_some c.args.self.now.w.now.bytes c.args.self.now.types.now flat p c.args.count named counted c.args.claims.now can (omega arith)
 
 pub returns-in_err-before : goal.returns-in_err-before
 returns-in_err-before g c = λ p named counted ready flat.
@@ -78,7 +78,7 @@ returns-in_err-before g c = λ p named counted ready flat.
     let rest = spaced (s + (i + 1) * 8) 8 (n - (i + 1)) in
     let claimed = buffer_claimed bytes table old mid n s c.index_buffer-content.result c.index_buffer-content.ensures (c.in_ok-start.ensures.claimed (ready_live bytes table old ready)) in
     let fits = block_inside bytes table old mid index_cell (tag_of Kind.index_buffer 0) (n * 8) s ready claimed in
-    let mid_ready = ready_within bytes table old mid ready (within_taken old.unclaimed mid.unclaimed (block_of s ∷ []) claimed.claims.claimed) in
+    let mid_ready = flat_ready bytes table old mid s ready claimed.claims claimed.is_block in
     let done = c.loop-index.invariant mid_ready fits in
     let at_is : c.at.result ≡ s + i * 8 = c.at.ensures ∙ ap (λ k. (s + i * k) % 2 ^ 32) c.index_buffer-content.ensures.size_is ∙ (let e : (s + i * 8) % 2 ^ 32 ≡ s + i * 8 = omega arith in e) in
     let next = ap (λ a. a ∷ rest) at_is ∙ sym (spaced_next bytes table s i n less) in
@@ -106,7 +106,7 @@ returns g c = λ p named counted ready flat.
     let before = c.loop-index.before.now in
     let claimed = buffer_claimed bytes table old mid n s c.index_buffer-content.result c.index_buffer-content.ensures (c.in_ok-start.ensures.claimed (ready_live bytes table old ready)) in
     let fits = block_inside bytes table old mid index_cell (tag_of Kind.index_buffer 0) (n * 8) s ready claimed in
-    let mid_ready = ready_within bytes table old mid ready (within_taken old.unclaimed mid.unclaimed (block_of s ∷ []) claimed.claims.claimed) in
+    let mid_ready = flat_ready bytes table old mid s ready claimed.claims claimed.is_block in
     let done = c.loop-index.invariant mid_ready fits in
     flat_advance bytes table flat s n claimed.names counted old mid some claimed.is_block claimed.claims now before
     (subst (λ xs. AdvancesRoots bytes table mid now (names_ahead (spaced s 8 n) []) (names_ahead xs before)) (spaced_end bytes table s i n c.loop-index-test.false) done)

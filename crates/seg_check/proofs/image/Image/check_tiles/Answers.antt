@@ -1,4 +1,6 @@
 use Rattle.std.proofs.Common.{◌≡◌, ℕ, ◌+◌, ◌-◌, ◌*◌, ◌/◌, ◌^◌, ◌%◌, ◌<◌, ◌≤◌, Bool, true, false, not, List, ◌∷◌, [], ◌++◌, length, refl, sym, ap, ◌∙◌, subst, arith}
+use Rattle.seg_spec.specs.Bytes.{word}
+use Rattle.seg_spec.specs.Header.{version_word}
 use Rattle.seg_spec.specs.Heap.{Span, span_of, units_at, is_live_at, heap_start}
 use Rattle.seg_block.specs.declared.header.Header.{Header}
 use Rattle.seg_block.specs.Headers.{header_at}
@@ -26,7 +28,7 @@ loop-at-init g c = λ front.
     let bytes = c.args.self.now.w.now.bytes in
     let large = front.header.not_small in
     let w = walked_none bytes c.args.self.now.types.now _ c.new-free_list.result refl refl (c.new-free_list.ensures bytes) (omega arith) in
-    (w.0, λ new. subst (λ ts. KnowsPassed c.args.claims.now ((length bytes - heap_start) / 16) ts) (sym w.1) (knows_none c.args.claims.now ((length bytes - heap_start) / 16) new))
+    (w.0, λ slots new. subst (λ ts. KnowsPassed c.args.claims.now ((length bytes - heap_start) / 16) slots ts) (sym w.1) (knows_none c.args.claims.now ((length bytes - heap_start) / 16) slots new))
 
 -- the header that is read
 whole : (n at : ℕ) → at < n → n % 16 ≡ 0 → at % 16 ≡ 0 → at + 16 ≤ n
@@ -63,8 +65,8 @@ loop-at-preserved g c = λ front.
     let live : c.read-header.result.is_live ≡ is_live_at bytes at = ap (λ (h : Header). h.is_live) is in
     let large : 2 ≤ units_at bytes at = omega (arith, units, c.if-units-lt2.false) in
     let ends : end_at bytes table at ≤ length bytes = omega (arith, units, c.if-units-end.false, len, inside) in
-    let tags = c.of-tags.ensures front.is_table in
-    let next : Follows table before (header_at bytes at) = subst (λ (h : Header). Follows table before h) is ((c.follows.ensures table tags).0 c.if-not-follows.false) in
+    let tags = c.of-tags.ensures (word bytes version_word) c.shares.ensures front.is_table in
+    let next : Follows (word bytes version_word) table before (header_at bytes at) = subst (λ (h : Header). Follows (word bytes version_word) table before h) is ((c.follows.ensures (word bytes version_word) table tags).0 c.if-not-follows.false) in
     let near : at + 16 < 2 ^ 32 = small (length bytes) at fits front.header.not_large in
     let list = c.if-not-header.free_list in
     let gap : Span = span_of (tile_at bytes table at) in
@@ -82,12 +84,12 @@ loop-at-preserved g c = λ front.
     let all = subst (λ (h : Header). (m : Walked bytes table (at + 16 * h.units) h list) × (m.passed ≡ w.passed ++ tile_at bytes table at ∷ [])) (sym is) more in
     let unit : IsUnit ((length bytes - heap_start) / 16) at = record { unit = (at - heap_start) / 16; at_is = unit_at at w.low w.aligned; inside = unit_inside (length bytes) at fits w.low } in (
       all.0,
-      λ new.
-          let k = (c.loop-at.invariant front).1 new in
+      λ slots new.
+          let k = (c.loop-at.invariant front).1 slots new in
           let below = w.tiled.below in
-          let adds = c.add.ensures.added (subst (λ n. IsUnit n at) (sym k.units_are) unit) (no_live _ _ w.passed k at below) (no_free _ _ w.passed k at below) in
-          subst (λ ts. KnowsPassed c.add.new.self ((length bytes - heap_start) / 16) ts) (sym all.1)
-          (knows_more _ _ w.passed k at below c.add.new.self (tile_at bytes table at) refl (subst (λ l. Adds c.loop-at.claims at l c.add.new.self) live adds) c.add.ensures.units),
+          let adds = c.add.ensures.added (subst (λ n. IsUnit n at) (sym k.units_are) unit) (no_live _ _ _ w.passed k at below) (no_free _ _ _ w.passed k at below) in
+          subst (λ ts. KnowsPassed c.add.new.self ((length bytes - heap_start) / 16) slots ts) (sym all.1)
+          (knows_more _ _ _ w.passed k at below c.add.new.self (tile_at bytes table at) refl (subst (λ l. Adds c.loop-at.claims at l c.add.new.self) live adds) c.add.ensures.units),
     )
 
 pub returns-then-units-lt2-clause-tiles : goal.returns-then-units-lt2-clause-tiles
@@ -103,7 +105,7 @@ returns-then-units-lt2-clause-tiles g c = λ front.
     let fits : at + 16 ≤ length bytes = whole (length bytes) at inside front.header.whole_units w.aligned in
     let is : c.read-header.result ≡ header_at bytes at = c.read-header.ensures.inside (omega (arith, ap length same, fits)) ∙ ap (λ bs. header_at bs at) same in
     let units : c.read-header.result.units ≡ units_at bytes at = ap (λ (h : Header). h.units) is in
-    let tags = c.of-tags.ensures front.is_table in (
+    let tags = c.of-tags.ensures (word bytes version_word) c.shares.ensures front.is_table in (
       λ e. false_true _ e,
       λ a.
           let sized = fits_is bytes table w.passed at before w.tiled inside a in
@@ -111,7 +113,7 @@ returns-then-units-lt2-clause-tiles g c = λ front.
           elim c.then-units-lt2.branch [
             | then-units-lt2-via-then-units-lt2 v ↦ absurd (omega (arith, v.if-units-lt2.true, sized.0, units))
             | then-units-lt2-via-else-units-lt2+then-units-end v ↦ absurd (omega (arith, v.if-units-end.true, sized.1, units, len))
-            | then-units-lt2-via-else-units-lt2+else-units-end+then-not-follows v ↦ false_true _ (sym v.if-not-follows.true ∙ (v.follows.ensures table tags).1 (subst (λ (h : Header). Follows table before h) (sym is) next))
+            | then-units-lt2-via-else-units-lt2+else-units-end+then-not-follows v ↦ false_true _ (sym v.if-not-follows.true ∙ (v.follows.ensures (word bytes version_word) table tags).1 (subst (λ (h : Header). Follows (word bytes version_word) table before h) (sym is) next))
           ],
     )
 
@@ -132,10 +134,11 @@ returns-clause-free_list g c = λ front.
     (walked_all bytes c.args.self.now.types.now c.loop-at.at c.loop-at.before c.loop-at.free_list w end).1
 
 pub returns-clause-known : goal.returns-clause-known
-returns-clause-known g c = λ front new.
+returns-clause-known g c = λ front slots new.
     let bytes = c.args.self.now.w.now.bytes in
     let w = (c.loop-at.invariant front).0 in
     let len = c.len-end.ensures.len in
     let end : c.loop-at.at ≡ length bytes = omega (arith, w.high, len, c.loop-at-test.false) in
     let all = (walked_all bytes c.args.self.now.types.now c.loop-at.at c.loop-at.before c.loop-at.free_list w end).2 in
-    knows_all bytes c.loop-at.claims _ w.passed ((c.loop-at.invariant front).1 new) all
+    let k = (c.loop-at.invariant front).1 slots new in
+    (knows_all bytes c.loop-at.claims _ slots w.passed k all, k.slots_are)
