@@ -101,13 +101,14 @@ module _ (bytes : List ℕ) (table : Table) where
     table_is = h.table_is;
   }
 
-  pub all_held : (left : List ℕ) → HoldsBut bytes table left → HoldsAll bytes
-  all_held left h = record {
+  pub all_held : (left : List ℕ) → HasTiles bytes table → HoldsBut bytes table left → HoldsAll bytes
+  all_held left tiles h = record {
     picture = h.picture;
     none_loose = h.none_loose;
     counted = h.counted;
     index_blocks = h.index_blocks;
     laid_out = h.laid_out;
+    of_version = tiles.of_version;
     root_blocks = h.root_blocks;
     roots = h.roots;
     live_ones = each_there (λ b. 1 ≤ times b (positions (live bytes))) (h.index_blocks ++ h.root_blocks)
@@ -254,4 +255,4 @@ module _ (bytes : List ℕ) (table : Table) (known : Known) (front : HasFront by
       all_owned right e = image_held bytes table (subst (HoldsBut bytes table) e (held_right right))
 
       pub some_unowned : AreRight bytes last → (block : ℕ) → 1 ≤ times block last.unclaimed → LacksOwner bytes
-      some_unowned right block some = (all_held bytes table last.unclaimed (held_right right), λ s. absurd (omega (arith, some, (sound_end s).none_left block)))
+      some_unowned right block some = (all_held bytes table last.unclaimed tiles (held_right right), λ s. absurd (omega (arith, some, (sound_end s).none_left block)))
