@@ -1,8 +1,8 @@
 -- What is known after the stations of the heap.
-use Rattle.std.proofs.Common.{ℕ, ◌+◌, ◌*◌, ◌≤◌, List, length, arith}
+use Rattle.std.proofs.Common.{◌≡◌, ℕ, ◌+◌, ◌-◌, ◌*◌, ◌/◌, ◌%◌, ◌≤◌, Bool, true, false, Some, List, length, refl, arith}
 use Rattle.std.proofs.lemmas.List.{length-map}
 use Rattle.seg_spec.specs.Bytes.{word}
-use Rattle.seg_spec.specs.Types.{Table}
+use Rattle.seg_spec.specs.Types.{Form, Table, form_at}
 use Rattle.seg_spec.specs.Header.{allocator_word}
 use Rattle.seg_spec.specs.Heap.{heap_start, Span, IsHeap, HoldsGaps, gaps, live}
 use Rattle.seg_spec.specs.Block.{IsOwnable}
@@ -11,10 +11,10 @@ use Rattle.seg_spec.specs.Faulty.{HasFront, HasTiles}
 use Rattle.seg_spec.proofs.Frame.{each_map}
 use Rattle.seg_spec.proofs.LiveLaws.{LiesIn, live-lie, there}
 use Rattle.seg_spec.proofs.FewBlocks.{few_live}
-use Rattle.seg_check.specs.Marks.{Known, Within, KnowsTiles}
+use Rattle.seg_check.specs.Marks.{Known, KnowsTiles, slots_in}
 use Rattle.seg_check.specs.Turns.{AreBlocks}
 use Rattle.seg_check.specs.Resolving.{IsReady}
-use Rattle.seg_check.proofs.SameLength.{same_length, within_length}
+use Rattle.seg_check.proofs.SameLength.{same_length}
 
 module _ (bytes : List ℕ) (table : Table) (front : HasFront bytes table) (tiles : HasTiles bytes table) (free : HoldsGaps (word bytes allocator_word) bytes (gaps bytes)) where
   pub is_heap : IsHeap (word bytes allocator_word) bytes
@@ -32,20 +32,20 @@ module _ (bytes : List ℕ) (table : Table) (front : HasFront bytes table) (tile
   few_known known knows =
       omega (arith, same_length known.unclaimed (positions (live bytes)) knows.unclaimed, length-map (live bytes) (λ (b : Span). b.at), few_live (word bytes allocator_word) bytes is_heap)
 
-  pub ready_known : (known : Known) → KnowsTiles bytes known → IsReady bytes table known
-  ready_known known knows = record {
+  pub ready_known : (known : Known) → KnowsTiles bytes known → ((T U : ℕ) → form_at table T ≡ Some (Form.shared U) → length bytes ≤ heap_start + 32 * length known.naming.counts) → IsReady bytes table known
+  ready_known known knows room = record {
     is_table = front.is_table;
-    of_version = front.of_version;
+    heap = is_heap;
     blocks = blocks_known known knows;
     few = few_known known knows;
     small = front.header.not_large;
+    standing = (λ h. omega (arith, knows.unclaimed h, knows.none_named h));
+    frozen = (λ h f. omega (arith, knows.unclaimed h, knows.none_named h));
+    slots = room;
   }
 
-pub ready_within : (bytes : List ℕ) (table : Table) (old new : Known) → Within new.unclaimed old.unclaimed → IsReady bytes table old → IsReady bytes table new
-ready_within bytes table old new less r = record {
-  is_table = r.is_table;
-  of_version = r.of_version;
-  blocks = (λ h some. r.blocks h (omega (arith, less h)));
-  few = omega (arith, r.few, within_length new.unclaimed old.unclaimed less);
-  small = r.small;
-}
+-- each block has a count where cells share objects
+pub has_slots : (bytes : List ℕ) (table : Table) (known : Known) (shares : Bool) → length bytes % 16 ≡ 0 → heap_start ≤ length bytes → (shares ≡ false → (T U : ℕ) → form_at table T ≡ Some (Form.shared U) → ⊥)
+    → length known.naming.counts ≡ slots_in shares ((length bytes - heap_start) / 16) → (T U : ℕ) → form_at table T ≡ Some (Form.shared U) → length bytes ≤ heap_start + 32 * length known.naming.counts
+has_slots bytes table known true whole large none slots T U f = omega (arith, slots)
+has_slots bytes table known false whole large none slots T U f = absurd (none refl T U f)

@@ -10,7 +10,7 @@ use Rattle.seg_spec.specs.Header.{allocator_word}
 use Rattle.seg_spec.specs.Types.{Table}
 use Rattle.seg_spec.specs.Heap.{HoldsGaps, gaps}
 use Rattle.seg_spec.specs.Faulty.{HasFront, HasTiles}
-use Rattle.seg_spec.specs.Sound.{IsSound}
+use Rattle.seg_spec.specs.Images.{IsSound}
 use Rattle.seg_check.specs.Claiming.{Refuses}
 use Rattle.seg_check.specs.Faults.{IsFaultOf}
 

@@ -36,4 +36,7 @@ pub mod FreeWalk
 pub mod MapLaws
 pub mod TreeIndex
 pub mod HeapLaws
+pub mod FrozenOrder
+pub mod FrozenList
+pub mod FrozenRead
 pub mod WholeLaws

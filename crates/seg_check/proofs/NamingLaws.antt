@@ -84,21 +84,27 @@ module _ (bytes : List ℕ) where
   -- ---- counts
 
   pub counts_same : (known : Known) (xs ys : List ℕ) → SameBlocks xs ys → Counts bytes known xs → Counts bytes known ys
-  counts_same known xs ys same c h f =
-      let at = c h f in
-      record {
-        named = (λ s. omega (arith, at.named.0 s, same (h + 16)), λ s. at.named.1 (omega (arith, s, same (h + 16))));
-        left = λ s. subst (λ n. left_at known h ≡ less (word bytes (h + 16)) n) (same (h + 16)) (at.left s);
-      }
+  counts_same known xs ys same c = record {
+    each = λ h f.
+        let at = c.each h f in
+        record {
+          named = (λ s. omega (arith, at.named.0 s, same (h + 16)), λ s. at.named.1 (omega (arith, s, same (h + 16))));
+          left = λ s. subst (λ n. left_at known h ≡ less (word bytes (h + 16)) n) (same (h + 16)) (at.left s);
+        };
+    frozen = c.frozen;
+  }
 
   pub counts_kept : (old new : Known) (names : List ℕ) → KeepsNames old new → Counts bytes old names → Counts bytes new names
-  counts_kept old new names same c h f =
-      let at = c h f in
-      let named : times h new.naming.named ≡ times h old.naming.named = ap (times h) same.named_kept in
-      record {
-        named = (λ s. at.named.0 (omega (arith, s, named)), λ s. let some = at.named.1 s in omega (arith, some, named));
-        left = λ s. ap (λ counts. get_or counts (slot_of h) None) same.counts_kept ∙ at.left (omega (arith, s, named));
-      }
+  counts_kept old new names same c = record {
+    each = λ h f.
+        let at = c.each h f in
+        let named : times h new.naming.named ≡ times h old.naming.named = ap (times h) same.named_kept in
+        record {
+          named = (λ s. at.named.0 (omega (arith, s, named)), λ s. let some = at.named.1 s in omega (arith, some, named));
+          left = λ s. ap (λ counts. get_or counts (slot_of h) None) same.counts_kept ∙ at.left (omega (arith, s, named));
+        };
+    frozen = λ h some. c.frozen h (omega (arith, some, ap (times h) same.named_kept));
+  }
 
   -- ---- steps
 

@@ -58,6 +58,15 @@ less_some n m l = ap (λ b. cond b (Some (n - m)) None) (le_true m n l)
 pub less_none : (n m : ℕ) → n < m → less n m ≡ None
 less_none n m l = ap (λ b. cond b (Some (n - m)) None) (le_false m n l)
 
+pub less_nothing : (n m : ℕ) → less n m ≡ Some 0 → n ≡ m
+less_nothing n m e = ⊎_elim
+    (λ some. let same : Some (n - m) ≡ Some 0 = sym (less_some n m some) ∙ e in let zero_left : n - m ≡ 0 = cc in omega arith)
+    (λ none. let no : None ≡ Some 0 = sym (less_none n m none) ∙ e in cc)
+    (le_or_not m n)
+
+pub less_self : (n : ℕ) → less n n ≡ Some 0
+less_self n = less_some n n (omega arith) ∙ ap Some (let e : n - n ≡ 0 = omega arith in e)
+
 pub less_more : (n m : ℕ) → one_less (less n m) ≡ less n (suc m)
 less_more n m = ⊎_elim
     (λ some. ap one_less (less_some n m some) ∙ ⊎_elim
@@ -178,28 +187,31 @@ module _ (bytes : List ℕ) (table : Table) (at T U : ℕ) (f : form_at table T 
 
           go : NamesFirst bytes old new start ⊎ NamesAgain old new start → CountsBlock bytes new (start ∷ before) block
           go (inl first) =
-              let none : times (block + 16) before ≡ 0 = zero_of (times (block + 16) before) (λ some. let named = (c block is_frozen).named.1 some in omega (arith, named, first.was_unnamed)) in
+              let none : times (block + 16) before ≡ 0 = zero_of (times (block + 16) before) (λ some. let named = (c.each block is_frozen).named.1 some in omega (arith, named, first.was_unnamed)) in
               record {
                 named = (λ s. omega (arith, one_more), λ s. omega (arith, n.named));
                 left = λ s. first.left ∙ (λ i. less (word bytes (after i)) (sym (one_more ∙ ap suc none) i));
               }
           go (inr again) = record {
             named = (λ s. omega (arith, one_more), λ s. omega (arith, n.named));
-            left = λ s. again.left ∙ ap one_less ((c block is_frozen).left (omega (arith, again.was_named))) ∙ less_more (word bytes (block + 16)) (times (block + 16) before) ∙ ap (less (word bytes (block + 16))) (sym one_more);
+            left = λ s. again.left ∙ ap one_less ((c.each block is_frozen).left (omega (arith, again.was_named))) ∙ less_more (word bytes (block + 16)) (times (block + 16) before) ∙ ap (less (word bytes (block + 16))) (sym one_more);
           }
 
       elsewhere : (h : ℕ) → IsFrozen bytes h → h ≢ block → CountsBlock bytes new (start ∷ before) h
       elsewhere h z other =
           let same : times (h + 16) (start ∷ before) ≡ times (h + 16) before = times-other (h + 16) start before (λ e. other (omega (arith, e, after))) in
           let named = n.named_others h other in
-          let was = c h z in
+          let was = c.each h z in
           record {
             named = (λ s. let some = was.named.0 (omega (arith, s, named)) in omega (arith, some, same), λ s. let some = was.named.1 (omega (arith, s, same)) in omega (arith, some, named));
             left = λ s. n.left_others h (slots_apart h other (omega (arith, s, named, ready.standing h))) ∙ was.left (omega (arith, s, named)) ∙ ap (less (word bytes (h + 16))) (sym same);
           }
 
       counts_then : Counts bytes new (start ∷ before)
-      counts_then h z = ⊎_elim (λ same. subst (CountsBlock bytes new (start ∷ before)) (sym same) here) (λ other. elsewhere h z other) (cases_eq h block)
+      counts_then = record {
+        each = λ h z. ⊎_elim (λ same. subst (CountsBlock bytes new (start ∷ before)) (sym same) here) (λ other. elsewhere h z other) (cases_eq h block);
+        frozen = λ h some. ⊎_elim (λ same. subst (IsFrozen bytes) (sym same) is_frozen) (λ other. c.frozen h (omega (arith, some, n.named_others h other))) (cases_eq h block);
+      }
 
     standing_then : (h : ℕ) → standing_at new h ≡ standing_at old h
     standing_then h = ⊎_elim (λ same. subst (λ x. standing_at new x ≡ standing_at old x) (sym same) (go n.changes)) (λ other. omega (arith, n.unclaimed_others h other, n.named_others h other)) (cases_eq h block)

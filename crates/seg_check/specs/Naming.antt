@@ -70,8 +70,9 @@ pub record CountsBlock (bytes : List ℕ) (known : Known) (names : List ℕ) (bl
   pub left : 1 ≤ times block known.naming.named →
       left_at known block ≡ less (word bytes (block + 16)) (times (block + 16) names)
 
-abbrev pub Counts : List ℕ → Known → List ℕ → Type 0
-Counts bytes known names = (h : ℕ) → IsFrozen bytes h → CountsBlock bytes known names h
+pub record Counts (bytes : List ℕ) (known : Known) (names : List ℕ) : Type 0 where
+  pub each : (h : ℕ) → IsFrozen bytes h → CountsBlock bytes known names h
+  pub frozen : (h : ℕ) → 1 ≤ times h known.naming.named → IsFrozen bytes h
 
 -- ---- steps
 

@@ -1,0 +1,126 @@
+-- Frozen objects that were looked at make up those of a picture.
+use Rattle.std.proofs.Common.{◌≡◌, ◌≢◌, ℕ, ◌+◌, ◌-◌, ◌*◌, ◌/◌, ◌%◌, ◌<◌, ◌≤◌, ◌⊎◌, inl, inr, ⊎_elim, List, [], ◌∷◌, ◌++◌, map, Some, None, refl, sym, ap, ◌∙◌, subst, arith}
+use Rattle.std.specs.List.{AllByRecursion}
+use Rattle.std.proofs.lemmas.Bool.{cases_eq}
+use Rattle.seg_spec.specs.Bytes.{word}
+use Rattle.seg_spec.specs.Types.{Table, size}
+use Rattle.seg_spec.specs.Value.{Value, Values, nil, cons}
+use Rattle.seg_spec.specs.Heap.{tag_at}
+use Rattle.seg_spec.specs.Block.{Kind, tag_of, block_of, IsBlock}
+use Rattle.seg_spec.specs.Reads.{Place, Holds}
+use Rattle.seg_spec.specs.Frozen.{Frozen, root_of_frozen, frozen_words}
+use Rattle.seg_spec.specs.Shared.{names_in, names_each, names_of, IsBelow, AreDistinct, IsFalling}
+use Rattle.seg_spec.specs.Sound.{HoldsRoots, holds_no_root, holds_more_roots, times, SameBlocks}
+use Rattle.seg_spec.proofs.Frame.{each_weaker}
+use Rattle.seg_spec.proofs.LiveLaws.{times-append, times-same, times-more}
+use Rattle.seg_spec.proofs.OwnedTags.{IsOther, owned_other}
+use Rattle.seg_spec.proofs.LooseRoots.{each_joined}
+use Rattle.seg_spec.proofs.Releases.{IsFrozenThere, there_frozen}
+use Rattle.seg_check.specs.Naming.{IsFrozen, IsNamed, number_at}
+use Rattle.seg_check.specs.Turns.{Limited, frozen_place}
+use Rattle.seg_check.specs.Resolving.{ReadsEach, reads_none, reads_more}
+use Rattle.seg_check.proofs.ReadLaws.{names_cons, names_nil}
+use Rattle.seg_check.proofs.FrozenOrder.{Falls}
+
+module _ (bytes : List ℕ) (table : Table) where
+  -- the number of the object in a block
+  abbrev pub number_of : ℕ → ℕ
+  number_of h = number_at bytes (h + 16)
+
+  -- the object in a block
+  abbrev pub frozen_at : ℕ → Value → Frozen
+  frozen_at h v = record { at = h + 16; type = tag_at bytes h / 256; number = number_of h; count = word bytes (h + 16); value = v }
+
+  abbrev pub frozens : List ℕ → Values → List Frozen
+  frozens [] vs = []
+  frozens (h ∷ hs) nil = []
+  frozens (h ∷ hs) (cons v vs) = frozen_at h v ∷ frozens hs vs
+
+  abbrev pub Reads : List ℕ → Values → List ℕ → Type 0
+  Reads hs vs bs = ReadsEach bytes table (map (frozen_place bytes) hs) vs bs
+
+  -- no block that values own is a frozen object
+  pub reads_other : {ps : List Limited} {vs : Values} {bs : List ℕ} → ReadsEach bytes table ps vs bs → AllByRecursion (IsOther bytes) bs
+  reads_other reads_none = tt
+  reads_other (reads_more {blocks = xs} {owned = ys} h n hs) = each_joined (IsOther bytes) xs ys (owned_other bytes table h) (reads_other hs)
+
+  pub names_are : (hs : List ℕ) {vs : Values} {bs : List ℕ} → Reads hs vs bs → names_of (frozens hs vs) ≡ names_each vs
+  names_are [] reads_none = sym names_nil
+  names_are (h ∷ hs) (reads_more {v = v} {vs = vs} f n r) = ap (λ ns. names_in v ++ ns) (names_are hs r) ∙ sym (names_cons v vs)
+
+  -- ---- their blocks
+
+  pub record Built (hs : List ℕ) (vs : Values) (bs : List ℕ) : Type 0 where
+    pub blocks : List ℕ
+    pub held : HoldsRoots bytes table (map root_of_frozen (frozens hs vs)) blocks
+    pub same : SameBlocks blocks (hs ++ bs)
+
+  -- where each block has room for its value
+  abbrev pub HasRoom : ℕ → Type 0
+  HasRoom h = IsBlock bytes (h + 16) (tag_of Kind.frozen (tag_at bytes h / 256)) (8 + size table (tag_at bytes h / 256))
+
+  pub built : (hs : List ℕ) {vs : Values} {bs : List ℕ} → AllByRecursion HasRoom hs → Reads hs vs bs → Built hs vs bs
+  built [] rooms reads_none = record { blocks = []; held = holds_no_root; same = λ h. refl }
+  built (h ∷ hs) rooms (reads_more {v = v} {blocks = mine} {owned = owned} f n r) =
+      let rest = built hs rooms.1 r in
+      let there : IsFrozenThere bytes table (frozen_at h v) (block_of (h + 16) ∷ mine) = record {
+        block = rooms.0;
+        count_is = refl;
+        number_is = refl;
+        inside = mine;
+        value = f;
+        blocks_are = refl;
+      } in
+      let own : block_of (h + 16) ≡ h = omega arith in
+      record {
+        blocks = (block_of (h + 16) ∷ mine) ++ rest.blocks;
+        held = holds_more_roots (there_frozen bytes table (frozen_at h v) (block_of (h + 16) ∷ mine) there) rest.held;
+        same = λ x.
+            let a = times-append x (block_of (h + 16) ∷ mine) rest.blocks in
+            let b : times x (block_of (h + 16) ∷ mine) ≡ times x (h ∷ []) + times x mine = ap (λ y. times x (y ∷ mine)) own ∙ times-append x (h ∷ []) mine in
+            let c = rest.same x in
+            let d = times-append x hs owned in
+            let e = times-append x (h ∷ hs) (mine ++ owned) in
+            let g = times-append x mine owned in
+            let i = times-append x (h ∷ []) hs in
+            omega arith;
+      }
+
+  -- ---- what holds of each
+
+  pub each_frozen : (P : Frozen → Type 0) (hs : List ℕ) {vs : Values} {bs : List ℕ} → Reads hs vs bs → AllByRecursion (λ h. (v : Value) → P (frozen_at h v)) hs → AllByRecursion P (frozens hs vs)
+  each_frozen P [] reads_none all = tt
+  each_frozen P (h ∷ hs) (reads_more {v = v} f n r) all = (all.0 v, each_frozen P hs r all.1)
+
+  -- each names objects of lower numbers
+  pub each_falls : (Q : ℕ → Place → Type 0) (hs : List ℕ) {vs : Values} {bs : List ℕ} → Reads hs vs bs → ((n : ℕ) (q : Place) → IsNamed bytes table (Some n) q → Q n q)
+      → AllByRecursion (λ f. AllByRecursion (Q f.number) (names_in f.value)) (frozens hs vs)
+  each_falls Q [] reads_none conv = tt
+  each_falls Q (h ∷ hs) (reads_more {v = v} f n r) conv = (each_weaker (IsNamed bytes table (Some (number_of h))) (Q (number_of h)) (λ q. conv (number_of h) q) (names_in v) n, each_falls Q hs r conv)
+
+  pub falling : (hs : List ℕ) {vs : Values} {bs : List ℕ} → Reads hs vs bs → Falls number_of hs → IsFalling (frozens hs vs)
+  falling [] reads_none f = tt
+  falling (h ∷ hs) (reads_more x n r) f = (each_frozen (λ g. g.number ≤ number_of h) hs r (each_weaker (λ y. number_of y ≤ number_of h) (λ y. (v : Value) → number_of y ≤ number_of h) (λ y l v. l) hs f.0), falling hs r f.1)
+
+  -- no two of them are in one block
+  others : (h : ℕ) (hs : List ℕ) → times h hs ≡ 0 → AllByRecursion (λ y. (v : Value) → y + 16 ≢ h + 16) hs
+  others h [] none = tt
+  others h (x ∷ xs) none = ((λ v same. absurd (let e : x ≡ h = omega arith in omega (arith, subst (λ y. times h (y ∷ xs) ≡ 0) e none, times-same h xs))), others h xs (omega (arith, none, times-more h x xs)))
+
+  pub distinct : (hs : List ℕ) {vs : Values} {bs : List ℕ} → Reads hs vs bs → ((h : ℕ) → times h hs ≤ 1) → AreDistinct (frozens hs vs)
+  distinct [] reads_none once = tt
+  distinct (h ∷ hs) (reads_more {v = v} {vs = vs} x n r) once = (
+    each_frozen (λ g. g.at ≢ h + 16) hs r (others h hs (omega (arith, once h, times-same h hs))),
+    distinct hs r (λ y. omega (arith, once y, times-more y h hs)),
+  )
+
+  -- one of them is below a number
+  pub below_in : (hs : List ℕ) {vs : Values} {bs : List ℕ} → Reads hs vs bs → (n : ℕ) (q : Place) → 16 ≤ q.at → 1 ≤ times (block_of q.at) hs → q.type ≡ tag_at bytes (block_of q.at) / 256 → number_at bytes q.at < n
+      → IsBelow n (frozens hs vs) q
+  below_in [] reads_none n q high some type_is low = absurd (omega arith)
+  below_in (h ∷ hs) (reads_more {v = v} {vs = vs} x m r) n q high some type_is low = ⊎_elim
+      (λ same.
+      let at : h + 16 ≡ q.at = omega (arith, same) in
+      inl (at, ap (λ b. tag_at bytes b / 256) same ∙ sym type_is, subst (λ p. number_at bytes p < n) (sym at) low))
+      (λ other. inr (below_in hs r n q high (omega (arith, some, Rattle.seg_spec.proofs.LiveLaws.times-other (block_of q.at) h hs other)) type_is low))
+      (cases_eq h (block_of q.at))
