@@ -109,7 +109,7 @@ fn changed_images_are_refused_or_usable(rt: HostRuntime) -> Result<(), Fail> {
     Ok(())
 }
 
-/// The same of an image with a frozen object. It is of version 2, so it is saved as it is.
+/// The same of an image with a frozen object.
 #[test]
 fn changed_images_that_share_are_refused_or_usable(rt: HostRuntime) -> Result<(), Fail> {
     let mut image = sharing(rt.alloc())?;
