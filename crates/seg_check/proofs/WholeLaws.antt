@@ -31,7 +31,7 @@ use Rattle.seg_check.specs.Naming.{IsFrozen, SameOthers, IsNamed, number_at, lef
 use Rattle.seg_check.specs.Turns.{Limited, awaited, AreWaiting, frozen_place}
 use Rattle.seg_check.specs.Resolving.{ReadsEach, reads_none, ResolvesBy, Resolves}
 use Rattle.seg_check.specs.Cells.{Owned, CanResolveAll, IsRightAt, AreRight}
-use Rattle.seg_check.specs.Roots.{uniques_ahead, ResolvesRoots, ResolvesIndex, AdvancesIndex, AdvancesUniques}
+use Rattle.seg_check.specs.Roots.{uniques_ahead, ResolvesRoots, ResolvesIndex, CanResolveRoots, AdvancesIndex, AdvancesUniques}
 use Rattle.seg_check.proofs.ReadLaws.{positions_of, positions_append}
 use Rattle.seg_check.proofs.NamingLaws.{none_frozen, none_other, frozen_of, are_frozen as all_frozen, times_frozen, all_same}
 use Rattle.seg_check.proofs.StepLaws.{resolves_swap, awaited-append, waiting_both}
@@ -39,7 +39,7 @@ use Rattle.seg_check.proofs.AnyOrder.{in_any_order}
 use Rattle.seg_check.proofs.SharedLaws.{frozen_type, less_nothing, less_self}
 use Rattle.seg_check.proofs.FrozenOrder.{sorted, greatest}
 use Rattle.seg_check.proofs.FrozenList.{number_of, frozen_at, frozens, reads_other, names_are, HasRoom, built, each_frozen, each_falls, falling, distinct, below_in}
-use Rattle.seg_check.proofs.FrozenRead.{blocks_in, IsThere, are_there, are_frozen, blocks_there, read_frozen, below_named, any_limit, none_names, reads_one, found}
+use Rattle.seg_check.proofs.FrozenRead.{blocks_in, IsThere, are_there, are_frozen, blocks_there, read_frozen, below_named, any_limit, none_names, reads_one, reads_named, no_places, found}
 use Rattle.seg_check.proofs.HeapLaws.{is_heap}
 
 -- ---- names after none
@@ -157,9 +157,80 @@ module _ (bytes : List ℕ) (table : Table) (known : Known) (front : HasFront by
         )
 
   pub sound_read : IsSound bytes → SoundRead
-  sound_read s = ?
+  sound_read s =
+      let p = s.picture in
+      let h = s.held in
+      let l = h.laid_out in
+      let names = l.names in
+      let fs = p.frozen in
+      let next = word bytes next_word in
+      let same : p.table ≡ table = HasTable-one bytes types_start p.table table l.is_table front.is_table l.types front.types in
+      let roots_are : roots_of p ≡ (p.names ++ p.uniques) ++ map root_of_frozen fs = ap (λ rs. p.names ++ (p.uniques ++ (rs ++ frozen_roots p))) s.none_loose ∙ sym (append_assoc p.names p.uniques (frozen_roots p)) in
+      let sp = HoldsRoots-split bytes table (p.names ++ p.uniques) (map root_of_frozen fs) h.root_blocks
+      (subst (λ rs. HoldsRoots bytes table rs h.root_blocks) roots_are (subst (λ t. HoldsRoots bytes t (roots_of p) h.root_blocks) same h.roots)) in
+      let there_all = are_there bytes table fs sp.rights in
+      let owners_are : owners_in p ≡ p.names ++ p.uniques = ap (λ rs. p.names ++ (p.uniques ++ rs)) s.none_loose ∙ ap (λ rs. p.names ++ rs) (append-nil p.uniques) in
+      let counted = subst (λ rs. IsCounted next fs (cells_in rs)) owners_are s.counted.counted in
+      let root_blocks = λ (b : ℕ). ap (times b) sp.blocks_are ∙ times-append b sp.left sp.right in
+      let alive : (b : ℕ) → 1 ≤ times b (blocks_in bytes table fs) → 1 ≤ times b (positions (live bytes)) = λ b some.
+      omega (arith, some, h.owners b, times-append b h.index_blocks h.root_blocks, root_blocks b, blocks_there bytes table fs sp.rights b) in
+      let named = each_weaker (λ (f : Frozen). AllByRecursion (IsBelow f.number fs) (names_in f.value)) (λ (f : Frozen). AllByRecursion (IsNamed bytes table (Some f.number)) (names_in f.value))
+      (λ f a. each_weaker (IsBelow f.number fs) (IsNamed bytes table (Some f.number)) (λ q b. below_named bytes table f.number fs q there_all alive b) (names_in f.value) a) fs counted.falling in
+      let rf = read_frozen bytes table fs sp.rights named in
+      let plain = each_left IsPlain p.uniques p.loose l.plain in
+      let cells = cells_in (p.names ++ p.uniques) in
+      let mine = positions_of (names_each rf.values) in
+      record {
+        blocks = blocks_in bytes table fs;
+        frozen = are_frozen bytes table fs there_all;
+        all = λ b f.
+            let none_index = none_frozen bytes b h.index_blocks f (subst (AllByRecursion (IsOther bytes)) (sym names.blocks_are) (index_other bytes (word bytes index_kind_word) names.index names.opens)) in
+            let none_root = none_frozen bytes b sp.left f (roots_other bytes table (plain_roots bytes names.index.entries p.names p.uniques names.entries plain) sp.lefts) in
+            let none_owned = none_frozen bytes b rf.owned f (reads_other bytes table rf.reads) in
+            omega (arith, h.owners b, times-append b h.index_blocks h.root_blocks, root_blocks b, rf.same b, times-append b (blocks_in bytes table fs) rf.owned, none_index, none_root, none_owned);
+        found = positions_of cells ++ mine;
+        index = record {
+          index = names.index;
+          opens = names.opens;
+          rest = h.root_blocks;
+          roots = record {
+            names = p.names;
+            uniques = p.uniques;
+            root_blocks = sp.left;
+            rest = rf.owned;
+            are_entries = names.entries;
+            ascending = after_none bytes names.index.entries p.names names.entries names.ascending;
+            words = (λ T low small. l.uniques.words T small);
+            rising = l.uniques.rising;
+            plain = plain;
+            roots = sp.lefts;
+            named = each_weaker (IsBelow next fs) (IsNamed bytes table None) (λ q b. any_limit bytes table next q (below_named bytes table next fs q there_all alive b)) cells counted.named;
+            others = mine;
+            resolves = record { values = rf.values; blocks = rf.owned; reads = rf.reads; owners = (λ b other. ap (times b) (sym (append-nil rf.owned))); names_are = (λ b. refl) };
+            owners = (λ b other. omega (arith, root_blocks b, rf.same b, times-append b (blocks_in bytes table fs) rf.owned, none_other bytes b (blocks_in bytes table fs) other (are_frozen bytes table fs there_all), times-append b sp.left
+                rf.owned));
+            found_are = (λ b. refl);
+          };
+          owners = (λ b other. knows.unclaimed b ∙ h.owners b ∙ ap (λ xs. times b (xs ++ h.root_blocks)) names.blocks_are);
+        };
+        counts = counts_each p.names p.uniques fs (positions_of cells ++ mine) counted
+            (λ b. ap (times b) (positions_append cells (names_of fs)) ∙ ap (λ ns. times b (positions_of cells ++ positions_of ns)) rf.names_are) fs there_all counted.numbered counted.some counted.counts;
+      }
 
   -- ---- the stations together
+
+  -- the unique objects of a sound image can be resolved
+  module _ (second third : Known) (index : AdvancesIndex bytes table known second) where
+    pub roots_can : IsSound bytes → CanResolveRoots bytes table second uniques_ahead
+    roots_can s =
+        let r = sound_read s in
+        record {
+          left = [];
+          places = awaited bytes table index.turns ++ map (frozen_place bytes) r.blocks;
+          found = r.found;
+          resolves = subst (λ k. ResolvesRoots bytes table k second.unclaimed [] uniques_ahead (awaited bytes table index.turns ++ map (frozen_place bytes) r.blocks) r.found) (sym index.finds.below_kept)
+              (index.forth [] (map (frozen_place bytes) r.blocks) r.found (subst (λ k. ResolvesIndex bytes table k known.unclaimed [] (map (frozen_place bytes) r.blocks) r.found) (sym knows.no_limit) r.index));
+        }
 
   module _ (second third : Known) (index : AdvancesIndex bytes table known second) (uniques : AdvancesUniques bytes table second third) where
     pub index_waits : second.turns ≡ index.turns
@@ -242,8 +313,66 @@ module _ (bytes : List ℕ) (table : Table) (known : Known) (front : HasFront by
         pub none_left : (h : ℕ) → times h last.unclaimed ≡ 0
         pub right : AreRight bytes last
 
+      none_then : (n : ℕ) → (1 ≤ n → ⊥) → n ≡ 0
+      none_then zero none = refl
+      none_then (suc n) none = absurd (none (omega arith))
+
+      -- each frozen object was seen, since the one of the greatest number among the others is named by none of them
+      none_unseen : (rest found names : List ℕ) → ((h : ℕ) → 1 ≤ times h rest → (1 ≤ times (h + 16) found) × (times (h + 16) (values.found ++ []) ≡ 0)) → SameBlocks found (values.found ++ names) → {vs : Values} {bs : List ℕ}
+          → ReadsEach bytes table (map (frozen_place bytes) rest) vs bs → SameBlocks names (positions_of (names_each vs)) → rest ≡ []
+      none_unseen [] found names facts same reads are = refl
+      none_unseen (r ∷ rs) found names facts same reads are =
+          let g = greatest (number_of bytes table) r rs in
+          let h = g.block in
+          let fact = facts h g.there in
+          let none = none_names bytes table (h + 16) (r ∷ rs) g.all reads in
+          absurd (omega (arith, fact.0, fact.1, same (h + 16), are (h + 16), none, times-append (h + 16) values.found [], times-append (h + 16) values.found names))
+
+      -- where each was seen, all that is right follows
+      seen_right : (blocks rest found names : List ℕ) → AllByRecursion (CountsAt found) blocks → SameBlocks blocks (values.seen ++ rest) → ((h : ℕ) → IsFrozen bytes h → times h rest ≡ times h last.unclaimed)
+          → SameBlocks found (values.found ++ names) → ResolvesBy bytes table last.unclaimed [] (map (frozen_place bytes) rest) names → rest ≡ [] → SoundEnd
+      seen_right blocks rest found names counts same unclaimed named r none =
+          let nothing = no_places bytes table (subst (λ hs. ReadsEach bytes table (map (frozen_place bytes) hs) r.values r.blocks) none r.reads) in
+          record {
+            none_left = λ h. ⊎_elim
+                (λ f. sym (unclaimed h f) ∙ ap (times h) none)
+                (λ other. r.owners h other ∙ ap (λ bs. times h (bs ++ [])) nothing.0)
+                (cases_eq (tag_at bytes h % 256) (kind_number Kind.frozen));
+            right = λ h some.
+                let f = counts_last.frozen h some in
+                let was : 1 ≤ times h blocks = omega (arith, same h, times-append h values.seen rest, seen_named h f, some) in
+                let c = there (CountsAt found) h blocks counts was in
+                let no_names : times (h + 16) names ≡ 0 = r.names_are (h + 16) ∙ ap (λ ns. times (h + 16) (positions_of ns)) nothing.1 in
+                let all : times (h + 16) (values.found ++ []) ≡ word bytes (h + 16) = omega (arith, c.counted, named (h + 16), no_names, times-append (h + 16) values.found [], times-append (h + 16) values.found names) in
+                record { none_left = (counts_last.each h f).left some ∙ ap (less (word bytes (h + 16))) all ∙ less_self (word bytes (h + 16)); numbered = c.numbered };
+          }
+
       pub sound_end : IsSound bytes → SoundEnd
-      sound_end s = ?
+      sound_end s =
+          let r = sound_read s in
+          let f = frozen_place bytes in
+          let start = awaited bytes table third.turns in
+          let rest = frozen_of bytes last.unclaimed in
+          let read = values_forth [] (map f r.blocks) r.found r.index in
+          let same : SameBlocks r.blocks (values.seen ++ rest) = all_same bytes r.blocks (values.seen ++ rest) r.frozen (each_joined (IsFrozen bytes) values.seen rest values.are_frozen (all_frozen bytes last.unclaimed))
+          (λ h z. omega (arith, r.all h z, all_seen h z, times-append h values.seen rest, times_frozen bytes h last.unclaimed z)) in
+          let front = resolves_swap bytes table third.unclaimed [] start (map f r.blocks) [] r.found (subst (λ xs. ResolvesBy bytes table third.unclaimed [] (start ++ xs) r.found) (sym (append-nil (map f r.blocks))) read) in
+          let ordered = in_any_order bytes table f third.unclaimed [] r.blocks (values.seen ++ rest) (start ++ []) r.found same front in
+          let back = resolves_swap bytes table third.unclaimed [] (map f (values.seen ++ rest)) start [] r.found ordered in
+          let apart : map f (values.seen ++ rest) ++ [] ≡ map f values.seen ++ map f rest = append-nil (map f (values.seen ++ rest)) ∙ map-append f values.seen rest in
+          let v = subst (λ xs. ResolvesBy bytes table third.unclaimed [] (start ++ xs) r.found) apart back in
+          let ahead = values.forth [] (map f rest) (record { names = r.found; by = v }) in
+          let again = values.back [] (map f rest) ahead.names ahead.by in
+          let one : v.values ≡ again.values = reads_one bytes table v.reads again.reads in
+          let named : SameBlocks r.found (values.found ++ ahead.names) = λ h. v.names_are h ∙ ap (λ vs. times h (positions_of (names_each vs))) one ∙ sym (again.names_are h) in
+          let unclaimed = λ (h : ℕ) (z : IsFrozen bytes h). times_frozen bytes h last.unclaimed z in
+          let facts : (h : ℕ) → 1 ≤ times h rest → (1 ≤ times (h + 16) r.found) × (times (h + 16) (values.found ++ []) ≡ 0) = λ h some.
+          let z = there (IsFrozen bytes) h rest (all_frozen bytes last.unclaimed) some in
+          let c = there (CountsAt r.found) h r.blocks r.counts (omega (arith, some, same h, times-append h values.seen rest)) in
+          let once = live-once bytes (word bytes allocator_word) heap h in
+          let none : times h last.naming.named ≡ 0 = omega (arith, some, unclaimed h z, values.standing_kept h z, standing_third h z, once) in
+          (c.some, none_then (times (h + 16) (values.found ++ [])) (λ met. let n = (counts_last.each h z).named.1 met in omega (arith, n, none))) in
+          seen_right r.blocks rest r.found ahead.names r.counts same unclaimed named ahead.by (none_unseen rest r.found ahead.names facts named ahead.by.reads ahead.by.names_are)
 
       -- ---- and what is right
 
