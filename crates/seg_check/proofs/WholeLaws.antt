@@ -32,13 +32,13 @@ use Rattle.seg_check.specs.Turns.{Limited, awaited, AreWaiting, frozen_place}
 use Rattle.seg_check.specs.Resolving.{ReadsEach, reads_none, ResolvesBy, Resolves}
 use Rattle.seg_check.specs.Cells.{Owned, CanResolveAll, IsRightAt, AreRight}
 use Rattle.seg_check.specs.Roots.{uniques_ahead, ResolvesRoots, ResolvesIndex, CanResolveRoots, AdvancesIndex, AdvancesUniques}
-use Rattle.seg_check.proofs.ReadLaws.{positions_of, positions_append}
+use Rattle.seg_check.proofs.ReadLaws.{names_nil, positions_of, positions_append}
 use Rattle.seg_check.proofs.NamingLaws.{none_frozen, none_other, frozen_of, are_frozen as all_frozen, times_frozen, all_same}
 use Rattle.seg_check.proofs.StepLaws.{resolves_swap, awaited-append, waiting_both}
 use Rattle.seg_check.proofs.AnyOrder.{in_any_order}
-use Rattle.seg_check.proofs.SharedLaws.{frozen_type, less_nothing, less_self}
+use Rattle.seg_check.proofs.SharedLaws.{frozen_tag, frozen_type, less_nothing, less_self}
 use Rattle.seg_check.proofs.FrozenOrder.{sorted, greatest}
-use Rattle.seg_check.proofs.FrozenList.{number_of, frozen_at, frozens, reads_other, names_are, HasRoom, built, each_frozen, each_falls, falling, distinct, below_in}
+use Rattle.seg_check.proofs.FrozenList.{number_of, frozen_at, frozens, reads_other, names_are, HasRoom, built, each_frozen, each_named, each_falls, falling, distinct, below_in}
 use Rattle.seg_check.proofs.FrozenRead.{blocks_in, IsThere, are_there, are_frozen, blocks_there, read_frozen, below_named, any_limit, none_names, reads_one, reads_named, no_places, found}
 use Rattle.seg_check.proofs.HeapLaws.{is_heap}
 
@@ -70,6 +70,28 @@ plain_names bytes (x ∷ entries) (r ∷ names) e = (e.0.no_words, plain_names b
 
 plain_roots : (bytes : List ℕ) (entries : List ℕ) (names uniques : List Root) → AreEntries bytes entries names → AllByRecursion IsPlain uniques → AllByRecursion (λ (r : Root). r.words ≡ []) (names ++ uniques)
 plain_roots bytes entries names uniques e p = each_joined (λ (r : Root). r.words ≡ []) names uniques (plain_names bytes entries names e) (each_weaker IsPlain (λ (r : Root). r.words ≡ []) (λ r q. q.no_words) uniques p)
+
+from_zero : (n : ℕ) → 0 ≤ n
+from_zero n = omega arith
+
+-- ---- blocks
+
+all_apart : (h : ℕ) (index roots frozen vs hs left : List ℕ) → times h frozen ≡ times h (hs ++ vs) → times h ((index ++ (roots ++ frozen)) ++ left) ≡ times h index + times h roots + times h hs + times h vs + times h left
+all_apart h index roots frozen vs hs left e =
+    let x = times-append h (index ++ (roots ++ frozen)) left in
+    let y = times-append h index (roots ++ frozen) in
+    let w = times-append h roots frozen in
+    let t = times-append h hs vs in
+    omega arith
+
+frozen_apart : (h : ℕ) (alive index roots frozen vs hs left seen : List ℕ) → times h alive ≡ times h seen + times h left → times h hs ≡ times h seen → times h frozen ≡ times h (hs ++ vs) → times h index ≡ 0 → times h roots ≡ 0 → times h vs ≡ 0
+    → times h alive ≡ times h ((index ++ (roots ++ frozen)) ++ left)
+frozen_apart h alive index roots frozen vs hs left seen a s e i r v = omega (arith, all_apart h index roots frozen vs hs left e, a, s, i, r, v)
+
+others_apart : (h : ℕ) (alive index roots frozen vs hs left seen known first rest : List ℕ) → times h known ≡ times h alive → times h known ≡ times h (index ++ first) → times h first ≡ times h (roots ++ rest) → times h rest ≡ times h (vs ++ left)
+    → times h hs ≡ times h seen → times h frozen ≡ times h (hs ++ vs) → times h seen ≡ 0 → times h alive ≡ times h ((index ++ (roots ++ frozen)) ++ left)
+others_apart h alive index roots frozen vs hs left seen known first rest k i r v s e z =
+    omega (arith, all_apart h index roots frozen vs hs left e, k, i, r, v, s, z, times-append h index first, times-append h roots rest, times-append h vs left)
 
 -- ---- the index and the roots, of an image with no loose object
 
@@ -376,8 +398,113 @@ module _ (bytes : List ℕ) (table : Table) (known : Known) (front : HasFront by
 
       -- ---- and what is right
 
-      pub held_right : AreRight bytes last → HoldsBut bytes table last.unclaimed
-      held_right right = ?
+      module _ (right : AreRight bytes last) where
+        index_held : ResolvesIndex bytes table None known.unclaimed last.unclaimed (map (frozen_place bytes) values.seen ++ []) (values.found ++ [])
+        index_held = values_back last.unclaimed (map (frozen_place bytes) values.seen ++ []) (values.found ++ []) (values.back last.unclaimed [] []
+            (record { values = nil; blocks = []; reads = reads_none; owners = λ h other. refl; names_are = λ h. ap (λ ns. times h (positions_of ns)) (sym names_nil) }))
+
+        seen_frozen : (h : ℕ) → 1 ≤ times h (sorted (number_of bytes table) values.seen).list → IsFrozen bytes h
+        seen_frozen h some = there (IsFrozen bytes) h values.seen values.are_frozen (omega (arith, some, (sorted (number_of bytes table) values.seen).same h))
+
+        -- a frozen object was seen where a cell names it
+        seen_met : (h : ℕ) → IsFrozen bytes h → 1 ≤ times (h + 16) (values.found ++ []) → 1 ≤ times h (sorted (number_of bytes table) values.seen).list
+        seen_met h f met = let n = (counts_last.each h f).named.1 met in omega (arith, n, seen_named h f, (sorted (number_of bytes table) values.seen).same h)
+
+        now_named : (h : ℕ) → 1 ≤ times h (sorted (number_of bytes table) values.seen).list → 1 ≤ times h last.naming.named
+        now_named h some = omega (arith, some, seen_named h (seen_frozen h some), (sorted (number_of bytes table) values.seen).same h)
+
+        met_seen : (h : ℕ) → 1 ≤ times h (sorted (number_of bytes table) values.seen).list → 1 ≤ times (h + 16) (values.found ++ [])
+        met_seen h some = (counts_last.each h (seen_frozen h some)).named.0 (now_named h some)
+
+        counts_are : (h : ℕ) → 1 ≤ times h (sorted (number_of bytes table) values.seen).list → word bytes (h + 16) ≡ times (h + 16) (values.found ++ [])
+        counts_are h some = less_nothing (word bytes (h + 16)) (times (h + 16) (values.found ++ [])) (sym ((counts_last.each h (seen_frozen h some)).left (now_named h some)) ∙ (right h (now_named h some)).none_left)
+
+        number_low : (h : ℕ) → 1 ≤ times h (sorted (number_of bytes table) values.seen).list → number_at bytes (h + 16) < word bytes next_word
+        number_low h some = (right h (now_named h some)).numbered
+
+        -- a name that is met is that of one of them
+        name_below : {vs : Values} {bs : List ℕ} (hs : List ℕ) → SameBlocks hs values.seen → ReadsEach bytes table (map (frozen_place bytes) hs) vs bs → (n : ℕ) (below : Option ℕ) (q : Place) → IsNamed bytes table below q
+            → 1 ≤ times q.at (values.found ++ []) → number_at bytes q.at < n → IsBelow n (frozens bytes table hs vs) q
+        name_below hs same reads n below q is met low =
+            let high = is.is_block.after_header in
+            let f : IsFrozen bytes (block_of q.at) = ap (λ t. t % 256) is.is_block.has_tag ∙ frozen_tag q.type in
+            let at : q.at ≡ block_of q.at + 16 = omega arith in
+            let n_is = (counts_last.each (block_of q.at) f).named.1 (subst (λ p. 1 ≤ times p (values.found ++ [])) at met) in
+            below_in bytes table hs reads n q high (omega (arith, n_is, seen_named (block_of q.at) f, same (block_of q.at))) (sym (ap (λ t. t / 256) is.is_block.has_tag ∙ frozen_type q.type)) low
+
+        held_right : HoldsBut bytes table last.unclaimed
+        held_right =
+            let i = index_held in
+            let r = i.roots in
+            let f = frozen_place bytes in
+            let hs = (sorted (number_of bytes table) values.seen).list in
+            let hs_are = (sorted (number_of bytes table) values.seen).same in
+            let next = word bytes next_word in
+            let met_names = values.found ++ [] in
+            let v = subst (λ ps. ResolvesBy bytes table r.rest last.unclaimed ps r.others) (append-nil (map f hs)) (in_any_order bytes table f r.rest last.unclaimed values.seen hs [] r.others (λ h. sym (hs_are h)) r.resolves) in
+            let cells = cells_in (r.names ++ r.uniques) in
+            let inner = names_each v.values in
+            let all_named = each_joined (IsNamed bytes table None) cells inner r.named (reads_named bytes table v.reads) in
+            let met : (p : ℕ) → times p met_names ≡ times p (positions_of (cells ++ inner)) = λ p.
+            let x = ap (times p) (positions_append cells inner) ∙ times-append p (positions_of cells) (positions_of inner) in
+            omega (arith, r.found_are p, x, times-append p (positions_of cells) r.others, v.names_are p) in
+            let rooms = each_there (HasRoom bytes table) hs (λ h some.
+            let q = found bytes table (IsNamed bytes table None) (h + 16) (cells ++ inner) all_named (omega (arith, met_seen h some, met (h + 16))) in
+            let own : block_of q.name.at ≡ h = ap block_of q.at_is ∙ (let e : h + 16 - 16 ≡ h = omega arith in e) in
+            let type_is : q.name.type ≡ tag_at bytes h / 256 = sym (frozen_type q.name.type) ∙ ap (λ t. t / 256) (sym q.is.is_block.has_tag) ∙ ap (λ b. tag_at bytes b / 256) own in
+            subst (λ T. IsBlock bytes (h + 16) (tag_of Kind.frozen T) (8 + size table T)) type_is (subst (λ p. IsBlock bytes p (tag_of Kind.frozen q.name.type) (8 + size table q.name.type)) q.at_is q.is.is_block)) in
+            let b = built bytes table hs rooms v.reads in
+            let fs = frozens bytes table hs v.values in
+            let once : (h : ℕ) → times h hs ≤ 1 = λ h. ⊎_elim
+            (λ z. omega (arith, hs_are h, all_seen h z, live-once bytes (word bytes allocator_word) heap h))
+            (λ other. omega (arith, hs_are h, none_other bytes h values.seen other values.are_frozen))
+            (cases_eq (tag_at bytes h % 256) (kind_number Kind.frozen)) in
+            let counted : IsCounted next fs cells = record {
+              distinct = distinct bytes table hs v.reads once;
+              numbered = each_frozen bytes table (λ g. g.number < next) hs v.reads (each_there (λ h. (w : Value) → number_of bytes table h < next) hs (λ h some w. number_low h some));
+              named = each_named bytes table (IsNamed bytes table None) (IsBelow next fs) cells r.named (λ q is some.
+                  let m : 1 ≤ times q.at met_names = omega (arith, some, met q.at, ap (times q.at) (positions_append cells inner) ∙ times-append q.at (positions_of cells) (positions_of inner)) in
+                  let high = is.is_block.after_header in
+                  let z : IsFrozen bytes (block_of q.at) = ap (λ t. t % 256) is.is_block.has_tag ∙ frozen_tag q.type in
+                  let at : q.at ≡ block_of q.at + 16 = omega arith in
+                  let low = number_low (block_of q.at) (seen_met (block_of q.at) z (subst (λ p. 1 ≤ times p met_names) at m)) in
+                  name_below hs hs_are v.reads next None q is m (subst (λ p. number_at bytes p < next) (sym at) low));
+              falling = each_falls bytes table (λ p. 1 ≤ times p met_names) (λ n q. IsBelow n fs q) hs v.reads
+                  (λ p some. omega (arith, some, met p, ap (times p) (positions_append cells inner) ∙ times-append p (positions_of cells) (positions_of inner)))
+                  (λ n q is m. name_below hs hs_are v.reads n (Some n) q is m is.under);
+              some = each_frozen bytes table (λ g. 1 ≤ g.count) hs v.reads (each_there (λ h. (w : Value) → 1 ≤ word bytes (h + 16)) hs (λ h some w. omega (arith, counts_are h some, met_seen h some)));
+              counts = each_frozen bytes table (λ g. g.count ≡ times_named g.at (cells ++ names_of fs)) hs v.reads (each_there (λ h. (w : Value) → word bytes (h + 16) ≡ times_named (h + 16) (cells ++ names_of fs)) hs
+                  (λ h some w. counts_are h some ∙ met (h + 16) ∙ ap (λ ns. times (h + 16) (positions_of (cells ++ ns))) (sym (names_are bytes table hs v.reads))));
+            } in
+            let owners_are : r.names ++ (r.uniques ++ []) ≡ r.names ++ r.uniques = ap (λ rs. r.names ++ rs) (append-nil r.uniques) in
+            let plain = plain_roots bytes i.index.entries r.names r.uniques r.are_entries r.plain in
+            record {
+              picture = record { table = table; names = r.names; uniques = r.uniques; loose = []; frozen = fs };
+              table_is = refl;
+              none_loose = refl;
+              counted = record { counted = subst (λ rs. IsCounted next fs (cells_in rs)) (sym owners_are) counted; falling = falling bytes table hs v.reads (sorted (number_of bytes table) values.seen).falls };
+              index_blocks = i.index.blocks;
+              laid_out = record {
+                header = front.header;
+                types = front.types;
+                is_table = front.is_table;
+                of_version = front.of_version;
+                heap = heap;
+                blocks = tiles.ownable;
+                names = record { index = i.index; opens = i.opens; entries = r.are_entries; ascending = of_after (map (λ (x : Root). x.name) r.names) r.ascending; blocks_are = refl };
+                uniques = record { words = (λ T l. r.words T (from_zero T) l); rising = r.rising };
+                plain = each_with_none r.uniques r.plain;
+              };
+              root_blocks = r.root_blocks ++ b.blocks;
+              roots = subst (λ rs. HoldsRoots bytes table rs (r.root_blocks ++ b.blocks)) (append_assoc r.names r.uniques (map root_of_frozen fs)) (HoldsRoots-append bytes table r.roots b.held);
+              owners = λ h. ⊎_elim
+                  (λ z. frozen_apart h (positions (live bytes)) i.index.blocks r.root_blocks b.blocks v.blocks hs last.unclaimed values.seen (all_seen h z) (hs_are h) (b.same h)
+                  (none_frozen bytes h i.index.blocks z (index_other bytes (word bytes index_kind_word) i.index i.opens)) (none_frozen bytes h r.root_blocks z (roots_other bytes table plain r.roots))
+                  (none_frozen bytes h v.blocks z (reads_other bytes table v.reads)))
+                  (λ other. others_apart h (positions (live bytes)) i.index.blocks r.root_blocks b.blocks v.blocks hs last.unclaimed values.seen known.unclaimed i.rest r.rest (knows.unclaimed h) (i.owners h other) (r.owners h other)
+                  (v.owners h other) (hs_are h) (b.same h) (none_other bytes h values.seen other values.are_frozen))
+                  (cases_eq (tag_at bytes h % 256) (kind_number Kind.frozen));
+            }
 
       pub all_owned : AreRight bytes last → last.unclaimed ≡ [] → IsImageOf bytes table
       all_owned right e = image_held bytes table (subst (HoldsBut bytes table) e (held_right right))
