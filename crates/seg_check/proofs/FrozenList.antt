@@ -19,7 +19,7 @@ use Rattle.seg_spec.proofs.Releases.{IsFrozenThere, there_frozen}
 use Rattle.seg_check.specs.Naming.{IsFrozen, IsNamed, number_at}
 use Rattle.seg_check.specs.Turns.{Limited, frozen_place}
 use Rattle.seg_check.specs.Resolving.{ReadsEach, reads_none, reads_more}
-use Rattle.seg_check.proofs.ReadLaws.{names_cons, names_nil}
+use Rattle.seg_check.proofs.ReadLaws.{names_cons, names_nil, positions_of, positions_append}
 use Rattle.seg_check.proofs.FrozenOrder.{Falls}
 
 module _ (bytes : List ℕ) (table : Table) where
@@ -92,11 +92,23 @@ module _ (bytes : List ℕ) (table : Table) where
   each_frozen P [] reads_none all = tt
   each_frozen P (h ∷ hs) (reads_more {v = v} f n r) all = (all.0 v, each_frozen P hs r all.1)
 
+  pub each_named : (P Q : Place → Type 0) (qs : List Place) → AllByRecursion P qs → ((q : Place) → P q → 1 ≤ times q.at (positions_of qs) → Q q) → AllByRecursion Q qs
+  each_named P Q [] a conv = tt
+  each_named P Q (q ∷ qs) a conv = (
+    conv q a.0 (omega (arith, times-same q.at (positions_of qs))),
+    each_named P Q qs a.1 (λ r p some. conv r p (omega (arith, some, times-more r.at q.at (positions_of qs)))),
+  )
+
   -- each names objects of lower numbers
-  pub each_falls : (Q : ℕ → Place → Type 0) (hs : List ℕ) {vs : Values} {bs : List ℕ} → Reads hs vs bs → ((n : ℕ) (q : Place) → IsNamed bytes table (Some n) q → Q n q)
-      → AllByRecursion (λ f. AllByRecursion (Q f.number) (names_in f.value)) (frozens hs vs)
-  each_falls Q [] reads_none conv = tt
-  each_falls Q (h ∷ hs) (reads_more {v = v} f n r) conv = (each_weaker (IsNamed bytes table (Some (number_of h))) (Q (number_of h)) (λ q. conv (number_of h) q) (names_in v) n, each_falls Q hs r conv)
+  pub each_falls : (Met : ℕ → Type 0) (Q : ℕ → Place → Type 0) (hs : List ℕ) {vs : Values} {bs : List ℕ} → Reads hs vs bs → ((p : ℕ) → 1 ≤ times p (positions_of (names_each vs)) → Met p)
+      → ((n : ℕ) (q : Place) → IsNamed bytes table (Some n) q → Met q.at → Q n q) → AllByRecursion (λ f. AllByRecursion (Q f.number) (names_in f.value)) (frozens hs vs)
+  each_falls Met Q [] reads_none met conv = tt
+  each_falls Met Q (h ∷ hs) (reads_more {v = v} {vs = vs} f n r) met conv =
+      let both = λ (p : ℕ). ap (λ ns. times p (positions_of ns)) (names_cons v vs) ∙ ap (times p) (positions_append (names_in v) (names_each vs)) ∙ times-append p (positions_of (names_in v)) (positions_of (names_each vs)) in
+      (
+        each_named (IsNamed bytes table (Some (number_of h))) (Q (number_of h)) (names_in v) n (λ q is some. conv (number_of h) q is (met q.at (omega (arith, some, both q.at)))),
+        each_falls Met Q hs r (λ p some. met p (omega (arith, some, both p))) conv,
+      )
 
   pub falling : (hs : List ℕ) {vs : Values} {bs : List ℕ} → Reads hs vs bs → Falls number_of hs → IsFalling (frozens hs vs)
   falling [] reads_none f = tt

@@ -13,6 +13,7 @@ use Rattle.seg_spec.specs.Sound.{HoldsRoots, holds_no_root, holds_more_roots, ti
 use Rattle.seg_spec.proofs.Frame.{each_weaker}
 use Rattle.seg_spec.proofs.LiveLaws.{times-append, times-same, times-other}
 use Rattle.std.proofs.lemmas.Bool.{cases_eq}
+use Rattle.seg_spec.proofs.LooseRoots.{each_joined}
 use Rattle.seg_spec.proofs.OneReading.{Holds-one}
 use Rattle.seg_spec.proofs.Releases.{IsFrozenThere, frozen_there}
 use Rattle.seg_check.specs.Naming.{IsFrozen, IsUnder, IsNamed, number_at}
@@ -129,3 +130,14 @@ module _ (bytes : List ℕ) (table : Table) where
       (λ same. record { name = q; at_is = same; is = a.0 })
       (λ other. found P p qs a.1 (omega (arith, some, times-other p q.at (positions_of qs) other)))
       (cases_eq q.at p)
+
+  -- what values name may be named without a limit
+  pub reads_named : {ps : List Limited} {vs : Values} {bs : List ℕ} → ReadsEach bytes table ps vs bs → AllByRecursion (IsNamed bytes table None) (names_each vs)
+  reads_named reads_none = subst (AllByRecursion (IsNamed bytes table None)) (sym names_nil) tt
+  reads_named (reads_more {place = place} {v = v} {vs = vs} h n r) = subst (AllByRecursion (IsNamed bytes table None)) (sym (names_cons v vs))
+      (each_joined (IsNamed bytes table None) (names_in v) (names_each vs)
+      (each_weaker (IsNamed bytes table place.below) (IsNamed bytes table None) (λ q i. record { is_block = i.is_block; there = i.there; under = tt }) (names_in v) n) (reads_named r))
+
+  -- no places own and name nothing
+  pub no_places : {vs : Values} {bs : List ℕ} → ReadsEach bytes table [] vs bs → (bs ≡ []) × (names_each vs ≡ [])
+  no_places reads_none = (refl, names_nil)

@@ -4,6 +4,7 @@ ghost use Rattle.seg_spec.specs.Faulty.{HasFront};
 ghost use Rattle.seg_spec.specs.Header.{version_word, types_start, types_size};
 ghost use Rattle.seg_spec.specs.Sound.{HasHeader};
 ghost use Rattle.seg_spec.specs.Types.{Form, form_at};
+ghost use Rattle.seg_layout.specs.Forms.{form_of, map_option};
 ghost use Rattle.seg_layout.specs.Reading.{IsReading};
 ghost use Rattle.seg_raw.specs.declared.fault.Fault.TheVariants.{Memory};
 ghost use Rattle.seg_check.specs.Faults.{IsImageOf, IsFaultOf, IsFrontRight};
@@ -50,11 +51,17 @@ fn shares(types: &TypeTable) -> bool
     ensures { result ≡ false → (T U : ℕ) → form_at types.now T ≡ Some (Form.shared U) → ⊥ }
 {
     for t in 0..types.len() {
-        if let Some(Type::Shared(_)) = types.kind(t as TypeId) {
+        if is_shared(types.kind(t as TypeId)) {
             return true;
         }
     }
     false
+}
+
+fn is_shared(kind: Option<Type>) -> bool
+    ensures { result ≡ false → (U : ℕ) → map_option form_of kind ≡ Some (Form.shared U) → ⊥ }
+{
+    matches!(kind, Some(Type::Shared(_)))
 }
 
 /// The heap, and all that lies in it.

@@ -1,4 +1,4 @@
-use Rattle.std.proofs.Common.{◌≡◌, ℕ, ◌+◌, ◌≤◌, List, length, arith, sym, ap, ◌∙◌}
+use Rattle.std.proofs.Common.{refl, ◌≡◌, ℕ, ◌+◌, ◌≤◌, List, length, arith, sym, ap, ◌∙◌}
 use Rattle.std.proofs.lemmas.Result.{err_from_is_err_and}
 use Rattle.std.specs.Prelude.{flat_map as flat_map_list}
 use Rattle.seg_spec.specs.Bytes.{slice}
@@ -16,21 +16,21 @@ has_table bytes read table header is spells =
 pub returns-in_err-check_heap-clause-fault : goal.returns-in_err-check_heap-clause-fault
 returns-in_err-check_heap-clause-fault g c =
     let header = c.in_ok-check_header.ensures.header in
-    let table = c.in_ok-types.ensures.table in
-    let types = has_table c.args.w.now.bytes c.slice.result.now c.in_ok-types.types header c.slice.ensures table.2 in
+    let table = (c.in_ok-types.ensures header).table in
+    let types = has_table c.args.w.now.bytes _ c.in_ok-types.types header refl table.2 in
     let p = err_from_is_err_and c.from_residual-in_err-check_heap.result c.from_residual-in_err-check_heap.ensures.1 in
     rw (p.1, p.2) (c.in_err-check_heap.ensures.fault (record { header = header; types = types; is_table = table.0; of_version = table.1 }))
 
 pub returns-in_err-check_heap-clause-memory : goal.returns-in_err-check_heap-clause-memory
 returns-in_err-check_heap-clause-memory g c = λ e.
     let header = c.in_ok-check_header.ensures.header in
-    let table = c.in_ok-types.ensures.table in
-    let types = has_table c.args.w.now.bytes c.slice.result.now c.in_ok-types.types header c.slice.ensures table.2 in
+    let table = (c.in_ok-types.ensures header).table in
+    let types = has_table c.args.w.now.bytes _ c.in_ok-types.types header refl table.2 in
     (c.in_ok-types.types, record { header = header; types = types; is_table = table.0; of_version = table.1 })
 
 pub returns-clause-image : goal.returns-clause-image
 returns-clause-image g c =
     let header = c.in_ok-check_header.ensures.header in
-    let table = c.in_ok-types.ensures.table in
-    let types = has_table c.args.w.now.bytes c.slice.result.now c.in_ok-types.types header c.slice.ensures table.2 in
+    let table = (c.in_ok-types.ensures header).table in
+    let types = has_table c.args.w.now.bytes _ c.in_ok-types.types header refl table.2 in
     c.in_ok-check_heap.ensures.image (record { header = header; types = types; is_table = table.0; of_version = table.1 })
