@@ -33,12 +33,9 @@ fn clients_run_beside_a_frozen_object(rt: HostRuntime) -> Result<(), Fail> {
     let image = sharing(rt.alloc())?;
     let ran = run_on(rt.alloc(), image.as_slice(), &[COUNT, COUNT])?;
     leaves(&rt, &ran, "1\n2\n", 208 - 32, 2)?;
-    for block in [784..816, 848..880] {
-        assert_eq!(rt;
-            ran.image.as_slice().get(block.clone()),
-            image.as_slice().get(block)
-        );
-    }
+    let (old, new) = (image.as_slice(), ran.image.as_slice());
+    assert_eq!(rt; new.get(784..816), old.get(784..816));
+    assert_eq!(rt; new.get(848..880), old.get(848..880));
     Ok(())
 }
 
