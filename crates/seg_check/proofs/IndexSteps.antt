@@ -11,7 +11,7 @@ use Rattle.seg_spec.specs.Block.{Kind, kind_number, IsBlock, block_of, tag_of}
 use Rattle.seg_spec.specs.Reads.{named, start, count_at, spaced}
 use Rattle.seg_spec.specs.Shapes.{Tree, leaf, nodes_of, IsTree, tree_words}
 use Rattle.seg_spec.specs.Index.{Root, Index, OpensFlat, OpensTreeIndex, OpensIndex, AreEntries, AreAscending}
-use Rattle.seg_spec.specs.Sound.{times, SameBlocks}
+use Rattle.seg_spec.specs.Sound.{times}
 use Rattle.seg_spec.proofs.LiveLaws.{times-append, times-same}
 use Rattle.seg_spec.proofs.OneReading.{IsTree-one}
 use Rattle.seg_check.specs.Claiming.{CanClaim}
@@ -19,7 +19,7 @@ use Rattle.seg_check.specs.Marks.{Known, ClaimsAll, Within}
 use Rattle.seg_check.specs.Naming.{SameOthers, Finds}
 use Rattle.seg_check.specs.Turns.{Limited, awaited}
 use Rattle.seg_check.specs.Resolving.{IsReady}
-use Rattle.seg_check.specs.Roots.{Ahead, names_ahead, uniques_ahead, ResolvesRoots, ResolvesIndex, CanResolveRoots, CanResolveIndex, AdvancesRoots, AdvancesIndex}
+use Rattle.seg_check.specs.Roots.{Ahead, names_ahead, ResolvesRoots, ResolvesIndex, CanResolveRoots, CanResolveIndex, AdvancesRoots, AdvancesIndex}
 use Rattle.seg_check.proofs.NamingLaws.{other_block, none_frozen, finds_claimed, finds_more}
 use Rattle.seg_check.proofs.StepLaws.{within_taken, within_trans, ready_found}
 use Rattle.seg_check.proofs.OpenLaws.{named_some, named_none, start_some, names_room, no_room, none_counted, can_claim}

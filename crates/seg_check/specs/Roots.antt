@@ -22,7 +22,6 @@ use Rattle.seg_spec.specs.Pointer.{target}
 use Rattle.seg_spec.specs.Types.{Table, form_at, size}
 use Rattle.seg_spec.specs.Header.{index_kind_word}
 use Rattle.seg_spec.specs.Block.{Kind, tag_of}
-use Rattle.seg_spec.specs.Reads.{Place}
 use Rattle.seg_spec.specs.Index.{Root, Index, OpensIndex, OpensTreeIndex, AreEntries, AreAscending, position_of, AreRising, unique_word}
 use Rattle.seg_spec.specs.Counting.{cells_in}
 use Rattle.seg_spec.specs.Sound.{IsPlain, HoldsRoots, SameBlocks}

@@ -1,4 +1,4 @@
-use Rattle.std.proofs.Common.{◌≡◌, ◌+◌, ◌-◌, ◌/◌, Bool, true, false, length, sym, ap, ◌∙◌, subst, arith, rules}
+use Rattle.std.proofs.Common.{◌≡◌, ◌+◌, ◌-◌, ◌/◌, length, sym, ap, ◌∙◌, arith, rules}
 use Rattle.seg_check.specs.Marks.{slots_in}
 use Rattle.seg_check.proofs.KnownLaws.{fresh}
 use Rattle.seg_check.proofs.claims.Claims.new.Goals as goal
