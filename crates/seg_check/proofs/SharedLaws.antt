@@ -87,9 +87,6 @@ module _ (bytes : List ℕ) (table : Table) (at T U : ℕ) (f : form_at table T 
   abbrev room : ℕ
   room = frozen_words + size table U
 
-  place : Place
-  place = record { at = at; type = T }
-
   shared_opened : Option ℕ → Opened
   shared_opened t = record { label = shared_label U t; blocks = []; parts = [] }
 
@@ -173,9 +170,6 @@ module _ (bytes : List ℕ) (table : Table) (at T U : ℕ) (f : form_at table T 
 
     -- ---- what changes
 
-    others_unclaimed : (h : ℕ) → h ≢ block → times h new.unclaimed ≡ times h old.unclaimed
-    others_unclaimed h other = n.unclaimed_others h other
-
     module _ (before : List ℕ) (c : Counts bytes old before) where
       here : CountsBlock bytes new (start ∷ before) block
       here = go n.changes
@@ -219,9 +213,6 @@ module _ (bytes : List ℕ) (table : Table) (at T U : ℕ) (f : form_at table T 
         go : NamesFirst bytes old new start ⊎ NamesAgain old new start → standing_at new block ≡ standing_at old block
         go (inl first) = omega (arith, first.was_unclaimed, first.now_claimed, first.was_unnamed, n.named)
         go (inr again) = omega (arith, ap (times block) again.unclaimed_kept, again.was_named, n.named)
-
-    turn : Waiting
-    turn = record { turn = record { start = start; count = 1 }; below = Some (number_at bytes start) }
 
     unseen_then : (h : ℕ) → unseen_at new h ≡ unseen_at old h
     unseen_then h = go n.changes

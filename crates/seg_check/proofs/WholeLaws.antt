@@ -83,12 +83,12 @@ all_apart h index roots frozen vs hs left e =
     let t = times-append h hs vs in
     omega arith
 
-frozen_apart : (h : ℕ) (alive index roots frozen vs hs left seen : List ℕ) → times h alive ≡ times h seen + times h left → times h hs ≡ times h seen → times h frozen ≡ times h (hs ++ vs) → times h index ≡ 0 → times h roots ≡ 0 → times h vs ≡ 0
-    → times h alive ≡ times h ((index ++ (roots ++ frozen)) ++ left)
+frozen_apart : (h : ℕ) (alive index roots frozen vs hs left seen : List ℕ) → times h alive ≡ times h seen + times h left → times h hs ≡ times h seen → times h frozen ≡ times h (hs ++ vs) → times h index ≡ 0
+    → times h roots ≡ 0 → times h vs ≡ 0 → times h alive ≡ times h ((index ++ (roots ++ frozen)) ++ left)
 frozen_apart h alive index roots frozen vs hs left seen a s e i r v = omega (arith, all_apart h index roots frozen vs hs left e, a, s, i, r, v)
 
-others_apart : (h : ℕ) (alive index roots frozen vs hs left seen known first rest : List ℕ) → times h known ≡ times h alive → times h known ≡ times h (index ++ first) → times h first ≡ times h (roots ++ rest) → times h rest ≡ times h (vs ++ left)
-    → times h hs ≡ times h seen → times h frozen ≡ times h (hs ++ vs) → times h seen ≡ 0 → times h alive ≡ times h ((index ++ (roots ++ frozen)) ++ left)
+others_apart : (h : ℕ) (alive index roots frozen vs hs left seen known first rest : List ℕ) → times h known ≡ times h alive → times h known ≡ times h (index ++ first) → times h first ≡ times h (roots ++ rest)
+    → times h rest ≡ times h (vs ++ left) → times h hs ≡ times h seen → times h frozen ≡ times h (hs ++ vs) → times h seen ≡ 0 → times h alive ≡ times h ((index ++ (roots ++ frozen)) ++ left)
 others_apart h alive index roots frozen vs hs left seen known first rest k i r v s e z =
     omega (arith, all_apart h index roots frozen vs hs left e, k, i, r, v, s, z, times-append h index first, times-append h roots rest, times-append h vs left)
 
@@ -271,9 +271,6 @@ module _ (bytes : List ℕ) (table : Table) (known : Known) (front : HasFront by
 
     pub are_waiting : AreWaiting bytes table third.turns
     are_waiting = subst (AreWaiting bytes table) (sym turns_together) (waiting_both bytes table index.turns uniques.turns index.are_waiting uniques.are_waiting)
-
-    below_second : second.naming.below ≡ None
-    below_second = index.finds.below_kept ∙ knows.no_limit
 
     pub values_forth : (left : List ℕ) (places : List Limited) (found : List ℕ) → ResolvesIndex bytes table None known.unclaimed left places found
         → ResolvesBy bytes table third.unclaimed left (awaited bytes table third.turns ++ places) found
