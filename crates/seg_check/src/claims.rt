@@ -255,6 +255,7 @@ impl<A: Allocator> Claims<A> {
         self.counts.get(slot as usize).copied().flatten()
     }
 
+    /// Sets how many more cells may name it.
     fn put_left(&mut self, block: u32, left: Option<u32>)
         ensures own { heap_start ≤ block → slot_of block < length self.old.naming.counts →
             left_at self.new block ≡ left }
