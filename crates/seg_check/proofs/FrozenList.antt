@@ -1,5 +1,5 @@
 -- Frozen objects that were looked at make up those of a picture.
-use Rattle.std.proofs.Common.{◌≡◌, ◌≢◌, ℕ, ◌+◌, ◌-◌, ◌*◌, ◌/◌, ◌%◌, ◌<◌, ◌≤◌, ◌⊎◌, inl, inr, ⊎_elim, List, [], ◌∷◌, ◌++◌, map, Some, None, refl, sym, ap, ◌∙◌, subst, arith}
+use Rattle.std.proofs.Common.{◌≡◌, ◌≢◌, ℕ, ◌+◌, ◌/◌, ◌<◌, ◌≤◌, inl, inr, ⊎_elim, List, [], ◌∷◌, ◌++◌, map, Some, refl, sym, ap, ◌∙◌, subst, arith}
 use Rattle.std.specs.List.{AllByRecursion}
 use Rattle.std.proofs.lemmas.Bool.{cases_eq}
 use Rattle.seg_spec.specs.Bytes.{word}
@@ -7,8 +7,8 @@ use Rattle.seg_spec.specs.Types.{Table, size}
 use Rattle.seg_spec.specs.Value.{Value, Values, nil, cons}
 use Rattle.seg_spec.specs.Heap.{tag_at}
 use Rattle.seg_spec.specs.Block.{Kind, tag_of, block_of, IsBlock}
-use Rattle.seg_spec.specs.Reads.{Place, Holds}
-use Rattle.seg_spec.specs.Frozen.{Frozen, root_of_frozen, frozen_words}
+use Rattle.seg_spec.specs.Reads.{Place}
+use Rattle.seg_spec.specs.Frozen.{Frozen, root_of_frozen}
 use Rattle.seg_spec.specs.Shared.{names_in, names_each, names_of, IsBelow, AreDistinct, IsFalling}
 use Rattle.seg_spec.specs.Sound.{HoldsRoots, holds_no_root, holds_more_roots, times, SameBlocks}
 use Rattle.seg_spec.proofs.Frame.{each_weaker}
@@ -16,7 +16,7 @@ use Rattle.seg_spec.proofs.LiveLaws.{times-append, times-same, times-more}
 use Rattle.seg_spec.proofs.OwnedTags.{IsOther, owned_other}
 use Rattle.seg_spec.proofs.LooseRoots.{each_joined}
 use Rattle.seg_spec.proofs.Releases.{IsFrozenThere, there_frozen}
-use Rattle.seg_check.specs.Naming.{IsFrozen, IsNamed, number_at}
+use Rattle.seg_check.specs.Naming.{IsNamed, number_at}
 use Rattle.seg_check.specs.Turns.{Limited, frozen_place}
 use Rattle.seg_check.specs.Resolving.{ReadsEach, reads_none, reads_more}
 use Rattle.seg_check.proofs.ReadLaws.{names_cons, names_nil, positions_of, positions_append}
@@ -104,8 +104,7 @@ module _ (bytes : List ℕ) (table : Table) where
       → ((n : ℕ) (q : Place) → IsNamed bytes table (Some n) q → Met q.at → Q n q) → AllByRecursion (λ f. AllByRecursion (Q f.number) (names_in f.value)) (frozens hs vs)
   each_falls Met Q [] reads_none met conv = tt
   each_falls Met Q (h ∷ hs) (reads_more {v = v} {vs = vs} f n r) met conv =
-      let both = λ (p : ℕ). ap (λ ns. times p (positions_of ns)) (names_cons v vs) ∙ ap (times p) (positions_append (names_in v) (names_each vs)) ∙ times-append p (positions_of (names_in v)) (positions_of (names_each vs)) in
-      (
+      let both = λ (p : ℕ). ap (λ ns. times p (positions_of ns)) (names_cons v vs) ∙ ap (times p) (positions_append (names_in v) (names_each vs)) ∙ times-append p (positions_of (names_in v)) (positions_of (names_each vs)) in (
         each_named (IsNamed bytes table (Some (number_of h))) (Q (number_of h)) (names_in v) n (λ q is some. conv (number_of h) q is (met q.at (omega (arith, some, both q.at)))),
         each_falls Met Q hs r (λ p some. met p (omega (arith, some, both p))) conv,
       )

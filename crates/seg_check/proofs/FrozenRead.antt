@@ -1,12 +1,12 @@
 -- The frozen objects of a picture, as places that hold values.
-use Rattle.std.proofs.Common.{◌≡◌, ◌≢◌, ℕ, ◌+◌, ◌-◌, ◌*◌, ◌/◌, ◌%◌, ◌<◌, ◌≤◌, ◌⊎◌, inl, inr, ⊎_elim, List, [], ◌∷◌, ◌++◌, map, Option, Some, None, refl, sym, ap, ◌∙◌, subst, arith}
+use Rattle.std.proofs.Common.{◌≡◌, ℕ, ◌+◌, ◌/◌, ◌%◌, ◌<◌, ◌≤◌, inl, inr, ⊎_elim, List, [], ◌∷◌, ◌++◌, map, Some, None, refl, sym, ap, ◌∙◌, subst, arith}
 use Rattle.std.specs.List.{AllByRecursion}
 use Rattle.seg_spec.specs.Bytes.{word}
 use Rattle.seg_spec.specs.Types.{Table, size}
 use Rattle.seg_spec.specs.Value.{Values, nil, cons}
 use Rattle.seg_spec.specs.Heap.{tag_at, live}
 use Rattle.seg_spec.specs.Block.{Kind, tag_of, block_of, IsBlock}
-use Rattle.seg_spec.specs.Reads.{Place, Holds}
+use Rattle.seg_spec.specs.Reads.{Place}
 use Rattle.seg_spec.specs.Frozen.{Frozen, root_of_frozen, frozen_words}
 use Rattle.seg_spec.specs.Shared.{names_in, names_each, names_of, IsBelow}
 use Rattle.seg_spec.specs.Sound.{HoldsRoots, holds_no_root, holds_more_roots, times, SameBlocks, positions}
@@ -15,8 +15,8 @@ use Rattle.seg_spec.proofs.LiveLaws.{times-append, times-same, times-other}
 use Rattle.std.proofs.lemmas.Bool.{cases_eq}
 use Rattle.seg_spec.proofs.LooseRoots.{each_joined}
 use Rattle.seg_spec.proofs.OneReading.{Holds-one}
-use Rattle.seg_spec.proofs.Releases.{IsFrozenThere, frozen_there}
-use Rattle.seg_check.specs.Naming.{IsFrozen, IsUnder, IsNamed, number_at}
+use Rattle.seg_spec.proofs.Releases.{frozen_there}
+use Rattle.seg_check.specs.Naming.{IsFrozen, IsNamed, number_at}
 use Rattle.seg_check.specs.Turns.{Limited, frozen_place}
 use Rattle.seg_check.specs.Resolving.{ReadsEach, reads_none, reads_more}
 use Rattle.seg_check.proofs.ReadLaws.{names_cons, names_nil, positions_of, positions_append}

@@ -11,7 +11,7 @@ use Rattle.seg_spec.specs.Block.{Kind, kind_number, IsBlock, block_of, tag_of}
 use Rattle.seg_spec.specs.Reads.{named, start, count_at, spaced}
 use Rattle.seg_spec.specs.Shapes.{Tree, leaf, nodes_of, IsTree, tree_words}
 use Rattle.seg_spec.specs.Index.{Root, Index, OpensFlat, OpensTreeIndex, OpensIndex, AreEntries, AreAscending}
-use Rattle.seg_spec.specs.Sound.{times, SameBlocks}
+use Rattle.seg_spec.specs.Sound.{times}
 use Rattle.seg_spec.proofs.LiveLaws.{times-append, times-same}
 use Rattle.seg_spec.proofs.OneReading.{IsTree-one}
 use Rattle.seg_check.specs.Claiming.{CanClaim}
@@ -19,7 +19,7 @@ use Rattle.seg_check.specs.Marks.{Known, ClaimsAll, Within}
 use Rattle.seg_check.specs.Naming.{SameOthers, Finds}
 use Rattle.seg_check.specs.Turns.{Limited, awaited}
 use Rattle.seg_check.specs.Resolving.{IsReady}
-use Rattle.seg_check.specs.Roots.{Ahead, names_ahead, uniques_ahead, ResolvesRoots, ResolvesIndex, CanResolveRoots, CanResolveIndex, AdvancesRoots, AdvancesIndex}
+use Rattle.seg_check.specs.Roots.{Ahead, names_ahead, ResolvesRoots, ResolvesIndex, CanResolveRoots, CanResolveIndex, AdvancesRoots, AdvancesIndex}
 use Rattle.seg_check.proofs.NamingLaws.{other_block, none_frozen, finds_claimed, finds_more}
 use Rattle.seg_check.proofs.StepLaws.{within_taken, within_trans, ready_found}
 use Rattle.seg_check.proofs.OpenLaws.{named_some, named_none, start_some, names_room, no_room, none_counted, can_claim}
@@ -34,7 +34,8 @@ rest_same : (h : ℕ) (u v blocks rest : List ℕ) → times h u ≡ times h (bl
 rest_same h u v blocks rest e f = omega (arith, times-append h blocks v, times-append h blocks rest)
 
 module _ (bytes : List ℕ) (table : Table) where
-  roots_moved : (below : Option ℕ) (u v l : List ℕ) (ahead : Ahead) (places : List Limited) (found : List ℕ) → SameOthers bytes u v → ResolvesRoots bytes table below u l ahead places found → ResolvesRoots bytes table below v l ahead places found
+  roots_moved : (below : Option ℕ) (u v l : List ℕ) (ahead : Ahead) (places : List Limited) (found : List ℕ) → SameOthers bytes u v → ResolvesRoots bytes table below u l ahead places found
+      → ResolvesRoots bytes table below v l ahead places found
   roots_moved below u v l ahead places found same r = record {
     names = r.names;
     uniques = r.uniques;
@@ -100,9 +101,6 @@ module _ (bytes : List ℕ) (table : Table) where
         resolves = subst (λ k. ResolvesRoots bytes table k mid.unclaimed can.left (names_ahead index.entries []) can.places can.found) (sym index_finds.below_kept)
             (names_left old.naming.below can.left can.places can.found can.resolves);
       }
-
-      pub index_ready : IsReady bytes table old → IsReady bytes table mid
-      index_ready ready = ready_found bytes table old mid [] ready (within_taken old.unclaimed mid.unclaimed index.blocks claims.claimed) index_finds
 
       pub index_advance : (new : Known) (last : List ℕ) → AdvancesRoots bytes table mid new (names_ahead index.entries []) (names_ahead [] last) → AdvancesIndex bytes table old new
       index_advance new last a =
@@ -170,13 +168,6 @@ module _ (bytes : List ℕ) (table : Table) where
     index_empty old l n =
         index_advance old old (record { blocks = []; entries = [] }) (opens_empty (word bytes index_kind_word) l n) (one_empty (word bytes index_kind_word) l n)
         (record { claimed = λ h. refl; counted = λ c. c; turns_are = sym (append-nil old.turns); naming_kept = refl }) old [] (roots_none bytes table old (names_ahead [] []))
-
-    counts_none : (k : ℕ) (index : Index) → OpensIndex bytes k index → count_at bytes index_cell ≡ 0
-    counts_none zero index o = none_counted bytes index_cell (tag_of Kind.index_buffer 0) 8 none o.named_room
-    counts_none (suc k) index o = sym o.counted ∙ ap (λ t. length (nodes_of t)) (no_tree o.tree o.is_tree)
-
-    pub index_counts : (known : Known) → CanResolveIndex bytes table known → count_at bytes index_cell ≡ 0
-    index_counts known can = counts_none (word bytes index_kind_word) can.resolves.index can.resolves.opens
 
   pub index_within : (known : Known) (can : CanResolveIndex bytes table known) → Within can.resolves.index.blocks known.unclaimed
   index_within known can h = ⊎_elim

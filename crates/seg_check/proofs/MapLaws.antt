@@ -10,7 +10,7 @@ use Rattle.seg_spec.specs.Types.{Form, Table, form_at, size}
 use Rattle.seg_spec.specs.Block.{Kind, tag_of, block_of, IsBlock}
 use Rattle.seg_spec.specs.Shapes.{Tree, leaf, fork, nodes_of, IsTree, tree_words}
 use Rattle.seg_spec.specs.Value.{IsAscending, Label}
-use Rattle.seg_spec.specs.Reads.{Place, Opened, AreNodes, count_at, keys_at, map_words, places_of}
+use Rattle.seg_spec.specs.Reads.{Opened, AreNodes, count_at, keys_at, map_words, places_of}
 use Rattle.seg_spec.specs.Sound.{times, SameBlocks}
 use Rattle.seg_spec.proofs.LiveLaws.{times-same, times-append}
 use Rattle.seg_block.specs.Tags.{word_of}

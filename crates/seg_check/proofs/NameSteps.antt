@@ -283,7 +283,8 @@ module _ (bytes : List ℕ) (table : Table) where
           let s = HoldsRoots-split bytes table (root ∷ []) (names ++ r.uniques) r.root_blocks h in
           let it = plain_of bytes table root s.left e.0.no_words (HoldsRoots-only bytes table root s.left s.lefts) in
           let named_block = subst (λ k. IsBlock bytes root.at (tag_of k root.type) (count root.values * size table root.type + length root.name)) (kind_named root.name e.0.is_name.not_empty) it.block in
-          let own = owned (block_of root.at) r.root_blocks s.left (block_of root.at ∷ []) s.right it.inside r.rest old.unclaimed (r.owners (block_of root.at) (other_block bytes root.at (tag_of Kind.named root.type) (count root.values * size table root.type + length root.name) (λ e. absurd (omega (arith, e))) named_block)) s.blocks_are it.blocks_are in
+          let other = other_block bytes root.at (tag_of Kind.named root.type) (count root.values * size table root.type + length root.name) (λ e. absurd (omega (arith, e))) named_block in
+          let own = owned (block_of root.at) r.root_blocks s.left (block_of root.at ∷ []) s.right it.inside r.rest old.unclaimed (r.owners (block_of root.at) other) s.blocks_are it.blocks_are in
           record {
             root = root;
             entry = e.0;

@@ -1,5 +1,5 @@
 -- What is known of frozen objects while others are claimed.
-use Rattle.std.proofs.Common.{◌≡◌, ℕ, ◌+◌, ◌%◌, ◌≤◌, ⊎_elim, Bool, true, false, cond, eqb, Option, None, List, [], ◌∷◌, ◌++◌, length, map, get_or, refl, sym, ap, ◌∙◌, subst, arith}
+use Rattle.std.proofs.Common.{◌≡◌, ℕ, ◌+◌, ◌%◌, ⊎_elim, Bool, true, false, cond, eqb, Option, None, List, [], ◌∷◌, ◌++◌, length, get_or, refl, sym, ap, ◌∙◌, subst, arith}
 use Rattle.std.specs.List.{AllByRecursion}
 use Rattle.std.proofs.lemmas.Bool.{cases_eq}
 use Rattle.std.proofs.lemmas.Bool.Decides.{nat_tests}
@@ -12,7 +12,7 @@ use Rattle.seg_spec.proofs.LiveLaws.{times-append, times-other}
 use Rattle.seg_check.specs.declared.marks.Turn.{Turn}
 use Rattle.seg_check.specs.declared.marks.Waiting.{Waiting}
 use Rattle.seg_check.specs.Marks.{Known, Naming, KeepsNames, ClaimsAll, awaiting}
-use Rattle.seg_check.specs.Naming.{IsFrozen, slot_of, left_at, less, Counts, Finds, blocks_of, unseen_at}
+use Rattle.seg_check.specs.Naming.{IsFrozen, slot_of, left_at, less, Counts, Finds, blocks_of}
 use Rattle.seg_check.specs.Turns.{AreOthers}
 
 pub blocks_append : (xs ys : List Waiting) → blocks_of (xs ++ ys) ≡ blocks_of xs ++ blocks_of ys

@@ -1,6 +1,6 @@
 -- Cells that share objects, by the frozen object that each names.
-use Rattle.std.proofs.Common.{◌≡◌, ◌≢◌, ℕ, zero, suc, ◌+◌, ◌-◌, ◌*◌, ◌/◌, ◌%◌, ◌^◌, ◌<◌, ◌≤◌, ◌⊎◌, inl, inr, ⊎_elim, Bool, true, false, cond, List, [], ◌∷◌, ◌++◌, length, get_or, Option, Some, None, Err, refl, sym, ap, ◌∙◌, subst, arith}
-use Rattle.std.specs.Prelude.{MatchOption, nat_le}
+use Rattle.std.proofs.Common.{◌≡◌, ◌≢◌, ℕ, zero, suc, ◌+◌, ◌-◌, ◌*◌, ◌/◌, ◌%◌, ◌^◌, ◌<◌, ◌≤◌, ◌⊎◌, inl, inr, ⊎_elim, true, false, cond, List, [], ◌∷◌, ◌++◌, length, Option, Some, None, Err, refl, sym, ap, ◌∙◌, subst, arith}
+use Rattle.std.specs.Prelude.{nat_le}
 use Rattle.std.specs.List.{AllByRecursion}
 use Rattle.std.proofs.lemmas.Bool.{cases_eq}
 use Rattle.std.proofs.lemmas.Bool.Decides.{nat_tests}
@@ -12,23 +12,23 @@ use Rattle.seg_spec.specs.Types.{Form, Table, form_at, size}
 use Rattle.seg_spec.specs.Value.{Label, Values}
 use Rattle.seg_spec.specs.Apart.{Separate}
 use Rattle.seg_spec.specs.Shared.{names_each}
-use Rattle.seg_spec.specs.Heap.{heap_start, IsHeap, units_at, live, tag_at}
+use Rattle.seg_spec.specs.Heap.{heap_start, units_at, live}
 use Rattle.seg_spec.specs.Block.{Kind, kind_number, tag_of, block_of, IsBlock, IsPayload}
 use Rattle.seg_spec.specs.Frozen.{frozen_words}
 use Rattle.seg_spec.specs.Reads.{Place, Opened, Opens, OpensShared, HoldsEach, holds, holds_none, named, count_at, shared_label}
 use Rattle.seg_spec.specs.Sound.{times, positions}
-use Rattle.seg_spec.proofs.LiveLaws.{times-same, times-other, times-append, LiesIn, OneOrApart, live-lie, live-apart, live-once, there}
+use Rattle.seg_spec.proofs.LiveLaws.{times-same, times-other, times-append, LiesIn, OneOrApart, live-lie, live-apart, there}
 use Rattle.seg_check.specs.declared.fault.ContentFault.{ContentFault}
 use Rattle.seg_check.specs.declared.marks.Waiting.{Waiting}
-use Rattle.seg_check.specs.Claiming.{Refuses, IsLiveBlock}
+use Rattle.seg_check.specs.Claiming.{Refuses}
 use Rattle.seg_check.specs.Marks.{Known, Within}
-use Rattle.seg_check.specs.Naming.{IsFrozen, SameOthers, IsUnder, IsNamed, IsNameable, number_at, slot_of, left_at, less, one_less, Counts, CountsBlock, blocks_of, unseen_at, standing_at, Finds, CanName, NamesFirst, NamesAgain, NamesBlock}
-use Rattle.seg_check.specs.Turns.{Limited, limited, places_in, owned_places, awaited, IsTurn, IsWaiting, AreWaiting, AreLow}
+use Rattle.seg_check.specs.Naming.{IsFrozen, SameOthers, IsUnder, IsNamed, IsNameable, number_at, slot_of, less, one_less, Counts, CountsBlock, blocks_of, unseen_at, standing_at, Finds, CanName, NamesFirst, NamesAgain, NamesBlock}
+use Rattle.seg_check.specs.Turns.{Limited, owned_places, awaited, IsWaiting, AreWaiting, AreLow}
 use Rattle.seg_check.specs.Resolving.{ReadsEach, reads_more, ResolvesBy, Resolves, CanResolve, Advances, IsReady}
 use Rattle.seg_check.specs.Cells.{blocks_counted_by}
 use Rattle.seg_check.proofs.ReadLaws.{own_names, positions_of}
 use Rattle.seg_check.proofs.NamingLaws.{blocks_append}
-use Rattle.seg_check.proofs.StepLaws.{CanOpen, can_open, open_forth, open_back, limit, resolves_as, awaited-append}
+use Rattle.seg_check.proofs.StepLaws.{can_open, open_back, limit}
 use Rattle.seg_check.proofs.OpenLaws.{named_some, named_none, advance_nothing}
 use Rattle.seg_check.proofs.BufferLaws.{blocks_refused, few_named}
 use Rattle.seg_check.proofs.TagLaws.{places_tagged}
@@ -70,9 +70,9 @@ less_self n = less_some n n (omega arith) ∙ ap Some (let e : n - n ≡ 0 = ome
 pub less_more : (n m : ℕ) → one_less (less n m) ≡ less n (suc m)
 less_more n m = ⊎_elim
     (λ some. ap one_less (less_some n m some) ∙ ⊎_elim
-        (λ more. less_some (n - m) 1 (omega arith) ∙ ap Some (let e : n - m - 1 ≡ n - suc m = omega arith in e) ∙ sym (less_some n (suc m) more))
-        (λ none. less_none (n - m) 1 (omega arith) ∙ sym (less_none n (suc m) none))
-        (le_or_not (suc m) n))
+    (λ more. less_some (n - m) 1 (omega arith) ∙ ap Some (let e : n - m - 1 ≡ n - suc m = omega arith in e) ∙ sym (less_some n (suc m) more))
+    (λ none. less_none (n - m) 1 (omega arith) ∙ sym (less_none n (suc m) none))
+    (le_or_not (suc m) n))
     (λ none. ap one_less (less_none n m none) ∙ sym (less_none n (suc m) (omega arith)))
     (le_or_not m n)
 
@@ -86,9 +86,6 @@ module _ (bytes : List ℕ) (table : Table) (at T U : ℕ) (f : form_at table T 
 
   abbrev room : ℕ
   room = frozen_words + size table U
-
-  place : Place
-  place = record { at = at; type = T }
 
   shared_opened : Option ℕ → Opened
   shared_opened t = record { label = shared_label U t; blocks = []; parts = [] }
@@ -173,9 +170,6 @@ module _ (bytes : List ℕ) (table : Table) (at T U : ℕ) (f : form_at table T 
 
     -- ---- what changes
 
-    others_unclaimed : (h : ℕ) → h ≢ block → times h new.unclaimed ≡ times h old.unclaimed
-    others_unclaimed h other = n.unclaimed_others h other
-
     module _ (before : List ℕ) (c : Counts bytes old before) where
       here : CountsBlock bytes new (start ∷ before) block
       here = go n.changes
@@ -219,9 +213,6 @@ module _ (bytes : List ℕ) (table : Table) (at T U : ℕ) (f : form_at table T 
         go : NamesFirst bytes old new start ⊎ NamesAgain old new start → standing_at new block ≡ standing_at old block
         go (inl first) = omega (arith, first.was_unclaimed, first.now_claimed, first.was_unnamed, n.named)
         go (inr again) = omega (arith, ap (times block) again.unclaimed_kept, again.was_named, n.named)
-
-    turn : Waiting
-    turn = record { turn = record { start = start; count = 1 }; below = Some (number_at bytes start) }
 
     unseen_then : (h : ℕ) → unseen_at new h ≡ unseen_at old h
     unseen_then h = go n.changes
@@ -289,8 +280,11 @@ module _ (bytes : List ℕ) (table : Table) (at T U : ℕ) (f : form_at table T 
           turns = record { turn = record { start = start; count = 1 }; below = Some (number_at bytes start) } ∷ [];
           turns_are = first.turns_are;
           are_waiting = (is_waiting first, tt);
-          none_owned = append-nil (owned_places bytes table (record { turn = record { start = start; count = 1 }; below = Some (number_at bytes start) })) ∙ frozen_is bytes table (record { turn = record { start = start; count = 1 }; below = Some
-              (number_at bytes start) }) is_frozen;
+          none_owned = append-nil (owned_places bytes table (record { turn = record { start = start; count = 1 }; below = Some (number_at bytes start) })) ∙ frozen_is bytes table (record {
+            turn = record { start = start; count = 1 };
+            below = Some
+                (number_at bytes start);
+          }) is_frozen;
         }
         go (inr again) = record { turns = []; turns_are = again.turns_kept ∙ sym (append-nil old.turns); are_waiting = tt; none_owned = refl }
 

@@ -1,5 +1,5 @@
 -- How places that wait give way to the places inside them.
-use Rattle.std.proofs.Common.{◌≡◌, ◌≢◌, ℕ, ◌+◌, ◌%◌, ◌<◌, ◌≤◌, zero, suc, ⊎_elim, Bool, true, false, cond, eqb, List, [], ◌∷◌, ◌++◌, length, map, Option, Some, None, Err, Result, refl, sym, ap, ◌∙◌, subst, arith}
+use Rattle.std.proofs.Common.{◌≡◌, ◌≢◌, ℕ, ◌+◌, ◌%◌, ◌<◌, ◌≤◌, zero, suc, ⊎_elim, Bool, true, false, cond, eqb, List, [], ◌∷◌, ◌++◌, length, Option, Some, None, Err, Result, refl, sym, ap, ◌∙◌, subst, arith}
 use Rattle.std.specs.Prelude.{◌↔◌}
 use Rattle.std.specs.List.{AllByRecursion}
 use Rattle.std.proofs.lemmas.List.{append_assoc, append-nil}
@@ -110,9 +110,6 @@ module _ (bytes : List ℕ) (table : Table) where
   pub swapped : (u l : List ℕ) (a b c : List Limited) → Resolves bytes table u l (a ++ (b ++ c)) → Resolves bytes table u l (b ++ (a ++ c))
   swapped u l a b c r = resolves_as u u l l (a ++ (b ++ c)) (b ++ (a ++ c)) (λ names. resolves_swap u l a b c names) r
 
-  pub other_names : (u l : List ℕ) (ps : List Limited) (names others : List ℕ) → SameBlocks others names → ResolvesBy bytes table u l ps names → ResolvesBy bytes table u l ps others
-  other_names u l ps names others same r = record { values = r.values; blocks = r.blocks; reads = r.reads; owners = r.owners; names_are = λ h. same h ∙ r.names_are h }
-
   -- ---- a place gives way to those inside it
 
   abbrev pub limit : Option ℕ → Place → Limited
@@ -121,7 +118,8 @@ module _ (bytes : List ℕ) (table : Table) where
   names_inside : (below : Option ℕ) (label : Label) (vs : Values) → AllByRecursion (IsNamed bytes table below) (names_in (node label vs)) → AllByRecursion (IsNamed bytes table below) (names_each vs)
   names_inside below label vs a = each_right (IsNamed bytes table below) (own_names label) (names_each vs) (subst (AllByRecursion (IsNamed bytes table below)) (names_node label vs) a)
 
-  opened_names : (h : ℕ) (names : List ℕ) (own inside rest all ins : List Place) → times h names ≡ times h (positions_of all) → all ≡ (own ++ inside) ++ rest → ins ≡ inside ++ rest → times h names ≡ times h (positions_of own ++ positions_of ins)
+  opened_names : (h : ℕ) (names : List ℕ) (own inside rest all ins : List Place) → times h names ≡ times h (positions_of all) → all ≡ (own ++ inside) ++ rest → ins ≡ inside ++ rest
+      → times h names ≡ times h (positions_of own ++ positions_of ins)
   opened_names h names own inside rest all ins e i j =
       let x : times h (positions_of all) ≡ times h (positions_of (own ++ (inside ++ rest))) = ap (λ qs. times h (positions_of qs)) (i ∙ append_assoc own inside rest) in
       let y : times h (positions_of (own ++ (inside ++ rest))) ≡ times h (positions_of own ++ positions_of (inside ++ rest)) = ap (times h) (positions_append own (inside ++ rest)) in

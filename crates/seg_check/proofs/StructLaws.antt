@@ -98,6 +98,3 @@ no_cell bytes table valid known at T l none unshared (Some (Form.flat_map U)) f 
 no_cell bytes table valid known at T l none unshared (Some (Form.map U)) f c = absurd c
 no_cell bytes table valid known at T l none unshared (Some (Form.own U)) f c = absurd c
 no_cell bytes table valid known at T l none unshared (Some (Form.shared U)) f c = absurd (unshared U f)
-
-pub no_type : (bytes : List ℕ) (table : Table) (known : Known) (at T : ℕ) → T < length table → form_at table T ≡ None → Advances bytes table known known (record { at = at; type = T } ∷ [])
-no_type bytes table known at T l f = absurd (known_form bytes table T l f)

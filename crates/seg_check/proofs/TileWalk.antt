@@ -114,7 +114,13 @@ module _ (bytes : List ℕ) (table : Table) where
   }
 
   rest_tail : (ts : List Tile) (at : ℕ) (before : Header) → Rest (tile_at at ∷ ts) at before → Rest ts (end_at at) (header_at bytes at)
-  rest_tail ts at before r = record { fill = r.fill.2; headers = r.headers.1; apart = r.apart.1; ownable = (own_first (IsOwnable bytes table) at ts (is_live_at bytes at) refl r.ownable).1; of_version = (own_first OfVersion at ts (is_live_at bytes at) refl r.of_version).1 }
+  rest_tail ts at before r = record {
+    fill = r.fill.2;
+    headers = r.headers.1;
+    apart = r.apart.1;
+    ownable = (own_first (IsOwnable bytes table) at ts (is_live_at bytes at) refl r.ownable).1;
+    of_version = (own_first OfVersion at ts (is_live_at bytes at) refl r.of_version).1;
+  }
 
   rest_more : (ts : List Tile) (at : ℕ) (before : Header) → 2 ≤ units_at bytes at → Follows (word bytes version_word) table before (header_at bytes at) → Rest ts (end_at at) (header_at bytes at) → Rest (tile_at at ∷ ts) at before
   rest_more ts at before large next r = record {

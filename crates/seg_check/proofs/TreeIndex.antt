@@ -26,7 +26,6 @@ use Rattle.seg_check.proofs.SameLength.{Splits, splits, within_length}
 use Rattle.seg_spec.proofs.OwnedTags.{index_other}
 use Rattle.seg_check.proofs.NamingLaws.{finds_claimed}
 use Rattle.seg_check.proofs.StepLaws.{within_taken, ready_found}
-use Rattle.seg_check.proofs.OpenLaws.{ready_live}
 use Rattle.seg_check.proofs.NodeLaws.{claims_both, nodes_both}
 use Rattle.seg_check.proofs.Followed.{Followed, follow_enter, follow_pass, follow_end, follow_refused, hangs_once}
 use Rattle.seg_check.proofs.MapLaws.{mapped_same, same_each, one_of}

@@ -249,7 +249,8 @@ module _ (bytes : List ℕ) (table : Table) where
             (subst (λ m. IsBlock bytes f.root.at (tag_of Kind.object T) m) exact
             (subst (λ t. IsBlock bytes f.root.at t (count f.root.values * size table f.root.type + length f.root.name)) (λ i. tag_of (kind_with [] (no_name i)) (f.type_is i)) it.block));
         unclaimed = subst (λ q. 1 ≤ times (block_of q) old.unclaimed) f.at_is
-            (let i = r.owners (block_of f.root.at) (other_block bytes f.root.at (tag_of (kind_with [] f.root.name) f.root.type) (count f.root.values * size table f.root.type + length f.root.name) (plain_other f.root.name no_name f.root.type) it.block) in
+            (let other = other_block bytes f.root.at (tag_of (kind_with [] f.root.name) f.root.type) (count f.root.values * size table f.root.type + length f.root.name) (plain_other f.root.name no_name f.root.type) it.block in
+            let i = r.owners (block_of f.root.at) other in
             let j = times-append (block_of f.root.at) r.root_blocks r.rest in
             let k : times (block_of f.root.at) r.root_blocks ≡ times (block_of f.root.at) s.left + times (block_of f.root.at) s.right = ap (times (block_of f.root.at)) s.blocks_are ∙ times-append (block_of f.root.at) s.left s.right in
             let m : times (block_of f.root.at) s.left ≡ times (block_of f.root.at) (block_of f.root.at ∷ it.inside) = ap (times (block_of f.root.at)) it.blocks_are in

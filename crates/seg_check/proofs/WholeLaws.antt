@@ -18,19 +18,18 @@ use Rattle.seg_spec.specs.Images.{IsSound}
 use Rattle.seg_spec.specs.Index.{Root, AreEntries, AreAscending, Precedes}
 use Rattle.seg_spec.specs.Sound.{Picture, roots_of, frozen_roots, IsPlain, HoldsRoots, IsLaidOut, times, SameBlocks, positions}
 use Rattle.seg_spec.specs.Faulty.{HasFront, HasTiles, HoldsAll, LacksOwner}
-use Rattle.seg_spec.proofs.Frame.{each_left, each_weaker, each_both}
-use Rattle.seg_spec.proofs.LiveLaws.{times-append, each_there, there, each_same, live-once}
+use Rattle.seg_spec.proofs.Frame.{each_left, each_weaker}
+use Rattle.seg_spec.proofs.LiveLaws.{times-append, each_there, there, live-once}
 use Rattle.seg_spec.proofs.LooseRoots.{each_joined}
 use Rattle.seg_spec.proofs.OneTable.{HasTable-one}
 use Rattle.seg_spec.proofs.OwnedTags.{IsOther, index_other, roots_other}
 use Rattle.seg_spec.proofs.RootLaws.{HoldsRoots-split, HoldsRoots-append}
 use Rattle.seg_check.specs.Faults.{IsImageOf}
-use Rattle.seg_check.specs.declared.marks.Waiting.{Waiting}
 use Rattle.seg_check.specs.Marks.{Known, IsCounted as IsCountedKnown, KnowsTiles}
-use Rattle.seg_check.specs.Naming.{IsFrozen, SameOthers, IsNamed, number_at, left_at, less, Counts, blocks_of, unseen_at, standing_at, Finds}
+use Rattle.seg_check.specs.Naming.{IsFrozen, IsNamed, number_at, less, Counts, blocks_of, unseen_at, standing_at}
 use Rattle.seg_check.specs.Turns.{Limited, awaited, AreWaiting, frozen_place}
-use Rattle.seg_check.specs.Resolving.{ReadsEach, reads_none, ResolvesBy, Resolves}
-use Rattle.seg_check.specs.Cells.{Owned, CanResolveAll, IsRightAt, AreRight}
+use Rattle.seg_check.specs.Resolving.{ReadsEach, reads_none, ResolvesBy}
+use Rattle.seg_check.specs.Cells.{Owned, CanResolveAll, AreRight}
 use Rattle.seg_check.specs.Roots.{uniques_ahead, ResolvesRoots, ResolvesIndex, CanResolveRoots, AdvancesIndex, AdvancesUniques}
 use Rattle.seg_check.proofs.ReadLaws.{names_nil, positions_of, positions_append}
 use Rattle.seg_check.proofs.NamingLaws.{none_frozen, none_other, frozen_of, are_frozen as all_frozen, times_frozen, all_same}
@@ -38,7 +37,7 @@ use Rattle.seg_check.proofs.StepLaws.{resolves_swap, awaited-append, waiting_bot
 use Rattle.seg_check.proofs.AnyOrder.{in_any_order}
 use Rattle.seg_check.proofs.SharedLaws.{frozen_tag, frozen_type, less_nothing, less_self}
 use Rattle.seg_check.proofs.FrozenOrder.{sorted, greatest}
-use Rattle.seg_check.proofs.FrozenList.{number_of, frozen_at, frozens, reads_other, names_are, HasRoom, built, each_frozen, each_named, each_falls, falling, distinct, below_in}
+use Rattle.seg_check.proofs.FrozenList.{number_of, frozens, reads_other, names_are, HasRoom, built, each_frozen, each_named, each_falls, falling, distinct, below_in}
 use Rattle.seg_check.proofs.FrozenRead.{blocks_in, IsThere, are_there, are_frozen, blocks_there, read_frozen, below_named, any_limit, none_names, reads_one, reads_named, no_places, found}
 use Rattle.seg_check.proofs.HeapLaws.{is_heap}
 
@@ -84,12 +83,12 @@ all_apart h index roots frozen vs hs left e =
     let t = times-append h hs vs in
     omega arith
 
-frozen_apart : (h : ℕ) (alive index roots frozen vs hs left seen : List ℕ) → times h alive ≡ times h seen + times h left → times h hs ≡ times h seen → times h frozen ≡ times h (hs ++ vs) → times h index ≡ 0 → times h roots ≡ 0 → times h vs ≡ 0
-    → times h alive ≡ times h ((index ++ (roots ++ frozen)) ++ left)
+frozen_apart : (h : ℕ) (alive index roots frozen vs hs left seen : List ℕ) → times h alive ≡ times h seen + times h left → times h hs ≡ times h seen → times h frozen ≡ times h (hs ++ vs) → times h index ≡ 0
+    → times h roots ≡ 0 → times h vs ≡ 0 → times h alive ≡ times h ((index ++ (roots ++ frozen)) ++ left)
 frozen_apart h alive index roots frozen vs hs left seen a s e i r v = omega (arith, all_apart h index roots frozen vs hs left e, a, s, i, r, v)
 
-others_apart : (h : ℕ) (alive index roots frozen vs hs left seen known first rest : List ℕ) → times h known ≡ times h alive → times h known ≡ times h (index ++ first) → times h first ≡ times h (roots ++ rest) → times h rest ≡ times h (vs ++ left)
-    → times h hs ≡ times h seen → times h frozen ≡ times h (hs ++ vs) → times h seen ≡ 0 → times h alive ≡ times h ((index ++ (roots ++ frozen)) ++ left)
+others_apart : (h : ℕ) (alive index roots frozen vs hs left seen known first rest : List ℕ) → times h known ≡ times h alive → times h known ≡ times h (index ++ first) → times h first ≡ times h (roots ++ rest)
+    → times h rest ≡ times h (vs ++ left) → times h hs ≡ times h seen → times h frozen ≡ times h (hs ++ vs) → times h seen ≡ 0 → times h alive ≡ times h ((index ++ (roots ++ frozen)) ++ left)
 others_apart h alive index roots frozen vs hs left seen known first rest k i r v s e z =
     omega (arith, all_apart h index roots frozen vs hs left e, k, i, r, v, s, z, times-append h index first, times-append h roots rest, times-append h vs left)
 
@@ -169,8 +168,7 @@ module _ (bytes : List ℕ) (table : Table) (known : Known) (front : HasFront by
     counts_each (f ∷ gs) t n s c =
         let high = t.0.block.after_header in
         let at : block_of f.at + 16 ≡ f.at = omega arith in
-        let same : times f.at found ≡ f.count = sym (found_is f.at) ∙ sym c.0 in
-        (
+        let same : times f.at found ≡ f.count = sym (found_is f.at) ∙ sym c.0 in (
           record {
             counted = subst (λ p. word bytes p ≡ times p found) (sym at) (t.0.count_is ∙ sym same);
             some = subst (λ p. 1 ≤ times p found) (sym at) (omega (arith, same, s.0));
@@ -230,8 +228,15 @@ module _ (bytes : List ℕ) (table : Table) (known : Known) (front : HasFront by
             named = each_weaker (IsBelow next fs) (IsNamed bytes table None) (λ q b. any_limit bytes table next q (below_named bytes table next fs q there_all alive b)) cells counted.named;
             others = mine;
             resolves = record { values = rf.values; blocks = rf.owned; reads = rf.reads; owners = (λ b other. ap (times b) (sym (append-nil rf.owned))); names_are = (λ b. refl) };
-            owners = (λ b other. omega (arith, root_blocks b, rf.same b, times-append b (blocks_in bytes table fs) rf.owned, none_other bytes b (blocks_in bytes table fs) other (are_frozen bytes table fs there_all), times-append b sp.left
-                rf.owned));
+            owners = (λ b other. omega (
+              arith,
+              root_blocks b,
+              rf.same b,
+              times-append b (blocks_in bytes table fs) rf.owned,
+              none_other bytes b (blocks_in bytes table fs) other (are_frozen bytes table fs there_all),
+              times-append b sp.left
+                  rf.owned,
+            ));
             found_are = (λ b. refl);
           };
           owners = (λ b other. knows.unclaimed b ∙ h.owners b ∙ ap (λ xs. times b (xs ++ h.root_blocks)) names.blocks_are);
@@ -267,9 +272,6 @@ module _ (bytes : List ℕ) (table : Table) (known : Known) (front : HasFront by
 
     pub are_waiting : AreWaiting bytes table third.turns
     are_waiting = subst (AreWaiting bytes table) (sym turns_together) (waiting_both bytes table index.turns uniques.turns index.are_waiting uniques.are_waiting)
-
-    below_second : second.naming.below ≡ None
-    below_second = index.finds.below_kept ∙ knows.no_limit
 
     pub values_forth : (left : List ℕ) (places : List Limited) (found : List ℕ) → ResolvesIndex bytes table None known.unclaimed left places found
         → ResolvesBy bytes table third.unclaimed left (awaited bytes table third.turns ++ places) found

@@ -22,7 +22,6 @@ use Rattle.seg_spec.specs.Pointer.{target}
 use Rattle.seg_spec.specs.Types.{Table, form_at, size}
 use Rattle.seg_spec.specs.Header.{index_kind_word}
 use Rattle.seg_spec.specs.Block.{Kind, tag_of}
-use Rattle.seg_spec.specs.Reads.{Place}
 use Rattle.seg_spec.specs.Index.{Root, Index, OpensIndex, OpensTreeIndex, AreEntries, AreAscending, position_of, AreRising, unique_word}
 use Rattle.seg_spec.specs.Counting.{cells_in}
 use Rattle.seg_spec.specs.Sound.{IsPlain, HoldsRoots, SameBlocks}
@@ -52,7 +51,8 @@ uniques_ahead = record { entries = []; last = []; type = 0 }
 -- The roots ahead are there, with names under the limit; they and the places own just the unclaimed blocks, but
 -- frozen objects and those left, and name the objects at these positions.
 pub record ResolvesRoots (bytes : List ℕ) (table : Table) (below : Option ℕ)
-    (unclaimed left : List ℕ) (ahead : Ahead) (places : List Limited) (found : List ℕ) : Type 0 where
+    (unclaimed left : List ℕ) (ahead : Ahead) (places : List Limited) (found : List ℕ) :
+    Type 0 where
   pub names : List Root
   pub uniques : List Root
   pub root_blocks : List ℕ

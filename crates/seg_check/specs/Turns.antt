@@ -14,7 +14,6 @@ use Rattle.std.specs.Prelude.{◌≡◌, ◌==◌, if◌then◌else◌, ℕ, zer
 use Rattle.std.specs.List.{AllByRecursion}
 use Rattle.seg_spec.specs.Types.{Form, Table, Cell, form_at, size}
 use Rattle.seg_spec.specs.Heap.{tag_at}
-use Rattle.seg_spec.specs.Bytes.{word}
 use Rattle.seg_spec.specs.Block.{Kind, kind_number, block_of, IsOwnable}
 use Rattle.seg_spec.specs.Frozen.{frozen_words}
 use Rattle.seg_spec.specs.Owing.{entries_at}

@@ -62,7 +62,11 @@ impl<A: Allocator> Claims<A> {
             (slots_in shares ((length w.now.bytes - heap_start) / UNIT))) }
     {
         let units = (w.len().saturating_sub(HEAP_START) / UNIT) as usize;
-        let slots = if shares { units.saturating_add(1) / 2 } else { 0 };
+        let slots = if shares {
+            units.saturating_add(1) / 2
+        } else {
+            0
+        };
         Ok(Claims {
             marks: Vec::from_elem(alloc, Mark::Inside, units)?,
             free: 0,
@@ -181,7 +185,7 @@ impl<A: Allocator> Claims<A> {
     pub(crate) fn await_turn(&mut self, turn: Turn) -> Result<(), ContentFault>
         ensures taken { self.new.taken ≡ self.old.taken }
         ensures waits { OnOk result (self.new ≡ record self.old {
-            turns = self.old.turns ++ record { turn = turn; below = self.old.naming.below } ∷ []
+          turns = self.old.turns ++ record { turn = turn; below = self.old.naming.below } ∷ [];
         }) }
         ensures refused { IfErr result (λ fault. fault ≡ ContentFault.Memory) }
     {
@@ -251,14 +255,17 @@ impl<A: Allocator> Claims<A> {
         self.counts.get(slot as usize).copied().flatten()
     }
 
+    /// Sets how many more cells may name it.
     fn put_left(&mut self, block: u32, left: Option<u32>)
         ensures own { heap_start ≤ block → slot_of block < length self.old.naming.counts →
             left_at self.new block ≡ left }
         ensures others { heap_start ≤ block → (h : ℕ) → slot_of h ≢ slot_of block →
             left_at self.new h ≡ left_at self.old h }
         ensures slots { length self.new.naming.counts ≡ length self.old.naming.counts }
-        ensures kept { self.new ≡ record self.old { naming =
-            record self.old.naming { counts = self.new.naming.counts } } }
+        ensures kept { self.new ≡ record self.old {
+          naming =
+              record self.old.naming { counts = self.new.naming.counts };
+        } }
     {
         let slot = block.wrapping_sub(HEAP_START) / (2 * UNIT);
         if let Some(count) = self.counts.get_mut(slot as usize) {

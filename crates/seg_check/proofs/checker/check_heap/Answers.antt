@@ -24,7 +24,8 @@ returns-in_err-check_index-clause-fault g c = λ front.
     let tiles : HasTiles bytes table = (c.check_tiles.ensures.tiles front).0 (sym c.in_ok-free_list.ensures.variant) in
     let followed : KnowsGaps bytes c.in_ok-free_list.free_list (gaps bytes) = search (rules, c.check_tiles.ensures.free_list front, c.in_ok-free_list.ensures.cases) in
     let units = (length bytes - heap_start) / 16 in
-    let known : KnowsTiles bytes first × (length first.naming.counts ≡ slots_in c.shares.result units) = search (rules, c.check_tiles.ensures.known front (slots_in c.shares.result units) c.in_ok-claims.ensures, c.in_ok-free_list.ensures.cases) in
+    let known : KnowsTiles bytes first × (length first.naming.counts ≡ slots_in c.shares.result units) =
+    search (rules, c.check_tiles.ensures.known front (slots_in c.shares.result units) c.in_ok-claims.ensures, c.in_ok-free_list.ensures.cases) in
     let knows = known.0 in
     let free : HoldsGaps (word bytes allocator_word) bytes (gaps bytes) = (c.check_free.ensures.gaps front tiles knows followed).0 (sym c.in_ok-map_err.ensures.variant) in
     let room = has_slots bytes table first c.shares.result front.header.whole_units (let large = front.header.not_small in omega arith) c.shares.ensures known.1 in
@@ -46,7 +47,8 @@ returns-in_err-check_uniques-clause-fault g c = λ front.
     let tiles : HasTiles bytes table = (c.check_tiles.ensures.tiles front).0 (sym c.in_ok-free_list.ensures.variant) in
     let followed : KnowsGaps bytes c.in_ok-free_list.free_list (gaps bytes) = search (rules, c.check_tiles.ensures.free_list front, c.in_ok-free_list.ensures.cases) in
     let units = (length bytes - heap_start) / 16 in
-    let known : KnowsTiles bytes first × (length first.naming.counts ≡ slots_in c.shares.result units) = search (rules, c.check_tiles.ensures.known front (slots_in c.shares.result units) c.in_ok-claims.ensures, c.in_ok-free_list.ensures.cases) in
+    let known : KnowsTiles bytes first × (length first.naming.counts ≡ slots_in c.shares.result units) =
+    search (rules, c.check_tiles.ensures.known front (slots_in c.shares.result units) c.in_ok-claims.ensures, c.in_ok-free_list.ensures.cases) in
     let knows = known.0 in
     let free : HoldsGaps (word bytes allocator_word) bytes (gaps bytes) = (c.check_free.ensures.gaps front tiles knows followed).0 (sym c.in_ok-map_err.ensures.variant) in
     let room = has_slots bytes table first c.shares.result front.header.whole_units (let large = front.header.not_small in omega arith) c.shares.ensures known.1 in
@@ -66,7 +68,8 @@ returns-in_err-check_values-clause-fault g c = λ front.
     let tiles : HasTiles bytes table = (c.check_tiles.ensures.tiles front).0 (sym c.in_ok-free_list.ensures.variant) in
     let followed : KnowsGaps bytes c.in_ok-free_list.free_list (gaps bytes) = search (rules, c.check_tiles.ensures.free_list front, c.in_ok-free_list.ensures.cases) in
     let units = (length bytes - heap_start) / 16 in
-    let known : KnowsTiles bytes first × (length first.naming.counts ≡ slots_in c.shares.result units) = search (rules, c.check_tiles.ensures.known front (slots_in c.shares.result units) c.in_ok-claims.ensures, c.in_ok-free_list.ensures.cases) in
+    let known : KnowsTiles bytes first × (length first.naming.counts ≡ slots_in c.shares.result units) =
+    search (rules, c.check_tiles.ensures.known front (slots_in c.shares.result units) c.in_ok-claims.ensures, c.in_ok-free_list.ensures.cases) in
     let knows = known.0 in
     let free : HoldsGaps (word bytes allocator_word) bytes (gaps bytes) = (c.check_free.ensures.gaps front tiles knows followed).0 (sym c.in_ok-map_err.ensures.variant) in
     let room = has_slots bytes table first c.shares.result front.header.whole_units (let large = front.header.not_small in omega arith) c.shares.ensures known.1 in
@@ -90,7 +93,8 @@ returns-in_err-check_counts-clause-fault g c = λ front.
     let tiles : HasTiles bytes table = (c.check_tiles.ensures.tiles front).0 (sym c.in_ok-free_list.ensures.variant) in
     let followed : KnowsGaps bytes c.in_ok-free_list.free_list (gaps bytes) = search (rules, c.check_tiles.ensures.free_list front, c.in_ok-free_list.ensures.cases) in
     let units = (length bytes - heap_start) / 16 in
-    let known : KnowsTiles bytes first × (length first.naming.counts ≡ slots_in c.shares.result units) = search (rules, c.check_tiles.ensures.known front (slots_in c.shares.result units) c.in_ok-claims.ensures, c.in_ok-free_list.ensures.cases) in
+    let known : KnowsTiles bytes first × (length first.naming.counts ≡ slots_in c.shares.result units) =
+    search (rules, c.check_tiles.ensures.known front (slots_in c.shares.result units) c.in_ok-claims.ensures, c.in_ok-free_list.ensures.cases) in
     let knows = known.0 in
     let free : HoldsGaps (word bytes allocator_word) bytes (gaps bytes) = (c.check_free.ensures.gaps front tiles knows followed).0 (sym c.in_ok-map_err.ensures.variant) in
     let room = has_slots bytes table first c.shares.result front.header.whole_units (let large = front.header.not_small in omega arith) c.shares.ensures known.1 in
@@ -117,7 +121,8 @@ returns-in-Some-clause-fault g c = λ front.
     let tiles : HasTiles bytes table = (c.check_tiles.ensures.tiles front).0 (sym c.in_ok-free_list.ensures.variant) in
     let followed : KnowsGaps bytes c.in_ok-free_list.free_list (gaps bytes) = search (rules, c.check_tiles.ensures.free_list front, c.in_ok-free_list.ensures.cases) in
     let units = (length bytes - heap_start) / 16 in
-    let known : KnowsTiles bytes first × (length first.naming.counts ≡ slots_in c.shares.result units) = search (rules, c.check_tiles.ensures.known front (slots_in c.shares.result units) c.in_ok-claims.ensures, c.in_ok-free_list.ensures.cases) in
+    let known : KnowsTiles bytes first × (length first.naming.counts ≡ slots_in c.shares.result units) =
+    search (rules, c.check_tiles.ensures.known front (slots_in c.shares.result units) c.in_ok-claims.ensures, c.in_ok-free_list.ensures.cases) in
     let knows = known.0 in
     let free : HoldsGaps (word bytes allocator_word) bytes (gaps bytes) = (c.check_free.ensures.gaps front tiles knows followed).0 (sym c.in_ok-map_err.ensures.variant) in
     let room = has_slots bytes table first c.shares.result front.header.whole_units (let large = front.header.not_small in omega arith) c.shares.ensures known.1 in
@@ -143,7 +148,8 @@ returns-clause-image g c = λ front.
     let tiles : HasTiles bytes table = (c.check_tiles.ensures.tiles front).0 (sym c.in_ok-free_list.ensures.variant) in
     let followed : KnowsGaps bytes c.in_ok-free_list.free_list (gaps bytes) = search (rules, c.check_tiles.ensures.free_list front, c.in_ok-free_list.ensures.cases) in
     let units = (length bytes - heap_start) / 16 in
-    let known : KnowsTiles bytes first × (length first.naming.counts ≡ slots_in c.shares.result units) = search (rules, c.check_tiles.ensures.known front (slots_in c.shares.result units) c.in_ok-claims.ensures, c.in_ok-free_list.ensures.cases) in
+    let known : KnowsTiles bytes first × (length first.naming.counts ≡ slots_in c.shares.result units) =
+    search (rules, c.check_tiles.ensures.known front (slots_in c.shares.result units) c.in_ok-claims.ensures, c.in_ok-free_list.ensures.cases) in
     let knows = known.0 in
     let free : HoldsGaps (word bytes allocator_word) bytes (gaps bytes) = (c.check_free.ensures.gaps front tiles knows followed).0 (sym c.in_ok-map_err.ensures.variant) in
     let room = has_slots bytes table first c.shares.result front.header.whole_units (let large = front.header.not_small in omega arith) c.shares.ensures known.1 in

@@ -14,7 +14,8 @@ use Rattle.seg_check.proofs.KnownLaws.{mark_is, mark_none, claims_one}
 use Rattle.seg_check.proofs.ClaimLaws.{claimed_before, claims_block}
 use Rattle.seg_check.proofs.claims.Claims.claim.Goals as goal
 
-refused : (bytes : List ℕ) (marks : List Mark) (u f : ℕ) (queue : List Waiting) (taken : ℕ) (counts : List (Option ℕ)) (below : Option ℕ) (known : Known) (pointer tag size start block unit : ℕ) (m : Mark) → known_of marks u f queue taken counts below ≡ known → target bytes pointer ≡ Some start
+refused : (bytes : List ℕ) (marks : List Mark) (u f : ℕ) (queue : List Waiting) (taken : ℕ) (counts : List (Option ℕ)) (below : Option ℕ) (known : Known) (pointer tag size start block unit : ℕ) (m : Mark)
+    → known_of marks u f queue taken counts below ≡ known → target bytes pointer ≡ Some start
     → block ≡ block_of start → block ≡ heap_start + 16 * unit → unit < known.units → (unit < length marks → m ≡ get_or marks unit Inside) → is_unclaimed m ≡ false → CanClaim bytes known pointer tag size → ⊥
 refused bytes marks u f queue taken counts below known pointer tag size start block unit m is names same at_is low mark none =
     let units : length marks ≡ known.units = ap (λ (k : Known). k.units) is in

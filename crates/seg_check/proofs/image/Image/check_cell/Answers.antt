@@ -1,10 +1,10 @@
-use Rattle.std.proofs.Common.{◌≡◌, ◌<◌, ℕ, List, Option, Some, None, [], ◌∷◌, length, refl, sym, ap, ◌∙◌, subst}
+use Rattle.std.proofs.Common.{◌≡◌, ℕ, Some, refl, subst}
 use Rattle.seg_spec.specs.Types.{Form, form_at}
-use Rattle.seg_layout.specs.Forms.{form_of, map_option}
+use Rattle.seg_layout.specs.Forms.{form_of}
 use Rattle.seg_layout.specs.declared.kind.«Type».{«Type»}
 use Rattle.seg_layout.specs.declared.kind.«Type».TheVariants as kind
 use Rattle.seg_value.specs.Contents.{ContentOf}
-use Rattle.seg_check.proofs.StructLaws.{no_cell, no_type}
+use Rattle.seg_check.proofs.StructLaws.{no_cell}
 use Rattle.seg_check.proofs.image.Image.check_cell.Goals as goal
 
 pub returns-in_default-of-clause-steps : goal.returns-in_default-of-clause-steps

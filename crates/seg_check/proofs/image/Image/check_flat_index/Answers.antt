@@ -10,7 +10,6 @@ use Rattle.seg_check.proofs.OpenLaws.{ready_live}
 use Rattle.seg_check.proofs.StepLaws.{refuses_map}
 use Rattle.seg_check.proofs.RootSteps.{roots_none, roots_more, can_roots, ready_roots}
 use Rattle.seg_check.proofs.IndexSteps.{flat_ready, spaced_next, spaced_end, spaced_start, flat_some, flat_can, flat_names, flat_advance, buffer_claimed, buffer_can, block_inside}
-use Rattle.seg_spec.specs.Block.{block_of}
 use Rattle.seg_check.proofs.image.Image.check_flat_index.Goals as goal
 
 pub loop-index-init : goal.loop-index-init

@@ -1,7 +1,5 @@
-use Rattle.std.proofs.Common.{◌≡◌, ◌∷◌, [], Err, sym, ap, ◌∙◌, subst, arith}
+use Rattle.std.proofs.Common.{◌≡◌, Err, sym, ap, ◌∙◌, subst, arith}
 use Rattle.std.proofs.lemmas.Result.{err_from_is_err_and}
-use Rattle.seg_check.specs.declared.marks.Turn.{Turn}
-use Rattle.seg_check.specs.Marks.{Known}
 use Rattle.seg_check.specs.Cells.{ResolvesTurns}
 use Rattle.seg_check.proofs.StepLaws.{refuses_map}
 use Rattle.seg_check.proofs.TurnLoop.{Takes, resolving_none, resolving_more, mid_ready, next_turn, can_next, all_seen}
