@@ -68,4 +68,4 @@ module _ (allocator : ℕ) (input : List ℕ) (old new : Placement) (table table
       let first = begins allocator clients [] input (opened old) taken (text ∷ []) table accepted ready in
       let last = next_ran allocator clients [] input (opened old) taken text [] input (drop report.read input) (opened old) new table table_then taken taken_then [] report failed ran refl how first in
       let ran_all = ends allocator clients [] input (opened old) taken [] (drop report.read input) new table_then taken_then (report ∷ []) failed last refl in
-      subst (HaveRun clients [] input old taken new.bytes taken_then (report ∷ [])) (ending_failed failed report.ended how.1 (done report.ended failed how.0)) ran_all)
+      subst (HaveRun clients [] input (opened old) taken new.bytes taken_then (report ∷ [])) (ending_failed failed report.ended how.1 (done report.ended failed how.0)) ran_all)

@@ -1,5 +1,6 @@
 -- How long a run's saved image is, and what a sink with room for so many bytes tells of it.
 use Rattle.std.proofs.Common.{◌≡◌, ℕ, List, [], ◌∷◌, length, Option, Some, ap, ◌∙◌}
+use Rattle.seg_spec.proofs.Upgrading.{upgrade_changes}
 use Rattle.client_spec.specs.OnImages.{Move}
 use Rattle.client_spec.specs.Clients.{outputs}
 use Rattle.client_places.proofs.Sizes.{same_size}
@@ -9,7 +10,7 @@ use Rattle.client_vm.specs.Outcomes.{HasOutcome}
 
 module _ (image : List ℕ) (texts : List (List ℕ)) (input : List ℕ) (room base : ℕ) (moves : List Move) (saved : List ℕ) (reports : List Report) (ended : Ended) where
   pub saved_size : (taken taken_then : Option (List ℕ)) → HasOutcome image texts input room base moves taken taken_then saved reports ended → length saved ≡ length image
-  saved_size taken taken_then run = ap length run.saved_is ∙ same_size run.outcome.clients _ run.lefts run.outcome.runs
+  saved_size taken taken_then run = ap length run.saved_is ∙ same_size run.outcome.clients _ run.lefts run.outcome.runs ∙ (upgrade_changes image).length_kept
 
   -- The sink tells its room, and then its bytes: the room is the one that it began with, and the bytes are what was printed.
   module _ (before after : ℕ) (bytes : List ℕ) (run : HasOutcome image texts input room base moves (Some (before ∷ [])) (Some (after ∷ bytes)) saved reports ended) where
