@@ -22,7 +22,7 @@ use Rattle.seg_check.specs.Resolving.{IsReady}
 use Rattle.seg_check.specs.Roots.{Ahead, names_ahead, ResolvesRoots, ResolvesIndex, CanResolveRoots, CanResolveIndex, AdvancesRoots, AdvancesIndex}
 use Rattle.seg_check.proofs.NamingLaws.{other_block, none_frozen, finds_claimed, finds_more}
 use Rattle.seg_check.proofs.StepLaws.{within_taken, within_trans, ready_found}
-use Rattle.seg_check.proofs.OpenLaws.{named_some, named_none, start_some, names_room, no_room, none_counted, can_claim}
+use Rattle.seg_check.proofs.OpenLaws.{named_some, named_none, start_some, names_room, no_room, can_claim}
 use Rattle.seg_check.proofs.RootSteps.{roots_none}
 use Rattle.seg_check.specs.Claiming.{ClaimsBlock, turns_where, has_turns}
 use Rattle.seg_value.specs.Names.{IsIndexBuffer}

@@ -1,5 +1,5 @@
 -- One turn of destruction, and what it needs of an object that nothing holds.
-use Rattle.std.proofs.Common.{◌≡◌, ◌≢◌, ℕ, ◌+◌, ◌≤◌, inl, List, [], ◌∷◌, ◌++◌, length, map, Option, None, refl, sym, ap, ◌∙◌, subst, arith}
+use Rattle.std.proofs.Common.{◌≡◌, ◌≢◌, ℕ, ◌+◌, ◌≤◌, inl, List, [], ◌∷◌, ◌++◌, length, Option, None, refl, sym, ap, ◌∙◌, subst, arith}
 use Rattle.seg_spec.specs.Header.{free_word, back_start, back_size, KeepsFront, KeepsBack}
 use Rattle.seg_spec.specs.Types.{Table, IsTable}
 use Rattle.seg_spec.specs.Value.{Value}
@@ -13,7 +13,7 @@ use Rattle.seg_spec.specs.Frozen.{Frozen, blocks_by}
 use Rattle.seg_spec.specs.Shared.{named_in}
 use Rattle.seg_spec.specs.Owing.{KeepsLinked, no_parts, more_parts, owes, no_links}
 use Rattle.seg_spec.specs.Destroying.{AreLive, GoesWith, Awaits, Pops, Adds, HoldFrozen, KeepFrozen, Destroys}
-use Rattle.seg_spec.proofs.LiveLaws.{times-append, times-same, times-without, there, each_there, LiesIn, live-lie, live-once}
+use Rattle.seg_spec.proofs.LiveLaws.{times-append, times-same, times-without, there, LiesIn, live-lie, live-once}
 use Rattle.seg_spec.proofs.KeptLaws.{front_kept}
 use Rattle.seg_spec.proofs.Giving.{found, given_kept}
 use Rattle.seg_spec.proofs.Destruction.{HasFreed, pop_live, freed_more, linked_twice, released}

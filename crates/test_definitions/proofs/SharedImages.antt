@@ -1,16 +1,16 @@
 -- An image of version 2 with an object that two cells share, and an image of version 1 as it is opened.
-use Rattle.std.proofs.Common.{◌≡◌, ℕ, zero, suc, ◌<◌, ◌≤◌, true, inl, inr, List, [], ◌∷◌, length, refl, Some, pos, lit<, lit≤, arith, subst, sym}
+use Rattle.std.proofs.Common.{◌≡◌, ℕ, zero, suc, ◌≤◌, true, inl, inr, List, [], ◌∷◌, length, refl, Some, pos, lit<, lit≤, arith, subst, sym}
 use Rattle.std.proofs.lemmas.List.Elements.{All-cons, All-nil}
 use Rattle.std.specs.List.{AllByRecursion}
-use Rattle.seg_spec.specs.Bytes.{slice, put, number_of, number, set_number, set_byte, word, signed}
+use Rattle.seg_spec.specs.Bytes.{slice, put, number_of, number, set_number, set_byte, signed}
 use Rattle.seg_spec.specs.Pointer.{target}
-use Rattle.seg_spec.specs.Header.{next_word, sharing_version}
+use Rattle.seg_spec.specs.Header.{sharing_version}
 use Rattle.seg_spec.specs.Types.{Form, Table, form_at, size, IsForm, IsTable, AreOfVersion}
 use Rattle.seg_spec.specs.Value.{Int, nil, cons}
 use Rattle.seg_spec.specs.Heap.{Tile, Fill, AreHeaders, heap_start}
 use Rattle.seg_spec.specs.Block.{Kind, IsPayload, IsOwnable}
-use Rattle.seg_spec.specs.Reads.{Place, Holds, holds, holds_none, holds_more}
-use Rattle.seg_spec.specs.Index.{Root, plain_root}
+use Rattle.seg_spec.specs.Reads.{Holds, holds, holds_none, holds_more}
+use Rattle.seg_spec.specs.Index.{plain_root}
 use Rattle.seg_spec.specs.Frozen.{root_of_frozen}
 use Rattle.seg_spec.specs.Shared.{names_in, names_each}
 use Rattle.seg_spec.specs.Counting.{AreCounted}
