@@ -22,7 +22,7 @@ pub enum Kind {
     IndexBuffer = 5,
     /// A node of the tree index.
     IndexNode = 6,
-    /// An object that values share: how many cells name it, its number, then its value. No table of version 1 allows any.
+    /// An object that values share: how many cells name it, its number, then its value. Images of version 2 alone have any.
     Frozen = 7,
 }
 
