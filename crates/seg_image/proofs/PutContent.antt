@@ -106,8 +106,16 @@ module _ (allocator : ℕ) (old mid new : List ℕ) (table : Table) (own : Place
         granted = live mid;
         granted_is = granted;
         gives = o.clears.gives;
-        gives_are = λ h. omega (arith, o.clears.all_are h, times-append h (blocks ++ mine) shared, times-append h blocks mine, times-append h blocks shared, times-append h o.clears.gives (mine ++ still), times-append h mine still,
-            times-append h o.clears.gives still);
+        gives_are = λ h. omega (
+          arith,
+          o.clears.all_are h,
+          times-append h (blocks ++ mine) shared,
+          times-append h blocks mine,
+          times-append h blocks shared,
+          times-append h o.clears.gives (mine ++ still),
+          times-append h mine still,
+          times-append h o.clears.gives still,
+        );
         changes = record {
           length_kept = c.length_kept ∙ given.length_kept;
           front_kept = c.front_kept ∙ given.front_kept;
