@@ -1,17 +1,15 @@
 -- An own comes to hold a new object: a block is given to it, and what the own held before goes.
-use Rattle.std.proofs.Common.{◌≡◌, ◌≢◌, ℕ, ◌+◌, ◌≤◌, ◌⊎◌, inl, inr, List, [], ◌∷◌, ◌++◌, length, Some, sym, ap, ◌∙◌, subst, arith, append-nil, add-zero}
-use Rattle.std.specs.Prelude.{option_map}
+use Rattle.std.proofs.Common.{◌≡◌, ◌≢◌, ℕ, ◌+◌, ◌≤◌, ◌⊎◌, inl, inr, List, [], ◌∷◌, ◌++◌, length, Some, sym, ◌∙◌, subst, arith, add-zero}
 use Rattle.std.proofs.lemmas.Bool.{cases_eq}
 use Rattle.seg_spec.specs.Types.{Form, Table, form_at, size}
-use Rattle.seg_spec.specs.Value.{Value, Full, default_of}
-use Rattle.seg_spec.specs.Heap.{Span, IsHeap, heap_start, live}
+use Rattle.seg_spec.specs.Value.{Value, default_of}
+use Rattle.seg_spec.specs.Heap.{IsHeap, heap_start, live}
 use Rattle.seg_spec.specs.Block.{Kind, tag_of, IsOwnable, block_of}
 use Rattle.seg_spec.specs.Reads.{Place}
 use Rattle.seg_spec.specs.Sound.{times, positions}
 use Rattle.seg_spec.specs.Owning.{Stands}
 use Rattle.seg_spec.specs.Calls.{IsLoose}
-use Rattle.seg_spec.specs.Roots.{ChangesPlace}
-use Rattle.seg_spec.specs.Demand.{Ask, need, block_for, after_asks, after_gives}
+use Rattle.seg_spec.specs.Demand.{need, block_for, after_asks}
 use Rattle.seg_spec.specs.Clearing.{SharedBeside, BesideShared}
 use Rattle.seg_spec.specs.Frozen.{Frozen, blocks_by}
 use Rattle.seg_spec.specs.Shared.{named_in}
