@@ -48,7 +48,8 @@ pub fn read_types<A: Allocator>(w: &Window<A>) -> Result<TypeTable, Fault>
 
 /// Whether cells of a type of the table share objects.
 fn shares(types: &TypeTable) -> bool
-    ensures { result ≡ false → (T U : ℕ) → form_at types.now T ≡ Some (Form.shared U) → ⊥ }
+    ensures { result ≡ false → (T U : ℕ) →
+        form_at types.now T ≡ Some (Form.shared U) → ⊥ }
 {
     for t in 0..types.len() {
         if is_shared(types.kind(t as TypeId)) {
@@ -59,7 +60,8 @@ fn shares(types: &TypeTable) -> bool
 }
 
 fn is_shared(kind: Option<Type>) -> bool
-    ensures { result ≡ false → (U : ℕ) → map_option form_of kind ≡ Some (Form.shared U) → ⊥ }
+    ensures { result ≡ false → (U : ℕ) →
+        map_option form_of kind ≡ Some (Form.shared U) → ⊥ }
 {
     matches!(kind, Some(Type::Shared(_)))
 }
