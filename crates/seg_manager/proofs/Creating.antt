@@ -4,7 +4,8 @@ use Rattle.std.specs.Prelude.{codes}
 use Rattle.std.proofs.lemmas.Bool.{cases_eq}
 use Rattle.std.proofs.lemmas.List.{length-replicate, take-replicate, drop-replicate}
 use Rattle.seg_spec.specs.Bytes.{slice, put, number, number_of, word, set_word, IsSame, ChangesOnly}
-use Rattle.seg_spec.specs.Header.{version_word, units_word, allocator_word, index_kind_word, free_word, next_word, index_cell, back_start, reserved, reserved_size, types_start, types_size, uniques_start, uniques_size, heap_start, min_length, sharing_version}
+use Rattle.seg_spec.specs.Header.{version_word, units_word, allocator_word, index_kind_word, free_word, next_word, index_cell, back_start, reserved, reserved_size}
+use Rattle.seg_spec.specs.Header.{types_start, types_size, uniques_start, uniques_size, heap_start, min_length, sharing_version}
 use Rattle.seg_spec.specs.Pointer.{target, set_pointer, distance}
 use Rattle.seg_spec.specs.Types.{IsTable, size}
 use Rattle.seg_spec.specs.Heap.{Begins}

@@ -47,7 +47,8 @@ longer_of version old new a b = go (leb (length new) (length old))
     go false = b
 
 pub adds_types : (allocator : ℕ) (old new : Stored) (picture : Picture) (more : Table) → IsSegment allocator old picture → Agree old.types more → IsTable old.types → IsTable more
-    → AreOfVersion (word old.window.bytes version_word) more → new.types ≡ longer old.types more → ChangesOnly old.window.bytes new.window.bytes types_start types_size → HasTable new.window.bytes types_start (longer old.types more) → AddsTypes allocator old new picture more
+    → AreOfVersion (word old.window.bytes version_word) more → new.types ≡ longer old.types more → ChangesOnly old.window.bytes new.window.bytes types_start types_size
+    → HasTable new.window.bytes types_start (longer old.types more) → AddsTypes allocator old new picture more
 adds_types allocator old new picture more is agree valid valid_more of_version types_are changes has =
     let a = old.window.bytes in
     let b = new.window.bytes in

@@ -39,7 +39,8 @@ owners_with picture by_name before these after = simp append_assoc
 owners_with picture by_type before these after = simp append_assoc
 owners_with picture loose before these after = simp append_assoc
 
-pub owners_are : (picture : Picture) (which : Listed) (before these after : List Root) → roots_in picture which ≡ before ++ (these ++ after) → owners_in picture ≡ roots_before picture which before ++ (these ++ owners_after picture which after)
+pub owners_are : (picture : Picture) (which : Listed) (before these after : List Root) → roots_in picture which ≡ before ++ (these ++ after)
+    → owners_in picture ≡ roots_before picture which before ++ (these ++ owners_after picture which after)
 owners_are picture by_name before these after e = ap (λ rs. rs ++ (picture.uniques ++ picture.loose)) e ∙ owners_with picture by_name before these after
 owners_are picture by_type before these after e = ap (λ rs. picture.names ++ (rs ++ picture.loose)) e ∙ owners_with picture by_type before these after
 owners_are picture loose before these after e = ap (λ rs. picture.names ++ (picture.uniques ++ rs)) e ∙ owners_with picture loose before these after
@@ -182,7 +183,8 @@ part_names [] whole v e =
     subst (PartNames whole []) same (record { others = []; now = names_same (sym (append-nil (names_in whole))); later = λ w. names_same (append-nil (names_in w)) })
 part_names (s ∷ path) (node label vs) v e = by_index (λ u f. part_names path u v f) (index_of label s) refl e
   where
-    by_index : ((u : Value) → value_at u path ≡ Some v → PartNames u path v) → (o : Option ℕ) → index_of label s ≡ o → option_and_then (λ u. value_at u path) (option_and_then (λ i. nth vs i) o) ≡ Some v → PartNames (node label vs) (s ∷ path) v
+    by_index : ((u : Value) → value_at u path ≡ Some v → PartNames u path v) → (o : Option ℕ) → index_of label s ≡ o
+        → option_and_then (λ u. value_at u path) (option_and_then (λ i. nth vs i) o) ≡ Some v → PartNames (node label vs) (s ∷ path) v
     by_index inner None f e = cc
     by_index inner (Some i) f e = by_value (nth vs i) refl e
       where
@@ -327,7 +329,8 @@ module _ (bytes new : List ℕ) (picture : Picture) (held : IsHeld bytes picture
 
   pub part_cleared : IsHeld new picture_then
   part_cleared =
-      moved_after bytes new picture picture_then held front back (frozen_roots picture) (map root_of_frozen (left gone picture.frozen)) [] root j path q v w olds news (blocks_by theirs picture.frozen) (blocks_by theirs (left gone picture.frozen)) within
+      moved_after bytes new picture picture_then held front back (frozen_roots picture) (map root_of_frozen (left gone picture.frozen)) [] root j path q v w olds news
+      (blocks_by theirs picture.frozen) (blocks_by theirs (left gone picture.frozen)) within
       leads was goes c.changes (roots_held new picture.table theirs (left gone picture.frozen) c.holds) (table_kept picture which (before ++ item_then ∷ after)) laid_out_then roots_now roots_then
 
   -- the other owners lie in blocks that are kept
