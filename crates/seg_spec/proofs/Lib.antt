@@ -91,3 +91,6 @@ pub mod OwnerGone
 pub mod CountedParts
 pub mod Sharing
 pub mod Raising
+pub mod Unfolding
+pub mod OneMoreFrozen
+pub mod SharedCounts

@@ -32,3 +32,4 @@ pub mod Spending
 pub mod Shrinking
 pub mod Fixtures
 pub mod Growing
+pub mod Sharing

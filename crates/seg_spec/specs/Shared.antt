@@ -7,6 +7,7 @@
 --                                          objects, and names those of lower numbers alone; next is above all
 --     unfolded n frozen v                  the value as a tree: each shared cell owns a copy of what it names
 --     raised p frozen                      the objects, where one more cell names that at a position
+--     raised_by names frozen               where cells with these names come too
 --     IsReleasing kept final names now     names at these positions are still to be released, beside cells that
 --                                          are kept; in the end this is left
 --     left gone frozen, freed gone frozen  what is left where cells with these names are gone, and what goes
@@ -109,6 +110,11 @@ with_count f n = record f { count = n }
 abbrev pub raised : ℕ → List Frozen → List Frozen
 raised p [] = []
 raised p (f ∷ fs) = (if f.at == p then with_count f (suc f.count) else f) ∷ raised p fs
+
+-- where cells with these names come too
+abbrev pub raised_by : List Place → List Frozen → List Frozen
+raised_by [] frozen = frozen
+raised_by (q ∷ names) frozen = raised q.at (raised_by names frozen)
 
 -- ---- cells that go
 

@@ -16,7 +16,6 @@ pub mod Pointed
 pub mod SharedCells
 pub mod Freezing
 pub mod FrozenCells
-pub mod SharedCounts
 pub mod Cutting
 pub mod Pointers
 pub mod Runs

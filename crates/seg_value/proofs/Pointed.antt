@@ -22,7 +22,7 @@ use Rattle.seg_spec.proofs.PlaceSteps.{place_within, whole_then, changes_place}
 use Rattle.seg_spec.proofs.OwnSteps.{cell_changes, cell_names, cell_counts}
 use Rattle.seg_spec.proofs.CellOwed.{same_form}
 use Rattle.seg_spec.proofs.FrozenBlocks.{hold_kept, frozen_twice, frozen_kept}
-use Rattle.seg_value.specs.Sharing.{cell_count}
+use Rattle.seg_spec.specs.Sharing.{cell_count}
 
 -- ---- what such a cell holds
 

@@ -13,7 +13,7 @@ use Rattle.seg_spec.specs.Sound.{times, positions}
 use Rattle.seg_spec.specs.Owning.{Stands}
 use Rattle.seg_spec.specs.Demand.{after_gives}
 use Rattle.seg_spec.specs.Frozen.{Frozen, blocks_by}
-use Rattle.seg_spec.specs.Shared.{names_in, named_in, IsBelow, raised, left}
+use Rattle.seg_spec.specs.Shared.{names_in, named_in, IsBelow, raised, raised_by, left}
 use Rattle.seg_spec.specs.Destroying.{AreLive, KeepFrozen}
 use Rattle.seg_spec.specs.Clearing.{SharedBeside, BesideShared, ClearsPlace}
 use Rattle.seg_spec.proofs.SliceLaws.{IsSame-part}
@@ -29,7 +29,7 @@ use Rattle.seg_spec.proofs.Lowering.{named_positions}
 use Rattle.seg_spec.proofs.Sharing.{shared}
 use Rattle.seg_spec.proofs.Raising.{k, falling_raised, counted_moved, by_raised, own_shared, own_live, count_was, count_inside, count_fits, hold_raised, kept_raised}
 use Rattle.seg_spec.proofs.Standing.{Frames, live_at, beside_stands, beside_home, beside_live, beside_frames}
-use Rattle.seg_value.specs.Sharing.{FrozenBeside, raised_by, cell_count}
+use Rattle.seg_spec.specs.Sharing.{FrozenBeside, cell_count}
 use Rattle.seg_value.proofs.Pointed.{names_by, names_of_cell, SharedCell, shared_cell, pointed}
 
 -- what a call promises that clears a cell

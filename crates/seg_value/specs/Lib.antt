@@ -8,4 +8,3 @@ pub mod Names
 pub mod Waiting
 pub mod Pointers
 pub mod Nodes
-pub mod Sharing

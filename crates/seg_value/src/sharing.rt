@@ -12,12 +12,12 @@ ghost use Rattle.seg_spec.specs.Owning.{Stands};
 ghost use Rattle.seg_spec.specs.Pointer.{target, set_pointer};
 ghost use Rattle.seg_spec.specs.Reads as reads;
 ghost use Rattle.seg_spec.specs.Reads.{Holds};
-ghost use Rattle.seg_spec.specs.Shared.{names_in, IsBelow, left};
+ghost use Rattle.seg_spec.specs.Shared.{names_in, IsBelow, raised_by, left};
 ghost use Rattle.seg_spec.specs.Types.{Form, IsTable, form_at, size};
 ghost use Rattle.seg_spec.specs.Value.{Value};
 ghost use Rattle.seg_spec.specs.Window.{with_bytes, KeepsHost};
 ghost use Rattle.seg_value.specs.Places.{place_of, object_at};
-ghost use Rattle.seg_value.specs.Sharing.{FrozenBeside, raised_by, cell_count, MovesFrozen, Freezes};
+ghost use Rattle.seg_spec.specs.Sharing.{FrozenBeside, cell_count, MovesFrozen, Freezes};
 
 use crate::content::{Content, FROZEN_WORDS};
 use crate::heap::Heap;

@@ -9,4 +9,3 @@ pub mod NoRoots
 pub mod Denials
 pub mod CutBuffers
 pub mod WorkedCalls
-pub mod Unfolding

@@ -13,7 +13,7 @@ use Rattle.seg_spec.specs.Window.{with_bytes}
 use Rattle.seg_spec.proofs.Placements.{bytes_of}
 use Rattle.seg_value.specs.Places.{place_of, object_at}
 use Rattle.seg_value.specs.Stored.{Stored}
-use Rattle.seg_value.specs.Sharing.{Freezes}
+use Rattle.seg_spec.specs.Sharing.{Freezes}
 use Rattle.seg_value.proofs.Clearing.{typed}
 use Rattle.seg_value.proofs.SharedCells.{ClearsCell}
 use Rattle.seg_value.proofs.FrozenCells.{freezes, moved_as}

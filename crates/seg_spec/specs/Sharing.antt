@@ -1,7 +1,6 @@
 -- Cells that come to name frozen objects, and objects that become frozen, as calls find and leave them.
 --     FrozenBeside bytes table besides cells next theirs now
 --                            frozen objects beside these blocks, which count these cells and those in themselves
---     raised_by names now    the objects, where cells with these names come too
 --     cell_count object      what a cell counts that names this object, or none
 --     frozen_now payload T number v
 --                            an object that became frozen, which one cell names
@@ -24,7 +23,7 @@ use Rattle.seg_spec.specs.Apart.{KeepsBlockAround}
 use Rattle.seg_spec.specs.Sound.{HoldsRoot, times, SameBlocks, positions}
 use Rattle.seg_spec.specs.Demand.{block_for, after_asks, after_gives}
 use Rattle.seg_spec.specs.Frozen.{Frozen, frozen_words, root_of_frozen, blocks_by}
-use Rattle.seg_spec.specs.Shared.{IsCounted, IsFalling, raised, left}
+use Rattle.seg_spec.specs.Shared.{IsCounted, IsFalling, left}
 use Rattle.seg_spec.specs.Destroying.{AreLive, HoldFrozen, KeepFrozen}
 
 -- these frozen objects own the blocks `theirs`, which are live once each with others; they count these cells and those in
@@ -36,11 +35,6 @@ pub record FrozenBeside (bytes : List ℕ) (table : Table) (besides : List ℕ) 
   pub owned : AreLive bytes (besides ++ blocks_by theirs now)
   pub counted : IsCounted next now cells
   pub falling : IsFalling now
-
--- the objects, where cells with these names come too
-abbrev pub raised_by : List Place → List Frozen → List Frozen
-raised_by [] now = now
-raised_by (q ∷ names) now = raised q.at (raised_by names now)
 
 -- what a cell counts that names this object, or none
 abbrev pub cell_count : Option ℕ → ℕ

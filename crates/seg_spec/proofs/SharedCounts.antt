@@ -8,15 +8,15 @@ use Rattle.seg_spec.specs.Block.{block_of}
 use Rattle.seg_spec.specs.Reads.{Place}
 use Rattle.seg_spec.specs.Sound.{times, positions}
 use Rattle.seg_spec.specs.Frozen.{Frozen, blocks_by}
-use Rattle.seg_spec.specs.Shared.{names_in, IsBelow, IsCounted, IsFalling, raised, left}
+use Rattle.seg_spec.specs.Shared.{names_in, IsBelow, IsCounted, IsFalling, raised, raised_by, left}
 use Rattle.seg_spec.proofs.Frame.{each_weaker, each_left, each_right}
 use Rattle.seg_spec.proofs.LiveLaws.{times-append}
 use Rattle.seg_spec.proofs.SharedLaws.{elsewhere, counted_again}
 use Rattle.seg_spec.proofs.CountedPictures.{falling_left}
 use Rattle.seg_spec.proofs.Sharing.{below_raised, shared, one_frozen}
 use Rattle.seg_spec.proofs.Raising.{falling_raised, counted_moved}
-use Rattle.seg_value.specs.Sharing.{FrozenBeside, raised_by, frozen_now}
-use Rattle.seg_value.proofs.FrozenCells.{not_there, stays_left}
+use Rattle.seg_spec.specs.Sharing.{FrozenBeside, frozen_now}
+use Rattle.seg_spec.proofs.OneMoreFrozen.{not_there, stays_left}
 
 below_all : (next : ℕ) (names : List Place) (fs : List Frozen) (q : Place) → IsBelow next fs q → IsBelow next (raised_by names fs) q
 below_all next [] fs q b = b
