@@ -1,9 +1,9 @@
 -- The items that the lines of a text spell, one by one.
-use Rattle.std.proofs.Common.{◌≡◌, ℕ, zero, suc, ◌+◌, ◌≤◌, List, [], ◌∷◌, ◌++◌, length, map, take, drop, refl, sym, ap, ◌∙◌, subst, arith, take-add}
-use Rattle.std.proofs.lemmas.List.{drop-drop, take-append-drop, length-drop, map-append}
+use Rattle.std.proofs.Common.{◌≡◌, ℕ, zero, suc, ◌+◌, ◌≤◌, max, List, [], ◌∷◌, ◌++◌, length, map, take, drop, refl, sym, ap, ◌∙◌, subst, arith, take-add}
+use Rattle.std.proofs.lemmas.List.{drop-drop, take-append-drop, length-drop, map-append, take_all}
 use Rattle.client_spec.specs.Text.{Item, SpellsItem, EachSpells}
 use Rattle.client_code.specs.declared.outline.Section.{Section}
-use Rattle.client_code.specs.Outlines.{section_of, IsOutline}
+use Rattle.client_code.specs.Outlines.{section_of, item_version, items_version, IsOutline}
 
 pub same_count : (lines : List (List ℕ)) (items : List Item) → EachSpells lines items → length items ≡ length lines
 same_count [] [] spells = refl
@@ -67,3 +67,26 @@ module _ (lines left : List (List ℕ)) (items : List Item) (n : ℕ) (line : Li
       ap (map section_of) (parts items next.rest n next.item next.here) ∙ map-append section_of (take n items) (next.item ∷ next.rest)
       ∙ ap (λ ss. ss ++ section_of next.item ∷ map section_of next.rest) so_far ∙ ap (λ t. before ++ t ∷ map section_of next.rest) (sym (is next.item next.spells))
       ) outline)
+
+-- ---- versions
+
+one_version : (items : List Item) (item : Item) → items_version (items ++ item ∷ []) ≡ max (items_version items) (item_version item)
+one_version [] item = omega arith
+one_version (first ∷ items) item = let more = one_version items item in omega arith
+
+-- with the item of the next line
+pub version_more : (lines left : List (List ℕ)) (items : List Item) (n : ℕ) (line : List ℕ) (before here : ℕ) → EachSpells lines items → drop n lines ≡ line ∷ left
+    → before ≡ items_version (take n items) → ((item : Item) → SpellsItem line item → here ≡ item_version item) → max before here ≡ items_version (take (n + 1) items)
+version_more lines left items n line before here spells e so_far is =
+    let next = next_item lines left items n line spells e in
+    let this = is next.item next.spells in
+    let all = ap items_version (one_more items next.rest n next.item next.here) ∙ one_version (take n items) next.item in
+    omega arith
+
+-- after the last line there are no more
+pub version_whole : (lines : List (List ℕ)) (items : List Item) (n m : ℕ) → EachSpells lines items → drop n lines ≡ [] → n ≤ m → take n items ≡ take m items
+version_whole lines items n m spells none few =
+    let count = same_count lines items spells in
+    let rest = length-drop n lines in
+    let nothing = ap length none in
+    take_all n items (omega arith) ∙ sym (take_all m items (omega arith))

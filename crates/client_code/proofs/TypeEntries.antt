@@ -4,7 +4,7 @@ use Rattle.std.specs.Prelude.{flat_map}
 use Rattle.std.proofs.lemmas.Bool.{cases_lt}
 use Rattle.std.proofs.lemmas.List.{length-append}
 use Rattle.seg_spec.specs.Bytes.{slice}
-use Rattle.seg_spec.specs.Types.{Table, IsTable, AreOfVersion, Spells, IsUsed, form_bytes}
+use Rattle.seg_spec.specs.Types.{Table, IsTable, Spells, IsUsed, form_bytes}
 use Rattle.seg_spec.proofs.EntryLaws.{length-table, kind_at, no_kind_at}
 use Rattle.client_spec.proofs.OneClient.{all_long}
 use Rattle.client_code.specs.Files.{AreTypes}
@@ -31,14 +31,13 @@ full bytes table n valid spells size used =
     let rest : length bytes - length flat ≡ 0 = omega arith in
     (all_of, spells ∙ ap (λ k. flat ++ replicate k 0) rest ∙ append-nil flat)
 
-pub are_types : (file bytes : List ℕ) (table : Table) (n : ℕ) → 20 + 16 * n ≤ length file → bytes ≡ slice file 20 (16 * n) → IsTable table → AreOfVersion 1 table → Spells bytes table
+pub are_types : (file bytes : List ℕ) (table : Table) (n : ℕ) → 20 + 16 * n ≤ length file → bytes ≡ slice file 20 (16 * n) → IsTable table → Spells bytes table
     → length bytes ≡ 16 * n → ((k : ℕ) → k < n → IsUsed bytes k) → AreTypes file table
-are_types file bytes table n whole same valid of_version spells size used =
+are_types file bytes table n whole same valid spells size used =
     let f = full bytes table n valid spells size used in
     let all = f.0 in
     record {
       valid = valid;
-      of_version = of_version;
       whole = omega arith;
       spelled = ap (λ k. slice file 20 (16 * k)) f.0 ∙ sym same ∙ f.1;
     }

@@ -8,10 +8,11 @@ use Rattle.seg_spec.specs.Types.{Table, form_bytes}
 use Rattle.seg_spec.proofs.BytesLaws.{number_in, length-slice, length-spelling, spelled-spelling}
 use Rattle.seg_spec.proofs.EntryLaws.{length-table, one_table}
 use Rattle.client_spec.specs.Syntax.{Constant, Statements, Client}
-use Rattle.client_spec.specs.Grammar.{word_bytes, constant_bytes, instruction_bytes, listing, SpellsClient}
+use Rattle.client_spec.specs.Grammar.{word_bytes, file_version, constant_bytes, instruction_bytes, listing, SpellsClient}
 use Rattle.client_spec.specs.Syntax.{Instruction}
 use Rattle.client_spec.specs.Pieces.{pieces_of}
 use Rattle.client_spec.proofs.OneClient.{constant_front, instruction_front, IsWord, words, all_long, spelling_is, following}
+use Rattle.client_spec.proofs.FileVersions.{is_version}
 use Rattle.std.specs.Int.{w32}
 use Rattle.std.specs.Option.{option_map}
 use Rattle.client_spec.proofs.Values.{Some_inj}
@@ -69,6 +70,7 @@ length_instructions (i ∷ is) = length-append (instruction_bytes i) (flat_map i
 pub record AreParts (file : List ℕ) (client : Client) (place : ℕ) : Type 0 where
   pub header : IsFileHeader file (length client.types) (length client.constants) (length (listing client.code))
   pub types : AreTypes file client.types
+  pub version : number 4 file 4 ≡ file_version client.types
   pub constants : AreConstants file (20 + 16 * length client.types) client.constants place
   pub code : IsCodeAt file place client.types client.constants client.code
 
@@ -76,14 +78,14 @@ module _ (file : List ℕ) (client : Client) (place : ℕ) (parts : AreParts fil
   word_is : (at n : ℕ) → at + 4 ≤ length file → number 4 file at ≡ n → slice file at 4 ≡ word_bytes n
   word_is at n h e = word_back file at h small ∙ ap word_bytes e
 
-  file_is : file ≡ codes "SEGC" ++ (word_bytes 1 ++ following (pieces_of client))
+  file_is : file ≡ codes "SEGC" ++ (word_bytes (file_version client.types) ++ following (pieces_of client))
   file_is =
       let h = parts.header in
       let whole = h.whole in
       let flat = flat_map form_bytes client.types in
       sym (take-append-drop 4 file) ∙ ap (λ xs. xs ++ drop 4 file) h.magic
-      ∙ ap (λ xs. codes "SEGC" ++ xs) (split_at file 4 4 ∙ ap (λ xs. xs ++ drop 8 file) (word_is 4 1 (omega arith) h.version)
-      ∙ ap (λ xs. word_bytes 1 ++ xs) (split_at file 8 4 ∙ ap (λ xs. xs ++ drop 12 file) (word_is 8 (length client.types) (omega arith) h.of_types)
+      ∙ ap (λ xs. codes "SEGC" ++ xs) (split_at file 4 4 ∙ ap (λ xs. xs ++ drop 8 file) (word_is 4 (file_version client.types) (omega arith) parts.version)
+      ∙ ap (λ xs. word_bytes (file_version client.types) ++ xs) (split_at file 8 4 ∙ ap (λ xs. xs ++ drop 12 file) (word_is 8 (length client.types) (omega arith) h.of_types)
       ∙ ap (λ xs. word_bytes (length client.types) ++ xs) (split_at file 12 4 ∙ ap (λ xs. xs ++ drop 16 file) (word_is 12 (length client.constants) (omega arith) h.of_constants)
       ∙ ap (λ xs. word_bytes (length client.constants) ++ xs) (split_at file 16 4 ∙ ap (λ xs. xs ++ drop 20 file) (word_is 16 (length (listing client.code)) (omega arith) h.of_instructions)
       ∙ ap (λ xs. word_bytes (length (listing client.code)) ++ xs) (split_at file 20 (16 * length client.types) ∙ ap (λ xs. xs ++ drop (20 + 16 * length client.types) file) parts.types.spelled
@@ -93,7 +95,6 @@ module _ (file : List ℕ) (client : Client) (place : ℕ) (parts : AreParts fil
   parts_spell few_constants few_instructions = record {
     valid = record {
       types = parts.types.valid;
-      of_version = parts.types.of_version;
       few_constants = few_constants;
       constants = parts.constants.each;
       different = parts.constants.different;
@@ -165,6 +166,9 @@ spelled_parts file client spells =
     let few_types : t < 256 ^ 4 = (let f = v.types.few in omega arith) in
     let few_constants : c < 256 ^ 4 = (let f = v.few_constants in omega arith) in
     let few_instructions : i < 256 ^ 4 = (let f = v.few_instructions in omega arith) in
+    let n = file_version client.types in
+    let known = is_version client.types in
+    let few : n < 256 ^ 4 = omega arith in
     let S = codes "SEGC" in
     let types = flat_map form_bytes client.types in
     let constants = flat_map constant_bytes client.constants in
@@ -172,32 +176,33 @@ spelled_parts file client spells =
     let e = spells.spelled ∙ spelling_is client in
     let four = λ (n : ℕ). length-spelling 4 n in
     let lt : length types ≡ 16 * t = length-table client.types (all_long client.types v.types) in
-    let long = all_long_file file S (word_bytes 1) (word_bytes t) (word_bytes c) (word_bytes i) types constants code (16 * t) e refl (four 1) (four t) (four c) (four i) lt in
+    let version : number 4 file 4 ≡ n = word_after file S _ 4 n e refl few in
+    let long = all_long_file file S (word_bytes n) (word_bytes t) (word_bytes c) (word_bytes i) types constants code (16 * t) e refl (four n) (four t) (four c) (four i) lt in
     let size = length_instructions (listing client.code) in
     record {
       header = record {
         whole = omega arith;
         magic = ap (take 4) e;
-        version = word_after file S _ 4 1 e refl (omega arith);
+        version = (omega arith, omega arith);
         of_types = word_after file
-            (S ++ word_bytes 1) _ 8 t (second file S (word_bytes 1) (word_bytes t) (word_bytes c) (word_bytes i) types constants code (16 * t) e refl (four 1) (four t) (four c) (four i) lt)
-            (front_of_two file S (word_bytes 1) (word_bytes t) (word_bytes c) (word_bytes i) types constants code (16 * t) e refl (four 1) (four t) (four c) (four i) lt) few_types;
-        of_constants = word_after file ((S ++ word_bytes 1) ++ word_bytes t) _ 12 c
-            (third file S (word_bytes 1) (word_bytes t) (word_bytes c) (word_bytes i) types constants code (16 * t) e refl (four 1) (four t) (four c) (four i) lt) (front_of_three file
-            S (word_bytes 1) (word_bytes t) (word_bytes c) (word_bytes i) types constants code (16 * t) e refl (four 1) (four t) (four c) (four i) lt) few_constants;
-        of_instructions = word_after file (((S ++ word_bytes 1) ++ word_bytes t) ++ word_bytes c) _ 16 i
-            (fourth file S (word_bytes 1) (word_bytes t) (word_bytes c) (word_bytes i) types constants code (16 * t) e refl (four 1) (four t) (four c) (four i) lt) (front_of_four file
-            S (word_bytes 1) (word_bytes t) (word_bytes c) (word_bytes i) types constants code (16 * t) e refl (four 1) (four t) (four c) (four i) lt) few_instructions;
+            (S ++ word_bytes n) _ 8 t (second file S (word_bytes n) (word_bytes t) (word_bytes c) (word_bytes i) types constants code (16 * t) e refl (four n) (four t) (four c) (four i) lt)
+            (front_of_two file S (word_bytes n) (word_bytes t) (word_bytes c) (word_bytes i) types constants code (16 * t) e refl (four n) (four t) (four c) (four i) lt) few_types;
+        of_constants = word_after file ((S ++ word_bytes n) ++ word_bytes t) _ 12 c
+            (third file S (word_bytes n) (word_bytes t) (word_bytes c) (word_bytes i) types constants code (16 * t) e refl (four n) (four t) (four c) (four i) lt) (front_of_three file
+            S (word_bytes n) (word_bytes t) (word_bytes c) (word_bytes i) types constants code (16 * t) e refl (four n) (four t) (four c) (four i) lt) few_constants;
+        of_instructions = word_after file (((S ++ word_bytes n) ++ word_bytes t) ++ word_bytes c) _ 16 i
+            (fourth file S (word_bytes n) (word_bytes t) (word_bytes c) (word_bytes i) types constants code (16 * t) e refl (four n) (four t) (four c) (four i) lt) (front_of_four file
+            S (word_bytes n) (word_bytes t) (word_bytes c) (word_bytes i) types constants code (16 * t) e refl (four n) (four t) (four c) (four i) lt) few_instructions;
       };
       types = record {
         valid = v.types;
-        of_version = v.of_version;
         whole = omega arith;
-        spelled = types_there file S (word_bytes 1) (word_bytes t) (word_bytes c) (word_bytes i) types constants code (16 * t) e refl (four 1) (four t) (four c) (four i) lt;
+        spelled = types_there file S (word_bytes n) (word_bytes t) (word_bytes c) (word_bytes i) types constants code (16 * t) e refl (four n) (four t) (four c) (four i) lt;
       };
+      version = version;
       constants = record {
-        spelled = after_types file S (word_bytes 1) (word_bytes t) (word_bytes c) (word_bytes i) types constants code (16 * t) e refl (four 1) (four t) (four c) (four i) lt
-            ∙ ap (λ xs. constants ++ xs) (sym (after_constants file S (word_bytes 1) (word_bytes t) (word_bytes c) (word_bytes i) types constants code (16 * t) e refl (four 1)
+        spelled = after_types file S (word_bytes n) (word_bytes t) (word_bytes c) (word_bytes i) types constants code (16 * t) e refl (four n) (four t) (four c) (four i) lt
+            ∙ ap (λ xs. constants ++ xs) (sym (after_constants file S (word_bytes n) (word_bytes t) (word_bytes c) (word_bytes i) types constants code (16 * t) e refl (four n)
             (four t) (four c) (four i) lt (length constants) refl));
         place = refl;
         each = v.constants;
@@ -206,7 +211,7 @@ spelled_parts file client spells =
       code = record {
         right = v.code;
         shallow = v.shallow;
-        spelled = after_constants file S (word_bytes 1) (word_bytes t) (word_bytes c) (word_bytes i) types constants code (16 * t) e refl (four 1) (four t) (four c) (four i) lt (length constants) refl;
+        spelled = after_constants file S (word_bytes n) (word_bytes t) (word_bytes c) (word_bytes i) types constants code (16 * t) e refl (four n) (four t) (four c) (four i) lt (length constants) refl;
         ends = omega arith;
       };
     }
@@ -231,6 +236,13 @@ no_types file t c i header wrong tree spells =
     let same = header_same file _ _ _ t c i p.header header in
     wrong tree.types same.0 p.types
 
+pub no_version : (file : List ℕ) (t c i : ℕ) (table : Table) → IsFileHeader file t c i → length table ≡ t → AreTypes file table → (8 ≤ length file → number 4 file 4 ≢ file_version table) → (tree : Client) → SpellsClient file tree → ⊥
+no_version file t c i table header n types wrong tree spells =
+    let p = spelled_parts file tree spells in
+    let same = header_same file _ _ _ t c i p.header header in
+    let one : tree.types ≡ table = types_same file tree.types table p.types types (same.0 ∙ sym n) in
+    wrong (let whole = header.whole in omega arith) (p.version ∙ ap file_version one)
+
 pub no_constants : (file : List ℕ) (t c i at : ℕ) → IsFileHeader file t c i → at ≡ 20 + 16 * t → ((cs : List Constant) (place : ℕ) → length cs ≡ c → AreConstants file at cs place → ⊥) → (tree : Client) → SpellsClient file tree → ⊥
 no_constants file t c i at header e wrong tree spells =
     let p = spelled_parts file tree spells in
@@ -250,15 +262,15 @@ no_code file t c i at place table cs header e n types m constants wrong tree spe
 
 -- the parts that were read are a client
 pub found_client : (file : List ℕ) (t c i at place : ℕ) (table : Table) (cs : List Constant) (code : Statements) → ((k : ℕ) → get_or file k 0 < 256)
-    → IsFileHeader file t c i → c ≤ 256 → i ≤ 4096 → at ≡ 20 + 16 * t → length table ≡ t → AreTypes file table → length cs ≡ c → AreConstants file at cs place
+    → IsFileHeader file t c i → c ≤ 256 → i ≤ 4096 → at ≡ 20 + 16 * t → length table ≡ t → AreTypes file table → number 4 file 4 ≡ file_version table → length cs ≡ c → AreConstants file at cs place
     → length (listing code) ≡ i → IsCodeAt file place table cs code
     → (tree : Client) × SpellsClient file tree
-found_client file t c i at place table cs code small header few many e n types m constants k is_code =
+found_client file t c i at place table cs code small header few many e n types version m constants k is_code =
     let tree : Client = record { types = table; constants = cs; code = code } in
     let start : at ≡ 20 + 16 * length table = omega arith in
     let header' = subst (λ x. IsFileHeader file x (length cs) (length (listing code))) (sym n) (subst (λ y. IsFileHeader file t y (length (listing code))) (sym m) (subst (λ z. IsFileHeader file t c z) (sym k) header)) in
     let constants' = subst (λ x. AreConstants file x cs place) start constants in
-    (tree, parts_spell file tree place (record { header = header'; types = types; constants = constants'; code = is_code }) small (omega arith) (omega arith))
+    (tree, parts_spell file tree place (record { header = header'; types = types; version = version; constants = constants'; code = is_code }) small (omega arith) (omega arith))
 
 pub no_matter : {T E : Type 0} (r : Result T E) (Q : Type 0) → Q → IfErr r (λ e. Q)
 no_matter (Ok x) Q q = tt
@@ -349,10 +361,10 @@ read_places file tree spells t c i at place cs header e m constants =
     (same.0, same.1, same.2, (constants_same file at place (code_place tree) cs tree.constants constants there (m ∙ same.1)).1)
 
 pub client_there : (file : List ℕ) (t c i at place : ℕ) (table : Table) (items slice : List constant.Constant) (code : Statements)
-    → ((k : ℕ) → get_or file k 0 < 256) → IsFileHeader file t c i → c ≤ 256 → i ≤ 4096 → at ≡ 20 + 16 * t → length table ≡ t → AreTypes file table
+    → ((k : ℕ) → get_or file k 0 < 256) → IsFileHeader file t c i → c ≤ 256 → i ≤ 4096 → at ≡ 20 + 16 * t → length table ≡ t → AreTypes file table → number 4 file 4 ≡ file_version table
     → length items ≡ c → AreConstants file at (constants_of items) place → slice ≡ items → length (listing code) ≡ i
     → IsCodeAt file place table (constants_of slice) code → (tree : Client) × SpellsClient file tree
-client_there file t c i at place table items slice code small header few many e n types m constants same k is_code =
+client_there file t c i at place table items slice code small header few many e n types version m constants same k is_code =
     let right = subst (λ xs. IsCodeAt file place table (constants_of xs) code) same is_code in
-    let f = found_client file t c i at place table (constants_of items) code small header few many e n types (length-map items constant_of ∙ m) constants k right in
+    let f = found_client file t c i at place table (constants_of items) code small header few many e n types version (length-map items constant_of ∙ m) constants k right in
     (f.0, f.1)

@@ -1,20 +1,20 @@
 -- The file that is made of what a text says, item by item.
-use Rattle.std.proofs.Common.{◌≡◌, ℕ, ◌+◌, ◌≤◌, zero, suc, List, [], ◌∷◌, ◌++◌, length, map, take, drop, replicate, refl, sym, ap, ◌∙◌, subst, arith, append_assoc, append-nil, All}
+use Rattle.std.proofs.Common.{◌≡◌, ℕ, ◌+◌, ◌≤◌, max, zero, suc, List, [], ◌∷◌, ◌++◌, length, map, take, drop, replicate, refl, sym, ap, ◌∙◌, subst, arith, append_assoc, append-nil, All}
 use Rattle.std.specs.Prelude.{flat_map}
 use Rattle.std.proofs.lemmas.List.{flat_map_more, take_all}
 use Rattle.std.proofs.lemmas.List.Concat.{flat_map-append}
 use Rattle.std.proofs.lemmas.List.Folds.{flat_map-map}
 use Rattle.std.proofs.lemmas.List.Elements.{All-nil, All-push}
-use Rattle.seg_spec.specs.Types.{Form, form_bytes}
+use Rattle.seg_spec.specs.Types.{Form, Table, version_of, form_bytes}
 use Rattle.client_spec.specs.Syntax.{Constant, Instruction}
-use Rattle.client_spec.specs.Grammar.{constant_bytes, instruction_bytes}
+use Rattle.client_spec.specs.Grammar.{file_version, constant_bytes, instruction_bytes}
 use Rattle.client_spec.specs.Text.{Item, type_item, constant_item, instruction_item, SpellsItem, EachSpells}
 use Rattle.client_spec.proofs.TextWords.{tail_of}
 use Rattle.client_code.specs.declared.outline.Section.{Section}
 use Rattle.client_code.specs.declared.outline.Section.TheVariants as section
 use Rattle.client_code.specs.Headers.{header_bytes}
 use Rattle.client_code.specs.Items.{item_bytes}
-use Rattle.client_code.specs.Outlines.{section_of, outlined}
+use Rattle.client_code.specs.Outlines.{section_of, items_version, outlined}
 use Rattle.client_spec.specs.Pieces.{IsReadable, meant, Pieces, all_items, file_of, Says}
 use Rattle.client_code.proofs.SpelledLines.{same_count, all_taken, one_more}
 
@@ -114,7 +114,7 @@ in_pieces t c i items e =
 -- ---- the whole file
 
 abbrev header_in : Pieces → List ℕ
-header_in pieces = header_bytes (length pieces.types) (length pieces.constants) (length pieces.instructions)
+header_in pieces = header_bytes (file_version pieces.types) (length pieces.types) (length pieces.constants) (length pieces.instructions)
 
 bytes_in : (pieces : Pieces) → flat_map item_bytes (all_items pieces) ≡ (flat_map form_bytes pieces.types ++ flat_map constant_bytes pieces.constants) ++ flat_map instruction_bytes pieces.instructions
 bytes_in pieces =
@@ -130,20 +130,28 @@ bytes_in pieces =
 regroup : (old header types constants code : List ℕ) → (old ++ header) ++ ((types ++ constants) ++ code) ≡ old ++ (((header ++ types) ++ constants) ++ code)
 regroup old header types constants code = simp append_assoc
 
-file_is : (old start : List ℕ) (t c i : ℕ) (items : List Item) (all : InPieces t c i items) → start ≡ old ++ header_bytes t c i → start ++ flat_map item_bytes items ≡ old ++ file_of all.pieces
-file_is old start t c i items all e =
+-- the types that stand in front decide the version
+version_is : (types : Table) (rest : List Item) → items_version (take (length types) (map type_item types ++ rest)) ≡ file_version types
+version_is [] rest = refl
+version_is (form ∷ types) rest = ap (max (version_of form)) (version_is types rest)
+
+file_is : (old start : List ℕ) (v t c i : ℕ) (items : List Item) (all : InPieces t c i items) → start ≡ old ++ header_bytes v t c i → v ≡ items_version (take t items) → start ++ flat_map item_bytes items ≡ old ++ file_of all.pieces
+file_is old start v t c i items all e of_types =
     let pieces = all.pieces in
+    let behind = map constant_item pieces.constants ++ map instruction_item pieces.instructions in
+    let whole : items ≡ map type_item pieces.types ++ behind = all.whole ∙ append_assoc (map type_item pieces.types) (map constant_item pieces.constants) (map instruction_item pieces.instructions) in
+    let version : v ≡ file_version pieces.types = of_types ∙ ap (λ n. items_version (take n items)) (sym all.types) ∙ ap (λ is. items_version (take (length pieces.types) is)) whole ∙ version_is pieces.types behind in
     ap (λ xs. start ++ flat_map item_bytes xs) all.whole ∙ ap (λ xs. xs ++ flat_map item_bytes (all_items pieces)) (
-    e ∙ ap (λ n. old ++ header_bytes n c i) (sym all.types) ∙ ap (λ n. old ++ header_bytes (length pieces.types) n i) (sym all.constants)
-    ∙ ap (λ n. old ++ header_bytes (length pieces.types) (length pieces.constants) n) (sym all.instructions)
+    e ∙ ap (λ n. old ++ header_bytes n t c i) version ∙ ap (λ n. old ++ header_bytes (file_version pieces.types) n c i) (sym all.types) ∙ ap (λ n. old ++ header_bytes (file_version pieces.types) (length pieces.types) n i) (sym all.constants)
+    ∙ ap (λ n. old ++ header_bytes (file_version pieces.types) (length pieces.types) (length pieces.constants) n) (sym all.instructions)
     )
     ∙ ap (λ xs. (old ++ header_in pieces) ++ xs) (bytes_in pieces)
     ∙ regroup old (header_in pieces) (flat_map form_bytes pieces.types) (flat_map constant_bytes pieces.constants) (flat_map instruction_bytes pieces.instructions)
 
 -- after the last line the file is that of the pieces
-pub ends : (text old start file : List ℕ) (t c i n : ℕ) → Written (meant text) start file n → drop n (meant text) ≡ [] → n ≤ length (meant text) → start ≡ old ++ header_bytes t c i → t ≤ 32 → c ≤ 256 → i ≤ 4096
-    → ((items : List Item) → EachSpells (meant text) items → map section_of (take n items) ≡ outlined t c i) → (pieces : Pieces) × Says text pieces × (file ≡ old ++ file_of pieces)
-ends text old start file t c i n written none within e few_types few_constants few_instructions counted =
+pub ends : (text old start file : List ℕ) (v t c i n : ℕ) → Written (meant text) start file n → drop n (meant text) ≡ [] → n ≤ length (meant text) → start ≡ old ++ header_bytes v t c i → t ≤ 32 → c ≤ 256 → i ≤ 4096
+    → ((items : List Item) → EachSpells (meant text) items → v ≡ items_version (take t items)) → ((items : List Item) → EachSpells (meant text) items → map section_of (take n items) ≡ outlined t c i) → (pieces : Pieces) × Says text pieces × (file ≡ old ++ file_of pieces)
+ends text old start file v t c i n written none within e few_types few_constants few_instructions versioned counted =
     let lines = meant text in
     let items = written.items in
     let long = all_taken lines n within none in
@@ -163,5 +171,5 @@ ends text old start file t c i n written none within e few_types few_constants f
         };
         lines = subst (EachSpells lines) all.whole spells;
       },
-      written.bytes ∙ file_is old start t c i items all e,
+      written.bytes ∙ file_is old start v t c i items all e (versioned items spells),
     )

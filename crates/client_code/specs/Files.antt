@@ -1,5 +1,6 @@
 -- A client file, part by part.
 --     code_place client                                where the code of a client begins
+--     IsFileVersion version                            files have this version
 --     IsFileHeader file types constants instructions   the header says so
 --     AreRight file place                              the header's fields in front
 --                                                      of a position are right
@@ -9,7 +10,8 @@
 --     IsCodeAt file at table constants code            this code stands there, up to the end
 use Rattle.std.specs.Prelude.{◌≡◌, ℕ, ◌+◌, ◌*◌, ◌≤◌, List, ◌++◌, length, take, drop, flat_map, codes, All, AllPairs}
 use Rattle.seg_spec.specs.Bytes as bytes
-use Rattle.seg_spec.specs.Types.{AreOfVersion, Table, IsTable, form_bytes}
+use Rattle.seg_spec.specs.Header.{sharing_version}
+use Rattle.seg_spec.specs.Types.{Table, IsTable, form_bytes}
 use Rattle.client_spec.specs.Syntax.{Constant, Statements, Client}
 use Rattle.client_spec.specs.Grammar.{constant_bytes, instruction_bytes, listing, IsConstant, Differ, IsCode, depth}
 
@@ -17,17 +19,21 @@ abbrev pub code_place : Client → ℕ
 code_place client =
     20 + 16 * length client.types + length (flat_map constant_bytes client.constants)
 
+-- files have this version; that of a client's file is also that of its types
+abbrev pub IsFileVersion : ℕ → Type 0
+IsFileVersion version = (1 ≤ version) × (version ≤ sharing_version)
+
 pub record IsFileHeader (file : List ℕ) (types constants instructions : ℕ) : Type 0 where
   pub whole : 20 ≤ length file
   pub magic : take 4 file ≡ codes "SEGC"
-  pub version : bytes.word file 4 ≡ 1
+  pub version : IsFileVersion (bytes.word file 4)
   pub of_types : bytes.word file 8 ≡ types
   pub of_constants : bytes.word file 12 ≡ constants
   pub of_instructions : bytes.word file 16 ≡ instructions
 
 pub record AreRight (file : List ℕ) (place : ℕ) : Type 0 where
   pub magic : 4 ≤ place → take 4 file ≡ codes "SEGC"
-  pub version : 8 ≤ place → (8 ≤ length file) × (bytes.word file 4 ≡ 1)
+  pub version : 8 ≤ place → (8 ≤ length file) × IsFileVersion (bytes.word file 4)
   pub of_types : 12 ≤ place → (12 ≤ length file) × (bytes.word file 8 ≤ 32)
   pub of_constants : 16 ≤ place → (16 ≤ length file) × (bytes.word file 12 ≤ 256)
   pub of_instructions : 20 ≤ place → (20 ≤ length file) × (bytes.word file 16 ≤ 4096)
@@ -42,7 +48,6 @@ pub record AreConstants (file : List ℕ) (at : ℕ) (constants : List Constant)
 -- the types that stand after the header
 pub record AreTypes (file : List ℕ) (table : Table) : Type 0 where
   pub valid : IsTable table
-  pub of_version : AreOfVersion 1 table
   pub whole : 20 + 16 * length table ≤ length file
   pub spelled : bytes.slice file 20 (16 * length table) ≡ flat_map form_bytes table
 

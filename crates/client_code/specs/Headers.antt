@@ -1,8 +1,8 @@
--- The bytes of the header that says how many types, constants and instructions follow.
+-- The bytes of the header that says a version, and how many types, constants and instructions follow.
 use Rattle.std.specs.Prelude.{ℕ, List, ◌++◌, codes}
 use Rattle.client_spec.specs.Grammar.{word_bytes}
 
-abbrev pub header_bytes : ℕ → ℕ → ℕ → List ℕ
-header_bytes types constants instructions =
-    codes "SEGC" ++ word_bytes 1
+abbrev pub header_bytes : ℕ → ℕ → ℕ → ℕ → List ℕ
+header_bytes version types constants instructions =
+    codes "SEGC" ++ word_bytes version
     ++ word_bytes types ++ word_bytes constants ++ word_bytes instructions

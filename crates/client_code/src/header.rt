@@ -1,21 +1,26 @@
-ghost use Rattle.std.specs.Prelude.{◌≡◌, ◌≤◌, ◌<◌, ◌+◌, ◌*◌, ◌++◌, ℕ, length, IfOk, IfErr, OnOk, MatchOption};
+ghost use Rattle.std.specs.Prelude.{◌≡◌, ◌≢◌, ◌≤◌, ◌<◌, ◌+◌, ◌*◌, ◌++◌, ℕ, length, IfOk, IfErr, OnOk, MatchOption};
 ghost use Rattle.seg_spec.specs.Bytes as bytes;
 ghost use Rattle.seg_spec.specs.Bytes.{spelling};
-ghost use Rattle.client_code.specs.Files.{IsFileHeader, AreRight};
+ghost use Rattle.client_spec.specs.Grammar.{file_version};
+ghost use Rattle.client_code.specs.Files.{IsFileVersion, IsFileHeader, AreRight};
 ghost use Rattle.client_code.specs.Headers.{header_bytes};
 ghost use Rattle.client_code.specs.declared.header.TheConstants.{MOST_CONSTANTS, MOST_INSTRUCTIONS};
 ghost use Rattle.client_code.specs.declared.types.TheConstants.{MOST_TYPES};
 
-use crate::types::{ENTRY, MOST_TYPES, TYPES_AT};
+use crate::types::{ENTRY, MOST_TYPES, TYPES_AT, version_of};
 use byteorder::{ByteOrder, LittleEndian};
+use seg_layout::TypeTable;
 use seg_raw::Fault;
 use std::alloc::{AllocError, Allocator};
 
 /// The first bytes of a client file.
 const MAGIC: &[u8; 4] = b"SEGC";
 
-/// The version of the format.
-const VERSION: u32 = 1;
+/// The version of files whose types share nothing.
+pub const FIRST_VERSION: u32 = 1;
+
+/// The version of files that have types of cells that share.
+pub const SHARING_VERSION: u32 = 2;
 
 /// The most constants of a client.
 pub const MOST_CONSTANTS: u32 = 256;
@@ -40,6 +45,20 @@ fn word(file: &[u8], at: u32) -> Option<u32>
 {
     let bytes = file.get(at as usize..at as usize + 4)?;
     Some(LittleEndian::read_u32(bytes))
+}
+
+/// Tests that the header says the version of these types.
+pub fn check_version(file: &[u8], types: &TypeTable) -> Result<(), Fault>
+    ensures found { OnOk result (bytes.word file.now 4 ≡ file_version types.now) }
+    ensures wrong { IfErr result (λ fault. 8 ≤ length file.now →
+        bytes.word file.now 4 ≢ file_version types.now) }
+    ensures fault { IfErr result (λ fault. fault ≡ Fault.BadCode 4) }
+{
+    if word(file, 4) == Some(version_of(types)) {
+        Ok(())
+    } else {
+        Err(Fault::BadCode(4))
+    }
 }
 
 /// The word at a position, which is a number of entries.
@@ -77,9 +96,9 @@ impl Header {
         if !file.starts_with(MAGIC) {
             return Err(Fault::BadCode(0));
         }
-        if word(file, 4) != Some(VERSION) {
+        let Some(FIRST_VERSION | SHARING_VERSION) = word(file, 4) else {
             return Err(Fault::BadCode(4));
-        }
+        };
         let types = count(file, 8, MOST_TYPES)?;
         let constants = count(file, 12, MOST_CONSTANTS)?;
         let instructions = count(file, 16, MOST_INSTRUCTIONS)?;
@@ -90,13 +109,17 @@ impl Header {
         })
     }
 
-    /// Adds the header's bytes to a file.
-    pub fn append<A: Allocator>(&self, file: &mut Vec<u8, A>) -> Result<(), AllocError>
+    /// Adds the header's bytes to a file of a version.
+    pub fn append<A: Allocator>(
+        &self,
+        version: u32,
+        file: &mut Vec<u8, A>,
+    ) -> Result<(), AllocError>
         ensures { OnOk result (file.new.items ≡ file.old.items
-            ++ header_bytes self.now.types self.now.constants self.now.instructions) }
+            ++ header_bytes version self.now.types self.now.constants self.now.instructions) }
     {
         file.extend_from_slice(MAGIC)?;
-        append_word(file, VERSION)?;
+        append_word(file, version)?;
         append_word(file, self.types)?;
         append_word(file, self.constants)?;
         append_word(file, self.instructions)

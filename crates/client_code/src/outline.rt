@@ -1,9 +1,9 @@
-ghost use Rattle.std.specs.Prelude.{◌≡◌, ◌+◌, ◌∷◌, ◌++◌, [], ◌≤◌, ℕ, List, length, map, take, IsTrue, IsFalse};
+ghost use Rattle.std.specs.Prelude.{◌≡◌, ◌≢◌, ◌+◌, ◌∷◌, ◌++◌, [], ◌≤◌, ℕ, List, length, map, take, IsTrue, IsFalse};
 ghost use Rattle.client_spec.specs.Text.{Item, words_of, SpellsItem, EachSpells};
-ghost use Rattle.client_code.specs.Outlines.{section_of, IsOutline, outline_of, entry_total};
+ghost use Rattle.client_code.specs.Outlines.{section_of, item_version, items_version, IsOutline, outline_of, entry_total};
 ghost use Rattle.client_spec.specs.Pieces.{meant};
 
-use crate::header::{Header, MOST_CONSTANTS, MOST_INSTRUCTIONS};
+use crate::header::{FIRST_VERSION, Header, MOST_CONSTANTS, MOST_INSTRUCTIONS, SHARING_VERSION};
 use crate::lines::Lines;
 use crate::types::MOST_TYPES;
 use crate::words::Words;
@@ -87,4 +87,45 @@ fn add(header: &mut Header, section: Section) -> bool
         _ => return false,
     }
     true
+}
+
+/// Takes the next word, and says whether it is this one.
+fn is_next(words: &mut Words, word: &[u8]) -> bool
+    ensures found { IsTrue result → words_of words.old.line.now
+        ≡ word.now ∷ words_of words.new.line.now }
+    ensures other { IsFalse result → (rest : List (List ℕ)) →
+        words_of words.old.line.now ≢ word.now ∷ rest }
+{
+    match words.next() {
+        Some(found) => found == word,
+        None => false,
+    }
+}
+
+/// The version of the files that a line belongs in, by its first words.
+fn line_version(line: &[u8]) -> u32
+    ensures { (item : Item) → SpellsItem line.now item → result ≡ item_version item }
+{
+    let mut words = Words::new(line);
+    if is_next(&mut words, b"type") && is_next(&mut words, b"shared") {
+        SHARING_VERSION
+    } else {
+        FIRST_VERSION
+    }
+}
+
+/// The version of the file of a text, whose first lines, so many, say its types.
+pub fn version_in(text: &[u8], types: u32) -> u32
+    ensures { (items : List Item) → EachSpells (meant text.now) items →
+        result ≡ items_version (take types items) }
+{
+    let mut version = FIRST_VERSION;
+    let mut lines = Lines::new(text);
+    for _ in 0..types {
+        let Some(line) = lines.next_meant() else {
+            return version;
+        };
+        version = version.max(line_version(line));
+    }
+    version
 }

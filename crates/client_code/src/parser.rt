@@ -10,7 +10,7 @@ ghost use Rattle.client_code.specs.Clients.{bytes_of};
 
 use crate::client::{Client, Constants};
 use crate::constant::Constant;
-use crate::header::{Header, MOST_CONSTANTS, MOST_INSTRUCTIONS};
+use crate::header::{Header, MOST_CONSTANTS, MOST_INSTRUCTIONS, check_version};
 use crate::instruction::Instruction;
 use crate::nesting::Nesting;
 use crate::types::read_types;
@@ -131,6 +131,7 @@ pub fn parse(file: &[u8]) -> Result<Client<'_>, Fault>
 {
     let header = Header::read(file)?;
     let types = read_types(file, header.types)?;
+    check_version(file, &types)?;
     let (constants, code) = read_constants(file, header.constants_at(), header.constants)?;
     check_code(
         file,

@@ -1,9 +1,11 @@
 ghost use Rattle.std.specs.Prelude.{◌≡◌, ◌≤◌, ◌<◌, ◌+◌, ◌*◌, ℕ, IfSome, IfNone, IfOk, IfErr, length};
 ghost use Rattle.seg_spec.specs.Bytes.{slice};
 ghost use Rattle.seg_spec.specs.Types.{Table, IsUsed};
+ghost use Rattle.client_spec.specs.Grammar.{file_version};
 ghost use Rattle.client_code.specs.Files.{AreTypes};
 
-use seg_layout::{MAX_TYPES, TypeTable};
+use crate::header::{FIRST_VERSION, SHARING_VERSION};
+use seg_layout::{MAX_TYPES, Type, TypeId, TypeTable};
 use seg_raw::Fault;
 
 /// The bytes of a type entry.
@@ -61,7 +63,7 @@ fn first_wrong(file: &[u8], count: u32) -> u32
 {
     let missing = first_missing(file, count);
     let table = entries(file, count);
-    let wrong = match TypeTable::read(&table[..(ENTRY * count) as usize]) {
+    let wrong = match TypeTable::read_shared(&table[..(ENTRY * count) as usize]) {
         Err(Fault::BadType(i)) => missing.min(i),
         _ => missing,
     };
@@ -98,9 +100,21 @@ pub fn read_types(file: &[u8], count: u32) -> Result<TypeTable, Fault>
     ensures fault { IfErr result (λ fault. (at : ℕ) × (fault ≡ Fault.BadCode at)) }
 {
     if let Some(bytes) = used_entries(file, count) {
-        if let Ok(types) = TypeTable::read(bytes) {
+        if let Ok(types) = TypeTable::read_shared(bytes) {
             return Ok(types);
         }
     }
     Err(Fault::BadCode(first_wrong(file, count)))
+}
+
+/// The version of a client file that has these types.
+pub fn version_of(types: &TypeTable) -> u32
+    ensures { result ≡ file_version types.now }
+{
+    for t in 0..types.len() {
+        if let Some(Type::Shared(_)) = types.kind(t as TypeId) {
+            return SHARING_VERSION;
+        }
+    }
+    FIRST_VERSION
 }

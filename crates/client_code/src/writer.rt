@@ -7,7 +7,7 @@ ghost use Rattle.client_code.specs.Items.{text_item, IsWritten};
 
 use crate::item::Item;
 use crate::lines::Lines;
-use crate::outline::header_of;
+use crate::outline::{header_of, version_in};
 use std::alloc::{AllocError, Allocator};
 
 /// What the next line says that isn't skipped. `None` where there is none, or where no line of a client's text is so.
@@ -31,7 +31,7 @@ pub fn write<A: Allocator>(file: &mut Vec<u8, A>, text: &[u8]) -> Result<bool, A
         SpellsInText text.now tree → ⊥) }
 {
     let header = header_of(text);
-    header.append(file)?;
+    header.append(version_in(text, header.types), file)?;
     let mut lines = Lines::new(text);
     for _ in 0..header.entries() {
         match next_item(&mut lines) {

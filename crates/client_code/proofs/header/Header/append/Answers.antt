@@ -11,6 +11,6 @@ appended old m v t c i f0 f1 f2 f3 f4 e0 e1 e2 e3 e4 =
 pub returns : goal.returns
 returns g c =
     let header = c.args.self.now in
-    on_ok c.append_word-4.result _ _ (appended c.args.file.now.items (codes "SEGC") (word_bytes 1) (word_bytes header.types) (word_bytes header.constants)
+    on_ok c.append_word-4.result _ _ (appended c.args.file.now.items (codes "SEGC") (word_bytes c.args.version) (word_bytes header.types) (word_bytes header.constants)
     (word_bytes header.instructions) _ _ _ _ _ c.in_ok-extend_from_slice.ensures.items c.in_ok-append_word.ensures c.in_ok-append_word-2.ensures
     c.in_ok-append_word-3.ensures) c.append_word-4.ensures
