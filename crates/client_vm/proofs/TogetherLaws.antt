@@ -21,7 +21,7 @@ use Rattle.client_run.specs.declared.report.Ended.TheVariants as ended
 use Rattle.client_run.specs.Runs.{ending_of, given_of, left_of, IsReady, MayRun, HasRun}
 use Rattle.client_vm.specs.Outcomes.{AreReports, HasOutcome}
 use Rattle.seg_spec.specs.Images.{upgraded}
-use Rattle.seg_spec.proofs.Upgrading.{upgrade_changes, same_word, upgraded_held, upgraded_counted}
+use Rattle.seg_spec.proofs.Upgrading.{upgrade_changes, same_word, upgraded_version, upgraded_held, upgraded_counted}
 use Rattle.client_vm.specs.Together.{opened, ending_if, HaveRun, HaveRunOn}
 
 -- ---- what is left together, with one more
@@ -201,6 +201,7 @@ opened_ready window table moves allocator is named may = record {
   loose_are = is.none_loose;
   table_is = is.table_is;
   allocator_is = same_word window.bytes allocator_word (omega arith) ∙ named;
+  version_is = upgraded_version window.bytes (let small = is.held.laid_out.header.not_small in omega arith);
   moves_may = subst (λ n. AreMoves n (length (upgraded window.bytes)) 0 moves) (sym (opened_region window))
       (subst (λ n. AreMoves (length (region_of window)) n 0 moves) (sym (upgrade_changes window.bytes).length_kept) may);
 }

@@ -8,7 +8,6 @@ use Rattle.seg_spec.specs.Types.{Table}
 use Rattle.seg_spec.specs.Value.{Int, nil, cons}
 use Rattle.seg_spec.specs.Fixtures.{counter, counter_picture}
 use Rattle.seg_spec.specs.Index.{plain_root, same_name}
-use Rattle.test_definitions.proofs.Evaluating.{numbers-old}
 use Rattle.test_definitions.proofs.SoundImages.{counter_held, counter_counted}
 use Rattle.client_spec.specs.declared.table.Operation.{Operation}
 use Rattle.client_spec.specs.Syntax.{Constant}
@@ -58,7 +57,6 @@ increment_valid : IsClient increment
 unfolding listing depth
 increment_valid = record {
   types = counter_held.laid_out.is_table;
-  of_version = numbers-old;
   few_constants = omega arith;
   constants = All-cons IsConstant (Constant.Name (codes "x")) [] name_x (All-nil IsConstant);
   different = λ k l d lt h. absurd (omega arith);

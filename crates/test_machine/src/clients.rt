@@ -1,8 +1,8 @@
 //! Small clients, worked out.
 
 ghost use Rattle.std.specs.Prelude.{◌≡◌, ℕ, ◌^◌, ◌<◌, ◌++◌, pos, [], ◌∷◌, codes, replicate, Ok, Err};
-ghost use Rattle.client_spec.specs.Syntax.{Constant, Statements};
-ghost use Rattle.client_spec.specs.Grammar.{client_bytes, SpellsClient};
+ghost use Rattle.client_spec.specs.Syntax.{Constant, Statements, no_more};
+ghost use Rattle.client_spec.specs.Grammar.{file_version, client_bytes, SpellsClient};
 ghost use Rattle.client_spec.specs.Text.{text_of};
 ghost use Rattle.client_spec.specs.Run.{finished, stopped, stuck, bound};
 ghost use Rattle.client_spec.specs.Clients.{outputs, image_after, ending_after, table_after, StayWithin, AreMoves, IsFirstBadMove, IsLeftInPlace};
@@ -28,6 +28,23 @@ pub fn the_increment()
     ensures steps { bound increment.code ≡ 6 }
     ensures accepted { types_after increment.types increment.constants increment.code
         (replicate 16 RegisterType.Undefined) ≡ Ok (replicate 16 RegisterType.Undefined) }
+{}
+
+/// A client of version 2, since a type of it shares: its 52 bytes and its text.
+#[tactic(auto, unfolding(client_spec::specs::Grammar::client_bytes, client_spec::specs::Grammar::listing))]
+pub fn the_sharing()
+    ensures bytes { client_bytes
+        (record { types = Form.i64 ∷ Form.shared 0 ∷ []; constants = []; code = no_more }) ≡
+        83 ∷ 69 ∷ 71 ∷ 67 ∷ 2 ∷ 0 ∷ 0 ∷ 0 ∷ 2 ∷ 0 ∷ 0 ∷ 0 ∷ 0 ∷ 0 ∷ 0 ∷ 0 ∷ 0 ∷ 0 ∷ 0 ∷ 0
+        ∷ 1 ∷ 0 ∷ 0 ∷ 0 ∷ 0 ∷ 0 ∷ 0 ∷ 0 ∷ 0 ∷ 0 ∷ 0 ∷ 0 ∷ 0 ∷ 0 ∷ 0 ∷ 0
+        ∷ 9 ∷ 1 ∷ 0 ∷ 0 ∷ 0 ∷ 0 ∷ 0 ∷ 0 ∷ 0 ∷ 0 ∷ 0 ∷ 0 ∷ 0 ∷ 0 ∷ 0 ∷ 0 ∷ [] }
+    ensures text { text_of
+        (record { types = Form.i64 ∷ Form.shared 0 ∷ []; constants = []; code = no_more })
+        ≡ codes "type i64\ntype shared t0\n" }
+    ensures first { file_version (Form.shared 1 ∷ Form.i64 ∷ []) ≡ 2 }
+    ensures none { file_version [] ≡ 1 }
+    ensures others { file_version (Form.i64 ∷ Form.str ∷ Form.vec 0 ∷ Form.list 0
+        ∷ Form.flat_map 0 ∷ Form.map 0 ∷ Form.own 0 ∷ Form.struct (0 ∷ 1 ∷ []) ∷ []) ≡ 1 }
 {}
 
 /// The client that makes a chain of 20,000 owned nodes and destroys it.

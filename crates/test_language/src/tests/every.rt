@@ -1,4 +1,4 @@
-/// A client with every operation, every kind of type and every kind of constant. The verifier rejects it.
+/// A client with every operation, every kind of type but `shared` and every kind of constant. The verifier rejects it.
 pub const TEXT: &str = r"type i64
 type str
 type vec t0

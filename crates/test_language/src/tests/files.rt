@@ -148,11 +148,16 @@ fn every_operation_with_each_bit_changed(rt: HostRuntime) -> Result<(), Fail> {
     Ok(())
 }
 
-static OTHER_FILES: [(&[u8], u32); 9] = [
+static OTHER_FILES: [(&[u8], u32); 13] = [
     (b"", 0),
     (b"SEG", 0),
     (b"SEGD\x01\0\0\0", 0),
-    (b"SEGC\x02\0\0\0", 4),
+    (b"SEGC\0\0\0\0", 4),
+    (b"SEGC\x03\0\0\0", 4),
+    (b"SEGC\x01\0\0\x01", 4),
+    (b"SEGC\x02\0\0\0", 8),
+    // version 2 without types
+    (b"SEGC\x02\0\0\0\0\0\0\0\0\0\0\0\0\0\0\0", 4),
     (b"SEGC\x01\0\0\0\x21\0\0\0\0\0\0\0\0\0\0\0", 8),
     (b"SEGC\x01\0\0\0\0\0\0\0\x01\x01\0\0\0\0\0\0", 12),
     (b"SEGC\x01\0\0\0\0\0\0\0\0\0\0\0\x01\x10\0\0", 16),
@@ -223,5 +228,66 @@ fn types_that_name_a_cut_or_an_unused_one(rt: HostRuntime) -> Result<(), Fail> {
         Some(Fault::BadCode(36)),
         "t1 is unused"
     );
+    Ok(())
+}
+
+/// A file of a version: the type `i64` and another one, and this behind them, as so many constants.
+fn file_of(
+    alloc: Global,
+    version: u8,
+    second: &[u8; 3],
+    constants: u8,
+    rest: &[u8],
+) -> Result<Vec<u8>, AllocError> {
+    let mut file = Vec::from_slice(alloc, b"SEGC")?;
+    file.extend_from_slice(&[version, 0, 0, 0, 2, 0, 0, 0, constants, 0, 0, 0])?;
+    file.extend_from_slice(b"\0\0\0\0\x01\0\0\0\0\0\0\0\0\0\0\0\0\0\0\0")?;
+    file.extend_from_slice(second)?;
+    file.extend_from_slice(b"\0\0\0\0\0\0\0\0\0\0\0\0\0")?;
+    file.extend_from_slice(rest)?;
+    Ok(file)
+}
+
+const SHARED: [u8; 3] = [9, 1, 0];
+
+const VEC: [u8; 3] = [3, 1, 0];
+
+// The version, the type after `i64`, the constants and what spells them, and where the file is wrong.
+static VERSIONS: [(u8, [u8; 3], u8, &[u8], Option<u32>); 12] = [
+    (1, VEC, 0, b"", None),
+    (2, SHARED, 0, b"", None),
+    (2, VEC, 0, b"", Some(4)),
+    (1, SHARED, 0, b"", Some(4)),
+    (3, SHARED, 0, b"", Some(4)),
+    (0, VEC, 0, b"", Some(4)),
+    // a wrong type comes before a version that doesn't fit the types
+    (1, [9, 1, 2], 0, b"", Some(36)),
+    (2, [3, 1, 2], 0, b"", Some(36)),
+    (1, [9, 0, 0], 0, b"", Some(36)),
+    // but after one that there isn't
+    (3, [9, 1, 2], 0, b"", Some(4)),
+    // a wrong constant comes after it
+    (1, SHARED, 1, b"\x04\0", Some(4)),
+    (2, SHARED, 1, b"\x04\0", Some(52)),
+];
+
+#[test]
+fn versions_and_types(rt: HostRuntime) -> Result<(), Fail> {
+    for (version, second, constants, rest, wanted) in &VERSIONS {
+        let file = file_of(rt.alloc(), *version, second, *constants, rest)?;
+        let found = place_of_fault(&rt, file.as_slice())?;
+        assert_eq!(rt; found, *wanted, "{file:?}");
+    }
+    Ok(())
+}
+
+#[test]
+fn a_text_that_shares_is_a_file_of_version_2(rt: HostRuntime) -> Result<(), Fail> {
+    let file = assemble(rt.alloc(), b"type i64\ntype shared t0\n")?;
+    let wanted = file_of(rt.alloc(), 2, &SHARED, 0, b"")?;
+    assert!(rt; file.as_slice() == wanted.as_slice());
+    let file = assemble(rt.alloc(), b"type i64\ntype vec t0\n")?;
+    let wanted = file_of(rt.alloc(), 1, &VEC, 0, b"")?;
+    assert!(rt; file.as_slice() == wanted.as_slice());
     Ok(())
 }

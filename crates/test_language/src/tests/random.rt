@@ -9,6 +9,7 @@ const FRONT: &str = "type i64
 type struct t0 t0
 type own t3
 type map t1
+type shared t0
 text \\5c \\00
 text plain
 name x
@@ -17,7 +18,7 @@ family p
 family q
 ";
 
-const TYPES: u32 = 4;
+const TYPES: u32 = 5;
 
 const FIRST_NAME: u32 = 2;
 

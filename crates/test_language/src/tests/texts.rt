@@ -28,7 +28,7 @@ fn check_wrong(rt: &(impl Abort + AllocGlobal), text: &[u8], line: u32) {
     assert_eq!(rt; found, Some(Fault::BadLine(line)), "{text:?}");
 }
 
-static CANONICAL: [(&[u8], &str); 26] = [
+static CANONICAL: [(&[u8], &str); 28] = [
     (b"", ""),
     (b"\n\n", ""),
     (b"type i64", "type i64\n"),
@@ -42,6 +42,11 @@ static CANONICAL: [(&[u8], &str); 26] = [
         b"type own t0\ntype flat_map t2\ntype map t3\ntype list t0",
         "type own t0\ntype flat_map t2\ntype map t3\ntype list t0\n",
     ),
+    (
+        b"type  i64\n type shared  t0",
+        "type i64\ntype shared t0\n",
+    ),
+    (b"type shared t1\ntype str", "type shared t1\ntype str\n"),
     (b"text a\\62c", "text abc\n"),
     (b"text ", "text \n"),
     (b"text  x ", "text  x \n"),
@@ -91,7 +96,7 @@ fn canonical_texts(rt: HostRuntime) {
     }
 }
 
-static WRONG: [(&[u8], u32); 84] = [
+static WRONG: [(&[u8], u32); 88] = [
     // words and numbers
     (b"ADD r1 r16 r2", 1),
     (b"CONST r0 -0", 1),
@@ -158,6 +163,12 @@ static WRONG: [(&[u8], u32); 84] = [
     (b"type vec t2\ntype bad", 1),
     (b"type i64\ntype vec t00", 2),
     (b"type i64\ntype vec t256", 2),
+    (b"type shared", 1),
+    (b"type shared t1", 1),
+    (b"type i64\ntype shared t0 t0", 2),
+    (b"type i64\ntype shared t2\nname x", 2),
+    // the version is that of the types, so the wrong line is another
+    (b"type i64\ntype shared t0\nname a#b", 3),
     (b"type struct", 1),
     (b"type struct t0", 1),
     (b"type struct t1\ntype i64", 1),
@@ -167,8 +178,6 @@ static WRONG: [(&[u8], u32); 84] = [
         5,
     ),
     // sections
-    // a type of version 2
-    (b"type i64\ntype shared t0\nname x", 2),
     (b"type i64\nname x\ntype str", 3),
     (b"type i64\n\nCONST r0 1\n; x\nname x", 5),
     (b"CONST r0 1\ntype i64", 2),
