@@ -145,7 +145,7 @@ impl<'a> File<'a> {
     fn type_flaw(&self, at: usize) -> Flaw<'static> {
         match self.bytes.get(at..at.saturating_add(ENTRY)) {
             None => Flaw::Unmet(rule::WHOLE),
-            Some(entry) => entry_flaw(entry, false),
+            Some(entry) => entry_flaw(entry, true),
         }
     }
 

@@ -11,7 +11,7 @@ pub(crate) const FEW: &str = "a client may have 32 types, 256 constants and 4096
 pub(crate) const KINDS: &str =
     "the kind of a type should be 1 to 8, and an unused entry, which is all 0, be followed by such alone";
 
-/// The same in an image of version 2.
+/// The same in a client, and in an image of version 2.
 pub(crate) const MORE_KINDS: &str =
     "the kind of a type should be 1 to 9, and an unused entry, which is all 0, be followed by such alone";
 

@@ -153,7 +153,7 @@ fn misplaced(outline: &Outline, statement: Statement) -> Option<&'static str> {
 }
 
 /// The words for types, each with the most parts that may follow.
-const TYPES: [(&str, usize); 8] = [
+const TYPES: [(&str, usize); 9] = [
     ("i64", 0),
     ("str", 0),
     ("vec", 1),
@@ -162,6 +162,7 @@ const TYPES: [(&str, usize); 8] = [
     ("map", 1),
     ("own", 1),
     ("struct", 8),
+    ("shared", 1),
 ];
 
 fn most_parts(word: &[u8]) -> Option<usize> {
@@ -181,7 +182,7 @@ fn type_flaw<'a>(mut words: Pieces<'a>, types: usize) -> Flaw<'a> {
     let Some(most) = most_parts(word) else {
         return Flaw::Word(
             word,
-            "is none of i64, str, vec, list, flat_map, map, own and struct",
+            "is none of i64, str, vec, list, flat_map, map, own, struct and shared",
         );
     };
     let parts = words.count_words();

@@ -55,6 +55,61 @@ fn destroys_an_object_once(rt: HostRuntime) -> Result<(), Fail> {
     plays(rt.alloc(), &KINDS, text.as_str())
 }
 
+/// A cell that shares nothing has the room of a number. Clients whose types don't share run on the same image.
+#[test]
+fn objects_of_cells_that_share(rt: HostRuntime) -> Result<(), Fail> {
+    plays(
+        rt.alloc(),
+        &KINDS,
+        "> client make
+            type i64
+            type shared t0
+            name x
+            MAKE r0 - - t1 k0
+              CONST r1 7
+              OUTI r1
+            ELSE
+              OUTI r0
+            END
+        > client number
+            type i64
+            name y
+            MAKE r0 - - t0 k0
+            ELSE
+            END
+        > client other
+            type i64
+            name x
+            FIND r0 - - t0 k0
+            ELSE
+              OUTI r0
+            END
+        > client kill
+            type i64
+            type shared t0
+            name x
+            FIND r0 - - t1 k0
+              CONST r1 5
+              OUTI r1
+            ELSE
+            END
+            KILL r0 - t1 k0
+            OUTI r0
+        > on 1024 make; free 240 named 1
+        7
+        > then make other; free 240 named 1
+        1
+        4
+        > then kill; free 320 named 0
+        5
+        1
+        > flat on 1024 number make; free 208 named 2
+        7
+        > tree on 1024 number make; free 160 named 2
+        7",
+    )
+}
+
 /// Two names of numbers: two objects of 2 units, and an index of 3 or two nodes of 3. There is no second x.
 #[test]
 fn makes_two_objects(rt: HostRuntime) -> Result<(), Fail> {

@@ -24,12 +24,21 @@ const CASES: &str = "
 === 103 0 115
 byte 0 of the client file begins the first 4 bytes, in the header
 it should be `SEGC`
+=== 103 4 2
+byte 4 of the client file begins the version, in the header
+it should be 2 where a type is `shared`, else 1
+=== 103 4 3
+byte 4 of the client file begins the version, in the header
+it should be 2 where a type is `shared`, else 1
 === 103 8 33
 byte 8 of the client file begins the number of types, in the header
 it should be 0 to 32
 === 103 20 9
 byte 20 of the client file begins the entry of type 0
-the kind of a type should be 1 to 8, and an unused entry, which is all 0, be followed by such alone
+i64 and str should have no part, a struct 1 to 8, and any other type one
+=== 103 20 10
+byte 20 of the client file begins the entry of type 0
+the kind of a type should be 1 to 9, and an unused entry, which is all 0, be followed by such alone
 === 103 35 1
 byte 20 of the client file begins the entry of type 0
 the bytes after the parts should be 0

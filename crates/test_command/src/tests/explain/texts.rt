@@ -78,7 +78,7 @@ line 1: `type vec t1`
 type array t0
 ---
 line 1: `type array t0`
-`array` is none of i64, str, vec, list, flat_map, map, own and struct
+`array` is none of i64, str, vec, list, flat_map, map, own, struct and shared
 ===
 type i64 t0
 ---
