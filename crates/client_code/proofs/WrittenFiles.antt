@@ -142,7 +142,8 @@ file_is old start v t c i items all e of_types =
     let whole : items ≡ map type_item pieces.types ++ behind = all.whole ∙ append_assoc (map type_item pieces.types) (map constant_item pieces.constants) (map instruction_item pieces.instructions) in
     let version : v ≡ file_version pieces.types = of_types ∙ ap (λ n. items_version (take n items)) (sym all.types) ∙ ap (λ is. items_version (take (length pieces.types) is)) whole ∙ version_is pieces.types behind in
     ap (λ xs. start ++ flat_map item_bytes xs) all.whole ∙ ap (λ xs. xs ++ flat_map item_bytes (all_items pieces)) (
-    e ∙ ap (λ n. old ++ header_bytes n t c i) version ∙ ap (λ n. old ++ header_bytes (file_version pieces.types) n c i) (sym all.types) ∙ ap (λ n. old ++ header_bytes (file_version pieces.types) (length pieces.types) n i) (sym all.constants)
+    e ∙ ap (λ n. old ++ header_bytes n t c i) version
+    ∙ ap (λ n. old ++ header_bytes (file_version pieces.types) n c i) (sym all.types) ∙ ap (λ n. old ++ header_bytes (file_version pieces.types) (length pieces.types) n i) (sym all.constants)
     ∙ ap (λ n. old ++ header_bytes (file_version pieces.types) (length pieces.types) (length pieces.constants) n) (sym all.instructions)
     )
     ∙ ap (λ xs. (old ++ header_in pieces) ++ xs) (bytes_in pieces)
@@ -150,7 +151,8 @@ file_is old start v t c i items all e of_types =
 
 -- after the last line the file is that of the pieces
 pub ends : (text old start file : List ℕ) (v t c i n : ℕ) → Written (meant text) start file n → drop n (meant text) ≡ [] → n ≤ length (meant text) → start ≡ old ++ header_bytes v t c i → t ≤ 32 → c ≤ 256 → i ≤ 4096
-    → ((items : List Item) → EachSpells (meant text) items → v ≡ items_version (take t items)) → ((items : List Item) → EachSpells (meant text) items → map section_of (take n items) ≡ outlined t c i) → (pieces : Pieces) × Says text pieces × (file ≡ old ++ file_of pieces)
+    → ((items : List Item) → EachSpells (meant text) items → v ≡ items_version (take t items))
+    → ((items : List Item) → EachSpells (meant text) items → map section_of (take n items) ≡ outlined t c i) → (pieces : Pieces) × Says text pieces × (file ≡ old ++ file_of pieces)
 ends text old start file v t c i n written none within e few_types few_constants few_instructions versioned counted =
     let lines = meant text in
     let items = written.items in

@@ -92,7 +92,10 @@ impl<'a> File<'a> {
         let constants_at = self.constants_at();
         match at {
             0..=3 => Field::Header("the first 4 bytes", "it should be `SEGC`"),
-            4..=7 => Field::Header("the version", "it should be 2 where a type is `shared`, else 1"),
+            4..=7 => Field::Header(
+                "the version",
+                "it should be 2 where a type is `shared`, else 1",
+            ),
             8..=11 => Field::Header("the number of types", "it should be 0 to 32"),
             12..=15 => Field::Header("the number of constants", "it should be 0 to 256"),
             16..=19 => Field::Header("the number of instructions", "it should be 0 to 4096"),

@@ -42,10 +42,7 @@ static CANONICAL: [(&[u8], &str); 28] = [
         b"type own t0\ntype flat_map t2\ntype map t3\ntype list t0",
         "type own t0\ntype flat_map t2\ntype map t3\ntype list t0\n",
     ),
-    (
-        b"type  i64\n type shared  t0",
-        "type i64\ntype shared t0\n",
-    ),
+    (b"type  i64\n type shared  t0", "type i64\ntype shared t0\n"),
     (b"type shared t1\ntype str", "type shared t1\ntype str\n"),
     (b"text a\\62c", "text abc\n"),
     (b"text ", "text \n"),
