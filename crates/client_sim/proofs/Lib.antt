@@ -45,3 +45,5 @@ pub mod Ended
 pub mod Owners
 pub mod Uniques
 pub mod UniqueRows
+pub mod UnfoldedValues
+pub mod UnfoldedStates
