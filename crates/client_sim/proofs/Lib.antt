@@ -47,3 +47,6 @@ pub mod Uniques
 pub mod UniqueRows
 pub mod UnfoldedValues
 pub mod UnfoldedStates
+pub mod UnfoldedOutcomes
+pub mod UnfoldedParts
+pub mod UnfoldedRows
