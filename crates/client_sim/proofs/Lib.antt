@@ -50,3 +50,6 @@ pub mod UnfoldedStates
 pub mod UnfoldedOutcomes
 pub mod UnfoldedParts
 pub mod UnfoldedRows
+pub mod UnfoldedPlaces
+pub mod UnfoldedEffects
+pub mod UnfoldedShapes
