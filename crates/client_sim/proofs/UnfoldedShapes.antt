@@ -37,18 +37,26 @@ module _ (m : ℕ → Value) (types : Table) where
   cell_shape T U e v (inl h) = subst (HasShape types T) (sym h) (Form.shared U, e, omega arith, tt)
   cell_shape T U e v (inr h) = subst (HasShape types T) (sym h.1) (Form.shared U, e, omega arith, (h.2, tt))
 
+  -- the label is one of the form, for as many values
+  rebuilt : (T : ℕ) (label : Label) (vs : Values) (form : Form) → form_at types T ≡ Some form → IsLabel form label (count vs)
+      → HaveShapes types (types_inside form (count vs)) (replaced_each m vs) → HasShape types T (node label (replaced_each m vs))
+  unfolding HasShape
+  rebuilt T label vs form e is inside =
+      let same = sym (count_replaced m vs) in
+      (form, e, subst (IsLabel form label) same is, subst (λ n. HaveShapes types (types_inside form n) (replaced_each m vs)) same inside)
+
   mutual
     unfolding replaced names_in HasShape
 
     pub shape_unfolded : (T : ℕ) (v : Value) → HasShape types T v → AllByRecursion MeansShape (names_in v) → HasShape types T (replaced m v)
     shape_unfolded T (node (Label.shared U p) vs) h a =
         cell_shape T U (h.1 ∙ ap Some (shared_label h.0 U p (count vs) h.2)) (m p) a.0
-    shape_unfolded T (node (Label.int k) vs) h a = rebuilt T (Label.int k) vs h (shapes_unfolded (types_inside h.0 (count vs)) vs h.3 a)
-    shape_unfolded T (node (Label.text bytes) vs) h a = rebuilt T (Label.text bytes) vs h (shapes_unfolded (types_inside h.0 (count vs)) vs h.3 a)
-    shape_unfolded T (node Label.seq vs) h a = rebuilt T Label.seq vs h (shapes_unfolded (types_inside h.0 (count vs)) vs h.3 a)
-    shape_unfolded T (node (Label.map keys) vs) h a = rebuilt T (Label.map keys) vs h (shapes_unfolded (types_inside h.0 (count vs)) vs h.3 a)
-    shape_unfolded T (node Label.opt vs) h a = rebuilt T Label.opt vs h (shapes_unfolded (types_inside h.0 (count vs)) vs h.3 a)
-    shape_unfolded T (node Label.struct vs) h a = rebuilt T Label.struct vs h (shapes_unfolded (types_inside h.0 (count vs)) vs h.3 a)
+    shape_unfolded T (node (Label.int k) vs) h a = rebuilt T (Label.int k) vs h.0 h.1 h.2 (shapes_unfolded (types_inside h.0 (count vs)) vs h.3 a)
+    shape_unfolded T (node (Label.text bytes) vs) h a = rebuilt T (Label.text bytes) vs h.0 h.1 h.2 (shapes_unfolded (types_inside h.0 (count vs)) vs h.3 a)
+    shape_unfolded T (node Label.seq vs) h a = rebuilt T Label.seq vs h.0 h.1 h.2 (shapes_unfolded (types_inside h.0 (count vs)) vs h.3 a)
+    shape_unfolded T (node (Label.map keys) vs) h a = rebuilt T (Label.map keys) vs h.0 h.1 h.2 (shapes_unfolded (types_inside h.0 (count vs)) vs h.3 a)
+    shape_unfolded T (node Label.opt vs) h a = rebuilt T Label.opt vs h.0 h.1 h.2 (shapes_unfolded (types_inside h.0 (count vs)) vs h.3 a)
+    shape_unfolded T (node Label.struct vs) h a = rebuilt T Label.struct vs h.0 h.1 h.2 (shapes_unfolded (types_inside h.0 (count vs)) vs h.3 a)
 
     pub shapes_unfolded : (Ts : List ℕ) (vs : Values) → HaveShapes types Ts vs → AllByRecursion MeansShape (names_each vs) → HaveShapes types Ts (replaced_each m vs)
     shapes_unfolded [] nil h a = tt
@@ -56,12 +64,6 @@ module _ (m : ℕ → Value) (types : Table) where
     shapes_unfolded (T ∷ Ts) nil h a = absurd h
     shapes_unfolded (T ∷ Ts) (cons v vs) h a =
         (shape_unfolded T v h.0 (each_left MeansShape (names_in v) (names_each vs) a), shapes_unfolded Ts vs h.1 (each_right MeansShape (names_in v) (names_each vs) a))
-
-    -- the label is one of the form, for as many values
-    rebuilt : (T : ℕ) (label : Label) (vs : Values) (h : HasShape types T (node label vs)) → HaveShapes types (types_inside h.0 (count vs)) (replaced_each m vs) → HasShape types T (node label (replaced_each m vs))
-    rebuilt T label vs h inside =
-        let same = sym (count_replaced m vs) in
-        (h.0, h.1, subst (IsLabel h.0 label) same h.2, subst (λ n. HaveShapes types (types_inside h.0 n) (replaced_each m vs)) same inside)
 
   pub all_shapes_unfolded : (T : ℕ) (vs : Values) → HaveShapes types (replicate (count vs) T) vs → AllByRecursion MeansShape (names_each vs) → HaveShapes types (replicate (count (replaced_each m vs)) T) (replaced_each m vs)
   all_shapes_unfolded T vs h a = subst (λ n. HaveShapes types (replicate n T) (replaced_each m vs)) (sym (count_replaced m vs)) (shapes_unfolded (replicate (count vs) T) vs h a)
