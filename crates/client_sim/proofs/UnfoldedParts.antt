@@ -1,5 +1,5 @@
 -- What values hold: where a value holds something, so does its tree.
-use Rattle.std.proofs.Common.{◌≡◌, ℕ, ℤ, List, Option, Some, None, refl, ap}
+use Rattle.std.proofs.Common.{ℕ, ℤ, List, Some, refl, ap}
 use Rattle.std.specs.Prelude.{option_map}
 use Rattle.seg_spec.specs.Value.{Label, Value, node, Values, nil, cons}
 use Rattle.seg_spec.specs.Shared.{replaced, replaced_each}

@@ -1,22 +1,21 @@
 -- Rows of operations on what paths lead to, from a plain state and from its trees.
-use Rattle.std.proofs.Common.{◌≡◌, ℕ, zero, suc, ℤ, pos, List, [], ◌∷◌, ◌++◌, length, take, filter, Bool, true, false, Option, Some, None, refl, sym, ◌∙◌, ap, subst}
-use Rattle.std.specs.Prelude.{option_map, slice_get, slice_index, nat_abs, int_lt, not, ◌==◌, ◌&&◌, if◌then◌else◌}
+use Rattle.std.proofs.Common.{◌≡◌, ℕ, ℤ, List, [], ◌∷◌, ◌++◌, length, take, filter, Bool, Option, Some, None, refl, sym, ◌∙◌, ap, subst}
+use Rattle.std.specs.Prelude.{option_map, slice_get, slice_index, nat_abs, int_lt, not, ◌==◌, ◌&&◌}
 use Rattle.std.specs.Option.{option_map_or}
-use Rattle.seg_spec.specs.Types.{Form, form_at}
 use Rattle.seg_spec.specs.Value.{Label, Value, node, Int, Text, Seq, Empty, Full, Values, nil, cons, count, append, default_of, Selector}
 use Rattle.seg_spec.specs.Items.{without_last, key_place, with_entry, without_entry}
 use Rattle.seg_spec.specs.Block.{has_buffer}
 use Rattle.seg_spec.specs.Shared.{replaced, replaced_each}
 use Rattle.client_spec.specs.declared.table.Operation.{Operation}
 use Rattle.client_spec.specs.Syntax.{Constant}
-use Rattle.client_spec.specs.Machine.{◌>>=◌, Origin, Path, extend, Register, State, register, set_register, owned_by, path_value, path_type, put_at}
-use Rattle.client_spec.specs.Answer.{Outcome, absent, out_of_range, null_or_none, give, fail, refer, give_count, proceed, index_below, byte_of, constant_text, number_in, bytes_in, items_in, entries_in, content_in, fields_in, length_in, vec_or_list_item, list_item, map_value, owned_type, path_form, begins_at, provided, with_room}
+use Rattle.client_spec.specs.Machine.{◌>>=◌, Path, extend, Register, State, register, set_register, owned_by, path_value, path_type, put_at}
+use Rattle.client_spec.specs.Answer.{absent, out_of_range, null_or_none, fail, refer, give_count, proceed, index_below, byte_of, constant_text, number_in, bytes_in, items_in, entries_in, content_in, fields_in, length_in, vec_or_list_item, list_item, map_value, owned_type, path_form, begins_at}
 use Rattle.client_spec.specs.Effect.{item_of_value, pop_bytes, pop_last, pop_first, set_text, first_key, take_content, see_content, effect}
 use Rattle.client_spec.specs.Trees.{unfolded_state}
 use Rattle.client_sim.proofs.UnfoldedValues.{default_replaced, count_replaced, append_replaced, last_replaced, with_entry_replaced, without_entry_replaced}
 use Rattle.client_sim.proofs.UnfoldedStates.{unfolded_owned, owned_same, set_register_same, type_same, form_same}
 use Rattle.client_sim.proofs.UnfoldedParts.{number_replaced, bytes_replaced, items_replaced, entries_with, entries_replaced, content_replaced, fields_replaced, length_replaced}
-use Rattle.client_sim.proofs.UnfoldedOutcomes.{Finds, Same, bind_same, along, either_same, provided_same, give_same, fail_same, refer_same, count_same, proceed_same, room_same, from_integer, from_path, from_owner, from_form, from_value, from_part, put_then}
+use Rattle.client_sim.proofs.UnfoldedOutcomes.{Same, along, either_same, provided_same, give_same, fail_same, refer_same, count_same, proceed_same, room_same, from_integer, from_path, from_owner, from_form, from_value, from_part, put_then}
 use Rattle.client_sim.proofs.UnfoldedRows.{RowSame}
 
 module _ (m : ℕ → Value) (constants : List Constant) (s : State) where

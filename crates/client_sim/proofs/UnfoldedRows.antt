@@ -1,15 +1,15 @@
 -- Rows of operations on registers, input and output, names, unique objects and owners, from a plain state and from its trees.
-use Rattle.std.proofs.Common.{◌≡◌, ℕ, zero, ℤ, pos, List, [], ◌∷◌, ◌++◌, Bool, true, false, Option, Some, None, refl, sym, ◌∙◌, ap, subst}
+use Rattle.std.proofs.Common.{◌≡◌, ℕ, ℤ, pos, List, [], ◌∷◌, ◌++◌, Bool, Option, Some, None, refl, sym, ◌∙◌, ap, subst}
 use Rattle.std.specs.Prelude.{option_map, is_some, slice_get, nat_abs, int_lt, ◌==◌, if◌then◌else◌}
 use Rattle.std.specs.Int.{w64, int_wrapping_add, int_wrapping_sub, int_wrapping_mul}
 use Rattle.std.specs.Fmt.{signed_decimal}
 use Rattle.std.specs.Option.{option_map_or}
-use Rattle.seg_spec.specs.Value.{Value, Values, count, copies, default_of, same_int}
-use Rattle.seg_spec.specs.Shared.{replaced, replaced_each}
+use Rattle.seg_spec.specs.Value.{Value, count, copies, default_of, same_int}
+use Rattle.seg_spec.specs.Shared.{replaced}
 use Rattle.client_spec.specs.declared.table.Operation.{Operation}
 use Rattle.client_spec.specs.Syntax.{Constant}
-use Rattle.client_spec.specs.Machine.{◌>>=◌, Origin, Path, Register, Object, State, with_name, with_unique, register, set_register, owned_by, path_value}
-use Rattle.client_spec.specs.Answer.{is_zero, success, already_exists, absent, other_type, out_of_range, null_or_none, copied, give, fail, refer, give_count, path_from, index_below, object_count, type_operand, constant_operand, integer_or, constant_text, write_out, bytes_in}
+use Rattle.client_spec.specs.Machine.{◌>>=◌, Origin, Register, Object, State, with_name, with_unique, register, set_register, path_value}
+use Rattle.client_spec.specs.Answer.{already_exists, absent, other_type, out_of_range, null_or_none, copied, give, fail, refer, give_count, path_from, index_below, object_count, type_operand, constant_operand, integer_or, constant_text, bytes_in}
 use Rattle.client_spec.specs.Effect.{combine, truth, next_byte, add_object, item_of_object, find_or_add, count_of_object, destroy_object, add_unique, effect}
 use Rattle.client_spec.specs.Trees.{unfolded_object, unfolded_register, unfolded_state}
 use Rattle.client_sim.proofs.UnfoldedValues.{default_replaced, count_replaced, copies_replaced}

@@ -1,8 +1,8 @@
 -- Values and lists of values, with what positions mean in the place of shared cells.
-use Rattle.std.proofs.Common.{◌≡◌, ℕ, zero, suc, ℤ, pos, List, [], ◌∷◌, ◌++◌, Option, Some, None, refl, sym, ◌∙◌, ap, subst}
-use Rattle.std.specs.Prelude.{option_map, option_and_then, position, insert, remove}
+use Rattle.std.proofs.Common.{◌≡◌, ℕ, zero, suc, ℤ, List, [], ◌∷◌, ◌++◌, Option, Some, None, refl, sym, ◌∙◌, ap}
+use Rattle.std.specs.Prelude.{option_map, option_and_then, insert, remove}
 use Rattle.seg_spec.specs.Types.{Table}
-use Rattle.seg_spec.specs.Value.{Label, Value, node, Values, nil, cons, count, append, copies, nth, default_of, Selector, index_of, selected, change_nth, change_part, same_int, value_at, with_value_at}
+use Rattle.seg_spec.specs.Value.{Label, Value, node, Values, nil, cons, count, append, copies, nth, default_of, Selector, index_of, change_nth, value_at, with_value_at}
 use Rattle.seg_spec.specs.Items.{without_last, insert_nth, remove_nth, with_entry, without_entry, keys_below}
 use Rattle.seg_spec.specs.Shared.{names_in, names_each, replaced, replaced_each}
 use Rattle.seg_spec.proofs.CountedParts.{default_names}
