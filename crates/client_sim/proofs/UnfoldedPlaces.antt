@@ -100,7 +100,7 @@ module _ (m : ℕ → Value) (constants : List Constant) (s : State) where
       (option_map_or (λ i. refer a (p i) trees) (index_below (count (replaced_each m vs)) x) (fail a out_of_range trees))
   indexed a vs x p =
       subst (λ n. Same m (option_map_or (λ i. refer a (p i) s) (index_below (count vs) x) (fail a out_of_range s))
-          (option_map_or (λ i. refer a (p i) trees) (index_below n x) (fail a out_of_range trees)))
+      (option_map_or (λ i. refer a (p i) trees) (index_below n x) (fail a out_of_range trees)))
       (sym (count_replaced m vs)) (either_same m (index_below (count vs) x) _ _ _ _ (λ i. refer_same m a (p i) s trees refl) (fail_same m a out_of_range s))
 
   item_found : (a : ℕ) (p : Path) (x : ℤ) (v : Value) → Same m (item_of_value a p x v s) (item_of_value a p x (replaced m v) trees)

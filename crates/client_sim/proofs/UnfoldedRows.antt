@@ -134,7 +134,7 @@ module _ (m : ℕ → Value) (constants : List Constant) (s : State) where
   item_found a name t x (Some o) =
       if_same m (o.type == t) _ _ _ _
       (subst (λ n. Same m (option_map_or (λ i. refer a (path_from (Origin.Name name i)) s) (index_below (count o.values) x) (fail a out_of_range s))
-          (option_map_or (λ i. refer a (path_from (Origin.Name name i)) trees) (index_below n x) (fail a out_of_range trees)))
+      (option_map_or (λ i. refer a (path_from (Origin.Name name i)) trees) (index_below n x) (fail a out_of_range trees)))
       (sym (count_replaced m o.values))
       (either_same m (index_below (count o.values) x) _ _ _ _ (λ i. refer_same m a (path_from (Origin.Name name i)) s trees refl) (fail_same m a out_of_range s)))
       (fail_same m a other_type s)
