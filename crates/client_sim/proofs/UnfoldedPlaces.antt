@@ -9,7 +9,8 @@ use Rattle.seg_spec.specs.Shared.{replaced, replaced_each}
 use Rattle.client_spec.specs.declared.table.Operation.{Operation}
 use Rattle.client_spec.specs.Syntax.{Constant}
 use Rattle.client_spec.specs.Machine.{◌>>=◌, Path, extend, Register, State, register, set_register, owned_by, path_value, path_type, put_at}
-use Rattle.client_spec.specs.Answer.{absent, out_of_range, null_or_none, fail, refer, give_count, proceed, index_below, byte_of, constant_text, number_in, bytes_in, items_in, entries_in, content_in, fields_in, length_in, vec_or_list_item, list_item, map_value, owned_type, path_form, begins_at}
+use Rattle.client_spec.specs.Answer.{absent, out_of_range, null_or_none, fail, refer, give_count, proceed, index_below, byte_of, constant_text, number_in}
+use Rattle.client_spec.specs.Answer.{bytes_in, items_in, entries_in, content_in, fields_in, length_in, vec_or_list_item, list_item, map_value, owned_type, path_form, begins_at}
 use Rattle.client_spec.specs.Effect.{item_of_value, pop_bytes, pop_last, pop_first, set_text, first_key, take_content, see_content, effect}
 use Rattle.client_spec.specs.Trees.{unfolded_state}
 use Rattle.client_sim.proofs.UnfoldedValues.{default_replaced, count_replaced, append_replaced, last_replaced, with_entry_replaced, without_entry_replaced}

@@ -9,13 +9,15 @@ use Rattle.seg_spec.specs.Shared.{replaced}
 use Rattle.client_spec.specs.declared.table.Operation.{Operation}
 use Rattle.client_spec.specs.Syntax.{Constant}
 use Rattle.client_spec.specs.Machine.{◌>>=◌, Origin, Register, Object, State, with_name, with_unique, register, set_register, path_value}
-use Rattle.client_spec.specs.Answer.{already_exists, absent, other_type, out_of_range, null_or_none, copied, give, fail, refer, give_count, path_from, index_below, object_count, type_operand, constant_operand, integer_or, constant_text, bytes_in}
+use Rattle.client_spec.specs.Answer.{already_exists, absent, other_type, out_of_range, null_or_none, copied, give, fail, refer}
+use Rattle.client_spec.specs.Answer.{give_count, path_from, index_below, object_count, type_operand, constant_operand, integer_or, constant_text, bytes_in}
 use Rattle.client_spec.specs.Effect.{combine, truth, next_byte, add_object, item_of_object, find_or_add, count_of_object, destroy_object, add_unique, effect}
 use Rattle.client_spec.specs.Trees.{unfolded_object, unfolded_register, unfolded_state}
 use Rattle.client_sim.proofs.UnfoldedValues.{default_replaced, count_replaced, copies_replaced}
 use Rattle.client_sim.proofs.UnfoldedStates.{register_same, set_register_same, value_same, integer_or_same, with_name_same, with_unique_same}
 use Rattle.client_sim.proofs.UnfoldedParts.{bytes_replaced}
-use Rattle.client_sim.proofs.UnfoldedOutcomes.{Finds, Same, bind_same, along, either_same, if_same, give_same, fail_same, refer_same, count_same, proceed_same, write_same, room_same, from_integer, from_path, from_owner, from_name, from_part}
+use Rattle.client_sim.proofs.UnfoldedOutcomes.{Finds, Same, bind_same, along, either_same, if_same, give_same, fail_same, refer_same}
+use Rattle.client_sim.proofs.UnfoldedOutcomes.{count_same, proceed_same, write_same, room_same, from_integer, from_path, from_owner, from_name, from_part}
 
 module _ (m : ℕ → Value) (constants : List Constant) (s : State) where
   abbrev trees : State
