@@ -7,3 +7,4 @@ pub mod grammar;
 pub mod operations;
 pub mod pictures;
 pub mod safety;
+pub mod trees;

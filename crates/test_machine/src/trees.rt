@@ -1,0 +1,35 @@
+//! States as clients see them: where an image has the position of an object that cells share, they have a copy of it.
+
+ghost use Rattle.std.specs.Prelude.{◌≡◌, ◌⊎◌, ℕ, List, Bool, Some};
+ghost use Rattle.std.specs.List.{AllByRecursion};
+ghost use Rattle.seg_spec.specs.Types.{Table};
+ghost use Rattle.seg_spec.specs.Value.{Value, Empty, Full};
+ghost use Rattle.seg_spec.specs.Shared.{names_in, replaced};
+ghost use Rattle.client_spec.specs.Syntax.{Constant, Instruction};
+ghost use Rattle.client_spec.specs.Machine.{State};
+ghost use Rattle.client_spec.specs.Answer.{Answer};
+ghost use Rattle.client_spec.specs.Effect.{outcome};
+ghost use Rattle.client_spec.specs.Shape.{HasShape};
+ghost use Rattle.client_spec.specs.Trees.{Unfolds, AreTrees};
+
+/// An instruction that has a row from a state with positions has the same row from its trees, whatever the positions mean; and a
+/// row from trees leads to trees.
+pub fn rows_of_trees()
+    ensures same { (meaning : ℕ → Value) (constants : List Constant) (i : Instruction)
+        (room : Bool) (plain s plain' : State) (answer : Answer) →
+        Unfolds meaning plain s → outcome constants i room plain ≡ Some (answer, plain') →
+        (s' : State) × (outcome constants i room s ≡ Some (answer, s')) ×
+        Unfolds meaning plain' s' }
+    ensures stay { (constants : List Constant) (i : Instruction) (room : Bool) (s s' : State)
+        (answer : Answer) →
+        AreTrees s → outcome constants i room s ≡ Some (answer, s') → AreTrees s' }
+{}
+
+/// A value with the shape of a type has it as a tree too, where each position that it names means nothing, or an object of the
+/// type that is named.
+pub fn shapes_of_trees()
+    ensures { (meaning : ℕ → Value) (types : Table) (T : ℕ) (v : Value) →
+        HasShape types T v → AllByRecursion (λ q. (meaning q.at ≡ Empty) ⊎
+        ((u : Value) × (meaning q.at ≡ Full u) × HasShape types q.type u)) (names_in v) →
+        HasShape types T (replaced meaning v) }
+{}
