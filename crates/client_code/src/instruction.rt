@@ -4,7 +4,7 @@ ghost use Rattle.seg_spec.specs.Types.{Table};
 ghost use Rattle.client_spec.specs.Syntax as syntax;
 ghost use Rattle.client_spec.specs.declared.table.Number.TheVariants as number;
 ghost use Rattle.client_spec.specs.Operations.{row_of};
-ghost use Rattle.client_spec.specs.Grammar.{IsOperand, IsTextConstant, NamesBy, IsNumber, IsInstruction, instruction_bytes};
+ghost use Rattle.client_spec.specs.Grammar.{file_version, IsOperand, IsTextConstant, NamesBy, IsNumber, IsInstruction, instruction_bytes};
 ghost use Rattle.client_code.specs.Views.{constants_of, instruction_of};
 
 use crate::constant::{Constant, ConstantKind};
@@ -103,14 +103,16 @@ impl Instruction {
         low
     }
 
-    /// Whether the operands and the number are what the operation asks for, in a client with so many types and these constants.
-    pub fn is_valid(self, types: usize, constants: &[Constant]) -> bool
-        ensures { (table : Table) → length table ≡ types →
+    /// Whether the operation, the operands and the number may stand in a client file of this version, with so many types and these
+    /// constants.
+    pub fn is_valid(self, version: u32, types: usize, constants: &[Constant]) -> bool
+        ensures { (table : Table) → file_version table ≡ version → length table ≡ types →
             (IsTrue result ↔ IsInstruction table (constants_of constants.now)
             (row_of self.operation).role (instruction_of self)) }
     {
         let row = self.operation.row();
-        is_operand(row.a, self.a)
+        row.version <= version
+            && is_operand(row.a, self.a)
             && is_operand(row.b, self.b)
             && is_operand(row.c, self.c)
             && self.is_number(row.number, types, constants)

@@ -13,7 +13,7 @@ use crate::constant::Constant;
 use crate::header::{Header, MOST_CONSTANTS, MOST_INSTRUCTIONS, check_version};
 use crate::instruction::Instruction;
 use crate::nesting::Nesting;
-use crate::types::read_types;
+use crate::types::{read_types, version_of};
 use arrayvec::ArrayVec;
 use seg_layout::TypeTable;
 use seg_raw::Fault;
@@ -101,13 +101,14 @@ fn check_code(
         IsCodeAt file.now at types.now (constants_of constants.now) tree → ⊥) }
     ensures fault { IfErr result (λ fault. (place : ℕ) × (fault ≡ Fault.BadCode place)) }
 {
+    let version = version_of(types);
     let mut nesting = Nesting::new();
     for i in 0..count {
         let place = at + 8 * i;
         let Some(instruction) = instruction_at(file, place) else {
             return Err(Fault::BadCode(place));
         };
-        if !instruction.is_valid(types.len(), constants)
+        if !instruction.is_valid(version, types.len(), constants)
             || !nesting.pass(instruction.operation.row().role)
         {
             return Err(Fault::BadCode(place));

@@ -15,9 +15,10 @@ use crate::values::held_type;
 use client_code::Instruction;
 use client_program::Jump;
 use seg_block::Fit;
-use seg_layout::TypeId;
+use seg_layout::{Type, TypeId};
 use seg_manager::Segment;
 use seg_raw::Code;
+use seg_value::Place;
 use std::alloc::Allocator;
 
 /// Named objects.
@@ -295,8 +296,51 @@ impl Machine<'_> {
         ensures does { Opens Operation.Content F.allocator i.now result self.old self.new
             segment.now segment.now }
     {
-        let own = self.place(i.b);
-        let at = segment.window().target(own.at as usize).ok_or(Code::Null);
-        self.try_refer(i, at, held_type(segment, own))
+        let holder = self.place(i.b);
+        let at = held_object(segment, holder).ok_or(Code::Null);
+        self.try_refer(i, at, held_type(segment, holder))
+    }
+}
+
+/// The value of the object that an own or a shared cell names, by its position.
+fn held_object<F: Fit, A: Allocator>(segment: &Segment<F, A>, holder: Place) -> Option<u32>
+    ensures { is_shared (form_at segment.now.types holder.type_id) ≡ false →
+        result ≡ target segment.now.window.bytes holder.at }
+{
+    match segment.types().kind(holder.type_id) {
+        Some(Type::Shared(_)) => segment.heap().frozen(holder),
+        Some(_) | None => segment.window().target(holder.at as usize),
+    }
+}
+
+/// Frozen objects, which cells share.
+impl Machine<'_> {
+    #[inline(never)]
+    pub(crate) fn freeze<F: Fit, A: Allocator>(
+        &mut self,
+        segment: &mut Segment<F, A>,
+        i: &Instruction,
+    ) -> Jump
+        ensures loops { KeepsLoops self.old self.new }
+        ensures window { KeepsHost segment.old.window segment.new.window }
+        ensures types { segment.new.types ≡ segment.old.types }
+        ensures does { Opens Operation.Freeze F.allocator i.now result self.old self.new
+            segment.old segment.new }
+    {
+        let cell = self.place(i.b);
+        let frozen = segment.heap_mut().freeze(cell, self.place(i.c).at);
+        if frozen.is_ok() {
+            self.take(i.c);
+        }
+        self.try_give(i, frozen.map(|()| 1))
+    }
+
+    pub(crate) fn share<F: Fit, A: Allocator>(&self, segment: &mut Segment<F, A>, i: &Instruction)
+        ensures window { KeepsHost segment.old.window segment.new.window }
+        ensures types { segment.new.types ≡ segment.old.types }
+        ensures does { Acts Operation.Share F.allocator i.now self.now self.now
+            segment.old segment.new }
+    {
+        segment.heap_mut().share(self.place(i.b), self.place(i.c));
     }
 }

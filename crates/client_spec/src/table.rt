@@ -56,6 +56,8 @@ pub enum Operation {
     DeleteKey,
     FirstKey,
     NextKey,
+    Freeze,
+    Share,
 }
 
 /// The role of an operation in the nesting of code.
@@ -109,10 +111,14 @@ pub enum Need {
     Copyable,
     /// An object that the register owns.
     Owner,
-    /// An owned object of the type that register b's `own` holds.
+    /// An owned object of the type that register b's `own` or `shared` holds.
     Content,
     /// A reference to a value of a type of these kinds.
     Reference(Kinds),
+    /// The same, into what may be changed: not into a frozen object.
+    Changeable(Kinds),
+    /// A reference to a `shared` of the type that register b's holds.
+    Alike,
 }
 
 /// Kinds of types that an operation works on.
@@ -123,6 +129,9 @@ pub enum Kinds {
     Str,
     List,
     Own,
+    Shared,
+    /// `own` or `shared`.
+    Holder,
     /// A struct that has the field of the instruction's number.
     Struct,
     /// `vec` or `list`.
@@ -133,7 +142,7 @@ pub enum Kinds {
     Buffered,
     /// `flat_map` or `map`.
     Map,
-    /// All but `i64`, `own` and `struct`.
+    /// All but `i64`, `own`, `struct` and `shared`.
     Sized,
 }
 
@@ -156,7 +165,7 @@ pub enum Gives {
     Owned,
     /// The object that register b's `own` held.
     Content,
-    /// A reference to a part of what register b leads to, or the byte of a text.
+    /// A reference to a part of what register b leads to, or the byte of a text. Behind a `shared` it is one into a frozen object.
     Part,
     /// Nothing, and of register b nothing any more.
     Forgotten,
@@ -176,12 +185,16 @@ pub enum Ends {
     Dropped,
     /// As `Others`, and those into the object of register c, which the register owns no more.
     Moved,
+    /// As `Moved`, but in the else part register c owns its object still.
+    Frozen,
 }
 
 /// A row of the instruction table.
 #[derive(Debug, Clone, Copy, PartialEq, Eq)]
 pub struct Row {
     pub operation: Operation,
+    /// The first version of client files that has it.
+    pub version: u32,
     pub role: Role,
     pub a: Operand,
     pub b: Operand,
@@ -193,14 +206,15 @@ pub struct Row {
     pub ends: Ends,
 }
 
-// operation, word, role; a, b, c, number; what b and c hold; what a holds afterwards, which references end
+// operation, word, version, role; a, b, c, number; what b and c hold; what a holds afterwards, which references end
 macro_rules! row {
-    ($operation:ident, $word:literal, $role:ident; $a:ident, $b:ident, $c:ident, $number:ident;
+    ($operation:ident, $word:literal, $version:literal, $role:ident; $a:ident, $b:ident, $c:ident, $number:ident;
      $needs_b:ident $(($kinds:ident))?, $needs_c:ident; $gives:ident, $ends:ident) => {
         (
             $word,
             Row {
                 operation: Operation::$operation,
+                version: $version,
                 role: Role::$role,
                 a: Operand::$a,
                 b: Operand::$b,
@@ -216,60 +230,62 @@ macro_rules! row {
 }
 
 /// The number of operations.
-pub const OPERATIONS: usize = 50;
+pub const OPERATIONS: usize = 52;
 
 /// The instruction table, in the order of the operations' numbers: each operation's word in the assembler text, and its row.
 pub static ROWS: [(&str, Row); OPERATIONS] = [
-    row!(Const, "CONST", Plain; Register, Unused, Unused, Any; Nothing, Nothing; Int, Nothing),
-    row!(Mov, "MOV", Plain; Register, Register, Unused, Unused; Copyable, Nothing; Copy, Nothing),
-    row!(Add, "ADD", Plain; Register, Register, Register, Unused; Int, Int; Int, Nothing),
-    row!(Sub, "SUB", Plain; Register, Register, Register, Unused; Int, Int; Int, Nothing),
-    row!(Mul, "MUL", Plain; Register, Register, Register, Unused; Int, Int; Int, Nothing),
-    row!(Less, "LT", Plain; Register, Register, Register, Unused; Int, Int; Int, Nothing),
-    row!(Equal, "EQ", Plain; Register, Register, Register, Unused; Int, Int; Int, Nothing),
-    row!(If, "IF", Opener; Unused, Register, Unused, Unused; Int, Nothing; Nothing, Nothing),
-    row!(While, "WHILE", Loop; Unused, Register, Unused, Turns; Int, Nothing; Nothing, Nothing),
-    row!(Else, "ELSE", Else; Unused, Unused, Unused, Unused; Nothing, Nothing; Nothing, Nothing),
-    row!(End, "END", End; Unused, Unused, Unused, Unused; Nothing, Nothing; Nothing, Nothing),
-    row!(OutInt, "OUTI", Plain; Unused, Register, Unused, Unused; Int, Nothing; Nothing, Nothing),
-    row!(OutStr, "OUTS", Plain; Unused, Register, Unused, Unused; Reference(Str), Nothing; Nothing, Nothing),
-    row!(OutConst, "OUTC", Plain; Unused, Unused, Unused, Text; Nothing, Nothing; Nothing, Nothing),
-    row!(GetByte, "GETB", Opener; Register, Unused, Unused, Unused; Nothing, Nothing; Int, Nothing),
-    row!(Make, "MAKE", Opener; Register, Optional, Optional, TypedName; IntOrNone, IntOrNone; Named, Nothing),
-    row!(Find, "FIND", Opener; Register, Optional, Optional, TypedName; IntOrNone, IntOrNone; Named, Nothing),
-    row!(FindOrMake, "FINDOR", Opener; Register, Optional, Unused, TypedName; IntOrNone, Nothing; Named, Nothing),
-    row!(Count, "COUNT", Opener; Register, Optional, Unused, TypedName; IntOrNone, Nothing; Int, Nothing),
-    row!(Kill, "KILL", Plain; Register, Optional, Unused, TypedName; IntOrNone, Nothing; Int, Name),
-    row!(MakeUnique, "UMAKE", Opener; Register, Unused, Unused, TypeId; Nothing, Nothing; Unique, Nothing),
-    row!(FindUnique, "UFIND", Opener; Register, Unused, Unused, TypeId; Nothing, Nothing; Unique, Nothing),
-    row!(FindOrMakeUnique, "UFINDOR", Opener; Register, Unused, Unused, TypeId; Nothing, Nothing; Unique, Nothing),
-    row!(KillUnique, "UKILL", Plain; Register, Unused, Unused, TypeId; Nothing, Nothing; Int, Unique),
-    row!(New, "NEW", Opener; Register, Unused, Unused, TypeId; Nothing, Nothing; Owner, Nothing),
-    row!(Drop, "DROP", Plain; Unused, Register, Unused, Unused; Owner, Nothing; Nothing, Dropped),
-    row!(Ref, "REF", Plain; Register, Register, Unused, Unused; Owner, Nothing; Owned, Nothing),
-    row!(Put, "PUT", Plain; Unused, Register, Register, Unused; Reference(Own), Content; Nothing, Moved),
-    row!(Take, "TAKE", Opener; Register, Register, Unused, Unused; Reference(Own), Nothing; Content, Others),
-    row!(Content, "CONTENT", Opener; Register, Register, Unused, Unused; Reference(Own), Nothing; Part, Nothing),
-    row!(Clear, "CLEAR", Plain; Unused, Register, Unused, Unused; Reference(Any), Nothing; Nothing, Others),
-    row!(Forget, "FORGET", Plain; Unused, Register, Unused, Unused; Nothing, Nothing; Forgotten, Nothing),
-    row!(Load, "LOAD", Plain; Register, Register, Unused, Unused; Reference(I64), Nothing; Int, Nothing),
-    row!(Store, "STORE", Plain; Unused, Register, Register, Unused; Reference(I64), Int; Nothing, Nothing),
-    row!(Field, "FIELD", Plain; Register, Register, Unused, Any; Reference(Struct), Nothing; Part, Nothing),
-    row!(Len, "LEN", Plain; Register, Register, Unused, Unused; Reference(Sized), Nothing; Int, Nothing),
-    row!(At, "AT", Opener; Register, Register, Register, Unused; Reference(Indexed), Int; Part, Nothing),
-    row!(PushBack, "PUSH", Opener; Register, Register, Unused, Unused; Reference(Sequence), Nothing; Part, Others),
-    row!(PushFront, "PUSHF", Opener; Register, Register, Unused, Unused; Reference(List), Nothing; Part, Others),
-    row!(PopBack, "POP", Opener; Register, Register, Unused, Unused; Reference(Indexed), Nothing; Int, Others),
-    row!(PopFront, "POPF", Opener; Register, Register, Unused, Unused; Reference(List), Nothing; Int, Others),
-    row!(SetStr, "SETS", Opener; Register, Register, Unused, Text; Reference(Str), Nothing; Int, Nothing),
-    row!(AddStr, "ADDS", Opener; Register, Register, Unused, Text; Reference(Str), Nothing; Int, Nothing),
-    row!(AddByte, "ADDB", Opener; Register, Register, Register, Unused; Reference(Str), Int; Int, Nothing),
-    row!(Shrink, "SHRINK", Plain; Unused, Register, Unused, Unused; Reference(Buffered), Nothing; Nothing, Nothing),
-    row!(GetKey, "GETK", Opener; Register, Register, Register, Unused; Reference(Map), Int; Part, Nothing),
-    row!(PutKey, "PUTK", Opener; Register, Register, Register, Unused; Reference(Map), Int; Part, Others),
-    row!(DeleteKey, "DELK", Plain; Register, Register, Register, Unused; Reference(Map), Int; Int, Others),
-    row!(FirstKey, "FIRSTK", Opener; Register, Register, Unused, Unused; Reference(Map), Nothing; Int, Nothing),
-    row!(NextKey, "NEXTK", Opener; Register, Register, Register, Unused; Reference(Map), Int; Int, Nothing),
+    row!(Const, "CONST", 1, Plain; Register, Unused, Unused, Any; Nothing, Nothing; Int, Nothing),
+    row!(Mov, "MOV", 1, Plain; Register, Register, Unused, Unused; Copyable, Nothing; Copy, Nothing),
+    row!(Add, "ADD", 1, Plain; Register, Register, Register, Unused; Int, Int; Int, Nothing),
+    row!(Sub, "SUB", 1, Plain; Register, Register, Register, Unused; Int, Int; Int, Nothing),
+    row!(Mul, "MUL", 1, Plain; Register, Register, Register, Unused; Int, Int; Int, Nothing),
+    row!(Less, "LT", 1, Plain; Register, Register, Register, Unused; Int, Int; Int, Nothing),
+    row!(Equal, "EQ", 1, Plain; Register, Register, Register, Unused; Int, Int; Int, Nothing),
+    row!(If, "IF", 1, Opener; Unused, Register, Unused, Unused; Int, Nothing; Nothing, Nothing),
+    row!(While, "WHILE", 1, Loop; Unused, Register, Unused, Turns; Int, Nothing; Nothing, Nothing),
+    row!(Else, "ELSE", 1, Else; Unused, Unused, Unused, Unused; Nothing, Nothing; Nothing, Nothing),
+    row!(End, "END", 1, End; Unused, Unused, Unused, Unused; Nothing, Nothing; Nothing, Nothing),
+    row!(OutInt, "OUTI", 1, Plain; Unused, Register, Unused, Unused; Int, Nothing; Nothing, Nothing),
+    row!(OutStr, "OUTS", 1, Plain; Unused, Register, Unused, Unused; Reference(Str), Nothing; Nothing, Nothing),
+    row!(OutConst, "OUTC", 1, Plain; Unused, Unused, Unused, Text; Nothing, Nothing; Nothing, Nothing),
+    row!(GetByte, "GETB", 1, Opener; Register, Unused, Unused, Unused; Nothing, Nothing; Int, Nothing),
+    row!(Make, "MAKE", 1, Opener; Register, Optional, Optional, TypedName; IntOrNone, IntOrNone; Named, Nothing),
+    row!(Find, "FIND", 1, Opener; Register, Optional, Optional, TypedName; IntOrNone, IntOrNone; Named, Nothing),
+    row!(FindOrMake, "FINDOR", 1, Opener; Register, Optional, Unused, TypedName; IntOrNone, Nothing; Named, Nothing),
+    row!(Count, "COUNT", 1, Opener; Register, Optional, Unused, TypedName; IntOrNone, Nothing; Int, Nothing),
+    row!(Kill, "KILL", 1, Plain; Register, Optional, Unused, TypedName; IntOrNone, Nothing; Int, Name),
+    row!(MakeUnique, "UMAKE", 1, Opener; Register, Unused, Unused, TypeId; Nothing, Nothing; Unique, Nothing),
+    row!(FindUnique, "UFIND", 1, Opener; Register, Unused, Unused, TypeId; Nothing, Nothing; Unique, Nothing),
+    row!(FindOrMakeUnique, "UFINDOR", 1, Opener; Register, Unused, Unused, TypeId; Nothing, Nothing; Unique, Nothing),
+    row!(KillUnique, "UKILL", 1, Plain; Register, Unused, Unused, TypeId; Nothing, Nothing; Int, Unique),
+    row!(New, "NEW", 1, Opener; Register, Unused, Unused, TypeId; Nothing, Nothing; Owner, Nothing),
+    row!(Drop, "DROP", 1, Plain; Unused, Register, Unused, Unused; Owner, Nothing; Nothing, Dropped),
+    row!(Ref, "REF", 1, Plain; Register, Register, Unused, Unused; Owner, Nothing; Owned, Nothing),
+    row!(Put, "PUT", 1, Plain; Unused, Register, Register, Unused; Changeable(Own), Content; Nothing, Moved),
+    row!(Take, "TAKE", 1, Opener; Register, Register, Unused, Unused; Changeable(Own), Nothing; Content, Others),
+    row!(Content, "CONTENT", 1, Opener; Register, Register, Unused, Unused; Reference(Holder), Nothing; Part, Nothing),
+    row!(Clear, "CLEAR", 1, Plain; Unused, Register, Unused, Unused; Changeable(Any), Nothing; Nothing, Others),
+    row!(Forget, "FORGET", 1, Plain; Unused, Register, Unused, Unused; Nothing, Nothing; Forgotten, Nothing),
+    row!(Load, "LOAD", 1, Plain; Register, Register, Unused, Unused; Reference(I64), Nothing; Int, Nothing),
+    row!(Store, "STORE", 1, Plain; Unused, Register, Register, Unused; Changeable(I64), Int; Nothing, Nothing),
+    row!(Field, "FIELD", 1, Plain; Register, Register, Unused, Any; Reference(Struct), Nothing; Part, Nothing),
+    row!(Len, "LEN", 1, Plain; Register, Register, Unused, Unused; Reference(Sized), Nothing; Int, Nothing),
+    row!(At, "AT", 1, Opener; Register, Register, Register, Unused; Reference(Indexed), Int; Part, Nothing),
+    row!(PushBack, "PUSH", 1, Opener; Register, Register, Unused, Unused; Changeable(Sequence), Nothing; Part, Others),
+    row!(PushFront, "PUSHF", 1, Opener; Register, Register, Unused, Unused; Changeable(List), Nothing; Part, Others),
+    row!(PopBack, "POP", 1, Opener; Register, Register, Unused, Unused; Changeable(Indexed), Nothing; Int, Others),
+    row!(PopFront, "POPF", 1, Opener; Register, Register, Unused, Unused; Changeable(List), Nothing; Int, Others),
+    row!(SetStr, "SETS", 1, Opener; Register, Register, Unused, Text; Changeable(Str), Nothing; Int, Nothing),
+    row!(AddStr, "ADDS", 1, Opener; Register, Register, Unused, Text; Changeable(Str), Nothing; Int, Nothing),
+    row!(AddByte, "ADDB", 1, Opener; Register, Register, Register, Unused; Changeable(Str), Int; Int, Nothing),
+    row!(Shrink, "SHRINK", 1, Plain; Unused, Register, Unused, Unused; Changeable(Buffered), Nothing; Nothing, Nothing),
+    row!(GetKey, "GETK", 1, Opener; Register, Register, Register, Unused; Reference(Map), Int; Part, Nothing),
+    row!(PutKey, "PUTK", 1, Opener; Register, Register, Register, Unused; Changeable(Map), Int; Part, Others),
+    row!(DeleteKey, "DELK", 1, Plain; Register, Register, Register, Unused; Changeable(Map), Int; Int, Others),
+    row!(FirstKey, "FIRSTK", 1, Opener; Register, Register, Unused, Unused; Reference(Map), Nothing; Int, Nothing),
+    row!(NextKey, "NEXTK", 1, Opener; Register, Register, Register, Unused; Reference(Map), Int; Int, Nothing),
+    row!(Freeze, "FREEZE", 2, Opener; Register, Register, Register, Unused; Changeable(Shared), Content; Int, Frozen),
+    row!(Share, "SHARE", 2, Plain; Unused, Register, Register, Unused; Changeable(Shared), Alike; Nothing, Others),
 ];
 
 /// The instruction table.

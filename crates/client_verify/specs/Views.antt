@@ -23,6 +23,8 @@ abbrev pub known_of : RegisterType → typed.RegisterType
 known_of register.Undefined = typed.RegisterType.Undefined
 known_of register.Int = typed.RegisterType.Int
 known_of (register.Reference x t) = typed.RegisterType.Reference (class_of x) t
+known_of (register.ReadOnly x t) =
+    typed.RegisterType.Reference (typed.Class.Frozen (class_of x)) t
 known_of (register.Owner t) = typed.RegisterType.Owner t
 
 abbrev pub reason_of : Reason → typed.Reason

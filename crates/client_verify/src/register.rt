@@ -3,7 +3,7 @@ ghost use Rattle.client_spec.specs.Typed as typed;
 ghost use Rattle.client_verify.specs.Views.{class_of, known_of, checked};
 
 use crate::reason::Reason;
-use seg_layout::TypeId;
+use seg_layout::{Type, TypeId};
 
 /// What a reference leads into. References of one class may lead to one value.
 #[derive(Debug, Clone, Copy, PartialEq, Eq)]
@@ -26,6 +26,8 @@ pub enum RegisterType {
     Int,
     /// It leads to a value of this type.
     Reference(Class, TypeId),
+    /// It leads to a value of this type in a frozen object that the class shares, which is only read.
+    ReadOnly(Class, TypeId),
     /// It owns an object of this type.
     Owner(TypeId),
 }
@@ -38,13 +40,38 @@ impl RegisterType {
         matches!(self, RegisterType::Owner(_))
     }
 
-    /// The same, unless it is a reference of the class, of which nothing is known any more.
+    /// The same, unless it is a reference of the class, or into a frozen object that this shares: of that nothing is known any
+    /// more.
     pub fn without(self, class: Class) -> RegisterType
         ensures { known_of result ≡ typed.without_class (class_of class) (known_of self) }
     {
         match self {
-            RegisterType::Reference(own, _) if own == class => RegisterType::Undefined,
+            RegisterType::Reference(own, _) | RegisterType::ReadOnly(own, _) if own == class => {
+                RegisterType::Undefined
+            }
             _ => self,
+        }
+    }
+
+    /// What it leads to, also where that is only read: the class, and the type.
+    pub fn led(self) -> Option<(Class, TypeId)> {
+        match self {
+            RegisterType::Reference(class, to) | RegisterType::ReadOnly(class, to) => {
+                Some((class, to))
+            }
+            RegisterType::Undefined | RegisterType::Int | RegisterType::Owner(_) => None,
+        }
+    }
+
+    /// A reference to a part of what it leads to. Behind a `shared` it is only read, and so is a part of what is only read.
+    pub fn part(self, of: Type, part: TypeId) -> RegisterType {
+        match (self, of) {
+            (RegisterType::Reference(class, _), Type::Shared(_))
+            | (RegisterType::ReadOnly(class, _), _) => RegisterType::ReadOnly(class, part),
+            (RegisterType::Reference(class, _), _) => RegisterType::Reference(class, part),
+            (RegisterType::Undefined | RegisterType::Int | RegisterType::Owner(_), _) => {
+                RegisterType::Undefined
+            }
         }
     }
 

@@ -87,6 +87,9 @@ impl<'a> Rule<'a> {
             success: ended,
             otherwise: ended,
         };
+        if self.row.ends == Ends::Frozen {
+            after.success.set(self.instruction.c, RegisterType::Undefined);
+        }
         if let Some((register, holds)) = self.given() {
             after.success.set(register, holds);
             after.otherwise.set(register, self.otherwise(holds));
@@ -117,7 +120,7 @@ impl<'a> Rule<'a> {
             (referred (held (step_by self.now))) self.now.instruction.c }
     {
         match self.row.ends {
-            Ends::Moved => match self.reference() {
+            Ends::Moved | Ends::Frozen => match self.reference() {
                 Some((class, _)) => class == Class::Register(self.instruction.c),
                 None => false,
             },
@@ -145,16 +148,32 @@ impl<'a> Rule<'a> {
             Need::Nothing => true,
             Need::Int => holds == RegisterType::Int,
             Need::IntOrNone => register == Instruction::NONE || holds == RegisterType::Int,
-            Need::Copyable => matches!(holds, RegisterType::Int | RegisterType::Reference(_, _)),
+            Need::Copyable => holds == RegisterType::Int || holds.led().is_some(),
             Need::Owner => holds.is_owner(),
             Need::Content => match holds {
                 RegisterType::Owner(owned) => self.part() == Some(owned),
                 _ => false,
             },
-            Need::Reference(kinds) => match holds {
+            Need::Reference(kinds) => match holds.led() {
+                Some((_, to)) => self.is_of(kinds, to),
+                None => false,
+            },
+            Need::Changeable(kinds) => match holds {
                 RegisterType::Reference(_, to) => self.is_of(kinds, to),
                 _ => false,
             },
+            Need::Alike => match holds.led() {
+                Some((_, to)) => self.is_alike(to),
+                None => false,
+            },
+        }
+    }
+
+    /// Whether a type is a `shared` of the type that register b's holds.
+    fn is_alike(&self, type_id: TypeId) -> bool {
+        match self.types.kind(type_id) {
+            Some(Type::Shared(shared)) => self.part() == Some(shared),
+            Some(_) | None => false,
         }
     }
 
@@ -179,6 +198,8 @@ impl<'a> Rule<'a> {
             Kinds::Str => matches!(kind, Type::Str),
             Kinds::List => matches!(kind, Type::List(_)),
             Kinds::Own => matches!(kind, Type::Own(_)),
+            Kinds::Shared => matches!(kind, Type::Shared(_)),
+            Kinds::Holder => matches!(kind, Type::Own(_) | Type::Shared(_)),
             Kinds::Struct => match kind {
                 Type::Struct(fields) => self.field(&fields).is_some(),
                 _ => false,
@@ -204,30 +225,28 @@ impl<'a> Rule<'a> {
         }
     }
 
-    /// The type of an item, a map's value, an object, or the field of the instruction's number.
+    /// The type of an item, a map's value, an object that is owned or shared, or the field of the instruction's number.
     fn part_of(&self, kind: Type) -> Option<TypeId>
         ensures { result ≡ part_of self.now.instruction.number (form_of kind) }
     {
         match kind {
-            Type::I64 | Type::Str | Type::Shared(_) => None,
+            Type::I64 | Type::Str => None,
             Type::Vec(part)
             | Type::List(part)
             | Type::FlatMap(part)
             | Type::Map(part)
-            | Type::Own(part) => Some(part),
+            | Type::Own(part)
+            | Type::Shared(part) => Some(part),
             Type::Struct(fields) => self.field(&fields),
         }
     }
 
-    /// The reference in register b.
+    /// What the reference in register b leads to.
     fn reference(&self) -> Option<(Class, TypeId)>
         ensures { option_map (λ x. (class_of x.0, x.1)) result
             ≡ referred (held (step_by self.now)) }
     {
-        match self.before.get(self.instruction.b) {
-            RegisterType::Reference(class, to) => Some((class, to)),
-            _ => None,
-        }
+        self.before.get(self.instruction.b).led()
     }
 
     /// The type of a part of what register b leads to.
@@ -276,8 +295,12 @@ impl<'a> Rule<'a> {
         ensures { known_of result ≡ part_known (referred (held (step_by self.now)))
             (part_in (step_by self.now)) }
     {
-        match (self.reference(), self.part()) {
-            (Some((class, _)), Some(part)) => RegisterType::Reference(class, part),
+        let holds = self.before.get(self.instruction.b);
+        let Some((_, to)) = holds.led() else {
+            return RegisterType::Int;
+        };
+        match (self.types.kind(to), self.part()) {
+            (Some(kind), Some(part)) => holds.part(kind, part),
             _ => RegisterType::Int,
         }
     }
@@ -307,6 +330,10 @@ impl<'a> Rule<'a> {
             Ends::Moved => {
                 self.end_others(&mut registers);
                 registers.empty(c);
+            }
+            Ends::Frozen => {
+                self.end_others(&mut registers);
+                registers.end(Class::Register(c));
             }
         }
         registers

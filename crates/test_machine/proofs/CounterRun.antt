@@ -27,7 +27,7 @@ use Rattle.client_spec.specs.Grammar.{client_bytes}
 use Rattle.client_spec.specs.Machine.{Register, State, with_name}
 use Rattle.client_spec.specs.Answer.{success}
 use Rattle.client_spec.specs.Effect.{outcome, effect}
-use Rattle.client_spec.specs.Typed.{RegisterType, types_after, rule}
+use Rattle.client_spec.specs.Typed.{RegisterType, unshared_after, rule, types_by}
 use Rattle.client_spec.specs.Run.{Run, Nothing, finished}
 use Rattle.client_spec.specs.Pictures.{Pictures, AreOwned, names_in as names_of_picture, object_of}
 use Rattle.client_spec.specs.Asks.{ChangesBlocks}
@@ -278,7 +278,7 @@ has_run : RunsClient increment given left
 has_run = record { first = situation counted start first_host 0; is_first = is_first; last = situation (more (codes "42\n")) image (h6 first_host) 6; run = runs first_host; is_left = is_left }
 
 accepted : AreAccepted (counter_picture.table) (client_bytes increment ∷ []) (increment ∷ [])
-unfolding types_after rule
+unfolding types_by rule
 accepted = (increment_spelled, record { agree = refl; typed = (replicate 16 RegisterType.Undefined, refl); bounded = lit≤ tt }, tt)
 
 sized : IsImageLength (length counter)

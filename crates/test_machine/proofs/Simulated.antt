@@ -9,7 +9,7 @@ use Rattle.client_spec.specs.Answer.{Answer, success, is_zero, already_exists, b
 use Rattle.client_spec.specs.Grammar.{IsClient}
 use Rattle.client_spec.specs.Run.{Ending, stuck, Way, Nothing, Then, OneStep, picked, Performs, Loops, Run, RunOne, bound}
 use Rattle.client_spec.specs.Plain.{plain_machine}
-use Rattle.client_spec.specs.Safe.{IsAccepted}
+use Rattle.client_spec.specs.Safe.{IsUnshared}
 use Rattle.client_spec.specs.OnImages.{Move, Situation, TickOn, image_machine, Given, Left, RunsClient}
 use Rattle.client_spec.proofs.Keeping.{never_wrong}
 use Rattle.client_spec.proofs.PictureLaws.{begins_first}
@@ -80,7 +80,7 @@ pub run_of_states : (constants : List Constant) (others : List Root) (moves : Li
     → Run Situation (image_machine constants others moves) code x y n end → Run State (plain_machine constants) code x.state y.state n end
 run_of_states constants others moves code x y n end w = (run_maps constants others moves code).each x y n end w
 
-pub client_within_bound : (client : Client) (given : Given) (left : Left) → IsClient client → IsAccepted client → (runs : RunsClient client given left)
+pub client_within_bound : (client : Client) (given : Given) (left : Left) → IsClient client → IsUnshared client → (runs : RunsClient client given left)
     → Agree runs.is_first.picture.table client.types → (left.steps ≤ bound client.code) × (left.ending ≢ stuck)
 client_within_bound client given left valid accepted runs agree =
     never_wrong client valid accepted runs.first.state runs.last.state left.steps left.ending (begins_first client given runs.first valid runs.is_first agree)

@@ -8,7 +8,7 @@ use Rattle.client_spec.specs.Machine.{State}
 use Rattle.client_spec.specs.Answer.{Answer, success, is_zero, already_exists, bad_alloc, absent, other_type, out_of_range, null_or_none}
 use Rattle.client_spec.specs.Run.{Ending, finished, stopped, stuck, Way, Nothing, Then, OneStep, picked, Performs, Loops, Run, RunOne}
 use Rattle.client_spec.specs.Plain.{plain_machine}
-use Rattle.client_spec.specs.Safe.{MayBegin, IsAccepted, Writes, IsFront}
+use Rattle.client_spec.specs.Safe.{MayBegin, IsUnshared, Writes, IsFront}
 use Rattle.test_machine.proofs.Following.{still, onward, rows}
 use Rattle.client_spec.proofs.Keeping.{never_wrong}
 use Rattle.client_spec.proofs.Total.{Total, nothing_total, then_total, step_total, turns_total, one_total}
@@ -152,7 +152,7 @@ module _ (constants : List Constant) where
 pub run_writes : (constants : List Constant) (code : Statements) (s t : State) (n : ℕ) (end : Ending) → Run State (plain_machine constants) code s t n end → Writes s t
 run_writes constants code = (run_is constants code).grows.each
 
-pub front_of_whole : (client : Client) (s t : State) (n : ℕ) → IsClient client → IsAccepted client → MayBegin client s → Run State (plain_machine client.constants) client.code s t n stopped → IsFront client s t
+pub front_of_whole : (client : Client) (s t : State) (n : ℕ) → IsClient client → IsUnshared client → MayBegin client s → Run State (plain_machine client.constants) client.code s t n stopped → IsFront client s t
 front_of_whole client s t n valid accepted begins w = go h.ending h.runs h.goes_on
   where
     h : Further (Run State (plain_machine client.constants) client.code) s t
