@@ -13,10 +13,10 @@ use Rattle.client_spec.specs.declared.table.Number.{Number}
 use Rattle.client_spec.specs.Syntax.{Constant}
 use Rattle.client_spec.specs.Machine.{Origin, State, register}
 use Rattle.client_spec.specs.Grammar.{IsNumber}
-use Rattle.client_spec.specs.Typed.{Class, RegisterType, RegisterTypes, known, same_class, without_class}
+use Rattle.client_spec.specs.Typed.{Class, RegisterType, RegisterTypes, known, same_class, without_class, sharing}
 use Rattle.client_spec.specs.Meaning.{InClass, IsAsKnown}
 use Rattle.client_spec.specs.Pictures.{Pictures}
-use Rattle.client_spec.proofs.Classes.{OneEach, origins_apart}
+use Rattle.client_spec.proofs.Classes.{OneEach, origins_apart, classes_apart}
 use Rattle.client_spec.proofs.FirstRows.{item_below}
 use Rattle.client_sim.specs.Shows.{World, number_in, place_in, owns_in, Shown, Shows}
 use Rattle.client_sim.proofs.Rooted.{BeginsFrom, Remains}
@@ -65,10 +65,10 @@ module _ {others : List Root} {types : Table} {constants : List Constant} (one :
       by RegisterType.Undefined e m = kept RegisterType.Undefined e refl (λ o f. absurd f)
       by RegisterType.Int e m = kept RegisterType.Int e refl (λ o f. absurd f)
       by (RegisterType.Owner T) e m = kept (RegisterType.Owner T) e refl (λ o f g. apart (subst Ends f g))
-      by (RegisterType.Reference c T) e m = choose (same_class class c) refl
+      by (RegisterType.Reference c T) e m = choose (same_class class (sharing c)) refl
         where
-          choose : (t : Bool) → same_class class c ≡ t → Remains constants Ends ks ks' s s' w w' r ⊎ Shown later w' r (known ks' r) (register s' r)
+          choose : (t : Bool) → same_class class (sharing c) ≡ t → Remains constants Ends ks ks' s s' w w' r ⊎ Shown later w' r (known ks' r) (register s' r)
           choose true f =
               let gone : known ks' r ≡ RegisterType.Undefined = known_is ∙ ap (without_class class) e ∙ ap (λ t. if t then RegisterType.Undefined else RegisterType.Reference c T) f in
               inr (subst (λ k. Shown later w' r k (register s' r)) (sym gone) (owns_is ∙ m.0))
-          choose false f = kept (RegisterType.Reference c T) e (ap (λ t. if t then RegisterType.Undefined else RegisterType.Reference c T) f) (λ o g ends. origins_apart constants one class c o o f (within o ends) g refl)
+          choose false f = kept (RegisterType.Reference c T) e (ap (λ t. if t then RegisterType.Undefined else RegisterType.Reference c T) f) (λ o g ends. origins_apart constants one class c o o (classes_apart constants class c o g f) (within o ends) g refl)

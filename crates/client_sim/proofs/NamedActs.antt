@@ -29,14 +29,14 @@ use Rattle.client_spec.specs.Syntax.{Constant, Instruction}
 use Rattle.client_spec.specs.Machine.{◌>>=◌, Origin, Path, Register, Object, State, with_name, register, set_register, at_origin}
 use Rattle.client_spec.specs.Answer.{Answer, success, already_exists, bad_alloc, other_type, out_of_range, answer_number, integer_at, integer_or, object_count, path_from, refer, fail, give_count, type_operand, constant_operand}
 use Rattle.client_spec.specs.Effect.{add_object, find_or_add, destroy_object, effect, outcome}
-use Rattle.client_spec.specs.Typed.{Class, RegisterType, RegisterTypes, known, is_owner, same_class, without_class, ended, integer_needed, integer_or_none, name_needed, opens, gives, rule}
+use Rattle.client_spec.specs.Typed.{Class, RegisterType, RegisterTypes, known, is_owner, same_class, without_class, ended, integer_needed, integer_or_none, name_needed, opens, gives, rule, sharing}
 use Rattle.client_spec.specs.Typed as typed
 use Rattle.client_spec.specs.Meaning.{IsNamedBy, InClass, LeadsToType, IsAsKnown}
 use Rattle.client_spec.specs.Pictures.{Pictures, LeadsInImage, object_of}
 use Rattle.client_spec.specs.Asks.{NamedGoes, GrantsAsks, Denies, ChangesBlocks, named_asks, name_operand, new_count, if_absent}
 use Rattle.client_spec.proofs.Cases.{first_of_many}
 use Rattle.client_spec.proofs.Changes.{agrees_make, agrees_kill}
-use Rattle.client_spec.proofs.Classes.{OneEach, origins_apart, known_ended, agrees_ended}
+use Rattle.client_spec.proofs.Classes.{OneEach, origins_apart, known_ended, agrees_ended, classes_apart}
 use Rattle.client_spec.proofs.Defaults.{default_has}
 use Rattle.client_spec.proofs.FirstRows.{bind_ok, opens_ok, answer_is, item_below, nth_below}
 use Rattle.client_spec.proofs.Shapes.{all_copies}
@@ -146,7 +146,7 @@ owner_ended : (class : Class) (k : RegisterType) → is_owner (without_class cla
 owner_ended class RegisterType.Undefined = refl
 owner_ended class RegisterType.Int = refl
 owner_ended class (RegisterType.Owner t) = refl
-owner_ended class (RegisterType.Reference c t) = choose (same_class class c)
+owner_ended class (RegisterType.Reference c t) = choose (same_class class (sharing c))
   where
     choose : (b : Bool) → is_owner (if b then RegisterType.Undefined else RegisterType.Reference c t) ≡ false
     choose true = refl
@@ -178,13 +178,13 @@ module _ {others : List Root} {types : Table} {constants : List Constant} {first
       by RegisterType.Undefined e = inl (stays RegisterType.Undefined e refl (λ o b x. b))
       by RegisterType.Int e = inl (stays RegisterType.Int e refl (λ o b x. b))
       by (RegisterType.Owner T) e = inl (stays (RegisterType.Owner T) e refl (λ o b x. none r (subst (InClass constants class) b (ending o x))))
-      by (RegisterType.Reference c T) e = choose (same_class class c) refl
+      by (RegisterType.Reference c T) e = choose (same_class class (sharing c)) refl
         where
-          choose : (t : Bool) → same_class class c ≡ t → Remains constants Ends ks (ended class ks) s s' w w' r ⊎ Shown later w' r (known (ended class ks) r) (register s' r)
+          choose : (t : Bool) → same_class class (sharing c) ≡ t → Remains constants Ends ks (ended class ks) s s' w w' r ⊎ Shown later w' r (known (ended class ks) r) (register s' r)
           choose true g = inr (subst (λ z. Shown later w' r z (register s' r)) (sym (known_ended class ks r ∙ ap (without_class class) e ∙ ap (λ t. if t then RegisterType.Undefined else RegisterType.Reference c T) g))
               (ap (λ (os : List Bool). slice_index_or os r false) owns ∙ unowned others types constants first allocator ks s w h r (ap is_owner e)))
           choose false g = inl (stays (RegisterType.Reference c T) e (ap (λ t. if t then RegisterType.Undefined else RegisterType.Reference c T) g)
-              (λ o b x. origins_apart constants one class c o o g (ending o x) b refl))
+              (λ o b x. origins_apart constants one class c o o (classes_apart constants class c o b g) (ending o x) b refl))
 
   -- the client's types are those of the world, as far as they go
   pub in_table : {T : ℕ} → AreRight types constants → T < length types → T < length w.table

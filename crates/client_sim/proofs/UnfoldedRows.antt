@@ -76,6 +76,14 @@ module _ (m : ℕ → Value) (constants : List Constant) (s : State) where
   unfolding effect
   branch_same a b c number room = from_integer m s b _ _ (λ x. refl)
 
+  pub freeze_same : RowSame Operation.Freeze
+  unfolding effect
+  freeze_same a b c number room = tt
+
+  pub share_same : RowSame Operation.Share
+  unfolding effect
+  share_same a b c number room = tt
+
   pub while_same : RowSame Operation.While
   unfolding effect
   while_same a b c number room = tt
