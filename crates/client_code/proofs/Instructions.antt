@@ -10,6 +10,7 @@ use Rattle.client_spec.specs.declared.table.Operation.{Operation}
 use Rattle.client_spec.specs.Syntax.{Constant, Instruction, Statements}
 use Rattle.client_spec.specs.Grammar.{mark, listing, instruction_bytes, IsInstruction}
 use Rattle.client_spec.proofs.Listed.{all_listed, all_two}
+use Rattle.client_spec.proofs.FileVersions.{is_version}
 use Rattle.client_spec.proofs.OneClient.{IsWord, instruction_front, mark_word}
 use Rattle.client_code.specs.declared.nesting.Part.{Part}
 use Rattle.client_code.specs.Parts.{passed, passed_all}
@@ -88,10 +89,10 @@ module _ (file : List ℕ) (at : ℕ) (types : Table) (constants : List Constant
       )
 
   mark_else : Right types constants (mark Operation.Else)
-  mark_else = record { role = refl; a = refl; b = refl; c = refl; number = refl; range = mark_word Operation.Else }
+  mark_else = record { role = refl; version = (is_version types).0; a = refl; b = refl; c = refl; number = refl; range = mark_word Operation.Else }
 
   mark_end : Right types constants (mark Operation.End)
-  mark_end = record { role = refl; a = refl; b = refl; c = refl; number = refl; range = mark_word Operation.End }
+  mark_end = record { role = refl; version = (is_version types).0; a = refl; b = refl; c = refl; number = refl; range = mark_word Operation.End }
 
   module _ (code : Statements) (whole : IsCodeAt file at types constants code) where
     all_right : AllByRecursion (Right types constants) (listing code)

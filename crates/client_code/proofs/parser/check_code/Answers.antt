@@ -18,7 +18,7 @@ pub loop-i-preserved : goal.loop-i-preserved
 loop-i-preserved c =
     let cs = constants_of c.args.constants.now in
     goes_on c.args.file.now c.args.at c.args.types.now cs c.loop-i.i (open_parts c.loop-i.nesting) (open_parts c.pass.new.self) (instruction_of c.in-Some.instruction) c.loop-i.invariant (c.in-Some.ensures.found.1)
-    ((c.is_valid.ensures c.args.types.now (sym c.len.ensures.len)).0 c.if-not-is_valid.false)
+    ((c.is_valid.ensures c.args.types.now (sym c.version_of-version.ensures) (sym c.len.ensures.len)).0 c.if-not-is_valid.false)
     (ap (passed (open_parts c.loop-i.nesting)) (sym (ap (λ row. row.role) c.row.ensures.row)) ∙ c.if-not-pass.ensures)
 
 pub returns-in_default-clause-wrong : goal.returns-in_default-clause-wrong
@@ -34,7 +34,7 @@ returns-then-not-is_valid-clause-wrong c tree count whole =
     let same = (instruction_front (instruction_of c.in-Some.instruction) s.0 [] [] found.range (s.1).range (ap (λ xs. xs ++ []) (sym found.found.1 ∙ s.3))).0 in
     elim c.then-not-is_valid.branch [
       | then-not-is_valid-via-then-not-is_valid w ↦
-          false≢true (sym w.if-not-is_valid.true ∙ (c.is_valid.ensures c.args.types.now (sym c.len.ensures.len)).1 (subst (Right c.args.types.now cs) (sym same) s.1))
+          false≢true (sym w.if-not-is_valid.true ∙ (c.is_valid.ensures c.args.types.now (sym c.version_of-version.ensures) (sym c.len.ensures.len)).1 (subst (Right c.args.types.now cs) (sym same) s.1))
       | then-not-is_valid-via-else-not-is_valid+then-not-pass w ↦
           s.4 (ap (λ i. passed (open_parts c.loop-i.nesting) (role_of i)) (sym same) ∙ ap (passed (open_parts c.loop-i.nesting)) (sym (ap (λ row. row.role) w.row.ensures.row)) ∙ w.if-not-pass.ensures)
     ]
