@@ -1,0 +1,16 @@
+use Rattle.std.proofs.Common.{◌≡◌, ℕ, List, Option, Some, None}
+use Rattle.seg_spec.specs.Types.{Form, Table, form_at}
+use Rattle.seg_value.specs.Contents.{ContentOf}
+use Rattle.client_run.specs.Worlds.{held_in, shared_in}
+use Rattle.client_run.proofs.values.held_type.Goals as goal
+
+-- what no cell of a type names, cells of the type share
+shared_so : (table : Table) (t : ℕ) (form : Option Form) (T : ℕ) → ContentOf table t form None → held_in form ≡ Some T → shared_in form ≡ Some T
+shared_so table t (Some (Form.shared U)) T none e = e
+shared_so table t (Some Form.i64) T none e = cc
+shared_so table t (Some (Form.struct Us)) T none e = cc
+shared_so table t None T none e = cc
+shared_so table t (Some form) T none e = absurd none
+
+pub returns-in-None : goal.returns-in-None
+returns-in-None g c = λ T e. c.shared_type.ensures T (shared_so c.args.segment.now.types c.args.holder.type_id (form_at c.args.segment.now.types c.args.holder.type_id) T (rw c.in-None.is in c.content.ensures) e)
