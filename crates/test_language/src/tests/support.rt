@@ -5,7 +5,8 @@ use seg_raw::Fault;
 use std::alloc::Global;
 use std::process::Abort;
 
-/// Types and constants of every kind: the tables' programs stand after them.
+/// Types and constants of every kind: the tables' programs stand after them. Type 8 + t is a `shared` of type t, up to 16, and an
+/// object of type 18 may share one of its own type.
 const FRONT: &[u8] = b"type i64
 type str
 type vec t0
@@ -14,6 +15,17 @@ type flat_map t0
 type map t0
 type own t0
 type struct t0 t1 t6
+type shared t0
+type shared t1
+type shared t2
+type shared t3
+type shared t4
+type shared t5
+type shared t6
+type shared t7
+type shared t8
+type shared t18
+type struct t0 t17
 text hi
 name n
 family f
