@@ -1,12 +1,15 @@
-use crate::tests::support::{Accepted, Rejected, verdict_with};
+use crate::tests::support::{Accepted, Rejected, verdict_after_front};
 use seg_raw::Fault;
 use std::alloc::Global;
 use std::process::Abort;
 
 /// What the verifier says of a program where r1 leads into what r0 shares, an object of the type: instruction 2 is its first.
 fn verdict_on_shared(alloc: Global, type_id: u8, program: &str) -> Result<u64, Fault> {
-    let text = format!(in alloc; "CONTENT r1 r0;{program};ELSE;END")?;
-    verdict_with(alloc, type_id + 8, text.as_str())
+    let shared = u32::from(type_id) + 8;
+    let text = format!(in alloc;
+        "FINDOR r0 - t{shared} k1;CONTENT r1 r0;{program};ELSE;END;ELSE;END"
+    )?;
+    verdict_after_front(alloc, text.as_bytes())
 }
 
 fn check_accepted(rt: &(impl Abort + AllocGlobal), rows: &[Accepted]) {
