@@ -25,7 +25,7 @@ lies_at_16 = record { size = sized; room_fits = litâ‰¤ tt; placed = (refl, litâ‰
 moves : CanMove counter 2048 0 []
 moves = record { lies = lies_at_0; fit = tt }
 
-can_run : CanRun counter [] 2048 0 []
+abbrev can_run : CanRun counter [] 2048 0 []
 can_run = record { can_move = moves; sound = counter_sound; clients = []; accepted = tt }
 
 outcome : IsOutcome counter [] [] 2048 0 [] []
