@@ -4,5 +4,6 @@ mod files;
 mod operations;
 mod programs;
 mod random;
+mod sharing;
 mod support;
 mod texts;

@@ -1,4 +1,4 @@
-/// A client with every operation, every kind of type but `shared` and every kind of constant. The verifier rejects it.
+/// A client with every operation, every kind of type and every kind of constant. The verifier rejects it.
 pub const TEXT: &str = r"type i64
 type str
 type vec t0
@@ -7,6 +7,7 @@ type flat_map t7
 type map t0
 type own t7
 type struct t0 t1 t6
+type shared t7
 text a\0a\5cb
 name x
 family f~
@@ -107,4 +108,8 @@ END
 NEXTK r15 r4 r9
 ELSE
 END
+FREEZE r14 r3 r8
+ELSE
+END
+SHARE r13 r2
 ";

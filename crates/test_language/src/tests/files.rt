@@ -141,8 +141,8 @@ fn every_operation_with_each_bit_changed(rt: HostRuntime) -> Result<(), Fail> {
     assert_eq!(rt;
         count,
         Count {
-            clients: 632,
-            positions: 3263368
+            clients: 663,
+            positions: 3600928
         }
     );
     Ok(())
@@ -289,5 +289,79 @@ fn a_text_that_shares_is_a_file_of_version_2(rt: HostRuntime) -> Result<(), Fail
     let file = assemble(rt.alloc(), b"type i64\ntype vec t0\n")?;
     let wanted = file_of(rt.alloc(), 1, &VEC, 0, b"")?;
     assert!(rt; file.as_slice() == wanted.as_slice());
+    Ok(())
+}
+
+#[test]
+fn freezing_and_sharing_in_bytes_and_text(rt: HostRuntime) -> Result<(), Fail> {
+    let text = "type i64\ntype shared t0\nFREEZE r5 r0 r2\nELSE\nEND\nSHARE r1 r0\n";
+    let file = assemble(rt.alloc(), text.as_bytes())?;
+    let code = b"\x33\x05\0\x02\0\0\0\0\x0a\0\0\0\0\0\0\0\x0b\0\0\0\0\0\0\0\x34\0\x01\0\0\0\0\0";
+    assert!(rt; file.as_slice().get(CODE_AT..) == Some(code.as_slice()));
+    let client = parse(file.as_slice())?;
+    assert!(rt; print(rt.alloc(), &client)?.as_slice() == text.as_bytes());
+    let freeze = Instruction {
+        operation: Operation::Freeze,
+        a: 5,
+        b: 0,
+        c: 2,
+        number: 0,
+    };
+    assert_eq!(rt; client.instruction(0), Some(freeze));
+    let share = Instruction {
+        operation: Operation::Share,
+        a: 0,
+        b: 1,
+        c: 0,
+        number: 0,
+    };
+    assert_eq!(rt; client.instruction(3), Some(share));
+    Ok(())
+}
+
+/// Where the code begins in a file of two types and no constants.
+const CODE_AT: usize = 52;
+
+// The type after `i64`, the code, a place in its bytes, the byte that is put there, and where the file is wrong then.
+static CODES: [(&str, &str, usize, u8, Option<u32>); 16] = [
+    // an operation of version 2 may stand in a file of version 2 alone
+    ("own", "PUT r1 r0", 0, 52, Some(52)),
+    ("shared", "PUT r1 r0", 0, 52, None),
+    (
+        "own",
+        "SHRINK r0\nADDB r5 r0 r2\nELSE\nEND",
+        8,
+        51,
+        Some(60),
+    ),
+    ("shared", "SHRINK r0\nADDB r5 r0 r2\nELSE\nEND", 8, 51, None),
+    // no operation comes after the two
+    ("shared", "PUT r1 r0", 0, 53, Some(52)),
+    // its registers are 0 to 15, and what it doesn't use is 0
+    ("shared", "SHARE r1 r0", 1, 1, Some(52)),
+    ("shared", "SHARE r1 r0", 2, 16, Some(52)),
+    ("shared", "SHARE r1 r0", 3, 15, None),
+    ("shared", "SHARE r1 r0", 3, 16, Some(52)),
+    ("shared", "SHARE r1 r0", 4, 1, Some(52)),
+    ("shared", "FREEZE r5 r0 r2\nELSE\nEND", 1, 16, Some(52)),
+    ("shared", "FREEZE r5 r0 r2\nELSE\nEND", 2, 16, Some(52)),
+    ("shared", "FREEZE r5 r0 r2\nELSE\nEND", 3, 16, Some(52)),
+    ("shared", "FREEZE r5 r0 r2\nELSE\nEND", 7, 128, Some(52)),
+    // the one is an opener, and the other is plain
+    ("shared", "SHARE r1 r0\nSHARE r1 r0", 8, 51, Some(68)),
+    ("shared", "FREEZE r0 r1 r2\nELSE\nEND", 0, 52, Some(60)),
+];
+
+#[test]
+fn versions_and_code(rt: HostRuntime) -> Result<(), Fail> {
+    for (second, code, place, byte, wanted) in &CODES {
+        let text = format!(in rt.alloc(); "type i64\ntype {second} t0\n{code}\n")?;
+        let mut file = assemble(rt.alloc(), text.as_bytes())?;
+        if let Some(changed) = file.get_mut(CODE_AT.saturating_add(*place)) {
+            *changed = *byte;
+        }
+        let found = place_of_fault(&rt, file.as_slice())?;
+        assert_eq!(rt; found, *wanted, "{text}");
+    }
     Ok(())
 }

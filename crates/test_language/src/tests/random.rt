@@ -85,7 +85,7 @@ impl Writer<'_> {
     /// The statements of a part that may have parts so deep.
     fn part(&mut self, depth: u32) -> Result<(), AllocError> {
         for _ in 0..self.random.below(4) {
-            let number = self.random.below(50) as u8 + 1;
+            let number = self.random.below(52) as u8 + 1;
             let Some(operation) = Operation::from_number(number) else {
                 continue;
             };

@@ -14,6 +14,11 @@ type flat_map t0
 type map t0
 type own t0
 type struct t0 t1 t6
+type shared t0
+type shared t7
+type shared t4
+type shared t2
+type shared t8
 text hi
 name n
 family f

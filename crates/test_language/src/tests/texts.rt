@@ -28,7 +28,7 @@ fn check_wrong(rt: &(impl Abort + AllocGlobal), text: &[u8], line: u32) {
     assert_eq!(rt; found, Some(Fault::BadLine(line)), "{text:?}");
 }
 
-static CANONICAL: [(&[u8], &str); 28] = [
+static CANONICAL: [(&[u8], &str); 30] = [
     (b"", ""),
     (b"\n\n", ""),
     (b"type i64", "type i64\n"),
@@ -84,6 +84,14 @@ static CANONICAL: [(&[u8], &str); 28] = [
         b"type i64\nname p\nMAKE r0 - r1 t0 k0\nELSE\nEND",
         "type i64\nname p\nMAKE r0 - r1 t0 k0\nELSE\nEND\n",
     ),
+    (
+        b"type i64\ntype shared t0\nFREEZE r5 r0 r2\nELSE\nEND\nSHARE r1 r0",
+        "type i64\ntype shared t0\nFREEZE r5 r0 r2\nELSE\nEND\nSHARE r1 r0\n",
+    ),
+    (
+        b"type shared t1\ntype str\n  SHARE   r0  r0 \n FREEZE  r15 r14   r13\n ELSE \n END",
+        "type shared t1\ntype str\nSHARE r0 r0\nFREEZE r15 r14 r13\nELSE\nEND\n",
+    ),
 ];
 
 #[test]
@@ -93,7 +101,7 @@ fn canonical_texts(rt: HostRuntime) {
     }
 }
 
-static WRONG: [(&[u8], u32); 88] = [
+static WRONG: [(&[u8], u32); 92] = [
     // words and numbers
     (b"ADD r1 r16 r2", 1),
     (b"CONST r0 -0", 1),
@@ -200,6 +208,14 @@ static WRONG: [(&[u8], u32); 88] = [
         b"WHILE r0 1\nWHILE r0 1\nWHILE r0 1\nWHILE r0 1\nWHILE r0 1\nWHILE r0 1\nWHILE r0 1\nWHILE r0 1\nIF r0",
         9,
     ),
+    // operations of version 2 in a file of version 1
+    (b"FREEZE r5 r0 r2\nELSE\nEND", 1),
+    (b"SHARE r1 r0", 1),
+    (b"type i64\nCONST r0 1\nFREEZE r5 r0 r2\nELSE\nEND", 3),
+    (
+        b"type i64\ntype own t0\n\nPUT r1 r0\n; x\nSHARE r1 r0\nSHARE r1 r16",
+        6,
+    ),
 ];
 
 #[test]
@@ -239,6 +255,33 @@ fn wrong_operands(rt: HostRuntime) {
         let found = canonical_after_front(rt.alloc(), text).err();
         assert_eq!(rt; found, Some(Fault::BadLine(*line)), "{text}");
     }
+}
+
+// Lines after `type i64`, `type shared t0`; the third line is the first of these.
+static WRONG_TO_SHARE: [(&str, u32); 14] = [
+    ("FREEZE r5 r0\nELSE\nEND", 3),
+    ("FREEZE r5 r0 -\nELSE\nEND", 3),
+    ("FREEZE r5 - r2\nELSE\nEND", 3),
+    ("FREEZE - r0 r2\nELSE\nEND", 3),
+    ("FREEZE r5 r0 r16\nELSE\nEND", 3),
+    ("FREEZE r5 r0 r2 r3\nELSE\nEND", 3),
+    ("FREEZE r5 r0 r2 t1\nELSE\nEND", 3),
+    ("FREEZE r5 r0 r2\nSHARE r1 r0\nEND", 5),
+    ("FREEZE r5 r0 r2\nELSE", 5),
+    ("SHARE r1", 3),
+    ("SHARE r1 -", 3),
+    ("SHARE r16 r0", 3),
+    ("SHARE r1 r0\nSHARE r1 r0 r2", 4),
+    ("SHARE r1 r0\nELSE\nEND", 4),
+];
+
+#[test]
+fn wrong_lines_that_share(rt: HostRuntime) -> Result<(), Fail> {
+    for (text, line) in &WRONG_TO_SHARE {
+        let text = format!(in rt.alloc(); "type i64\ntype shared t0\n{text}")?;
+        check_wrong(&rt, text.as_bytes(), *line);
+    }
+    Ok(())
 }
 
 /// A text of so many lines: each is the front, its number from 0, and the back.
