@@ -12,6 +12,7 @@ use Rattle.client_spec.specs.Grammar.{mark, listing, IsInstruction, IsClient}
 use Rattle.client_spec.specs.Run.{bound}
 use Rattle.client_spec.specs.Safe.{IsAccepted}
 use Rattle.client_spec.specs.Typed.{Checked, ◌>>=◌, Reason, RegisterType, RegisterTypes, types_after}
+use Rattle.client_spec.proofs.FileVersions.{is_version}
 use Rattle.client_spec.proofs.FirstRows.{Ok_inj}
 use Rattle.client_spec.proofs.Listed.{all_listed}
 use Rattle.client_spec.proofs.OneClient.{mark_word}
@@ -27,10 +28,10 @@ abbrev pub Right : Table → List Constant → Instruction → Type 0
 Right types constants i = IsInstruction types constants (row_of i.operation).role i
 
 mark_else : (types : Table) (constants : List Constant) → Right types constants (mark Operation.Else)
-mark_else types constants = record { role = refl; a = refl; b = refl; c = refl; number = refl; range = mark_word Operation.Else }
+mark_else types constants = record { role = refl; version = (is_version types).0; a = refl; b = refl; c = refl; number = refl; range = mark_word Operation.Else }
 
 mark_end : (types : Table) (constants : List Constant) → Right types constants (mark Operation.End)
-mark_end types constants = record { role = refl; a = refl; b = refl; c = refl; number = refl; range = mark_word Operation.End }
+mark_end types constants = record { role = refl; version = (is_version types).0; a = refl; b = refl; c = refl; number = refl; range = mark_word Operation.End }
 
 all_right : (tree : Client) → IsClient tree → AllByRecursion (Right tree.types tree.constants) (listing tree.code)
 all_right tree valid =

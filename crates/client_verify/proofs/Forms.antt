@@ -7,10 +7,10 @@ use Rattle.std.proofs.lemmas.Bool.{ltb-false}
 use Rattle.std.proofs.lemmas.Option.{slice_get_past}
 use Rattle.seg_spec.specs.Types.{Form}
 use Rattle.client_spec.specs.Answer.{owned_type, vec_or_list_item, list_item, map_value, index_below}
-use Rattle.client_spec.specs.Typed.{Class, RegisterType, is_i64, is_str, is_map, can_pop, has_length, can_shrink, item_known, field_type}
+use Rattle.client_spec.specs.Typed.{Class, RegisterType, is_i64, is_str, is_map, can_pop, has_length, can_shrink, item_known, field_type, content_known, shared_type}
 use Rattle.client_spec.specs.declared.table.Kinds.{Kinds}
 use Rattle.client_spec.specs.declared.table.Kinds.TheVariants as kinds
-use Rattle.client_verify.specs.Checking.{field_at, part_of, part_known, is_kind, is_kind_at}
+use Rattle.client_verify.specs.Checking.{field_at, part_of, part_at, part_given, is_kind, is_kind_at}
 
 -- the kinds of a column are the forms that a rule needs
 abbrev pub AreForms : {A : Type 0} → ℤ → Kinds → (Form → Option A) → Type 0
@@ -42,6 +42,21 @@ own_forms number = (each, refl)
   where
     each : (form : Form) → is_some (owned_type form) ≡ is_kind number kinds.Own form
     each (Form.own t) = refl
+    each k = refl
+
+pub shared_forms : (number : ℤ) → AreForms number kinds.Shared shared_type
+shared_forms number = (each, refl)
+  where
+    each : (form : Form) → is_some (shared_type form) ≡ is_kind number kinds.Shared form
+    each (Form.shared t) = refl
+    each k = refl
+
+pub holder_forms : (number : ℤ) (x : Class) → AreForms number kinds.Holder (content_known x)
+holder_forms number x = (each, refl)
+  where
+    each : (form : Form) → is_some (content_known x form) ≡ is_kind number kinds.Holder form
+    each (Form.own t) = refl
+    each (Form.shared t) = refl
     each k = refl
 
 pub sequence_forms : (number : ℤ) → AreForms number kinds.Sequence vec_or_list_item
@@ -126,27 +141,42 @@ pub owned_part : (number : ℤ) (o : Option Form) (t : ℕ) → option_and_then 
 owned_part number (Some (Form.own u)) t e = e
 owned_part number o t e = cc
 
-pub sequence_part : (number : ℤ) (o : Option Form) (t : ℕ) → option_and_then vec_or_list_item o ≡ Some t → option_and_then (part_of number) o ≡ Some t
-sequence_part number (Some (Form.vec u)) t e = e
-sequence_part number (Some (Form.list u)) t e = e
-sequence_part number o t e = cc
+pub shared_part : (number : ℤ) (o : Option Form) (t : ℕ) → option_and_then shared_type o ≡ Some t → option_and_then (part_of number) o ≡ Some t
+shared_part number (Some (Form.shared u)) t e = e
+shared_part number o t e = cc
 
-pub list_part : (number : ℤ) (o : Option Form) (t : ℕ) → option_and_then list_item o ≡ Some t → option_and_then (part_of number) o ≡ Some t
-list_part number (Some (Form.list u)) t e = e
-list_part number o t e = cc
+module _ (number : ℤ) (x : Class) where
+  -- a reference of the class to a part
+  below : (part : Option ℕ) (t : ℕ) → part ≡ Some t → part_given x part ≡ RegisterType.Reference x t
+  below part t e = ap (part_given x) e
 
-pub value_part : (number : ℤ) (o : Option Form) (t : ℕ) → option_and_then map_value o ≡ Some t → option_and_then (part_of number) o ≡ Some t
-value_part number (Some (Form.flat_map u)) t e = e
-value_part number (Some (Form.map u)) t e = e
-value_part number o t e = cc
+  pub sequence_part : (o : Option Form) (t : ℕ) → option_and_then vec_or_list_item o ≡ Some t → part_at number o x ≡ RegisterType.Reference x t
+  sequence_part (Some (Form.vec u)) t e = below (Some u) t e
+  sequence_part (Some (Form.list u)) t e = below (Some u) t e
+  sequence_part o t e = cc
 
-pub field_part : (number : ℤ) (o : Option Form) (t : ℕ) → option_and_then (field_type number) o ≡ Some t → option_and_then (part_of number) o ≡ Some t
-field_part number (Some (Form.struct ts)) t e = sym (field_same number ts) ∙ e
-field_part number o t e = cc
+  pub list_part : (o : Option Form) (t : ℕ) → option_and_then list_item o ≡ Some t → part_at number o x ≡ RegisterType.Reference x t
+  list_part (Some (Form.list u)) t e = below (Some u) t e
+  list_part o t e = cc
 
--- an item of a text is a number
-pub item_part : (number : ℤ) (x : Class) (u : ℕ) (o : Option Form) (k : RegisterType) → option_and_then (item_known x) o ≡ Some k → part_known (Some (x, u)) (option_and_then (part_of number) o) ≡ k
-item_part number x u (Some Form.str) k e = cc
-item_part number x u (Some (Form.vec t)) k e = cc
-item_part number x u (Some (Form.list t)) k e = cc
-item_part number x u o k e = cc
+  pub value_part : (o : Option Form) (t : ℕ) → option_and_then map_value o ≡ Some t → part_at number o x ≡ RegisterType.Reference x t
+  value_part (Some (Form.flat_map u)) t e = below (Some u) t e
+  value_part (Some (Form.map u)) t e = below (Some u) t e
+  value_part o t e = cc
+
+  pub field_part : (o : Option Form) (t : ℕ) → option_and_then (field_type number) o ≡ Some t → part_at number o x ≡ RegisterType.Reference x t
+  field_part (Some (Form.struct ts)) t e = below (field_at number ts) t (sym (field_same number ts) ∙ e)
+  field_part o t e = cc
+
+  -- an item of a text is a number
+  pub item_part : (o : Option Form) (k : RegisterType) → option_and_then (item_known x) o ≡ Some k → part_at number o x ≡ k
+  item_part (Some Form.str) k e = cc
+  item_part (Some (Form.vec t)) k e = cc
+  item_part (Some (Form.list t)) k e = cc
+  item_part o k e = cc
+
+  -- what is shared is only read
+  pub content_part : (o : Option Form) (k : RegisterType) → option_and_then (content_known x) o ≡ Some k → part_at number o x ≡ k
+  content_part (Some (Form.own t)) k e = cc
+  content_part (Some (Form.shared t)) k e = cc
+  content_part o k e = cc

@@ -1,17 +1,18 @@
 -- What an instruction needs of its registers, by the columns of the instruction table and by its rule: the same.
 --     integer_same, name_same, text_same     a number, the number of a name, a text
---     reference_same, any_reference_same     a reference to a value of a kind, or of any
+--     reference_same, alike_same             a reference to a value of a kind, or to a shared of a type
+--     changeable_same, any_changeable_same   one into what may be changed, to a value of a kind, or of any
 --     owner_same, content_same, copy_same    an owner, one of an object of a type, and what may be copied
-use Rattle.std.proofs.Common.{◌≡◌, ℕ, refl, sym, ap, ◌∙◌, arith, Bool, true, false, Option, Some, None, Ok}
-use Rattle.std.specs.Prelude.{ℤ, ◌==◌, if◌then◌else◌}
+use Rattle.std.proofs.Common.{◌≡◌, ℕ, refl, sym, ap, ◌∙◌, arith, Bool, true, false, Option, Some, None, Ok, Err}
+use Rattle.std.specs.Prelude.{⊤, ℤ, ◌==◌, if◌then◌else◌}
 use Rattle.std.specs.Option.{is_some, option_and_then}
 use Rattle.seg_spec.specs.Types.{Form, Table, form_at}
 use Rattle.client_spec.specs.Syntax.{Constant}
 use Rattle.client_spec.specs.Grammar.{NamesBy, IsTextConstant}
-use Rattle.client_spec.specs.Typed.{Class, RegisterType, RegisterTypes, Reason, ◌>>=◌, Rule, known, is_owner, integer_needed, reference_needed, owner_needed, copy_needed, some_needed, name_needed, text_needed, integer_or_none, form_needed, required}
+use Rattle.client_spec.specs.Typed.{Class, RegisterType, RegisterTypes, Reason, Checked, ◌>>=◌, Rule, known, is_owner, integer_needed, reference_needed, owner_needed, copy_needed, some_needed, name_needed, text_needed, integer_or_none, form_needed, required, changeable_needed, shared_type, sharing, is_frozen}
 use Rattle.client_spec.specs.declared.table.Kinds.{Kinds}
 use Rattle.client_spec.specs.declared.table.Kinds.TheVariants as kinds
-use Rattle.client_verify.specs.Checking.{is_kind, is_kind_at, is_integer, is_copyable, is_content, leads_to}
+use Rattle.client_verify.specs.Checking.{is_kind, is_kind_at, is_integer, is_copyable, is_content, leads_to, may_change, shares, is_alike, referred}
 use Rattle.client_verify.proofs.Forms.{AreForms}
 
 -- ---- numbers and texts
@@ -66,17 +67,62 @@ reference_same types number kinds f RegisterType.Int following rest are same = r
 reference_same types number kinds f (RegisterType.Reference x t) following rest are same = form_same number kinds (f x) (form_at types t) (following (RegisterType.Reference x t)) (rest (x, t)) (are x) (same x t)
 reference_same types number kinds f (RegisterType.Owner t) following rest are same = refl
 
+-- what may be changed is of its own class
+own_class : (x : Class) → is_frozen x ≡ false → sharing x ≡ x
+own_class (Class.Frozen x) e = cc
+own_class x e = refl
+
+where_frozen : (x : Class) (t : ℕ) (is_of : Bool) (following : Option (Class × ℕ) → RegisterType → Rule) (rest : Rule)
+    → (required is_of Reason.WrongOperand >>= λ _. following (Some (x, t)) (RegisterType.Reference x t)) ≡ rest
+    → (required (if is_frozen x then false else is_of) Reason.WrongOperand >>= λ _. following (Some (sharing x, t)) (RegisterType.Reference x t))
+    ≡ (changeable_needed (RegisterType.Reference x t) >>= λ _. rest)
+where_frozen x t is_of following rest same = by_frozen (is_frozen x) refl
+  where
+    may_if : Bool → Checked (⊤)
+    may_if b = if b then Err Reason.WrongOperand else Ok tt
+
+    by_frozen : (b : Bool) → is_frozen x ≡ b → (required (if b then false else is_of) Reason.WrongOperand >>= λ _. following (Some (sharing x, t)) (RegisterType.Reference x t))
+        ≡ (may_if b >>= λ _. rest)
+    by_frozen true e = refl
+    by_frozen false e = ap (λ y. required is_of Reason.WrongOperand >>= λ _. following (Some (y, t)) (RegisterType.Reference x t)) (own_class x e) ∙ same
+
+pub changeable_same : {A : Type 0} (types : Table) (number : ℤ) (kinds : Kinds)
+    (f : Class → Form → Option A) (k : RegisterType) (following : Option (Class × ℕ) → RegisterType → Rule) (rest : Class × ℕ → A → Rule) → ((x : Class) → AreForms number kinds (f x))
+    → ((x : Class) (t : ℕ) (y : A) → option_and_then (f x) (form_at types t) ≡ Some y → following (Some (x, t)) (RegisterType.Reference x t) ≡ rest (x, t) y)
+    → (required (may_change types number kinds k) Reason.WrongOperand >>= λ _. following (referred k) k)
+    ≡ (changeable_needed k >>= λ _. reference_needed k >>= λ x. form_needed (f x.0) types x.1 >>= λ y. rest x y)
+changeable_same types number kinds f RegisterType.Undefined following rest are same = refl
+changeable_same types number kinds f RegisterType.Int following rest are same = refl
+changeable_same types number kinds f (RegisterType.Reference x t) following rest are same =
+    where_frozen x t (is_kind_at number kinds (form_at types t)) following (form_needed (f x) types t >>= rest (x, t))
+    (form_same number kinds (f x) (form_at types t) (following (Some (x, t)) (RegisterType.Reference x t)) (rest (x, t)) (are x) (same x t))
+changeable_same types number kinds f (RegisterType.Owner t) following rest are same = refl
+
 any_kind : (number : ℤ) (o : Option Form) → is_kind_at number kinds.Any o ≡ true
 any_kind number None = refl
 any_kind number (Some form) = refl
 
-pub any_reference_same : (types : Table) (number : ℤ) (k : RegisterType) (following : RegisterType → Rule) (rest : Class × ℕ → Rule)
-    → ((x : Class) (t : ℕ) → following (RegisterType.Reference x t) ≡ rest (x, t))
-    → (required (leads_to types number kinds.Any k) Reason.WrongOperand >>= λ _. following k) ≡ (reference_needed k >>= rest)
-any_reference_same types number RegisterType.Undefined following rest same = refl
-any_reference_same types number RegisterType.Int following rest same = refl
-any_reference_same types number (RegisterType.Reference x t) following rest same = ap (λ v. required v Reason.WrongOperand >>= λ _. following (RegisterType.Reference x t)) (any_kind number (form_at types t)) ∙ same x t
-any_reference_same types number (RegisterType.Owner t) following rest same = refl
+pub any_changeable_same : (types : Table) (number : ℤ) (k : RegisterType) (following : Option (Class × ℕ) → RegisterType → Rule) (rest : Class × ℕ → Rule)
+    → ((x : Class) (t : ℕ) → following (Some (x, t)) (RegisterType.Reference x t) ≡ rest (x, t))
+    → (required (may_change types number kinds.Any k) Reason.WrongOperand >>= λ _. following (referred k) k) ≡ (changeable_needed k >>= λ _. reference_needed k >>= rest)
+any_changeable_same types number RegisterType.Undefined following rest same = refl
+any_changeable_same types number RegisterType.Int following rest same = refl
+any_changeable_same types number (RegisterType.Reference x t) following rest same =
+    where_frozen x t (is_kind_at number kinds.Any (form_at types t)) following (rest (x, t))
+    (ap (λ v. required v Reason.WrongOperand >>= λ _. following (Some (x, t)) (RegisterType.Reference x t)) (any_kind number (form_at types t)) ∙ same x t)
+any_changeable_same types number (RegisterType.Owner t) following rest same = refl
+
+pub alike_same : (types : Table) (t : ℕ) (k : RegisterType) (x : Rule) → (required (is_alike types (Some t) k) Reason.WrongOperand >>= λ _. x)
+    ≡ (reference_needed k >>= λ y. form_needed shared_type types y.1 >>= λ u. required (t == u) Reason.WrongOperand >>= λ _. x)
+alike_same types t RegisterType.Undefined x = refl
+alike_same types t RegisterType.Int x = refl
+alike_same types t (RegisterType.Reference y u) x = by_form (form_at types u)
+  where
+    by_form : (o : Option Form) → (required (shares (Some t) o) Reason.WrongOperand >>= λ _. x) ≡ (some_needed (option_and_then shared_type o) >>= λ u. required (t == u) Reason.WrongOperand >>= λ _. x)
+    by_form None = refl
+    by_form (Some (Form.shared v)) = refl
+    by_form (Some form) = refl
+alike_same types t (RegisterType.Owner u) x = refl
 
 -- ---- owners and copies
 

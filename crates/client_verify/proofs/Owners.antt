@@ -3,7 +3,7 @@ use Rattle.std.proofs.Common.{◌≡◌, ℕ, get_or, refl, sym, ap, ◌∙◌, 
 use Rattle.std.specs.Prelude.{if◌then◌else◌, slice_set}
 use Rattle.std.proofs.Math.ListN.{get_or-map}
 use Rattle.std.proofs.Math.Seq.{map-set_same}
-use Rattle.client_spec.specs.Typed.{Class, RegisterType, RegisterTypes, known, same_class, is_owner, without_class, ended, others_ended}
+use Rattle.client_spec.specs.Typed.{Class, RegisterType, RegisterTypes, known, same_class, sharing, is_owner, without_class, ended, others_ended}
 
 cut_off : (b : Bool) (x : Class) (t : ℕ) → is_owner (if b then RegisterType.Undefined else RegisterType.Reference x t) ≡ false
 cut_off true x t = refl
@@ -12,7 +12,7 @@ cut_off false x t = refl
 owner_without : (x : Class) (k : RegisterType) → is_owner (without_class x k) ≡ is_owner k
 owner_without x RegisterType.Undefined = refl
 owner_without x RegisterType.Int = refl
-owner_without x (RegisterType.Reference y t) = cut_off (same_class x y) y t
+owner_without x (RegisterType.Reference y t) = cut_off (same_class x (sharing y)) y t
 owner_without x (RegisterType.Owner t) = refl
 
 pub owner_kept : (x : Class) (ks : RegisterTypes) (a : ℕ) → is_owner (known (ended x ks) a) ≡ is_owner (known ks a)

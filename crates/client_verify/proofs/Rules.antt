@@ -1,24 +1,24 @@
 -- The rule of each operation, and the rule by its columns: the same.
 --     rule_same     where the columns are those of the operation
-use Rattle.std.proofs.Common.{◌≡◌, ◌%◌, ℕ, refl, sym, ap, ◌∙◌, Option, Some, List}
-use Rattle.std.specs.Prelude.{ℤ, pos, negsuc, nat_abs, not, slice_get, slice_set}
+use Rattle.std.proofs.Common.{◌≡◌, ◌%◌, ℕ, refl, sym, ap, ◌∙◌, List}
+use Rattle.std.specs.Prelude.{ℤ, ◌==◌, pos, negsuc, nat_abs, not, slice_get, slice_set}
 use Rattle.seg_spec.specs.Types.{Table, form_at}
 use Rattle.client_spec.specs.Answer.{type_operand, constant_operand}
 use Rattle.client_spec.specs.Syntax.{Constant, Instruction}
 use Rattle.client_spec.specs.declared.table.Number.{Number}
 use Rattle.client_spec.specs.Grammar.{IsInstruction}
-use Rattle.client_spec.specs.Typed.{Class, RegisterType, RegisterTypes, Reason, ◌>>=◌, Rule, known, same_class, is_owner, required, ended, others_ended, combines, item_known, rule, known_after, gives, opens}
+use Rattle.client_spec.specs.Typed.{Class, RegisterType, RegisterTypes, Reason, ◌>>=◌, Rule, known, same_class, is_owner, required, ended, others_ended, combines, content_known, item_known, rule, sharing_rule, known_after, owner_needed, gives, opens, freezes}
 use Rattle.client_spec.specs.declared.table.Operation.{Operation}
 use Rattle.client_spec.specs.declared.table.Operation.TheVariants as op
 use Rattle.client_spec.specs.declared.table.Kinds.TheVariants as kinds
 use Rattle.client_spec.specs.Operations.{row_of}
 use Rattle.client_verify.specs.Passing.{rule_at}
-use Rattle.client_verify.specs.Checking.{Step, part_known, is_integer, is_content, content_of, emptied, applied}
-use Rattle.client_verify.proofs.Shapes.{unless_lost, following, from_first, in_turn, gives_same, opens_same}
+use Rattle.client_verify.specs.Checking.{Step, is_integer, is_content, is_alike, content_of, emptied, applied}
+use Rattle.client_verify.proofs.Shapes.{unless_lost, following, led_first, from_first, in_turn, gives_same, opens_same, freezes_same}
 use Rattle.client_verify.proofs.Numbers.{AreNamed}
 use Rattle.client_verify.proofs.Owners.{owner_kept, owner_kept_but}
-use Rattle.client_verify.proofs.Needs.{integer_same, optional_same, name_same, text_same, reference_same, any_reference_same, owner_same, content_same, copy_same}
-use Rattle.client_verify.proofs.Forms.{i64_forms, str_forms, list_forms, own_forms, sequence_forms, item_forms, pop_forms, buffered_forms, map_forms, value_forms, sized_forms, struct_forms, owned_part, sequence_part, list_part, value_part, field_part, item_part}
+use Rattle.client_verify.proofs.Needs.{integer_same, optional_same, name_same, text_same, reference_same, changeable_same, any_changeable_same, alike_same, owner_same, content_same, copy_same}
+use Rattle.client_verify.proofs.Forms.{i64_forms, str_forms, list_forms, own_forms, shared_forms, holder_forms, sequence_forms, item_forms, pop_forms, buffered_forms, map_forms, value_forms, sized_forms, struct_forms, owned_part, shared_part, content_part, sequence_part, list_part, value_part, field_part, item_part}
 
 module _ (types : Table) (constants : List Constant) (a b c t k : ℕ) (ks : RegisterTypes) where
   abbrev step : Operation → ℤ → Step
@@ -56,22 +56,18 @@ module _ (types : Table) (constants : List Constant) (a b c t k : ℕ) (ks : Reg
   opens_unique number e = opens_same a (RegisterType.Reference (Class.Unique t) t) ks ks refl ∙ ap (λ u. opens a (RegisterType.Reference (Class.Unique u) u) ks) e
 
   -- a register gets a reference to a part, after others have ended or not
-  opens_part : (es : RegisterTypes) (x : Class) (u y : ℕ) (part : Option ℕ) → is_owner (known es a) ≡ is_owner (known ks a) → part ≡ Some y → gets es (part_known (Some (x, u)) part) RegisterType.Int ≡ opens a (RegisterType.Reference x y) es
-  opens_part es x u y part kept e =
-      ap (λ p. gets es (part_known (Some (x, u)) p) RegisterType.Int) e
-      ∙ opens_same a (RegisterType.Reference x y) es ks (sym kept)
+  opens_part : (es : RegisterTypes) (x : Class) (y : ℕ) (part : RegisterType) → is_owner (known es a) ≡ is_owner (known ks a) → part ≡ RegisterType.Reference x y → gets es part RegisterType.Int ≡ opens a (RegisterType.Reference x y) es
+  opens_part es x y part kept e = ap (λ p. gets es p RegisterType.Int) e ∙ opens_same a (RegisterType.Reference x y) es ks (sym kept)
 
-  gives_part : (x : Class) (u y : ℕ) (part : Option ℕ) → part ≡ Some y → gets ks (part_known (Some (x, u)) part) (part_known (Some (x, u)) part) ≡ gives a (RegisterType.Reference x y) ks
-  gives_part x u y part e =
-      ap (λ p. gets ks (part_known (Some (x, u)) p) (part_known (Some (x, u)) p)) e
-      ∙ gives_same a (RegisterType.Reference x y) ks ks refl
+  gives_part : (x : Class) (y : ℕ) (part : RegisterType) → part ≡ RegisterType.Reference x y → gets ks part part ≡ gives a (RegisterType.Reference x y) ks
+  gives_part x y part e = ap (λ p. gets ks p p) e ∙ gives_same a (RegisterType.Reference x y) ks ks refl
 
   -- ---- each operation
 
   same : (operation : Operation) (number : ℤ) → IsInstruction types constants (row_of operation).role (instruction operation number) → AreNamed (row_of operation).number number t k → IsSame operation number
-  unfolding rule
+  unfolding rule sharing_rule
   same op.Const number right named = gives_int
-  same op.Mov number right named = copy_same (known ks b) (following (step op.Mov number)) (λ x. gives a x ks) (λ x. gives_same a x ks ks refl)
+  same op.Mov number right named = copy_same (known ks b) (led_first (step op.Mov number)) (λ x. gives a x ks) (λ x. gives_same a x ks ks refl)
   same op.Add number right named = combines_same
   same op.Sub number right named = combines_same
   same op.Mul number right named = combines_same
@@ -82,7 +78,7 @@ module _ (types : Table) (constants : List Constant) (a b c t k : ℕ) (ks : Reg
   same op.OutInt number right named = integer_same (known ks b) _ _ refl
   same op.Else number right named = refl
   same op.End number right named = refl
-  same op.OutStr number right named = reference_same types number kinds.Str _ (known ks b) (following (step op.OutStr number)) _ (λ x. str_forms number) (λ x u y e. refl)
+  same op.OutStr number right named = reference_same types number kinds.Str _ (known ks b) (led_first (step op.OutStr number)) _ (λ x. str_forms number) (λ x u y e. refl)
   same op.OutConst (pos n) right named = text_same (slice_get constants n) _ _ right.number refl
   same op.GetByte number right named = opens_int
   same op.Make (pos n) right named = name_same (slice_get constants (n % 256)) b (known ks b) _ _ right.number.1 (optional_same c ks _ _ (opens_named (pos n) named))
@@ -96,45 +92,64 @@ module _ (types : Table) (constants : List Constant) (a b c t k : ℕ) (ks : Reg
   same op.FindOrMakeUnique number right named = opens_unique number named
   same op.KillUnique number right named = gives_same a RegisterType.Int (ended (Class.Unique t) ks) ks (sym (owner_kept (Class.Unique t) ks a)) ∙ ap (λ u. gives a RegisterType.Int (ended (Class.Unique u) ks)) named
   same op.New number right named = opens_same a (RegisterType.Owner t) ks ks refl ∙ ap (λ u. opens a (RegisterType.Owner u) ks) named
-  same op.Drop number right named = owner_same (known ks b) (following (step op.Drop number)) _ (λ u. refl)
-  same op.Ref number right named = owner_same (known ks b) (following (step op.Ref number)) _ (λ u. gives_same a (RegisterType.Reference (Class.Register b) u) ks ks refl)
-  same op.Put number right named = reference_same types number kinds.Own _ (known ks b) (following (step op.Put number)) _ (λ x. own_forms number) (λ x u y e.
+  same op.Drop number right named = owner_same (known ks b) (led_first (step op.Drop number)) _ (λ u. refl)
+  same op.Ref number right named = owner_same (known ks b) (led_first (step op.Ref number)) _ (λ u. gives_same a (RegisterType.Reference (Class.Register b) u) ks ks refl)
+  same op.Put number right named = changeable_same types number kinds.Own _ (known ks b) (following (step op.Put number)) _ (λ x. own_forms number) (λ x u y e.
       ap (λ part. required (is_content part (known ks c)) Reason.WrongOperand >>= λ _. moved x) (owned_part number (form_at types u) y e) ∙ content_same y (known ks c) (moved x))
     where
       moved : Class → Rule
       moved x = required (not (same_class x (Class.Register c))) Reason.PutIntoItself >>= λ _. known_after (emptied c (others_ended x b ks))
-  same op.Take number right named = reference_same types number kinds.Own _ (known ks b) (following (step op.Take number)) _ (λ x. own_forms number) (λ x u y e.
+  same op.Take number right named = changeable_same types number kinds.Own _ (known ks b) (following (step op.Take number)) _ (λ x. own_forms number) (λ x u y e.
       ap (λ part. gets (others_ended x b ks) (content_of part) RegisterType.Int) (owned_part number (form_at types u) y e)
       ∙ opens_same a (RegisterType.Owner y) (others_ended x b ks) ks (sym (owner_kept_but x b ks a)))
-  same op.Content number right named = reference_same types number kinds.Own _ (known ks b) (following (step op.Content number)) _ (λ x. own_forms number) (λ x u y e. opens_part ks x u y _ refl (owned_part number (form_at types u) y e))
-  same op.Clear number right named = any_reference_same types number (known ks b) (following (step op.Clear number)) _ (λ x u. refl)
+  same op.Content number right named = reference_same types number kinds.Holder content_known (known ks b) (led_first (step op.Content number)) _ (holder_forms number) (λ x u y e.
+      ap (λ z. gets ks z RegisterType.Int) (content_part number x (form_at types u) y e) ∙ opens_same a y ks ks refl)
+  same op.Clear number right named = any_changeable_same types number (known ks b) (following (step op.Clear number)) _ (λ x u. refl)
   same op.Forget number right named = gives_same b RegisterType.Undefined ks ks refl
-  same op.Load number right named = reference_same types number kinds.I64 _ (known ks b) (following (step op.Load number)) _ (λ x. i64_forms number) (λ x u y e. gives_int)
-  same op.Store number right named = reference_same types number kinds.I64 _ (known ks b) (following (step op.Store number)) _ (λ x. i64_forms number) (λ x u y e. integer_same (known ks c) _ _ refl)
-  same op.Field number right named = reference_same types number kinds.Struct _ (known ks b) (following (step op.Field number)) _ (λ x. struct_forms number) (λ x u y e. gives_part x u y _ (field_part number (form_at types u) y e))
-  same op.Len number right named = reference_same types number kinds.Sized _ (known ks b) (following (step op.Len number)) _ (λ x. sized_forms number) (λ x u y e. gives_int)
-  same op.At number right named = reference_same types number kinds.Indexed item_known (known ks b) (following (step op.At number)) _ (item_forms number) (λ x u y e. integer_same (known ks c) _ _ (
-      ap (λ z. gets ks z RegisterType.Int) (item_part number x u (form_at types u) y e) ∙ opens_same a y ks ks refl))
-  same op.PushBack number right named = reference_same types number kinds.Sequence _ (known ks b) (following (step op.PushBack number)) _
-      (λ x. sequence_forms number) (λ x u y e. opens_part (others_ended x b ks) x u y _ (owner_kept_but x b ks a) (sequence_part number (form_at types u) y e))
-  same op.PushFront number right named = reference_same types number kinds.List _ (known ks b) (following (step op.PushFront number)) _ (λ x. list_forms number)
-      (λ x u y e. opens_part (others_ended x b ks) x u y _ (owner_kept_but x b ks a) (list_part number (form_at types u) y e))
-  same op.PopBack number right named = reference_same types number kinds.Indexed _ (known ks b) (following (step op.PopBack number)) _ (λ x. pop_forms number)
+  same op.Load number right named = reference_same types number kinds.I64 _ (known ks b) (led_first (step op.Load number)) _ (λ x. i64_forms number) (λ x u y e. gives_int)
+  same op.Store number right named = changeable_same types number kinds.I64 _ (known ks b) (following (step op.Store number)) _ (λ x. i64_forms number) (λ x u y e. integer_same (known ks c) _ _ refl)
+  same op.Field number right named = reference_same types number kinds.Struct _ (known ks b) (led_first (step op.Field number)) _ (λ x. struct_forms number) (λ x u y e. gives_part x y _ (field_part number x (form_at types u) y e))
+  same op.Len number right named = reference_same types number kinds.Sized _ (known ks b) (led_first (step op.Len number)) _ (λ x. sized_forms number) (λ x u y e. gives_int)
+  same op.At number right named = reference_same types number kinds.Indexed item_known (known ks b) (led_first (step op.At number)) _ (item_forms number) (λ x u y e. integer_same (known ks c) _ _ (
+      ap (λ z. gets ks z RegisterType.Int) (item_part number x (form_at types u) y e) ∙ opens_same a y ks ks refl))
+  same op.PushBack number right named = changeable_same types number kinds.Sequence _ (known ks b) (following (step op.PushBack number)) _
+      (λ x. sequence_forms number) (λ x u y e. opens_part (others_ended x b ks) x y _ (owner_kept_but x b ks a) (sequence_part number x (form_at types u) y e))
+  same op.PushFront number right named = changeable_same types number kinds.List _ (known ks b) (following (step op.PushFront number)) _ (λ x. list_forms number)
+      (λ x u y e. opens_part (others_ended x b ks) x y _ (owner_kept_but x b ks a) (list_part number x (form_at types u) y e))
+  same op.PopBack number right named = changeable_same types number kinds.Indexed _ (known ks b) (following (step op.PopBack number)) _ (λ x. pop_forms number)
       (λ x u y e. opens_same a RegisterType.Int (others_ended x b ks) ks (sym (owner_kept_but x b ks a)))
-  same op.PopFront number right named = reference_same types number kinds.List _ (known ks b) (following (step op.PopFront number)) _ (λ x. list_forms number)
+  same op.PopFront number right named = changeable_same types number kinds.List _ (known ks b) (following (step op.PopFront number)) _ (λ x. list_forms number)
       (λ x u y e. opens_same a RegisterType.Int (others_ended x b ks) ks (sym (owner_kept_but x b ks a)))
-  same op.SetStr (pos n) right named = reference_same types (pos n) kinds.Str _ (known ks b) (following (step op.SetStr (pos n))) _ (λ x. str_forms (pos n)) (λ x u y e. text_same (slice_get constants n) _ _ right.number opens_int)
-  same op.AddStr (pos n) right named = reference_same types (pos n) kinds.Str _ (known ks b) (following (step op.AddStr (pos n))) _ (λ x. str_forms (pos n)) (λ x u y e. text_same (slice_get constants n) _ _ right.number opens_int)
-  same op.AddByte number right named = reference_same types number kinds.Str _ (known ks b) (following (step op.AddByte number)) _ (λ x. str_forms number) (λ x u y e. integer_same (known ks c) _ _ opens_int)
-  same op.Shrink number right named = reference_same types number kinds.Buffered _ (known ks b) (following (step op.Shrink number)) _ (λ x. buffered_forms number) (λ x u y e. refl)
-  same op.GetKey number right named = reference_same types number kinds.Map _ (known ks b) (following (step op.GetKey number)) _ (λ x. value_forms number)
-      (λ x u y e. integer_same (known ks c) _ _ (opens_part ks x u y _ refl (value_part number (form_at types u) y e)))
-  same op.PutKey number right named = reference_same types number kinds.Map _ (known ks b) (following (step op.PutKey number)) _ (λ x. value_forms number)
-      (λ x u y e. integer_same (known ks c) _ _ (opens_part (others_ended x b ks) x u y _ (owner_kept_but x b ks a) (value_part number (form_at types u) y e)))
-  same op.DeleteKey number right named = reference_same types number kinds.Map _ (known ks b) (following (step op.DeleteKey number)) _ (λ x. map_forms number)
+  same op.SetStr (pos n) right named = changeable_same types (pos n) kinds.Str _ (known ks b) (following (step op.SetStr (pos n))) _ (λ x. str_forms (pos n)) (λ x u y e. text_same (slice_get constants n) _ _ right.number opens_int)
+  same op.AddStr (pos n) right named = changeable_same types (pos n) kinds.Str _ (known ks b) (following (step op.AddStr (pos n))) _ (λ x. str_forms (pos n)) (λ x u y e. text_same (slice_get constants n) _ _ right.number opens_int)
+  same op.AddByte number right named = changeable_same types number kinds.Str _ (known ks b) (following (step op.AddByte number)) _ (λ x. str_forms number) (λ x u y e. integer_same (known ks c) _ _ opens_int)
+  same op.Shrink number right named = changeable_same types number kinds.Buffered _ (known ks b) (following (step op.Shrink number)) _ (λ x. buffered_forms number) (λ x u y e. refl)
+  same op.GetKey number right named = reference_same types number kinds.Map _ (known ks b) (led_first (step op.GetKey number)) _ (λ x. value_forms number)
+      (λ x u y e. integer_same (known ks c) _ _ (opens_part ks x y _ refl (value_part number x (form_at types u) y e)))
+  same op.PutKey number right named = changeable_same types number kinds.Map _ (known ks b) (following (step op.PutKey number)) _ (λ x. value_forms number)
+      (λ x u y e. integer_same (known ks c) _ _ (opens_part (others_ended x b ks) x y _ (owner_kept_but x b ks a) (value_part number x (form_at types u) y e)))
+  same op.DeleteKey number right named = changeable_same types number kinds.Map _ (known ks b) (following (step op.DeleteKey number)) _ (λ x. map_forms number)
       (λ x u y e. integer_same (known ks c) _ _ (gives_same a RegisterType.Int (others_ended x b ks) ks (sym (owner_kept_but x b ks a))))
-  same op.FirstKey number right named = reference_same types number kinds.Map _ (known ks b) (following (step op.FirstKey number)) _ (λ x. map_forms number) (λ x u y e. opens_int)
-  same op.NextKey number right named = reference_same types number kinds.Map _ (known ks b) (following (step op.NextKey number)) _ (λ x. map_forms number) (λ x u y e. integer_same (known ks c) _ _ opens_int)
+  same op.FirstKey number right named = reference_same types number kinds.Map _ (known ks b) (led_first (step op.FirstKey number)) _ (λ x. map_forms number) (λ x u y e. opens_int)
+  same op.NextKey number right named = reference_same types number kinds.Map _ (known ks b) (led_first (step op.NextKey number)) _ (λ x. map_forms number) (λ x u y e. integer_same (known ks c) _ _ opens_int)
+  same op.Freeze number right named = changeable_same types number kinds.Shared _ (known ks b) (following (step op.Freeze number)) _ (λ x. shared_forms number) (λ x u y e.
+      ap (λ part. required (is_content part (known ks c)) Reason.WrongOperand >>= λ _. frozen_in x) (shared_part number (form_at types u) y e) ∙ content_same y (known ks c) (frozen_in x)
+      ∙ frozen_same x y)
+    where
+      ended_all : Class → RegisterTypes
+      ended_all x = ended (Class.Register c) (others_ended x b ks)
+
+      frozen_in : Class → Rule
+      frozen_in x = required (not (same_class x (Class.Register c))) Reason.PutIntoItself >>= λ _.
+          unless_lost (is_owner (known ks a)) (slice_set (slice_set (ended_all x) c RegisterType.Undefined) a RegisterType.Int, slice_set (ended_all x) a RegisterType.Int)
+
+      frozen_same : (x : Class) (y : ℕ) → (owner_needed (known ks c) >>= λ u. required (y == u) Reason.WrongOperand >>= λ _. frozen_in x)
+          ≡ (owner_needed (known ks c) >>= λ u. required (y == u) Reason.WrongOperand >>= λ _. required (not (same_class x (Class.Register c))) Reason.PutIntoItself >>= λ _. freezes a c (ended_all x))
+      frozen_same x y = ap (λ r. owner_needed (known ks c) >>= λ u. required (y == u) Reason.WrongOperand >>= λ _. required (not (same_class x (Class.Register c))) Reason.PutIntoItself >>= λ _. r)
+          (freezes_same a c (ended_all x) ks (sym (owner_kept (Class.Register c) (others_ended x b ks) a ∙ owner_kept_but x b ks a)))
+  same op.Share number right named = changeable_same types number kinds.Shared _ (known ks b) (following (step op.Share number)) _ (λ x. shared_forms number) (λ x u y e.
+      ap (λ part. required (is_alike types part (known ks c)) Reason.WrongOperand >>= λ _. known_after (others_ended x b ks)) (shared_part number (form_at types u) y e)
+      ∙ alike_same types y (known ks c) (known_after (others_ended x b ks)))
   same op.OutConst (negsuc n) right named = absurd right.number
   same op.Make (negsuc n) right named = absurd right.number
   same op.Find (negsuc n) right named = absurd right.number

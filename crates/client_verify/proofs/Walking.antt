@@ -9,7 +9,7 @@ use Rattle.client_spec.specs.declared.table.Role.{Role}
 use Rattle.client_spec.specs.Operations.{row_of}
 use Rattle.client_spec.specs.Grammar.{mark, listing, listing_one, IsCode, IsStatement, depth, depth_one}
 use Rattle.client_spec.specs.Run.{bound, bound_one}
-use Rattle.client_spec.specs.Typed.{Checked, ◌>>=◌, RegisterTypes, known, known_after, integer_needed, rule_of, joined, kept, types_after, types_after_one}
+use Rattle.client_spec.specs.Typed.{Checked, ◌>>=◌, RegisterTypes, known, known_after, integer_needed, rule_of, joined, kept, types_by, types_by_one, types_after, types_after_one}
 use Rattle.client_code.proofs.Nested.{two_parts, one_part}
 use Rattle.client_verify.specs.Passing.{Open, in_success, in_else, in_body, Progress, at_most, with_part, inside, rule_by, passes_by, passes_all}
 use Rattle.client_verify.proofs.Counting.{no_steps, more_steps, steps_of_parts, steps_of_turns}
@@ -152,7 +152,7 @@ module _ (types : Table) (constants : List Constant) where
       ∙ followed (f ks) (λ after. kept ks after >>= λ _. Ok ks) (λ after. walk (standing after l (body ∷ parts)) (mark Operation.End ∷ rest)) to body_ends)
 
   mutual
-    unfolding IsCode listing depth types_after
+    unfolding IsCode listing depth types_by types_by_one
 
     pub walked : (cs : Statements) → IsCode types constants cs → Walks (listing cs) (types_after types constants cs) (bound cs) (depth cs)
     walked no_more h = walks_nothing

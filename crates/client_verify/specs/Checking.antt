@@ -9,7 +9,7 @@ use Rattle.std.specs.Option.{is_some, option_and_then}
 use Rattle.seg_spec.specs.Types.{Form, Table, form_at}
 use Rattle.client_spec.specs.declared.table.Role.{Role}
 use Rattle.client_spec.specs.declared.table.Row.{Row}
-use Rattle.client_spec.specs.Typed.{Class, RegisterType, RegisterTypes, Reason, Checked, ◌>>=◌, Rule, known, same_class, is_owner, required, ended, others_ended}
+use Rattle.client_spec.specs.Typed.{Class, RegisterType, RegisterTypes, Reason, Checked, ◌>>=◌, Rule, known, same_class, is_owner, required, ended, others_ended, sharing, frozen, is_frozen}
 use Rattle.client_spec.specs.declared.table.Need.{Need}
 use Rattle.client_spec.specs.declared.table.Need.TheVariants as need
 use Rattle.client_spec.specs.declared.table.Kinds.{Kinds}
@@ -34,10 +34,11 @@ pub record Step : Type 0 where
 
 -- ---- what register b leads to
 
+-- what shares it, where it is only read, and its type
 abbrev pub referred : RegisterType → Option (Class × ℕ)
 referred RegisterType.Undefined = None
 referred RegisterType.Int = None
-referred (RegisterType.Reference x t) = Some (x, t)
+referred (RegisterType.Reference x t) = Some (sharing x, t)
 referred (RegisterType.Owner t) = None
 
 abbrev pub field_at : ℤ → List ℕ → Option ℕ
@@ -54,7 +55,7 @@ part_of number (Form.flat_map t) = Some t
 part_of number (Form.map t) = Some t
 part_of number (Form.own t) = Some t
 part_of number (Form.struct fields) = field_at number fields
-part_of number (Form.shared t) = None
+part_of number (Form.shared t) = Some t
 
 -- the type of a part of what a reference leads to
 abbrev pub part_in : Table → ℤ → RegisterType → Option ℕ
@@ -72,6 +73,9 @@ is_kind number kinds.I64 Form.i64 = true
 is_kind number kinds.Str Form.str = true
 is_kind number kinds.List (Form.list t) = true
 is_kind number kinds.Own (Form.own t) = true
+is_kind number kinds.Shared (Form.shared t) = true
+is_kind number kinds.Holder (Form.own t) = true
+is_kind number kinds.Holder (Form.shared t) = true
 is_kind number kinds.Struct (Form.struct fields) = is_some (field_at number fields)
 is_kind number kinds.Sequence (Form.vec t) = true
 is_kind number kinds.Sequence (Form.list t) = true
@@ -118,6 +122,21 @@ abbrev pub leads_to : Table → ℤ → Kinds → RegisterType → Bool
 leads_to types number kinds (RegisterType.Reference x t) = is_kind_at number kinds (form_at types t)
 leads_to types number kinds k = false
 
+-- the same, into what may be changed
+abbrev pub may_change : Table → ℤ → Kinds → RegisterType → Bool
+may_change types number kinds (RegisterType.Reference x t) =
+    if is_frozen x then false else is_kind_at number kinds (form_at types t)
+may_change types number kinds k = false
+
+-- a shared of this type
+abbrev pub shares : Option ℕ → Option Form → Bool
+shares part_held (Some (Form.shared t)) = is_type part_held t
+shares part_held form = false
+
+abbrev pub is_alike : Table → Option ℕ → RegisterType → Bool
+is_alike types part_held (RegisterType.Reference x t) = shares part_held (form_at types t)
+is_alike types part_held k = false
+
 -- what is held in register b, and in this one
 abbrev pub meets_by : Table → ℤ → RegisterType → Need → ℕ → RegisterType → Bool
 meets_by types number held need.Nothing r k = true
@@ -127,6 +146,8 @@ meets_by types number held need.Copyable r k = is_copyable k
 meets_by types number held need.Owner r k = is_owner k
 meets_by types number held need.Content r k = is_content (part_in types number held) k
 meets_by types number held (need.Reference kinds) r k = leads_to types number kinds k
+meets_by types number held (need.Changeable kinds) r k = may_change types number kinds k
+meets_by types number held need.Alike r k = is_alike types (part_in types number held) k
 
 -- ---- what a register gets
 
@@ -138,10 +159,33 @@ abbrev pub content_of : Option ℕ → RegisterType
 content_of None = RegisterType.Undefined
 content_of (Some t) = RegisterType.Owner t
 
+-- what is behind a shared is only read
+abbrev pub part_class : Class → Form → Class
+part_class x (Form.shared t) = frozen x
+part_class x form = x
+
+-- a reference to a part of this type
+abbrev pub part_below : Form → ℕ → RegisterType → RegisterType
+part_below form part RegisterType.Undefined = RegisterType.Undefined
+part_below form part RegisterType.Int = RegisterType.Undefined
+part_below form part (RegisterType.Reference x t) =
+    RegisterType.Reference (part_class x form) part
+part_below form part (RegisterType.Owner t) = RegisterType.Undefined
+
 -- a part of a text is a number
-abbrev pub part_known : Option (Class × ℕ) → Option ℕ → RegisterType
-part_known (Some x) (Some t) = RegisterType.Reference x.0 t
-part_known x t = RegisterType.Int
+abbrev pub part_given : Class → Option ℕ → RegisterType
+part_given x None = RegisterType.Int
+part_given x (Some t) = RegisterType.Reference x t
+
+abbrev pub part_at : ℤ → Option Form → Class → RegisterType
+part_at number None x = RegisterType.Int
+part_at number (Some form) x = part_given (part_class x form) (part_of number form)
+
+abbrev pub part_known : Table → ℤ → RegisterType → RegisterType
+part_known types number RegisterType.Undefined = RegisterType.Int
+part_known types number RegisterType.Int = RegisterType.Int
+part_known types number (RegisterType.Reference x t) = part_at number (form_at types t) x
+part_known types number (RegisterType.Owner t) = RegisterType.Int
 
 -- in the else part the register holds the code
 abbrev pub otherwise_by : Role → RegisterType → RegisterType
@@ -173,7 +217,13 @@ emptied r ks = slice_set (ended (Class.Register r) ks) r RegisterType.Undefined
 -- an object would be put into itself
 abbrev pub is_inside : Ends → Option (Class × ℕ) → ℕ → Bool
 is_inside ends.Moved (Some x) c = same_class x.0 (Class.Register c)
+is_inside ends.Frozen (Some x) c = same_class x.0 (Class.Register c)
 is_inside ends x c = false
+
+-- in the success part register c owns its object no more
+abbrev pub frozen_from : Ends → ℕ → RegisterTypes → RegisterTypes
+frozen_from ends.Frozen c ks = slice_set ks c RegisterType.Undefined
+frozen_from ends c ks = ks
 
 -- ---- the rule by the columns
 
@@ -197,22 +247,24 @@ module _ (s : Step) where
   given_by h gives.Owner = Some (s.a, RegisterType.Owner s.type_id)
   given_by h gives.Owned = Some (s.a, borrowed_from s.b h)
   given_by h gives.Content = Some (s.a, content_of (part_in s.types s.number h))
-  given_by h gives.Part = Some (s.a, part_known (referred h) (part_in s.types s.number h))
+  given_by h gives.Part = Some (s.a, part_known s.types s.number h)
   given_by h gives.Forgotten = Some (s.b, RegisterType.Undefined)
 
   abbrev pub given : Option (ℕ × RegisterType)
   given = given_by held s.row.gives
 
-  abbrev pub ended_by : RegisterType → Ends → RegisterTypes
-  ended_by h ends.Nothing = s.before
-  ended_by h ends.Others = others (referred h) s.b s.before
-  ended_by h ends.Name = ended (Class.Name s.constant) s.before
-  ended_by h ends.Unique = ended (Class.Unique s.type_id) s.before
-  ended_by h ends.Dropped = emptied s.b s.before
-  ended_by h ends.Moved = emptied s.c (others (referred h) s.b s.before)
+  -- where register b leads there
+  abbrev pub ended_by : Option (Class × ℕ) → Ends → RegisterTypes
+  ended_by x ends.Nothing = s.before
+  ended_by x ends.Others = others x s.b s.before
+  ended_by x ends.Name = ended (Class.Name s.constant) s.before
+  ended_by x ends.Unique = ended (Class.Unique s.type_id) s.before
+  ended_by x ends.Dropped = emptied s.b s.before
+  ended_by x ends.Moved = emptied s.c (others x s.b s.before)
+  ended_by x ends.Frozen = ended (Class.Register s.c) (others x s.b s.before)
 
   abbrev pub ended_in : RegisterTypes
-  ended_in = ended_by held s.row.ends
+  ended_in = ended_by (referred held) s.row.ends
 
   abbrev pub checked_first : Checked (⊤)
   checked_first = do
@@ -223,7 +275,10 @@ module _ (s : Step) where
 
   -- in the success part, and in the else part
   abbrev pub known_in_parts : RegisterTypes × RegisterTypes
-  known_in_parts = (changed given ended_in, changed_by s.row.role given ended_in)
+  known_in_parts = (
+    changed given (frozen_from s.row.ends s.c ended_in),
+    changed_by s.row.role given ended_in,
+  )
 
   abbrev pub applied : Rule
   applied = checked_first >>= λ _. Ok known_in_parts

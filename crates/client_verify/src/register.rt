@@ -1,6 +1,9 @@
 ghost use Rattle.std.specs.Prelude.{◌≡◌};
 ghost use Rattle.client_spec.specs.Typed as typed;
+ghost use Rattle.std.specs.Option.{option_map};
+ghost use Rattle.seg_layout.specs.Forms.{form_of};
 ghost use Rattle.client_verify.specs.Views.{class_of, known_of, checked};
+ghost use Rattle.client_verify.specs.Checking.{referred, part_below};
 
 use crate::reason::Reason;
 use seg_layout::{Type, TypeId};
@@ -54,7 +57,9 @@ impl RegisterType {
     }
 
     /// What it leads to, also where that is only read: the class, and the type.
-    pub fn led(self) -> Option<(Class, TypeId)> {
+    pub fn led(self) -> Option<(Class, TypeId)>
+        ensures { option_map (λ x. (class_of x.0, x.1)) result ≡ referred (known_of self) }
+    {
         match self {
             RegisterType::Reference(class, to) | RegisterType::ReadOnly(class, to) => {
                 Some((class, to))
@@ -64,7 +69,9 @@ impl RegisterType {
     }
 
     /// A reference to a part of what it leads to. Behind a `shared` it is only read, and so is a part of what is only read.
-    pub fn part(self, of: Type, part: TypeId) -> RegisterType {
+    pub fn part(self, of: Type, part: TypeId) -> RegisterType
+        ensures { known_of result ≡ part_below (form_of of) part (known_of self) }
+    {
         match (self, of) {
             (RegisterType::Reference(class, _), Type::Shared(_))
             | (RegisterType::ReadOnly(class, _), _) => RegisterType::ReadOnly(class, part),

@@ -44,7 +44,7 @@ impl<'a> Rule<'a> {
     ghost use Rattle.seg_spec.specs.Types.{form_at};
     ghost use Rattle.seg_layout.specs.Forms.{form_of};
     ghost use Rattle.client_verify.specs.Views.{class_of, known_of};
-    ghost use Rattle.client_verify.specs.Checking.{referred, field_at, part_of, is_kind, is_kind_at, is_inside, is_lost, part_known, borrowed_from, otherwise_by, others, held, part_held as part_in, meets as meets_in, given as given_in, ended_in, checked_first, known_in_parts};
+    ghost use Rattle.client_verify.specs.Checking.{referred, field_at, part_of, is_kind, is_kind_at, is_inside, is_lost, shares, part_known, borrowed_from, otherwise_by, others, held, part_held as part_in, meets as meets_in, given as given_in, ended_in, checked_first, known_in_parts};
     ghost use Rattle.client_verify.specs.Steps.{types_of, before_of, instruction_in, step_by};
 
     /// The rule of an instruction, in front of which this is known.
@@ -88,7 +88,9 @@ impl<'a> Rule<'a> {
             otherwise: ended,
         };
         if self.row.ends == Ends::Frozen {
-            after.success.set(self.instruction.c, RegisterType::Undefined);
+            after
+                .success
+                .set(self.instruction.c, RegisterType::Undefined);
         }
         if let Some((register, holds)) = self.given() {
             after.success.set(register, holds);
@@ -170,7 +172,10 @@ impl<'a> Rule<'a> {
     }
 
     /// Whether a type is a `shared` of the type that register b's holds.
-    fn is_alike(&self, type_id: TypeId) -> bool {
+    fn is_alike(&self, type_id: TypeId) -> bool
+        ensures { result ≡ shares (part_in (step_by self.now))
+            (form_at self.now.types.now type_id) }
+    {
         match self.types.kind(type_id) {
             Some(Type::Shared(shared)) => self.part() == Some(shared),
             Some(_) | None => false,
@@ -241,7 +246,7 @@ impl<'a> Rule<'a> {
         }
     }
 
-    /// What the reference in register b leads to.
+    /// What the reference in register b leads to, also where that is only read.
     fn reference(&self) -> Option<(Class, TypeId)>
         ensures { option_map (λ x. (class_of x.0, x.1)) result
             ≡ referred (held (step_by self.now)) }
@@ -292,8 +297,8 @@ impl<'a> Rule<'a> {
 
     /// A reference to a part of what register b leads to. A part of a text is a number.
     fn part_reference(&self) -> RegisterType
-        ensures { known_of result ≡ part_known (referred (held (step_by self.now)))
-            (part_in (step_by self.now)) }
+        ensures { known_of result ≡ part_known self.now.types.now self.now.instruction.number
+            (held (step_by self.now)) }
     {
         let holds = self.before.get(self.instruction.b);
         let Some((_, to)) = holds.led() else {
