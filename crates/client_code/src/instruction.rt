@@ -103,8 +103,8 @@ impl Instruction {
         low
     }
 
-    /// Whether the operation, the operands and the number may stand in a client file of this version, with so many types and these
-    /// constants.
+    /// Whether the operation, the operands and the number may stand in a client file of this version, with so many types and
+    /// these constants.
     pub fn is_valid(self, version: u32, types: usize, constants: &[Constant]) -> bool
         ensures { (table : Table) → file_version table ≡ version → length table ≡ types →
             (IsTrue result ↔ IsInstruction table (constants_of constants.now)
