@@ -14,7 +14,7 @@ use seg_raw::Fault;
 use std::alloc::Global;
 use std::process::Abort;
 use std::test::Fail;
-use support_data::write_words;
+use support_data::{NOTICE, PUBLISH, write_words};
 
 /// Freezes a number into a cell, shares it in another, and reads it there after the first cell went.
 const SHARE: &str = "type i64
@@ -592,6 +592,25 @@ fn readers_change_nothing(rt: HostRuntime) -> Result<(), Fail> {
         reading_changes_nothing(&rt, kind)?;
     }
     Ok(())
+}
+
+/// A notice is published and printed, and again. There is none before.
+#[test]
+fn a_notice_is_published(rt: HostRuntime) -> Result<(), Fail> {
+    let text = format!(in rt.alloc();
+        "> client publish
+        {PUBLISH}
+        > client notice
+        {NOTICE}
+        > on 2048 notice publish notice; named 2
+        no notice
+        7
+        closed on Monday
+        > then publish notice; named 2
+        7
+        closed on Monday"
+    )?;
+    plays(rt.alloc(), &KINDS, text.as_str())
 }
 
 /// An output that fails after what was frozen and shared: it stays as it would otherwise.
