@@ -104,7 +104,7 @@ module _ {others : List Root} {types : Table} {constants : List Constant} (one :
               let path : n.1 ≡ l.path = (let z : Register.Reference n.1 ≡ Register.Reference l.path = sym n.2 ∙ ap (register s) (sym f) ∙ l.path_is in cc) in
               not_after_itself l.path.selectors (subst (λ (p : Path). GoesOnAfter l.path.selectors p.selectors) path g)
           | inr f ↦ (let within = subst (λ (p : Path). InClass constants class' p.origin) same e.within in
-            origins_apart constants one class class' l.path.origin n.1.origin (classes_apart constants class class' n.1.origin within (f class' U refl)) l.within within (sym q))
+              origins_apart constants one class class' l.path.origin n.1.origin (classes_apart constants class class' n.1.origin within (f class' U refl)) l.within within (sym q))
         ] in
         let on : Ends n.1.origin → ⊥ = still.goes_on n.1.origin (subst (λ (p : Path). InClass constants class' p.origin) same e.within) in (
           owners ∙ n.0,
