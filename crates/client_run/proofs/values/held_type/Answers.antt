@@ -1,4 +1,4 @@
-use Rattle.std.proofs.Common.{◌≡◌, ℕ, Option, Some, None, subst, ap}
+use Rattle.std.proofs.Common.{◌≡◌, ℕ, Option, Some, None, subst}
 use Rattle.seg_spec.specs.Types.{Form, Table, form_at}
 use Rattle.seg_value.specs.Contents.{ContentOf}
 use Rattle.seg_value.specs.declared.content.Content.{Content}
