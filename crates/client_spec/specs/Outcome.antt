@@ -1,15 +1,15 @@
 -- Clients on an image, as a whole: what comes of them, or why none of them runs.
---     IsOutcome image texts input room base moves lefts   the clients were accepted on a
---                                                         sound image, and ran
+--     CanRun image texts room base moves                  the clients are accepted on a sound
+--                                                         image that has a place
+--     IsOutcome image texts input room base moves lefts   so they are, and ran
 --     IsRefusalOf image texts room base moves refusal     why they weren't, where all that is
 --                                                         looked at before it is right
-use Rattle.std.specs.Prelude.{◌≡◌, ⊤, ℕ, ◌^◌, ◌≤◌, List, [], length, take, Some, slice_get, All}
+use Rattle.std.specs.Prelude.{◌≡◌, ⊤, ℕ, ◌^◌, ◌≤◌, List, [], length, take, Some, slice_get}
 use Rattle.seg_spec.specs.Window.{IsPlace}
 use Rattle.seg_spec.specs.Images.{IsSound, upgraded}
 use Rattle.seg_spec.specs.Faulty.{IsImageLength}
 use Rattle.client_spec.specs.Syntax.{Client}
 use Rattle.client_spec.specs.Grammar.{SpellsClient}
-use Rattle.client_spec.specs.Safe.{IsUnshared}
 use Rattle.client_spec.specs.OnImages.{Move, Given, Left}
 use Rattle.client_spec.specs.Clients.{IsVerified, AreAccepted, RunClients, table_after, AreMoves, IsFirstBadMove}
 
@@ -29,18 +29,23 @@ abbrev pub given_first : List ℕ → List ℕ → List ℕ → ℕ → List Mov
 given_first image host input base moves =
     record { others = []; moves = moves; image = image; host = host; base = base; input = input }
 
--- The clients that the texts spell were accepted, one after the other, on a sound image, and ran on it
--- as it was opened: where all of them leave frozen objects alone, as the machine runs them.
-pub record IsOutcome (image : List ℕ) (texts : List (List ℕ)) (input : List ℕ) (room base : ℕ)
-    (moves : List Move) (lefts : List Left) : Type 0 where
+-- The clients that the texts spell are accepted, one after the other, on a sound image, which has a
+-- place, and the moves have.
+pub record CanRun (image : List ℕ) (texts : List (List ℕ)) (room base : ℕ) (moves : List Move) :
+    Type 0 where
   pub can_move : CanMove image room base moves
   pub sound : IsSound image
   pub clients : List Client
   pub accepted : AreAccepted sound.picture.table texts clients
+
+-- So they are, and ran on it as it was opened.
+pub record IsOutcome (image : List ℕ) (texts : List (List ℕ)) (input : List ℕ) (room base : ℕ)
+    (moves : List Move) (lefts : List Left) : Type 0 where
+  pub can_run : CanRun image texts room base moves
   pub host : List ℕ
   pub host_is : length host ≡ room
-  pub runs : All IsUnshared clients →
-      RunClients clients (given_first (upgraded image) host input base moves) lefts
+  pub runs : RunClients can_run.clients
+      (given_first (upgraded image) host input base moves) lefts
 
 -- why no client runs, in the order in which it is looked for
 pub data Refusal : Type 0 where

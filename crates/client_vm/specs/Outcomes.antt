@@ -1,6 +1,7 @@
 -- Clients on an image, from bytes to bytes: what the caller gets.
 --     AreReports reports lefts    what the reports say of the runs
---     HasOutcome ..               the saved image, the reports, the ending and what the output took are those of the runs
+--     AreLeftByRuns ..            the saved image, the reports, the ending and what the output took are those of runs
+--     HasOutcome ..               the clients were accepted, and what they left is so where they leave frozen objects alone
 --     IsRefusedFor .. refused     why no client ran, fault by fault
 use Rattle.std.specs.Prelude.{◌≡◌, ◌⊎◌, ⊤, ℕ, ◌-◌, ◌^◌, min, List, [], ◌∷◌, Option, Some, None}
 use Rattle.seg_spec.specs.Images.{IsSound, upgraded}
@@ -10,8 +11,8 @@ use Rattle.seg_check.specs.Faults.{IsFaultOf}
 use Rattle.client_spec.specs.Syntax.{Client}
 use Rattle.client_spec.specs.Grammar.{SpellsClient}
 use Rattle.client_spec.specs.OnImages.{Move, Left}
-use Rattle.client_spec.specs.Clients.{outputs, image_after, ending_after, table_after, StayWithin}
-use Rattle.client_spec.specs.Outcome.{IsOutcome, Refusal, IsTurnOf, IsRefusalOf}
+use Rattle.client_spec.specs.Clients.{outputs, image_after, ending_after, table_after, AreUnshared, StayWithin}
+use Rattle.client_spec.specs.Outcome.{CanRun, IsOutcome, Refusal, IsTurnOf, IsRefusalOf}
 use Rattle.client_verify.specs.Refusals.{IsRefused}
 use Rattle.client_run.specs.declared.report.Report.{Report}
 use Rattle.client_run.specs.declared.report.Ended.{Ended}
@@ -34,19 +35,27 @@ AreReports [] (left ∷ lefts) = ⊥
 AreReports (report ∷ reports) [] = ⊥
 AreReports (report ∷ reports) (left ∷ lefts) = IsReport report left × AreReports reports lefts
 
--- The clients were accepted, one after the other, on a sound image, and ran, each within its bound. What they leave is a sound
--- image again.
-pub record HasOutcome (image : List ℕ) (texts : List (List ℕ)) (input : List ℕ)
+-- The clients ran, each within its bound, and this is what they left. It is a sound image again.
+pub record AreLeftByRuns (image : List ℕ) (texts : List (List ℕ)) (input : List ℕ)
     (room base : ℕ) (moves : List Move) (taken taken_then : Option (List ℕ))
     (saved : List ℕ) (reports : List Report) (ended : Ended) : Type 0 where
   pub lefts : List Left
   pub outcome : IsOutcome image texts input room base moves lefts
-  pub within : StayWithin outcome.clients lefts
+  pub within : StayWithin outcome.can_run.clients lefts
   pub reports_are : AreReports reports lefts
   pub ended_is : ending_of ended ≡ ending_after lefts
   pub took : Took taken taken_then (outputs lefts)
   pub saved_is : saved ≡ image_after (upgraded image) lefts
   pub sound : IsSound saved
+
+-- The clients were accepted, one after the other, on a sound image. Where all of them leave frozen objects alone, runs of the
+-- abstract machine left the rest.
+pub record HasOutcome (image : List ℕ) (texts : List (List ℕ)) (input : List ℕ)
+    (room base : ℕ) (moves : List Move) (taken taken_then : Option (List ℕ))
+    (saved : List ℕ) (reports : List Report) (ended : Ended) : Type 0 where
+  pub can_run : CanRun image texts room base moves
+  pub left : AreUnshared texts →
+      AreLeftByRuns image texts input room base moves taken taken_then saved reports ended
 
 -- ---- none of them ran
 

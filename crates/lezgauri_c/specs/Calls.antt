@@ -3,7 +3,8 @@
 --     IsFaultAs image fault       what is wrong with an image, as it is told
 --     AcceptsClient ..            a sound image, and a client that it accepts, with this bound
 --     IsWrongAs image texts fault     what is wrong with an image or a client, as it is told
---     IsRun ..                    clients were accepted on a sound image, and ran
+--     IsRun ..                    clients were accepted on a sound image, and runs left the rest where they leave frozen
+--                                 objects alone
 --     HasRunIn ..                 and the caller's memory has what they left
 --     HasRunOn ..                 one client ran, on an image or on any bytes
 --     IsRefusedAs image texts fault   why no client ran, as it is told
@@ -20,7 +21,7 @@ use Rattle.client_run.specs.declared.report.Report as client_run_report
 use Rattle.client_run.specs.declared.report.Ended.{Ended}
 use Rattle.client_vm.specs.declared.outcome.Refused.{Refused}
 use Rattle.client_vm.specs.Admitted.{IsWrong}
-use Rattle.client_vm.specs.Reports.{IsReportOf}
+use Rattle.client_vm.specs.Reports.{IsReportOf, HasReportsOf}
 use Rattle.client_vm.specs.Outcomes.{HasOutcome, IsRefusedFor}
 use Rattle.lezgauri_c.specs.declared.fault.Fault.{Fault}
 use Rattle.lezgauri_c.specs.declared.report.Report.{Report}
@@ -63,6 +64,8 @@ pub record HasRunIn (image : List ℕ) (texts : List (List ℕ)) (input : List �
   pub size : ℕ
   pub reports : List client_run_report.Report
   pub run : IsRun image texts input (take written output) (take size saved) reports ended
+  -- whatever they do with frozen objects, each went a way through its code, within its bound
+  pub within : HasReportsOf texts reports ended
   pub written_there : written ≤ length output
   pub saved_there : size ≤ length saved
   pub told_are : told ≡ over (map told_report reports) told_before

@@ -27,7 +27,7 @@ use Rattle.client_spec.specs.Grammar.{client_bytes}
 use Rattle.client_spec.specs.Machine.{Register, State, with_name}
 use Rattle.client_spec.specs.Answer.{success}
 use Rattle.client_spec.specs.Effect.{outcome, effect}
-use Rattle.client_spec.specs.Typed.{RegisterType, unshared_after, rule, types_by}
+use Rattle.client_spec.specs.Typed.{RegisterType, rule, sharing_rule, types_by}
 use Rattle.client_spec.specs.Run.{Run, Nothing, finished}
 use Rattle.client_spec.specs.Pictures.{Pictures, AreOwned, names_in as names_of_picture, object_of}
 use Rattle.client_spec.specs.Asks.{ChangesBlocks}
@@ -278,7 +278,7 @@ has_run : RunsClient increment given left
 has_run = record { first = situation counted start first_host 0; is_first = is_first; last = situation (more (codes "42\n")) image (h6 first_host) 6; run = runs first_host; is_left = is_left }
 
 accepted : AreAccepted (counter_picture.table) (client_bytes increment ∷ []) (increment ∷ [])
-unfolding types_by rule
+unfolding types_by rule sharing_rule
 accepted = (increment_spelled, record { agree = refl; typed = (replicate 16 RegisterType.Undefined, refl); bounded = lit≤ tt }, tt)
 
 sized : IsImageLength (length counter)
@@ -291,10 +291,12 @@ room_fits = (refl, lit≤ tt, lit≤ tt)
 
 pub outcome_is : IsOutcome counter (client_bytes increment ∷ []) [] 2048 0 [] (left ∷ [])
 outcome_is = record {
-  can_move = record { lies = record { size = sized; room_fits = lit≤ tt; placed = room_fits }; fit = tt };
-  sound = record { picture = counter_picture; held = counter_held; counted = counter_counted; none_loose = refl };
-  clients = increment ∷ [];
-  accepted = accepted;
+  can_run = record {
+    can_move = record { lies = record { size = sized; room_fits = lit≤ tt; placed = room_fits }; fit = tt };
+    sound = record { picture = counter_picture; held = counter_held; counted = counter_counted; none_loose = refl };
+    clients = increment ∷ [];
+    accepted = accepted;
+  };
   host = replicate 2048 0;
   host_is = refl;
   runs = (has_run, tt);

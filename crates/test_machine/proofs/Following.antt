@@ -212,3 +212,5 @@ module _ (s : State) where
   rows constants Operation.DeleteKey a b c number room = bound (path_of s b) _ (λ p. bound (integer_at s c) _ (λ k. bound (path_value s p >>= entries_in) _ (λ es. either _ (key_place es.0 k) _ (λ i. given_put a _ p _) (given success a _))))
   rows constants Operation.FirstKey a b c number room = bound (path_of s b) _ (λ p. bound (path_value s p >>= entries_in) _ (λ es. key a es.0))
   rows constants Operation.NextKey a b c number room = bound (path_of s b) _ (λ p. bound (integer_at s c) _ (λ k. bound (path_value s p >>= entries_in) _ (λ es. key a _)))
+  rows constants Operation.Freeze a b c number room = none
+  rows constants Operation.Share a b c number room = none

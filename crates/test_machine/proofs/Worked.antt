@@ -1,5 +1,5 @@
 -- The increment is a client, and the image of the number 41 named x pictures the state that has just that.
-use Rattle.std.proofs.Common.{◌≡◌, ℕ, ◌<◌, pos, Bool, true, false, List, [], Some, None, refl, arith}
+use Rattle.std.proofs.Common.{◌≡◌, ℕ, ◌<◌, ◌≤◌, pos, Bool, true, false, List, [], Some, None, refl, lit≤, arith}
 use Rattle.std.specs.Prelude.{codes, option_map, if◌then◌else◌, FitsSigned}
 use Rattle.std.specs.Int.{w32}
 use Rattle.std.proofs.lemmas.Int.{ints}
@@ -13,7 +13,7 @@ use Rattle.client_spec.specs.declared.table.Operation.{Operation}
 use Rattle.client_spec.specs.Syntax.{Constant}
 use Rattle.client_spec.specs.declared.table.Role.{Role}
 use Rattle.client_spec.specs.Operations.{row_of}
-use Rattle.client_spec.specs.Grammar.{IsNameByte, IsConstant, IsOperand, IsNumber, IsInstruction, IsCode, IsClient, SpellsClient, listing, depth, client_bytes}
+use Rattle.client_spec.specs.Grammar.{file_version, IsNameByte, IsConstant, IsOperand, IsNumber, IsInstruction, IsCode, IsClient, SpellsClient, listing, depth, client_bytes}
 use Rattle.client_spec.specs.Pictures.{Pictures, names_in, object_of}
 use Rattle.client_spec.specs.Fixtures.{at, increment, counted}
 
@@ -28,23 +28,23 @@ fits n h = search (arith, ints)
 
 module _ (types : Table) (constants : List Constant) where
   -- an instruction whose operands are registers, by what each of them has to be
-  simple : (o : Operation) (role : Role) (a b c n : ℕ) → (row_of o).role ≡ role → IsOperand (row_of o).a a → IsOperand (row_of o).b b → IsOperand (row_of o).c c
+  simple : (o : Operation) (role : Role) (a b c n : ℕ) → (row_of o).role ≡ role → (row_of o).version ≤ file_version types → IsOperand (row_of o).a a → IsOperand (row_of o).b b → IsOperand (row_of o).c c
       → IsNumber types constants b (row_of o).number (pos n) → n < 2 → IsInstruction types constants role (at o a b c (pos n))
-  simple o role a b c n p x y z w l = record { role = p; a = x; b = y; c = z; number = w; range = fits n l }
+  simple o role a b c n p v x y z w l = record { role = p; version = v; a = x; b = y; c = z; number = w; range = fits n l }
 
 increment_code : IsCode increment.types increment.constants increment.code
 unfolding IsCode
 increment_code =
     let s = simple increment.types increment.constants in (
       (
-        s Operation.Find Role.Opener 0 16 16 0 refl (omega arith) (omega arith) (omega arith) (omega arith, refl) (omega arith),
+        s Operation.Find Role.Opener 0 16 16 0 refl (lit≤ tt) (omega arith) (omega arith) (omega arith) (omega arith, refl) (omega arith),
         (
-          s Operation.Load Role.Plain 1 0 0 0 refl (omega arith) (omega arith) refl refl (omega arith),
+          s Operation.Load Role.Plain 1 0 0 0 refl (lit≤ tt) (omega arith) (omega arith) refl refl (omega arith),
           (
-            s Operation.Const Role.Plain 2 0 0 1 refl (omega arith) refl refl tt (omega arith),
+            s Operation.Const Role.Plain 2 0 0 1 refl (lit≤ tt) (omega arith) refl refl tt (omega arith),
             (
-              s Operation.Add Role.Plain 1 1 2 0 refl (omega arith) (omega arith) (omega arith) refl (omega arith),
-              (s Operation.Store Role.Plain 0 0 1 0 refl refl (omega arith) (omega arith) refl (omega arith), (s Operation.OutInt Role.Plain 0 1 0 0 refl refl (omega arith) refl refl (omega arith), tt)),
+              s Operation.Add Role.Plain 1 1 2 0 refl (lit≤ tt) (omega arith) (omega arith) (omega arith) refl (omega arith),
+              (s Operation.Store Role.Plain 0 0 1 0 refl (lit≤ tt) refl (omega arith) (omega arith) refl (omega arith), (s Operation.OutInt Role.Plain 0 1 0 0 refl (lit≤ tt) refl (omega arith) refl refl (omega arith), tt)),
             ),
           ),
         ),

@@ -7,12 +7,12 @@ ghost use Rattle.client_spec.specs.Text.{text_of};
 ghost use Rattle.client_spec.specs.Run.{finished, stopped, stuck, bound};
 ghost use Rattle.client_spec.specs.Clients.{outputs, image_after, ending_after, table_after, StayWithin, AreMoves, IsFirstBadMove, IsLeftInPlace};
 ghost use Rattle.client_spec.specs.Safe.{IsFront, Writes};
-ghost use Rattle.client_spec.specs.Typed.{Reason, RegisterType, reason_number, unshared_after};
+ghost use Rattle.client_spec.specs.Typed.{Reason, RegisterType, reason_number, types_after, unshared_after};
 ghost use Rattle.client_spec.specs.Fixtures.{increment, chain, cycle, dangling, lost, retyped, three_turns, counting_down, idle, echo, kill_twice, as_a_text, nested, types, constants, beginning, counted, no_names, RunsTo, left_with, two_runs, given_at_0, move_to};
 ghost use Rattle.seg_spec.specs.Types.{Form};
 
 /// The client that adds one to x: its 103 bytes, its text, the most steps that it takes, and what is known after it.
-#[tactic(auto, unfolding(client_spec::specs::Grammar::client_bytes, client_spec::specs::Grammar::listing, client_spec::specs::Typed::unshared_after, client_spec::specs::Typed::rule))]
+#[tactic(auto, unfolding(client_spec::specs::Grammar::client_bytes, client_spec::specs::Grammar::listing, client_spec::specs::Typed::types_by, client_spec::specs::Typed::rule, client_spec::specs::Typed::sharing_rule))]
 pub fn the_increment()
     ensures bytes { client_bytes increment ≡
         83 ∷ 69 ∷ 71 ∷ 67 ∷ 1 ∷ 0 ∷ 0 ∷ 0 ∷ 1 ∷ 0 ∷ 0 ∷ 0 ∷ 1 ∷ 0 ∷ 0 ∷ 0 ∷ 8 ∷ 0 ∷ 0 ∷ 0
@@ -26,7 +26,9 @@ pub fn the_increment()
         ≡ codes "type i64\nname x\nFIND r0 - - t0 k0\nLOAD r1 r0\nCONST r2 1\n"
         ++ codes "ADD r1 r1 r2\nSTORE r0 r1\nOUTI r1\nELSE\nEND\n" }
     ensures steps { bound increment.code ≡ 6 }
-    ensures accepted { unshared_after increment.types increment.constants increment.code
+    ensures accepted { types_after increment.types increment.constants increment.code
+        (replicate 16 RegisterType.Undefined) ≡ Ok (replicate 16 RegisterType.Undefined) }
+    ensures unshared { unshared_after increment.types increment.constants increment.code
         (replicate 16 RegisterType.Undefined) ≡ Ok (replicate 16 RegisterType.Undefined) }
 {}
 
@@ -48,7 +50,7 @@ pub fn the_sharing()
 {}
 
 /// The client that makes a chain of 20,000 owned nodes and destroys it.
-#[tactic(auto, unfolding(client_spec::specs::Grammar::listing, client_spec::specs::Typed::unshared_after, client_spec::specs::Typed::rule))]
+#[tactic(auto, unfolding(client_spec::specs::Grammar::listing, client_spec::specs::Typed::types_by, client_spec::specs::Typed::rule, client_spec::specs::Typed::sharing_rule))]
 pub fn the_chain()
     ensures text { text_of chain
         ≡ codes "type i64\ntype own t2\ntype struct t0 t1\nname h\nCONST r0 20000\nCONST r1 1\n"
@@ -56,7 +58,7 @@ pub fn the_chain()
         ++ codes "TAKE r6 r2\nPUT r5 r6\nELSE\nEND\nPUT r2 r3\nELSE\nEND\nSUB r0 r0 r1\n"
         ++ codes "END\nELSE\nEND\nKILL r7 - t1 k0\n" }
     ensures steps { bound chain.code ≡ 160005 }
-    ensures accepted { unshared_after chain.types chain.constants chain.code
+    ensures accepted { types_after chain.types chain.constants chain.code
         (replicate 16 RegisterType.Undefined) ≡
         Ok (RegisterType.Int ∷ RegisterType.Int ∷ replicate 5 RegisterType.Undefined ++
         RegisterType.Int ∷ replicate 8 RegisterType.Undefined) }
@@ -64,15 +66,15 @@ pub fn the_chain()
 
 /// Clients that are refused: an object put into itself, a reference into a family of which an object may have been destroyed,
 /// an object that is never dropped, and a register that a loop changes.
-#[tactic(auto, unfolding(client_spec::specs::Typed::unshared_after, client_spec::specs::Typed::rule))]
+#[tactic(auto, unfolding(client_spec::specs::Typed::types_by, client_spec::specs::Typed::rule, client_spec::specs::Typed::sharing_rule))]
 pub fn refused()
-    ensures cycle { unshared_after cycle.types cycle.constants cycle.code
+    ensures cycle { types_after cycle.types cycle.constants cycle.code
         (replicate 16 RegisterType.Undefined) ≡ Err Reason.PutIntoItself }
-    ensures dangling { unshared_after dangling.types dangling.constants dangling.code
+    ensures dangling { types_after dangling.types dangling.constants dangling.code
         (replicate 16 RegisterType.Undefined) ≡ Err Reason.WrongOperand }
-    ensures lost { unshared_after types constants lost (replicate 16 RegisterType.Undefined) ≡
+    ensures lost { types_after types constants lost (replicate 16 RegisterType.Undefined) ≡
         Err Reason.OwnerLost }
-    ensures changed { unshared_after types constants retyped (replicate 16 RegisterType.Undefined) ≡
+    ensures changed { types_after types constants retyped (replicate 16 RegisterType.Undefined) ≡
         Err Reason.ChangedInLoop }
 {}
 

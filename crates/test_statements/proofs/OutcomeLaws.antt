@@ -17,7 +17,7 @@ use Rattle.client_spec.specs.Grammar.{SpellsClient, client_bytes}
 use Rattle.client_spec.specs.Run.{finished, stopped}
 use Rattle.client_spec.specs.OnImages.{Move, Given, Left}
 use Rattle.client_spec.specs.Clients.{IsVerified, AreAccepted, RunClients, table_after, outputs, image_after, ending_after}
-use Rattle.client_spec.specs.Outcome.{CanLie, CanMove, IsOutcome, Refusal, IsTurnOf, IsRefusalOf}
+use Rattle.client_spec.specs.Outcome.{CanLie, CanMove, CanRun, Refusal, IsTurnOf, IsRefusalOf}
 use Rattle.client_spec.specs.Fixtures.{increment, move_to}
 use Rattle.client_verify.specs.Refusals.{IsRefused}
 use Rattle.client_spec.proofs.OneClient.{one_client}
@@ -27,7 +27,7 @@ use Rattle.client_run.specs.declared.report.Report.{Report}
 use Rattle.client_vm.specs.declared.outcome.Refused.{Refused}
 use Rattle.client_run.specs.declared.report.Ended.{Ended}
 use Rattle.client_run.specs.declared.report.Ended.TheVariants as ended
-use Rattle.client_vm.specs.Outcomes.{AreReports, HasOutcome, IsFault, IsRefusedFor}
+use Rattle.client_vm.specs.Outcomes.{AreReports, AreLeftByRuns, HasOutcome, IsFault, IsRefusedFor}
 
 -- ---- every fault stands for a refusal
 
@@ -83,20 +83,20 @@ module _ (image : List ℕ) (texts : List (List ℕ)) (room base : ℕ) (moves :
   reason refused h = let s = stands refused.client refused.fault h in (s.refusal, s.holds)
 
   -- a refusal that isn't want of memory excludes an outcome
-  memory_alone : (refusal : Refusal) → IsRefusalOf image texts room base moves refusal → {input : List ℕ} {lefts : List Left} → IsOutcome image texts input room base moves lefts → refusal ≡ Refusal.no_memory
+  memory_alone : (refusal : Refusal) → IsRefusalOf image texts room base moves refusal → CanRun image texts room base moves → refusal ≡ Refusal.no_memory
   memory_alone Refusal.no_memory r o = refl
-  memory_alone Refusal.bad_size r o = absurd (whole.not_both image texts _ room base moves _ Refusal.bad_size (λ e. cc) r o)
-  memory_alone Refusal.misplaced r o = absurd (whole.not_both image texts _ room base moves _ Refusal.misplaced (λ e. cc) r o)
-  memory_alone (Refusal.bad_move k) r o = absurd (whole.not_both image texts _ room base moves _ (Refusal.bad_move k) (λ e. cc) r o)
-  memory_alone Refusal.bad_image r o = absurd (whole.not_both image texts _ room base moves _ Refusal.bad_image (λ e. cc) r o)
-  memory_alone (Refusal.bad_text k) r o = absurd (whole.not_both image texts _ room base moves _ (Refusal.bad_text k) (λ e. cc) r o)
-  memory_alone (Refusal.bad_client k) r o = absurd (whole.not_both image texts _ room base moves _ (Refusal.bad_client k) (λ e. cc) r o)
+  memory_alone Refusal.bad_size r o = absurd (whole.not_both image texts room base moves Refusal.bad_size (λ e. cc) r o)
+  memory_alone Refusal.misplaced r o = absurd (whole.not_both image texts room base moves Refusal.misplaced (λ e. cc) r o)
+  memory_alone (Refusal.bad_move k) r o = absurd (whole.not_both image texts room base moves (Refusal.bad_move k) (λ e. cc) r o)
+  memory_alone Refusal.bad_image r o = absurd (whole.not_both image texts room base moves Refusal.bad_image (λ e. cc) r o)
+  memory_alone (Refusal.bad_text k) r o = absurd (whole.not_both image texts room base moves (Refusal.bad_text k) (λ e. cc) r o)
+  memory_alone (Refusal.bad_client k) r o = absurd (whole.not_both image texts room base moves (Refusal.bad_client k) (λ e. cc) r o)
 
   pub not_both : (input : List ℕ) (taken taken_then : Option (List ℕ)) (saved : List ℕ) (reports : List Report) (how : Ended) (refused : Refused)
       → HasOutcome image texts input room base moves taken taken_then saved reports how → IsRefusedFor image texts room base moves refused → refused.fault ≡ fault.Memory
   not_both input taken taken_then saved reports how refused o h =
       let s = stands refused.client refused.fault h in
-      s.memory (memory_alone s.refusal s.holds o.outcome)
+      s.memory (memory_alone s.refusal s.holds o.can_run)
 
 -- ---- without clients
 
@@ -116,16 +116,21 @@ moves : CanMove counter 2048 0 []
 moves = record { lies = lies_at_0; fit = tt }
 
 pub no_client-whole : HasOutcome counter [] [] 2048 0 [] (Some (codes "=")) (Some (codes "=")) (upgraded counter) [] ended.Done
-no_client-whole = record {
-  lefts = [];
-  outcome = record { can_move = moves; sound = counter_sound; clients = []; accepted = tt; host = replicate 2048 0; host_is = refl; runs = tt };
-  within = tt;
-  reports_are = tt;
-  ended_is = refl;
-  took = refl;
-  saved_is = refl;
-  sound = upgraded_sound counter counter_sound;
-}
+no_client-whole =
+    let can_run : CanRun counter [] 2048 0 [] = record { can_move = moves; sound = counter_sound; clients = []; accepted = tt } in
+    record {
+      can_run = can_run;
+      left = λ unshared. record {
+        lefts = [];
+        outcome = record { can_run = can_run; host = replicate 2048 0; host_is = refl; runs = tt };
+        within = tt;
+        reports_are = tt;
+        ended_is = refl;
+        took = refl;
+        saved_is = refl;
+        sound = upgraded_sound counter counter_sound;
+      };
+    }
 
 no_lefts : (table : Table) (clients : List Client) (given : Given) (lefts : List Left) → AreAccepted table [] clients → RunClients clients given lefts → lefts ≡ []
 no_lefts table [] given [] a r = refl
@@ -133,36 +138,41 @@ no_lefts table [] given (left ∷ lefts) a r = absurd r
 no_lefts table (client ∷ clients) given lefts a r = absurd a
 
 module _ {input : List ℕ} {base : ℕ} {taken taken_then : Option (List ℕ)} {saved : List ℕ} {reports : List Report} {how : Ended} (o : HasOutcome counter [] input 2048 base [] taken taken_then saved reports how) where
-  nothing_left : o.lefts ≡ []
-  nothing_left = no_lefts o.outcome.sound.picture.table o.outcome.clients _ o.lefts o.outcome.accepted o.outcome.runs
+  pub left : AreLeftByRuns counter [] input 2048 base [] taken taken_then saved reports how
+  left = o.left tt
+
+  nothing_left : left.lefts ≡ []
+  nothing_left =
+      let can = left.outcome.can_run in
+      no_lefts can.sound.picture.table can.clients _ left.lefts can.accepted left.outcome.runs
 
   pub saved_same : saved ≡ upgraded counter
-  saved_same = o.saved_is ∙ ap (image_after (upgraded counter)) nothing_left
+  saved_same = left.saved_is ∙ ap (image_after (upgraded counter)) nothing_left
 
   pub no_reports : AreReports reports []
-  no_reports = subst (AreReports reports) nothing_left o.reports_are
+  no_reports = subst (AreReports reports) nothing_left left.reports_are
 
-  pub came_to_end : ending_after o.lefts ≡ finished
+  pub came_to_end : ending_after left.lefts ≡ finished
   came_to_end = ap ending_after nothing_left
 
-  pub wrote_nothing : outputs o.lefts ≡ []
+  pub wrote_nothing : outputs left.lefts ≡ []
   wrote_nothing = ap outputs nothing_left
 
 pub no_client-wrote : HasOutcome counter [] [] 2048 0 [] (Some (codes "=")) (Some (codes "=4")) (upgraded counter) [] ended.Done → ⊥
-no_client-wrote o = let e = subst (λ (bytes : List ℕ). Some (codes "=4") ≡ Some (61 ∷ bytes)) (wrote_nothing o) o.took in cc
+no_client-wrote o = let e = subst (λ (bytes : List ℕ). Some (codes "=4") ≡ Some (61 ∷ bytes)) (wrote_nothing o) (left o).took in cc
 
 pub no_client-another : HasOutcome counter [] [] 2048 0 [] None None empty [] ended.Done → ⊥
 unfolding counter empty
 no_client-another o = absurd (omega (arith, ap length (saved_same o), (upgrade_changes counter).length_kept))
 
 pub no_client-stopped : HasOutcome counter [] [] 2048 0 [] None None (upgraded counter) [] ended.OutputFailed → ⊥
-no_client-stopped o = let e : stopped ≡ finished = o.ended_is ∙ came_to_end o in cc
+no_client-stopped o = let e : stopped ≡ finished = (left o).ended_is ∙ came_to_end o in cc
 
 pub no_client-report : (report : Report) → HasOutcome counter [] [] 2048 0 [] None None (upgraded counter) (report ∷ []) ended.Done → ⊥
 no_client-report report o = no_reports o
 
 pub no_client-no_place : HasOutcome counter [] [] 2048 8 [] None None (upgraded counter) [] ended.Done → ⊥
-no_client-no_place o = absurd (omega (arith, o.outcome.can_move.lies.placed.0))
+no_client-no_place o = absurd (omega (arith, o.can_run.can_move.lies.placed.0))
 
 -- ---- refused
 

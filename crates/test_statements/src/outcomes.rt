@@ -12,7 +12,8 @@ ghost use Rattle.client_vm.specs.Outcomes.{HasOutcome, IsRefusedFor};
 use client_vm::{Ended, Refused, Report};
 use seg_raw::Fault;
 
-/// A fault that is told stands for one of the reasons why no client runs. But for memory, none of them holds where clients ran.
+/// A fault that is told stands for one of the reasons why no client runs. But for memory, none of them holds where clients ran,
+/// whatever they did.
 pub fn faults_and_outcomes()
     ensures reason { (image : List ℕ) (texts : List (List ℕ)) (room base : ℕ) (moves : List Move)
         (refused : Refused) →

@@ -51,7 +51,8 @@ returns-clause-outcome c sound =
     let from_none = subst (λ (taken : List ℕ). its (bytes_of (client_of c.in_ok-client.client)) taken) c.in_ok-sink.ensures.empty ran in
     let run = has_outcome (text ∷ []) [] input window (Some (before.room ∷ [])) saved (Some after) (told ∷ []) told.ended (subst (λ (t : List ℕ). its t []) file from_none) image (length image) 0 c.in_ok-window.ensures.bytes
     (ap length c.in_ok-window.ensures.region) c.in_ok-window.ensures.base (can_move image sound) in
-    let same = same_room image (text ∷ []) input (length image) 0 [] saved (told ∷ []) told.ended before.room sink.room sink.bytes.items run in
     let in_room = sink.in_room in
-    let room = c.in_ok-sink.ensures.room in
-    (told_bytes image (text ∷ []) input (length image) 0 [] saved (told ∷ []) told.ended before.room sink.room sink.bytes.items run, omega (arith, same, in_room, room))
+    let room = c.in_ok-sink.ensures.room in (
+      told_bytes image (text ∷ []) input (length image) 0 [] saved (told ∷ []) told.ended before.room sink.room sink.bytes.items run,
+      λ unshared. (let same = same_room image (text ∷ []) input (length image) 0 [] saved (told ∷ []) told.ended before.room sink.room sink.bytes.items (run.left unshared) in omega (arith, same, in_room, room)),
+    )

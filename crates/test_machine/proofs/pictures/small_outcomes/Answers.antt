@@ -7,7 +7,7 @@ use Rattle.client_spec.specs.Grammar.{SpellsClient, client_bytes}
 use Rattle.seg_spec.specs.Types.{Table}
 use Rattle.client_spec.specs.OnImages.{Given, Left}
 use Rattle.client_spec.specs.Clients.{AreAccepted, RunClients}
-use Rattle.client_spec.specs.Outcome.{CanLie, CanMove, IsOutcome, IsTurnOf}
+use Rattle.client_spec.specs.Outcome.{CanLie, CanMove, CanRun, IsOutcome, IsTurnOf}
 use Rattle.test_machine.proofs.pictures.small_outcomes.Goals as goal
 
 sized : IsImageLength (length counter)
@@ -25,8 +25,11 @@ lies_at_16 = record { size = sized; room_fits = lit≤ tt; placed = (refl, lit�
 moves : CanMove counter 2048 0 []
 moves = record { lies = lies_at_0; fit = tt }
 
+abbrev can_run : CanRun counter [] 2048 0 []
+can_run = record { can_move = moves; sound = counter_sound; clients = []; accepted = tt }
+
 outcome : IsOutcome counter [] [] 2048 0 [] []
-outcome = record { can_move = moves; sound = counter_sound; clients = []; accepted = tt; host = replicate 2048 0; host_is = refl; runs = tt }
+outcome = record { can_run = can_run; host = replicate 2048 0; host_is = refl; runs = tt }
 
 turn : IsTurnOf counter ([] ∷ []) 0 []
 turn = record { sound = counter_sound; clients = []; accepted = tt; text_is = refl }
@@ -42,7 +45,7 @@ too_many left table (client ∷ clients) given a r = a
 pub returns : goal.returns
 returns c = record {
   no_client = outcome;
-  too_many = λ left o. too_many left o.sound.picture.table o.clients _ o.accepted o.runs;
+  too_many = λ left o. too_many left o.can_run.sound.picture.table o.can_run.clients _ o.can_run.accepted o.runs;
   no_text = (moves, [], turn, no_client);
   no_image = λ h. absurd (omega (arith, h.not_small));
   no_place = (sized, λ l. absurd (omega (arith, l.placed.0)));
