@@ -3,6 +3,7 @@ pub mod MovesLaws
 pub mod NumberLaws
 pub mod WritingLaws
 pub mod PartLaws
+pub mod SharingLaws
 pub mod ObjectLaws
 pub mod MakingLaws
 pub mod OwnerLaws

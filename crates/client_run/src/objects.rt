@@ -1,13 +1,15 @@
 //! Named, unique and anonymous objects.
 
-ghost use Rattle.std.specs.Prelude.{◌≡◌, FitsSigned};
+ghost use Rattle.std.specs.Prelude.{◌≡◌, FitsSigned, None};
 ghost use Rattle.std.specs.Int.{w64};
+ghost use Rattle.seg_spec.specs.Pointer.{target};
+ghost use Rattle.seg_spec.specs.Types.{form_at};
 ghost use Rattle.seg_spec.specs.Window.{KeepsHost};
 ghost use Rattle.client_spec.specs.declared.table.Operation.{Operation};
 ghost use Rattle.client_program.specs.Paths.{number_at};
 ghost use Rattle.client_run.specs.Machines.{KeepsLoops};
 ghost use Rattle.client_run.specs.Named.{NamedIn, optional_in, IsOptional, FindsItem};
-ghost use Rattle.client_run.specs.Worlds.{Acts, Opens};
+ghost use Rattle.client_run.specs.Worlds.{Acts, Opens, shared_in};
 
 use crate::machine::Machine;
 use crate::name::{Name, name_of};
@@ -304,7 +306,7 @@ impl Machine<'_> {
 
 /// The value of the object that an own or a shared cell names, by its position.
 fn held_object<F: Fit, A: Allocator>(segment: &Segment<F, A>, holder: Place) -> Option<u32>
-    ensures { is_shared (form_at segment.now.types holder.type_id) ≡ false →
+    ensures { shared_in (form_at segment.now.types holder.type_id) ≡ None →
         result ≡ target segment.now.window.bytes holder.at }
 {
     match segment.types().kind(holder.type_id) {

@@ -7,7 +7,7 @@ ghost use Rattle.seg_spec.specs.Window.{KeepsHost};
 ghost use Rattle.client_program.specs.Paths.{number_at};
 ghost use Rattle.client_spec.specs.declared.table.Operation.{Operation};
 ghost use Rattle.client_run.specs.Machines.{KeepsLoops};
-ghost use Rattle.client_run.specs.Worlds.{Acts, GivesNumber, held_in};
+ghost use Rattle.client_run.specs.Worlds.{Acts, GivesNumber, held_in, shared_in};
 
 use crate::machine::Machine;
 use client_code::Instruction;
@@ -17,7 +17,7 @@ use seg_manager::Segment;
 use seg_value::{Held, Place};
 use std::alloc::Allocator;
 
-/// The type of what an own or a container holds.
+/// The type of what an own, a shared or a container holds.
 pub(crate) fn held_type<F: Fit, A: Allocator>(segment: &Segment<F, A>, holder: Place) -> TypeId
     ensures { (T : ℕ) → held_in (form_at segment.now.types holder.type_id) ≡ Some T → result ≡ T }
 {
@@ -26,7 +26,17 @@ pub(crate) fn held_type<F: Fit, A: Allocator>(segment: &Segment<F, A>, holder: P
             Held::Value(held) => held,
             Held::Bytes | Held::Pointer => holder.type_id,
         },
-        None => holder.type_id,
+        None => shared_type(segment, holder.type_id),
+    }
+}
+
+/// The type of the frozen objects that the cells of a type share.
+fn shared_type<F: Fit, A: Allocator>(segment: &Segment<F, A>, type_id: TypeId) -> TypeId
+    ensures { (T : ℕ) → shared_in (form_at segment.now.types type_id) ≡ Some T → result ≡ T }
+{
+    match segment.types().kind(type_id) {
+        Some(Type::Shared(shared)) => shared,
+        Some(_) | None => type_id,
     }
 }
 

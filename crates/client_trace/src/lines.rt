@@ -125,6 +125,10 @@ impl Lines {
                 self.text.push_str("-> ")?;
                 paths.add_to(&mut self.text, register)
             }
+            RegisterType::ReadOnly(_, _) => {
+                self.text.push_str("reads ")?;
+                paths.add_to(&mut self.text, register)
+            }
             RegisterType::Owner(type_id) => write!(self.text, "owns t{type_id}"),
         }
     }

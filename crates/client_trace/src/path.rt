@@ -28,7 +28,7 @@ pub(crate) enum Part {
     Key(i64),
     /// The field of a struct, from 0.
     Field(i32),
-    /// What an own holds.
+    /// What an own holds, or a cell shares.
     Content,
 }
 

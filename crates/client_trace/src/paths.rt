@@ -103,7 +103,9 @@ impl<'a> Paths<'a> {
             | Operation::Shrink
             | Operation::DeleteKey
             | Operation::FirstKey
-            | Operation::NextKey => None,
+            | Operation::NextKey
+            | Operation::Freeze
+            | Operation::Share => None,
         }
     }
 }

@@ -15,8 +15,9 @@ use std::alloc::{AllocError, Global};
 /// Runs a client on a segment, and writes a line for each instruction that it performs: the step's number, from 1, or `-` for
 /// the `END` at which a loop ends, which is no step; the instruction's number, from 0; its canonical text; and after `;` the
 /// registers of which something is known where the run goes on, with what they hold: `r1 = 41` a number,
-/// `r2 -> vector[3].field 1` a reference to the value that is reached so, `r3 owns t2` an object of type 2. What the
-/// instruction prints stands after it, as a line `out "42\n"`.
+/// `r2 -> vector[3].field 1` a reference to the value that is reached so, `r4 reads cell.content` one into a frozen object, by
+/// which nothing changes, `r3 owns t2` an object of type 2. What the instruction prints stands after it, as a line
+/// `out "42\n"`.
 ///
 /// The client's types must fit the segment's, to which they are added. Objects that registers still own are destroyed at the
 /// end. The memory for it doesn't grow with the steps.

@@ -30,8 +30,8 @@ pub struct Verified<'a> {
 impl<'a> Verified<'a> {
     ghost use Rattle.client_verify.specs.Accepted.{client_of};
 
-    /// The client. Where it leaves frozen objects alone it never meets an instruction without a row, and takes no more steps than
-    /// its bound.
+    /// The client. Where it leaves frozen objects alone it never meets an instruction without a row, and takes no more steps
+    /// than its bound.
     pub fn client(&self) -> Client<'a>
         ensures client { result ≡ client_of self.now }
         ensures safe { OfTree result (λ tree. IsUnshared tree → NeverGoesWrong tree) }

@@ -182,7 +182,7 @@ impl<'a> File<'a> {
             None => Flaw::Number(
                 "",
                 usize::from(spelled.first().copied().unwrap_or_default()),
-                " is no operation: they are 1 to 50",
+                " is no operation: they are 1 to 52",
             ),
         }
     }
@@ -200,7 +200,7 @@ impl<'a> File<'a> {
 
     /// What stands in front of the instruction with a number.
     fn outline(&self, number: usize) -> Outline {
-        let mut outline = Outline::new(self.type_count());
+        let mut outline = Outline::new(self.type_count(), word(self.bytes, 4));
         let code = self.add_constants(&mut outline);
         for spelled in self
             .bytes

@@ -115,6 +115,13 @@ impl fmt::Display for Known<'_> {
                 let (to, whole) = (self.names.type_of(to), self.names.whole(class));
                 return write!(f, "{lead} to a value of {to}, of {whole}");
             }
+            RegisterType::ReadOnly(class, to) => {
+                let (to, whole) = (self.names.type_of(to), self.names.whole(class));
+                return write!(
+                    f,
+                    "{lead} to a value of {to}, of a frozen object that is shared by {whole}"
+                );
+            }
             RegisterType::Owner(of) => {
                 let of = self.names.type_of(of);
                 return write!(f, "{own} an object of {of}");

@@ -9,10 +9,11 @@ pub(crate) const MOST_CONSTANTS: usize = 256;
 /// The most turns of a loop.
 const TURNS: i32 = 1_000_000_000;
 
-/// What stands in front of an instruction of a client, and how many types the whole client has.
+/// What stands in front of an instruction of a client, and how many types and which version the whole client has.
 #[derive(Drop)]
 pub(crate) struct Outline {
     pub(crate) types: usize,
+    version: u32,
     /// The kinds of the constants.
     pub(crate) constants: ArrayVec<ConstantKind, MOST_CONSTANTS>,
     pub(crate) instructions: u32,
@@ -20,9 +21,10 @@ pub(crate) struct Outline {
 }
 
 impl Outline {
-    pub(crate) fn new(types: usize) -> Outline {
+    pub(crate) fn new(types: usize, version: u32) -> Outline {
         Outline {
             types,
+            version,
             constants: ArrayVec::new(),
             instructions: 0,
             nesting: Nesting::new(),
@@ -47,6 +49,9 @@ impl Outline {
     /// The first thing that is wrong with an instruction here.
     pub(crate) fn flaw(&mut self, instruction: Instruction) -> Option<Flaw<'static>> {
         let row = instruction.operation.row();
+        if row.version > self.version {
+            return Some(Flaw::Unmet(rule::VERSION));
+        }
         let Instruction { a, b, c, .. } = instruction;
         for (letter, operand, n) in [('a', row.a, a), ('b', row.b, b), ('c', row.c, c)] {
             if !is_operand(operand, n) {

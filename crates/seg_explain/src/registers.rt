@@ -27,15 +27,17 @@ pub(crate) struct Demand {
     need: Need,
     /// The field that a struct should have.
     field: i32,
-    /// What the own holds that an object is put into.
+    /// What the own or the cell holds that register b leads to.
     content: Option<NumberedType>,
+    /// Whether the register leads into a frozen object.
+    is_read_only: bool,
 }
 
 impl Demand {
     /// What the first of registers b and c should be that isn't what the instruction needs.
     pub(crate) fn unmet(names: &Names, registers: &Registers, instruction: Instruction) -> Demand {
         let row = instruction.operation.row();
-        let content = own_content(names, registers.get(instruction.b));
+        let content = held_content(names, registers.get(instruction.b));
         let (register, need) = if is_first_met(names, registers, instruction, content) {
             (instruction.c, row.needs_c)
         } else {
@@ -46,25 +48,23 @@ impl Demand {
             need,
             field: instruction.number,
             content: content.map(|content| names.type_of(content)),
+            is_read_only: matches!(registers.get(register), RegisterType::ReadOnly(_, _)),
         }
     }
 }
 
-/// What the own holds that a register leads to.
-fn own_content(names: &Names, holds: RegisterType) -> Option<TypeId> {
-    match holds {
-        RegisterType::Reference(_, to) => match names.types().kind(to)? {
-            Type::Own(content) => Some(content),
-            Type::I64
-            | Type::Str
-            | Type::Vec(_)
-            | Type::List(_)
-            | Type::FlatMap(_)
-            | Type::Map(_)
-            | Type::Struct(_)
-            | Type::Shared(_) => None,
-        },
-        RegisterType::Undefined | RegisterType::Int | RegisterType::Owner(_) => None,
+/// What the own or the cell holds that a register leads to.
+fn held_content(names: &Names, holds: RegisterType) -> Option<TypeId> {
+    let (_, to) = holds.led()?;
+    match names.types().kind(to)? {
+        Type::Own(content) | Type::Shared(content) => Some(content),
+        Type::I64
+        | Type::Str
+        | Type::Vec(_)
+        | Type::List(_)
+        | Type::FlatMap(_)
+        | Type::Map(_)
+        | Type::Struct(_) => None,
     }
 }
 
@@ -80,7 +80,12 @@ fn is_first_met(
     let right_c = match instruction.operation.row().needs_c {
         Need::Int | Need::IntOrNone => Some(RegisterType::Int),
         Need::Content => content.map(RegisterType::Owner),
-        Need::Nothing | Need::Copyable | Need::Owner | Need::Reference(_) => None,
+        Need::Alike => Some(registers.get(instruction.b)),
+        Need::Nothing
+        | Need::Copyable
+        | Need::Owner
+        | Need::Reference(_)
+        | Need::Changeable(_) => None,
     };
     let tried = match right_c {
         Some(holds) => {
@@ -103,17 +108,28 @@ impl fmt::Display for Demand {
             }
             (Need::Owner, _) | (Need::Content, None) => "own an object",
             (Need::Content, Some(content)) => return write!(f, "own an object of {content}"),
-            (Need::Reference(Kinds::Struct), _) => {
+            (Need::Reference(Kinds::Struct) | Need::Changeable(Kinds::Struct), _) => {
                 let field = self.field;
                 return write!(
                     f,
                     "lead to a struct that has a field {field}, counted from 0"
                 );
             }
-            (Need::Reference(kinds), _) => {
+            (Need::Changeable(kinds), _) if self.is_read_only => {
+                let kinds = kinds_words(kinds);
+                return write!(
+                    f,
+                    "lead to {kinds} that may be changed, and what is frozen is only read"
+                );
+            }
+            (Need::Reference(kinds) | Need::Changeable(kinds), _) => {
                 let kinds = kinds_words(kinds);
                 return write!(f, "lead to {kinds}");
             }
+            (Need::Alike, Some(content)) => {
+                return write!(f, "lead to a shared whose object is of {content}");
+            }
+            (Need::Alike, None) => "lead to a shared",
         };
         f.write_str(words)
     }
@@ -126,6 +142,8 @@ fn kinds_words(kinds: Kinds) -> &'static str {
         Kinds::Str => "a str",
         Kinds::List => "a list",
         Kinds::Own => "an own",
+        Kinds::Shared => "a shared",
+        Kinds::Holder => "an own or a shared",
         Kinds::Struct => "a struct",
         Kinds::Sequence => "a vector or a list",
         Kinds::Indexed => "a str, a vector or a list",

@@ -5,7 +5,7 @@ use crate::quoted::Quoted;
 use crate::registers::{Demand, used};
 use crate::replay::{Change, Part, Replay};
 use crate::text::line;
-use client_code::{Client, Gives, Instruction, REGISTERS, Role, print};
+use client_code::{Client, Ends, Gives, Instruction, REGISTERS, Role, print};
 use client_verify::{Class, MOST_STEPS, Reason, RegisterType, Registers};
 use std::alloc::{AllocError, Global};
 use std::fmt::Write;
@@ -37,7 +37,7 @@ pub(crate) fn add_rejection(
     if let Some(instruction) = client.instruction(number) {
         refusal.add_registers(text, instruction, reason)?;
     }
-    text.push_str(rule(reason))
+    text.push_str(rule(reason, client.instruction(number)))
 }
 
 /// Adds how many steps a client takes at most.
@@ -75,16 +75,34 @@ fn lines_before(client: &Client) -> u32 {
     client.type_count().saturating_add(constants)
 }
 
-/// The rule that a reason stands for.
-fn rule(reason: u8) -> &'static str {
+/// The rule that a reason stands for, at an instruction.
+fn rule(reason: u8, instruction: Option<Instruction>) -> &'static str {
     if reason == Reason::WrongOperand.number() {
         "each register has to hold what the operation needs, on every way to the instruction\n"
     } else if reason == Reason::OwnerLost.number() {
         "an owned object may not be lost: PUT it into an own, or DROP it\n"
     } else if reason == Reason::PutIntoItself.number() {
-        "an object may not own itself: PUT it where it isn't inside itself\n"
+        of_holding(instruction)
     } else {
         "a loop's body has to leave each register that was defined in front of the loop as it was\n"
+    }
+}
+
+/// Why an object isn't put or frozen into itself.
+fn of_holding(instruction: Option<Instruction>) -> &'static str {
+    match instruction.map(|it| it.operation.row().ends) {
+        Some(Ends::Frozen) => {
+            "an object may not share itself: FREEZE it into a cell that isn't inside it\n"
+        }
+        Some(
+            Ends::Nothing
+            | Ends::Others
+            | Ends::Name
+            | Ends::Unique
+            | Ends::Dropped
+            | Ends::Moved,
+        )
+        | None => "an object may not own itself: PUT it where it isn't inside itself\n",
     }
 }
 
@@ -262,19 +280,13 @@ impl<'a> Refusal<'a> {
 
     /// Adds how a reference that ended comes again.
     fn add_again(&self, text: &mut String, held: RegisterType) -> Result<(), AllocError> {
-        match held {
-            RegisterType::Reference(Class::Name(_), _) => text.push_str(": FIND the object again"),
-            RegisterType::Reference(Class::Unique(_), _) => {
-                text.push_str(": UFIND the object again")
-            }
-            RegisterType::Reference(Class::Register(owner), _)
-                if self.registers().get(owner).is_owner() => {
+        match held.led() {
+            Some((Class::Name(_), _)) => text.push_str(": FIND the object again"),
+            Some((Class::Unique(_), _)) => text.push_str(": UFIND the object again"),
+            Some((Class::Register(owner), _)) if self.registers().get(owner).is_owner() => {
                 write!(text, ": REF r{owner} again")
             }
-            RegisterType::Reference(Class::Register(_), _)
-            | RegisterType::Undefined
-            | RegisterType::Int
-            | RegisterType::Owner(_) => Ok(()),
+            Some((Class::Register(_), _)) | None => Ok(()),
         }
     }
 }

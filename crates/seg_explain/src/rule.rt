@@ -34,6 +34,8 @@ pub(crate) const DIFFER: &str = "the name should differ from those before it";
 
 pub(crate) const NO_NUMBER: &str = "the operation has no number, which should be 0";
 
+pub(crate) const VERSION: &str = "only a client with a type `shared` has the operation";
+
 pub(crate) const TURNS: &str = "a loop should have 1 to 1000000000 turns";
 
 pub(crate) const CLOSED: &str =

@@ -83,7 +83,7 @@ impl Statement {
 
 /// What stands in front of the line with a number, and the types of the whole text.
 fn outline(source: &[u8], number: u32) -> Outline {
-    let mut outline = Outline::new(type_count(source));
+    let mut outline = Outline::new(type_count(source), version(source));
     let mut lines = Pieces::lines(source);
     for _ in 1..number {
         match lines.next() {
@@ -115,6 +115,21 @@ fn type_count(source: &[u8]) -> usize {
         }
     }
     count
+}
+
+/// The version of a client file with the types of a text.
+fn version(source: &[u8]) -> u32 {
+    let mut lines = Pieces::lines(source);
+    for _ in 0..source.len() {
+        match lines.next() {
+            Some(line) if first_word(line) == b"type".as_slice()
+                && second_word(line) == b"shared".as_slice() =>
+                return 2,
+            Some(_) => {}
+            None => break,
+        }
+    }
+    1
 }
 
 fn line_flaw<'a>(source: &[u8], number: u32, line: &'a [u8]) -> Flaw<'a> {

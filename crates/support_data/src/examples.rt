@@ -92,6 +92,73 @@ ELSE
 END
 ";
 
+/// The text of `examples/publish.text`.
+pub const PUBLISH: &str =
+    r"; Publishes a notice, a number and a text: it is frozen under the name `latest`, and shared under the name `shown`. From then on
+; no client changes it; each run publishes another one.
+type i64
+type str
+type struct t0 t1
+type shared t2
+name latest
+name shown
+text closed on Monday
+text no room\0a
+CONST r1 7
+FINDOR r2 - t3 k0
+  FINDOR r3 - t3 k1
+    NEW r4 t2
+      REF r5 r4
+      FIELD r6 r5 0
+      STORE r6 r1
+      FIELD r6 r5 1
+      SETS r7 r6 k2
+        FREEZE r7 r2 r4
+          SHARE r3 r2
+        ELSE
+          DROP r4
+          OUTC k3
+        END
+      ELSE
+        DROP r4
+        OUTC k3
+      END
+    ELSE
+      OUTC k3
+    END
+  ELSE
+    OUTC k3
+  END
+ELSE
+  OUTC k3
+END
+";
+
+/// The text of `examples/notice.text`.
+pub const NOTICE: &str = r"; Prints the notice that is shown: its number, and its text.
+type i64
+type str
+type struct t0 t1
+type shared t2
+name shown
+text no notice\0a
+text \0a
+FIND r0 - - t3 k0
+  CONTENT r1 r0
+    FIELD r2 r1 0
+    LOAD r3 r2
+    OUTI r3
+    FIELD r2 r1 1
+    OUTS r2
+    OUTC k2
+  ELSE
+    OUTC k1
+  END
+ELSE
+  OUTC k1
+END
+";
+
 /// The text of `examples/cache.text`.
 pub const CACHE: &str =
     r"; A cache of three entries, asked for the bytes of the input. A byte that isn't there is entered with its square, and the

@@ -9,7 +9,7 @@ mod output;
 mod random;
 
 pub use clients::{INCREMENT, INCREMENT_FILE, chain};
-pub use examples::{CACHE, CONFIGURE, COUNT, SETTINGS};
+pub use examples::{CACHE, CONFIGURE, COUNT, NOTICE, PUBLISH, SETTINGS};
 pub use images::{counter, counter_saved, counter_with, front, sharing, write, write_words};
 pub use output::Limited;
 pub use random::Random;

@@ -18,6 +18,7 @@ mod places;
 mod plays;
 mod random_clients;
 mod runs;
+mod sharing;
 mod sizes;
 mod traces;
 mod uses;

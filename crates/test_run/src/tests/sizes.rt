@@ -13,6 +13,7 @@ pub(crate) const MAKE_EACH_KIND: &str = "type i64
     type map t1
     type own t7
     type struct t0 t1
+    type shared t0
     name a
     name b
     name c
@@ -113,6 +114,19 @@ text a text of forty bytes, which is 3 units.
     ELSE
       OUTI r0
     END
+    UMAKE r0 t8
+      NEW r3 t0
+        FREEZE r4 r0 r3
+        ELSE
+          OUTI r4
+          DROP r3
+        END
+      ELSE
+        OUTI r3
+      END
+    ELSE
+      OUTI r0
+    END
 ";
 
 /// Destroys what [`MAKE_EACH_KIND`] made.
@@ -123,7 +137,8 @@ const KILL_EACH_KIND: &str = "KILL r0 - t0 k0
     KILL r0 - t4 k4
     KILL r0 r1 t5 k5
     UKILL r0 t6
-    UKILL r0 t7";
+    UKILL r0 t7
+    UKILL r0 t8";
 
 /// Whether each line of an output is the code for want of room. How many there are.
 fn codes(rt: &impl Abort, out: &[u8]) -> usize {
@@ -156,8 +171,8 @@ fn leaves_nothing(
 fn leaves_nothing_on_each_size(rt: HostRuntime) -> Result<(), Fail> {
     let text = format!(in rt.alloc(); "{MAKE_EACH_KIND}{KILL_EACH_KIND}")?;
     for kind in KINDS {
-        // six named objects, the object for the own, and the second unique one
-        assert_eq!(rt; leaves_nothing(&rt, text.as_str(), kind, 46)?, 8);
+        // six named objects, the object for the own, and the second and the third unique one
+        assert_eq!(rt; leaves_nothing(&rt, text.as_str(), kind, 46)?, 9);
         for units in 47..256 {
             let _ = leaves_nothing(&rt, text.as_str(), kind, units)?;
         }

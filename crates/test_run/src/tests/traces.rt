@@ -150,6 +150,52 @@ const CHAIN_END: &str = r#"
 out "012345678901234567890123456789012345678901234567890123456789".. of 61
 "#;
 
+/// A number is frozen, shared, and read in the second cell.
+const SHARES: &str = "type i64
+type shared t0
+name a
+name b
+CONST r4 7
+MAKE r0 - - t1 k0
+  MAKE r1 - - t1 k1
+    NEW r2 t0
+      REF r3 r2
+      STORE r3 r4
+      FREEZE r5 r0 r2
+        SHARE r1 r0
+        KILL r6 - t1 k0
+        CONTENT r7 r1
+          LOAD r8 r7
+          OUTI r8
+        ELSE
+        END
+      ELSE
+        DROP r2
+      END
+    ELSE
+    END
+  ELSE
+  END
+ELSE
+END
+";
+
+/// What was owned is nobody's after `FREEZE`, and what is frozen is read.
+const SHARES_TRACE: &str = r#"     1    0  CONST r4 7         ; r4 = 7
+     2    1  MAKE r0 - - t1 k0  ; r0 -> a, r4 = 7
+     3    2  MAKE r1 - - t1 k1  ; r0 -> a, r1 -> b, r4 = 7
+     4    3  NEW r2 t0          ; r0 -> a, r1 -> b, r2 owns t0, r4 = 7
+     5    4  REF r3 r2          ; r0 -> a, r1 -> b, r2 owns t0, r3 -> r2.content, r4 = 7
+     6    5  STORE r3 r4        ; r0 -> a, r1 -> b, r2 owns t0, r3 -> r2.content, r4 = 7
+     7    6  FREEZE r5 r0 r2    ; r0 -> a, r1 -> b, r4 = 7, r5 = 1
+     8    7  SHARE r1 r0        ; r0 -> a, r1 -> b, r4 = 7, r5 = 1
+     9    8  KILL r6 - t1 k0    ; r1 -> b, r4 = 7, r5 = 1, r6 = 1
+    10    9  CONTENT r7 r1      ; r1 -> b, r4 = 7, r5 = 1, r6 = 1, r7 reads b.content
+    11   10  LOAD r8 r7         ; r1 -> b, r4 = 7, r5 = 1, r6 = 1, r7 reads b.content, r8 = 7
+    12   11  OUTI r8            ; r4 = 7
+out "7\n"
+"#;
+
 /// The trace of the client that a text spells on an empty segment, of which the output takes so many bytes, and how it ended.
 fn traced(
     alloc: Global,
@@ -179,6 +225,11 @@ fn traces_steps_and_output(rt: HostRuntime) -> Result<(), Fail> {
 #[test]
 fn traces_references(rt: HostRuntime) -> Result<(), Fail> {
     traces(&rt, REFERS, REFERS_TRACE)
+}
+
+#[test]
+fn traces_what_is_shared(rt: HostRuntime) -> Result<(), Fail> {
+    traces(&rt, SHARES, SHARES_TRACE)
 }
 
 #[test]

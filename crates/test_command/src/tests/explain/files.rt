@@ -47,7 +47,10 @@ byte 36 of the client file begins constant 0
 4 is no kind: 1 is a text, 2 an exact name, 3 a family
 === 103 39 51
 byte 39 of the client file begins instruction 0
-51 is no operation: they are 1 to 50
+only a client with a type `shared` has the operation
+=== 103 39 53
+byte 39 of the client file begins instruction 0
+53 is no operation: they are 1 to 52
 === 103 48 16
 byte 47 of the client file begins instruction 1
 operand a should be a register, r0 to r15

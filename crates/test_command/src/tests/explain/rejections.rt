@@ -52,6 +52,97 @@ r2 should lead to an i64
 each register has to hold what the operation needs, on every way to the instruction
 ===
 type i64
+type shared t0
+name b
+FIND r0 - - t1 k0
+CONTENT r1 r0
+CONST r2 1
+STORE r1 r2
+ELSE
+END
+ELSE
+END
+---
+instruction 3, line 7 of the printed text: `STORE r1 r2`
+r1 leads to a value of type 0 (i64), of a frozen object that is shared by the objects of name `b`
+r2 holds a number
+r1 should lead to an i64 that may be changed, and what is frozen is only read
+each register has to hold what the operation needs, on every way to the instruction
+===
+type i64
+type shared t0
+name b
+FIND r0 - - t1 k0
+CONTENT r1 r0
+SHARE r0 r0
+LOAD r2 r1
+ELSE
+END
+ELSE
+END
+---
+instruction 3, line 7 of the printed text: `LOAD r2 r1`
+r1 holds nothing that may be used
+r1 led to a value of type 0 (i64), of a frozen object that is shared by the objects of name `b`, until `SHARE r0 r0` in line 6: FIND the object again
+r1 should lead to an i64
+each register has to hold what the operation needs, on every way to the instruction
+===
+type i64
+type shared t0
+type own t0
+name b
+name c
+FIND r0 - - t1 k0
+FIND r1 - - t2 k1
+SHARE r0 r1
+ELSE
+END
+ELSE
+END
+---
+instruction 2, line 8 of the printed text: `SHARE r0 r1`
+r0 leads to a value of type 1 (shared of type 0), of the objects of name `b`
+r1 leads to a value of type 2 (own of type 0), of the objects of name `c`
+r1 should lead to a shared whose object is of type 0 (i64)
+each register has to hold what the operation needs, on every way to the instruction
+===
+type i64
+type str
+type shared t0
+name b
+FIND r0 - - t2 k0
+NEW r1 t1
+FREEZE r2 r0 r1
+ELSE
+DROP r1
+END
+ELSE
+END
+ELSE
+END
+---
+instruction 2, line 7 of the printed text: `FREEZE r2 r0 r1`
+r0 leads to a value of type 2 (shared of type 0), of the objects of name `b`
+r1 owns an object of type 1 (str)
+r1 should own an object of type 0 (i64)
+each register has to hold what the operation needs, on every way to the instruction
+===
+type shared t0
+NEW r1 t0
+REF r0 r1
+FREEZE r2 r0 r1
+ELSE
+DROP r1
+END
+ELSE
+END
+---
+instruction 2, line 4 of the printed text: `FREEZE r2 r0 r1`
+r0 leads to a value of type 0 (shared of type 0), of the object that r1 owns
+r1 owns an object of type 0 (shared of type 0)
+an object may not share itself: FREEZE it into a cell that isn't inside it
+===
+type i64
 type vec t0
 family v
 CONST r9 7

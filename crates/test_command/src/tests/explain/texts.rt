@@ -34,6 +34,22 @@ ADD r0 r1
 line 1: `ADD r0 r1`
 3 words should follow ADD, and 2 do
 ===
+type i64
+type own t0
+FREEZE r2 r0 r1
+ELSE
+END
+---
+line 3: `FREEZE r2 r0 r1`
+only a client with a type `shared` has the operation
+===
+type i64
+type shared t0
+SHARE r0 r1 r2
+---
+line 3: `SHARE r0 r1 r2`
+2 words should follow SHARE, and 3 do
+===
 CONST r16 1
 ---
 line 1: `CONST r16 1`

@@ -1,0 +1,632 @@
+//! Clients that freeze objects, share them and read them. What is printed and left is worked out by hand: an empty segment of
+//! 1024 bytes has a heap of 320 at 704, in which a number, a cell and a frozen number take 32 bytes each.
+
+use crate::tests::plays::plays;
+use crate::tests::runs::{
+    KINDS, Kind, PLAIN, Ran, SEQ_FLAT, Setting, client, empty, leaves, outcome_of, run_anew,
+    run_in, run_on, verified,
+};
+use crate::tests::windows::window;
+use client_vm::Ended;
+use seg_check::check;
+use seg_layout::TypeTable;
+use seg_raw::Fault;
+use std::alloc::Global;
+use std::process::Abort;
+use std::test::Fail;
+use support_data::{NOTICE, PUBLISH, write_words};
+
+/// Freezes a number into a cell, shares it in another, and reads it there after the first cell went.
+const SHARE: &str = "type i64
+    type shared t0
+    name a
+    name b
+    CONST r4 7
+    MAKE r0 - - t1 k0
+      MAKE r1 - - t1 k1
+        NEW r2 t0
+          REF r3 r2
+          STORE r3 r4
+          FREEZE r5 r0 r2
+            SHARE r1 r0
+            KILL r6 - t1 k0
+            CONTENT r7 r1
+              LOAD r8 r7
+              OUTI r8
+            ELSE
+            END
+          ELSE
+            DROP r2
+          END
+        ELSE
+        END
+      ELSE
+      END
+    ELSE
+    END";
+
+/// Freezes a number into the cell `a`, or prints why not.
+const FREEZE: &str = "type i64
+    type shared t0
+    name a
+    CONST r4 7
+    MAKE r0 - - t1 k0
+      NEW r2 t0
+        REF r3 r2
+        STORE r3 r4
+        FREEZE r5 r0 r2
+        ELSE
+          OUTI r5
+          DROP r2
+        END
+      ELSE
+      END
+    ELSE
+    END";
+
+/// The image that [`SHARE`] leaves. The cell `b` is at 800, and what it names at 864.
+fn shared_image(alloc: Global) -> Result<Vec<u8>, Fail> {
+    Ok(run_anew(alloc, 1024, SEQ_FLAT, &[SHARE])?.image)
+}
+
+#[test]
+fn a_frozen_number_is_shared_and_read(rt: HostRuntime) -> Result<(), Fail> {
+    let text = format!(in rt.alloc();
+        "> client share
+        {SHARE}
+        > client kill
+            type i64
+            type shared t0
+            name b
+            KILL r0 - t1 k0
+            OUTI r0
+        > on 1024 share; free 208 named 1 steps 12
+        7
+        > then kill; free 320 named 0 largest 320
+        1"
+    )?;
+    plays(rt.alloc(), &KINDS, text.as_str())
+}
+
+/// Each of its instructions but those of the else parts is a step.
+#[test]
+fn the_steps_of_sharing_are_the_bound(rt: HostRuntime) -> Result<(), Fail> {
+    let file = client(rt.alloc(), SHARE)?;
+    let accepted = verified(file.as_slice(), &TypeTable::new())?;
+    assert_eq!(rt; accepted.bound(), 12);
+    Ok(())
+}
+
+/// So many words at a position of an image.
+fn words(alloc: Global, words: &[u32]) -> Result<Vec<u8>, Fail> {
+    let mut bytes = Vec::new(alloc);
+    for word in words {
+        bytes.extend_from_slice(&word.to_le_bytes())?;
+    }
+    Ok(bytes)
+}
+
+/// The cell names what begins 64 bytes after it, which one cell names, is the first frozen object, and holds 7.
+#[test]
+fn the_bytes_of_what_is_shared(rt: HostRuntime) -> Result<(), Fail> {
+    let image = shared_image(rt.alloc())?;
+    let cell = words(rt.alloc(), &[64, 1])?;
+    let frozen = words(rt.alloc(), &[1, 0, 7, 0])?;
+    assert_eq!(rt; image.as_slice().get(800..808), Some(cell.as_slice()));
+    assert_eq!(rt; image.as_slice().get(864..880), Some(frozen.as_slice()));
+    Ok(())
+}
+
+/// The image that [`SHARE`] leaves, with another word.
+fn changed(alloc: Global, at: usize, word: u32) -> Result<Vec<u8>, Fail> {
+    let mut image = shared_image(alloc)?;
+    write_words(image.as_mut_slice(), at, &[word]);
+    Ok(image)
+}
+
+fn checked(alloc: Global, image: &[u8]) -> Result<(), Fault> {
+    check(alloc, &window(alloc, image)?)?;
+    Ok(())
+}
+
+/// A count that isn't that of the cells, and a number that isn't below the next one.
+#[test]
+fn wrong_counts_and_numbers_are_refused(rt: HostRuntime) -> Result<(), Fail> {
+    for (at, word) in [(864, 2), (868, 1)] {
+        let image = changed(rt.alloc(), at, word)?;
+        assert_eq!(rt;
+            checked(rt.alloc(), image.as_slice()),
+            Err(Fault::BadValue(864))
+        );
+    }
+    Ok(())
+}
+
+/// No number is left: nothing is frozen, and the object is still there to be dropped.
+#[test]
+fn numbers_are_used_up(rt: HostRuntime) -> Result<(), Fail> {
+    let image = changed(rt.alloc(), 28, u32::MAX)?;
+    assert_eq!(rt; checked(rt.alloc(), image.as_slice()), Ok(()));
+    let ran = run_on(rt.alloc(), image.as_slice(), &[FREEZE])?;
+    // the cell `a` comes where it was before
+    leaves(&rt, &ran, "7\n", 176, 2)
+}
+
+/// What is frozen is only read.
+#[test]
+fn what_is_frozen_is_not_changed(rt: HostRuntime) -> Result<(), Fail> {
+    let image = shared_image(rt.alloc())?;
+    let file = client(
+        rt.alloc(),
+        "type i64
+        type shared t0
+        name b
+        FIND r0 - - t1 k0
+          CONTENT r1 r0
+            CONST r2 1
+            STORE r1 r2
+          ELSE
+          END
+        ELSE
+        END",
+    )?;
+    match outcome_of(rt.alloc(), image.as_slice(), &[file.as_slice()], PLAIN) {
+        Ok(_) => Err(Fail::from("ran")),
+        Err(refused) => {
+            assert_eq!(rt;
+                refused.fault,
+                Fault::Rejected {
+                    instruction: 3,
+                    reason: 1
+                }
+            );
+            Ok(())
+        }
+    }
+}
+
+/// Freezes a struct into `h`, and then another one that shares the first; at last `h` names the first again.
+const REPLACE: &str = "type i64
+    type shared t2
+    type struct t0 t1
+    name h
+    MAKE r0 - - t1 k0
+      NEW r1 t2
+        FREEZE r2 r0 r1
+          NEW r1 t2
+            REF r3 r1
+            FIELD r4 r3 1
+            SHARE r4 r0
+            FREEZE r2 r0 r1
+              CONTENT r5 r0
+                FIELD r6 r5 1
+                SHARE r0 r6
+              ELSE
+              END
+            ELSE
+              DROP r1
+            END
+          ELSE
+          END
+        ELSE
+          DROP r1
+        END
+      ELSE
+      END
+    ELSE
+    END";
+
+#[test]
+fn a_cell_names_what_its_content_shares(rt: HostRuntime) -> Result<(), Fail> {
+    let text = format!(in rt.alloc();
+        "> client replace
+        {REPLACE}
+        > on 1024 replace; free 192 named 1"
+    )?;
+    plays(rt.alloc(), &KINDS, text.as_str())
+}
+
+/// The name's object is at 704, its index at 736. The first struct, at 784, is moved to the 48 bytes at 816; the second one, at
+/// 784 too, to those at 864, which are free again in the end. The cell of `h` at 720 names what begins at 832.
+#[test]
+fn the_first_of_two_frozen_structs_is_left(rt: HostRuntime) -> Result<(), Fail> {
+    let image = run_anew(rt.alloc(), 1024, SEQ_FLAT, &[REPLACE])?.image;
+    let cell = words(rt.alloc(), &[112, 1])?;
+    let frozen = words(rt.alloc(), &[1, 0, 0, 0, 1, 0])?;
+    let next = words(rt.alloc(), &[2])?;
+    assert_eq!(rt; image.as_slice().get(28..32), Some(next.as_slice()));
+    assert_eq!(rt; image.as_slice().get(720..728), Some(cell.as_slice()));
+    assert_eq!(rt; image.as_slice().get(832..856), Some(frozen.as_slice()));
+    Ok(())
+}
+
+/// The unique cell names a frozen 7, and an object that is 8 takes the last gap: it isn't frozen, and both stay. A gap of 48 bytes
+/// is used up by a block of 32, since 16 are no block.
+#[test]
+fn no_gap_for_a_frozen_object(rt: HostRuntime) -> Result<(), Fail> {
+    plays(
+        rt.alloc(),
+        &KINDS,
+        "> client freeze
+            type i64
+            type shared t0
+            CONST r4 7
+            CONST r9 8
+            UMAKE r0 t1
+              NEW r2 t0
+                REF r3 r2
+                STORE r3 r4
+                FREEZE r5 r0 r2
+                ELSE
+                  DROP r2
+                END
+              ELSE
+              END
+              NEW r2 t0
+                REF r3 r2
+                STORE r3 r9
+                FREEZE r5 r0 r2
+                ELSE
+                  OUTI r5
+                  REF r3 r2
+                  LOAD r6 r3
+                  OUTI r6
+                  DROP r2
+                END
+              ELSE
+              END
+              CONTENT r7 r0
+                LOAD r8 r7
+                OUTI r8
+              ELSE
+              END
+            ELSE
+            END
+        > on 800 freeze; free 32 unique 1
+        2
+        8
+        7
+        > on 816 freeze; free 32 unique 1
+        2
+        8
+        7
+        > on 832 freeze; free 64 unique 1
+        8",
+    )
+}
+
+/// A cell shares nothing where the other one doesn't, and itself as before.
+#[test]
+fn cells_share_nothing_and_themselves(rt: HostRuntime) -> Result<(), Fail> {
+    let text = format!(in rt.alloc();
+        "> client share
+        {SHARE}
+        > client itself
+            type i64
+            type shared t0
+            name b
+            FIND r0 - - t1 k0
+              SHARE r0 r0
+              MOV r2 r0
+              SHARE r2 r0
+              CONTENT r1 r2
+                LOAD r1 r1
+                OUTI r1
+              ELSE
+              END
+            ELSE
+            END
+        > client nothing
+            type i64
+            type shared t0
+            name b
+            name c
+            MAKE r2 - - t1 k1
+              FIND r0 - - t1 k0
+                SHARE r0 r2
+                CONTENT r1 r0
+                ELSE
+                  OUTI r1
+                END
+                SHARE r0 r2
+              ELSE
+              END
+            ELSE
+            END
+            KILL r3 - t1 k1
+        > on 1024 share itself; free 208 named 1
+        7
+        7
+        > then nothing itself; free 240 named 1
+        6"
+    )?;
+    plays(rt.alloc(), &KINDS, text.as_str())
+}
+
+/// Freezes a struct of a value of each kind into `h`.
+const FREEZE_EACH_KIND: &str = "type i64
+    type str
+    type vec t0
+    type list t0
+    type flat_map t0
+    type map t0
+    type own t0
+    type shared t0
+    type struct t0 t1 t2 t3 t4 t5 t6 t7
+    type shared t8
+    name h
+text abc
+    CONST r7 -5
+    MAKE r0 - - t9 k0
+      NEW r1 t8
+        REF r2 r1
+        FIELD r3 r2 0
+        CONST r4 11
+        STORE r3 r4
+        FIELD r3 r2 1
+        SETS r5 r3 k1
+        ELSE
+        END
+        FIELD r3 r2 2
+        CONST r4 12
+        PUSH r6 r3
+          STORE r6 r4
+        ELSE
+        END
+        REF r2 r1
+        FIELD r3 r2 3
+        CONST r4 13
+        PUSHF r6 r3
+          STORE r6 r4
+        ELSE
+        END
+        REF r2 r1
+        FIELD r3 r2 4
+        CONST r4 14
+        PUTK r6 r3 r7
+          STORE r6 r4
+        ELSE
+        END
+        REF r2 r1
+        FIELD r3 r2 5
+        CONST r4 15
+        PUTK r6 r3 r7
+          STORE r6 r4
+        ELSE
+        END
+        REF r2 r1
+        FIELD r3 r2 6
+        CONST r4 16
+        NEW r8 t0
+          REF r9 r8
+          STORE r9 r4
+          PUT r3 r8
+        ELSE
+        END
+        REF r2 r1
+        FIELD r3 r2 7
+        CONST r4 17
+        NEW r8 t0
+          REF r9 r8
+          STORE r9 r4
+          FREEZE r5 r3 r8
+          ELSE
+            DROP r8
+          END
+        ELSE
+        END
+        FREEZE r5 r0 r1
+          OUTI r5
+        ELSE
+          DROP r1
+        END
+      ELSE
+      END
+    ELSE
+    END";
+
+/// Reads each of its values, in each way.
+const READ_EACH_KIND: &str = "type i64
+    type str
+    type vec t0
+    type list t0
+    type flat_map t0
+    type map t0
+    type own t0
+    type shared t0
+    type struct t0 t1 t2 t3 t4 t5 t6 t7
+    type shared t8
+    name h
+    FIND r0 - - t9 k0
+      CONTENT r1 r0
+        CONST r10 0
+        CONST r11 1
+        FIELD r2 r1 0
+        LOAD r3 r2
+        OUTI r3
+        FIELD r2 r1 1
+        OUTS r2
+        LEN r3 r2
+        OUTI r3
+        AT r3 r2 r11
+          OUTI r3
+        ELSE
+        END
+        FIELD r2 r1 2
+        LEN r3 r2
+        OUTI r3
+        AT r4 r2 r10
+          LOAD r3 r4
+          OUTI r3
+        ELSE
+        END
+        FIELD r2 r1 3
+        LEN r3 r2
+        OUTI r3
+        AT r4 r2 r10
+          MOV r5 r4
+          LOAD r3 r5
+          OUTI r3
+        ELSE
+        END
+        AT r4 r2 r11
+        ELSE
+          OUTI r4
+        END
+        FIELD r2 r1 4
+        LEN r3 r2
+        OUTI r3
+        FIRSTK r5 r2
+          OUTI r5
+          GETK r6 r2 r5
+            LOAD r3 r6
+            OUTI r3
+          ELSE
+          END
+          NEXTK r6 r2 r5
+          ELSE
+            OUTI r6
+          END
+        ELSE
+        END
+        FIELD r2 r1 5
+        LEN r3 r2
+        OUTI r3
+        FIRSTK r5 r2
+          OUTI r5
+          GETK r6 r2 r5
+            LOAD r3 r6
+            OUTI r3
+          ELSE
+          END
+          NEXTK r6 r2 r5
+          ELSE
+            OUTI r6
+          END
+        ELSE
+        END
+        FIELD r2 r1 6
+        CONTENT r4 r2
+          LOAD r3 r4
+          OUTI r3
+        ELSE
+        END
+        FIELD r2 r1 7
+        CONTENT r4 r2
+          LOAD r3 r4
+          OUTI r3
+          MOV r5 r2
+          FORGET r2
+          CONTENT r4 r5
+            LOAD r3 r4
+            OUTI r3
+          ELSE
+          END
+        ELSE
+        END
+      ELSE
+      END
+    ELSE
+    END";
+
+/// The numbers of the struct are 11 to 17 in the order of its fields; the key is -5, and `b` is 98.
+#[test]
+fn what_is_frozen_is_read_in_each_way(rt: HostRuntime) -> Result<(), Fail> {
+    let text = format!(in rt.alloc();
+        r"> client freeze
+        {FREEZE_EACH_KIND}
+        > client read
+        {READ_EACH_KIND}
+        > client kill
+            type i64
+            type str
+            type vec t0
+            type list t0
+            type flat_map t0
+            type map t0
+            type own t0
+            type shared t0
+            type struct t0 t1 t2 t3 t4 t5 t6 t7
+            type shared t8
+            name h
+            KILL r0 - t9 k0
+        > on 4096 freeze; named 1
+        1
+        > then read; named 1
+        11
+        abc\
+        3
+        98
+        1
+        12
+        1
+        13
+        5
+        1
+        -5
+        14
+        6
+        1
+        -5
+        15
+        6
+        16
+        17
+        17
+        > then kill; named 0 free 3392 largest 3392"
+    )?;
+    plays(rt.alloc(), &KINDS, text.as_str())
+}
+
+/// Nothing changes where a client reads.
+fn reading_changes_nothing(rt: &(impl Abort + AllocGlobal), kind: Kind) -> Result<(), Fail> {
+    let frozen = run_anew(rt.alloc(), 4096, kind, &[FREEZE_EACH_KIND])?;
+    let read = run_on(rt.alloc(), frozen.image.as_slice(), &[READ_EACH_KIND])?;
+    assert_eq!(rt; read.image.as_slice(), frozen.image.as_slice());
+    Ok(())
+}
+
+#[test]
+fn readers_change_nothing(rt: HostRuntime) -> Result<(), Fail> {
+    for kind in KINDS {
+        reading_changes_nothing(&rt, kind)?;
+    }
+    Ok(())
+}
+
+/// A notice is published and printed, and again. There is none before.
+#[test]
+fn a_notice_is_published(rt: HostRuntime) -> Result<(), Fail> {
+    let text = format!(in rt.alloc();
+        "> client publish
+        {PUBLISH}
+        > client notice
+        {NOTICE}
+        > on 2048 notice publish notice; named 2
+        no notice
+        7
+        closed on Monday
+        > then publish notice; named 2
+        7
+        closed on Monday"
+    )?;
+    plays(rt.alloc(), &KINDS, text.as_str())
+}
+
+/// An output that fails after what was frozen and shared: it stays as it would otherwise.
+fn output_fails_after(rt: &(impl Abort + AllocGlobal), limit: usize) -> Result<Ran, Fail> {
+    let image = empty(rt.alloc(), 1024, SEQ_FLAT)?;
+    let setting = Setting { limit, ..PLAIN };
+    run_in(rt.alloc(), image.as_slice(), &[SHARE], setting)
+}
+
+#[test]
+fn frozen_objects_stay_where_the_output_fails(rt: HostRuntime) -> Result<(), Fail> {
+    let image = shared_image(rt.alloc())?;
+    for limit in 0..2 {
+        let ran = output_fails_after(&rt, limit)?;
+        assert!(rt; ran.ended == Ended::OutputFailed);
+        assert_eq!(rt; ran.image.as_slice(), image.as_slice());
+    }
+    Ok(())
+}
