@@ -138,7 +138,7 @@ no_lefts table [] given (left ∷ lefts) a r = absurd r
 no_lefts table (client ∷ clients) given lefts a r = absurd a
 
 module _ {input : List ℕ} {base : ℕ} {taken taken_then : Option (List ℕ)} {saved : List ℕ} {reports : List Report} {how : Ended} (o : HasOutcome counter [] input 2048 base [] taken taken_then saved reports how) where
-  left : AreLeftByRuns counter [] input 2048 base [] taken taken_then saved reports how
+  pub left : AreLeftByRuns counter [] input 2048 base [] taken taken_then saved reports how
   left = o.left tt
 
   nothing_left : left.lefts ≡ []
@@ -159,14 +159,14 @@ module _ {input : List ℕ} {base : ℕ} {taken taken_then : Option (List ℕ)} 
   wrote_nothing = ap outputs nothing_left
 
 pub no_client-wrote : HasOutcome counter [] [] 2048 0 [] (Some (codes "=")) (Some (codes "=4")) (upgraded counter) [] ended.Done → ⊥
-no_client-wrote o = let e = subst (λ (bytes : List ℕ). Some (codes "=4") ≡ Some (61 ∷ bytes)) (wrote_nothing o) (o.left tt).took in cc
+no_client-wrote o = let e = subst (λ (bytes : List ℕ). Some (codes "=4") ≡ Some (61 ∷ bytes)) (wrote_nothing o) (left o).took in cc
 
 pub no_client-another : HasOutcome counter [] [] 2048 0 [] None None empty [] ended.Done → ⊥
 unfolding counter empty
 no_client-another o = absurd (omega (arith, ap length (saved_same o), (upgrade_changes counter).length_kept))
 
 pub no_client-stopped : HasOutcome counter [] [] 2048 0 [] None None (upgraded counter) [] ended.OutputFailed → ⊥
-no_client-stopped o = let e : stopped ≡ finished = (o.left tt).ended_is ∙ came_to_end o in cc
+no_client-stopped o = let e : stopped ≡ finished = (left o).ended_is ∙ came_to_end o in cc
 
 pub no_client-report : (report : Report) → HasOutcome counter [] [] 2048 0 [] None None (upgraded counter) (report ∷ []) ended.Done → ⊥
 no_client-report report o = no_reports o
