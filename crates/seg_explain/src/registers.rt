@@ -81,11 +81,8 @@ fn is_first_met(
         Need::Int | Need::IntOrNone => Some(RegisterType::Int),
         Need::Content => content.map(RegisterType::Owner),
         Need::Alike => Some(registers.get(instruction.b)),
-        Need::Nothing
-        | Need::Copyable
-        | Need::Owner
-        | Need::Reference(_)
-        | Need::Changeable(_) => None,
+        Need::Nothing | Need::Copyable | Need::Owner | Need::Reference(_) | Need::Changeable(_) =>
+            None,
     };
     let tried = match right_c {
         Some(holds) => {

@@ -94,14 +94,7 @@ fn of_holding(instruction: Option<Instruction>) -> &'static str {
         Some(Ends::Frozen) => {
             "an object may not share itself: FREEZE it into a cell that isn't inside it\n"
         }
-        Some(
-            Ends::Nothing
-            | Ends::Others
-            | Ends::Name
-            | Ends::Unique
-            | Ends::Dropped
-            | Ends::Moved,
-        )
+        Some(Ends::Nothing | Ends::Others | Ends::Name | Ends::Unique | Ends::Dropped | Ends::Moved)
         | None => "an object may not own itself: PUT it where it isn't inside itself\n",
     }
 }

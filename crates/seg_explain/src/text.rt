@@ -122,9 +122,9 @@ fn version(source: &[u8]) -> u32 {
     let mut lines = Pieces::lines(source);
     for _ in 0..source.len() {
         match lines.next() {
-            Some(line) if first_word(line) == b"type".as_slice()
-                && second_word(line) == b"shared".as_slice() =>
-                return 2,
+            Some(line)
+                if first_word(line) == b"type".as_slice()
+                    && second_word(line) == b"shared".as_slice() => return 2,
             Some(_) => {}
             None => break,
         }

@@ -97,7 +97,7 @@ fn the_steps_of_sharing_are_the_bound(rt: HostRuntime) -> Result<(), Fail> {
     Ok(())
 }
 
-/// So many words at a position of an image.
+/// The bytes of words, as an image has them.
 fn words(alloc: Global, words: &[u32]) -> Result<Vec<u8>, Fail> {
     let mut bytes = Vec::new(alloc);
     for word in words {

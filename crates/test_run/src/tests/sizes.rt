@@ -13,7 +13,6 @@ pub(crate) const MAKE_EACH_KIND: &str = "type i64
     type map t1
     type own t7
     type struct t0 t1
-    type shared t0
     name a
     name b
     name c
@@ -114,7 +113,32 @@ text a text of forty bytes, which is 3 units.
     ELSE
       OUTI r0
     END
-    UMAKE r0 t8
+";
+
+/// Destroys what [`MAKE_EACH_KIND`] made.
+const KILL_EACH_KIND: &str = "KILL r0 - t0 k0
+    KILL r0 - t1 k1
+    KILL r0 - t2 k2
+    KILL r0 - t3 k3
+    KILL r0 - t4 k4
+    KILL r0 r1 t5 k5
+    UKILL r0 t6
+    UKILL r0 t7";
+
+/// The types of [`MAKE_EACH_KIND`], and one of cells that share.
+const TYPES_THAT_SHARE: &str = "type i64
+    type str
+    type vec t1
+    type list t0
+    type flat_map t0
+    type map t1
+    type own t7
+    type struct t0 t1
+    type shared t0
+";
+
+/// Freezes a number into a unique cell.
+const FREEZE: &str = "UMAKE r0 t8
       NEW r3 t0
         FREEZE r4 r0 r3
         ELSE
@@ -126,19 +150,7 @@ text a text of forty bytes, which is 3 units.
       END
     ELSE
       OUTI r0
-    END
-";
-
-/// Destroys what [`MAKE_EACH_KIND`] made.
-const KILL_EACH_KIND: &str = "KILL r0 - t0 k0
-    KILL r0 - t1 k1
-    KILL r0 - t2 k2
-    KILL r0 - t3 k3
-    KILL r0 - t4 k4
-    KILL r0 r1 t5 k5
-    UKILL r0 t6
-    UKILL r0 t7
-    UKILL r0 t8";
+    END";
 
 /// Whether each line of an output is the code for want of room. How many there are.
 fn codes(rt: &impl Abort, out: &[u8]) -> usize {
@@ -148,15 +160,15 @@ fn codes(rt: &impl Abort, out: &[u8]) -> usize {
     out.len() / 2
 }
 
-/// Makes and destroys an object of each kind in a segment of so many units, after which nothing is left. How many requests
+/// Clients make and destroy an object of each kind in a segment of so many units, after which nothing is left. How many requests
 /// found no room.
 fn leaves_nothing(
     rt: &(impl Abort + AllocGlobal),
-    text: &str,
+    texts: &[&str],
     kind: Kind,
     units: u32,
 ) -> Result<usize, Fail> {
-    let ran = run_anew(rt.alloc(), units.saturating_mul(16), kind, &[text])?;
+    let ran = run_anew(rt.alloc(), units.saturating_mul(16), kind, texts)?;
     assert!(rt; ran.ended == Ended::Done);
     let left = statistics_of(rt.alloc(), ran.image.as_slice())?;
     assert_eq!(rt; left.largest, units.saturating_mul(16).saturating_sub(704));
@@ -165,18 +177,21 @@ fn leaves_nothing(
     Ok(codes(rt, ran.out.as_slice()))
 }
 
-/// On each size there is either room or a code, and nothing is left. The smallest segment has room for nothing but the
-/// objects by themselves, the largest for all.
+/// On each size there is either room or a code, and nothing is left, beside a frozen number too, where there is room for it. The
+/// smallest segment has room for one object by itself, the largest for all.
 #[test]
 fn leaves_nothing_on_each_size(rt: HostRuntime) -> Result<(), Fail> {
-    let text = format!(in rt.alloc(); "{MAKE_EACH_KIND}{KILL_EACH_KIND}")?;
+    let freeze = format!(in rt.alloc(); "{TYPES_THAT_SHARE}{FREEZE}")?;
+    let make = format!(in rt.alloc(); "{MAKE_EACH_KIND}{KILL_EACH_KIND}")?;
+    let release = format!(in rt.alloc(); "{TYPES_THAT_SHARE}UKILL r0 t8")?;
+    let texts = [freeze.as_str(), make.as_str(), release.as_str()];
     for kind in KINDS {
-        // six named objects, the object for the own, and the second and the third unique one
-        assert_eq!(rt; leaves_nothing(&rt, text.as_str(), kind, 46)?, 9);
+        // the object to freeze, six named objects, and the second and the third unique one
+        assert_eq!(rt; leaves_nothing(&rt, &texts, kind, 46)?, 9);
         for units in 47..256 {
-            let _ = leaves_nothing(&rt, text.as_str(), kind, units)?;
+            let _ = leaves_nothing(&rt, &texts, kind, units)?;
         }
-        assert_eq!(rt; leaves_nothing(&rt, text.as_str(), kind, 256)?, 0);
+        assert_eq!(rt; leaves_nothing(&rt, &texts, kind, 256)?, 0);
     }
     Ok(())
 }
