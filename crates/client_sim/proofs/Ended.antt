@@ -71,4 +71,5 @@ module _ {others : List Root} {types : Table} {constants : List Constant} (one :
           choose true f =
               let gone : known ks' r ≡ RegisterType.Undefined = known_is ∙ ap (without_class class) e ∙ ap (λ t. if t then RegisterType.Undefined else RegisterType.Reference c T) f in
               inr (subst (λ k. Shown later w' r k (register s' r)) (sym gone) (owns_is ∙ m.0))
-          choose false f = kept (RegisterType.Reference c T) e (ap (λ t. if t then RegisterType.Undefined else RegisterType.Reference c T) f) (λ o g ends. origins_apart constants one class c o o (classes_apart constants class c o g f) (within o ends) g refl)
+          choose false f = kept (RegisterType.Reference c T) e (ap (λ t. if t then RegisterType.Undefined else RegisterType.Reference c T) f)
+              (λ o g ends. origins_apart constants one class c o o (classes_apart constants class c o g f) (within o ends) g refl)
