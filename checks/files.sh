@@ -21,8 +21,9 @@ install -m 644 "$here/../examples/increment.client" "$work/client"
 cc -O1 -shared -fPIC -o "$work/fail.so" "$here/fail.c" -ldl || exit 2
 chmod 755 "$work/fail.so"
 
-# the image behind the client: its number, at 720, is 42
+# the image behind the client: its version, at 8, is 2, and its number, at 720, is 42
 cp "$work/image" "$work/saved"
+printf '\2' | dd of="$work/saved" bs=1 seek=8 conv=notrunc status=none
 printf '\52' | dd of="$work/saved" bs=1 seek=720 conv=notrunc status=none
 
 cases=0
