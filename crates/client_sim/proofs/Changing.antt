@@ -19,7 +19,7 @@ use Rattle.client_spec.specs.Shape.{HasShape}
 use Rattle.client_spec.specs.Meaning.{InClass, LeadsToType, Refers, Meets}
 use Rattle.client_spec.specs.Pictures.{LeadsInImage}
 use Rattle.client_spec.specs.Typed.{Class, RegisterType, RegisterTypes, known, same_class, without_class, ended, others_ended, sharing}
-use Rattle.client_spec.proofs.Classes.{OneEach, known_others, origins_apart, classes_apart}
+use Rattle.client_spec.proofs.Classes.{OneEach, known_others, origins_apart}
 use Rattle.client_spec.proofs.Values.{length_set}
 use Rattle.client_spec.proofs.Changes.{agrees_put_others}
 use Rattle.client_spec.proofs.Puts.{put_types, put_register, put_at_is, leads_here}
@@ -59,7 +59,7 @@ module _ {others : List Root} {types : Table} {constants : List Constant} (one :
   not_after_none x (z ∷ xs) ys e = cc
 
   -- what is still known of a register is shown
-  shown_by : (r : ℕ) (k : RegisterType) → ((b ≡ r) ⊎ ((class' : Class) (U : ℕ) → k ≡ RegisterType.Reference class' U → same_class class (sharing class') ≡ false)) → Meets constants s k (register s r) → Shown h.pictured w r k (register s r)
+  shown_by : (r : ℕ) (k : RegisterType) → ((b ≡ r) ⊎ ((class' : Class) (U : ℕ) → k ≡ RegisterType.Reference class' U → same_class (sharing class) (sharing class') ≡ false)) → Meets constants s k (register s r) → Shown h.pictured w r k (register s r)
       → Shown put.later (with_image w new) r k (register state_then r)
   shown_by r RegisterType.Undefined still m n = n
   shown_by r RegisterType.Int still m n = (n.0, stays r _ n.1 refl)
@@ -71,21 +71,21 @@ module _ {others : List Root} {types : Table} {constants : List Constant} (one :
             let path : n.1 ≡ l.path = (let q : Register.Reference n.1 ≡ Register.Reference l.path = sym n.2 ∙ ap (register s) (sym f) ∙ l.path_is in cc) in
             not_after_itself l.path.selectors (subst (λ (p : Path). GoesOnAfter l.path.selectors p.selectors) path g)
         | inr f ↦ (let within = subst (λ (p : Path). InClass constants class' p.origin) same m.within in
-            origins_apart constants one class class' l.path.origin n.1.origin (classes_apart constants class class' n.1.origin within (f class' U refl)) l.within within (sym e))
+            origins_apart constants one class class' l.path.origin n.1.origin (f class' U refl) l.within within (sym e))
       ] in
       (n.0, n.1, stays r (Register.Reference n.1) n.2 refl, n.3, elsewhere n.1 (place_in w r) m.leads.value apart there n.4)
   shown_by r (RegisterType.Owner U) still m n =
       (n.0, n.1, elsewhere (path_from (Origin.Owned r)) (place_in w r) m.0 (λ e g. not_after_none g.0 l.path.selectors g.1 (sym g.2)) (ap (λ x. owned_by x >>= λ (found : Value × ℕ). values.value_at found.0 []) m.1) n.2)
 
-  shown_ended : (r : ℕ) (k : RegisterType) → Meets constants s k (register s r) → Shown h.pictured w r k (register s r) → Shown put.later (with_image w new) r (without_class class k) (register state_then r)
+  shown_ended : (r : ℕ) (k : RegisterType) → Meets constants s k (register s r) → Shown h.pictured w r k (register s r) → Shown put.later (with_image w new) r (without_class (sharing class) k) (register state_then r)
   shown_ended r RegisterType.Undefined m n = shown_by r RegisterType.Undefined (inr (λ c u e. cc)) m n
   shown_ended r RegisterType.Int m n = shown_by r RegisterType.Int (inr (λ c u e. cc)) m n
   shown_ended r (RegisterType.Owner U) m n = shown_by r (RegisterType.Owner U) (inr (λ c u e. cc)) m n
-  shown_ended r (RegisterType.Reference class' U) m n = by (same_class class (sharing class')) refl
+  shown_ended r (RegisterType.Reference class' U) m n = by (same_class (sharing class) (sharing class')) refl
     where
-      by : (t : Bool) → same_class class (sharing class') ≡ t → Shown put.later (with_image w new) r (if t then RegisterType.Undefined else RegisterType.Reference class' U) (register state_then r)
+      by : (t : Bool) → same_class (sharing class) (sharing class') ≡ t → Shown put.later (with_image w new) r (if t then RegisterType.Undefined else RegisterType.Reference class' U) (register state_then r)
       by true e = n.0
-      by false e = shown_by r (RegisterType.Reference class' U) (inr (λ c u f. let g : class' ≡ c = cc in ap (λ x. same_class class (sharing x)) (sym g) ∙ e)) m n
+      by false e = shown_by r (RegisterType.Reference class' U) (inr (λ c u f. let g : class' ≡ c = cc in ap (λ x. same_class (sharing class) (sharing x)) (sym g) ∙ e)) m n
 
   pub shows_changed : Shows others types constants first allocator (others_ended class b ks) state_then (with_image w new)
   shows_changed =
@@ -95,7 +95,7 @@ module _ {others : List Root} {types : Table} {constants : List Constant} (one :
       record {
         pictured = put.later;
         as_known = agrees_put_others types constants one class b T ks s h.as_known is refers v fits;
-        sixteen = length_set (ended class ks) b (known ks b) ∙ length-map ks (without_class class) ∙ h.sixteen;
+        sixteen = length_set (ended (sharing class) ks) b (known ks b) ∙ length-map ks (without_class (sharing class)) ∙ h.sixteen;
         registers = record { numbers = registers.numbers; positions = registers.positions; type_ids = registers.type_ids; owns = registers.owns };
         shown = λ r. elim (known_others types constants one class b ks r) [
           | inl p ↦ subst (λ k. Shown put.later (with_image w new) r k (register state_then r)) (sym p.1) (shown_by r (known ks r) (inl p.0) (h.as_known.each r) (h.shown r))

@@ -16,7 +16,7 @@ use Rattle.client_spec.specs.Grammar.{IsNumber}
 use Rattle.client_spec.specs.Typed.{Class, RegisterType, RegisterTypes, known, same_class, without_class, sharing}
 use Rattle.client_spec.specs.Meaning.{InClass, IsAsKnown}
 use Rattle.client_spec.specs.Pictures.{Pictures}
-use Rattle.client_spec.proofs.Classes.{OneEach, origins_apart, classes_apart}
+use Rattle.client_spec.proofs.Classes.{OneEach, origins_apart}
 use Rattle.client_spec.proofs.FirstRows.{item_below}
 use Rattle.client_sim.specs.Shows.{World, number_in, place_in, owns_in, Shown, Shows}
 use Rattle.client_sim.proofs.Rooted.{BeginsFrom, Remains}
@@ -47,13 +47,13 @@ module _ {others : List Root} {types : Table} {constants : List Constant} (one :
     (h : Shows others types constants first allocator ks s w) (class : Class) (ks' : RegisterTypes) (s' : State) (w' : World) (later : Pictures others s' w'.image) (Ends : Origin → Type 0)
     (within : (o : Origin) → Ends o → InClass constants class o) where
   -- a register that holds what it held, where only paths of the class end
-  pub ended_shown : (r : ℕ) → known ks' r ≡ without_class class (known ks r) → register s' r ≡ register s r → number_in w' r ≡ number_in w r → place_in w' r ≡ place_in w r → owns_in w' r ≡ owns_in w r
+  pub ended_shown : (r : ℕ) → known ks' r ≡ without_class (sharing class) (known ks r) → register s' r ≡ register s r → number_in w' r ≡ number_in w r → place_in w' r ≡ place_in w r → owns_in w' r ≡ owns_in w r
       → (Ends (Origin.Owned r) → ⊥) → Remains constants Ends ks ks' s s' w w' r ⊎ Shown later w' r (known ks' r) (register s' r)
   ended_shown r known_is register_is number_is place_is owns_is apart = by (known ks r) refl (h.shown r)
     where
-      kept : (k : RegisterType) → known ks r ≡ k → without_class class k ≡ k → ((o : Origin) → BeginsFrom constants r k o → Ends o → ⊥) → Remains constants Ends ks ks' s s' w w' r ⊎ Shown later w' r (known ks' r) (register s' r)
+      kept : (k : RegisterType) → known ks r ≡ k → without_class (sharing class) k ≡ k → ((o : Origin) → BeginsFrom constants r k o → Ends o → ⊥) → Remains constants Ends ks ks' s s' w w' r ⊎ Shown later w' r (known ks' r) (register s' r)
       kept k e same on = inl (record {
-        known_is = known_is ∙ ap (without_class class) e ∙ same ∙ sym e;
+        known_is = known_is ∙ ap (without_class (sharing class)) e ∙ same ∙ sym e;
         register_is = register_is;
         number_is = number_is;
         place_is = place_is;
@@ -65,11 +65,11 @@ module _ {others : List Root} {types : Table} {constants : List Constant} (one :
       by RegisterType.Undefined e m = kept RegisterType.Undefined e refl (λ o f. absurd f)
       by RegisterType.Int e m = kept RegisterType.Int e refl (λ o f. absurd f)
       by (RegisterType.Owner T) e m = kept (RegisterType.Owner T) e refl (λ o f g. apart (subst Ends f g))
-      by (RegisterType.Reference c T) e m = choose (same_class class (sharing c)) refl
+      by (RegisterType.Reference c T) e m = choose (same_class (sharing class) (sharing c)) refl
         where
-          choose : (t : Bool) → same_class class (sharing c) ≡ t → Remains constants Ends ks ks' s s' w w' r ⊎ Shown later w' r (known ks' r) (register s' r)
+          choose : (t : Bool) → same_class (sharing class) (sharing c) ≡ t → Remains constants Ends ks ks' s s' w w' r ⊎ Shown later w' r (known ks' r) (register s' r)
           choose true f =
-              let gone : known ks' r ≡ RegisterType.Undefined = known_is ∙ ap (without_class class) e ∙ ap (λ t. if t then RegisterType.Undefined else RegisterType.Reference c T) f in
+              let gone : known ks' r ≡ RegisterType.Undefined = known_is ∙ ap (without_class (sharing class)) e ∙ ap (λ t. if t then RegisterType.Undefined else RegisterType.Reference c T) f in
               inr (subst (λ k. Shown later w' r k (register s' r)) (sym gone) (owns_is ∙ m.0))
           choose false f = kept (RegisterType.Reference c T) e (ap (λ t. if t then RegisterType.Undefined else RegisterType.Reference c T) f)
-              (λ o g ends. origins_apart constants one class c o o (classes_apart constants class c o g f) (within o ends) g refl)
+              (λ o g ends. origins_apart constants one class c o o f (within o ends) g refl)

@@ -28,7 +28,7 @@ use Rattle.client_spec.specs.Shape.{HasShape, AllHaveShape}
 use Rattle.client_spec.specs.Asks.{ChangesBlocks, LedTo, PartGoes, PopGoes, cell_asks}
 use Rattle.client_spec.specs.Meaning.{LeadsToType}
 use Rattle.client_spec.specs.Pictures.{LeadsInImage}
-use Rattle.client_spec.specs.Typed.{Class, RegisterType, RegisterTypes, Rule, known, is_owner, reference_needed, form_needed, is_str, can_pop, without_class, others_ended, opens, rule}
+use Rattle.client_spec.specs.Typed.{Class, RegisterType, RegisterTypes, Rule, known, is_owner, sharing, reference_needed, form_needed, is_str, can_pop, without_class, others_ended, opens, rule}
 use Rattle.client_spec.specs.Typed as typed
 use Rattle.client_spec.proofs.Shapes.{IsOf, form_of_value, value_of_form, all_append_one, all_cons, all_tail, all_without_last}
 use Rattle.client_spec.proofs.Values.{Some_inj}
@@ -77,7 +77,7 @@ module _ {others : List Root} {types : Table} {constants : List Constant} (one :
       choose true r k m n = m
       choose false r k m n = n
 
-      without : (r : ℕ) (k : RegisterType) → Shown h.pictured w r k (register s r) → Shown h.pictured w r (without_class class k) (register s r)
+      without : (r : ℕ) (k : RegisterType) → Shown h.pictured w r k (register s r) → Shown h.pictured w r (without_class (sharing class) k) (register s r)
       without r RegisterType.Undefined m = m
       without r RegisterType.Int m = m
       without r (RegisterType.Reference x T) m = choose _ r (RegisterType.Reference x T) m.0 m

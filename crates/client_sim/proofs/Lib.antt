@@ -45,11 +45,3 @@ pub mod Ended
 pub mod Owners
 pub mod Uniques
 pub mod UniqueRows
-pub mod UnfoldedValues
-pub mod UnfoldedStates
-pub mod UnfoldedOutcomes
-pub mod UnfoldedParts
-pub mod UnfoldedRows
-pub mod UnfoldedPlaces
-pub mod UnfoldedEffects
-pub mod UnfoldedShapes

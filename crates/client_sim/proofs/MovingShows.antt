@@ -18,7 +18,7 @@ use Rattle.client_spec.specs.Shape.{HasShape}
 use Rattle.client_spec.specs.Meaning.{InClass, Refers, IsAsKnown, Meets}
 use Rattle.client_spec.specs.Pictures.{LeadsInImage}
 use Rattle.client_spec.specs.Typed.{Class, RegisterType, RegisterTypes, known, is_owner, same_class, without_class, ended, others_ended, sharing}
-use Rattle.client_spec.proofs.Classes.{OneEach, known_ended, known_others, origins_apart, classes_apart}
+use Rattle.client_spec.proofs.Classes.{OneEach, known_ended, known_others, origins_apart}
 use Rattle.client_spec.proofs.Values.{length_set}
 use Rattle.client_spec.proofs.Changes.{agrees_put_others}
 use Rattle.client_spec.proofs.Puts.{put_types, put_length, put_register, put_at_is}
@@ -77,7 +77,7 @@ module _ {others : List Root} {types : Table} {constants : List Constant} (one :
 
   -- nothing is known of a register any more, or what was known of it, and no path from it ends
   pub record StillKnown (r : ℕ) (k : RegisterType) : Type 0 where
-    pub apart : (b ≡ r) ⊎ ((class' : Class) (U : ℕ) → k ≡ RegisterType.Reference class' U → same_class class (sharing class') ≡ false)
+    pub apart : (b ≡ r) ⊎ ((class' : Class) (U : ℕ) → k ≡ RegisterType.Reference class' U → same_class (sharing class) (sharing class') ≡ false)
     pub goes_on : (o : Origin) → BeginsFrom constants r k o → Ends o → ⊥
 
   abbrev pub Stays : ℕ → RegisterType → RegisterType → Type 0
@@ -104,7 +104,7 @@ module _ {others : List Root} {types : Table} {constants : List Constant} (one :
               let path : n.1 ≡ l.path = (let z : Register.Reference n.1 ≡ Register.Reference l.path = sym n.2 ∙ ap (register s) (sym f) ∙ l.path_is in cc) in
               not_after_itself l.path.selectors (subst (λ (p : Path). GoesOnAfter l.path.selectors p.selectors) path g)
           | inr f ↦ (let within = subst (λ (p : Path). InClass constants class' p.origin) same e.within in
-              origins_apart constants one class class' l.path.origin n.1.origin (classes_apart constants class class' n.1.origin within (f class' U refl)) l.within within (sym q))
+              origins_apart constants one class class' l.path.origin n.1.origin (f class' U refl) l.within within (sym q))
         ] in
         let on : Ends n.1.origin → ⊥ = still.goes_on n.1.origin (subst (λ (p : Path). InClass constants class' p.origin) same e.within) in (
           owners ∙ n.0,
@@ -170,7 +170,7 @@ module _ {others : List Root} {types : Table} {constants : List Constant} (one :
   -- ---- what is known of the others
 
   abbrev Apart : ℕ → RegisterType → Type 0
-  Apart r k = (b ≡ r) ⊎ ((class' : Class) (U : ℕ) → k ≡ RegisterType.Reference class' U → same_class class (sharing class') ≡ false)
+  Apart r k = (b ≡ r) ⊎ ((class' : Class) (U : ℕ) → k ≡ RegisterType.Reference class' U → same_class (sharing class) (sharing class') ≡ false)
 
   ended_or_apart : (r : ℕ) → ((known known_put r ≡ RegisterType.Undefined) × (is_owner (known ks r) ≡ false)) ⊎ ((known known_put r ≡ known ks r) × Apart r (known ks r))
   ended_or_apart r = elim (known_others types constants one class b ks r) [
@@ -178,17 +178,17 @@ module _ {others : List Root} {types : Table} {constants : List Constant} (one :
     | inr p ↦ elim (by (known ks r)) [ inl q ↦ inl (p ∙ q.0, q.1) | inr q ↦ inr (p ∙ q.0, inr q.1) ]
   ]
     where
-      choose : (t : Bool) (c : Class) (U : ℕ) → same_class class (sharing c) ≡ t → (((if t then RegisterType.Undefined else RegisterType.Reference c U) ≡ RegisterType.Undefined) × (false ≡ false))
-          ⊎ (((if t then RegisterType.Undefined else RegisterType.Reference c U) ≡ RegisterType.Reference c U) × ((d : Class) (V : ℕ) → RegisterType.Reference c U ≡ RegisterType.Reference d V → same_class class (sharing d) ≡ false))
+      choose : (t : Bool) (c : Class) (U : ℕ) → same_class (sharing class) (sharing c) ≡ t → (((if t then RegisterType.Undefined else RegisterType.Reference c U) ≡ RegisterType.Undefined) × (false ≡ false))
+          ⊎ (((if t then RegisterType.Undefined else RegisterType.Reference c U) ≡ RegisterType.Reference c U) × ((d : Class) (V : ℕ) → RegisterType.Reference c U ≡ RegisterType.Reference d V → same_class (sharing class) (sharing d) ≡ false))
       choose true c U e = inl (refl, refl)
-      choose false c U e = inr (refl, (λ d V f. let g : c ≡ d = cc in ap (λ x. same_class class (sharing x)) (sym g) ∙ e))
+      choose false c U e = inr (refl, (λ d V f. let g : c ≡ d = cc in ap (λ x. same_class (sharing class) (sharing x)) (sym g) ∙ e))
 
-      by : (k : RegisterType) → ((without_class class k ≡ RegisterType.Undefined) × (is_owner k ≡ false))
-          ⊎ ((without_class class k ≡ k) × ((d : Class) (V : ℕ) → k ≡ RegisterType.Reference d V → same_class class (sharing d) ≡ false))
+      by : (k : RegisterType) → ((without_class (sharing class) k ≡ RegisterType.Undefined) × (is_owner k ≡ false))
+          ⊎ ((without_class (sharing class) k ≡ k) × ((d : Class) (V : ℕ) → k ≡ RegisterType.Reference d V → same_class (sharing class) (sharing d) ≡ false))
       by RegisterType.Undefined = inl (refl, refl)
       by RegisterType.Int = inr (refl, (λ d V e. cc))
       by (RegisterType.Owner U) = inr (refl, (λ d V e. cc))
-      by (RegisterType.Reference c U) = choose (same_class class (sharing c)) c U refl
+      by (RegisterType.Reference c U) = choose (same_class (sharing class) (sharing c)) c U refl
 
   -- where no path ends besides those into what the place held
   pub stays_put : ((o : Origin) → Ends o → ⊥) → (r : ℕ) → Stays r (known ks r) (known known_put r)
@@ -216,7 +216,7 @@ module _ {others : List Root} {types : Table} {constants : List Constant} (one :
         refl,
         record {
           apart = apart;
-          goes_on = λ o within ends. origins_apart constants one (Class.Register a) c (Origin.Owned a) o (classes_apart constants (Class.Register a) c o within e) refl within (sym (its o ends));
+          goes_on = λ o within ends. origins_apart constants one (Class.Register a) c (Origin.Owned a) o e refl within (sym (its o ends));
         },
       )
 

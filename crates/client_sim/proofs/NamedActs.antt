@@ -36,7 +36,7 @@ use Rattle.client_spec.specs.Pictures.{Pictures, LeadsInImage, object_of}
 use Rattle.client_spec.specs.Asks.{NamedGoes, GrantsAsks, Denies, ChangesBlocks, named_asks, name_operand, new_count, if_absent}
 use Rattle.client_spec.proofs.Cases.{first_of_many}
 use Rattle.client_spec.proofs.Changes.{agrees_make, agrees_kill}
-use Rattle.client_spec.proofs.Classes.{OneEach, origins_apart, known_ended, agrees_ended, classes_apart}
+use Rattle.client_spec.proofs.Classes.{OneEach, origins_apart, known_ended, agrees_ended}
 use Rattle.client_spec.proofs.Defaults.{default_has}
 use Rattle.client_spec.proofs.FirstRows.{bind_ok, opens_ok, answer_is, item_below, nth_below}
 use Rattle.client_spec.proofs.Shapes.{all_copies}
@@ -142,11 +142,11 @@ why_killed T (Some r) root e = choose (r.type == T) refl e
     choose true f g = (g, (let same : r ≡ root = cc in ap (λ (x : Root). x.type == T) (sym same) ∙ f))
     choose false f g = cc
 
-owner_ended : (class : Class) (k : RegisterType) → is_owner (without_class class k) ≡ is_owner k
+owner_ended : (class : Class) (k : RegisterType) → is_owner (without_class (sharing class) k) ≡ is_owner k
 owner_ended class RegisterType.Undefined = refl
 owner_ended class RegisterType.Int = refl
 owner_ended class (RegisterType.Owner t) = refl
-owner_ended class (RegisterType.Reference c t) = choose (same_class class (sharing c))
+owner_ended class (RegisterType.Reference c t) = choose (same_class (sharing class) (sharing c))
   where
     choose : (b : Bool) → is_owner (if b then RegisterType.Undefined else RegisterType.Reference c t) ≡ false
     choose true = refl
@@ -161,12 +161,12 @@ module _ {others : List Root} {types : Table} {constants : List Constant} {first
   -- nothing is known any more of the references of a class, whose paths may end
   pub class_ends : (one : OneEach constants) (class : Class) (Ends : Origin → Type 0) → ((o : Origin) → Ends o → InClass constants class o) → ((r : ℕ) → InClass constants class (Origin.Owned r) → ⊥)
       → (s' : State) (w' : World) → s'.registers ≡ s.registers → w'.numbers ≡ w.numbers → w'.positions ≡ w.positions → w'.type_ids ≡ w.type_ids → w'.owns ≡ w.owns → (later : Pictures others s' w'.image) (r : ℕ)
-      → Remains constants Ends ks (ended class ks) s s' w w' r ⊎ Shown later w' r (known (ended class ks) r) (register s' r)
+      → Remains constants Ends ks (ended (sharing class) ks) s s' w w' r ⊎ Shown later w' r (known (ended (sharing class) ks) r) (register s' r)
   class_ends one class Ends ending none s' w' registers numbers positions type_ids owns later r = by (known ks r) refl
     where
-      stays : (k : RegisterType) → known ks r ≡ k → without_class class k ≡ k → ((o : Origin) → BeginsFrom constants r k o → Ends o → ⊥) → Remains constants Ends ks (ended class ks) s s' w w' r
+      stays : (k : RegisterType) → known ks r ≡ k → without_class (sharing class) k ≡ k → ((o : Origin) → BeginsFrom constants r k o → Ends o → ⊥) → Remains constants Ends ks (ended (sharing class) ks) s s' w w' r
       stays k e same apart = record {
-        known_is = known_ended class ks r ∙ ap (without_class class) e ∙ same ∙ sym e;
+        known_is = known_ended (sharing class) ks r ∙ ap (without_class (sharing class)) e ∙ same ∙ sym e;
         register_is = ap (λ (rs : List Register). slice_index_or rs r Register.Undefined) registers;
         number_is = ap (λ (ns : List ℤ). slice_index_or ns r (pos 0)) numbers;
         place_is = ap (λ (at : List ℕ). record { at = slice_index_or at r 0; type = slice_index_or w'.type_ids r 0 }) positions ∙ ap (λ (ts : List ℕ). record { at = slice_index_or w.positions r 0; type = slice_index_or ts r 0 }) type_ids;
@@ -174,17 +174,17 @@ module _ {others : List Root} {types : Table} {constants : List Constant} {first
         goes_on = λ o b x. apart o (subst (λ z. BeginsFrom constants r z o) e b) x;
       }
 
-      by : (k : RegisterType) → known ks r ≡ k → Remains constants Ends ks (ended class ks) s s' w w' r ⊎ Shown later w' r (known (ended class ks) r) (register s' r)
+      by : (k : RegisterType) → known ks r ≡ k → Remains constants Ends ks (ended (sharing class) ks) s s' w w' r ⊎ Shown later w' r (known (ended (sharing class) ks) r) (register s' r)
       by RegisterType.Undefined e = inl (stays RegisterType.Undefined e refl (λ o b x. b))
       by RegisterType.Int e = inl (stays RegisterType.Int e refl (λ o b x. b))
       by (RegisterType.Owner T) e = inl (stays (RegisterType.Owner T) e refl (λ o b x. none r (subst (InClass constants class) b (ending o x))))
-      by (RegisterType.Reference c T) e = choose (same_class class (sharing c)) refl
+      by (RegisterType.Reference c T) e = choose (same_class (sharing class) (sharing c)) refl
         where
-          choose : (t : Bool) → same_class class (sharing c) ≡ t → Remains constants Ends ks (ended class ks) s s' w w' r ⊎ Shown later w' r (known (ended class ks) r) (register s' r)
-          choose true g = inr (subst (λ z. Shown later w' r z (register s' r)) (sym (known_ended class ks r ∙ ap (without_class class) e ∙ ap (λ t. if t then RegisterType.Undefined else RegisterType.Reference c T) g))
+          choose : (t : Bool) → same_class (sharing class) (sharing c) ≡ t → Remains constants Ends ks (ended (sharing class) ks) s s' w w' r ⊎ Shown later w' r (known (ended (sharing class) ks) r) (register s' r)
+          choose true g = inr (subst (λ z. Shown later w' r z (register s' r)) (sym (known_ended (sharing class) ks r ∙ ap (without_class (sharing class)) e ∙ ap (λ t. if t then RegisterType.Undefined else RegisterType.Reference c T) g))
               (ap (λ (os : List Bool). slice_index_or os r false) owns ∙ unowned others types constants first allocator ks s w h r (ap is_owner e)))
           choose false g = inl (stays (RegisterType.Reference c T) e (ap (λ t. if t then RegisterType.Undefined else RegisterType.Reference c T) g)
-              (λ o b x. origins_apart constants one class c o o (classes_apart constants class c o b g) (ending o x) b refl))
+              (λ o b x. origins_apart constants one class c o o g (ending o x) b refl))
 
   -- the client's types are those of the world, as far as they go
   pub in_table : {T : ℕ} → AreRight types constants → T < length types → T < length w.table
@@ -213,10 +213,10 @@ module _ {others : List Root} {types : Table} {constants : List Constant} {first
 
   -- but for references of a class
   pub all_but_class : (one : OneEach constants) (class : Class) (Ends : Origin → Type 0) → ((o : Origin) → Ends o → InClass constants class o) → ((r : ℕ) → InClass constants class (Origin.Owned r) → ⊥)
-      → (s' : State) (new : List ℕ) (later : Pictures others s' new) → KeepsRoots h.pictured later Ends → KeepsFront w.image new → IsAsKnown types constants (ended class ks) s' → s'.registers ≡ s.registers
-      → SameBesides w (with_image w new) s s' → Shows others types constants first allocator (ended class ks) s' (with_image w new)
+      → (s' : State) (new : List ℕ) (later : Pictures others s' new) → KeepsRoots h.pictured later Ends → KeepsFront w.image new → IsAsKnown types constants (ended (sharing class) ks) s' → s'.registers ≡ s.registers
+      → SameBesides w (with_image w new) s s' → Shows others types constants first allocator (ended (sharing class) ks) s' (with_image w new)
   all_but_class one class Ends ending none s' new later keeps front as_known registers besides =
-      shows_rooted h (ended class ks) s' (with_image w new) later Ends keeps front as_known (length-map ks (without_class class) ∙ h.sixteen) (registers_then new) besides
+      shows_rooted h (ended (sharing class) ks) s' (with_image w new) later Ends keeps front as_known (length-map ks (without_class (sharing class)) ∙ h.sixteen) (registers_then new) besides
       (class_ends one class Ends ending none s' (with_image w new) registers refl refl refl refl later)
 
 -- ---- a new object, or none
@@ -313,7 +313,7 @@ module _ {others : List Root} {types : Table} {constants : List Constant} {first
 
   pub lost : (new : List ℕ) → IsLost allocator w.image s.types bytes T h.pictured.picture h.pictured.held.index_blocks new
       → outcome constants i true s ≡ give_count a 1 state_after → ChangesBlocks constants i h.pictured success new
-      → Acts others types constants first allocator i success (slice_set (ended class ks) a RegisterType.Int) s w (with_number (with_image w new) a (pos 1))
+      → Acts others types constants first allocator i success (slice_set (ended (sharing class) ks) a RegisterType.Int) s w (with_number (with_image w new) a (pos 1))
   lost new m row blocks =
       let one = one_each constants right.each right.different in
       let picture = h.pictured.picture in
@@ -327,22 +327,22 @@ module _ {others : List Root} {types : Table} {constants : List Constant} {first
       let known_now = agrees_kill types constants one ks s k bytes by h.as_known in
       let shows = all_but_class h one class paths_end its_class (λ r z. z) state_after new goes.later goes.keeps m.front known_now refl
       (record { table = refl; input = refl; read = refl; taken = refl; types = refl; state_input = refl; state_output = refl }) in
-      acts_so others types constants first allocator ks s w h i success true (slice_set (ended class ks) a RegisterType.Int) (set_register state_after a (Register.Int (pos 1))) (with_number (with_image w new) a (pos 1))
-      (row ∙ answer_is types constants (ended class ks) state_after known_now success a (Register.Int (pos 1)) free) blocks m.long m.front refl
-      (shows_number others types constants first allocator (ended class ks) state_after (with_image w new) shows a (pos 1) within free)
+      acts_so others types constants first allocator ks s w h i success true (slice_set (ended (sharing class) ks) a RegisterType.Int) (set_register state_after a (Register.Int (pos 1))) (with_number (with_image w new) a (pos 1))
+      (row ∙ answer_is types constants (ended (sharing class) ks) state_after known_now success a (Register.Int (pos 1)) free) blocks m.long m.front refl
+      (shows_number others types constants first allocator (ended (sharing class) ks) state_after (with_image w new) shows a (pos 1) within free)
 
   -- there was none: references end all the same
   pub not_lost : outcome constants i true s ≡ give_count a 0 s → ChangesBlocks constants i h.pictured success w.image
-      → Acts others types constants first allocator i success (slice_set (ended class ks) a RegisterType.Int) s w (with_number w a (pos 0))
+      → Acts others types constants first allocator i success (slice_set (ended (sharing class) ks) a RegisterType.Int) s w (with_number w a (pos 0))
   not_lost row blocks =
       let one = one_each constants right.each right.different in
-      let known_now = agrees_ended types constants one class ks s h.as_known in
+      let known_now = agrees_ended types constants one (sharing class) ks s h.as_known in
       let keeps : KeepsRoots {old = w.image} {new = w.image} h.pictured h.pictured paths_end = record { table = refl; begins = λ o root item e. inr (e, λ j path target lt led. led) } in
       let shows = all_but_class h one class paths_end its_class (λ r z. z) s w.image h.pictured keeps refl known_now refl
       (record { table = refl; input = refl; read = refl; taken = refl; types = refl; state_input = refl; state_output = refl }) in
-      acts_so others types constants first allocator ks s w h i success true (slice_set (ended class ks) a RegisterType.Int) (set_register s a (Register.Int (pos 0))) (with_number w a (pos 0))
-      (row ∙ answer_is types constants (ended class ks) s known_now success a (Register.Int (pos 0)) free) blocks refl refl refl
-      (shows_number others types constants first allocator (ended class ks) s w shows a (pos 0) within free)
+      acts_so others types constants first allocator ks s w h i success true (slice_set (ended (sharing class) ks) a RegisterType.Int) (set_register s a (Register.Int (pos 0))) (with_number w a (pos 0))
+      (row ∙ answer_is types constants (ended (sharing class) ks) s known_now success a (Register.Int (pos 0)) free) blocks refl refl refl
+      (shows_number others types constants first allocator (ended (sharing class) ks) s w shows a (pos 0) within free)
 
 -- ---- the instructions
 

@@ -22,7 +22,7 @@ use Rattle.client_spec.specs.Answer.{success, path_of, path_form, content_in, ow
 use Rattle.client_spec.specs.Effect.{outcome, effect}
 use Rattle.client_spec.specs.Shape.{HasShape}
 use Rattle.client_spec.specs.Asks.{PlaceGoes}
-use Rattle.client_spec.specs.Typed.{Class, RegisterType, Reason, RegisterTypes, known, same_class, owner_needed, required, known_after, without_class, ended, others_ended, rule}
+use Rattle.client_spec.specs.Typed.{Class, RegisterType, Reason, RegisterTypes, known, same_class, sharing, owner_needed, required, known_after, without_class, ended, others_ended, rule}
 use Rattle.client_spec.specs.Typed as typed
 use Rattle.client_spec.proofs.Cases.{own_value, own_fits, not_is, required_is}
 use Rattle.client_spec.proofs.Changes.{agrees_release}
@@ -91,12 +91,12 @@ module _ (allocator : ℕ) (constants : List Constant) (role : Role) (a b c : �
   unfolding rule
   put_acts call types others first ks good bad s right valid e h =
       let one = one_each constants right.each right.different in
-      let last = λ (x : Class × ℕ). typed.◌>>=◌ (required (not (same_class x.0 (Class.Register c))) Reason.PutIntoItself) (λ _. known_after (slice_set (ended (Class.Register c) (others_ended x.0 b ks)) c RegisterType.Undefined)) in
+      let last = λ (x : Class × ℕ). typed.◌>>=◌ (required (not (same_class (sharing x.0) (Class.Register c))) Reason.PutIntoItself) (λ _. known_after (slice_set (ended (Class.Register c) (others_ended x.0 b ks)) c RegisterType.Undefined)) in
       let g = λ (x : Class × ℕ) (t : ℕ). typed.◌>>=◌ (owner_needed (known ks c)) (λ u. typed.◌>>=◌ (required (t == u) Reason.WrongOperand) (λ _. last x)) in
       let r = reaches one h owned_type g b good bad e in
       let p = bind_ok (owner_needed (known ks c)) (λ u. typed.◌>>=◌ (required (r.what == u) Reason.WrongOperand) (λ _. last (r.class, r.type))) (good, bad) r.rest in
       let q = bind_ok (required (r.what == p.0) Reason.WrongOperand) (λ _. last (r.class, r.type)) (good, bad) p.2 in
-      let z = bind_ok (required (not (same_class r.class (Class.Register c))) Reason.PutIntoItself) (λ _. known_after (slice_set (ended (Class.Register c) (others_ended r.class b ks)) c RegisterType.Undefined)) (good, bad) q.2 in
+      let z = bind_ok (required (not (same_class (sharing r.class) (Class.Register c))) Reason.PutIntoItself) (λ _. known_after (slice_set (ended (Class.Register c) (others_ended r.class b ks)) c RegisterType.Undefined)) (good, bad) q.2 in
       let after = others_ended r.class b ks in
       let ks' = ended (Class.Register c) after in
       let pair : (slice_set ks' c RegisterType.Undefined, slice_set ks' c RegisterType.Undefined) ≡ (good, bad) = Ok_inj z.2 in
@@ -128,7 +128,7 @@ module _ (allocator : ℕ) (constants : List Constant) (role : Role) (a b c : �
       let moved = put_moves h.pictured l.in_image l.value l.found new (Full o.value) c o.root its far o.root_is apart.1 names all.theirs all.beside.holds clears in
       let fits : HasShape s.types r.type (Full o.value) =
       value_of_form s.types r.type r.form (Full o.value) r.machine_form ((own_fits s.types r.form r.what r.is).1 o.value (h.as_known.typed.owned c o.value r.what o.register_is)) in
-      let sixteen : length ks' ≡ 16 = length-map after (without_class (Class.Register c)) ∙ length_set (ended r.class ks) b (known ks b) ∙ length-map ks (without_class r.class) ∙ h.sixteen in
+      let sixteen : length ks' ≡ 16 = length-map after (without_class (Class.Register c)) ∙ length_set (ended (sharing r.class) ks) b (known ks b) ∙ length-map ks (without_class (sharing r.class)) ∙ h.sixteen in
       let owns_none : owns_in (with_owning w new c false w.positions w.type_ids) c ≡ false = set_there w.owns c false false (let n = h.registers.owns in omega (arith, n, valid.c)) in
       let shows = shows_moved one h b r.class r.type r.known_as l (Full o.value) fits new c Register.Undefined (λ o. o ≡ Origin.Owned c) moved RegisterType.Undefined ks' false w.positions w.type_ids valid.c sixteen
       h.registers.positions h.registers.type_ids (λ n far. refl) changes.front_kept

@@ -23,7 +23,7 @@ use Rattle.client_spec.specs.Shape.{HasShape}
 use Rattle.client_spec.specs.Asks.{GrantsAsks}
 use Rattle.client_spec.specs.Meaning.{LeadsToType, IsAsKnown}
 use Rattle.client_spec.specs.Pictures.{LeadsInImage}
-use Rattle.client_spec.specs.Typed.{Class, RegisterType, known, without_class, ended, others_ended, opens, rule}
+use Rattle.client_spec.specs.Typed.{Class, RegisterType, known, sharing, without_class, ended, others_ended, opens, rule}
 use Rattle.client_spec.proofs.Cases.{own_value, own_fits}
 use Rattle.client_spec.proofs.Changes.{agrees_put_others, agrees_own}
 use Rattle.client_spec.proofs.FirstRows.{answer_is}
@@ -145,7 +145,7 @@ module _ (allocator : ℕ) (constants : List Constant) (role : Role) (a b c : �
             let type_ids = slice_set w.type_ids a U in
             let w' = with_owning w new a true positions type_ids in
             let typed : HasShape after_put.types U v = subst (λ (ts : Table). HasShape ts U v) (sym (put_at_types s l.path r.type Empty leads)) some.2 in
-            let sixteen : length after ≡ 16 = length_set (ended r.class ks) b (known ks b) ∙ length-map ks (without_class r.class) ∙ h.sixteen in
+            let sixteen : length after ≡ 16 = length_set (ended (sharing r.class) ks) b (known ks b) ∙ length-map ks (without_class (sharing r.class)) ∙ h.sixteen in
             let as_known = agrees_own types constants one after after_put a v U known_then o.0 typed in
             let owns_here : owns_in w' a ≡ true = set_there w.owns a true false (let n = h.registers.owns in omega (arith, n, valid.a)) in
             let at_here : place_in w' a ≡ record { at = at; type = U } =

@@ -25,7 +25,7 @@ use Rattle.client_spec.specs.Effect.{outcome, effect, add_unique, truth}
 use Rattle.client_spec.specs.Asks.{GrantsAsks, Denies, ChangesBlocks, Asks, Returns, RootGoes, if_absent}
 use Rattle.client_spec.specs.Grammar.{IsNumber, IsInstruction}
 use Rattle.client_spec.specs.Shape.{HasShape}
-use Rattle.client_spec.specs.Typed.{Class, RegisterType, RegisterTypes, known, is_owner, ended, without_class, opens, rule}
+use Rattle.client_spec.specs.Typed.{Class, RegisterType, RegisterTypes, known, is_owner, sharing, ended, without_class, opens, rule}
 use Rattle.client_spec.specs.Meaning.{InClass}
 use Rattle.client_spec.specs.Pictures.{Pictures}
 use Rattle.client_spec.proofs.Classes.{OneEach, known_ended, agrees_ended}
@@ -121,11 +121,11 @@ module _ {others : List Root} {types : Table} {constants : List Constant} (one :
 
   -- ---- references of a class end, and nothing else changes
 
-  pub shows_ended : (class : Class) → Shows others types constants first allocator (ended class ks) s w
+  pub shows_ended : (class : Class) → Shows others types constants first allocator (ended (sharing class) ks) s w
   shows_ended class =
-      shows_rooted h (ended class ks) s w h.pictured (λ o. ⊥) (record { table = refl; begins = λ o root item e. inr (e, (λ i path target less leads. leads)) }) refl (agrees_ended types constants one class ks s h.as_known)
-      (length-map ks (without_class class) ∙ h.sixteen) h.registers (record { table = refl; input = refl; read = refl; taken = refl; types = refl; state_input = refl; state_output = refl })
-      (λ r. ended_shown one h class (ended class ks) s w h.pictured (λ o. ⊥) (λ o f. absurd f) r (known_ended class ks r) refl refl refl refl (λ f. f))
+      shows_rooted h (ended (sharing class) ks) s w h.pictured (λ o. ⊥) (record { table = refl; begins = λ o root item e. inr (e, (λ i path target less leads. leads)) }) refl (agrees_ended types constants one (sharing class) ks s h.as_known)
+      (length-map ks (without_class (sharing class)) ∙ h.sixteen) h.registers (record { table = refl; input = refl; read = refl; taken = refl; types = refl; state_input = refl; state_output = refl })
+      (λ r. ended_shown one h class (ended (sharing class) ks) s w h.pictured (λ o. ⊥) (λ o f. absurd f) r (known_ended (sharing class) ks r) refl refl refl refl (λ f. f))
 
 none_begins : (o : Option Root) → option_map {T = Root} {U = ℕ} (λ r. r.at) o ≡ None → o ≡ None
 none_begins None e = refl
@@ -301,8 +301,8 @@ module _ (allocator : ℕ) (constants : List Constant) (role : Role) (a b c : �
       let t = type_known h.as_known b number T right.table.few names valid.number in
       let class = Class.Unique T in
       let g = gives_both a RegisterType.Int (ended (Class.Unique (nat_abs number)) ks) good bad e in
-      let free : is_owner (known (ended class ks) a) ≡ false = ap (λ n. is_owner (known (ended (Class.Unique n) ks) a)) (sym t.0) ∙ g.0 in
-      let good_is : good ≡ slice_set (ended class ks) a RegisterType.Int = g.1 ∙ ap (λ n. slice_set (ended (Class.Unique n) ks) a RegisterType.Int) t.0 in
+      let free : is_owner (known (ended (sharing class) ks) a) ≡ false = ap (λ n. is_owner (known (ended (Class.Unique n) ks) a)) (sym t.0) ∙ g.0 in
+      let good_is : good ≡ slice_set (ended (sharing class) ks) a RegisterType.Int = g.1 ∙ ap (λ n. slice_set (ended (Class.Unique n) ks) a RegisterType.Int) t.0 in
       let row = λ (o : Option Value) (is : s.uniques T ≡ o).
       ap (λ n. if is_some (s.uniques n) then give_count a 1 (record s { uniques = with_unique s.uniques n None }) else give_count a 0 s) t.0
       ∙ ap (λ (o : Option Value). if is_some o then give_count a 1 (record s { uniques = with_unique s.uniques T None }) else give_count a 0 s) is in

@@ -6,8 +6,8 @@ use Rattle.std.specs.Option.{is_some, option_and_then}
 use Rattle.std.proofs.lemmas.Bool.{ltb-false}
 use Rattle.std.proofs.lemmas.Option.{slice_get_past}
 use Rattle.seg_spec.specs.Types.{Form}
-use Rattle.client_spec.specs.Answer.{owned_type, vec_or_list_item, list_item, map_value, index_below}
-use Rattle.client_spec.specs.Typed.{Class, RegisterType, is_i64, is_str, is_map, can_pop, has_length, can_shrink, item_known, field_type, content_known, shared_type}
+use Rattle.client_spec.specs.Answer.{owned_type, vec_or_list_item, list_item, map_value, shared_type, index_below}
+use Rattle.client_spec.specs.Typed.{Class, RegisterType, is_i64, is_str, is_map, can_pop, has_length, can_shrink, item_known, field_type, content_known}
 use Rattle.client_spec.specs.declared.table.Kinds.{Kinds}
 use Rattle.client_spec.specs.declared.table.Kinds.TheVariants as kinds
 use Rattle.client_verify.specs.Checking.{field_at, part_of, part_at, part_given, is_kind, is_kind_at}

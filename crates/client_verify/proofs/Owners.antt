@@ -20,7 +20,7 @@ owner_kept x ks a = ap is_owner (get_or-map (without_class x) ks a RegisterType.
 
 pub owner_kept_but : (x : Class) (b : ℕ) (ks : RegisterTypes) (a : ℕ) → is_owner (known (others_ended x b ks) a) ≡ is_owner (known ks a)
 owner_kept_but x b ks a =
-    let es = ended x ks in
-    let same = map-set_same is_owner es b (known ks b) RegisterType.Undefined (sym (owner_kept x ks b)) in
+    let es = ended (sharing x) ks in
+    let same = map-set_same is_owner es b (known ks b) RegisterType.Undefined (sym (owner_kept (sharing x) ks b)) in
     sym (get_or-map is_owner (slice_set es b (known ks b)) a RegisterType.Undefined)
-    ∙ ap (λ owners. get_or owners a false) same ∙ get_or-map is_owner es a RegisterType.Undefined ∙ owner_kept x ks a
+    ∙ ap (λ owners. get_or owners a false) same ∙ get_or-map is_owner es a RegisterType.Undefined ∙ owner_kept (sharing x) ks a

@@ -7,7 +7,7 @@ use Rattle.client_spec.specs.Answer.{type_operand, constant_operand}
 use Rattle.client_spec.specs.Syntax.{Constant, Instruction}
 use Rattle.client_spec.specs.declared.table.Number.{Number}
 use Rattle.client_spec.specs.Grammar.{IsInstruction}
-use Rattle.client_spec.specs.Typed.{Class, RegisterType, RegisterTypes, Reason, ◌>>=◌, Rule, known, same_class, is_owner, required, ended, others_ended, combines, content_known, item_known, rule, sharing_rule, known_after, owner_needed, gives, opens, freezes}
+use Rattle.client_spec.specs.Typed.{Class, RegisterType, RegisterTypes, Reason, ◌>>=◌, Rule, known, same_class, sharing, is_owner, required, ended, others_ended, combines, content_known, item_known, rule, sharing_rule, known_after, owner_needed, gives, opens, freezes}
 use Rattle.client_spec.specs.declared.table.Operation.{Operation}
 use Rattle.client_spec.specs.declared.table.Operation.TheVariants as op
 use Rattle.client_spec.specs.declared.table.Kinds.TheVariants as kinds
@@ -98,7 +98,7 @@ module _ (types : Table) (constants : List Constant) (a b c t k : ℕ) (ks : Reg
       ap (λ part. required (is_content part (known ks c)) Reason.WrongOperand >>= λ _. moved x) (owned_part number (form_at types u) y e) ∙ content_same y (known ks c) (moved x))
     where
       moved : Class → Rule
-      moved x = required (not (same_class x (Class.Register c))) Reason.PutIntoItself >>= λ _. known_after (emptied c (others_ended x b ks))
+      moved x = required (not (same_class (sharing x) (Class.Register c))) Reason.PutIntoItself >>= λ _. known_after (emptied c (others_ended x b ks))
   same op.Take number right named = changeable_same types number kinds.Own _ (known ks b) (following (step op.Take number)) _ (λ x. own_forms number) (λ x u y e.
       ap (λ part. gets (others_ended x b ks) (content_of part) RegisterType.Int) (owned_part number (form_at types u) y e)
       ∙ opens_same a (RegisterType.Owner y) (others_ended x b ks) ks (sym (owner_kept_but x b ks a)))
@@ -140,12 +140,12 @@ module _ (types : Table) (constants : List Constant) (a b c t k : ℕ) (ks : Reg
       ended_all x = ended (Class.Register c) (others_ended x b ks)
 
       frozen_in : Class → Rule
-      frozen_in x = required (not (same_class x (Class.Register c))) Reason.PutIntoItself >>= λ _.
+      frozen_in x = required (not (same_class (sharing x) (Class.Register c))) Reason.PutIntoItself >>= λ _.
           unless_lost (is_owner (known ks a)) (slice_set (slice_set (ended_all x) c RegisterType.Undefined) a RegisterType.Int, slice_set (ended_all x) a RegisterType.Int)
 
       frozen_same : (x : Class) (y : ℕ) → (owner_needed (known ks c) >>= λ u. required (y == u) Reason.WrongOperand >>= λ _. frozen_in x)
-          ≡ (owner_needed (known ks c) >>= λ u. required (y == u) Reason.WrongOperand >>= λ _. required (not (same_class x (Class.Register c))) Reason.PutIntoItself >>= λ _. freezes a c (ended_all x))
-      frozen_same x y = ap (λ r. owner_needed (known ks c) >>= λ u. required (y == u) Reason.WrongOperand >>= λ _. required (not (same_class x (Class.Register c))) Reason.PutIntoItself >>= λ _. r)
+          ≡ (owner_needed (known ks c) >>= λ u. required (y == u) Reason.WrongOperand >>= λ _. required (not (same_class (sharing x) (Class.Register c))) Reason.PutIntoItself >>= λ _. freezes a c (ended_all x))
+      frozen_same x y = ap (λ r. owner_needed (known ks c) >>= λ u. required (y == u) Reason.WrongOperand >>= λ _. required (not (same_class (sharing x) (Class.Register c))) Reason.PutIntoItself >>= λ _. r)
           (freezes_same a c (ended_all x) ks (sym (owner_kept (Class.Register c) (others_ended x b ks) a ∙ owner_kept_but x b ks a)))
   same op.Share number right named = changeable_same types number kinds.Shared _ (known ks b) (following (step op.Share number)) _ (λ x. shared_forms number) (λ x u y e.
       ap (λ part. required (is_alike types part (known ks c)) Reason.WrongOperand >>= λ _. known_after (others_ended x b ks)) (shared_part number (form_at types u) y e)

@@ -216,8 +216,8 @@ emptied r ks = slice_set (ended (Class.Register r) ks) r RegisterType.Undefined
 
 -- an object would be put into itself
 abbrev pub is_inside : Ends → Option (Class × ℕ) → ℕ → Bool
-is_inside ends.Moved (Some x) c = same_class x.0 (Class.Register c)
-is_inside ends.Frozen (Some x) c = same_class x.0 (Class.Register c)
+is_inside ends.Moved (Some x) c = same_class (sharing x.0) (Class.Register c)
+is_inside ends.Frozen (Some x) c = same_class (sharing x.0) (Class.Register c)
 is_inside ends x c = false
 
 -- in the success part register c owns its object no more

@@ -1,7 +1,7 @@
 ghost use Rattle.std.specs.Prelude.{◌≡◌, ◌≤◌, ◌↔◌, IsTrue};
 ghost use Rattle.seg_spec.specs.Types.{Agree};
 ghost use Rattle.client_spec.specs.Run as run;
-ghost use Rattle.client_spec.specs.Safe.{IsAccepted, IsUnshared, NeverGoesWrong};
+ghost use Rattle.client_spec.specs.Safe.{IsAccepted, NeverGoesWrong};
 ghost use Rattle.client_code.specs.Clients.{OfTree};
 ghost use Rattle.client_verify.specs.declared.verified.TheConstants.{MOST_STEPS};
 
@@ -30,11 +30,11 @@ pub struct Verified<'a> {
 impl<'a> Verified<'a> {
     ghost use Rattle.client_verify.specs.Accepted.{client_of};
 
-    /// The client. Where it leaves frozen objects alone it never meets an instruction without a row, and takes no more steps
-    /// than its bound.
+    /// The client: on the machine of names and values it never meets an instruction without a row, and takes no more steps than its
+    /// bound.
     pub fn client(&self) -> Client<'a>
         ensures client { result ≡ client_of self.now }
-        ensures safe { OfTree result (λ tree. IsUnshared tree → NeverGoesWrong tree) }
+        ensures safe { OfTree result NeverGoesWrong }
     {
         self.client
     }

@@ -8,7 +8,7 @@ use Rattle.seg_spec.specs.Items.{key_place}
 use Rattle.client_spec.specs.declared.table.Operation.{Operation}
 use Rattle.client_spec.specs.Syntax.{Constant}
 use Rattle.client_spec.specs.Machine.{◌>>=◌, Origin, Path, extend, Register, Object, State, register, set_register, owned_by, at_origin, path_value, path_type, put_origin, put_at}
-use Rattle.client_spec.specs.Answer.{Answer, success, out_of_range, Outcome, answer, copied, integer_at, path_of, give, fail, refer, give_count, index_below, object_count, byte_of, type_operand, constant_operand, integer_or, constant_name, constant_text, number_in, bytes_in, items_in, entries_in, content_in, fields_in, length_in, vec_or_list_item, list_item, map_value, owned_type, path_form, provided, with_room, write_out}
+use Rattle.client_spec.specs.Answer.{Answer, success, out_of_range, Outcome, answer, copied, integer_at, path_of, give, fail, refer, give_count, index_below, object_count, byte_of, type_operand, constant_operand, integer_or, constant_name, constant_text, number_in, bytes_in, items_in, entries_in, content_in, fields_in, length_in, vec_or_list_item, list_item, map_value, owned_type, shared_type, path_form, provided, with_room, write_out}
 use Rattle.client_spec.proofs.Values.{Some_inj}
 use Rattle.client_spec.specs.Safe.{Writes}
 use Rattle.client_spec.specs.Effect.{effect, combine, next_byte, add_object, item_of_object, find_or_add, count_of_object, destroy_object, add_unique, item_of_value, pop_bytes, pop_last, pop_first, set_text, first_key, take_content, see_content}
@@ -22,7 +22,7 @@ still s = alike s s refl refl
 pub onward : (s t u : State) → Writes s t → Writes t u → Writes s u
 onward s t u f g = record { types = g.types ∙ f.types; more = f.more ++ g.more; output = g.output ∙ ap (λ xs. xs ++ g.more) f.output ∙ append_assoc s.output f.more g.more }
 
-set_follows : (s s' : State) (a : ℕ) (x : Register) → Writes s s' → Writes s (set_register s' a x)
+pub set_follows : (s s' : State) (a : ℕ) (x : Register) → Writes s s' → Writes s (set_register s' a x)
 set_follows s s' a x h = record { types = h.types; more = h.more; output = h.output }
 
 module _ (s : State) where
@@ -212,5 +212,7 @@ module _ (s : State) where
   rows constants Operation.DeleteKey a b c number room = bound (path_of s b) _ (λ p. bound (integer_at s c) _ (λ k. bound (path_value s p >>= entries_in) _ (λ es. either _ (key_place es.0 k) _ (λ i. given_put a _ p _) (given success a _))))
   rows constants Operation.FirstKey a b c number room = bound (path_of s b) _ (λ p. bound (path_value s p >>= entries_in) _ (λ es. key a es.0))
   rows constants Operation.NextKey a b c number room = bound (path_of s b) _ (λ p. bound (integer_at s c) _ (λ k. bound (path_value s p >>= entries_in) _ (λ es. key a _)))
-  rows constants Operation.Freeze a b c number room = none
-  rows constants Operation.Share a b c number room = none
+  rows constants Operation.Freeze a b c number room = bound (path_of s b) _ (λ p. bound (path_form s p >>= shared_type) _ (λ t. bound (owned_by (register s c)) _ (λ own. bound (path_value s p) _
+      (λ v. shown _ _ (roomy room a _ (answered success a _ _ (set_follows s _ c Register.Undefined (put_follows p _))))))))
+  rows constants Operation.Share a b c number room = bound (path_of s b) _ (λ p. bound (path_form s p >>= shared_type) _ (λ t. bound (path_of s c) _ (λ q. bound (path_form s q >>= shared_type) _
+      (λ u. bound (path_value s p) _ (λ old. bound (path_value s q) _ (λ v. shown _ _ (put_some p v)))))))

@@ -5,13 +5,13 @@ use Rattle.seg_spec.specs.Index.{Root}
 use Rattle.seg_spec.specs.Types.{Agree}
 use Rattle.client_spec.specs.Syntax.{Constant, Instruction, Statement, plain, opener, loop, Statements, no_more, next, Client}
 use Rattle.client_spec.specs.Machine.{State}
-use Rattle.client_spec.specs.Answer.{Answer, success, is_zero, already_exists, bad_alloc, absent, other_type, out_of_range, null_or_none}
+use Rattle.client_spec.specs.Answer.{Answer, success, is_zero, already_exists, bad_alloc, absent, other_type, out_of_range, null_or_none, numbers_used_up}
 use Rattle.client_spec.specs.Grammar.{IsClient}
 use Rattle.client_spec.specs.Run.{Ending, stuck, Way, Nothing, Then, OneStep, picked, Performs, Loops, Run, RunOne, bound}
 use Rattle.client_spec.specs.Plain.{plain_machine}
 use Rattle.client_spec.specs.Safe.{IsUnshared}
 use Rattle.client_spec.specs.OnImages.{Move, Situation, TickOn, image_machine, Given, Left, RunsClient}
-use Rattle.client_spec.proofs.Keeping.{never_wrong}
+use Rattle.client_spec.proofs.Keeping.{never_wrong_beside}
 use Rattle.client_spec.proofs.PictureLaws.{begins_first}
 
 pub record Maps (way : Way Situation) (plain : Way State) : Type 0 where
@@ -40,12 +40,13 @@ module _ (constants : List Constant) (others : List Root) (moves : List Move) wh
   picked_maps a b c d f g other_type = g
   picked_maps a b c d f g out_of_range = g
   picked_maps a b c d f g null_or_none = g
+  picked_maps a b c d f g numbers_used_up = g
 
   performs_maps : (i : Instruction) (a b : Way Situation) (c d : Way State) → Maps a c → Maps b d → Maps (Performs Situation (image_machine constants others moves) i a b) (Performs State (plain_machine constants) i c d)
   performs_maps i a b c d f g = record { each = λ x y n end w. by x y n end w }
     where
       by : (x y : Situation) (n : ℕ) (end : Ending) → Performs Situation (image_machine constants others moves) i a b x y n end → Performs State (plain_machine constants) i c d x.state y.state n end
-      by x y n end (inl w) = inl (w.0, w.1.state, w.2, (w.3.room, w.3.row), (picked_maps a b c d f g w.0).each _ _ _ _ w.4, w.5)
+      by x y n end (inl w) = inl (w.0, w.1.state, w.2, inl (w.3.room, w.3.row), (picked_maps a b c d f g w.0).each _ _ _ _ w.4, w.5)
       by x y n end (inr (inl w)) = inr (inl (w.0.cut, w.1, w.2))
       by x y n end (inr (inr w)) = absurd w.0
 
@@ -82,6 +83,6 @@ run_of_states constants others moves code x y n end w = (run_maps constants othe
 
 pub client_within_bound : (client : Client) (given : Given) (left : Left) → IsClient client → IsUnshared client → (runs : RunsClient client given left)
     → Agree runs.is_first.picture.table client.types → (left.steps ≤ bound client.code) × (left.ending ≢ stuck)
-client_within_bound client given left valid accepted runs agree =
-    never_wrong client valid accepted runs.first.state runs.last.state left.steps left.ending (begins_first client given runs.first valid runs.is_first agree)
+client_within_bound client given left valid unshared runs agree =
+    never_wrong_beside client valid unshared runs.first.state runs.last.state left.steps left.ending (begins_first client given runs.first valid runs.is_first agree)
     (run_of_states client.constants given.others given.moves client.code runs.first runs.last left.steps left.ending runs.run)

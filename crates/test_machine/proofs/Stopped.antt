@@ -1,15 +1,16 @@
 -- A run that is stopped is a front of a whole one: what it wrote is a proper front of what the whole one writes.
 use Rattle.std.proofs.Common.{◌≡◌, ◌≢◌, ℕ, zero, suc, ◌+◌, ◌<◌, List, [], ◌++◌, length, refl, sym, ap, ◌∙◌, subst, arith, inl, inr}
-use Rattle.std.specs.Prelude.{nat_abs}
+use Rattle.std.specs.Prelude.{nat_abs, pos}
 use Rattle.std.proofs.lemmas.List.{append_assoc, length-append}
 use Rattle.client_spec.specs.Syntax.{Constant, Instruction, Statement, plain, opener, loop, Statements, no_more, next, Client}
 use Rattle.client_spec.specs.Grammar.{IsClient}
-use Rattle.client_spec.specs.Machine.{State}
-use Rattle.client_spec.specs.Answer.{Answer, success, is_zero, already_exists, bad_alloc, absent, other_type, out_of_range, null_or_none}
+use Rattle.client_spec.specs.Machine.{Register, State}
+use Rattle.client_spec.specs.Answer.{Answer, answer_number, success, is_zero, already_exists, bad_alloc, absent, other_type, out_of_range, null_or_none, numbers_used_up}
 use Rattle.client_spec.specs.Run.{Ending, finished, stopped, stuck, Way, Nothing, Then, OneStep, picked, Performs, Loops, Run, RunOne}
 use Rattle.client_spec.specs.Plain.{plain_machine}
-use Rattle.client_spec.specs.Safe.{MayBegin, IsUnshared, Writes, IsFront}
-use Rattle.test_machine.proofs.Following.{still, onward, rows}
+use Rattle.client_spec.specs.Trees.{AreTrees}
+use Rattle.client_spec.specs.Safe.{MayBegin, IsAccepted, Writes, IsFront}
+use Rattle.test_machine.proofs.Following.{still, onward, set_follows, rows}
 use Rattle.client_spec.proofs.Keeping.{never_wrong}
 use Rattle.client_spec.proofs.Total.{Total, nothing_total, then_total, step_total, turns_total, one_total}
 
@@ -95,12 +96,17 @@ module _ (constants : List Constant) where
   picked_is first second f g other_type = g
   picked_is first second f g out_of_range = g
   picked_is first second f g null_or_none = g
+  picked_is first second f g numbers_used_up = g
+
+  row_writes : (i : Instruction) (s : State) (answer : Answer) (s' : State) → (plain_machine constants).row i s answer s' → Writes s s'
+  row_writes i s answer s' (inl w) = (rows s constants i.operation i.a i.b i.c i.number w.0).each answer s' w.1
+  row_writes i s answer s' (inr u) = subst (Writes s) (sym u.state) (set_follows s s i.a (Register.Int (pos (answer_number numbers_used_up))) (still s))
 
   performs_is : (i : Instruction) (first second : Way State) → Way_is first → Way_is second → Total (Performs State (plain_machine constants) i first second) → Way_is (Performs State (plain_machine constants) i first second)
   performs_is i first second f g total = record { total = total; grows = record { each = grow }; on = record { each = on } }
     where
       grow : (s t : State) (n : ℕ) (end : Ending) → Performs State (plain_machine constants) i first second s t n end → Writes s t
-      grow s t n end (inl w) = onward s w.1 t ((rows s constants i.operation i.a i.b i.c i.number w.3.0).each w.0 w.1 w.3.1) ((picked_is first second f g w.0).grows.each w.1 t w.2 end w.4)
+      grow s t n end (inl w) = onward s w.1 t (row_writes i s w.0 w.1 w.3) ((picked_is first second f g w.0).grows.each w.1 t w.2 end w.4)
       grow s t n end (inr (inl w)) = record { types = ap (λ (x : State). x.types) w.0.taken; more = w.0.front; output = ap (λ (x : State). x.output) w.0.taken }
       grow s t n end (inr (inr w)) = subst (Writes s) (sym w.1) (still s)
 
@@ -114,7 +120,7 @@ module _ (constants : List Constant) where
           let more = f.grows.each cut.whole r.0 r.1 r.2 r.3 in
           let whole : cut.whole.output ≡ t.output ++ cut.lost = cut.bytes ∙ sym (append_assoc s.output cut.front cut.lost) ∙ sym (ap (λ (x : State). x.output ++ cut.lost) cut.taken) in
           let all = longer_rest [] cut.lost more.more t.output r.0.output cut.whole.output cut.proper whole more.output in
-          record { last = r.0; steps = 1 + r.1; ending = r.2; runs = inl (success, cut.whole, r.1, (cut.room, cut.written), r.3, refl); goes_on = r.4; rest = cut.lost ++ more.more; output = all.0; some = all.1 }
+          record { last = r.0; steps = 1 + r.1; ending = r.2; runs = inl (success, cut.whole, r.1, inl (cut.room, cut.written), r.3, refl); goes_on = r.4; rest = cut.lost ++ more.more; output = all.0; some = all.1 }
       on s t n (inr (inr w)) = absurd (let e = w.3 in cc)
 
   turns_is : (register turns : ℕ) (body : Way State) → Way_is body → Way_is (Loops State (plain_machine constants) register turns body)
@@ -152,8 +158,8 @@ module _ (constants : List Constant) where
 pub run_writes : (constants : List Constant) (code : Statements) (s t : State) (n : ℕ) (end : Ending) → Run State (plain_machine constants) code s t n end → Writes s t
 run_writes constants code = (run_is constants code).grows.each
 
-pub front_of_whole : (client : Client) (s t : State) (n : ℕ) → IsClient client → IsUnshared client → MayBegin client s → Run State (plain_machine client.constants) client.code s t n stopped → IsFront client s t
-front_of_whole client s t n valid accepted begins w = go h.ending h.runs h.goes_on
+pub front_of_whole : (client : Client) (s t : State) (n : ℕ) → IsClient client → IsAccepted client → MayBegin client s → AreTrees s → Run State (plain_machine client.constants) client.code s t n stopped → IsFront client s t
+front_of_whole client s t n valid accepted begins trees w = go h.ending h.runs h.goes_on
   where
     h : Further (Run State (plain_machine client.constants) client.code) s t
     h = (run_is client.constants client.code).on.each s t n w
@@ -161,4 +167,4 @@ front_of_whole client s t n valid accepted begins w = go h.ending h.runs h.goes_
     go : (end : Ending) → Run State (plain_machine client.constants) client.code s h.last h.steps end → end ≢ stopped → IsFront client s t
     go finished runs ne = record { last = h.last; steps = h.steps; runs = runs; rest = h.rest; output = h.output; some = h.some }
     go stopped runs ne = absurd (ne refl)
-    go stuck runs ne = absurd ((never_wrong client valid accepted s h.last h.steps stuck begins runs).1 refl)
+    go stuck runs ne = absurd ((never_wrong client valid accepted s h.last h.steps stuck begins trees runs).1 refl)

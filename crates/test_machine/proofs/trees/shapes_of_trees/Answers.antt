@@ -1,4 +1,4 @@
-use Rattle.client_sim.proofs.UnfoldedShapes.{shape_unfolded}
+use Rattle.client_spec.proofs.UnfoldedShapes.{shape_unfolded}
 use Rattle.test_machine.proofs.trees.shapes_of_trees.Goals as goal
 
 pub returns : goal.returns

@@ -4,8 +4,8 @@ use Rattle.std.specs.Prelude.{option_map}
 use Rattle.seg_spec.specs.Value.{Label, Value, node, Values, nil, cons}
 use Rattle.seg_spec.specs.Shared.{replaced, replaced_each}
 use Rattle.client_spec.specs.Answer.{number_in, bytes_in, items_in, entries_in, content_in, fields_in, length_in}
-use Rattle.client_sim.proofs.UnfoldedValues.{count_replaced}
-use Rattle.client_sim.proofs.UnfoldedOutcomes.{Finds}
+use Rattle.client_spec.proofs.UnfoldedValues.{count_replaced}
+use Rattle.client_spec.proofs.UnfoldedOutcomes.{Finds}
 
 module _ (m : ℕ → Value) where
   pub number_replaced : (v : Value) → Finds (λ k. k) (number_in v) (number_in (replaced m v))

@@ -13,11 +13,11 @@ use Rattle.client_spec.specs.Answer.{already_exists, absent, other_type, out_of_
 use Rattle.client_spec.specs.Answer.{give_count, path_from, index_below, object_count, type_operand, constant_operand, integer_or, constant_text, bytes_in}
 use Rattle.client_spec.specs.Effect.{combine, truth, next_byte, add_object, item_of_object, find_or_add, count_of_object, destroy_object, add_unique, effect}
 use Rattle.client_spec.specs.Trees.{unfolded_object, unfolded_register, unfolded_state}
-use Rattle.client_sim.proofs.UnfoldedValues.{default_replaced, count_replaced, copies_replaced}
-use Rattle.client_sim.proofs.UnfoldedStates.{register_same, set_register_same, value_same, integer_or_same, with_name_same, with_unique_same}
-use Rattle.client_sim.proofs.UnfoldedParts.{bytes_replaced}
-use Rattle.client_sim.proofs.UnfoldedOutcomes.{Finds, Same, bind_same, along, either_same, if_same, give_same, fail_same, refer_same}
-use Rattle.client_sim.proofs.UnfoldedOutcomes.{count_same, proceed_same, write_same, room_same, from_integer, from_path, from_owner, from_name, from_part}
+use Rattle.client_spec.proofs.UnfoldedValues.{default_replaced, count_replaced, copies_replaced}
+use Rattle.client_spec.proofs.UnfoldedStates.{register_same, set_register_same, value_same, integer_or_same, with_name_same, with_unique_same}
+use Rattle.client_spec.proofs.UnfoldedParts.{bytes_replaced}
+use Rattle.client_spec.proofs.UnfoldedOutcomes.{Finds, Same, bind_same, along, either_same, if_same, give_same, fail_same, refer_same}
+use Rattle.client_spec.proofs.UnfoldedOutcomes.{count_same, proceed_same, write_same, room_same, from_integer, from_path, from_owner, from_name, from_part}
 
 module _ (m : ℕ → Value) (constants : List Constant) (s : State) where
   abbrev trees : State
@@ -75,14 +75,6 @@ module _ (m : ℕ → Value) (constants : List Constant) (s : State) where
   pub branch_same : RowSame Operation.If
   unfolding effect
   branch_same a b c number room = from_integer m s b _ _ (λ x. refl)
-
-  pub freeze_same : RowSame Operation.Freeze
-  unfolding effect
-  freeze_same a b c number room = tt
-
-  pub share_same : RowSame Operation.Share
-  unfolding effect
-  share_same a b c number room = tt
 
   pub while_same : RowSame Operation.While
   unfolding effect

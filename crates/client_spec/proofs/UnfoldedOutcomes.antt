@@ -9,7 +9,7 @@ use Rattle.client_spec.specs.Syntax.{Constant}
 use Rattle.client_spec.specs.Machine.{◌>>=◌, Path, Register, State, register, set_register, owned_by, path_value, put_at}
 use Rattle.client_spec.specs.Answer.{Answer, Outcome, success, bad_alloc, answer_number, integer_at, path_of, path_form, answer, give, fail, refer, give_count, proceed, write_out, provided, with_room, constant_name}
 use Rattle.client_spec.specs.Trees.{unfolded_register, unfolded_state}
-use Rattle.client_sim.proofs.UnfoldedStates.{set_register_same, unfolded_owned, owned_same, integer_same, path_same, value_same, form_same, put_same, name_same}
+use Rattle.client_spec.proofs.UnfoldedStates.{set_register_same, unfolded_owned, owned_same, integer_same, path_same, value_same, form_same, put_same, name_same}
 
 -- where one finds something, the other finds the same, as g makes it
 abbrev pub Finds : {A B : Type 0} → (A → B) → Option A → Option B → Type 0

@@ -11,8 +11,8 @@ use Rattle.seg_spec.proofs.Unfolding.{same_tree}
 use Rattle.client_spec.specs.Machine.{Register, Object, State, register}
 use Rattle.client_spec.specs.Shape.{IsLabel, HasShape, HaveShapes}
 use Rattle.client_spec.specs.Trees.{unfolded_object, unfolded_register, unfolded_state, Unfolds}
-use Rattle.client_sim.proofs.UnfoldedValues.{count_replaced}
-use Rattle.client_sim.proofs.UnfoldedStates.{unfolds_is, is_unfolds}
+use Rattle.client_spec.proofs.UnfoldedValues.{count_replaced}
+use Rattle.client_spec.proofs.UnfoldedStates.{unfolds_is, is_unfolds}
 
 -- ---- shapes
 

@@ -10,14 +10,14 @@ use Rattle.client_spec.specs.declared.table.Operation.{Operation}
 use Rattle.client_spec.specs.Syntax.{Constant}
 use Rattle.client_spec.specs.Machine.{◌>>=◌, Path, extend, Register, State, register, set_register, owned_by, path_value, path_type, put_at}
 use Rattle.client_spec.specs.Answer.{absent, out_of_range, null_or_none, fail, refer, give_count, proceed, index_below, byte_of, constant_text, number_in}
-use Rattle.client_spec.specs.Answer.{bytes_in, items_in, entries_in, content_in, fields_in, length_in, vec_or_list_item, list_item, map_value, owned_type, path_form, begins_at}
+use Rattle.client_spec.specs.Answer.{bytes_in, items_in, entries_in, content_in, fields_in, length_in, vec_or_list_item, list_item, map_value, owned_type, shared_type, path_form, begins_at}
 use Rattle.client_spec.specs.Effect.{item_of_value, pop_bytes, pop_last, pop_first, set_text, first_key, take_content, see_content, effect}
 use Rattle.client_spec.specs.Trees.{unfolded_state}
-use Rattle.client_sim.proofs.UnfoldedValues.{default_replaced, count_replaced, append_replaced, last_replaced, with_entry_replaced, without_entry_replaced}
-use Rattle.client_sim.proofs.UnfoldedStates.{unfolded_owned, owned_same, set_register_same, type_same, form_same}
-use Rattle.client_sim.proofs.UnfoldedParts.{number_replaced, bytes_replaced, items_replaced, entries_with, entries_replaced, content_replaced, fields_replaced, length_replaced}
-use Rattle.client_sim.proofs.UnfoldedOutcomes.{Same, along, either_same, provided_same, give_same, fail_same, refer_same, count_same, proceed_same, room_same, from_integer, from_path, from_owner, from_form, from_value, from_part, put_then}
-use Rattle.client_sim.proofs.UnfoldedRows.{RowSame}
+use Rattle.client_spec.proofs.UnfoldedValues.{default_replaced, count_replaced, append_replaced, last_replaced, with_entry_replaced, without_entry_replaced}
+use Rattle.client_spec.proofs.UnfoldedStates.{unfolded_owned, owned_same, set_register_same, type_same, form_same}
+use Rattle.client_spec.proofs.UnfoldedParts.{number_replaced, bytes_replaced, items_replaced, entries_with, entries_replaced, content_replaced, fields_replaced, length_replaced}
+use Rattle.client_spec.proofs.UnfoldedOutcomes.{Same, along, either_same, provided_same, give_same, fail_same, refer_same, count_same, proceed_same, room_same, from_integer, from_path, from_owner, from_form, from_value, from_part, put_then}
+use Rattle.client_spec.proofs.UnfoldedRows.{RowSame}
 
 module _ (m : ℕ → Value) (constants : List Constant) (s : State) where
   abbrev trees : State
@@ -267,6 +267,23 @@ module _ (m : ℕ → Value) (constants : List Constant) (s : State) where
   take_same a b c number room =
       from_path m s b _ _ (λ p. from_form m s p owned_type _ _ (λ t.
       from_part m s (option_map (replaced m)) p content_in content_in _ _ (content_replaced m) (λ o v e _. taken a p t o v e)))
+
+  pub freeze_same : RowSame m constants s Operation.Freeze
+  unfolding effect
+  freeze_same a b c number room =
+      from_path m s b _ _ (λ p. from_form m s p shared_type _ _ (λ t. from_owner m s c _ _ (λ own. from_value m s p _ _ (λ v e.
+      provided_same m (t == own.1 && not (begins_at c p.origin)) _ _
+      (room_same m room a s _ _ (count_same m a 1
+      (set_register (put_at s p (Full own.0)) c Register.Undefined) (set_register (put_at trees p (Full (replaced m own.0))) c Register.Undefined)
+      (ap (λ z. set_register z c Register.Undefined) (putting p (Full own.0) v (Full (replaced m own.0)) e (full_replaced own.0))
+      ∙ sym (set_register_same m (put_at s p (Full own.0)) c Register.Undefined))))))))
+
+  pub share_same : RowSame m constants s Operation.Share
+  unfolding effect
+  share_same a b c number room =
+      from_path m s b _ _ (λ p. from_form m s p shared_type _ _ (λ t. from_path m s c _ _ (λ q. from_form m s q shared_type _ _ (λ u.
+      from_value m s p _ _ (λ old e. from_value m s q _ _ (λ v _.
+      provided_same m (t == u) _ _ (proceed_same m (put_at s p v) (put_at trees p (replaced m v)) (putting p v old (replaced m v) e refl))))))))
 
   forgotten : (b : ℕ) (o : Option (Value × ℕ)) → Same m (option_map_or (λ _. None) o (proceed (set_register s b Register.Undefined)))
       (option_map_or (λ _. None) (option_map (unfolded_owned m) o) (proceed (set_register trees b Register.Undefined)))
